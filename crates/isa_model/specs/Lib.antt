@@ -1,0 +1,13 @@
+pub mod Registers
+pub mod Sizes
+pub mod Instructions
+pub mod Spelling
+pub mod Numbers
+pub mod Frames
+pub mod Streams
+pub mod States
+pub mod Pointers
+pub mod Memory
+pub mod Calls
+pub mod Steps
+pub mod Runs

@@ -1,0 +1,37 @@
+//! How runs end.
+
+/// Why a run stopped at an instruction. A trap changes nothing.
+#[derive(Clone, Copy, PartialEq, Eq, Debug)]
+pub enum TrapReason {
+    /// No instruction begins at the slot.
+    NoCode,
+    /// An unset register or byte is read.
+    UnsetRead,
+    /// r10 is written.
+    ReadOnly,
+    /// Arithmetic or an atomic operand that is an undefined use of a pointer.
+    BadPointer,
+    /// A pointer's offset outside its limit.
+    OutOfRange,
+    /// A place outside live memory, or pieces that are no whole pointer.
+    BadAccess,
+    /// An undefined comparison.
+    BadCompare,
+    /// An unknown helper, or an argument of the wrong kind.
+    BadHelper,
+    /// A ninth call frame.
+    TooManyFrames,
+    /// r0 is no number at the last exit.
+    NoResult,
+}
+
+/// How a run within a limit of steps ended.
+#[derive(Clone, Copy, PartialEq, Eq, Debug)]
+pub enum End {
+    /// r0 at the last exit, and the steps done, the exit included.
+    Exit(u64, u32),
+    /// The reason, and the steps done before it.
+    Trap(TrapReason, u32),
+    /// The limit was reached.
+    Limit,
+}

@@ -1,0 +1,128 @@
+//! The instructions, one variant for each form of the encoding. RFC 9669, sections 3 to 5.
+//!
+//! The parts' types admit only what can be spelled, so each value is an instruction.
+
+ghost use Rattle.std.specs.Prelude.{◌≡◌};
+ghost use Rattle.isa_model.specs.Instructions.{slots_of};
+
+use crate::registers::Reg;
+use crate::sizes::{ByteOrder, Extension, Narrow, Size, Span, Width};
+
+/// The operations of arithmetic on two numbers.
+#[derive(Clone, Copy, PartialEq, Eq, Debug)]
+pub enum AluOp {
+    Add,
+    Sub,
+    Mul,
+    Div,
+    SignedDiv,
+    Or,
+    And,
+    Lsh,
+    Rsh,
+    Mod,
+    SignedMod,
+    Xor,
+    Mov,
+    Arsh,
+}
+
+/// The right operand: a constant (K), in which `imm` is sign-extended, or a register (X).
+#[derive(Clone, Copy, PartialEq, Eq, Debug)]
+pub enum Operand {
+    Constant(i32),
+    Register(Reg),
+}
+
+/// The comparisons of conditional jumps, the destination register on the left.
+#[derive(Clone, Copy, PartialEq, Eq, Debug)]
+pub enum Comparison {
+    Equal,
+    NotEqual,
+    Greater,
+    GreaterEqual,
+    Less,
+    LessEqual,
+    /// JSET: the operands have a bit in common.
+    AnyBit,
+    SignedGreater,
+    SignedGreaterEqual,
+    SignedLess,
+    SignedLessEqual,
+}
+
+/// The whole test of a conditional jump.
+#[derive(Clone, Copy, PartialEq, Eq, Debug)]
+pub struct Cond {
+    pub width: Width,
+    pub comparison: Comparison,
+    pub register: Reg,
+    pub operand: Operand,
+}
+
+/// A place in memory: a base register and an offset in bytes.
+#[derive(Clone, Copy, PartialEq, Eq, Debug)]
+pub struct Place {
+    pub base: Reg,
+    pub offset: i16,
+}
+
+/// What an atomic instruction does to memory.
+#[derive(Clone, Copy, PartialEq, Eq, Debug)]
+pub enum AtomicOp {
+    Add,
+    Or,
+    And,
+    Xor,
+}
+
+/// An instruction. Distances of jumps count 8-byte slots from the slot after the instruction.
+#[derive(Clone, Copy, PartialEq, Eq, Debug)]
+pub enum Insn {
+    /// destination = destination op source; MOV is the source alone.
+    Alu(Width, AluOp, Reg, Operand),
+    /// destination = -destination.
+    Neg(Width, Reg),
+    /// MOVSX: destination = the low bits of source, sign-extended.
+    MovSx(Extension, Reg, Reg),
+    /// END: destination = its low bytes in that order, zero-extended.
+    ByteSwap(ByteOrder, Span, Reg),
+    /// A wide load: destination = a 64-bit number. It fills two slots.
+    LoadNumber(Reg, u64),
+    /// LDX MEM: destination = the bytes, zero-extended.
+    Load(Size, Reg, Place),
+    /// LDX MEMSX: destination = the bytes, sign-extended.
+    LoadSx(Narrow, Reg, Place),
+    /// ST MEM: the bytes = a constant, sign-extended.
+    StoreConstant(Size, Place, i32),
+    /// STX MEM: the bytes = a register.
+    Store(Size, Place, Reg),
+    /// The bytes = the bytes op source; with FETCH (`true`) source = the old bytes.
+    Atomic(Width, AtomicOp, bool, Place, Reg),
+    /// XCHG: the bytes = source, and source = the old bytes.
+    Exchange(Width, Place, Reg),
+    /// CMPXCHG: where the bytes equal r0, the bytes = source; r0 = the old bytes either way.
+    CompareExchange(Width, Place, Reg),
+    /// JA of class JMP.
+    Jump(i16),
+    /// JA of class JMP32.
+    JumpLong(i32),
+    /// A conditional jump: on by the distance where the test holds, else to the next slot.
+    JumpIf(Cond, i16),
+    /// CALL of the function at a distance.
+    CallLocal(i32),
+    /// EXIT.
+    Exit,
+}
+
+impl Insn {
+    /// How many 8-byte slots it fills: 2 for a wide load, else 1.
+    pub fn slots(&self) -> usize
+        ensures { result ≡ slots_of self.now }
+    {
+        match self {
+            Insn::LoadNumber(_, _) => 2,
+            _ => 1,
+        }
+    }
+}

@@ -1,0 +1,28 @@
+//! What a BPF program of the XDP kind means: the types, the plain functions that compute on numbers, and in
+//! `specs/` the definitions that every other crate's contracts cite.
+//!
+//! `docs/MEANING.md` tells the same in prose, with the sections of RFC 9669.
+#![tactic(auto)]
+
+pub mod clocks;
+pub mod ends;
+pub mod frames;
+pub mod instructions;
+pub mod map_defs;
+pub mod numbers;
+pub mod registers;
+pub mod sizes;
+pub mod slots;
+pub mod streams;
+pub mod values;
+
+pub use clocks::Clock;
+pub use ends::{End, TrapReason};
+pub use frames::{Action, FrameHead};
+pub use instructions::{AluOp, AtomicOp, Comparison, Cond, Insn, Operand, Place};
+pub use map_defs::{MapDef, MapKind};
+pub use registers::Reg;
+pub use sizes::{ByteOrder, Extension, Narrow, Size, Span, Width};
+pub use slots::Slot;
+pub use streams::{Fault, Finish};
+pub use values::{CallFrame, Cell, Region, Value};

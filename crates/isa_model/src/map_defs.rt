@@ -1,0 +1,17 @@
+//! Map rows. bpf(2), BPF_MAP_CREATE.
+
+/// The types of map.
+#[derive(Clone, Copy, PartialEq, Eq, Debug)]
+pub enum MapKind {
+    Hash,
+    Array,
+}
+
+/// A map row: the type, the sizes in bytes of a key and of a value, and the most entries.
+#[derive(Clone, Copy, PartialEq, Eq, Debug)]
+pub struct MapDef {
+    pub kind: MapKind,
+    pub key_size: u16,
+    pub value_size: u32,
+    pub entries: u32,
+}

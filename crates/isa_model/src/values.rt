@@ -1,0 +1,48 @@
+//! What registers and the bytes of stack frames hold in the meaning: tagged values.
+
+/// What a pointer points into. The serials of call frames and of map values are never used again, so a
+/// pointer to one that is gone is dead for ever.
+#[derive(Clone, Copy, PartialEq, Eq, Debug)]
+pub enum Region {
+    /// The context, `struct xdp_md`.
+    Context,
+    /// The packet's bytes.
+    Packet,
+    /// What `data_end` points to; the packet's length gives its place.
+    PacketEnd,
+    /// A map itself, by index.
+    Map(u32),
+    /// A call frame, by serial.
+    Frame(u64),
+    /// A value of a map, by the map's index and the value's serial.
+    MapValue(u32, u64),
+}
+
+/// What a register holds.
+#[derive(Clone, Copy, PartialEq, Eq, Debug)]
+pub enum Value {
+    Unset,
+    Num(u64),
+    /// A region, and an offset in bytes.
+    Ptr(Region, i64),
+}
+
+/// What a byte of a call frame holds. A pointer lies there as its eight pieces, 0 to 7.
+#[derive(Clone, Copy, PartialEq, Eq, Debug)]
+pub enum Cell {
+    Unwritten,
+    Byte(u8),
+    /// A pointer's region and offset, and which piece of it this is.
+    Piece(Region, i64, u8),
+}
+
+/// A live call frame. Its cells stand at offsets -512 to -1 from its frame pointer.
+#[derive(Clone, Copy)]
+pub struct CallFrame {
+    pub serial: u64,
+    pub cells: [Cell; 512],
+    /// Where its exit leads; 0 in the first frame.
+    pub return_slot: usize,
+    /// The caller's r6 to r9; unset in the first frame.
+    pub saved: [Value; 4],
+}
