@@ -11,3 +11,4 @@ pub mod Memory
 pub mod Calls
 pub mod Steps
 pub mod Runs
+pub mod Examples

@@ -3,7 +3,7 @@
 //! Machines and abstract domains compute with these functions and have no others.
 
 ghost use Rattle.std.specs.Prelude.{◌≡◌, ◌%◌, ◌^◌};
-ghost use Rattle.isa_model.specs.Numbers.{low, alu, result_of, negated, sign_extended, reordered, compares, holds};
+ghost use Rattle.isa_model.specs.Numbers.{low, signed, alu, result_of, negated, sign_extended, reordered, holds};
 
 use crate::instructions::{AluOp, Comparison};
 use crate::sizes::{ByteOrder, Extension, Span, Width};
@@ -26,78 +26,54 @@ pub fn compute(op: AluOp, width: Width, a: u64, b: u64) -> u64
     }
 }
 
+// The operation on two numbers of an unsigned type of so many bits.
+macro_rules! operation {
+    ($op:expr, $a:expr, $b:expr, $bits:literal) => {
+        match $op {
+            AluOp::Add => $a.wrapping_add($b),
+            AluOp::Sub => $a.wrapping_sub($b),
+            AluOp::Mul => $a.wrapping_mul($b),
+            AluOp::Div => if $b == 0 { 0 } else { $a / $b },
+            AluOp::SignedDiv => {
+                if $b == 0 {
+                    0
+                } else {
+                    $a.cast_signed()
+                        .wrapping_div($b.cast_signed())
+                        .cast_unsigned()
+                }
+            }
+            AluOp::Or => $a | $b,
+            AluOp::And => $a & $b,
+            AluOp::Lsh => $a << ($b % $bits),
+            AluOp::Rsh => $a >> ($b % $bits),
+            AluOp::Mod => if $b == 0 { $a } else { $a % $b },
+            AluOp::SignedMod => {
+                if $b == 0 {
+                    $a
+                } else {
+                    $a.cast_signed()
+                        .wrapping_rem($b.cast_signed())
+                        .cast_unsigned()
+                }
+            }
+            AluOp::Xor => $a ^ $b,
+            AluOp::Mov => $b,
+            AluOp::Arsh => ($a.cast_signed() >> ($b % $bits)).cast_unsigned(),
+        }
+    };
+}
+
 fn compute64(op: AluOp, a: u64, b: u64) -> u64
     ensures { result ≡ result_of op Width.Full64 a b }
 {
-    match op {
-        AluOp::Mov => b,
-        AluOp::Add => a.wrapping_add(b),
-        AluOp::Sub => a.wrapping_sub(b),
-        AluOp::Mul => a.wrapping_mul(b),
-        AluOp::Div => if b == 0 { 0 } else { a / b },
-        AluOp::SignedDiv => {
-            if b == 0 {
-                0
-            } else {
-                a.cast_signed()
-                    .wrapping_div(b.cast_signed())
-                    .cast_unsigned()
-            }
-        }
-        AluOp::Mod => if b == 0 { a } else { a % b },
-        AluOp::SignedMod => {
-            if b == 0 {
-                a
-            } else {
-                a.cast_signed()
-                    .wrapping_rem(b.cast_signed())
-                    .cast_unsigned()
-            }
-        }
-        AluOp::Or => a | b,
-        AluOp::And => a & b,
-        AluOp::Xor => a ^ b,
-        AluOp::Lsh => a << (b % 64),
-        AluOp::Rsh => a >> (b % 64),
-        AluOp::Arsh => (a.cast_signed() >> (b % 64)).cast_unsigned(),
-    }
+    operation!(op, a, b, 64)
 }
 
 fn compute32(op: AluOp, a: u32, b: u32) -> u32
     ensures { result ≡ result_of op Width.Low32 a b }
 {
-    match op {
-        AluOp::Mov => b,
-        AluOp::Add => a.wrapping_add(b),
-        AluOp::Sub => a.wrapping_sub(b),
-        AluOp::Mul => a.wrapping_mul(b),
-        AluOp::Div => if b == 0 { 0 } else { a / b },
-        AluOp::SignedDiv => {
-            if b == 0 {
-                0
-            } else {
-                a.cast_signed()
-                    .wrapping_div(b.cast_signed())
-                    .cast_unsigned()
-            }
-        }
-        AluOp::Mod => if b == 0 { a } else { a % b },
-        AluOp::SignedMod => {
-            if b == 0 {
-                a
-            } else {
-                a.cast_signed()
-                    .wrapping_rem(b.cast_signed())
-                    .cast_unsigned()
-            }
-        }
-        AluOp::Or => a | b,
-        AluOp::And => a & b,
-        AluOp::Xor => a ^ b,
-        AluOp::Lsh => a << (b % 32),
-        AluOp::Rsh => a >> (b % 32),
-        AluOp::Arsh => (a.cast_signed() >> (b % 32)).cast_unsigned(),
-    }
+    operation!(op, a, b, 32)
 }
 
 /// The number with its sign changed, at the width.
@@ -148,49 +124,47 @@ pub fn reorder(order: ByteOrder, span: Span, a: u64) -> u64
     }
 }
 
+/// The low bits of the width.
+pub fn truncate(width: Width, a: u64) -> u64
+    ensures { result ≡ low width a }
+{
+    match width {
+        Width::Low32 => u64::from(low_word(a)),
+        Width::Full64 => a,
+    }
+}
+
+/// The low bits of the width, read as a signed number.
+pub fn as_signed(width: Width, a: u64) -> i64
+    ensures { result ≡ signed width (low width a) }
+{
+    match width {
+        Width::Low32 => i64::from(low_word(a).cast_signed()),
+        Width::Full64 => a.cast_signed(),
+    }
+}
+
 /// Whether the comparison holds of two registers' numbers, at the width.
 #[tactic(auto, unfolding(crate::specs::Numbers::holds))]
 pub fn compare(comparison: Comparison, width: Width, a: u64, b: u64) -> bool
     ensures { result ≡ holds comparison width a b }
 {
-    match width {
-        Width::Low32 => compare32(comparison, low_word(a), low_word(b)),
-        Width::Full64 => compare64(comparison, a, b),
+    let x = truncate(width, a);
+    let y = truncate(width, b);
+    match comparison {
+        Comparison::Equal => x == y,
+        Comparison::NotEqual => x != y,
+        Comparison::Greater => x > y,
+        Comparison::GreaterEqual => x >= y,
+        Comparison::Less => x < y,
+        Comparison::LessEqual => x <= y,
+        Comparison::AnyBit => x & y != 0,
+        Comparison::SignedGreater => as_signed(width, a) > as_signed(width, b),
+        Comparison::SignedGreaterEqual => as_signed(width, a) >= as_signed(width, b),
+        Comparison::SignedLess => as_signed(width, a) < as_signed(width, b),
+        Comparison::SignedLessEqual => as_signed(width, a) <= as_signed(width, b),
     }
 }
 
-fn compare64(comparison: Comparison, a: u64, b: u64) -> bool
-    ensures { result ≡ compares comparison Width.Full64 a b }
-{
-    match comparison {
-        Comparison::Equal => a == b,
-        Comparison::NotEqual => a != b,
-        Comparison::Greater => a > b,
-        Comparison::GreaterEqual => a >= b,
-        Comparison::Less => a < b,
-        Comparison::LessEqual => a <= b,
-        Comparison::AnyBit => a & b != 0,
-        Comparison::SignedGreater => a.cast_signed() > b.cast_signed(),
-        Comparison::SignedGreaterEqual => a.cast_signed() >= b.cast_signed(),
-        Comparison::SignedLess => a.cast_signed() < b.cast_signed(),
-        Comparison::SignedLessEqual => a.cast_signed() <= b.cast_signed(),
-    }
-}
-
-fn compare32(comparison: Comparison, a: u32, b: u32) -> bool
-    ensures { result ≡ compares comparison Width.Low32 a b }
-{
-    match comparison {
-        Comparison::Equal => a == b,
-        Comparison::NotEqual => a != b,
-        Comparison::Greater => a > b,
-        Comparison::GreaterEqual => a >= b,
-        Comparison::Less => a < b,
-        Comparison::LessEqual => a <= b,
-        Comparison::AnyBit => a & b != 0,
-        Comparison::SignedGreater => a.cast_signed() > b.cast_signed(),
-        Comparison::SignedGreaterEqual => a.cast_signed() >= b.cast_signed(),
-        Comparison::SignedLess => a.cast_signed() < b.cast_signed(),
-        Comparison::SignedLessEqual => a.cast_signed() <= b.cast_signed(),
-    }
-}
+#[cfg(test)]
+mod tests;
