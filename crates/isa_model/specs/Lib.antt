@@ -3,6 +3,8 @@ pub mod Sizes
 pub mod Instructions
 pub mod Spelling
 pub mod Numbers
+pub mod NumberLemmas
+pub mod ExtensionLemmas
 pub mod Frames
 pub mod Streams
 pub mod States
@@ -11,4 +13,10 @@ pub mod Memory
 pub mod Calls
 pub mod Steps
 pub mod Runs
+pub mod RunLaws
+pub mod Ends
+pub mod MachineStates
+pub mod ValueLaws
+pub mod StateLaws
+pub mod StepLaws
 pub mod Examples
