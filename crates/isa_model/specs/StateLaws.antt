@@ -173,10 +173,11 @@ put_value_fits row content (Some j) i new within bytes h =
       room = rw (length-set es j x) h.room;
       keys = rw keys h.keys;
     } in
-    subst (FitsRow row) (sym (map-set (λ e. (e.0, e.1.bytes)) content j f)) fits
+    let same : entries_of (slice_set content j f) ≡ slice_set es j x = map-set (λ e. (e.0, e.1.bytes)) content j f in
+    rw same fits
 
 -- an entry that a serial finds is there, and so is the place in its value
-entry_room : (content : Content) (n i len : ℕ) (o : Option ℕ) → entry_index content n ≡ o
+pub entry_room : (content : Content) (n i len : ℕ) (o : Option ℕ) → entry_index content n ≡ o
     → HasRoom (option_map (λ j. map Byte (entry_at content j).1.bytes) o) i len
     → (j : ℕ) → o ≡ Some j → (j < length content) × (i + len ≤ length (entry_at content j).1.bytes)
 entry_room content n i len None e room j h = absurd room
@@ -186,7 +187,8 @@ entry_room content n i len (Some k) e room j h =
     let long = length-map (entry_at content k).1.bytes Byte in
     rw (← same) (place.0, omega arith)
 
-frame_room : (fs : List CallFrame) (n : ℕ) (j : ℕ) → frame_index fs n ≡ Some j → j < length fs
+-- a frame that a serial finds is there
+pub frame_room : (fs : List CallFrame) (n : ℕ) (j : ℕ) → frame_index fs n ≡ Some j → j < length fs
 frame_room fs n j e = (position-Some (λ f. f.serial == n) fs j (new_frame 0 0 []) e).0
 
 pub IsState-put : (p : Program) (s : State) (r : Region) (i : ℕ) (new : List Cell) → HasRoom (region_cells s r) i (length new)

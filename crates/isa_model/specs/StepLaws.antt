@@ -1,14 +1,16 @@
 -- A step of a state of a program leads to a state of it, and the start state is one.
-use Rattle.std.specs.Prelude.{◌≡◌, ◌≢◌, ℕ, zero, suc, ◌+◌, ◌*◌, ◌^◌, ◌<◌, ◌≤◌, ◌==◌, Bool, true, false, if◌then◌else◌, ℤ, pos, negsuc, ◌+ℤ◌, unwrap_or, List, [], ◌∷◌, ◌++◌, map, take, drop, length, All, AllPairs, Option, Some, None, Result, Ok, Err, IfOk, refl}
+use Rattle.std.specs.Prelude.{◌≡◌, ◌≢◌, ℕ, zero, suc, ◌+◌, ◌*◌, ◌^◌, ◌<◌, ◌≤◌, ◌==◌, Bool, true, false, if◌then◌else◌, ℤ, pos, negsuc, ◌+ℤ◌, ◌≤ℤ◌, unwrap_or, List, [], ◌∷◌, ◌++◌, map, take, drop, length, slice_index_or, All, AllPairs, Option, Some, None, Result, Ok, Err, IfOk, refl}
 use Rattle.std.specs.Int.{w16, w32}
 use Rattle.std.specs.Int.RustNames.{FitsSigned}
 use Rattle.std.specs.List.{list_any, flat_map, range_with_len}
 use Rattle.std.specs.Option.{option_map}
-use Rattle.std.proofs.Common.{sym, ap, ◌∙◌, subst, arith, length-append}
+use Rattle.std.proofs.Common.{sym, ap, ◌∙◌, subst, arith, add-zero, add-one, zero-add, length-append}
 use Rattle.std.proofs.lemmas.Int.{ints}
 use Rattle.std.proofs.lemmas.Bool.Decides.{nat_tests}
 use Rattle.std.proofs.lemmas.List.{length-map}
-use Rattle.std.proofs.lemmas.List.Elements.{All-nil, All-get_or, All-append, All-take, All-drop, All-push, All-map, All-from_recursion}
+use Rattle.std.proofs.lemmas.List.Elements.{All-nil, All-cons, All-replicate, All-get_or, All-append, All-take, All-drop, All-push, All-map, All-weaker, All-from_recursion}
+use Rattle.std.proofs.lemmas.List.Quantifiers.{position-Some}
+use Rattle.std.proofs.Math.ListN.{get_or-map as get_or-map_default}
 use Rattle.std.proofs.lemmas.List.FromFn.{length-range_with_len, get_or-range_with_len}
 use Rattle.isa_model.specs.declared.registers.Reg.{Reg}
 use Rattle.isa_model.specs.declared.registers.Reg.TheVariants.{R0}
@@ -17,6 +19,7 @@ use Rattle.isa_model.specs.declared.sizes.Width.TheVariants.{Low32, Full64}
 use Rattle.isa_model.specs.declared.sizes.Size.{Size}
 use Rattle.isa_model.specs.declared.sizes.Size.TheVariants.{U8, U16, U32, U64}
 use Rattle.isa_model.specs.declared.sizes.Narrow.{Narrow}
+use Rattle.isa_model.specs.declared.instructions.AluOp.TheVariants.{Sub}
 use Rattle.isa_model.specs.declared.instructions.Cond.{Cond}
 use Rattle.isa_model.specs.declared.instructions.Place.{Place}
 use Rattle.isa_model.specs.declared.instructions.Operand.{Operand}
@@ -29,20 +32,28 @@ use Rattle.isa_model.specs.declared.values.Value.{Value}
 use Rattle.isa_model.specs.declared.values.Value.TheVariants.{Unset, Num, Ptr}
 use Rattle.isa_model.specs.declared.values.Cell.{Cell}
 use Rattle.isa_model.specs.declared.values.Cell.TheVariants.{Byte}
+use Rattle.isa_model.specs.declared.values.CallFrame.{CallFrame}
+use Rattle.isa_model.specs.declared.map_defs.MapDef.{MapDef}
 use Rattle.isa_model.specs.declared.ends.TrapReason.{TrapReason}
+use Rattle.isa_model.specs.declared.ends.TrapReason.TheVariants.{UnsetRead, ReadOnly, BadAccess, TooManyFrames}
 use Rattle.isa_model.specs.Sizes.{size_bytes, width_size, narrow_size, narrow_extension}
 use Rattle.isa_model.specs.Numbers.{low, unsigned, alu, sign_extended, reordered, negated, bytes_of, atomic_alu}
 use Rattle.isa_model.specs.NumberLemmas.{alu_fits, reordered_fits}
 use Rattle.isa_model.specs.ExtensionLemmas.{sign_extended_fits}
 use Rattle.isa_model.specs.Spelling.{InsnFits, OperandFits}
 use Rattle.isa_model.specs.Instructions.{Program, fetch, slots_of, reads, writes, is_frame_pointer}
-use Rattle.isa_model.specs.States.{State, reg, set_reg, go_to}
-use Rattle.isa_model.specs.Memory.{and_then, number_in, value_in, pieces, index_at, region_cells, place_of, cells_at, read, put, write, context_field, context_load, number_at, as_number, memory_load, load_from, load, load_number, load_signed, store_number, store_pointer, store}
+use Rattle.isa_model.specs.States.{Stored, Content, Entries, entries_of, State, reg, set_reg, go_to, content_of, new_frame, frame_at}
+use Rattle.isa_model.specs.Memory.{and_then, frame_index, entry_index, entry_at, number_in, value_in, pieces, index_at, region_cells, place_of, cells_at, read, put, write, context_field, context_load, number_at, as_number, memory_load, load_from, load, load_number, load_signed, store_number, store_pointer, store}
 use Rattle.isa_model.specs.Calls.{most_frames, enter, leave}
 use Rattle.isa_model.specs.Steps.{StepResult, Next, Finished, Trapped, operand_value, base_of, target, destination, sets, goes_on, jumps, branches, test_of, calls, finishes, exits, atomic_number, swaps_in, fetched_into, act, is_unset, performed, performed_at, step}
-use Rattle.isa_model.specs.MachineStates.{AreBytes, IsProgram, IsOffset, IsRegion, IsValue, IsCell, IsCallFrame, IsSlot, IsState}
-use Rattle.isa_model.specs.ValueLaws.{IfOk-and_then, unsigned_fits, arithmetic_fits, on_number_fits, Byte_cells_fit, number_in_fits, value_in_fits, pieces_fit, bytes_of_fit}
-use Rattle.isa_model.specs.StateLaws.{IsState-go_to, reg_fits, IsState-set_reg, HasRoom, place_in_room, IsState-put, IsState-enter, IsState-leave}
+use Rattle.isa_model.specs.Runs.{numbered, numbered_maps, count_values, start_regs, start_state, Progress, GoesOn, progress, Reaches}
+use Rattle.isa_model.specs.RunLaws.{progress-zero}
+use Rattle.isa_model.specs.Ends.{Reaches-last}
+use Rattle.isa_model.specs.declared.frames.FrameHead.{FrameHead}
+use Rattle.isa_model.specs.declared.values.Cell.TheVariants.{Unwritten}
+use Rattle.isa_model.specs.MachineStates.{AreBytes, value_serials, IsGiven, IsProgram, IsEntry, FitRows, IsOffset, IsRegion, IsValue, IsCell, IsCallFrame, IsSlot, IsState}
+use Rattle.isa_model.specs.ValueLaws.{IfOk-and_then, IfOk-if, unsigned_fits, arithmetic_fits, on_number_fits, Byte_cells_fit, number_in_fits, value_in_fits, pieces_fit, bytes_of_fit}
+use Rattle.isa_model.specs.StateLaws.{IsState-go_to, reg_fits, IsState-set_reg, HasRoom, place_in_room, frame_room, IsState-put, IsState-enter, IsState-leave}
 
 -- what holds of the next state, where there is one
 abbrev pub IfNext : StepResult → (State → Type 0) → Type 0
@@ -56,11 +67,47 @@ abbrev pub CellsFit : ℕ → ℕ → Option (List Cell) → Type 0
 CellsFit rows next (Some cells) = All (IsCell rows next) cells
 CellsFit rows next None = Unit {0}
 
+-- an entry that a serial finds is there
+value_room : (content : Content) (n : ℕ) (j : ℕ) → entry_index content n ≡ Some j → j < length content
+value_room content n j e = (position-Some (λ e. e.1.serial == n) content j ([], record { serial = 0; bytes = [] }) e).0
+
+frame_cells_fit : (p : Program) (next : ℕ) (fs : List CallFrame) (o : Option ℕ) → ((j : ℕ) → o ≡ Some j → j < length fs) → All (IsCallFrame p next) fs
+    → CellsFit (length p.maps) next (option_map (λ j. (frame_at fs j).cells) o)
+frame_cells_fit p next fs None within h = tt
+frame_cells_fit p next fs (Some j) within h = (All-get_or (IsCallFrame p next) fs j (new_frame 0 0 []) (within j refl) h).cells
+
+-- the values of a map that fits its row are bytes
+contents_are_bytes : (rows : List MapDef) (contents : List Entries) (m : ℕ) → FitRows rows contents
+    → All (λ e. AreBytes e.1) (slice_index_or contents m [])
+contents_are_bytes [] [] m h = All-nil (λ e. AreBytes e.1)
+contents_are_bytes [] (c ∷ contents) m h = absurd h
+contents_are_bytes (row ∷ rows) [] m h = absurd h
+contents_are_bytes (row ∷ rows) (c ∷ contents) zero h = All-weaker (IsEntry row) (λ e. AreBytes e.1) (λ e k. k.value) c h.0.entries
+contents_are_bytes (row ∷ rows) (c ∷ contents) (suc m) h = contents_are_bytes rows contents m h.1
+
+value_cells_fit : (rows next : ℕ) (content : Content) (o : Option ℕ) → ((j : ℕ) → o ≡ Some j → j < length content) → All (λ e. AreBytes e.1) (entries_of content)
+    → CellsFit rows next (option_map (λ j. map Byte (entry_at content j).1.bytes) o)
+value_cells_fit rows next content None within h = tt
+value_cells_fit rows next content (Some j) within h =
+    let none : List ℕ × Stored = ([], record { serial = 0; bytes = [] }) in
+    let long = length-map {B = List ℕ × List ℕ} content (λ e. (e.0, e.1.bytes)) in
+    let here = within j refl in
+    let found : slice_index_or (entries_of content) j ([], []) ≡ ((entry_at content j).0, (entry_at content j).1.bytes) =
+      get_or-map_default (λ e. (e.0, e.1.bytes)) content j none in
+    let P : List ℕ × List ℕ → Type 0 = λ e. AreBytes e.1 in
+    Byte_cells_fit rows next (entry_at content j).1.bytes
+    (subst P found (All-get_or P (entries_of content) j ([], []) (omega arith) h))
+
 -- the cells of every live region fit
 region_cells_fit : (p : Program) (s : State) (r : Region) → IsState p s → CellsFit (length p.maps) s.next_serial (region_cells s r)
 region_cells_fit p s region.Packet k = Byte_cells_fit (length p.maps) s.next_serial s.packet k.packet
-region_cells_fit p s (region.Frame n) k = ?
-region_cells_fit p s (region.MapValue m n) k = ?
+region_cells_fit p s (region.Frame n) k = frame_cells_fit p s.next_serial s.frames (frame_index s.frames n) (frame_room s.frames n) k.frames
+region_cells_fit p s (region.MapValue m n) k =
+    let content = content_of s m in
+    let found : slice_index_or (map entries_of s.maps) m [] ≡ entries_of content = get_or-map_default entries_of s.maps m [] in
+    let P : Entries → Type 0 = All (λ e. AreBytes e.1) in
+    value_cells_fit (length p.maps) s.next_serial content (entry_index content n) (value_room content n)
+    (subst P found (contents_are_bytes p.maps (map entries_of s.maps) m k.maps))
 region_cells_fit p s region.Context k = tt
 region_cells_fit p s region.PacketEnd k = tt
 region_cells_fit p s (region.Map m) k = tt
@@ -92,3 +139,314 @@ memory_load_fits p s U16 r o k =
     IfOk-and_then (λ a. a < 2 ^ 64) (IsValue (length p.maps) s.next_serial) (number_at s r o 2) (λ n. Ok (Num n)) (number_at_fits p s r o 2 k) (λ a h. h)
 memory_load_fits p s U32 r o k =
     IfOk-and_then (λ a. a < 2 ^ 64) (IsValue (length p.maps) s.next_serial) (number_at s r o 4) (λ n. Ok (Num n)) (number_at_fits p s r o 4 k) (λ a h. h)
+
+context_field_fits : (p : Program) (s : State) (o : Option ℕ) → IsState p s → IfOk (context_field s o) (IsValue (length p.maps) s.next_serial)
+context_field_fits p s None k = tt
+context_field_fits p s (Some i) k =
+    let interface = k.interface in
+    let queue = k.queue in
+    let V : Value → Type 0 = IsValue (length p.maps) s.next_serial in
+    IfOk-if V (i == 0) (Ok (Ptr region.Packet (pos 0))) _ (λ e. (tt, omega arith))
+    (λ e. IfOk-if V (i == 4) (Ok (Ptr region.PacketEnd (pos 0))) _ (λ e. (tt, omega arith))
+    (λ e. IfOk-if V (i == 12) (Ok (Num s.interface)) _ (λ e. omega arith)
+    (λ e. IfOk-if V (i == 16) (Ok (Num s.queue)) (Err BadAccess) (λ e. omega arith) (λ e. tt))))
+
+load_from_fits : (p : Program) (s : State) (size : Size) (r : Region) (o : Option ℕ) → IsState p s
+    → IfOk (load_from s size r o) (IsValue (length p.maps) s.next_serial)
+load_from_fits p s U8 region.Context o k = tt
+load_from_fits p s U16 region.Context o k = tt
+load_from_fits p s U32 region.Context o k = context_field_fits p s o k
+load_from_fits p s U64 region.Context o k = tt
+load_from_fits p s size region.Packet o k = memory_load_fits p s size region.Packet o k
+load_from_fits p s size region.PacketEnd o k = memory_load_fits p s size region.PacketEnd o k
+load_from_fits p s size (region.Map m) o k = memory_load_fits p s size (region.Map m) o k
+load_from_fits p s size (region.Frame n) o k = memory_load_fits p s size (region.Frame n) o k
+load_from_fits p s size (region.MapValue m n) o k = memory_load_fits p s size (region.MapValue m n) o k
+
+-- what a load gives is a value
+pub load_fits : (p : Program) (s : State) (size : Size) (v : Value) (by : ℤ) → IsState p s → IfOk (load s size v by) (IsValue (length p.maps) s.next_serial)
+load_fits p s size (Ptr r z) by k = load_from_fits p s size r (index_at r (z +ℤ by)) k
+load_fits p s size (Num n) by k = tt
+load_fits p s size Unset by k = tt
+
+pub load_number_fits : (p : Program) (s : State) (size : Size) (v : Value) (by : ℤ) → IsState p s → IfOk (load_number s size v by) (λ n. n < 2 ^ 64)
+load_number_fits p s size (Ptr r z) by k = number_at_fits p s r (index_at r (z +ℤ by)) (size_bytes size) k
+load_number_fits p s size (Num n) by k = tt
+load_number_fits p s size Unset by k = tt
+
+pub load_signed_fits : (p : Program) (s : State) (size : Narrow) (v : Value) (by : ℤ) → IsState p s
+    → IfOk (load_signed s size v by) (IsValue (length p.maps) s.next_serial)
+load_signed_fits p s size v by k =
+    IfOk-and_then (λ n. n < 2 ^ 64) (IsValue (length p.maps) s.next_serial) (load_number s (narrow_size size) v by)
+    (λ n. Ok (Num (sign_extended (narrow_extension size) n))) (load_number_fits p s (narrow_size size) v by k)
+    (λ n h. sign_extended_fits (narrow_extension size) n)
+
+-- ---- stores
+
+pub write_keeps : (p : Program) (s : State) (r : Region) (o : Option ℕ) (new : List Cell) → All (IsCell (length p.maps) s.next_serial) new → IsState p s
+    → IfOk (write s r o new) (IsState p)
+write_keeps p s r o new fit k =
+    IfOk-and_then (λ i. HasRoom (region_cells s r) i (length new)) (IsState p) (place_of s r o (length new)) (λ i. Ok (put s r i new))
+    (place_in_room (region_cells s r) o (length new)) (λ i room. IsState-put p s r i new room fit k)
+
+pub store_number_keeps : (p : Program) (s : State) (size : Size) (v : Value) (by : ℤ) (n : ℕ) → IsState p s → IfOk (store_number s size v by n) (IsState p)
+store_number_keeps p s size (Ptr r z) by n k =
+    write_keeps p s r (index_at r (z +ℤ by)) (map Byte (bytes_of size n))
+    (Byte_cells_fit (length p.maps) s.next_serial (bytes_of size n) (bytes_of_fit size n)) k
+store_number_keeps p s size (Num m) by n k = tt
+store_number_keeps p s size Unset by n k = tt
+
+store_pointer_keeps : (p : Program) (s : State) (size : Size) (v : Value) (by : ℤ) (q : Region) (y : ℤ)
+    → IsRegion (length p.maps) s.next_serial q → IsOffset y → IsState p s → IfOk (store_pointer s size v by q y) (IsState p)
+store_pointer_keeps p s U64 (Ptr (region.Frame n) z) by q y h l k =
+    write_keeps p s (region.Frame n) (index_at (region.Frame n) (z +ℤ by)) (pieces q y) (pieces_fit (length p.maps) s.next_serial q y h l) k
+store_pointer_keeps p s U64 (Ptr region.Context z) by q y h l k = tt
+store_pointer_keeps p s U64 (Ptr region.Packet z) by q y h l k = tt
+store_pointer_keeps p s U64 (Ptr region.PacketEnd z) by q y h l k = tt
+store_pointer_keeps p s U64 (Ptr (region.Map m) z) by q y h l k = tt
+store_pointer_keeps p s U64 (Ptr (region.MapValue m n) z) by q y h l k = tt
+store_pointer_keeps p s U64 (Num n) by q y h l k = tt
+store_pointer_keeps p s U64 Unset by q y h l k = tt
+store_pointer_keeps p s U8 v by q y h l k = tt
+store_pointer_keeps p s U16 v by q y h l k = tt
+store_pointer_keeps p s U32 v by q y h l k = tt
+
+-- a store of a value
+pub store_keeps : (p : Program) (s : State) (size : Size) (base : Value) (by : ℤ) (v : Value) → IsValue (length p.maps) s.next_serial v → IsState p s
+    → IfOk (store s size base by v) (IsState p)
+store_keeps p s size base by (Num n) h k = store_number_keeps p s size base by n k
+store_keeps p s size base by (Ptr q y) h k = store_pointer_keeps p s size base by q y h.0 h.1 k
+store_keeps p s size base by Unset h k = tt
+
+-- ---- atomic instructions
+
+fetched_into_keeps : (p : Program) (s : State) (fetch : Bool) (r : Reg) (old : ℕ) → old < 2 ^ 64 → IsState p s → IsState p (fetched_into fetch r old s)
+fetched_into_keeps p s true r old h k = IsState-set_reg p s r (Num old) h k
+fetched_into_keeps p s false r old h k = k
+
+swaps_in_keeps : (p : Program) (s : State) (w : Width) (place : Place) (new : ℕ → ℕ) (fetch : Bool) (r : Reg) → IsState p s
+    → IfOk (swaps_in s w place new (fetched_into fetch r)) (IsState p)
+swaps_in_keeps p s w place new fetch r k =
+    let size = width_size w in
+    let base = base_of s place in
+    IfOk-and_then (λ n. n < 2 ^ 64) (IsState p) (load_number s size base place.offset)
+    (λ old. and_then (store_number s size base place.offset (new old)) (λ t. Ok (fetched_into fetch r old t)))
+    (load_number_fits p s size base place.offset k)
+    (λ old h. IfOk-and_then (IsState p) (IsState p) (store_number s size base place.offset (new old)) (λ t. Ok (fetched_into fetch r old t))
+    (store_number_keeps p s size base place.offset (new old) k) (λ t j. fetched_into_keeps p t fetch r old h j))
+
+-- a number alone goes on
+pub with_number : {A : Type 0} (P : A → Type 0) (v : Value) (go : ℕ → Result A TrapReason) → ((n : ℕ) → IfOk (go n) P)
+    → IfOk (and_then (atomic_number v) go) P
+with_number P (Num n) go h = h n
+with_number P (Ptr r z) go h = tt
+with_number P Unset go h = tt
+
+-- ---- results
+
+sets_keeps : (p : Program) (s : State) (i : Insn) (d : Reg) (r : Result Value TrapReason) → IsSlot p (s.slot + slots_of i)
+    → IfOk r (IsValue (length p.maps) s.next_serial) → IsState p s → IfNext (sets s i d r) (IsState p)
+sets_keeps p s i d (Ok v) slot h k = IsState-go_to p (set_reg s d v) (s.slot + slots_of i) slot (IsState-set_reg p s d v h k)
+sets_keeps p s i d (Err e) slot h k = tt
+
+goes_on_keeps : (p : Program) (s : State) (i : Insn) (r : Result State TrapReason) → IsSlot p (s.slot + slots_of i) → IfOk r (IsState p)
+    → IfNext (goes_on s i r) (IsState p)
+goes_on_keeps p s i (Ok t) slot h = IsState-go_to p t (s.slot + slots_of i) slot h
+goes_on_keeps p s i (Err e) slot h = tt
+
+-- ---- jumps, calls and exits
+
+slot_from : (p : Program) (z : ℤ) → z ≤ℤ pos (length p.insns + 2 ^ 31) → IsSlot p (unwrap_or (elim z [ pos n ↦ Some n | negsuc n ↦ None ]) (length p.insns))
+slot_from p (pos n) h = omega (arith, ints)
+slot_from p (negsuc n) h = omega arith
+
+-- where a jump leads
+destination_fits : (p : Program) (slot : ℕ) (by : ℤ) → slot + 1 ≤ length p.insns → FitsSigned w32 by → IsSlot p (destination p slot by)
+destination_fits p slot by inside fits = slot_from p (pos (slot + 1) +ℤ by) (omega (arith, ints))
+
+jumps_keep : (p : Program) (s : State) (by : ℤ) → s.slot + 1 ≤ length p.insns → FitsSigned w32 by → IsState p s → IfNext (jumps s p by) (IsState p)
+jumps_keep p s by inside fits k = IsState-go_to p s (destination p s.slot by) (destination_fits p s.slot by inside fits) k
+
+branches_keep : (p : Program) (s : State) (by : ℤ) (r : Result Bool TrapReason) → s.slot + 1 ≤ length p.insns → FitsSigned w32 by → IsState p s
+    → IfNext (branches s p by r) (IsState p)
+branches_keep p s by (Ok true) inside fits k = jumps_keep p s by inside fits k
+branches_keep p s by (Ok false) inside fits k = IsState-go_to p s (s.slot + 1) (omega arith) k
+branches_keep p s by (Err e) inside fits k = tt
+
+calls_keep : (p : Program) (s : State) (by : ℤ) → s.slot + 1 ≤ length p.insns → FitsSigned w32 by → IsState p s → IfNext (calls s p by) (IsState p)
+calls_keep p s by inside fits k = room (length s.frames == most_frames) refl
+  where
+    room : (full : Bool) → (length s.frames == most_frames) ≡ full
+        → IfNext (if full then Trapped TooManyFrames else Next (enter s (destination p s.slot by))) (IsState p)
+    room true e = tt
+    room false e = IsState-enter p s (destination p s.slot by) (destination_fits p s.slot by inside fits) inside (λ h. grind (arith, nat_tests)) k
+
+finishes_keeps : (p : Program) (v : Value) → IfNext (finishes v) (IsState p)
+finishes_keeps p (Num n) = tt
+finishes_keeps p (Ptr r z) = tt
+finishes_keeps p Unset = tt
+
+exits_keep : (p : Program) (s : State) → IsState p s → IfNext (exits s) (IsState p)
+exits_keep p s k = last (length s.frames == 1) refl
+  where
+    last : (one : Bool) → (length s.frames == 1) ≡ one → IfNext (if one then finishes (reg s R0) else Next (leave s)) (IsState p)
+    last true e = finishes_keeps p (reg s R0)
+    last false e = IsState-leave p s (λ h. grind (arith, nat_tests)) k
+
+-- ---- the forms
+
+-- an operand of a state is a value
+operand_fits : (p : Program) (s : State) (w : Width) (x : Operand) → OperandFits x → IsState p s → IsValue (length p.maps) s.next_serial (operand_value s w x)
+operand_fits p s w (Constant n) h k = unsigned_fits w n h
+operand_fits p s w (Register r) h k = reg_fits p s r k
+
+-- a distance of 16 bits is one of 32
+wider : (by : ℤ) → FitsSigned w16 by → FitsSigned w32 by
+wider by h = omega (arith, ints)
+
+-- what a form does, once its registers are set, leaves a state
+pub act_keeps : (p : Program) (clock : ℕ → ℕ) (s : State) (i : Insn) → InsnFits i → s.slot + slots_of i ≤ length p.insns → IsState p s
+    → IfNext (act p clock s i) (IsState p)
+unfolding act
+act_keeps p clock s (Alu w op d x) fits inside k =
+    sets_keeps p s (Alu w op d x) d _ (omega arith)
+    (arithmetic_fits (length p.maps) s.next_serial op w (reg s d) (operand_value s w x) (reg_fits p s d k) (operand_fits p s w x fits k)) k
+act_keeps p clock s (Neg w d) fits inside k =
+    sets_keeps p s (Neg w d) d _ (omega arith) (on_number_fits (length p.maps) s.next_serial (negated w) (reg s d) (λ n. alu_fits Sub w 0 n)) k
+act_keeps p clock s (MovSx e d r) fits inside k =
+    sets_keeps p s (MovSx e d r) d _ (omega arith) (on_number_fits (length p.maps) s.next_serial (sign_extended e) (reg s r) (sign_extended_fits e)) k
+act_keeps p clock s (ByteSwap order span d) fits inside k =
+    sets_keeps p s (ByteSwap order span d) d _ (omega arith)
+    (on_number_fits (length p.maps) s.next_serial (reordered order span) (reg s d) (reordered_fits order span)) k
+act_keeps p clock s (LoadNumber d n) fits inside k = sets_keeps p s (LoadNumber d n) d (Ok (Num n)) (omega arith) fits k
+act_keeps p clock s (Load size d place) fits inside k =
+    sets_keeps p s (Load size d place) d _ (omega arith) (load_fits p s size (base_of s place) place.offset k) k
+act_keeps p clock s (LoadSx size d place) fits inside k =
+    sets_keeps p s (LoadSx size d place) d _ (omega arith) (load_signed_fits p s size (base_of s place) place.offset k) k
+act_keeps p clock s (StoreConstant size place n) fits inside k =
+    goes_on_keeps p s (StoreConstant size place n) _ (omega arith)
+    (store_keeps p s size (base_of s place) place.offset (Num (unsigned Full64 n)) (unsigned_fits Full64 n fits.1) k)
+act_keeps p clock s (Store size place r) fits inside k =
+    goes_on_keeps p s (Store size place r) _ (omega arith)
+    (store_keeps p s size (base_of s place) place.offset (reg s r) (reg_fits p s r k) k)
+act_keeps p clock s (Atomic w op fetch place r) fits inside k =
+    goes_on_keeps p s (Atomic w op fetch place r) _ (omega arith)
+    (with_number (IsState p) (reg s r) _ (λ b. swaps_in_keeps p s w place (λ a. alu (atomic_alu op) w a b) fetch r k))
+act_keeps p clock s (Exchange w place r) fits inside k =
+    goes_on_keeps p s (Exchange w place r) _ (omega arith)
+    (with_number (IsState p) (reg s r) _ (λ b. swaps_in_keeps p s w place (λ a. b) true r k))
+act_keeps p clock s (CompareExchange w place r) fits inside k =
+    goes_on_keeps p s (CompareExchange w place r) _ (omega arith)
+    (with_number (IsState p) (reg s r) _ (λ b. with_number (IsState p) (reg s R0) _
+    (λ expected. swaps_in_keeps p s w place (λ a. if a == low w expected then b else a) true R0 k)))
+act_keeps p clock s (Jump by) fits inside k = jumps_keep p s by (omega arith) (wider by fits) k
+act_keeps p clock s (JumpLong by) fits inside k = jumps_keep p s by (omega arith) fits k
+act_keeps p clock s (JumpIf cond by) fits inside k = branches_keep p s by (test_of s cond) (omega arith) (wider by fits.1) k
+act_keeps p clock s (CallLocal by) fits inside k = calls_keep p s by (omega arith) fits k
+act_keeps p clock s Exit fits inside k = exits_keep p s k
+
+IfNext-if : (P : State → Type 0) (b : Bool) (e : TrapReason) (r : StepResult) → IfNext r P → IfNext (if b then Trapped e else r) P
+IfNext-if P true e r h = tt
+IfNext-if P false e r h = h
+
+performed_at_keeps : (p : Program) (clock : ℕ → ℕ) (s : State) (o : Option Insn) → fetch p s.slot ≡ o → IsProgram p → IsState p s
+    → IfNext (performed_at p clock s o) (IsState p)
+performed_at_keeps p clock s None e h k = tt
+performed_at_keeps p clock s (Some i) e h k =
+    IfNext-if (IsState p) (list_any (λ r. is_unset (reg s r)) (reads i)) UnsetRead _
+    (IfNext-if (IsState p) (is_frame_pointer (writes i)) ReadOnly (act p clock s i)
+    (act_keeps p clock s i (h.fits s.slot i e) (h.inside s.slot i e) k))
+
+-- a step of a state leads to a state
+pub step_keeps : (p : Program) (clock : ℕ → ℕ) (s : State) → IsProgram p → IsState p s → IfNext (step p clock s) (IsState p)
+unfolding step
+step_keeps p clock s h k = performed_at_keeps p clock s (fetch p s.slot) refl h k
+
+-- and so do any steps in a row
+pub progress_keeps : (p : Program) (clock : ℕ → ℕ) (s t : State) (n : ℕ) → IsProgram p → IsState p s → Reaches p clock s n t → IsState p t
+progress_keeps p clock s t zero h k r = subst (IsState p) (goes_on_same (sym (progress-zero p clock s) ∙ r)) k
+  where
+    goes_on_same : {s t : State} → GoesOn s ≡ GoesOn t → s ≡ t
+    goes_on_same e = cc
+progress_keeps p clock s t (suc n) h k r =
+    let (u, reached, last) = Reaches-last p clock s n t r in
+    let next = step_keeps p clock u h (progress_keeps p clock s u n h k reached) in
+    subst (λ r. IfNext r (IsState p)) last next
+
+-- ---- the start
+
+-- the serials at the start are numbers in a row
+numbered_serials : (n : ℕ) (es : Entries) → value_serials (numbered n es) ≡ range_with_len n (length es)
+numbered_serials n [] = refl
+numbered_serials n (e ∷ es) = ap (λ l. n ∷ l) (subst (λ m. value_serials (numbered m es) ≡ range_with_len (n + 1) (length es)) (add-one n) (numbered_serials (n + 1) es))
+
+range-append : (a m n : ℕ) → range_with_len a m ++ range_with_len (a + m) n ≡ range_with_len a (m + n)
+range-append a zero n = rw (add-zero, zero-add) refl
+range-append a (suc m) n =
+    let again = range-append (a + 1) m n in
+    let there : a + suc m ≡ a + 1 + m = omega arith in
+    let total : suc m + n ≡ suc (m + n) = omega arith in
+    rw (there, total) (ap (λ l. a ∷ l) again)
+
+start_serials : (n : ℕ) (contents : List Entries) → flat_map value_serials (numbered_maps n contents) ≡ range_with_len n (count_values contents)
+start_serials n [] = refl
+start_serials n (c ∷ contents) =
+    rw (numbered_serials n c, start_serials (n + length c) contents) (range-append n (length c) (count_values contents))
+
+numbered_entries : (n : ℕ) (es : Entries) → entries_of (numbered n es) ≡ es
+numbered_entries n [] = refl
+numbered_entries n (e ∷ es) = ap (λ l. e ∷ l) (numbered_entries (suc n) es)
+
+-- the contents at the start are the given ones
+pub start_contents : (n : ℕ) (contents : List Entries) → map entries_of (numbered_maps n contents) ≡ contents
+start_contents n [] = refl
+start_contents n (c ∷ contents) = rw (numbered_entries n c) (ap (λ l. c ∷ l) (start_contents (n + length c) contents))
+
+range_apart : (n : ℕ) → AllPairs (λ i j. i ≢ j) (range_with_len 0 n)
+range_apart n i j d before within same =
+    let long = length-range_with_len 0 n in
+    let at_i = get_or-range_with_len 0 n i d (omega arith) in
+    let at_j = get_or-range_with_len 0 n j d (omega arith) in
+    absurd (omega arith)
+
+range_below : (n : ℕ) → All (λ i. i < n) (range_with_len 0 n)
+range_below n i d within =
+    let long = length-range_with_len 0 n in
+    let at = get_or-range_with_len 0 n i d (omega arith) in
+    omega arith
+
+-- the start state is one, for every head, packet and contents that fit
+pub start_is_state : (p : Program) (head : FrameHead) (body : List ℕ) (contents : List Entries) → IsGiven p head body contents
+    → IsState p (start_state head body contents)
+unfolding start_state new_frame
+start_is_state p head body contents h =
+    let n : ℕ = count_values contents in
+    let V : Value → Type 0 = IsValue (length p.maps) (suc n) in
+    let nothing : List Value = Unset ∷ Unset ∷ Unset ∷ Unset ∷ [] in
+    let f : CallFrame = new_frame n 0 nothing in
+    let frame : IsCallFrame p (suc n) f = record {
+      whole = refl;
+      cells = All-replicate (IsCell (length p.maps) (suc n)) 512 Unwritten tt;
+      returns = omega arith;
+      four = refl;
+      saved = All-from_recursion V nothing (tt, (tt, (tt, (tt, tt))));
+    } in
+    let total : n + 1 ≡ suc n = omega arith in
+    let serials : flat_map value_serials (numbered_maps 0 contents) ++ n ∷ [] ≡ range_with_len 0 (suc n) =
+      ap (λ l. l ++ n ∷ []) (start_serials 0 contents) ∙ ap (λ m. range_with_len 0 n ++ m ∷ []) (sym (zero-add n)) ∙ range-append 0 n 1 ∙ ap (range_with_len 0) total in
+    record {
+      slot = omega arith;
+      registers = refl;
+      values = All-from_recursion V (start_regs n)
+        (tt, ((tt, omega arith), (tt, (tt, (tt, (tt, (tt, (tt, (tt, (tt, ((omega arith, omega arith), tt)))))))))));
+      called = omega arith;
+      depth = omega arith;
+      frames = All-cons (IsCallFrame p (suc n)) f [] frame (All-nil (IsCallFrame p (suc n)));
+      short = h.short;
+      packet = h.bytes;
+      interface = h.interface;
+      queue = h.queue;
+      maps = rw (start_contents 0 contents) h.maps;
+      given = rw serials (range_below (suc n));
+      once = rw serials (range_apart (suc n));
+    }
