@@ -19,4 +19,5 @@ pub mod MachineStates
 pub mod ValueLaws
 pub mod StateLaws
 pub mod StepLaws
+pub mod ClockLaws
 pub mod Examples
