@@ -20,4 +20,6 @@ pub mod ValueLaws
 pub mod StateLaws
 pub mod StepLaws
 pub mod ClockLaws
+pub mod Reports
 pub mod Examples
+pub mod ReportExamples

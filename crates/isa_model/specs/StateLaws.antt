@@ -119,9 +119,11 @@ put_frame_fits p next fs (Some j) i new within room fit h =
     let f = frame_at fs j in
     let g = record f { cells = splice f.cells i (i + length new) new } in
     let old = All-get_or (IsCallFrame p next) fs j (new_frame 0 0 []) here h in
-    let d : CallFrame = new_frame 0 0 [] in
-    (All-set (IsCallFrame p next) fs j g (put_cells_fit p next f i new room fit old) h,
-    length-set fs j g, map-set_same serial_of fs j g d refl)
+    let d : CallFrame = new_frame 0 0 [] in (
+      All-set (IsCallFrame p next) fs j g (put_cells_fit p next f i new room fit old) h,
+      length-set fs j g,
+      map-set_same serial_of fs j g d refl,
+    )
 
 -- the map contents with another content of the same serials
 flat_map-set_same : {X Y : Type 0} (f : X → List Y) (xs : List X) (i : ℕ) (y d : X) → f y ≡ f (slice_index_or xs i d)
@@ -216,7 +218,7 @@ IsState-put p s region.Packet i new room fit k =
     let long = length-map new byte_in in
     let cells = length-map s.packet Byte in
     let same : length (splice s.packet i (i + length new) (map byte_in new)) ≡ length s.packet =
-      subst (λ n. length (splice s.packet i (i + n) (map byte_in new)) ≡ length s.packet) long (length-splice s.packet (map byte_in new) i (omega arith)) in
+    subst (λ n. length (splice s.packet i (i + n) (map byte_in new)) ≡ length s.packet) long (length-splice s.packet (map byte_in new) i (omega arith)) in
     record {
       slot = k.slot;
       registers = k.registers;
@@ -241,7 +243,7 @@ IsState-put p s (region.MapValue m n) i new room fit k =
     let changed : Content = put_value content (entry_index content n) i bytes in
     let found : slice_index_or (map entries_of s.maps) m [] ≡ entries_of content = get_or-map_default entries_of s.maps m [] in
     let serials : flat_map value_serials (slice_set s.maps m changed) ++ map serial_of s.frames ≡ live_serials s =
-      ap (λ l. l ++ map serial_of s.frames) (flat_map-set_same value_serials s.maps m changed [] (put_value_serials content (entry_index content n) i bytes)) in
+    ap (λ l. l ++ map serial_of s.frames) (flat_map-set_same value_serials s.maps m changed [] (put_value_serials content (entry_index content n) i bytes)) in
     record {
       slot = k.slot;
       registers = k.registers;
@@ -254,8 +256,8 @@ IsState-put p s (region.MapValue m n) i new room fit k =
       interface = k.interface;
       queue = k.queue;
       maps = subst (FitRows p.maps) (sym (map-set entries_of s.maps m changed))
-        (FitRows-set p.maps (map entries_of s.maps) m (entries_of changed) []
-        (λ row h. put_value_fits row content (entry_index content n) i bytes there bytes_fit (subst (FitsRow row) found h)) k.maps);
+          (FitRows-set p.maps (map entries_of s.maps) m (entries_of changed) []
+          (λ row h. put_value_fits row content (entry_index content n) i bytes there bytes_fit (subst (FitsRow row) found h)) k.maps);
       given = rw serials k.given;
       once = rw serials k.once;
     }
@@ -312,9 +314,10 @@ frame_serial_given p s j k here =
 -- the serial that a call gives is none of the live ones
 serials_push : (xs : List ℕ) (next : ℕ) → All (λ n. n < next) xs → AllPairs (λ m n. m ≢ n) xs
     → All (λ n. n < next + 1) (xs ++ next ∷ []) × AllPairs (λ m n. m ≢ n) (xs ++ next ∷ [])
-serials_push xs next given once =
-    (All-push (λ n. n < next + 1) xs next (All-weaker (λ n. n < next) (λ n. n < next + 1) (λ n h. omega arith) xs given) (omega arith),
-    all_pairs_push (λ m n. m ≢ n) xs next once (λ k d here same. let below = given k d here in absurd (omega arith)))
+serials_push xs next given once = (
+  All-push (λ n. n < next + 1) xs next (All-weaker (λ n. n < next) (λ n. n < next + 1) (λ n h. omega arith) xs given) (omega arith),
+  all_pairs_push (λ m n. m ≢ n) xs next once (λ k d here same. let below = given k d here in absurd (omega arith)),
+)
 
 new_frame-serial : (serial slot : ℕ) (saved : List Value) → (new_frame serial slot saved).serial ≡ serial
 unfolding new_frame
@@ -328,22 +331,22 @@ IsState-enter p s target go back room k =
     let more : ℕ = s.next_serial + 1 in
     let V : Value → Type 0 = IsValue rows more in
     let old : (n : ℕ) → IsValue rows more (value_at s.regs n) =
-      (λ n. IsValue-more rows next more (value_at s.regs n) (omega arith) (value_at_fits rows next s.regs n k.values)) in
+    (λ n. IsValue-more rows next more (value_at s.regs n) (omega arith) (value_at_fits rows next s.regs n k.values)) in
     let kept_fit : All V (kept s.regs) = All-from_recursion V (kept s.regs) (old 6, (old 7, (old 8, (old 9, tt)))) in
     let f : CallFrame = new_frame next (s.slot + 1) (kept s.regs) in
     let frames : All (IsCallFrame p more) s.frames =
-      All-weaker (IsCallFrame p next) (IsCallFrame p more) (λ f h. IsCallFrame-more p next more f (omega arith) h) s.frames k.frames in
+    All-weaker (IsCallFrame p next) (IsCallFrame p more) (λ f h. IsCallFrame-more p next more f (omega arith) h) s.frames k.frames in
     let long = length-append s.frames (f ∷ []) in
     let values = flat_map value_serials s.maps in
     let serials : values ++ map serial_of (s.frames ++ f ∷ []) ≡ live_serials s ++ next ∷ [] =
-      ap (λ l. values ++ l) (map-append serial_of s.frames (f ∷ []) ∙ ap (λ n. map serial_of s.frames ++ n ∷ []) (new_frame-serial next (s.slot + 1) (kept s.regs)))
-      ∙ sym (append_assoc values (map serial_of s.frames) (next ∷ [])) in
+    ap (λ l. values ++ l) (map-append serial_of s.frames (f ∷ []) ∙ ap (λ n. map serial_of s.frames ++ n ∷ []) (new_frame-serial next (s.slot + 1) (kept s.regs)))
+    ∙ sym (append_assoc values (map serial_of s.frames) (next ∷ [])) in
     let pushed = serials_push (live_serials s) next k.given k.once in
     record {
       slot = go;
       registers = refl;
       values = All-from_recursion V (regs_within s.regs next)
-        (tt, (old 1, (old 2, (old 3, (old 4, (old 5, (tt, (tt, (tt, (tt, ((omega arith, omega arith), tt)))))))))));
+          (tt, (old 1, (old 2, (old 3, (old 4, (old 5, (tt, (tt, (tt, (tt, ((omega arith, omega arith), tt)))))))))));
       called = omega arith;
       depth = let most = k.depth in omega arith;
       frames = All-push (IsCallFrame p more) s.frames f frames (new_frame_fits p more next (s.slot + 1) (kept s.regs) back refl kept_fit);
@@ -376,20 +379,20 @@ IsState-leave p s more k =
     let long : length (callers s.frames) ≡ n = length-take-le n s.frames (omega arith) in
     let last : IsCallFrame p next (innermost s.frames) = All-get_or (IsCallFrame p next) s.frames n (new_frame 0 0 []) (omega arith) k.frames in
     let saved : (j : ℕ) → IsValue rows next (value_at (innermost s.frames).saved j) =
-      (λ j. value_at_fits rows next (innermost s.frames).saved j last.saved) in
+    (λ j. value_at_fits rows next (innermost s.frames).saved j last.saved) in
     let caller : innermost (callers s.frames) ≡ frame_at s.frames (n - 1) =
-      ap (λ m. frame_at (callers s.frames) (m - 1)) long ∙ get_or-take n s.frames (n - 1) (new_frame 0 0 []) (omega arith) in
+    ap (λ m. frame_at (callers s.frames) (m - 1)) long ∙ get_or-take n s.frames (n - 1) (new_frame 0 0 []) (omega arith) in
     let serial : (innermost (callers s.frames)).serial < next = rw caller (frame_serial_given p s (n - 1) k (omega arith)) in
     let values = flat_map value_serials s.maps in
     let all = length-append values (map serial_of s.frames) in
     let framed = length-map s.frames serial_of in
     let serials : values ++ map serial_of (callers s.frames) ≡ take (length values + n) (live_serials s) =
-      ap (λ l. values ++ l) (sym (take-map serial_of n s.frames)) ∙ sym (take-append-add values (map serial_of s.frames) n) in
+    ap (λ l. values ++ l) (sym (take-map serial_of n s.frames)) ∙ sym (take-append-add values (map serial_of s.frames) n) in
     record {
       slot = let back = last.returns in omega arith;
       registers = refl;
       values = All-from_recursion V (regs_after (reg s R0) (innermost s.frames).saved (innermost (callers s.frames)).serial)
-        (value_at_fits rows next s.regs 0 k.values, (tt, (tt, (tt, (tt, (tt, (saved 0, (saved 1, (saved 2, (saved 3, ((serial, omega arith), tt)))))))))));
+          (value_at_fits rows next s.regs 0 k.values, (tt, (tt, (tt, (tt, (tt, (saved 0, (saved 1, (saved 2, (saved 3, ((serial, omega arith), tt)))))))))));
       called = omega arith;
       depth = omega arith;
       frames = All-take (IsCallFrame p next) n s.frames k.frames;

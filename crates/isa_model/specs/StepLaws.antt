@@ -93,7 +93,7 @@ value_cells_fit rows next content (Some j) within h =
     let long = length-map {B = List ℕ × List ℕ} content (λ e. (e.0, e.1.bytes)) in
     let here = within j refl in
     let found : slice_index_or (entries_of content) j ([], []) ≡ ((entry_at content j).0, (entry_at content j).1.bytes) =
-      get_or-map_default (λ e. (e.0, e.1.bytes)) content j none in
+    get_or-map_default (λ e. (e.0, e.1.bytes)) content j none in
     let P : List ℕ × List ℕ → Type 0 = λ e. AreBytes e.1 in
     Byte_cells_fit rows next (entry_at content j).1.bytes
     (subst P found (All-get_or P (entries_of content) j ([], []) (omega arith) h))
@@ -433,12 +433,12 @@ start_is_state p head body contents h =
     } in
     let total : n + 1 ≡ suc n = omega arith in
     let serials : flat_map value_serials (numbered_maps 0 contents) ++ n ∷ [] ≡ range_with_len 0 (suc n) =
-      ap (λ l. l ++ n ∷ []) (start_serials 0 contents) ∙ ap (λ m. range_with_len 0 n ++ m ∷ []) (sym (zero-add n)) ∙ range-append 0 n 1 ∙ ap (range_with_len 0) total in
+    ap (λ l. l ++ n ∷ []) (start_serials 0 contents) ∙ ap (λ m. range_with_len 0 n ++ m ∷ []) (sym (zero-add n)) ∙ range-append 0 n 1 ∙ ap (range_with_len 0) total in
     record {
       slot = omega arith;
       registers = refl;
       values = All-from_recursion V (start_regs n)
-        (tt, ((tt, omega arith), (tt, (tt, (tt, (tt, (tt, (tt, (tt, (tt, ((omega arith, omega arith), tt)))))))))));
+          (tt, ((tt, omega arith), (tt, (tt, (tt, (tt, (tt, (tt, (tt, (tt, ((omega arith, omega arith), tt)))))))))));
       called = omega arith;
       depth = omega arith;
       frames = All-cons (IsCallFrame p (suc n)) f [] frame (All-nil (IsCallFrame p (suc n)));

@@ -187,9 +187,19 @@ value_in_fits rows next cs h =
 pub pieces_fit : (rows next : ℕ) (r : Region) (z : ℤ) → IsRegion rows next r → IsOffset z → All (IsCell rows next) (pieces r z)
 pieces_fit rows next r z h k =
     let P : Cell → Type 0 = IsCell rows next in
-    All-from_recursion P (pieces r z)
-    ((h, k, omega arith), ((h, k, omega arith), ((h, k, omega arith), ((h, k, omega arith),
-    ((h, k, omega arith), ((h, k, omega arith), ((h, k, omega arith), ((h, k, omega arith), tt))))))))
+    All-from_recursion P (pieces r z) (
+      (h, k, omega arith),
+      (
+        (h, k, omega arith),
+        (
+          (h, k, omega arith),
+          (
+            (h, k, omega arith),
+            ((h, k, omega arith), ((h, k, omega arith), ((h, k, omega arith), ((h, k, omega arith), tt)))),
+          ),
+        ),
+      ),
+    )
 
 -- the low bytes of any number
 pub bytes_of_fit : (size : Size) (n : ℕ) → AreBytes (bytes_of size n)

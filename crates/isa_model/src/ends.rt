@@ -1,5 +1,8 @@
 //! How runs end.
 
+ghost use Rattle.std.specs.Prelude.{◌≡◌, ◌≤◌, length};
+ghost use Rattle.isa_model.specs.Reports.{reason_name};
+
 /// Why a run stopped at an instruction. A trap changes nothing.
 #[derive(Clone, Copy, PartialEq, Eq, Debug)]
 pub enum TrapReason {
@@ -23,6 +26,27 @@ pub enum TrapReason {
     TooManyFrames,
     /// r0 is no number at the last exit.
     NoResult,
+}
+
+impl TrapReason {
+    /// Its name in a report.
+    pub fn name(self) -> &'static str
+        ensures name { result.now ≡ reason_name self }
+        ensures short { length result.now ≤ 8 }
+    {
+        match self {
+            TrapReason::NoCode => "code",
+            TrapReason::UnsetRead => "unset",
+            TrapReason::ReadOnly => "readonly",
+            TrapReason::BadPointer => "pointer",
+            TrapReason::OutOfRange => "range",
+            TrapReason::BadAccess => "access",
+            TrapReason::BadCompare => "compare",
+            TrapReason::BadHelper => "helper",
+            TrapReason::TooManyFrames => "frames",
+            TrapReason::NoResult => "exit",
+        }
+    }
 }
 
 /// How a run within a limit of steps ended.

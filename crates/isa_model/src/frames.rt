@@ -1,7 +1,8 @@
 //! Packet frames: what a program is run on, and what becomes of it.
 
-ghost use Rattle.std.specs.Prelude.{◌≡◌};
+ghost use Rattle.std.specs.Prelude.{◌≡◌, ◌≤◌, length};
 ghost use Rattle.isa_model.specs.Frames.{action_of};
+ghost use Rattle.isa_model.specs.Reports.{action_name, is_forwarded};
 
 /// What a frame's record says beside its bytes: a time in nanoseconds, and the interface and queue that it
 /// came in by.
@@ -36,5 +37,27 @@ impl Action {
             4 => Action::Redirect,
             _ => Action::Invalid,
         }
+    }
+
+    /// Its name in a report.
+    pub fn name(self) -> &'static str
+        ensures name { result.now ≡ action_name self }
+        ensures short { length result.now ≤ 8 }
+    {
+        match self {
+            Action::Aborted => "ABORTED",
+            Action::Drop => "DROP",
+            Action::Pass => "PASS",
+            Action::Tx => "TX",
+            Action::Redirect => "REDIRECT",
+            Action::Invalid => "INVALID",
+        }
+    }
+
+    /// Whether a frame with this action is written out.
+    pub fn is_forwarded(self) -> bool
+        ensures { result ≡ is_forwarded self }
+    {
+        matches!(self, Action::Pass | Action::Tx)
     }
 }
