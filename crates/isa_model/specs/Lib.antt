@@ -7,6 +7,7 @@ pub mod NumberLemmas
 pub mod ExtensionLemmas
 pub mod Frames
 pub mod Streams
+pub mod StreamLaws
 pub mod States
 pub mod Pointers
 pub mod Memory

@@ -1,0 +1,16 @@
+//! Reads and writes that say exactly what was read and written, also where they fail.
+//!
+//! std's `write_all` and `read_exact` say nothing of a failure, and try again where a call was interrupted.
+//! Here an error of any kind is the failure, nothing is tried again, and what was moved before it is known.
+//!
+//! `specs/LittleEndian.antt` has the laws of numbers that stand in lists of bytes.
+#![tactic(auto)]
+
+mod reading;
+mod writing;
+
+pub use reading::{Filled, fill};
+pub use writing::write_bytes;
+
+#[cfg(test)]
+mod tests;

@@ -1,0 +1,3 @@
+pub mod HeadNumbers
+pub mod Stopping
+pub mod Findings

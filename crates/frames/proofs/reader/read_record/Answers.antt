@@ -1,0 +1,33 @@
+use Rattle.std.proofs.Common.{arith, rules}
+use Rattle.frames.proofs.Findings.{record_many, record_end, record_failed, record_cut, record_long, body_cut, body_failed, record_whole}
+use Rattle.frames.proofs.reader.read_record.Goals as goal
+
+pub returns-in-Whole-clause-bytes : goal.returns-in-Whole-clause-bytes
+returns-in-Whole-clause-bytes g c = record_many _ _ _ _ _ (search rules) (search rules) c.in-Whole.ensures
+
+pub returns-in-Ended-clause-bytes : goal.returns-in-Ended-clause-bytes
+returns-in-Ended-clause-bytes g c = record_end _ _ _ _ _ _ (search (rules, c.in-Ended.ensures.0)) c.in-Ended.ensures.1 c.in-Ended.ensures.2
+
+pub returns-in-Failed-clause-bytes : goal.returns-in-Failed-clause-bytes
+returns-in-Failed-clause-bytes g c = record_failed _ _ _ _ _ _ (λ _. search (rules, c.in-Failed.ensures.0)) (search rules) c.in-Failed.ensures.0 c.in-Failed.ensures.1
+
+pub returns-in-Ended-eq0-clause-bytes : goal.returns-in-Ended-eq0-clause-bytes
+returns-in-Ended-eq0-clause-bytes g c = record_end _ _ _ _ _ _ c.in-Ended-eq0.field-0-test c.in-Ended-eq0.ensures.1 c.in-Ended-eq0.ensures.2
+
+pub returns-in-Ended-fill-clause-bytes : goal.returns-in-Ended-fill-clause-bytes
+returns-in-Ended-fill-clause-bytes g c = record_cut _ _ _ _ _ _ (search rules) (search rules) c.fill-2.auto.buffer c.in-Ended-fill.ensures.0 c.in-Ended-fill.ensures.1 c.in-Ended-fill.ensures.2
+
+pub returns-in-Failed-fill-clause-bytes : goal.returns-in-Failed-fill-clause-bytes
+returns-in-Failed-fill-clause-bytes g c = record_failed _ _ _ _ _ _ (λ last. search rules) (search rules) c.in-Failed-fill.ensures.0 c.in-Failed-fill.ensures.1
+
+pub returns-then-length-gt4096-clause-bytes : goal.returns-then-length-gt4096-clause-bytes
+returns-then-length-gt4096-clause-bytes g c = record_long _ _ _ _ _ (search rules) c.fill-2.auto.buffer (omega arith) c.in-Whole-fill.ensures
+
+pub returns-in-Whole-fill-2-clause-bytes : goal.returns-in-Whole-fill-2-clause-bytes
+returns-in-Whole-fill-2-clause-bytes g c = record_whole _ _ _ _ _ _ _ _ _ _ c.decode_head-length.ensures.spelled (search rules) c.in-Whole-fill.ensures c.in-Whole-fill-2.ensures
+
+pub returns-in-Ended-fill-2-clause-bytes : goal.returns-in-Ended-fill-2-clause-bytes
+returns-in-Ended-fill-2-clause-bytes g c = body_cut _ _ _ _ _ _ _ _ (search rules) c.fill-2.auto.buffer (omega arith) (search rules) c.in-Ended-fill-2.ensures.0 c.in-Whole-fill.ensures c.in-Ended-fill-2.ensures.1 c.in-Ended-fill-2.ensures.2
+
+pub returns-in-Failed-fill-2-clause-bytes : goal.returns-in-Failed-fill-2-clause-bytes
+returns-in-Failed-fill-2-clause-bytes g c = body_failed _ _ _ _ _ _ _ _ (search rules) c.fill-2.auto.buffer (omega arith) (search rules) c.in-Failed-fill-2.ensures.0 c.in-Whole-fill.ensures c.in-Failed-fill-2.ensures.1

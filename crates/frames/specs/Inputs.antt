@@ -1,0 +1,115 @@
+-- A frame reader gives the stream of the input that it hears, however its source cuts the bytes.
+use Rattle.std.proofs.Common.{◌≡◌, ℕ, length, arith, ◌++◌, ◌∷◌, List, [], Option, Some, None, refl, sym, ap, ◌∙◌, subst, append_assoc, append-nil}
+use Rattle.std.specs.Io.KnownBytes.{Consumes}
+use Rattle.std.proofs.KnownBytes.{Consumes-trans, Consumes-nil}
+use Rattle.isa_model.specs.declared.streams.Fault.TheVariants.{F1, F2, F3, F4, F5, F6}
+use Rattle.isa_model.specs.declared.streams.Finish.{Finish}
+use Rattle.isa_model.specs.declared.streams.Finish.TheVariants as finish
+use Rattle.isa_model.specs.Streams.{Frame, Input, Ending, ByEnd, ByError, Position, Fresh, opening, frame_bytes, stop_from, after_frame, position_after, number_of, bytes_from, IsOpen, AreOpen, stream_of}
+use Rattle.isa_model.specs.StreamLaws.{number_of-position_after, position_after-append, bytes_from-append, AreOpen-append, stream_of-begins, stream_of-stops}
+use Rattle.frames.specs.Reading.{Found, Stopped, Stops, Reads, next_position}
+
+-- What was heard of a source with these bytes: all of them and then an end, or a front of them and then an error;
+-- an error only where the stream's fault is F5.
+pub record Hears (bytes : List ℕ) (input : Input) : Type 0 where
+  pub unheard : List ℕ
+  pub split : bytes ≡ input.bytes ++ unheard
+  pub all : input.ending ≡ ByEnd → unheard ≡ []
+  pub error : input.ending ≡ ByError → (offset : ℕ) × ((stream_of input).1 ≡ finish.Fault F5 offset)
+
+-- Frames were found, from a fresh reader on, of which the source had the bytes `old` at the start and has `known` now.
+pub record HasFound (frames : List Frame) (old known : Option (List ℕ)) (position : Position) : Type 0 where
+  pub stands : position ≡ position_after Fresh frames
+  pub are_open : AreOpen Fresh frames
+  pub lost : Consumes old known (bytes_from Fresh frames)
+
+-- a fresh reader has found none
+pub HasFound-fresh : (old : Option (List ℕ)) → HasFound [] old old Fresh
+HasFound-fresh old = record { stands = refl; are_open = tt; lost = Consumes-nil old }
+
+-- a source has lost the bytes of a record that was found
+Consumes-found : (p : Position) (old new : Option (List ℕ)) (f : Frame) → Reads p old new (Found f) → Consumes old new (opening p ++ (frame_bytes f ++ []))
+Consumes-found p None new f r = tt
+Consumes-found p (Some bytes) None f r = absurd r
+Consumes-found p (Some bytes) (Some rest) f r =
+    let e : (opening p ++ (frame_bytes f ++ [])) ++ rest ≡ opening p ++ (frame_bytes f ++ rest) =
+    append_assoc (opening p) (frame_bytes f ++ []) rest ∙ ap (λ l. opening p ++ (l ++ rest)) (append-nil (frame_bytes f)) in
+    r ∙ sym e
+
+-- one more frame was found
+pub HasFound-next : (frames : List Frame) (old known new : Option (List ℕ)) (p : Position) (f : Frame) → HasFound frames old known p → Reads p known new (Found f) → IsOpen p f
+    → HasFound (frames ++ f ∷ []) old new (next_position p (Found f))
+HasFound-next frames old known new p f s r ok = record {
+  stands = ap (λ (x : Position). after_frame x f) s.stands ∙ sym (position_after-append Fresh frames (f ∷ []));
+  are_open = AreOpen-append Fresh frames f s.are_open (subst (λ (x : Position). IsOpen x f) s.stands ok);
+  lost = subst (Consumes old new) (ap (λ l. bytes_from Fresh frames ++ l) (ap (λ (x : Position). opening x ++ (frame_bytes f ++ [])) s.stands) ∙ sym (bytes_from-append Fresh frames (f ∷ [])))
+      (Consumes-trans old known new _ _ s.lost (Consumes-found p known new f r));
+}
+
+-- the reader's number counts the frames that were found
+pub HasFound-count : (frames : List Frame) (old known : Option (List ℕ)) (p : Position) → HasFound frames old known p → number_of p ≡ length frames
+HasFound-count frames old known p s = let e = number_of-position_after Fresh frames s.are_open in ap number_of s.stands ∙ omega (arith, e)
+
+-- the bytes that a source has left
+left_of : (frames : List Frame) (bytes : List ℕ) (known : Option (List ℕ)) → Consumes (Some bytes) known (bytes_from Fresh frames)
+    → (rest : List ℕ) × (known ≡ Some rest) × (bytes ≡ bytes_from Fresh frames ++ rest)
+left_of frames bytes None h = absurd h
+left_of frames bytes (Some rest) h = (rest, refl, h)
+
+-- Behind the frames that were found the source may hold more: an input that ends with its bytes has these frames
+-- and then others.
+pub HasFound-begins : (frames : List Frame) (bytes : List ℕ) (known : Option (List ℕ)) (p : Position) → HasFound frames (Some bytes) known p
+    → (more : List Frame) × (stop : Finish) × (stream_of (record { bytes = bytes; ending = ByEnd }) ≡ (frames ++ more, stop))
+HasFound-begins frames bytes known p s =
+    let (rest, is_known, split) = left_of frames bytes known s.lost in
+    let (more, stop, same) = stream_of-begins frames rest ByEnd s.are_open in
+    (more, stop, ap (λ (l : List ℕ). stream_of (record { bytes = l; ending = ByEnd })) split ∙ same)
+
+-- an input that ends with the source's bytes was heard whole
+pub Hears-whole : (bytes : List ℕ) → Hears bytes (record { bytes = bytes; ending = ByEnd })
+Hears-whole bytes = record { unheard = []; split = sym (append-nil bytes); all = λ _. refl; error = λ e. cc }
+
+-- what was heard of the rest of a source where the stream stops
+record HearsStop (p : Position) (rest : List ℕ) (stop : Finish) : Type 0 where
+  heard : List ℕ
+  unheard : List ℕ
+  ending : Ending
+  split : rest ≡ heard ++ unheard
+  all : ending ≡ ByEnd → unheard ≡ []
+  error : ending ≡ ByError → (offset : ℕ) × (stop ≡ finish.Fault F5 offset)
+  stops : stop_from p heard ending ≡ Some stop
+
+whole_stop : (p : Position) (rest : List ℕ) (stop : Finish) → stop_from p rest ByEnd ≡ Some stop → HearsStop p rest stop
+whole_stop p rest stop h = record { heard = rest; unheard = []; ending = ByEnd; split = sym (append-nil rest); all = λ _. refl; error = λ e. cc; stops = h }
+
+heard_error : (p : Position) (rest : List ℕ) (new : Option (List ℕ)) (offset : ℕ) → Stops p rest new (finish.Fault F5 offset) → HearsStop p rest (finish.Fault F5 offset)
+heard_error p rest None offset h = absurd h.1
+heard_error p rest (Some left) offset h = record { heard = h.0; unheard = left; ending = ByError; split = h.1; all = λ e. cc; error = λ _. (offset, refl); stops = h.2 }
+
+heard_stop : (p : Position) (rest : List ℕ) (new : Option (List ℕ)) (stop : Finish) → Stops p rest new stop → HearsStop p rest stop
+heard_stop p rest new finish.End h = whole_stop p rest finish.End h
+heard_stop p rest new (finish.Fault F1 o) h = whole_stop p rest (finish.Fault F1 o) h
+heard_stop p rest new (finish.Fault F2 o) h = whole_stop p rest (finish.Fault F2 o) h
+heard_stop p rest new (finish.Fault F3 o) h = whole_stop p rest (finish.Fault F3 o) h
+heard_stop p rest new (finish.Fault F4 o) h = whole_stop p rest (finish.Fault F4 o) h
+heard_stop p rest new (finish.Fault F5 o) h = heard_error p rest new o h
+heard_stop p rest new (finish.Fault F6 o) h = whole_stop p rest (finish.Fault F6 o) h
+
+-- Where the reader stops, the frames that it found and that stop are the stream of the input that was heard.
+pub HasFound-stops : (frames : List Frame) (bytes : List ℕ) (known new : Option (List ℕ)) (p : Position) (stop : Finish) → HasFound frames (Some bytes) known p → Reads p known new (Stopped stop)
+    → (input : Input) × Hears bytes input × (stream_of input ≡ (frames, stop))
+HasFound-stops frames bytes known new p stop s r =
+    let (rest, is_known, split) = left_of frames bytes known s.lost in
+    let h = heard_stop p rest new stop (subst (λ (k : Option (List ℕ)). Reads p k new (Stopped stop)) is_known r) in
+    let input : Input = record { bytes = bytes_from Fresh frames ++ h.heard; ending = h.ending } in
+    let same : stream_of input ≡ (frames, stop) =
+    stream_of-stops frames h.heard h.ending stop s.are_open (subst (λ (x : Position). stop_from x h.heard h.ending ≡ Some stop) s.stands h.stops) in (
+      input,
+      record {
+        unheard = h.unheard;
+        split = split ∙ ap (λ l. bytes_from Fresh frames ++ l) h.split ∙ sym (append_assoc (bytes_from Fresh frames) h.heard h.unheard);
+        all = h.all;
+        error = λ e. ((h.error e).0, ap (λ (t : List Frame × Finish). t.1) same ∙ (h.error e).1);
+      },
+      same,
+    )

@@ -1,0 +1,4 @@
+pub mod Readers
+pub mod Stages
+pub mod Reading
+pub mod Inputs

@@ -1,0 +1,26 @@
+//! Writes records.
+ghost use Rattle.std.specs.Prelude.{◌≤◌, length, OnOk, OnErr};
+ghost use Rattle.std.specs.Io.KnownBytes.{Appends};
+ghost use Rattle.isa_model.specs.Streams.{frame_bytes, max_body};
+ghost use Rattle.exact_io.specs.Transfers.{AppendsBeginning};
+
+use super::heads::encode_head;
+use exact_io::write_bytes;
+use isa_model::FrameHead;
+use std::io;
+use std::io::Write;
+
+/// Writes a record, without the magic that stands before the first one.
+///
+/// The writer's first error, of any kind, is the failure and is handed on; a write of no byte is the failure
+/// `ErrorKind::WriteZero`. Nothing is tried again.
+pub fn write_frame<W: Write>(writer: &mut W, head: &FrameHead, body: &[u8]) -> io::Result<()>
+    requires { length body.now ≤ max_body }
+    ensures ok { OnOk result (Appends (W.contents writer.old) (W.contents writer.new)
+        (frame_bytes record { head = head.now; body = body.now })) }
+    ensures err { OnErr result (AppendsBeginning (W.contents writer.old) (W.contents writer.new)
+        (frame_bytes record { head = head.now; body = body.now })) }
+{
+    write_bytes(writer, &encode_head(head, body.len() as u32))?;
+    write_bytes(writer, body)
+}
