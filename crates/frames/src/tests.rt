@@ -245,7 +245,18 @@ fn failing_writes(rt: HostRuntime) -> Result<(), Fail> {
                     stumble: Some(stumble),
                 };
                 let result = write_frame(&mut writer, &HEAD, b"hello");
-                assert_eq!(rt; result.is_ok(), room == 25, "{room} bytes");
+                let want = match stumble {
+                    Stumble::Error(kind) => kind,
+                    Stumble::Nothing => ErrorKind::WriteZero,
+                };
+                if room == 25 {
+                    assert!(rt; result.is_ok());
+                } else {
+                    assert!(rt;
+                        result.is_err_and(|error| error.kind() == want),
+                        "{room} bytes"
+                    );
+                }
                 assert_eq!(rt; writer.taken.as_slice(), &record[..room], "{room} bytes");
             }
         }
