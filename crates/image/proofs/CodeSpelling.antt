@@ -1,0 +1,151 @@
+-- Code that was read from bytes is spelled by them, and is code; and code that is spelled is read.
+use Rattle.std.proofs.Common.{◌≡◌, ℕ, zero, suc, ◌-◌, ◌+◌, ◌*◌, ◌≤◌, ◌<◌, Bool, true, false, List, [], ◌∷◌, ◌++◌, take, drop, length, Option, Some, None, Result, Ok, Err, refl, sym, ap, ◌∙◌, subst, arith, drop-drop, length-append}
+use Rattle.std.specs.Prelude.{slice_index}
+use Rattle.std.proofs.lemmas.List.{get_or-drop, length-drop, length-take, take-append-drop, drop_at}
+use Rattle.isa_model.specs.declared.instructions.Insn.{Insn}
+use Rattle.isa_model.specs.declared.instructions.Insn.TheVariants.{LoadNumber}
+use Rattle.isa_model.specs.Instructions.{slots_of}
+use Rattle.isa_model.specs.Spelling.{spelling_of, InsnFits}
+use Rattle.insn_codec.specs.declared.errors.CodecError.{CodecError}
+use Rattle.insn_codec.specs.Decoding.{decoded}
+use Rattle.exact_io.specs.LittleEndian.{AreBytes}
+use Rattle.image.specs.declared.errors.ImageError.{ImageError}
+use Rattle.image.specs.Images.{code_bytes, is_wide, IsCode}
+use Rattle.image.specs.Refusals.{◌>>=◌, insn_at, at_slot, code_from}
+
+abbrev Slots : Type 0
+Slots = List (Option Insn)
+
+-- the laws of the decoder
+pub record Laws : Type 0 where
+  pub found : (bytes : List ℕ) (i : Insn) → AreBytes bytes → decoded bytes ≡ Ok i → take (8 * slots_of i) bytes ≡ spelling_of i
+  pub fits : (bytes : List ℕ) (i : Insn) → AreBytes bytes → decoded bytes ≡ Ok i → InsnFits i
+  pub again : (i : Insn) (rest : List ℕ) → InsnFits i → decoded (spelling_of i ++ rest) ≡ Ok i
+
+pub AreBytes-drop : (n : ℕ) (bytes : List ℕ) → AreBytes bytes → AreBytes (drop n bytes)
+AreBytes-drop n bytes h j = rw get_or-drop (h (n + j))
+
+bind_ok : {A B : Type 0} (r : Result A ImageError) (f : A → Result B ImageError) (y : B) → (r >>= f) ≡ Ok y → (x : A) × (r ≡ Ok x) × (f x ≡ Ok y)
+bind_ok (Ok x) f y e = (x, refl, e)
+bind_ok (Err d) f y e = absurd cc
+
+abbrev slots_ok : Slots → Result Slots ImageError
+slots_ok xs = Ok xs
+
+pub ok_is : (xs ys : Slots) → slots_ok xs ≡ slots_ok ys → xs ≡ ys
+ok_is xs ys e = cc
+
+abbrev decoded_ok : Insn → Result Insn CodecError
+decoded_ok i = Ok i
+
+at_slot_ok : (slot : ℕ) (r : Result Insn CodecError) (i : Insn) → at_slot slot r ≡ Ok i → r ≡ Ok i
+at_slot_ok slot (Err e) i h = absurd cc
+at_slot_ok slot (Ok j) i h = ap (λ (x : Insn). decoded_ok x) cc
+
+-- the bytes of the slots whose instructions begin there
+abbrev pub rest_of : Bool → List ℕ → List ℕ
+rest_of true bytes = drop 8 bytes
+rest_of false bytes = bytes
+
+nothing : (half : Bool) (bytes : List ℕ) → length bytes ≡ 0 → [] ≡ rest_of half bytes
+nothing true [] h = refl
+nothing false [] h = refl
+nothing half (b ∷ bytes) h = absurd (omega arith)
+
+after : (i : Insn) (bytes : List ℕ) → rest_of (is_wide i) (drop 8 bytes) ≡ drop (8 * slots_of i) bytes
+after (LoadNumber d n) bytes = drop-drop 8 8 bytes
+after i bytes = refl
+
+pub length-spelling_of : (i : Insn) → length (spelling_of i) ≡ 8 * slots_of i
+length-spelling_of (LoadNumber d n) = refl
+length-spelling_of i = refl
+
+-- a second half has its slot
+abbrev pub HasHalf : Bool → ℕ → Type 0
+HasHalf true n = 1 ≤ n
+HasHalf false n = Unit {0}
+
+has_half : (i : Insn) (n : ℕ) → slots_of i ≤ suc n → HasHalf (is_wide i) n
+has_half (LoadNumber d m) n h = omega arith
+has_half i n h = tt
+
+-- what code was read from: its spelling, its slots, and that it is code
+pub record IsReadFrom (n : ℕ) (half : Bool) (bytes : List ℕ) (xs : List (Option Insn)) : Type 0 where
+  pub spelled : code_bytes xs ≡ rest_of half bytes
+  pub count : length xs ≡ n
+  pub code : IsCode half xs
+
+no_half : (half : Bool) → HasHalf half 0 → half ≡ false
+no_half true h = absurd (omega arith)
+no_half false h = refl
+
+pub code_from-found : Laws → (n : ℕ) (half : Bool) (slot : ℕ) (bytes : List ℕ) (xs : List (Option Insn)) → AreBytes bytes → length bytes ≡ 8 * n → HasHalf half n → code_from n half slot bytes ≡ Ok xs → IsReadFrom n half bytes xs
+unfolding code_from
+code_from-found laws zero half slot bytes xs small len room e =
+    subst (λ (ys : Slots). IsReadFrom 0 half bytes ys) (ok_is [] xs e) (record {
+      spelled = nothing half bytes (omega arith);
+      count = refl;
+      code = no_half half room;
+    })
+code_from-found laws (suc n) true slot bytes xs small len room e =
+    let b = bind_ok (code_from n false (slot + 1) (drop 8 bytes)) (λ ys. slots_ok (None ∷ ys)) xs e in
+    let more = code_from-found laws n false (slot + 1) (drop 8 bytes) b.0 (AreBytes-drop 8 bytes small) (omega (arith, length-drop 8 bytes)) tt b.1 in
+    subst (λ (ys : Slots). IsReadFrom (suc n) true bytes ys) (ok_is (None ∷ b.0) xs b.2) (record {
+      spelled = more.spelled;
+      count = ap suc more.count;
+      code = more.code;
+    })
+code_from-found laws (suc n) false slot bytes xs small len room e =
+    let rest = λ (i : Insn). code_from n (is_wide i) (slot + 1) (drop 8 bytes) in
+    let a = bind_ok (insn_at slot bytes) (λ i. rest i >>= λ ys. slots_ok (Some i ∷ ys)) xs e in
+    let b = bind_ok (rest a.0) (λ ys. slots_ok (Some a.0 ∷ ys)) xs a.2 in
+    let read = at_slot_ok slot (decoded bytes) a.0 a.1 in
+    let spelled = laws.found bytes a.0 small read in
+    let long : slots_of a.0 ≤ suc n = omega (arith, ap length spelled, length-spelling_of a.0, length-take (8 * slots_of a.0) bytes, len) in
+    let more = code_from-found laws n (is_wide a.0) (slot + 1) (drop 8 bytes) b.0 (AreBytes-drop 8 bytes small) (omega (arith, length-drop 8 bytes)) (has_half a.0 n long) b.1 in
+    subst (λ (ys : Slots). IsReadFrom (suc n) false bytes ys) (ok_is (Some a.0 ∷ b.0) xs b.2) (record {
+      spelled =
+        ap (λ l. spelling_of a.0 ++ l) (more.spelled ∙ after a.0 bytes)
+        ∙ ap (λ l. l ++ drop (8 * slots_of a.0) bytes) (sym spelled)
+        ∙ take-append-drop (8 * slots_of a.0) bytes;
+      count = ap suc more.count;
+      code = (laws.fits bytes a.0 small read, more.code);
+    })
+
+-- ---- and back
+
+abbrev insn_ok : Insn → Result Insn ImageError
+insn_ok i = Ok i
+
+-- code is read from its spelling
+pub code_from-code_bytes : Laws → (xs : List (Option Insn)) (half : Bool) (slot : ℕ) (bytes : List ℕ) → IsCode half xs → rest_of half bytes ≡ code_bytes xs → code_from (length xs) half slot bytes ≡ Ok xs
+unfolding code_from
+code_from-code_bytes laws [] half slot bytes h e = refl
+code_from-code_bytes laws (None ∷ xs) true slot bytes h e =
+    ap (λ (r : Result Slots ImageError). r >>= λ ys. slots_ok (None ∷ ys)) (code_from-code_bytes laws xs false (slot + 1) (drop 8 bytes) h e)
+code_from-code_bytes laws (Some i ∷ xs) true slot bytes h e = absurd h
+code_from-code_bytes laws (None ∷ xs) false slot bytes h e = absurd h
+code_from-code_bytes laws (Some i ∷ xs) false slot bytes h e =
+    let first : insn_at slot bytes ≡ Ok i = ap (at_slot slot) (ap decoded e ∙ laws.again i (code_bytes xs) h.0) in
+    let after_is : rest_of (is_wide i) (drop 8 bytes) ≡ code_bytes xs =
+    after i bytes ∙ ap (drop (8 * slots_of i)) e ∙ drop_at (spelling_of i) (code_bytes xs) (8 * slots_of i) (length-spelling_of i) in
+    ap (λ (r : Result Insn ImageError). r >>= λ j. code_from (length xs) (is_wide j) (slot + 1) (drop 8 bytes) >>= λ ys. slots_ok (Some j ∷ ys)) first
+    ∙ ap (λ (r : Result Slots ImageError). r >>= λ ys. slots_ok (Some i ∷ ys)) (code_from-code_bytes laws xs (is_wide i) (slot + 1) (drop 8 bytes) h.1 after_is)
+
+-- how many bytes of a slot that is a second half are spelled before it
+abbrev pub spelled_before : Bool → ℕ
+spelled_before true = 8
+spelled_before false = 0
+
+wide_before : (i : Insn) → 8 * slots_of i ≡ 8 + spelled_before (is_wide i)
+wide_before (LoadNumber d n) = refl
+wide_before i = refl
+
+-- a spelling has 8 bytes a slot
+pub length-code_bytes : (xs : List (Option Insn)) (half : Bool) → IsCode half xs → length (code_bytes xs) + spelled_before half ≡ 8 * length xs
+length-code_bytes [] true h = absurd cc
+length-code_bytes [] false h = refl
+length-code_bytes (None ∷ xs) true h = omega (arith, length-code_bytes xs false h)
+length-code_bytes (Some i ∷ xs) true h = absurd h
+length-code_bytes (None ∷ xs) false h = absurd h
+length-code_bytes (Some i ∷ xs) false h = omega (arith, length-code_bytes xs (is_wide i) h.1, length-append (spelling_of i) (code_bytes xs), length-spelling_of i, wide_before i)

@@ -1,0 +1,4 @@
+pub mod Loop
+pub mod CodeSpelling
+pub mod Whole
+pub mod Writing

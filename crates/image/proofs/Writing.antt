@@ -1,0 +1,47 @@
+-- Code and images that were written in part.
+use Rattle.std.proofs.Common.{◌≡◌, ℕ, suc, ◌+◌, ◌<◌, List, [], ◌∷◌, ◌++◌, take, drop, length, get_or, Option, Some, None, Result, Ok, Err, refl, sym, ap, ◌∙◌, subst, drop-cons}
+use Rattle.std.specs.Prelude.{OnOk, OnErr}
+use Rattle.std.specs.List.{flat_map}
+use Rattle.std.proofs.lemmas.Grind.{flat_map-append}
+use Rattle.std.proofs.lemmas.List.{take-append-drop}
+use Rattle.std.specs.Io.KnownBytes.{Appends}
+use Rattle.std.proofs.KnownBytes.{Appends-trans}
+use Rattle.isa_model.specs.declared.instructions.Insn.{Insn}
+use Rattle.isa_model.specs.Spelling.{spelling_of}
+use Rattle.exact_io.specs.Transfers.{AppendsBeginning}
+use Rattle.exact_io.specs.TransferLaws.{AppendsBeginning-first, AppendsBeginning-second}
+use Rattle.image.specs.Images.{slot_spelling, code_bytes}
+
+abbrev Slots : Type 0
+Slots = List (Option Insn)
+
+-- a fact holds on an error, where it holds
+pub on_err : {X E : Type 0} (P : Type 0) (r : Result X E) → P → OnErr r P
+on_err P (Ok x) h = tt
+on_err P (Err e) h = h
+
+-- the spelling of code, in three parts at the instruction of a slot
+code_bytes-split : (xs : List (Option Insn)) (k : ℕ) (i : Insn) → k < length xs → get_or xs k None ≡ Some i → code_bytes xs ≡ code_bytes (take k xs) ++ (spelling_of i ++ code_bytes (drop (suc k) xs))
+code_bytes-split xs k i lt e =
+    ap (λ (l : Slots). code_bytes l) (sym (take-append-drop k xs))
+    ∙ flat_map-append slot_spelling (take k xs) (drop k xs)
+    ∙ ap (λ (l : Slots). code_bytes (take k xs) ++ code_bytes l) (drop-cons xs k None lt)
+    ∙ ap (λ (o : Option Insn). code_bytes (take k xs) ++ (slot_spelling o ++ code_bytes (drop (suc k) xs))) e
+
+-- behind the slots before it, a part of a slot's instruction was written
+pub AppendsBeginning-code : (old mid new : Option (List ℕ)) (xs : List (Option Insn)) (k : ℕ) (i : Insn) → k < length xs → get_or xs k None ≡ Some i → Appends old mid (code_bytes (take k xs)) → AppendsBeginning mid new (spelling_of i) → AppendsBeginning old new (code_bytes xs)
+AppendsBeginning-code old mid new xs k i lt e before part =
+    let rest = code_bytes (drop (suc k) xs) in
+    subst (λ (l : List ℕ). AppendsBeginning old new l) (sym (code_bytes-split xs k i lt e))
+    (AppendsBeginning-second old mid new (code_bytes (take k xs)) (spelling_of i ++ rest) before
+    (AppendsBeginning-first mid new (spelling_of i) rest part))
+
+-- where the second part fails, a beginning of both was written
+pub second_fails : {X E : Type 0} (r : Result X E) (old mid new : Option (List ℕ)) (front rest : List ℕ) → Appends old mid front → OnErr r (AppendsBeginning mid new rest) → OnErr r (AppendsBeginning old new (front ++ rest))
+second_fails (Ok x) old mid new front rest p q = tt
+second_fails (Err e) old mid new front rest p q = AppendsBeginning-second old mid new front rest p q
+
+-- where both parts are written, both are there
+pub second_written : {X E : Type 0} (r : Result X E) (old mid new : Option (List ℕ)) (front rest : List ℕ) → Appends old mid front → OnOk r (Appends mid new rest) → OnOk r (Appends old new (front ++ rest))
+second_written (Ok x) old mid new front rest p q = Appends-trans old mid new front rest p q
+second_written (Err e) old mid new front rest p q = tt

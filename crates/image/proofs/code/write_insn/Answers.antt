@@ -1,0 +1,15 @@
+use Rattle.std.proofs.Common.{◌≡◌, ℕ, List, ◌∙◌, ap, sym, subst, take, drop}
+use Rattle.std.specs.Prelude.{OnErr}
+use Rattle.std.proofs.lemmas.List.{take_at}
+use Rattle.isa_model.specs.Spelling.{spelling_of}
+use Rattle.exact_io.specs.Transfers.{AppendsBeginning}
+use Rattle.image.proofs.CodeSpelling.{length-spelling_of}
+use Rattle.image.proofs.code.write_insn.Goals as goal
+
+pub returns-clause-err : goal.returns-clause-err
+returns-clause-err g c =
+    let insn = c.args.insn.now in
+    let n = c.encode-length.result in
+    let same : take n c.encode-length.new.out ≡ spelling_of insn =
+    ap (take n) c.encode-length.ensures.bytes ∙ take_at (spelling_of insn) _ n (length-spelling_of insn ∙ sym c.encode-length.ensures.length) in
+    subst (λ (l : List ℕ). OnErr c.write_bytes.result (AppendsBeginning (g.W.Write.contents c.args.writer.now) (g.W.Write.contents c.write_bytes.new.writer) l)) same c.write_bytes.ensures.err

@@ -1,0 +1,81 @@
+-- Images: the magic `XBP1`, u16 map count, u16 slot count, the map rows, the slots; the lowest byte of a number first.
+-- A map row: u16 type, u16 key size, u32 value size, u32 entries. A slot: 8 bytes, RFC 9669, section 3.
+use Rattle.std.specs.Prelude.{◌≡◌, ℕ, ◌+◌, ◌*◌, ◌≤◌, Bool, true, false, List, [], ◌∷◌, ◌++◌, length, sum_by, All, Option, Some, None, codes, ◌==◌}
+use Rattle.std.specs.List.{flat_map}
+use Rattle.byteorder.specs.Endian.{little_bytes}
+use Rattle.isa_model.specs.declared.map_defs.MapKind.{MapKind}
+use Rattle.isa_model.specs.declared.map_defs.MapKind.TheVariants.{Hash, Array}
+use Rattle.isa_model.specs.declared.map_defs.MapDef.{MapDef}
+use Rattle.isa_model.specs.declared.instructions.Insn.{Insn}
+use Rattle.isa_model.specs.Instructions.{Program, slots_of}
+use Rattle.isa_model.specs.Spelling.{spelling_of, InsnFits}
+use Rattle.image.specs.declared.head.TheConstants.{MAX_MAPS, MAX_SLOTS}
+
+-- ---- spelling
+
+abbrev pub magic : List ℕ
+magic = codes "XBP1"
+
+-- Linux, enum bpf_map_type
+abbrev pub kind_code : MapKind → ℕ
+kind_code Hash = 1
+kind_code Array = 2
+
+abbrev pub row_bytes : MapDef → List ℕ
+row_bytes row =
+    little_bytes 2 (kind_code row.kind)
+    ++ (little_bytes 2 row.key_size ++ (little_bytes 4 row.value_size ++ little_bytes 4 row.entries))
+
+-- a second half is spelled with the instruction before it
+abbrev pub slot_spelling : Option Insn → List ℕ
+slot_spelling None = []
+slot_spelling (Some i) = spelling_of i
+
+abbrev pub code_bytes : List (Option Insn) → List ℕ
+code_bytes xs = flat_map slot_spelling xs
+
+-- the 8 bytes before the rows
+abbrev pub head_bytes : Program → List ℕ
+head_bytes p = magic ++ (little_bytes 2 (length p.maps) ++ little_bytes 2 (length p.insns))
+
+unfoldable pub image_bytes : Program → List ℕ
+image_bytes p = head_bytes p ++ (flat_map row_bytes p.maps ++ code_bytes p.insns)
+
+-- ---- the programs that images store
+
+-- an array's key is its index
+abbrev pub KeyFits : MapKind → ℕ → Type 0
+KeyFits Hash n = (1 ≤ n) × (n ≤ 64)
+KeyFits Array n = n ≡ 4
+
+-- the limits of a map row
+pub record IsRow (row : MapDef) : Type 0 where
+  pub key : KeyFits row.kind row.key_size
+  pub some_value : 1 ≤ row.value_size
+  pub short_value : row.value_size ≤ 4096
+  pub some_entries : 1 ≤ row.entries
+  pub few_entries : row.entries ≤ 65536
+
+-- the bytes of a map's keys and values
+abbrev pub room_of : MapDef → ℕ
+room_of row = row.entries * (row.key_size + row.value_size)
+
+abbrev pub is_wide : Insn → Bool
+is_wide i = slots_of i == 2
+
+-- slots of code, the first of them a second half or not: there is a second half after each instruction of two slots and
+-- nowhere else, and the numbers in instructions are of their types
+abbrev pub IsCode : Bool → List (Option Insn) → Type 0
+IsCode half [] = half ≡ false
+IsCode true (None ∷ xs) = IsCode false xs
+IsCode true (Some i ∷ xs) = ⊥
+IsCode false (None ∷ xs) = ⊥
+IsCode false (Some i ∷ xs) = InsnFits i × IsCode (is_wide i) xs
+
+pub record IsImage (p : Program) : Type 0 where
+  pub few_maps : length p.maps ≤ MAX_MAPS
+  pub rows : All IsRow p.maps
+  pub room : sum_by room_of p.maps ≤ 16777216
+  pub some_slots : 1 ≤ length p.insns
+  pub few_slots : length p.insns ≤ MAX_SLOTS
+  pub code : IsCode false p.insns

@@ -1,0 +1,71 @@
+//! The code of an image: its instructions by slot.
+
+ghost use Rattle.std.specs.Prelude.{◌≡◌, ◌/◌, false, length, OnOk, OnErr};
+ghost use Rattle.std.specs.Io.KnownBytes.{Appends};
+ghost use Rattle.isa_model.specs.Spelling.{spelling_of};
+ghost use Rattle.exact_io.specs.Transfers.{AppendsBeginning};
+ghost use Rattle.image.specs.Images.{code_bytes};
+ghost use Rattle.image.specs.Refusals.{Gives, insn_at, code_from};
+
+use crate::errors::ImageError;
+use exact_io::write_bytes;
+use insn_codec::{decode, encode};
+use isa_model::Insn;
+use std::alloc::Global;
+use std::io;
+use std::io::Write;
+
+/// The instruction that begins at the slot; the bytes are those of the slot and all after it.
+fn insn_at(slot: usize, bytes: &[u8]) -> Result<Insn, ImageError>
+    ensures { result ≡ insn_at slot bytes.now }
+{
+    match decode(bytes) {
+        Ok((insn, _)) => Ok(insn),
+        Err(error) => Err(ImageError::Code(slot, error)),
+    }
+}
+
+/// The instructions by slot, with none at second halves.
+pub fn code_of(alloc: Global, bytes: &[u8]) -> Result<Vec<Option<Insn>>, ImageError>
+    ensures { Gives (λ v. v.items) result (code_from (length bytes.now / 8) false 0 bytes.now) }
+{
+    let mut slots = Vec::new(alloc);
+    let mut second_half = false;
+    for slot in 0..bytes.len() / 8 {
+        if second_half {
+            slots.push(None)?;
+            second_half = false;
+        } else {
+            let insn = insn_at(slot, &bytes[8 * slot..])?;
+            slots.push(Some(insn))?;
+            second_half = insn.slots() == 2;
+        }
+    }
+    Ok(slots)
+}
+
+fn write_insn<W: Write>(writer: &mut W, insn: &Insn) -> io::Result<()>
+    ensures ok { OnOk result
+        (Appends (W.contents writer.old) (W.contents writer.new) (spelling_of insn.now)) }
+    ensures err { OnErr result
+        (AppendsBeginning (W.contents writer.old) (W.contents writer.new) (spelling_of insn.now)) }
+{
+    let mut bytes = [0; 16];
+    let length = encode(insn, &mut bytes);
+    write_bytes(writer, &bytes[..length])
+}
+
+/// Writes the instructions one after the other.
+pub fn write_code<W: Write>(writer: &mut W, slots: &[Option<Insn>]) -> io::Result<()>
+    ensures ok { OnOk result
+        (Appends (W.contents writer.old) (W.contents writer.new) (code_bytes slots.now)) }
+    ensures err { OnErr result
+        (AppendsBeginning (W.contents writer.old) (W.contents writer.new) (code_bytes slots.now)) }
+{
+    for slot in slots {
+        if let Some(insn) = slot {
+            write_insn(writer, insn)?;
+        }
+    }
+    Ok(())
+}

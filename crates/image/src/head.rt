@@ -1,0 +1,53 @@
+//! The sizes of an image, and the 8 bytes that stand at its front.
+
+ghost use Rattle.std.specs.Prelude.{◌≡◌, ◌++◌};
+ghost use Rattle.byteorder.specs.Endian.{little_bytes};
+ghost use Rattle.image.specs.Images.{magic};
+ghost use Rattle.image.specs.Refusals.{size_refusal};
+
+use crate::errors::ImageError;
+use byteorder::{ByteOrder, LittleEndian};
+
+/// The most map rows of an image: instructions that name maps are not known yet.
+pub const MAX_MAPS: u16 = 0;
+
+/// The most slots of an image.
+pub const MAX_SLOTS: u16 = 4096;
+
+/// The first test of the head and of the whole length that fails.
+pub fn size_refusal(bytes: &[u8]) -> Option<ImageError>
+    ensures { result ≡ size_refusal bytes.now }
+{
+    if bytes.len() < 8 {
+        return Some(ImageError::Short);
+    }
+    if !bytes.starts_with(b"XBP1") {
+        return Some(ImageError::Magic);
+    }
+    let maps = LittleEndian::read_u16(&bytes[4..]);
+    let slots = LittleEndian::read_u16(&bytes[6..]);
+    if maps > MAX_MAPS {
+        return Some(ImageError::TooManyMaps);
+    }
+    if slots == 0 || slots > MAX_SLOTS {
+        return Some(ImageError::SlotCount);
+    }
+    let size = 8 + 12 * usize::from(maps) + 8 * usize::from(slots);
+    if bytes.len() < size {
+        return Some(ImageError::Short);
+    }
+    if bytes.len() > size {
+        return Some(ImageError::Long);
+    }
+    None
+}
+
+/// The head of an image with so many map rows and slots.
+pub fn head_of(maps: u16, slots: u16) -> [u8; 8]
+    ensures { result ≡ magic ++ (little_bytes 2 maps ++ little_bytes 2 slots) }
+{
+    let mut head = *b"XBP1\0\0\0\0";
+    LittleEndian::write_u16(&mut head[4..], maps);
+    LittleEndian::write_u16(&mut head[6..], slots);
+    head
+}

@@ -1,0 +1,69 @@
+-- Which opcode each form has, and that an opcode of a form is that form's: by trying all 256.
+use Rattle.std.proofs.Common.{◌≡◌, ℕ, ◌+◌, ◌<◌, ◌^◌, Bool, true, false, Option, Some, None, refl, sym, ap, ◌∙◌, subst}
+use Rattle.std.specs.Prelude.{◌==◌}
+use Rattle.std.specs.Option.{option_map_or}
+use Rattle.std.proofs.lemmas.Bool.{agree_below_at, eqb-true}
+use Rattle.isa_model.specs.declared.registers.Reg.{Reg}
+use Rattle.isa_model.specs.declared.registers.Reg.TheVariants.{R0}
+use Rattle.isa_model.specs.declared.sizes.Width.{Width}
+use Rattle.isa_model.specs.declared.sizes.Width.TheVariants.{Low32, Full64}
+use Rattle.isa_model.specs.Registers.{reg_number, reg_numbered}
+use Rattle.isa_model.specs.Spelling.{alu_class, jump_class, jump_code, order_opcode, size_code, narrow_code, atomic_opcode}
+use Rattle.insn_codec.specs.declared.forms.AluCode.{AluCode}
+use Rattle.insn_codec.specs.declared.forms.AluCode.TheVariants as codes
+use Rattle.insn_codec.specs.declared.forms.Form.{Form}
+use Rattle.insn_codec.specs.declared.forms.Form.TheVariants as form
+use Rattle.insn_codec.specs.Forms.{form_of}
+
+abbrev pub code_of : AluCode → ℕ
+code_of codes.Add = 0x00
+code_of codes.Sub = 0x10
+code_of codes.Mul = 0x20
+code_of codes.Div = 0x30
+code_of codes.Or = 0x40
+code_of codes.And = 0x50
+code_of codes.Lsh = 0x60
+code_of codes.Rsh = 0x70
+code_of codes.Mod = 0x90
+code_of codes.Xor = 0xa0
+code_of codes.Mov = 0xb0
+code_of codes.Arsh = 0xc0
+
+abbrev pub opcode_of : Form → ℕ
+opcode_of (form.AluConstant w c) = code_of c + 0x00 + alu_class w
+opcode_of (form.AluRegister w c) = code_of c + 0x08 + alu_class w
+opcode_of (form.MovRegister w) = 0xb8 + alu_class w
+opcode_of (form.Negate w) = 0x80 + alu_class w
+opcode_of (form.ByteSwap order) = order_opcode order
+opcode_of form.Jump = 0x05
+opcode_of form.JumpLong = 0x06
+opcode_of (form.JumpIfConstant w c) = jump_code c + 0x00 + jump_class w
+opcode_of (form.JumpIfRegister w c) = jump_code c + 0x08 + jump_class w
+opcode_of form.Call = 0x85
+opcode_of form.Exit = 0x95
+opcode_of (form.Load size) = 0x61 + size_code size
+opcode_of (form.LoadSx size) = 0x81 + narrow_code size
+opcode_of (form.StoreConstant size) = 0x62 + size_code size
+opcode_of (form.Store size) = 0x63 + size_code size
+opcode_of (form.Atomic w) = atomic_opcode w
+opcode_of form.WideLoad = 0x18
+
+abbrev names_test : ℕ → Bool
+names_test o = option_map_or (λ f. opcode_of f == o) (form_of o) true
+
+pub opcode-form_of : (o : ℕ) (f : Form) → o < 256 → form_of o ≡ Some f → opcode_of f ≡ o
+opcode-form_of o f lt e =
+    let t : names_test o ≡ true = agree_below_at names_test (λ _. true) 256 o refl lt in
+    eqb-true _ _ (subst (λ (x : Option Form). option_map_or (λ g. opcode_of g == o) x true ≡ true) e t)
+
+abbrev reg_test : ℕ → Bool
+reg_test n = option_map_or (λ r. reg_number r == n) (reg_numbered n) true
+
+pub number-reg_numbered : (n : ℕ) (r : Reg) → n < 16 → reg_numbered n ≡ Some r → reg_number r ≡ n
+number-reg_numbered n r lt e =
+    let t : reg_test n ≡ true = agree_below_at reg_test (λ _. true) 16 n refl lt in
+    eqb-true _ _ (subst (λ (x : Option Reg). option_map_or (λ q. reg_number q == n) x true ≡ true) e t)
+
+pub reg_numbered-number : (r : Reg) → reg_numbered (reg_number r) ≡ Some r
+reg_numbered-number R0 = refl
+reg_numbered-number r = refl

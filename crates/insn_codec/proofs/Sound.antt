@@ -1,0 +1,430 @@
+-- What is decoded is spelled so.
+use Rattle.std.proofs.Common.{◌≡◌, ℕ, ◌+◌, ◌*◌, ◌/◌, ◌%◌, ◌^◌, ◌<◌, ◌≤◌, Bool, true, false, cond, ℤ, List, [], ◌∷◌, ◌++◌, length, take, drop, get_or, Option, Some, None, Result, Ok, Err, refl, sym, ap, ◌∙◌, subst, arith, inl, inr}
+use Rattle.std.specs.Prelude.{◌==◌, ◌||◌, ◌&&◌, ◌⊎◌, slice_index, nat_lt, not}
+use Rattle.std.proofs.lemmas.List.{get_or-drop, length-drop}
+use Rattle.std.proofs.Common.{take-add}
+use Rattle.std.specs.Option.{option_map}
+use Rattle.std.specs.Int.{w16, w32, cast_signed, cast_unsigned}
+use Rattle.std.proofs.lemmas.Bool.{and_parts, eqb-true, ltb-false, not-false}
+use Rattle.std.proofs.lemmas.Int.{of_z-to_z}
+use Rattle.std.proofs.Math.Facts.{sfits_to_z}
+use Rattle.std.specs.Int.RustNames.{FitsSigned}
+use Rattle.byteorder.specs.Numbers.{little_from-lt}
+use Rattle.byteorder.specs.Endian.{little_number, little_bytes}
+use Rattle.isa_model.specs.declared.registers.Reg.{Reg}
+use Rattle.isa_model.specs.declared.registers.Reg.TheVariants.{R0, R1}
+use Rattle.isa_model.specs.declared.sizes.Width.{Width}
+use Rattle.isa_model.specs.declared.sizes.Width.TheVariants.{Low32, Full64}
+use Rattle.isa_model.specs.declared.instructions.AluOp.{AluOp}
+use Rattle.isa_model.specs.declared.instructions.AluOp.TheVariants as ops
+use Rattle.isa_model.specs.declared.sizes.ByteOrder.{ByteOrder}
+use Rattle.isa_model.specs.declared.sizes.Span.{Span}
+use Rattle.isa_model.specs.declared.sizes.Span.TheVariants.{B16, B32, B64}
+use Rattle.isa_model.specs.declared.sizes.Extension.{Extension}
+use Rattle.isa_model.specs.declared.sizes.Extension.TheVariants.{Low8, Low16, Full8, Full16, Full32}
+use Rattle.isa_model.specs.declared.instructions.AtomicOp.TheVariants as atomics
+use Rattle.isa_model.specs.declared.instructions.Operand.TheVariants.{Constant, Register}
+use Rattle.isa_model.specs.declared.instructions.Place.{Place}
+use Rattle.isa_model.specs.declared.instructions.Insn.{Insn}
+use Rattle.isa_model.specs.declared.instructions.Insn.TheVariants.{Alu, Neg, MovSx, ByteSwap, LoadNumber, Load, LoadSx, StoreConstant, Store, Atomic, Exchange, CompareExchange, Jump, JumpLong, JumpIf, CallLocal, Exit}
+use Rattle.isa_model.specs.declared.slots.Slot.{Slot}
+use Rattle.isa_model.specs.Registers.{reg_number, reg_numbered}
+use Rattle.isa_model.specs.Sizes.{span_bits}
+use Rattle.isa_model.specs.Spelling.{InsnFits, alu_code, alu_offset, alu_class, atomic_opcode, extension_class, extension_bits, first_slot, next_imm, second_bytes, slot}
+use Rattle.insn_codec.specs.declared.errors.CodecError.{CodecError}
+use Rattle.insn_codec.specs.declared.errors.CodecError.TheVariants.{UnusedField}
+use Rattle.insn_codec.specs.declared.forms.AluCode.{AluCode}
+use Rattle.insn_codec.specs.declared.forms.AluCode.TheVariants as codes
+use Rattle.insn_codec.specs.declared.forms.Form.{Form}
+use Rattle.insn_codec.specs.declared.forms.Form.TheVariants as form
+use Rattle.insn_codec.specs.declared.forms.Uses.{Uses}
+use Rattle.insn_codec.specs.declared.fields.Fields.{Fields}
+use Rattle.insn_codec.specs.Forms.{has_selector, uses, zero_unused, is_r0, form_of}
+use Rattle.insn_codec.specs.Decoding.{op_selected, extension_selected, span_selected, selected, meaning, slot_meaning, with_form, with_dst, with_src, with_fields, atomic, called_by, moved, swapped, wide_by, wide_number, constant_in, place_in}
+use Rattle.insn_codec.proofs.Little.{bytes-little_from}
+use Rattle.insn_codec.proofs.Opcodes.{opcode_of, code_of, opcode-form_of, number-reg_numbered}
+
+-- ---- tools
+
+-- which way a test went
+pub chosen : {A : Type 0} (b : Bool) (x y z : A) → cond b x y ≡ z → ((b ≡ true) × (x ≡ z)) ⊎ ((b ≡ false) × (y ≡ z))
+chosen true x y z e = inl (refl, e)
+chosen false x y z e = inr (refl, e)
+
+abbrev done : Insn → Result Insn CodecError
+done i = Ok i
+
+ok_is : (i j : Insn) → done i ≡ done j → i ≡ j
+ok_is i j e = cc
+
+some_is : {A : Type 0} (x y : A) → Some x ≡ Some y → x ≡ y
+some_is x y e = cc
+
+selected_ok : {A : Type 0} (g : A → Insn) (o : Option A) (i : Insn) → selected (option_map g o) ≡ Ok i → (x : A) × (o ≡ Some x) × (g x ≡ i)
+selected_ok g (Some x) i e = (x, refl, ok_is _ _ e)
+selected_ok g None i e = absurd cc
+
+r0_is : (r : Reg) → is_r0 r ≡ true → reg_number r ≡ 0
+r0_is R0 e = refl
+r0_is r e = absurd cc
+
+abbrev fields : Reg → Reg → ℕ → ℕ → Fields
+fields d r o k = record { dst = d; src = r; offset = o; imm = k }
+
+-- the unused fields are zero
+record Zeroes (u : Uses) (d r : Reg) (o k : ℕ) : Type 0 where
+  dst : (u.dst || is_r0 d) ≡ true
+  src : (u.src || is_r0 r) ≡ true
+  offset : (u.offset || o == 0) ≡ true
+  imm : (u.imm || k == 0) ≡ true
+
+zeroes : (u : Uses) (d r : Reg) (o k : ℕ) → zero_unused u (fields d r o k) ≡ true → Zeroes u d r o k
+zeroes u d r o k e =
+    let p = and_parts _ _ e in
+    let q = and_parts _ _ p.0 in
+    let s = and_parts _ _ q.0 in
+    record { dst = s.0; src = s.1; offset = q.1; imm = p.1 }
+
+-- ---- selectors
+
+abbrev OpIs : AluCode → ℕ → AluOp → Type 0
+OpIs c o op = (alu_code op ≡ code_of c) × (alu_offset op ≡ o)
+
+op_is : (c : AluCode) (o : ℕ) (op : AluOp) → op_selected c o ≡ Some op → (has_selector c || o == 0) ≡ true → OpIs c o op
+op_is codes.Div o op e z =
+    elim (chosen (o == 0) (Some ops.Div) _ _ e) [
+      | inl p ↦ subst (OpIs codes.Div o) (some_is _ _ p.1) (refl, sym (eqb-true o 0 p.0))
+      | inr p ↦ elim (chosen (o == 1) (Some ops.SignedDiv) _ _ p.1) [
+        | inl q ↦ subst (OpIs codes.Div o) (some_is _ _ q.1) (refl, sym (eqb-true o 1 q.0))
+        | inr q ↦ absurd cc
+      ]
+    ]
+op_is codes.Mod o op e z =
+    elim (chosen (o == 0) (Some ops.Mod) _ _ e) [
+      | inl p ↦ subst (OpIs codes.Mod o) (some_is _ _ p.1) (refl, sym (eqb-true o 0 p.0))
+      | inr p ↦ elim (chosen (o == 1) (Some ops.SignedMod) _ _ p.1) [
+        | inl q ↦ subst (OpIs codes.Mod o) (some_is _ _ q.1) (refl, sym (eqb-true o 1 q.0))
+        | inr q ↦ absurd cc
+      ]
+    ]
+op_is codes.Add o op e z = subst (OpIs codes.Add o) (some_is _ _ e) (refl, sym (eqb-true o 0 z))
+op_is codes.Sub o op e z = subst (OpIs codes.Sub o) (some_is _ _ e) (refl, sym (eqb-true o 0 z))
+op_is codes.Mul o op e z = subst (OpIs codes.Mul o) (some_is _ _ e) (refl, sym (eqb-true o 0 z))
+op_is codes.Or o op e z = subst (OpIs codes.Or o) (some_is _ _ e) (refl, sym (eqb-true o 0 z))
+op_is codes.And o op e z = subst (OpIs codes.And o) (some_is _ _ e) (refl, sym (eqb-true o 0 z))
+op_is codes.Lsh o op e z = subst (OpIs codes.Lsh o) (some_is _ _ e) (refl, sym (eqb-true o 0 z))
+op_is codes.Rsh o op e z = subst (OpIs codes.Rsh o) (some_is _ _ e) (refl, sym (eqb-true o 0 z))
+op_is codes.Xor o op e z = subst (OpIs codes.Xor o) (some_is _ _ e) (refl, sym (eqb-true o 0 z))
+op_is codes.Mov o op e z = subst (OpIs codes.Mov o) (some_is _ _ e) (refl, sym (eqb-true o 0 z))
+op_is codes.Arsh o op e z = subst (OpIs codes.Arsh o) (some_is _ _ e) (refl, sym (eqb-true o 0 z))
+
+abbrev ExtensionIs : Width → ℕ → Extension → Type 0
+ExtensionIs w o x = (extension_class x ≡ alu_class w) × (extension_bits x ≡ o)
+
+extension_is : (w : Width) (o : ℕ) (x : Extension) → extension_selected w o ≡ Some x → ExtensionIs w o x
+extension_is Low32 o x e =
+    elim (chosen (o == 8) (Some Low8) _ _ e) [
+      | inl p ↦ subst (ExtensionIs Low32 o) (some_is _ _ p.1) (refl, sym (eqb-true o 8 p.0))
+      | inr p ↦ elim (chosen (o == 16) (Some Low16) _ _ p.1) [
+        | inl q ↦ subst (ExtensionIs Low32 o) (some_is _ _ q.1) (refl, sym (eqb-true o 16 q.0))
+        | inr q ↦ absurd cc
+      ]
+    ]
+extension_is Full64 o x e =
+    elim (chosen (o == 8) (Some Full8) _ _ e) [
+      | inl p ↦ subst (ExtensionIs Full64 o) (some_is _ _ p.1) (refl, sym (eqb-true o 8 p.0))
+      | inr p ↦ elim (chosen (o == 16) (Some Full16) _ _ p.1) [
+        | inl q ↦ subst (ExtensionIs Full64 o) (some_is _ _ q.1) (refl, sym (eqb-true o 16 q.0))
+        | inr q ↦ elim (chosen (o == 32) (Some Full32) _ _ q.1) [
+          | inl s ↦ subst (ExtensionIs Full64 o) (some_is _ _ s.1) (refl, sym (eqb-true o 32 s.0))
+          | inr s ↦ absurd cc
+        ]
+      ]
+    ]
+
+span_is : (k : ℕ) (x : Span) → span_selected k ≡ Some x → span_bits x ≡ k
+span_is k x e =
+    elim (chosen (k == 16) (Some B16) _ _ e) [
+      | inl p ↦ subst (λ (s : Span). span_bits s ≡ k) (some_is _ _ p.1) (sym (eqb-true k 16 p.0))
+      | inr p ↦ elim (chosen (k == 32) (Some B32) _ _ p.1) [
+        | inl q ↦ subst (λ (s : Span). span_bits s ≡ k) (some_is _ _ q.1) (sym (eqb-true k 32 q.0))
+        | inr q ↦ elim (chosen (k == 64) (Some B64) _ _ q.1) [
+          | inl s ↦ subst (λ (y : Span). span_bits y ≡ k) (some_is _ _ s.1) (sym (eqb-true k 64 s.0))
+          | inr s ↦ absurd cc
+        ]
+      ]
+    ]
+
+-- ---- forms
+
+abbrev pub Continues : Option ℕ → List ℕ → Type 0
+Continues None rest = Unit {0}
+Continues (Some n) rest = take 8 rest ≡ second_bytes (Some n)
+
+-- the instruction is spelled by this slot and what follows, and its numbers are of their types
+pub record SpelledBy (s : Slot) (rest : List ℕ) (i : Insn) : Type 0 where
+  pub first : first_slot i ≡ s
+  pub second : Continues (next_imm i) rest
+  pub fits : InsnFits i
+
+-- fields that are numbers of their widths
+record Within (o k : ℕ) (rest : List ℕ) : Type 0 where
+  offset : cast_unsigned w16 (cast_signed w16 o) ≡ o
+  imm : cast_unsigned w32 (cast_signed w32 k) ≡ k
+  small : k < 2 ^ 32
+  bytes : (j : ℕ) → slice_index rest j < 256
+  distance : FitsSigned w16 (cast_signed w16 o)
+  constant : FitsSigned w32 (cast_signed w32 k)
+
+within : (o k : ℕ) (rest : List ℕ) → o < 2 ^ 16 → k < 2 ^ 32 → ((j : ℕ) → slice_index rest j < 256) → Within o k rest
+within o k rest ho hk hb = record {
+  offset = of_z-to_z w16 o ho;
+  imm = of_z-to_z w32 k hk;
+  small = hk;
+  bytes = hb;
+  distance = sfits_to_z (record { fits = ho });
+  constant = sfits_to_z (record { fits = hk });
+}
+
+abbrev By : ℕ → Reg → Reg → ℕ → ℕ → List ℕ → Insn → Type 0
+By c d r o k rest i = SpelledBy (slot c (reg_number d) (reg_number r) o k) rest i
+
+pub slot_is : (c c' a a' b b' o o' k k' : ℕ) → c ≡ c' → a ≡ a' → b ≡ b' → o ≡ o' → k ≡ k'
+    → slot c a b o k ≡ slot c' a' b' o' k'
+slot_is c c' a a' b b' o o' k k' h0 h1 h2 h3 h4 = rw (h0, h1, h2, h3, h4) refl
+
+-- an instruction of one slot, by what its fields were read from
+one : (c : ℕ) (d r : Reg) (o k : ℕ) (rest : List ℕ) (x i : Insn) → first_slot x ≡ slot c (reg_number d) (reg_number r) o k
+    → Continues (next_imm x) rest → InsnFits x → x ≡ i → By c d r o k rest i
+one c d r o k rest x i first second fits e =
+    subst (By c d r o k rest) e (record { first = first; second = second; fits = fits })
+
+alu_constant : (w : Width) (c : AluCode) (d r : Reg) (o k : ℕ) (rest : List ℕ) (i : Insn) → Within o k rest
+    → Zeroes (uses (form.AluConstant w c)) d r o k → meaning (form.AluConstant w c) (fields d r o k) rest ≡ Ok i
+    → By (opcode_of (form.AluConstant w c)) d r o k rest i
+alu_constant w c d r o k rest i h z e =
+    let s = selected_ok (λ op. Alu w op d (Constant (constant_in (fields d r o k)))) (op_selected c o) i e in
+    let q = op_is c o s.0 s.1 z.offset in
+    one _ d r o k rest _ i
+    (slot_is _ _ _ _ _ _ _ _ _ _ (ap (λ n. n + 0x00 + alu_class w) q.0) refl (sym (r0_is r z.src)) q.1 h.imm)
+    tt h.constant s.2
+
+alu_register : (w : Width) (c : AluCode) (d r : Reg) (o k : ℕ) (rest : List ℕ) (i : Insn) → Within o k rest
+    → Zeroes (uses (form.AluRegister w c)) d r o k → meaning (form.AluRegister w c) (fields d r o k) rest ≡ Ok i
+    → By (opcode_of (form.AluRegister w c)) d r o k rest i
+alu_register w c d r o k rest i h z e =
+    let s = selected_ok (λ op. Alu w op d (Register r)) (op_selected c o) i e in
+    let q = op_is c o s.0 s.1 z.offset in
+    one _ d r o k rest _ i
+    (slot_is _ _ _ _ _ _ _ _ _ _ (ap (λ n. n + 0x08 + alu_class w) q.0) refl refl q.1 (sym (eqb-true k 0 z.imm)))
+    tt tt s.2
+
+mov_register : (w : Width) (d r : Reg) (o k : ℕ) (rest : List ℕ) (i : Insn)
+    → Zeroes (uses (form.MovRegister w)) d r o k → moved w (fields d r o k) ≡ Ok i
+    → By (opcode_of (form.MovRegister w)) d r o k rest i
+mov_register w d r o k rest i z e =
+    elim (chosen (o == 0) (done (Alu w ops.Mov d (Register r))) _ _ e) [
+      | inl p ↦
+          one _ d r o k rest _ i
+          (slot_is _ _ _ _ _ _ _ _ _ _ refl refl refl (sym (eqb-true o 0 p.0)) (sym (eqb-true k 0 z.imm)))
+          tt tt (ok_is _ _ p.1)
+      | inr p ↦
+          let s = selected_ok (λ x. MovSx x d r) (extension_selected w o) i p.1 in
+          let q = extension_is w o s.0 s.1 in
+          one _ d r o k rest _ i
+          (slot_is _ _ _ _ _ _ _ _ _ _ (ap (λ n. 0xb8 + n) q.0) refl refl q.1 (sym (eqb-true k 0 z.imm)))
+          tt tt s.2
+    ]
+
+byte_swap : (order : ByteOrder) (d r : Reg) (o k : ℕ) (rest : List ℕ) (i : Insn)
+    → Zeroes (uses (form.ByteSwap order)) d r o k → swapped order (fields d r o k) ≡ Ok i
+    → By (opcode_of (form.ByteSwap order)) d r o k rest i
+byte_swap order d r o k rest i z e =
+    let s = selected_ok (λ span. ByteSwap order span d) (span_selected k) i e in
+    one _ d r o k rest _ i
+    (slot_is _ _ _ _ _ _ _ _ _ _ refl refl (sym (r0_is r z.src)) (sym (eqb-true o 0 z.offset)) (span_is k s.0 s.1))
+    tt tt s.2
+
+call : (d r : Reg) (o k : ℕ) (rest : List ℕ) (i : Insn) → Within o k rest → Zeroes (uses form.Call) d r o k
+    → called_by r (fields d r o k) ≡ Ok i → By 0x85 d r o k rest i
+call d R1 o k rest i h z e =
+    one _ d R1 o k rest _ i
+    (slot_is _ _ _ _ _ _ _ _ _ _ refl (sym (r0_is d z.dst)) refl (sym (eqb-true o 0 z.offset)) h.imm)
+    tt h.constant (ok_is _ _ e)
+call d r o k rest i h z e = absurd cc
+
+-- one value of imm of the atomic instructions
+atomic_case : (w : Width) (d r : Reg) (o k : ℕ) (rest : List ℕ) (i x : Insn) (n : ℕ)
+    → first_slot x ≡ slot (atomic_opcode w) (reg_number d) (reg_number r) o n → next_imm x ≡ None → InsnFits x
+    → (k == n) ≡ true → done x ≡ Ok i → By (atomic_opcode w) d r o k rest i
+atomic_case w d r o k rest i x n first none fits t e =
+    one _ d r o k rest x i
+    (first ∙ ap (λ (j : ℕ). slot (atomic_opcode w) (reg_number d) (reg_number r) o j) (sym (eqb-true k n t)))
+    (rw none tt) fits (ok_is _ _ e)
+
+atomic_at : (w : Width) (d r : Reg) (o k : ℕ) (rest : List ℕ) (i : Insn) → Within o k rest
+    → atomic w (fields d r o k) ≡ Ok i → By (atomic_opcode w) d r o k rest i
+atomic_at w d r o k rest i h e =
+    let at = place_in (fields d r o k) d in
+    let same : (n : ℕ) → slot (atomic_opcode w) (reg_number d) (reg_number r) (cast_unsigned w16 (cast_signed w16 o)) n ≡ slot (atomic_opcode w) (reg_number d) (reg_number r) o n = λ n. rw (h.offset) refl in
+    let fit = h.distance in
+    elim (chosen (k == 0xe1) (done (Exchange w at r)) _ _ e) [
+      | inl p ↦ atomic_case w d r o k rest i _ 0xe1 (same 0xe1) refl fit p.0 p.1
+      | inr p ↦
+          elim (chosen (k == 0xf1) (done (CompareExchange w at r)) _ _ p.1) [
+            | inl p ↦ atomic_case w d r o k rest i _ 0xf1 (same 0xf1) refl fit p.0 p.1
+            | inr p ↦
+                elim (chosen (k == 0x00) (done (Atomic w atomics.Add false at r)) _ _ p.1) [
+                  | inl p ↦ atomic_case w d r o k rest i _ 0x00 (same 0x00) refl fit p.0 p.1
+                  | inr p ↦
+                      elim (chosen (k == 0x01) (done (Atomic w atomics.Add true at r)) _ _ p.1) [
+                        | inl p ↦ atomic_case w d r o k rest i _ 0x01 (same 0x01) refl fit p.0 p.1
+                        | inr p ↦
+                            elim (chosen (k == 0x40) (done (Atomic w atomics.Or false at r)) _ _ p.1) [
+                              | inl p ↦ atomic_case w d r o k rest i _ 0x40 (same 0x40) refl fit p.0 p.1
+                              | inr p ↦
+                                  elim (chosen (k == 0x41) (done (Atomic w atomics.Or true at r)) _ _ p.1) [
+                                    | inl p ↦ atomic_case w d r o k rest i _ 0x41 (same 0x41) refl fit p.0 p.1
+                                    | inr p ↦
+                                        elim (chosen (k == 0x50) (done (Atomic w atomics.And false at r)) _ _ p.1) [
+                                          | inl p ↦ atomic_case w d r o k rest i _ 0x50 (same 0x50) refl fit p.0 p.1
+                                          | inr p ↦
+                                              elim (chosen (k == 0x51) (done (Atomic w atomics.And true at r)) _ _ p.1) [
+                                                | inl p ↦ atomic_case w d r o k rest i _ 0x51 (same 0x51) refl fit p.0 p.1
+                                                | inr p ↦
+                                                    elim (chosen (k == 0xa0) (done (Atomic w atomics.Xor false at r)) _ _ p.1) [
+                                                      | inl p ↦ atomic_case w d r o k rest i _ 0xa0 (same 0xa0) refl fit p.0 p.1
+                                                      | inr p ↦
+                                                          elim (chosen (k == 0xa1) (done (Atomic w atomics.Xor true at r)) _ _ p.1) [
+                                                            | inl p ↦ atomic_case w d r o k rest i _ 0xa1 (same 0xa1) refl fit p.0 p.1
+                                                            | inr p ↦ absurd cc
+                                                          ]
+                                                    ]
+                                              ]
+                                        ]
+                                  ]
+                            ]
+                      ]
+                ]
+          ]
+    ]
+
+-- the eight bytes of a second slot whose reserved bits are zero
+second : (rest : List ℕ) → ((j : ℕ) → slice_index rest j < 256) → 8 ≤ length rest → little_number 4 rest ≡ 0 → take 8 rest ≡ second_bytes (Some (little_number 4 (drop 4 rest)))
+second rest small long zeros =
+    let front : little_bytes 4 (little_number 4 rest) ≡ take 4 rest = bytes-little_from 4 0 rest small (omega arith) in
+    let back : little_bytes 4 (little_number 4 (drop 4 rest)) ≡ take 4 (drop 4 rest) = bytes-little_from 4 0 (drop 4 rest) (λ j. rw get_or-drop (small (4 + j))) (omega (arith, length-drop 4 rest)) in
+    let zero : take 4 rest ≡ 0 ∷ 0 ∷ 0 ∷ 0 ∷ [] = sym front ∙ ap (little_bytes 4) zeros in
+    take-add 4 4 rest ∙ ap (λ l. l ++ take 4 (drop 4 rest)) zero ∙ ap (λ l. 0 ∷ 0 ∷ 0 ∷ 0 ∷ l) (sym back)
+
+wide_number_is : (d r : Reg) (o k : ℕ) (rest : List ℕ) (i : Insn) → Within o k rest → reg_number r ≡ 0 → o ≡ 0
+    → wide_number (fields d r o k) rest ≡ Ok i → By 0x18 d r o k rest i
+wide_number_is d r o k rest i h hr ho e =
+    elim (chosen (nat_lt (length rest) 8) _ _ _ e) [
+      | inl p ↦ absurd cc
+      | inr p ↦ elim (chosen (not (little_number 4 rest == 0)) _ _ _ p.1) [
+        | inl q ↦ absurd cc
+        | inr q ↦
+            let high = little_number 4 (drop 4 rest) in
+            let high_small : high < 2 ^ 32 = little_from-lt 0 4 (drop 4 rest) (λ j. rw get_or-drop (h.bytes (4 + j))) in
+            let zeros : little_number 4 rest ≡ 0 = eqb-true _ 0 (not-false _ q.0) in
+            let low : (k + high * 2 ^ 32) % 2 ^ 32 ≡ k = omega (arith, h.small) in
+            let top : (k + high * 2 ^ 32) / 2 ^ 32 ≡ high = omega (arith, h.small) in
+            let whole : k + high * 2 ^ 32 < 2 ^ 64 = omega (arith, h.small, high_small) in
+            one _ d r o k rest _ i (slot_is _ _ _ _ _ _ _ _ _ _ refl refl (sym hr) (sym ho) low)
+            (rw top (second rest h.bytes (ltb-false _ _ p.0) zeros)) whole (ok_is _ _ q.1)
+      ]
+    ]
+
+wide_is : (d r : Reg) (o k : ℕ) (rest : List ℕ) (i : Insn) → Within o k rest → o ≡ 0
+    → wide_by r (fields d r o k) rest ≡ Ok i → By 0x18 d r o k rest i
+wide_is d R0 o k rest i h ho e = wide_number_is d R0 o k rest i h refl ho e
+wide_is d r o k rest i h ho e = absurd cc
+
+-- a form whose fields were read gives what they spell
+meaning-spelled : (f : Form) (d r : Reg) (o k : ℕ) (rest : List ℕ) (i : Insn) → Within o k rest → Zeroes (uses f) d r o k
+    → meaning f (fields d r o k) rest ≡ Ok i → By (opcode_of f) d r o k rest i
+meaning-spelled (form.AluConstant w c) d r o k rest i h z e = alu_constant w c d r o k rest i h z e
+meaning-spelled (form.AluRegister w c) d r o k rest i h z e = alu_register w c d r o k rest i h z e
+meaning-spelled (form.MovRegister w) d r o k rest i h z e = mov_register w d r o k rest i z e
+meaning-spelled (form.ByteSwap order) d r o k rest i h z e = byte_swap order d r o k rest i z e
+meaning-spelled (form.Atomic w) d r o k rest i h z e = atomic_at w d r o k rest i h e
+meaning-spelled form.WideLoad d r o k rest i h z e = wide_is d r o k rest i h (eqb-true o 0 z.offset) e
+meaning-spelled form.Call d r o k rest i h z e = call d r o k rest i h z e
+meaning-spelled (form.Negate w) d r o k rest i h z e =
+    one _ d r o k rest _ i
+    (slot_is _ _ _ _ _ _ _ _ _ _ refl refl (sym (r0_is r z.src)) (sym (eqb-true o 0 z.offset)) (sym (eqb-true k 0 z.imm)))
+    tt tt (ok_is _ _ e)
+meaning-spelled (form.Load size) d r o k rest i h z e =
+    one _ d r o k rest _ i
+    (slot_is _ _ _ _ _ _ _ _ _ _ refl refl refl h.offset (sym (eqb-true k 0 z.imm)))
+    tt h.distance (ok_is _ _ e)
+meaning-spelled (form.LoadSx size) d r o k rest i h z e =
+    one _ d r o k rest _ i
+    (slot_is _ _ _ _ _ _ _ _ _ _ refl refl refl h.offset (sym (eqb-true k 0 z.imm)))
+    tt h.distance (ok_is _ _ e)
+meaning-spelled (form.StoreConstant size) d r o k rest i h z e =
+    one _ d r o k rest _ i
+    (slot_is _ _ _ _ _ _ _ _ _ _ refl refl (sym (r0_is r z.src)) h.offset h.imm)
+    tt (h.distance, h.constant) (ok_is _ _ e)
+meaning-spelled (form.Store size) d r o k rest i h z e =
+    one _ d r o k rest _ i
+    (slot_is _ _ _ _ _ _ _ _ _ _ refl refl refl h.offset (sym (eqb-true k 0 z.imm)))
+    tt h.distance (ok_is _ _ e)
+meaning-spelled form.Jump d r o k rest i h z e =
+    one _ d r o k rest _ i
+    (slot_is _ _ _ _ _ _ _ _ _ _ refl (sym (r0_is d z.dst)) (sym (r0_is r z.src)) h.offset (sym (eqb-true k 0 z.imm)))
+    tt h.distance (ok_is _ _ e)
+meaning-spelled form.JumpLong d r o k rest i h z e =
+    one _ d r o k rest _ i
+    (slot_is _ _ _ _ _ _ _ _ _ _ refl (sym (r0_is d z.dst)) (sym (r0_is r z.src)) (sym (eqb-true o 0 z.offset)) h.imm)
+    tt h.constant (ok_is _ _ e)
+meaning-spelled (form.JumpIfConstant w c) d r o k rest i h z e =
+    one _ d r o k rest _ i
+    (slot_is _ _ _ _ _ _ _ _ _ _ refl refl (sym (r0_is r z.src)) h.offset h.imm)
+    tt (h.constant, h.distance) (ok_is _ _ e)
+meaning-spelled (form.JumpIfRegister w c) d r o k rest i h z e =
+    one _ d r o k rest _ i
+    (slot_is _ _ _ _ _ _ _ _ _ _ refl refl refl h.offset (sym (eqb-true k 0 z.imm)))
+    tt (tt, h.distance) (ok_is _ _ e)
+meaning-spelled form.Exit d r o k rest i h z e =
+    one _ d r o k rest _ i
+    (slot_is _ _ _ _ _ _ _ _ _ _ refl (sym (r0_is d z.dst)) (sym (r0_is r z.src)) (sym (eqb-true o 0 z.offset)) (sym (eqb-true k 0 z.imm)))
+    tt tt (ok_is _ _ e)
+
+-- a slot whose fields fit
+pub record SlotFits (s : Slot) : Type 0 where
+  pub opcode : s.opcode < 256
+  pub dst : s.dst < 16
+  pub src : s.src < 16
+  pub offset : s.offset < 2 ^ 16
+  pub imm : s.imm < 2 ^ 32
+
+form_some : (f : Option Form) (s : Slot) (rest : List ℕ) (i : Insn) → with_form f s rest ≡ Ok i → (x : Form) × (f ≡ Some x) × (with_dst x s (reg_numbered s.dst) rest ≡ Ok i)
+form_some None s rest i e = absurd cc
+form_some (Some x) s rest i e = (x, refl, e)
+
+dst_some : (f : Form) (s : Slot) (d : Option Reg) (rest : List ℕ) (i : Insn) → with_dst f s d rest ≡ Ok i → (x : Reg) × (d ≡ Some x) × (with_src f s x (reg_numbered s.src) rest ≡ Ok i)
+dst_some f s None rest i e = absurd cc
+dst_some f s (Some x) rest i e = (x, refl, e)
+
+src_some : (f : Form) (s : Slot) (d : Reg) (r : Option Reg) (rest : List ℕ) (i : Insn) → with_src f s d r rest ≡ Ok i → (x : Reg) × (r ≡ Some x) × (with_fields f (fields d x s.offset s.imm) rest ≡ Ok i)
+src_some f s d None rest i e = absurd cc
+src_some f s d (Some x) rest i e = (x, refl, e)
+
+pub slot_meaning-spelled : (s : Slot) (rest : List ℕ) (i : Insn) → SlotFits s → ((j : ℕ) → slice_index rest j < 256) → slot_meaning s rest ≡ Ok i → SpelledBy s rest i
+unfolding slot_meaning
+slot_meaning-spelled s rest i fits small e =
+    let a = form_some (form_of s.opcode) s rest i e in
+    let b = dst_some a.0 s (reg_numbered s.dst) rest i a.2 in
+    let c = src_some a.0 s b.0 (reg_numbered s.src) rest i b.2 in
+    elim (chosen (zero_unused (uses a.0) (fields b.0 c.0 s.offset s.imm)) _ _ _ c.2) [
+      | inr p ↦ absurd cc
+      | inl p ↦
+          let m = meaning-spelled a.0 b.0 c.0 s.offset s.imm rest i (within _ _ _ fits.offset fits.imm small) (zeroes (uses a.0) b.0 c.0 s.offset s.imm p.0) p.1 in
+          record {
+            first = m.first ∙ slot_is _ _ _ _ _ _ _ _ _ _ (opcode-form_of s.opcode a.0 fits.opcode a.1) (number-reg_numbered s.dst b.0 fits.dst b.1) (number-reg_numbered s.src c.0 fits.src c.1) refl refl;
+            second = m.second;
+            fits = m.fits;
+          }
+    ]
