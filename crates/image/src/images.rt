@@ -89,6 +89,13 @@ impl Image {
         self.slots.len()
     }
 
+    /// The instructions by slot, with none at second halves.
+    pub fn code(&self) -> &[Option<Insn>]
+        ensures { result.now ≡ self.now.insns }
+    {
+        &self.slots
+    }
+
     /// The instruction that begins at the slot: none at second halves and outside the code.
     pub fn at(&self, slot: usize) -> Option<&Insn>
         ensures { option_copied result ≡ fetch self.now slot }

@@ -11,6 +11,7 @@ pub mod StreamLaws
 pub mod States
 pub mod Pointers
 pub mod Memory
+pub mod ByteCells
 pub mod Calls
 pub mod Steps
 pub mod Runs

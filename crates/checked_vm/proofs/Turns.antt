@@ -1,0 +1,26 @@
+-- What a step does to a run so far.
+use Rattle.std.proofs.Common.{◌≡◌, ℕ, suc, ◌+◌, ◌-◌, ◌<◌, sym, ap, ◌∙◌, arith, add-one}
+use Rattle.isa_model.specs.declared.ends.End.TheVariants.{Exit, Trap}
+use Rattle.isa_model.specs.declared.ends.TrapReason.{TrapReason}
+use Rattle.isa_model.specs.Instructions.{Program}
+use Rattle.isa_model.specs.States.{State}
+use Rattle.isa_model.specs.Steps.{Next, Finished, Trapped, step}
+use Rattle.isa_model.specs.Runs.{GoesOn, Ended, after_step, advanced, progress, left, turn_of}
+use Rattle.isa_model.specs.RunLaws.{progress-suc, progress-ended, progress-exit}
+
+-- it goes on
+pub progress-next : (p : Program) (clock : ℕ → ℕ) (n : ℕ) (s t u : State) → progress p clock n s ≡ GoesOn t → step p clock t ≡ Next u → progress p clock (n + 1) s ≡ GoesOn u
+progress-next p clock n s t u so_far next =
+    rw add-one (progress-suc p clock n s ∙ ap (advanced p clock n) so_far ∙ ap (after_step n t) next)
+
+-- it ends the run
+pub turn_of-finished : (p : Program) (clock : ℕ → ℕ) (n limit a : ℕ) (s t : State) → progress p clock n s ≡ GoesOn t → step p clock t ≡ Finished a → n < limit → turn_of (progress p clock limit s) ≡ left (Exit a (n + 1)) t
+turn_of-finished p clock n limit a s t so_far finished below =
+    ap turn_of (progress-exit p clock s t n limit a so_far finished (omega arith))
+
+-- it traps
+pub turn_of-trapped : (p : Program) (clock : ℕ → ℕ) (n limit : ℕ) (reason : TrapReason) (s t : State) → progress p clock n s ≡ GoesOn t → step p clock t ≡ Trapped reason → n < limit → turn_of (progress p clock limit s) ≡ left (Trap reason n) t
+turn_of-trapped p clock n limit reason s t so_far trapped below =
+    let last : progress p clock (suc n) s ≡ Ended (Trap reason n) t = progress-suc p clock n s ∙ ap (advanced p clock n) so_far ∙ ap (after_step n t) trapped in
+    let split : suc n + (limit - suc n) ≡ limit = omega arith in
+    ap turn_of (sym (ap (λ k. progress p clock k s) split) ∙ progress-ended p clock s t (Trap reason n) (suc n) (limit - suc n) last)

@@ -1,0 +1,4 @@
+pub mod Machine
+pub mod Atomics
+pub mod Outcomes
+pub mod Machines

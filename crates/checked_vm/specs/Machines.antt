@@ -1,0 +1,9 @@
+-- What callers see of the checked machine.
+use Rattle.std.specs.Prelude.{List}
+use Rattle.isa_model.specs.Instructions.{Program}
+use Rattle.isa_model.specs.States.{Entries}
+
+-- its program, and the maps' contents between runs
+pub record Running : Type 0 where
+  pub program : Program
+  pub contents : List Entries

@@ -1,0 +1,86 @@
+//! The checked machine: an image, and the room to run it.
+
+ghost use Rattle.std.specs.Prelude.{◌≡◌, ◌+◌, ◌≤◌, ℕ, [], length, IfOk};
+ghost use Rattle.isa_model.specs.Streams.{max_body};
+ghost use Rattle.isa_model.specs.Runs.{turn};
+ghost use Rattle.isa_model.specs.Reports.{starting_contents};
+
+use crate::core_state::Core;
+use image::Image;
+use isa_model::{Clock, End, FrameHead};
+use std::alloc::{AllocError, Global};
+use std::marker::Model;
+use thiserror::Error;
+
+/// Why a machine was not made.
+#[derive(Clone, Copy, PartialEq, Eq, Debug, Error)]
+pub enum VmError {
+    #[error("out of memory")]
+    Memory,
+}
+
+impl From<AllocError> for VmError {
+    fn from(_error: AllocError) -> VmError {
+        VmError::Memory
+    }
+}
+
+/// A machine that runs an image's program with every access tested.
+///
+/// Contracts see its program and the maps' contents between runs.
+#[derive(Drop)]
+pub struct Checked {
+    image: Image,
+    core: Core,
+}
+
+impl Model for Checked {
+    ghost use Rattle.isa_model.specs.Calls.{most_frames};
+    ghost use Rattle.std.specs.Prelude.{◌≤◌, [], vec_capacity};
+    ghost use Rattle.checked_vm.specs.Machines.{Running};
+
+    ghost Value = { Running };
+
+    ghost view = { λ machine. record { program = machine.image; contents = [] } };
+
+    ghost invariant = { λ machine. most_frames ≤ vec_capacity machine.core.frames };
+}
+
+impl Checked {
+    /// Makes all room that runs fill. An image has no maps yet.
+    pub fn new(alloc: Global, image: Image) -> Result<Self, VmError>
+        ensures { IfOk result (λ machine. machine
+            ≡ record { program = image; contents = starting_contents image.maps }) }
+    {
+        let _slots = image.slots();
+        let core = Core::new(alloc)?;
+        Ok(Checked { image, core })
+    }
+
+    /// Runs the program on a packet from the start, at most `limit` steps.
+    ///
+    /// After a trap or the limit the packet is as the last step left it.
+    pub fn run<C: Clock>(
+        &mut self,
+        head: FrameHead,
+        packet: &mut [u8],
+        clock: &mut C,
+        limit: u32,
+    ) -> End
+        requires short { length packet.old ≤ max_body }
+        requires some { 1 ≤ limit }
+        requires most { limit ≤ 1000000 }
+        ensures ends { result
+            ≡ (turn self.old.program limit (C.at clock.old) head packet.old self.old.contents).ends }
+        ensures packet { packet.new
+            ≡ (turn self.old.program limit (C.at clock.old) head packet.old self.old.contents).packet }
+        ensures contents { self.new.contents
+            ≡ (turn self.old.program limit (C.at clock.old) head packet.old self.old.contents).contents }
+        ensures program { self.new.program ≡ self.old.program }
+        ensures clock { (k : ℕ) → C.at clock.new k
+            ≡ C.at clock.old ((turn self.old.program limit (C.at clock.old) head packet.old self.old.contents).clock_calls + k) }
+    {
+        self.core
+            .run(self.image.code(), head, packet, clock, limit)
+    }
+}

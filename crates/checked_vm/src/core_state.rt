@@ -1,0 +1,121 @@
+//! The machine's fields: slot, registers and call frames.
+
+ghost use Rattle.std.specs.Prelude.{◌≡◌, ◌≤◌, ℕ, List, [], length, slice_set, IfOk, vec_len, vec_capacity};
+ghost use Rattle.isa_model.specs.Registers.{reg_number};
+ghost use Rattle.isa_model.specs.States.{value_at, new_frame};
+ghost use Rattle.isa_model.specs.Memory.{frame_index};
+ghost use Rattle.isa_model.specs.Calls.{most_frames};
+ghost use Rattle.isa_model.specs.Runs.{start_state};
+ghost use Rattle.checked_vm.specs.Machine.{state_of};
+
+use isa_model::{CallFrame, Cell, FrameHead, Reg, Region, Value};
+use std::alloc::{AllocError, Global};
+
+/// The most call frames that are live at once.
+pub const MOST_FRAMES: usize = 8;
+
+/// A run's state, the packet and the maps aside.
+#[derive(Drop)]
+pub struct Core {
+    pub slot: usize,
+    /// r0 to r10.
+    pub regs: [Value; 11],
+    /// The live call frames, the innermost last.
+    pub frames: Vec<CallFrame>,
+    /// The interface and the queue that the packet came in by.
+    pub interface: u32,
+    pub queue: u32,
+    pub next_serial: u64,
+    pub clock_calls: u64,
+}
+
+/// A call frame whose cells are unwritten.
+#[tactic(auto, unfolding(isa_model::specs::States::new_frame))]
+pub fn new_frame(serial: u64, return_slot: usize, saved: [Value; 4]) -> CallFrame
+    ensures { result ≡ new_frame serial return_slot saved }
+{
+    CallFrame {
+        serial,
+        cells: [Cell::Unwritten; 512],
+        return_slot,
+        saved,
+    }
+}
+
+impl Core {
+    /// A machine with room for all call frames, not started.
+    pub fn new(alloc: Global) -> Result<Self, AllocError>
+        ensures { IfOk result (λ core. most_frames ≤ vec_capacity core.frames) }
+    {
+        Ok(Core {
+            slot: 0,
+            regs: [Value::Unset; 11],
+            frames: Vec::with_capacity(alloc, MOST_FRAMES)?,
+            interface: 0,
+            queue: 0,
+            next_serial: 0,
+            clock_calls: 0,
+        })
+    }
+
+    /// Goes to the start of a run.
+    #[tactic(auto, unfolding(isa_model::specs::Runs::start_state))]
+    pub fn start(&mut self, head: FrameHead)
+        requires { most_frames ≤ vec_capacity self.old.frames }
+        ensures state { (packet : List ℕ) → state_of self.new packet [] ≡ start_state head packet [] }
+        ensures frames { vec_len self.new.frames ≡ 1 }
+        ensures room { vec_capacity self.new.frames ≡ vec_capacity self.old.frames }
+        ensures serial { self.new.next_serial ≡ 1 }
+        ensures clock { self.new.clock_calls ≡ 0 }
+    {
+        self.slot = 0;
+        self.regs = [
+            Value::Unset,
+            Value::Ptr(Region::Context, 0),
+            Value::Unset,
+            Value::Unset,
+            Value::Unset,
+            Value::Unset,
+            Value::Unset,
+            Value::Unset,
+            Value::Unset,
+            Value::Unset,
+            Value::Ptr(Region::Frame(0), 0),
+        ];
+        self.frames.clear();
+        self.frames
+            .push_reserved(new_frame(0, 0, [Value::Unset; 4]));
+        self.interface = head.interface;
+        self.queue = head.queue;
+        self.next_serial = 1;
+        self.clock_calls = 0;
+    }
+
+    pub fn value(&self, r: Reg) -> Value
+        ensures { result ≡ value_at self.now.regs (reg_number r) }
+    {
+        self.regs[r.number()]
+    }
+
+    pub fn set(&mut self, r: Reg, value: Value)
+        ensures { self.new ≡ record self.old { regs = slice_set self.old.regs (reg_number r) value } }
+    {
+        self.regs[r.number()] = value;
+    }
+
+    /// How many call frames are live.
+    pub fn depth(&self) -> usize
+        ensures frames { result ≡ length self.now.frames.items }
+        ensures len { result ≡ vec_len self.now.frames }
+    {
+        let frames: &[CallFrame] = &self.frames;
+        frames.len()
+    }
+
+    /// The place of the live frame of a serial.
+    pub fn frame_index(&self, serial: u64) -> Option<usize>
+        ensures { result ≡ frame_index self.now.frames.items serial }
+    {
+        self.frames.iter().position(|frame| frame.serial == serial)
+    }
+}

@@ -1,0 +1,6 @@
+//! What each form of instruction does, once its registers are set.
+
+pub mod arithmetic;
+pub mod calls;
+pub mod jumps;
+pub mod memory;

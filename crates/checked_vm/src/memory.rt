@@ -1,0 +1,358 @@
+//! Loads and stores in call frames, the packet and the context.
+
+ghost use Rattle.std.specs.Prelude.{◌≡◌, ◌+◌, ◌<◌, ◌≤◌, ℕ, ◌+ℤ◌, List, [], length, map, slice_index, Some, Ok, Err, MatchResult, vec_len};
+ghost use Rattle.isa_model.specs.Numbers.{number_from};
+ghost use Rattle.isa_model.specs.Sizes.{narrow_size, narrow_extension};
+ghost use Rattle.isa_model.specs.States.{frame_at};
+ghost use Rattle.isa_model.specs.Memory.{frame_index, place_of, read, number_at, context_field, context_load, memory_load, load, load_number, load_signed, write, store_number, store_pointer, store};
+ghost use Rattle.checked_vm.specs.declared.core_state.Core.{Core};
+ghost use Rattle.checked_vm.specs.Machine.{state_of, KeepsFrames};
+
+use crate::cells;
+use crate::core_state::Core;
+use crate::places::{index_at, place_in};
+use isa_model::numbers::sign_extend;
+use isa_model::{Cell, Extension, Narrow, Place, Region, Size, TrapReason, Value};
+
+// ---- the packet's bytes
+
+fn byte_at(bytes: &[u8], k: usize) -> u8
+    ensures { result ≡ slice_index bytes.now k }
+{
+    match bytes.get(k) {
+        Some(byte) => *byte,
+        None => 0,
+    }
+}
+
+/// The number that at most eight bytes spell.
+fn number_from(bytes: &[u8]) -> u64
+    ensures { result ≡ number_from bytes.now }
+{
+    u64::from_le_bytes([
+        byte_at(bytes, 0),
+        byte_at(bytes, 1),
+        byte_at(bytes, 2),
+        byte_at(bytes, 3),
+        byte_at(bytes, 4),
+        byte_at(bytes, 5),
+        byte_at(bytes, 6),
+        byte_at(bytes, 7),
+    ])
+}
+
+/// The packet's bytes at a place.
+fn read_packet(packet: &[u8], at: Option<usize>, n: usize) -> Result<&[u8], TrapReason>
+    requires { n ≤ 8 }
+    ensures { MatchResult result
+        (λ bs. (core : Core) → read (state_of core packet.now []) Region.Packet at n ≡ Ok (map Cell.Byte bs.now))
+        (λ e. (core : Core) → read (state_of core packet.now []) Region.Packet at n ≡ Err e) }
+{
+    match at {
+        Some(i) if i <= packet.len() && i + n <= packet.len() => Ok(&packet[i..i + n]),
+        _ => Err(TrapReason::BadAccess),
+    }
+}
+
+/// Writes bytes at a place of the packet.
+fn write_packet(packet: &mut [u8], at: Option<usize>, new: &[u8]) -> Result<(), TrapReason>
+    requires { length new.now ≤ 8 }
+    ensures { MatchResult result
+        (λ _. (core : Core) → write (state_of core packet.old []) Region.Packet at (map Cell.Byte new.now) ≡ Ok (state_of core packet.new []))
+        (λ e. ((core : Core) → write (state_of core packet.old []) Region.Packet at (map Cell.Byte new.now) ≡ Err e) × (packet.new ≡ packet.old)) }
+{
+    match at {
+        Some(i) if i <= packet.len() && i + new.len() <= packet.len() => {
+            packet[i..i + new.len()].copy_from_slice(new);
+            Ok(())
+        }
+        _ => Err(TrapReason::BadAccess),
+    }
+}
+
+// ---- loads
+
+fn narrow_size(size: Narrow) -> Size
+    ensures { result ≡ narrow_size size }
+{
+    match size {
+        Narrow::S8 => Size::U8,
+        Narrow::S16 => Size::U16,
+        Narrow::S32 => Size::U32,
+    }
+}
+
+fn narrow_extension(size: Narrow) -> Extension
+    ensures { result ≡ narrow_extension size }
+{
+    match size {
+        Narrow::S8 => Extension::Full8,
+        Narrow::S16 => Extension::Full16,
+        Narrow::S32 => Extension::Full32,
+    }
+}
+
+impl Core {
+    fn context_field(&self, at: Option<usize>) -> Result<Value, TrapReason>
+        ensures { (packet : List ℕ) → result ≡ context_field (state_of self.now packet []) at }
+    {
+        match at {
+            Some(0) => Ok(Value::Ptr(Region::Packet, 0)),
+            Some(4) => Ok(Value::Ptr(Region::PacketEnd, 0)),
+            Some(12) => Ok(Value::Num(u64::from(self.interface))),
+            Some(16) => Ok(Value::Num(u64::from(self.queue))),
+            _ => Err(TrapReason::BadAccess),
+        }
+    }
+
+    fn context_load(&self, size: Size, at: Option<usize>) -> Result<Value, TrapReason>
+        ensures { (packet : List ℕ) → result ≡ context_load (state_of self.now packet []) size at }
+    {
+        match size {
+            Size::U32 => self.context_field(at),
+            _ => Err(TrapReason::BadAccess),
+        }
+    }
+
+    /// Where n cells stand in a live frame: the frame's place and the first cell's index.
+    fn place_in_frame(
+        &self,
+        serial: u64,
+        at: Option<usize>,
+        n: usize,
+    ) -> Result<(usize, usize), TrapReason>
+        requires { n ≤ 8 }
+        ensures { MatchResult result
+            (λ p. (frame_index self.now.frames.items serial ≡ Some p.0)
+            × (p.0 < vec_len self.now.frames)
+            × (p.1 + n ≤ length (frame_at self.now.frames.items p.0).cells)
+            × ((packet : List ℕ) → place_of (state_of self.now packet []) (Region.Frame serial) at n ≡ Ok p.1))
+            (λ e. (packet : List ℕ) → place_of (state_of self.now packet []) (Region.Frame serial) at n ≡ Err e) }
+    {
+        match self.frame_index(serial) {
+            Some(frame) => {
+                let cells: &[Cell] = &self.frames[frame].cells;
+                let i = place_in(cells, at, n)?;
+                Ok((frame, i))
+            }
+            None => Err(TrapReason::BadAccess),
+        }
+    }
+
+    /// The cells of a frame at a place.
+    fn read_frame(&self, serial: u64, at: Option<usize>, n: usize) -> Result<&[Cell], TrapReason>
+        requires { n ≤ 8 }
+        ensures { MatchResult result
+            (λ cs. (packet : List ℕ) → read (state_of self.now packet []) (Region.Frame serial) at n ≡ Ok cs.now)
+            (λ e. (packet : List ℕ) → read (state_of self.now packet []) (Region.Frame serial) at n ≡ Err e) }
+    {
+        let (frame, i) = self.place_in_frame(serial, at, n)?;
+        let cells: &[Cell] = &self.frames[frame].cells;
+        Ok(&cells[i..i + n])
+    }
+
+    /// The number in n bytes at a place.
+    fn number_at(
+        &self,
+        packet: &[u8],
+        region: Region,
+        at: Option<usize>,
+        n: usize,
+    ) -> Result<u64, TrapReason>
+        requires { n ≤ 8 }
+        ensures { result ≡ number_at (state_of self.now packet.now []) region at n }
+    {
+        match region {
+            Region::Frame(serial) => cells::number_in(self.read_frame(serial, at, n)?),
+            Region::Packet => Ok(number_from(read_packet(packet, at, n)?)),
+            _ => Err(TrapReason::BadAccess),
+        }
+    }
+
+    /// The number or the whole pointer in eight bytes at a place.
+    fn value_at_place(
+        &self,
+        packet: &[u8],
+        region: Region,
+        at: Option<usize>,
+    ) -> Result<Value, TrapReason>
+        ensures { result ≡ memory_load (state_of self.now packet.now []) Size.U64 region at }
+    {
+        match region {
+            Region::Frame(serial) => cells::value_in(self.read_frame(serial, at, 8)?),
+            Region::Packet => Ok(Value::Num(number_from(read_packet(packet, at, 8)?))),
+            _ => Err(TrapReason::BadAccess),
+        }
+    }
+
+    fn memory_load(
+        &self,
+        packet: &[u8],
+        size: Size,
+        region: Region,
+        at: Option<usize>,
+    ) -> Result<Value, TrapReason>
+        ensures { result ≡ memory_load (state_of self.now packet.now []) size region at }
+    {
+        let n = match size {
+            Size::U8 => self.number_at(packet, region, at, 1)?,
+            Size::U16 => self.number_at(packet, region, at, 2)?,
+            Size::U32 => self.number_at(packet, region, at, 4)?,
+            Size::U64 => return self.value_at_place(packet, region, at),
+        };
+        Ok(Value::Num(n))
+    }
+
+    /// LDX MEM.
+    pub fn load(
+        &self,
+        packet: &[u8],
+        size: Size,
+        base: Value,
+        place: Place,
+    ) -> Result<Value, TrapReason>
+        ensures { result ≡ load (state_of self.now packet.now []) size base place.offset }
+    {
+        let Value::Ptr(region, offset) = base else {
+            return Err(TrapReason::BadAccess);
+        };
+        let at = index_at(region, offset, place);
+        match region {
+            Region::Context => self.context_load(size, at),
+            _ => self.memory_load(packet, size, region, at),
+        }
+    }
+
+    /// The number at a place, of which a pointer is none.
+    pub fn load_number(
+        &self,
+        packet: &[u8],
+        size: Size,
+        base: Value,
+        place: Place,
+    ) -> Result<u64, TrapReason>
+        ensures { result ≡ load_number (state_of self.now packet.now []) size base place.offset }
+    {
+        let Value::Ptr(region, offset) = base else {
+            return Err(TrapReason::BadAccess);
+        };
+        self.number_at(
+            packet,
+            region,
+            index_at(region, offset, place),
+            size.bytes(),
+        )
+    }
+
+    /// LDX MEMSX.
+    pub fn load_signed(
+        &self,
+        packet: &[u8],
+        size: Narrow,
+        base: Value,
+        place: Place,
+    ) -> Result<Value, TrapReason>
+        ensures { result ≡ load_signed (state_of self.now packet.now []) size base place.offset }
+    {
+        let n = self.load_number(packet, narrow_size(size), base, place)?;
+        Ok(Value::Num(sign_extend(narrow_extension(size), n)))
+    }
+
+    // ---- stores
+
+    /// Writes cells at a place of a frame.
+    fn write_frame(
+        &mut self,
+        serial: u64,
+        at: Option<usize>,
+        new: &[Cell],
+    ) -> Result<(), TrapReason>
+        requires { length new.now ≤ 8 }
+        ensures kept { KeepsFrames self.old self.new }
+        ensures slot { self.new.slot ≡ self.old.slot }
+        ensures wrote { MatchResult result
+            (λ _. (packet : List ℕ) → write (state_of self.old packet []) (Region.Frame serial) at new.now ≡ Ok (state_of self.new packet []))
+            (λ e. ((packet : List ℕ) → write (state_of self.old packet []) (Region.Frame serial) at new.now ≡ Err e) × (self.new ≡ self.old)) }
+    {
+        let (frame, i) = self.place_in_frame(serial, at, new.len())?;
+        cells::put_cells(&mut self.frames[frame].cells, i, new);
+        Ok(())
+    }
+
+    /// Writes a number's low bytes.
+    pub fn store_number(
+        &mut self,
+        packet: &mut [u8],
+        size: Size,
+        base: Value,
+        place: Place,
+        n: u64,
+    ) -> Result<(), TrapReason>
+        ensures kept { KeepsFrames self.old self.new }
+        ensures slot { self.new.slot ≡ self.old.slot }
+        ensures wrote { MatchResult result
+            (λ _. store_number (state_of self.old packet.old []) size base place.offset n ≡ Ok (state_of self.new packet.new []))
+            (λ e. (store_number (state_of self.old packet.old []) size base place.offset n ≡ Err e) × (self.new ≡ self.old) × (packet.new ≡ packet.old)) }
+    {
+        let Value::Ptr(region, offset) = base else {
+            return Err(TrapReason::BadAccess);
+        };
+        let at = index_at(region, offset, place);
+        match region {
+            Region::Frame(serial) => self.write_frame(
+                serial,
+                at,
+                &cells::byte_cells(n)[..size.bytes()],
+            ),
+            Region::Packet => write_packet(packet, at, &n.to_le_bytes()[..size.bytes()]),
+            _ => Err(TrapReason::BadAccess),
+        }
+    }
+
+    /// Writes a pointer, as eight pieces, into a frame.
+    fn store_pointer(
+        &mut self,
+        size: Size,
+        base: Value,
+        place: Place,
+        region: Region,
+        offset: i64,
+    ) -> Result<(), TrapReason>
+        ensures kept { KeepsFrames self.old self.new }
+        ensures slot { self.new.slot ≡ self.old.slot }
+        ensures wrote { MatchResult result
+            (λ _. (packet : List ℕ) → store_pointer (state_of self.old packet []) size base place.offset region offset ≡ Ok (state_of self.new packet []))
+            (λ e. ((packet : List ℕ) → store_pointer (state_of self.old packet []) size base place.offset region offset ≡ Err e) × (self.new ≡ self.old)) }
+    {
+        match (size, base) {
+            (Size::U64, Value::Ptr(Region::Frame(serial), at)) => self.write_frame(
+                serial,
+                index_at(Region::Frame(serial), at, place),
+                &cells::pieces(region, offset),
+            ),
+            _ => Err(TrapReason::BadAccess),
+        }
+    }
+
+    /// ST and STX.
+    pub fn store(
+        &mut self,
+        packet: &mut [u8],
+        size: Size,
+        base: Value,
+        place: Place,
+        value: Value,
+    ) -> Result<(), TrapReason>
+        ensures kept { KeepsFrames self.old self.new }
+        ensures slot { self.new.slot ≡ self.old.slot }
+        ensures wrote { MatchResult result
+            (λ _. store (state_of self.old packet.old []) size base place.offset value ≡ Ok (state_of self.new packet.new []))
+            (λ e. (store (state_of self.old packet.old []) size base place.offset value ≡ Err e) × (self.new ≡ self.old) × (packet.new ≡ packet.old)) }
+    {
+        match value {
+            Value::Num(n) => self.store_number(packet, size, base, place, n),
+            Value::Ptr(region, offset) => self.store_pointer(size, base, place, region, offset),
+            Value::Unset => Err(TrapReason::UnsetRead),
+        }
+    }
+}

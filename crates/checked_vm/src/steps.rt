@@ -1,0 +1,185 @@
+//! One step of a program: the tests before an instruction, and the instruction.
+
+ghost use Rattle.std.specs.Prelude.{◌≡◌, ◌≢◌, ◌+◌, ◌<◌, ◌≤◌, ◌^◌, ℕ, List, [], length};
+ghost use Rattle.std.specs.List.{list_any};
+ghost use Rattle.isa_model.specs.declared.instructions.Insn.{Insn};
+ghost use Rattle.isa_model.specs.Registers.{reg_number};
+ghost use Rattle.isa_model.specs.Instructions.{Program, operand_reads, reads, writes, is_frame_pointer};
+ghost use Rattle.isa_model.specs.States.{value_at};
+ghost use Rattle.isa_model.specs.Steps.{is_unset, act, performed};
+ghost use Rattle.checked_vm.specs.Machine.{state_of, IsRunning, PerformsIn};
+ghost use Rattle.checked_vm.specs.Outcomes.{IsStep};
+
+use crate::core_state::{Core, MOST_FRAMES};
+use crate::forms::jumps::destination;
+use isa_model::{AluOp, Insn, Operand, Reg, TrapReason, Value};
+
+/// What a step came to.
+#[derive(Clone, Copy, PartialEq, Eq, Debug)]
+pub enum Stepped {
+    Went,
+    /// The last exit, with r0.
+    Ended(u64),
+    Stopped(TrapReason),
+}
+
+/// Whether an instruction writes r10.
+fn writes_frame_pointer(insn: &Insn) -> bool
+    ensures { result ≡ is_frame_pointer (writes insn.now) }
+{
+    matches!(
+        insn,
+        Insn::Alu(_, _, Reg::R10, _)
+            | Insn::Neg(_, Reg::R10)
+            | Insn::MovSx(_, Reg::R10, _)
+            | Insn::ByteSwap(_, _, Reg::R10)
+            | Insn::LoadNumber(Reg::R10, _)
+            | Insn::Load(_, Reg::R10, _)
+            | Insn::LoadSx(_, Reg::R10, _)
+            | Insn::Atomic(_, _, true, _, Reg::R10)
+            | Insn::Exchange(_, _, Reg::R10)
+    )
+}
+
+impl Core {
+    fn lacks(&self, r: Reg) -> bool
+        ensures { result ≡ is_unset (value_at self.now.regs (reg_number r)) }
+    {
+        matches!(self.value(r), Value::Unset)
+    }
+
+    fn lacks_operand(&self, source: Operand) -> bool
+        ensures { result ≡ list_any (λ r. is_unset (value_at self.now.regs (reg_number r))) (operand_reads source) }
+    {
+        match source {
+            Operand::Constant(_) => false,
+            Operand::Register(r) => self.lacks(r),
+        }
+    }
+
+    /// Whether a register that an instruction reads is unset.
+    fn reads_unset(&self, insn: &Insn) -> bool
+        ensures { result ≡ list_any (λ r. is_unset (value_at self.now.regs (reg_number r))) (reads insn.now) }
+    {
+        match *insn {
+            Insn::Alu(_, AluOp::Mov, _, source) => self.lacks_operand(source),
+            Insn::Alu(_, _, d, source) => self.lacks(d) || self.lacks_operand(source),
+            Insn::Neg(_, d) => self.lacks(d),
+            Insn::MovSx(_, _, source) => self.lacks(source),
+            Insn::ByteSwap(_, _, d) => self.lacks(d),
+            Insn::Load(_, _, place) => self.lacks(place.base),
+            Insn::LoadSx(_, _, place) => self.lacks(place.base),
+            Insn::StoreConstant(_, place, _) => self.lacks(place.base),
+            Insn::Store(_, place, source) => self.lacks(place.base) || self.lacks(source),
+            Insn::Atomic(_, _, _, place, source) => self.lacks(place.base) || self.lacks(source),
+            Insn::Exchange(_, place, source) => self.lacks(place.base) || self.lacks(source),
+            Insn::CompareExchange(_, place, source) => {
+                self.lacks(place.base) || self.lacks(source) || self.lacks(Reg::R0)
+            }
+            Insn::JumpIf(cond, _) => self.lacks(cond.register) || self.lacks_operand(cond.operand),
+            Insn::LoadNumber(_, _)
+            | Insn::Jump(_)
+            | Insn::JumpLong(_)
+            | Insn::CallLocal(_)
+            | Insn::Exit => false,
+        }
+    }
+
+    /// What an instruction other than EXIT does, once its registers are set.
+    #[tactic(auto, unfolding(isa_model::specs::Steps::act))]
+    fn act(&mut self, insn: &Insn, slots: usize, packet: &mut [u8]) -> Result<(), TrapReason>
+        requires running { IsRunning self.old }
+        requires other { insn.now ≢ Insn.Exit }
+        requires slot { self.old.slot + 2 < 2 ^ 63 }
+        requires serial { self.old.next_serial < 2 ^ 63 }
+        ensures running { IsRunning self.new }
+        ensures serial { self.new.next_serial ≤ self.old.next_serial + 1 }
+        ensures clock { self.new.clock_calls ≡ self.old.clock_calls }
+        ensures done { PerformsIn slots insn.now result self.old packet.old self.new packet.new }
+    {
+        match *insn {
+            Insn::Alu(width, op, d, source) => self.do_alu(width, op, d, source),
+            Insn::Neg(width, d) => self.do_neg(width, d),
+            Insn::MovSx(extension, d, source) => self.do_mov_sx(extension, d, source),
+            Insn::ByteSwap(order, span, d) => self.do_byte_swap(order, span, d),
+            Insn::LoadNumber(d, n) => {
+                self.set_and_go_on(d, Value::Num(n), 2);
+                Ok(())
+            }
+            Insn::Load(size, d, place) => self.do_load(packet, size, d, place),
+            Insn::LoadSx(size, d, place) => self.do_load_sx(packet, size, d, place),
+            Insn::StoreConstant(size, place, k) => self.do_store_constant(packet, size, place, k),
+            Insn::Store(size, place, source) => self.do_store(packet, size, place, source),
+            Insn::Atomic(width, op, fetched, place, source) => {
+                self.do_atomic(packet, width, op, fetched, place, source)
+            }
+            Insn::Exchange(width, place, source) => self.do_exchange(packet, width, place, source),
+            Insn::CompareExchange(width, place, source) => {
+                self.do_compare_exchange(packet, width, place, source)
+            }
+            Insn::Jump(by) => {
+                self.jump(i32::from(by), slots);
+                Ok(())
+            }
+            Insn::JumpLong(by) => {
+                self.jump(by, slots);
+                Ok(())
+            }
+            Insn::JumpIf(cond, by) => self.do_jump_if(packet, cond, by, slots),
+            Insn::CallLocal(by) => {
+                if self.depth() == MOST_FRAMES {
+                    return Err(TrapReason::TooManyFrames);
+                }
+                self.enter(destination(self.slot, by, slots));
+                Ok(())
+            }
+            Insn::Exit => unreachable!(),
+        }
+    }
+
+    /// EXIT: the first frame's ends the run, an inner one's leads back to the caller.
+    #[tactic(auto, unfolding(isa_model::specs::Steps::act))]
+    fn exit(&mut self) -> Stepped
+        requires { IsRunning self.old }
+        ensures running { IsRunning self.new }
+        ensures serial { self.new.next_serial ≡ self.old.next_serial }
+        ensures clock { self.new.clock_calls ≡ self.old.clock_calls }
+        ensures step { (packet : List ℕ) (p : Program) (clock : ℕ → ℕ) → IsStep (act p clock (state_of self.old packet []) Insn.Exit) result (state_of self.old packet []) (state_of self.new packet []) }
+    {
+        if self.depth() == 1 {
+            match self.value(Reg::R0) {
+                Value::Num(n) => Stepped::Ended(n),
+                _ => Stepped::Stopped(TrapReason::NoResult),
+            }
+        } else {
+            self.leave();
+            Stepped::Went
+        }
+    }
+
+    /// An instruction, the tests of its registers first.
+    pub fn perform(&mut self, insn: &Insn, slots: usize, packet: &mut [u8]) -> Stepped
+        requires running { IsRunning self.old }
+        requires slot { self.old.slot + 2 < 2 ^ 63 }
+        requires serial { self.old.next_serial < 2 ^ 63 }
+        ensures running { IsRunning self.new }
+        ensures serial { self.new.next_serial ≤ self.old.next_serial + 1 }
+        ensures clock { self.new.clock_calls ≡ self.old.clock_calls }
+        ensures step { (p : Program) (clock : ℕ → ℕ) → length p.insns ≡ slots →
+            IsStep (performed p clock (state_of self.old packet.old []) insn.now) result (state_of self.old packet.old []) (state_of self.new packet.new []) }
+    {
+        if self.reads_unset(insn) {
+            return Stepped::Stopped(TrapReason::UnsetRead);
+        }
+        if writes_frame_pointer(insn) {
+            return Stepped::Stopped(TrapReason::ReadOnly);
+        }
+        match insn {
+            Insn::Exit => self.exit(),
+            _ => match self.act(insn, slots, packet) {
+                Ok(()) => Stepped::Went,
+                Err(reason) => Stepped::Stopped(reason),
+            },
+        }
+    }
+}

@@ -1,0 +1,151 @@
+//! Arithmetic on values, pointers included.
+
+ghost use Rattle.std.specs.Prelude.{◌≡◌, ℕ, Ok};
+ghost use Rattle.isa_model.specs.Numbers.{low, negated, sign_extended, reordered};
+ghost use Rattle.isa_model.specs.Pointers.{moved_to, pointer_and_number, number_and_pointer, moved, combined, arithmetic, on_number};
+ghost use Rattle.isa_model.specs.Memory.{and_then};
+
+use isa_model::numbers::{compute, low_word, negate, reorder, sign_extend};
+use isa_model::{AluOp, ByteOrder, Extension, Region, Span, TrapReason, Value, Width};
+
+/// The greatest offset of a pointer, and the least one with its sign changed.
+const OFFSET_LIMIT: i128 = 0x2000_0000;
+
+/// The pointer at a new offset.
+fn moved_to(region: Region, offset: i128) -> Result<Value, TrapReason>
+    ensures { result ≡ moved_to region offset }
+{
+    match region {
+        Region::Packet | Region::Frame(_) | Region::MapValue(_, _) => {
+            if -OFFSET_LIMIT <= offset && offset <= OFFSET_LIMIT {
+                Ok(Value::Ptr(region, offset as i64))
+            } else {
+                Err(TrapReason::OutOfRange)
+            }
+        }
+        _ => Err(TrapReason::BadPointer),
+    }
+}
+
+/// A pointer on the left and a number on the right.
+fn pointer_and_number(
+    op: AluOp,
+    width: Width,
+    region: Region,
+    offset: i64,
+    n: u64,
+) -> Result<Value, TrapReason>
+    ensures { result ≡ pointer_and_number op width region offset n }
+{
+    match (op, width) {
+        (AluOp::Add, Width::Full64) => moved_to(
+            region,
+            i128::from(offset) + i128::from(n.cast_signed()),
+        ),
+        (AluOp::Sub, Width::Full64) => moved_to(
+            region,
+            i128::from(offset) - i128::from(n.cast_signed()),
+        ),
+        _ => Err(TrapReason::BadPointer),
+    }
+}
+
+/// A number on the left and a pointer on the right.
+fn number_and_pointer(
+    op: AluOp,
+    width: Width,
+    n: u64,
+    region: Region,
+    offset: i64,
+) -> Result<Value, TrapReason>
+    ensures { result ≡ number_and_pointer op width n region offset }
+{
+    match (op, width) {
+        (AluOp::Add, Width::Full64) => moved_to(
+            region,
+            i128::from(offset) + i128::from(n.cast_signed()),
+        ),
+        _ => Err(TrapReason::BadPointer),
+    }
+}
+
+/// The low bits of a number.
+pub fn low(width: Width, n: u64) -> u64
+    ensures { result ≡ low width n }
+{
+    match width {
+        Width::Low32 => u64::from(low_word(n)),
+        Width::Full64 => n,
+    }
+}
+
+/// MOV: a pointer is copied whole, at 64 bits alone.
+fn moved(width: Width, value: Value) -> Result<Value, TrapReason>
+    ensures { result ≡ moved width value }
+{
+    match (width, value) {
+        (_, Value::Num(n)) => Ok(Value::Num(low(width, n))),
+        (Width::Full64, Value::Ptr(_, _)) => Ok(value),
+        (Width::Low32, Value::Ptr(_, _)) => Err(TrapReason::BadPointer),
+        (_, Value::Unset) => Err(TrapReason::UnsetRead),
+    }
+}
+
+/// Every operation but MOV.
+fn combined(op: AluOp, width: Width, a: Value, b: Value) -> Result<Value, TrapReason>
+    ensures { result ≡ combined op width a b }
+{
+    match (a, b) {
+        (Value::Num(m), Value::Num(n)) => Ok(Value::Num(compute(op, width, m, n))),
+        (Value::Ptr(region, offset), Value::Num(n)) => {
+            pointer_and_number(op, width, region, offset, n)
+        }
+        (Value::Num(n), Value::Ptr(region, offset)) => {
+            number_and_pointer(op, width, n, region, offset)
+        }
+        (Value::Ptr(_, _), Value::Ptr(_, _)) => Err(TrapReason::BadPointer),
+        _ => Err(TrapReason::UnsetRead),
+    }
+}
+
+/// What an arithmetic instruction gives on its two operands.
+pub fn arithmetic(op: AluOp, width: Width, a: Value, b: Value) -> Result<Value, TrapReason>
+    ensures { result ≡ arithmetic op width a b }
+{
+    match op {
+        AluOp::Mov => moved(width, b),
+        _ => combined(op, width, a, b),
+    }
+}
+
+/// The number that an operation on a number alone takes.
+fn number_alone(value: Value) -> Result<u64, TrapReason>
+    ensures { (f : ℕ → ℕ) → on_number f value ≡ and_then result (λ n. Ok (Value.Num (f n))) }
+{
+    match value {
+        Value::Num(n) => Ok(n),
+        Value::Ptr(_, _) => Err(TrapReason::BadPointer),
+        Value::Unset => Err(TrapReason::UnsetRead),
+    }
+}
+
+/// NEG.
+pub fn negated(width: Width, value: Value) -> Result<Value, TrapReason>
+    ensures { result ≡ on_number (negated width) value }
+{
+    Ok(Value::Num(negate(width, number_alone(value)?)))
+}
+
+/// MOVSX.
+pub fn sign_extended(extension: Extension, value: Value) -> Result<Value, TrapReason>
+    ensures { result ≡ on_number (sign_extended extension) value }
+{
+    Ok(Value::Num(sign_extend(extension, number_alone(value)?)))
+}
+
+/// END.
+pub fn reordered(order: ByteOrder, span: Span, value: Value) -> Result<Value, TrapReason>
+    ensures { result ≡ on_number (reordered order span) value }
+{
+    Ok(Value::Num(reorder(order, span, number_alone(value)?)))
+}
