@@ -1,0 +1,142 @@
+-- Pieces that were written, one behind another, and of which one may have failed.
+use Rattle.std.proofs.Common.{◌≡◌, ℕ, zero, suc, ◌<◌, true, false, List, [], ◌∷◌, ◌++◌, length, take, Option, refl, sym, ap, ◌∙◌, subst, append-nil, append_assoc}
+use Rattle.std.specs.List.{flat_map}
+use Rattle.std.specs.Io.KnownBytes.{Appends}
+use Rattle.std.proofs.KnownBytes.{Appends-nil, Appends-trans}
+use Rattle.exact_io.specs.Transfers.{AppendsBeginning}
+use Rattle.isa_model.specs.declared.ends.End.{End}
+use Rattle.isa_model.specs.Streams.{Frame, frame_bytes}
+use Rattle.isa_model.specs.Runs.{Turn}
+use Rattle.isa_model.specs.Reports.{Piece, ToReport, ToFrames, report_bytes, frames_out, frame_line, frame_pieces, record_pieces, is_sent}
+use Rattle.host.specs.declared.errors.HostError.{HostError}
+use Rattle.host.specs.declared.errors.HostError.TheVariants as failure
+use Rattle.host.specs.Writing.{Outputs, Wrote, WroteBefore, piece_bytes, failure_of}
+
+-- what is made of the pieces of two lists in a row
+flat_map-append : {X A : Type 0} (f : X → List A) (xs ys : List X) → flat_map f (xs ++ ys) ≡ flat_map f xs ++ flat_map f ys
+flat_map-append f [] ys = refl
+flat_map-append f (x ∷ xs) ys = ap (λ l. f x ++ l) (flat_map-append f xs ys) ∙ sym (append_assoc (f x) (flat_map f xs) (flat_map f ys))
+
+take-nil : (n : ℕ) → take {A = ℕ} n [] ≡ []
+take-nil zero = refl
+take-nil (suc n) = refl
+
+-- pieces behind pieces
+pub Wrote-append : (a b c : Outputs) (p q : List Piece) → Wrote a b p → Wrote b c q → Wrote a c (p ++ q)
+Wrote-append a b c p q first second = record {
+  report = rw (flat_map-append _ p q) (Appends-trans a.report b.report c.report _ _ first.report second.report);
+  frames = rw (flat_map-append _ p q) (Appends-trans a.frames b.frames c.frames _ _ first.frames second.frames);
+}
+
+-- pieces behind pieces, of which a later one failed
+pub WroteBefore-append : (a b c : Outputs) (p q : List Piece) (e : HostError) → Wrote a b p → WroteBefore b c q e → WroteBefore a c (p ++ q) e
+WroteBefore-append a b c p q e first second = record {
+  before = p ++ second.before;
+  failed = second.failed;
+  rest = second.rest;
+  count = second.count;
+  split = ap (λ l. p ++ l) second.split ∙ sym (append_assoc p second.before (second.failed ∷ second.rest));
+  kind = second.kind;
+  short = second.short;
+  report = rw (flat_map-append _ p second.before, append_assoc) (Appends-trans a.report b.report c.report _ _ first.report second.report);
+  frames = rw (flat_map-append _ p second.before, append_assoc) (Appends-trans a.frames b.frames c.frames _ _ first.frames second.frames);
+}
+
+-- after a failure no later piece is written
+pub WroteBefore-more : (a b : Outputs) (p q : List Piece) (e : HostError) → WroteBefore a b p e → WroteBefore a b (p ++ q) e
+WroteBefore-more a b p q e w = record {
+  before = w.before;
+  failed = w.failed;
+  rest = w.rest ++ q;
+  count = w.count;
+  split = ap (λ l. l ++ q) w.split ∙ append_assoc w.before (w.failed ∷ w.rest) q;
+  kind = w.kind;
+  short = w.short;
+  report = w.report;
+  frames = w.frames;
+}
+
+-- ---- one piece
+
+pub wrote_report : (r s f : Option (List ℕ)) (bytes : List ℕ) → Appends r s bytes → Wrote (record { report = r; frames = f }) (record { report = s; frames = f }) (ToReport bytes ∷ [])
+wrote_report r s f bytes p = record { report = subst (Appends r s) (sym (append-nil bytes)) p; frames = Appends-nil f }
+
+pub wrote_frames : (r f g : Option (List ℕ)) (bytes : List ℕ) → Appends f g bytes → Wrote (record { report = r; frames = f }) (record { report = r; frames = g }) (ToFrames bytes ∷ [])
+wrote_frames r f g bytes p = record { report = Appends-nil r; frames = subst (Appends f g) (sym (append-nil bytes)) p }
+
+pub report_failed : (r s f : Option (List ℕ)) (bytes : List ℕ) (rest : List Piece) → AppendsBeginning r s bytes
+    → WroteBefore (record { report = r; frames = f }) (record { report = s; frames = f }) (ToReport bytes ∷ rest) failure.Report
+report_failed r s f bytes rest p = record {
+  before = [];
+  failed = ToReport bytes;
+  rest = rest;
+  count = p.0;
+  split = refl;
+  kind = refl;
+  short = p.1;
+  report = p.2;
+  frames = subst (Appends f f) (sym (take-nil p.0)) (Appends-nil f);
+}
+
+pub frames_failed : (r f g : Option (List ℕ)) (bytes : List ℕ) (rest : List Piece) → AppendsBeginning f g bytes
+    → WroteBefore (record { report = r; frames = f }) (record { report = r; frames = g }) (ToFrames bytes ∷ rest) failure.Frames
+frames_failed r f g bytes rest p = record {
+  before = [];
+  failed = ToFrames bytes;
+  rest = rest;
+  count = p.0;
+  split = refl;
+  kind = refl;
+  short = p.1;
+  report = subst (Appends r r) (sym (take-nil p.0)) (Appends-nil r);
+  frames = p.2;
+}
+
+-- ---- a frame's pieces, where its run ended by e and left these bytes
+
+-- the line as it was made is the turn's
+line_is : (limit number : ℕ) (frame : Frame) (t : Turn) (e : End) (line : List ℕ) → e ≡ t.ends → line ≡ frame_line limit number e (length frame.body)
+    → line ≡ frame_line limit number t.ends (length frame.body)
+line_is limit number frame t e line ended is = is ∙ ap (λ (x : End). frame_line limit number x (length frame.body)) ended
+
+-- the line failed
+pub line_failed : (r s f : Option (List ℕ)) (limit number : ℕ) (frame : Frame) (t : Turn) (e : End) (line : List ℕ) → e ≡ t.ends → line ≡ frame_line limit number e (length frame.body)
+    → AppendsBeginning r s line → WroteBefore (record { report = r; frames = f }) (record { report = s; frames = f }) (frame_pieces limit number frame t) failure.Report
+unfolding frame_pieces
+line_failed r s f limit number frame t e line ended is p =
+    report_failed r s f _ (record_pieces frame.head t) (subst (AppendsBeginning r s) (line_is limit number frame t e line ended is) p)
+
+-- the frame is not written out
+pub frame_kept : (r s f : Option (List ℕ)) (limit number : ℕ) (frame : Frame) (t : Turn) (e : End) (line : List ℕ) → e ≡ t.ends → line ≡ frame_line limit number e (length frame.body)
+    → is_sent e ≡ false → Appends r s line → Wrote (record { report = r; frames = f }) (record { report = s; frames = f }) (frame_pieces limit number frame t)
+unfolding frame_pieces
+frame_kept r s f limit number frame t e line ended is sent p =
+    let kept : is_sent t.ends ≡ false = ap is_sent (sym ended) ∙ sent in
+    rw kept (wrote_report r s f _ (subst (Appends r s) (line_is limit number frame t e line ended is) p))
+
+-- the record's bytes as they were left are the turn's
+record_is : (frame : Frame) (t : Turn) (bytes : List ℕ) → bytes ≡ t.packet
+    → frame_bytes (record { head = frame.head; body = bytes }) ≡ frame_bytes (record { head = frame.head; body = t.packet })
+record_is frame t bytes is = ap (λ l. frame_bytes (record { head = frame.head; body = l })) is
+
+-- the frame is written out behind its line
+pub frame_sent : (r s f g : Option (List ℕ)) (limit number : ℕ) (frame : Frame) (t : Turn) (e : End) (bytes line : List ℕ) → e ≡ t.ends → bytes ≡ t.packet
+    → line ≡ frame_line limit number e (length frame.body) → is_sent e ≡ true → Appends r s line → Appends f g (frame_bytes (record { head = frame.head; body = bytes }))
+    → Wrote (record { report = r; frames = f }) (record { report = s; frames = g }) (frame_pieces limit number frame t)
+unfolding frame_pieces
+frame_sent r s f g limit number frame t e bytes line ended left is sent p q =
+    let goes_out : is_sent t.ends ≡ true = ap is_sent (sym ended) ∙ sent in
+    rw goes_out (Wrote-append _ _ _ (ToReport _ ∷ []) (ToFrames _ ∷ [])
+    (wrote_report r s f _ (subst (Appends r s) (line_is limit number frame t e line ended is) p))
+    (wrote_frames s f g _ (subst (Appends f g) (record_is frame t bytes left) q)))
+
+-- the record failed behind the line
+pub record_failed : (r s f g : Option (List ℕ)) (limit number : ℕ) (frame : Frame) (t : Turn) (e : End) (bytes line : List ℕ) → e ≡ t.ends → bytes ≡ t.packet
+    → line ≡ frame_line limit number e (length frame.body) → is_sent e ≡ true → Appends r s line → AppendsBeginning f g (frame_bytes (record { head = frame.head; body = bytes }))
+    → WroteBefore (record { report = r; frames = f }) (record { report = s; frames = g }) (frame_pieces limit number frame t) failure.Frames
+unfolding frame_pieces
+record_failed r s f g limit number frame t e bytes line ended left is sent p q =
+    let goes_out : is_sent t.ends ≡ true = ap is_sent (sym ended) ∙ sent in
+    rw goes_out (WroteBefore-append _ _ _ (ToReport _ ∷ []) (ToFrames _ ∷ []) _
+    (wrote_report r s f _ (subst (Appends r s) (line_is limit number frame t e line ended is) p))
+    (frames_failed s f g _ [] (subst (AppendsBeginning f g) (record_is frame t bytes left) q)))

@@ -1,0 +1,154 @@
+-- One turn more, and the ends of a run over a stream.
+use Rattle.std.proofs.Common.{◌≡◌, ℕ, suc, ◌+◌, List, [], ◌∷◌, ◌++◌, length, Option, None, Some, IfSome, Result, Ok, Err, OnOk, OnErr, IfOk, IfErr, MatchResult, refl, sym, ap, ◌∙◌, subst, append_assoc, append-nil, length-append, add-zero, zero-add, arith}
+use Rattle.std.specs.Io.KnownBytes.{Appends}
+use Rattle.exact_io.specs.Transfers.{AppendsBeginning}
+use Rattle.isa_model.specs.declared.map_defs.MapDef.{MapDef}
+use Rattle.isa_model.specs.declared.streams.Finish.{Finish}
+use Rattle.isa_model.specs.States.{Entries}
+use Rattle.isa_model.specs.Streams.{Frame, magic, Input, ByEnd, Position, Fresh, number_of, IsOpen, stream_of}
+use Rattle.isa_model.specs.Reports.{Piece, Rule, ToReport, ToFrames, turns_pieces, contents_after, frame_pieces, maps_pieces, last_line, report_of}
+use Rattle.frames.specs.Reading.{Found, Stopped, Reads, next_position}
+use Rattle.frames.specs.Inputs.{HasFound, HasFound-fresh, HasFound-next, HasFound-count, HasFound-begins, HasFound-stops, Hears-whole}
+use Rattle.host.specs.declared.errors.HostError.{HostError}
+use Rattle.host.specs.declared.errors.HostError.TheVariants as failure
+use Rattle.host.specs.declared.tallies.Tally.{Tally}
+use Rattle.host.specs.Tallies.{tally_of}
+use Rattle.host.specs.Writing.{Outputs, Wrote, WroteBefore, Writes}
+use Rattle.host.specs.Reported.{Reports}
+use Rattle.host.proofs.Pieces.{Wrote-append, WroteBefore-append, WroteBefore-more, wrote_report, wrote_frames, report_failed, frames_failed}
+use Rattle.host.proofs.SoFar.{SoFar}
+
+-- ---- frames in a row
+
+-- the pieces of frames, and of those behind them
+turns_pieces-append : (limit : ℕ) (rule : Rule) (n : ℕ) (c : List Entries) (fs gs : List Frame)
+    → turns_pieces limit rule n c (fs ++ gs) ≡ turns_pieces limit rule n c fs ++ turns_pieces limit rule (n + length fs) (contents_after rule c fs) gs
+turns_pieces-append limit rule n c [] gs = ap (λ m. turns_pieces limit rule m c gs) (sym (add-zero n))
+turns_pieces-append limit rule n c (f ∷ fs) gs =
+    let next = (rule f.head f.body c).contents in
+    let front = frame_pieces limit n f (rule f.head f.body c) in
+    let same : (n + 1) + length fs ≡ n + suc (length fs) = omega arith in
+    ap (λ l. front ++ l) (turns_pieces-append limit rule (n + 1) next fs gs ∙ ap (λ m. turns_pieces limit rule (n + 1) next fs ++ turns_pieces limit rule m (contents_after rule next fs) gs) same)
+    ∙ sym (append_assoc front (turns_pieces limit rule (n + 1) next fs) (turns_pieces limit rule (n + suc (length fs)) (contents_after rule next fs) gs))
+
+-- the contents after frames and those behind them
+contents_after-append : (rule : Rule) (c : List Entries) (fs gs : List Frame) → contents_after rule c (fs ++ gs) ≡ contents_after rule (contents_after rule c fs) gs
+contents_after-append rule c [] gs = refl
+contents_after-append rule c (f ∷ fs) gs = contents_after-append rule (rule f.head f.body c).contents fs gs
+
+-- ---- a turn
+
+-- the number of a frame is how many were run before it
+count_of : (frames : List Frame) (old known : Option (List ℕ)) (p : Position) (number limit : ℕ) (rule : Rule) (start contents : List Entries) (before now : Outputs)
+    → SoFar frames old known p number limit rule start contents before now → number ≡ length frames
+count_of frames old known p number limit rule start contents before now s = s.numbered ∙ HasFound-count frames old known p s.found
+
+-- the pieces so far and those of one more frame
+turn_pieces : (frames : List Frame) (f : Frame) (number limit : ℕ) (rule : Rule) (start contents : List Entries) → number ≡ length frames → contents ≡ contents_after rule start frames
+    → (ToFrames magic ∷ turns_pieces limit rule 0 start frames) ++ frame_pieces limit number f (rule f.head f.body contents) ≡ ToFrames magic ∷ turns_pieces limit rule 0 start (frames ++ f ∷ [])
+turn_pieces frames f number limit rule start contents n m =
+    ap (λ l. ToFrames magic ∷ l) (
+    ap (λ (x : List Entries). turns_pieces limit rule 0 start frames ++ frame_pieces limit number f (rule f.head f.body x)) m
+    ∙ ap (λ k. turns_pieces limit rule 0 start frames ++ frame_pieces limit k f (rule f.head f.body (contents_after rule start frames))) (n ∙ sym (zero-add (length frames)))
+    ∙ ap (λ l. turns_pieces limit rule 0 start frames ++ l) (sym (append-nil _))
+    ∙ sym (turns_pieces-append limit rule 0 start frames (f ∷ [])))
+
+-- before the first turn, once the magic is written
+pub no_turn : (old known : Option (List ℕ)) (p : Position) (limit : ℕ) (rule : Rule) (start : List Entries) (r f g : Option (List ℕ)) → p ≡ Fresh → known ≡ old → Appends f g magic
+    → SoFar [] old known p 0 limit rule start start (record { report = r; frames = f }) (record { report = r; frames = g })
+no_turn old known p limit rule start r f g fresh same w = record {
+  found = subst (λ (k : Option (List ℕ)). HasFound [] old k p) (sym same) (subst (λ (x : Position). HasFound [] old old x) (sym fresh) (HasFound-fresh old));
+  numbered = sym (ap number_of fresh);
+  wrote = wrote_frames r f g magic w;
+  carried = refl;
+}
+
+-- one more frame was found and run, and its pieces were written
+pub turn_more : (frames : List Frame) (old known new : Option (List ℕ)) (p q : Position) (number limit : ℕ) (rule : Rule) (start contents contents' : List Entries) (before now after : Outputs) (f : Frame)
+    → SoFar frames old known p number limit rule start contents before now → Reads p known new (Found f) → IsOpen p f → q ≡ next_position p (Found f)
+    → Wrote now after (frame_pieces limit number f (rule f.head f.body contents)) → contents' ≡ (rule f.head f.body contents).contents
+    → SoFar (frames ++ f ∷ []) old new q (number + 1) limit rule start contents' before after
+turn_more frames old known new p q number limit rule start contents contents' before now after f s r ok moved w c =
+    let count = count_of frames old known p number limit rule start contents before now s in
+    let found : HasFound (frames ++ f ∷ []) old new q = subst (HasFound (frames ++ f ∷ []) old new) (sym moved) (HasFound-next frames old known new p f s.found r ok) in
+    let more = HasFound-count (frames ++ f ∷ []) old new q found in
+    record {
+      found = found;
+      numbered = omega (arith, length-append frames (f ∷ []), count, more);
+      wrote = subst (Wrote before after) (turn_pieces frames f number limit rule start contents count s.carried) (Wrote-append before now after _ _ s.wrote w);
+      carried = c ∙ ap (λ (x : List Entries). (rule f.head f.body x).contents) s.carried ∙ sym (contents_after-append rule start frames (f ∷ []));
+    }
+
+-- ---- the ends of a run
+
+-- the magic failed
+pub magic_failed : (known : Option (List ℕ)) (limit : ℕ) (rows : List MapDef) (rule : Rule) (start : List Entries) (r f g : Option (List ℕ)) → AppendsBeginning f g magic
+    → IfSome known (λ bytes. Reports bytes (λ input. report_of limit rows rule start (stream_of input)) (record { report = r; frames = f }) (record { report = r; frames = g }) (Err failure.Frames))
+magic_failed None limit rows rule start r f g p = tt
+magic_failed (Some bytes) limit rows rule start r f g p = record {
+  input = record { bytes = bytes; ending = ByEnd };
+  hears = Hears-whole bytes;
+  writes = frames_failed r f g magic _ p;
+  tells = tt;
+}
+
+-- a turn's piece failed
+pub turn_failed : (frames : List Frame) (old known new : Option (List ℕ)) (p : Position) (number limit : ℕ) (rows : List MapDef) (rule : Rule) (start contents : List Entries) (before now after : Outputs) (f : Frame) (error : HostError)
+    → SoFar frames old known p number limit rule start contents before now → Reads p known new (Found f) → IsOpen p f
+    → WroteBefore now after (frame_pieces limit number f (rule f.head f.body contents)) error
+    → IfSome old (λ bytes. Reports bytes (λ input. report_of limit rows rule start (stream_of input)) before after (Err error))
+turn_failed frames None known new p number limit rows rule start contents before now after f error s r ok w = tt
+turn_failed frames (Some bytes) known new p number limit rows rule start contents before now after f error s r ok w =
+    let all = frames ++ f ∷ [] in
+    let (more, stop, same) = HasFound-begins all bytes new _ (HasFound-next frames (Some bytes) known new p f s.found r ok) in
+    let count = count_of frames (Some bytes) known p number limit rule start contents before now s in
+    let front = ToFrames magic ∷ turns_pieces limit rule 0 start frames in
+    let turn = frame_pieces limit number f (rule f.head f.body contents) in
+    let done = turns_pieces limit rule 0 start all in
+    let next = turns_pieces limit rule (0 + length all) (contents_after rule start all) more in
+    let last = maps_pieces 0 rows (contents_after rule start (all ++ more)) ++ ToReport (last_line (length (all ++ more)) stop) ∷ [] in
+    let whole : (front ++ turn) ++ (next ++ last) ≡ report_of limit rows rule start (all ++ more, stop) =
+    ap (λ l. l ++ (next ++ last)) (turn_pieces frames f number limit rule start contents count s.carried)
+    ∙ sym (append_assoc (ToFrames magic ∷ done) next last)
+    ∙ ap (λ l. (ToFrames magic ∷ l) ++ last) (sym (turns_pieces-append limit rule 0 start all more)) in
+    record {
+      input = record { bytes = bytes; ending = ByEnd };
+      hears = Hears-whole bytes;
+      writes = subst (λ (x : List Frame × Finish). WroteBefore before after (report_of limit rows rule start x) error) (sym same)
+          (subst (λ (l : List Piece). WroteBefore before after l error) whole
+          (WroteBefore-more before after (front ++ turn) _ error (WroteBefore-append before now after front turn error s.wrote w)));
+      tells = tt;
+    }
+
+-- the last line was written, or failed
+last_written : (front : List Piece) (before : Outputs) (r s g : Option (List ℕ)) (number count : ℕ) (stop : Finish) (result : Result Tally HostError) → number ≡ count
+    → Wrote before (record { report = r; frames = g }) front
+    → OnOk result (Appends r s (last_line number stop)) → OnErr result (AppendsBeginning r s (last_line number stop)) → IfErr result (λ e. e ≡ failure.Report)
+    → Writes before (record { report = s; frames = g }) result (front ++ ToReport (last_line count stop) ∷ [])
+last_written front before r s g number count stop (Ok tally) n w ok err kind =
+    rw (← n) (Wrote-append before _ _ front _ w (wrote_report r s g (last_line number stop) ok))
+last_written front before r s g number count stop (Err e) n w ok err kind =
+    rw (← n, kind) (WroteBefore-append before _ _ front _ failure.Report w (report_failed r s g (last_line number stop) [] err))
+
+-- the stream stopped, and the last line was written, or failed
+pub run_ended : (frames : List Frame) (old known new : Option (List ℕ)) (p : Position) (number limit : ℕ) (rows : List MapDef) (rule : Rule) (start contents : List Entries) (before : Outputs) (r s g : Option (List ℕ)) (stop : Finish) (result : Result Tally HostError)
+    → rows ≡ [] → SoFar frames old known p number limit rule start contents before (record { report = r; frames = g }) → Reads p known new (Stopped stop)
+    → OnOk result (Appends r s (last_line number stop)) → OnErr result (AppendsBeginning r s (last_line number stop)) → IfErr result (λ e. e ≡ failure.Report)
+    → IfOk result (λ tally. tally ≡ tally_of number stop)
+    → IfSome old (λ bytes. Reports bytes (λ input. report_of limit rows rule start (stream_of input)) before (record { report = s; frames = g }) result)
+run_ended frames None known new p number limit rows rule start contents before r s g stop result none so h ok err kind tally = tt
+run_ended frames (Some bytes) known new p number limit rows rule start contents before r s g stop result none so h ok err kind tally =
+    let (input, hears, same) = HasFound-stops frames bytes known new p stop so.found h in
+    let count = count_of frames (Some bytes) known p number limit rule start contents before (record { report = r; frames = g }) so in
+    let no_lines : [] ≡ maps_pieces 0 rows (contents_after rule start frames) = ap (λ (x : List MapDef). maps_pieces 0 x (contents_after rule start frames)) (sym none) in
+    let front = ToFrames magic ∷ turns_pieces limit rule 0 start frames in
+    let last = ToReport (last_line (length frames) stop) ∷ [] in
+    record {
+      input = input;
+      hears = hears;
+      writes = subst (λ (x : List Frame × Finish). Writes before (record { report = s; frames = g }) result (report_of limit rows rule start x)) (sym same)
+          (subst (λ (l : List Piece). Writes before (record { report = s; frames = g }) result (front ++ (l ++ last))) no_lines
+          (last_written front before r s g number (length frames) stop result count so.wrote ok err kind));
+      tells = subst (λ (x : List Frame × Finish). IfOk result (λ t. t ≡ tally_of (length x.0) x.1)) (sym same)
+          (subst (λ (n : ℕ). IfOk result (λ t. t ≡ tally_of n stop)) count tally);
+    }

@@ -1,0 +1,42 @@
+-- What two outputs hold after the pieces of a report were written to them in order, also where one of them failed.
+use Rattle.std.specs.Prelude.{◌≡◌, ℕ, ◌<◌, List, ◌∷◌, ◌++◌, length, take, Option, Result, MatchResult}
+use Rattle.std.specs.Io.KnownBytes.{Appends}
+use Rattle.isa_model.specs.Reports.{Piece, ToReport, ToFrames, report_part, frames_part, report_bytes, frames_out}
+use Rattle.host.specs.declared.errors.HostError.{HostError}
+use Rattle.host.specs.declared.errors.HostError.TheVariants as failure
+
+-- what the report and the frames out hold, where their writers tell
+pub record Outputs : Type 0 where
+  pub report : Option (List ℕ)
+  pub frames : Option (List ℕ)
+
+-- the outputs grew by all of the pieces
+pub record Wrote (old new : Outputs) (pieces : List Piece) : Type 0 where
+  pub report : Appends old.report new.report (report_bytes pieces)
+  pub frames : Appends old.frames new.frames (frames_out pieces)
+
+abbrev pub piece_bytes : Piece → List ℕ
+piece_bytes (ToReport bytes) = bytes
+piece_bytes (ToFrames bytes) = bytes
+
+-- which error tells of a piece that failed
+abbrev pub failure_of : Piece → HostError
+failure_of (ToReport bytes) = failure.Report
+failure_of (ToFrames bytes) = failure.Frames
+
+-- The outputs grew by the pieces before one that failed, and of that one by a beginning that is shorter than it;
+-- neither output has anything more.
+pub record WroteBefore (old new : Outputs) (pieces : List Piece) (error : HostError) : Type 0 where
+  pub before : List Piece
+  pub failed : Piece
+  pub rest : List Piece
+  pub count : ℕ
+  pub split : pieces ≡ before ++ failed ∷ rest
+  pub kind : error ≡ failure_of failed
+  pub short : count < length (piece_bytes failed)
+  pub report : Appends old.report new.report (report_bytes before ++ take count (report_part failed))
+  pub frames : Appends old.frames new.frames (frames_out before ++ take count (frames_part failed))
+
+-- all of the pieces were written, or those before one that failed
+abbrev pub Writes : {X : Type 0} → Outputs → Outputs → Result X HostError → List Piece → Type 0
+Writes old new result pieces = MatchResult result (λ _. Wrote old new pieces) (λ error. WroteBefore old new pieces error)

@@ -1,0 +1,13 @@
+//! What a whole run comes to.
+
+use isa_model::Fault;
+
+/// What a report's last line shows.
+#[derive(Clone, Copy, PartialEq, Eq, Debug)]
+pub struct Tally {
+    /// How many frames were run.
+    pub frames: u32,
+    /// The fault that ended the stream, and the offset in bytes of the record in which it was found; `None` at the
+    /// stream's end.
+    pub fault: Option<(Fault, u64)>,
+}
