@@ -1,5 +1,5 @@
 -- What reads and writes of the packet come to.
-use Rattle.std.proofs.Common.{◌≡◌, ℕ, true, List, [], map, take, drop, Result, Ok, Some, ◌+◌, ◌-◌, ◌≤◌, leb, length, ◌++◌, arith}
+use Rattle.std.proofs.Common.{◌≡◌, ℕ, true, List, [], map, take, drop, Result, Ok, Some, ◌+◌, ◌-◌, ◌≤◌, leb, length, arith}
 use Rattle.std.proofs.lemmas.List.{length-map, drop-drop}
 use Rattle.std.proofs.lemmas.Bool.{le-leb}
 use borrow.Rule.Slice.PartMut.{put_mid}

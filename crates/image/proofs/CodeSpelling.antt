@@ -105,9 +105,9 @@ code_from-found laws (suc n) false slot bytes xs small len room e =
     let more = code_from-found laws n (is_wide a.0) (slot + 1) (drop 8 bytes) b.0 (AreBytes-drop 8 bytes small) (omega (arith, length-drop 8 bytes)) (has_half a.0 n long) b.1 in
     subst (λ (ys : Slots). IsReadFrom (suc n) false bytes ys) (ok_is (Some a.0 ∷ b.0) xs b.2) (record {
       spelled =
-        ap (λ l. spelling_of a.0 ++ l) (more.spelled ∙ after a.0 bytes)
-        ∙ ap (λ l. l ++ drop (8 * slots_of a.0) bytes) (sym spelled)
-        ∙ take-append-drop (8 * slots_of a.0) bytes;
+          ap (λ l. spelling_of a.0 ++ l) (more.spelled ∙ after a.0 bytes)
+          ∙ ap (λ l. l ++ drop (8 * slots_of a.0) bytes) (sym spelled)
+          ∙ take-append-drop (8 * slots_of a.0) bytes;
       count = ap suc more.count;
       code = (laws.fits bytes a.0 small read, more.code);
     })

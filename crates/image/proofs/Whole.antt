@@ -138,9 +138,9 @@ code_read-found laws bytes xs small s e =
     let found = code_from-found laws n false 0 (drop 8 bytes) xs (AreBytes-drop 8 bytes small) (omega (arith, s.whole, length-drop 8 bytes)) tt read in
     record {
       spelled =
-        sym (take-append-drop 8 bytes)
-        ∙ ap (λ (l : List ℕ). l ++ drop 8 bytes) (sym (head_spelled bytes (length xs) small s found.count))
-        ∙ ap (λ (l : List ℕ). (magic ++ (little_bytes 2 0 ++ little_bytes 2 (length xs))) ++ l) (sym found.spelled);
+          sym (take-append-drop 8 bytes)
+          ∙ ap (λ (l : List ℕ). l ++ drop 8 bytes) (sym (head_spelled bytes (length xs) small s found.count))
+          ∙ ap (λ (l : List ℕ). (magic ++ (little_bytes 2 0 ++ little_bytes 2 (length xs))) ++ l) (sym found.spelled);
       image = record {
         few_maps = omega arith;
         rows = All-nil IsRow;

@@ -1,3 +1,4 @@
 pub mod Images
 pub mod Refusals
+pub mod ImageLaws
 pub mod Programs

@@ -70,7 +70,10 @@ impl Image {
         ensures err { OnErr result
             (AppendsBeginning (W.contents writer.old) (W.contents writer.new) (image_bytes self.now)) }
     {
-        write_bytes(writer, &head_of(self.maps.len() as u16, self.slots.len() as u16))?;
+        write_bytes(
+            writer,
+            &head_of(self.maps.len() as u16, self.slots.len() as u16),
+        )?;
         write_code(writer, &self.slots)
     }
 

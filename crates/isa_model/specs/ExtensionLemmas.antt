@@ -1,5 +1,5 @@
 -- Lemmas about sign extension: its sizes in numbers, where it changes nothing, and how a sum and a difference make it.
-use Rattle.std.proofs.Common.{inl, inr, ◌≡◌, ℕ, ◌+◌, ◌-◌, ◌*◌, ◌%◌, ◌^◌, ◌<◌, ◌≤◌, refl, sym, ap, ◌∙◌, arith, Bool, true, false, cond, w32, w64}
+use Rattle.std.proofs.Common.{inl, inr, ◌≡◌, ◌⊎◌, ℕ, ◌+◌, ◌-◌, ◌*◌, ◌%◌, ◌^◌, ◌<◌, ◌≤◌, refl, sym, ap, ◌∙◌, arith, Bool, true, false, cond, w32, w64}
 use Rattle.std.specs.Prelude.{nat_lt}
 use Rattle.std.specs.Int.{Width as IntWidth, w8, w16, cast_signed, cast_unsigned}
 use mir.Val.{bits, hbits}
@@ -46,6 +46,9 @@ extended_below N K H y y_in fits =
 extended_small : (N K H y : ℕ) → y < H → extended N K H y ≡ y
 extended_small N K H y lt = rw (lt-ltb y H lt)
 
+extended_large : (N K H y : ℕ) → H ≤ y → extended N K H y ≡ y + (N - K)
+extended_large N K H y ge = rw (le-ltb y H ge)
+
 extended_64 : (y K H : ℕ) → K ≡ H + H → 0 < H → K ≤ 2 ^ 64 → y < K → ((y + H) % K + (2 ^ 64 - H)) % 2 ^ 64 ≡ extended (2 ^ 64) K H y
 extended_64 y K H e h fits y_in =
     elim (cases_lt y H) [
@@ -85,7 +88,8 @@ extension_is Full8 x H e = let f : H ≡ 2 ^ 7 = omega arith in rw f (read_exten
 extension_is Full16 x H e = let f : H ≡ 2 ^ 15 = omega arith in rw f (read_extended w64 w16 (x % 2 ^ 16) (omega arith) (omega arith))
 extension_is Full32 x H e = let f : H ≡ 2 ^ 31 = omega arith in rw f (read_extended w64 w32 (x % 2 ^ 32) (omega arith) (omega arith))
 
-extension_fits : (e : Extension) → 2 ^ extension_bits e ≤ 2 ^ 32
+-- at most 32 bits are read
+pub extension_fits : (e : Extension) → 2 ^ extension_bits e ≤ 2 ^ 32
 extension_fits Low8 = omega arith
 extension_fits Low16 = omega arith
 extension_fits Full8 = omega arith
@@ -122,6 +126,17 @@ pub sign_extended-small : (e : Extension) (x h : ℕ) → h + h ≡ 2 ^ extensio
 sign_extended-small e x h twice x_in =
     let same : x % 2 ^ extension_bits e ≡ x = mod-eq_of_lt {n = x} {m = 2 ^ extension_bits e} (omega arith) in
     extension_is e x h twice ∙ rw same (extended_small _ _ h x x_in)
+
+-- below the half it is the low bits, above it the low bits with ones before them
+pub sign_extended_cases : (e : Extension) (x h : ℕ) → h + h ≡ 2 ^ extension_bits e
+    → ((x % 2 ^ extension_bits e < h) × (sign_extended e x ≡ x % 2 ^ extension_bits e))
+    ⊎ ((h ≤ x % 2 ^ extension_bits e) × (sign_extended e x ≡ x % 2 ^ extension_bits e + (2 ^ width_bits (extension_width e) - 2 ^ extension_bits e)))
+sign_extended_cases e x h twice =
+    let y = x % 2 ^ extension_bits e in
+    elim (cases_lt y h) [
+      | inl lt ↦ inl (lt, extension_is e x h twice ∙ extended_small _ _ h y lt)
+      | inr ge ↦ inr (ge, extension_is e x h twice ∙ extended_large _ _ h y ge)
+    ]
 
 -- half the size is added and taken away again, and the borrow fills the upper bits
 pub sign_extended-sum : (e : Extension) (x h : ℕ) → h + h ≡ 2 ^ extension_bits e

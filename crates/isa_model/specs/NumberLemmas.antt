@@ -19,7 +19,7 @@ use Rattle.isa_model.specs.declared.sizes.ByteOrder.TheVariants.{Little, Big, Sw
 use Rattle.isa_model.specs.declared.instructions.AluOp.{AluOp}
 use Rattle.isa_model.specs.declared.instructions.AluOp.TheVariants.{Add, Sub, Mul, Div, SignedDiv, Or, And, Lsh, Rsh, Mod, SignedMod, Xor, Mov, Arsh}
 use Rattle.isa_model.specs.Sizes.{width_bits, span_bits}
-use Rattle.isa_model.specs.Numbers.{low, alu, shift, sign_extended, swapped, reordered}
+use Rattle.isa_model.specs.Numbers.{low, alu, result_of, shift, sign_extended, swapped, reordered}
 
 -- ---- widths
 
@@ -32,6 +32,11 @@ pub span_fits : (span : Span) → 2 ^ span_bits span ≤ 2 ^ 64
 span_fits B16 = omega arith
 span_fits B32 = omega arith
 span_fits B64 = omega arith
+
+-- no width is wider than a register
+pub width_most : (w : Width) → width_bits w ≤ 64
+width_most Low32 = omega arith
+width_most Full64 = omega arith
 
 -- no width is empty
 pub width_positive : (w : Width) → 0 < width_bits w
@@ -77,6 +82,11 @@ shifted_in : (w : IntWidth) (a : ℤ) (k : ℕ) → 2 ^ bits w ≡ 2 * 2 ^ hbits
 shifted_in w (pos a) k e h = let l = div-le_self a k in omega arith
 shifted_in w (negsuc a) k e h = let p = pow_pos (bits w) in omega arith
 
+-- a shift that keeps the sign keeps the width
+pub arithmetic_shift_below : (w : Width) (x b : ℕ) → x < 2 ^ width_bits w → result_of Arsh w x b < 2 ^ width_bits w
+arithmetic_shift_below Low32 x b h = shifted_in w32 _ (2 ^ shift Low32 b) refl (magnitude_in w32 x refl h)
+arithmetic_shift_below Full64 x b h = shifted_in w64 _ (2 ^ shift Full64 b) refl (magnitude_in w64 x refl h)
+
 -- what an operation gives is a number of the width
 pub alu_below : (op : AluOp) (w : Width) (x y : ℕ) → alu op w x y < 2 ^ width_bits w
 unfolding alu
@@ -115,8 +125,7 @@ alu_below SignedMod Full64 x y =
     cond_below (nat_eq (low Full64 y) 0) _ _ _ (low_below Full64 x) (remainder_in w64 _ (cast_signed w64 (low Full64 y)) refl m)
 alu_below Xor w x y = xor_lt (width_bits w) _ _ (low_below w x) (low_below w y)
 alu_below Mov w x y = low_below w y
-alu_below Arsh Low32 x y = shifted_in w32 _ (2 ^ shift Low32 (low Low32 y)) refl (magnitude_in w32 (low Low32 x) refl (low_below Low32 x))
-alu_below Arsh Full64 x y = shifted_in w64 _ (2 ^ shift Full64 (low Full64 y)) refl (magnitude_in w64 (low Full64 x) refl (low_below Full64 x))
+alu_below Arsh w x y = arithmetic_shift_below w (low w x) (low w y) (low_below w x)
 
 -- so it fits a register
 pub alu_fits : (op : AluOp) (w : Width) (x y : ℕ) → alu op w x y < 2 ^ 64

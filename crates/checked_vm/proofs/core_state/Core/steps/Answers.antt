@@ -1,8 +1,7 @@
-use Rattle.std.proofs.Common.{◌+◌, refl, sym, ap, ◌∙◌, arith, rules}
+use Rattle.std.proofs.Common.{◌+◌, refl, sym, ap, ◌∙◌, arith}
 use Rattle.isa_model.specs.declared.ends.End.TheVariants.{Exit, Trap}
 use Rattle.isa_model.specs.Runs.{left}
 use Rattle.isa_model.specs.RunLaws.{progress-zero}
-use Rattle.checked_vm.specs.Machine.{state_of}
 use Rattle.checked_vm.proofs.Turns.{progress-next, turn_of-finished, turn_of-trapped}
 use Rattle.checked_vm.proofs.core_state.Core.steps.Goals as goal
 

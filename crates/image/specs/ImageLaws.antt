@@ -1,0 +1,126 @@
+-- What holds of each slot of an image's program.
+use Rattle.std.proofs.Common.{◌≡◌, ℕ, zero, suc, ◌+◌, ◌<◌, Bool, true, false, List, [], ◌∷◌, length, Option, Some, None, refl, sym, ap, ◌∙◌, subst, inl, inr, arith}
+use Rattle.std.specs.Prelude.{slice_get, ◌⊎◌}
+use Rattle.std.specs.Option.{option_flatten}
+use Rattle.isa_model.specs.declared.instructions.Insn.{Insn}
+use Rattle.isa_model.specs.declared.instructions.Insn.TheVariants.{LoadNumber}
+use Rattle.isa_model.specs.Instructions.{Program, fetch, slots_of}
+use Rattle.isa_model.specs.Spelling.{InsnFits}
+use Rattle.image.specs.Images.{IsCode, is_wide, IsImage}
+
+-- ---- code, slot by slot
+
+-- the instruction that begins at a slot of code
+abbrev insn_in : List (Option Insn) → ℕ → Option Insn
+insn_in xs k = option_flatten (slice_get xs k)
+
+same_insn : (i j : Insn) → Some i ≡ Some j → i ≡ j
+same_insn i j e = cc
+
+InsnFits-insn_in : (xs : List (Option Insn)) (half : Bool) (k : ℕ) (i : Insn) → IsCode half xs → insn_in xs k ≡ Some i → InsnFits i
+InsnFits-insn_in [] half k i h e = absurd cc
+InsnFits-insn_in (None ∷ xs) true zero i h e = absurd cc
+InsnFits-insn_in (None ∷ xs) true (suc k) i h e = InsnFits-insn_in xs false k i h e
+InsnFits-insn_in (Some j ∷ xs) true k i h e = absurd h
+InsnFits-insn_in (None ∷ xs) false k i h e = absurd h
+InsnFits-insn_in (Some j ∷ xs) false zero i h e = subst InsnFits (same_insn j i e) h.0
+InsnFits-insn_in (Some j ∷ xs) false (suc k) i h e = InsnFits-insn_in xs (is_wide j) k i h.1 e
+
+-- code ends there, or an instruction begins there
+abbrev EndsOrBegins : List (Option Insn) → ℕ → Type 0
+EndsOrBegins xs n = (n ≡ length xs) ⊎ ((j : Insn) × (insn_in xs n ≡ Some j))
+
+one_on : (x : Option Insn) (xs : List (Option Insn)) (m n : ℕ) → n ≡ suc m → EndsOrBegins xs m → EndsOrBegins (x ∷ xs) n
+one_on x xs m n e (inl h) = inl (e ∙ ap suc h)
+one_on x xs m n e (inr (j, h)) = inr (j, ap (insn_in (x ∷ xs)) e ∙ h)
+
+at_front : (xs : List (Option Insn)) → IsCode false xs → EndsOrBegins xs 0
+at_front [] h = inl refl
+at_front (None ∷ xs) h = absurd h
+at_front (Some j ∷ xs) h = inr (j, refl)
+
+behind_first : (i : Insn) (xs : List (Option Insn)) → IsCode (is_wide i) xs → EndsOrBegins (Some i ∷ xs) (slots_of i)
+behind_first (LoadNumber d n) [] h = absurd cc
+behind_first (LoadNumber d n) (None ∷ xs) h = one_on (Some (LoadNumber d n)) (None ∷ xs) 1 2 refl (one_on None xs 0 1 refl (at_front xs h))
+behind_first (LoadNumber d n) (Some j ∷ xs) h = absurd h
+behind_first i xs h = one_on (Some i) xs 0 1 refl (at_front xs h)
+
+behind : (xs : List (Option Insn)) (half : Bool) (k : ℕ) (i : Insn) → IsCode half xs → insn_in xs k ≡ Some i → EndsOrBegins xs (k + slots_of i)
+behind [] half k i h e = absurd cc
+behind (None ∷ xs) true zero i h e = absurd cc
+behind (None ∷ xs) true (suc k) i h e = one_on None xs (k + slots_of i) (suc k + slots_of i) (omega arith) (behind xs false k i h e)
+behind (Some j ∷ xs) true k i h e = absurd h
+behind (None ∷ xs) false k i h e = absurd h
+behind (Some j ∷ xs) false zero i h e =
+    let n : slots_of j ≡ 0 + slots_of i = ap slots_of (same_insn j i e) ∙ omega arith in
+    subst (EndsOrBegins (Some j ∷ xs)) n (behind_first j xs h.1)
+behind (Some j ∷ xs) false (suc k) i h e = one_on (Some j) xs (k + slots_of i) (suc k + slots_of i) (omega arith) (behind xs (is_wide j) k i h.1 e)
+
+-- a slot of code at which no instruction begins
+abbrev IsSecond : List (Option Insn) → ℕ → Type 0
+IsSecond xs n = (n < length xs) × (insn_in xs n ≡ None)
+
+one_further : (x : Option Insn) (xs : List (Option Insn)) (m n : ℕ) → n ≡ suc m → IsSecond xs m → IsSecond (x ∷ xs) n
+one_further x xs m n e h = (omega (arith, h.0), ap (insn_in (x ∷ xs)) e ∙ h.1)
+
+second_of_first : (i : Insn) (xs : List (Option Insn)) → IsCode (is_wide i) xs → slots_of i ≡ 2 → IsSecond (Some i ∷ xs) 1
+second_of_first (LoadNumber d n) [] h w = absurd cc
+second_of_first (LoadNumber d n) (None ∷ xs) h w = (omega arith, refl)
+second_of_first (LoadNumber d n) (Some j ∷ xs) h w = absurd h
+second_of_first i xs h w = absurd (omega arith)
+
+second_of : (xs : List (Option Insn)) (half : Bool) (k : ℕ) (i : Insn) → IsCode half xs → insn_in xs k ≡ Some i → slots_of i ≡ 2 → IsSecond xs (k + 1)
+second_of [] half k i h e w = absurd cc
+second_of (None ∷ xs) true zero i h e w = absurd cc
+second_of (None ∷ xs) true (suc k) i h e w = one_further None xs (k + 1) (suc k + 1) (omega arith) (second_of xs false k i h e w)
+second_of (Some j ∷ xs) true k i h e w = absurd h
+second_of (None ∷ xs) false k i h e w = absurd h
+second_of (Some j ∷ xs) false zero i h e w = second_of_first j xs h.1 (ap slots_of (same_insn j i e) ∙ w)
+second_of (Some j ∷ xs) false (suc k) i h e w = one_further (Some j) xs (k + 1) (suc k + 1) (omega arith) (second_of xs (is_wide j) k i h.1 e w)
+
+-- the slot before it begins an instruction of two slots
+abbrev HasFirst : List (Option Insn) → ℕ → Type 0
+HasFirst xs k = (j : ℕ) × (i : Insn) × (k ≡ j + 1) × (insn_in xs j ≡ Some i) × (slots_of i ≡ 2)
+
+one_later : (x : Option Insn) (xs : List (Option Insn)) (k : ℕ) → HasFirst xs k → HasFirst (x ∷ xs) (suc k)
+one_later x xs k (j, i, e, h, w) = (suc j, i, omega arith, h, w)
+
+is_wide-two : (i : Insn) → is_wide i ≡ true → slots_of i ≡ 2
+is_wide-two (LoadNumber d n) h = refl
+is_wide-two i h = absurd cc
+
+first_of_second : (xs : List (Option Insn)) (half : Bool) (k : ℕ) → IsCode half xs → k < length xs → insn_in xs k ≡ None → ((half ≡ true) × (k ≡ 0)) ⊎ HasFirst xs k
+first_of_second [] half k h lt e = absurd (omega arith)
+first_of_second (None ∷ xs) true zero h lt e = inl (refl, refl)
+first_of_second (None ∷ xs) true (suc k) h lt e =
+    elim (first_of_second xs false k h (omega arith) e) [ inl w ↦ absurd cc | inr f ↦ inr (one_later None xs k f) ]
+first_of_second (Some j ∷ xs) true k h lt e = absurd h
+first_of_second (None ∷ xs) false k h lt e = absurd h
+first_of_second (Some i ∷ xs) false zero h lt e = absurd cc
+first_of_second (Some i ∷ xs) false (suc k) h lt e =
+    elim (first_of_second xs (is_wide i) k h.1 (omega arith) e) [
+      | inl w ↦ inr (0, i, omega arith, refl, is_wide-two i w.0)
+      | inr f ↦ inr (one_later (Some i) xs k f)
+    ]
+
+-- ---- images
+
+-- the numbers in an instruction are of their types
+pub InsnFits-fetch : (p : Program) (s : ℕ) (i : Insn) → IsImage p → fetch p s ≡ Some i → InsnFits i
+InsnFits-fetch p s i h e = InsnFits-insn_in p.insns false s i h.code e
+
+-- slot 0 begins an instruction
+pub fetch-zero : (p : Program) → IsImage p → (i : Insn) × (fetch p 0 ≡ Some i)
+fetch-zero p h = elim (at_front p.insns h.code) [ inl e ↦ absurd (omega (arith, h.some_slots, e)) | inr f ↦ f ]
+
+-- behind an instruction the code ends or another one begins
+pub fetch-next : (p : Program) (s : ℕ) (i : Insn) → IsImage p → fetch p s ≡ Some i → (s + slots_of i ≡ length p.insns) ⊎ ((j : Insn) × (fetch p (s + slots_of i) ≡ Some j))
+fetch-next p s i h e = behind p.insns false s i h.code e
+
+-- an instruction of two slots has its second half
+pub fetch-second : (p : Program) (s : ℕ) (i : Insn) → IsImage p → fetch p s ≡ Some i → slots_of i ≡ 2 → (s + 1 < length p.insns) × (fetch p (s + 1) ≡ None)
+fetch-second p s i h e w = second_of p.insns false s i h.code e w
+
+-- a slot at which none begins is the second half of the one before it
+pub fetch-none : (p : Program) (s : ℕ) → IsImage p → s < length p.insns → fetch p s ≡ None → (j : ℕ) × (i : Insn) × (s ≡ j + 1) × (fetch p j ≡ Some i) × (slots_of i ≡ 2)
+fetch-none p s h lt e = elim (first_of_second p.insns false s h.code lt e) [ inl w ↦ absurd cc | inr f ↦ f ]

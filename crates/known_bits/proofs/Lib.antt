@@ -1,0 +1,12 @@
+pub mod Members
+pub mod Logic
+pub mod Carry
+pub mod Shift
+pub mod Parts
+pub mod Sharp
+pub mod Product
+pub mod Order
+pub mod Prefix
+pub mod Widths
+pub mod Signs
+pub mod Overlaps

@@ -1,0 +1,73 @@
+-- Both values of each unknown bit occur.
+use Rattle.std.proofs.Common.{inl, inr, ◌≡◌, ℕ, ◌+◌, ◌%◌, ◌^◌, ◌<◌, sym, ap, ◌∙◌, arith, bit_and, bit_or, bit_xor}
+use Rattle.std.specs.Int.{bit_at}
+use Rattle.std.proofs.lemmas.Nat.{or_lt}
+use Rattle.std.proofs.lemmas.Nat.Bits.{bit_at_and, bit_at_or, bit_at_xor, bit_at-lt, bit_at_above}
+use Rattle.std.proofs.lemmas.Bool.{cases_lt}
+use Rattle.known_bits.specs.Member.{IsMember, Occurs}
+use Rattle.known_bits.proofs.Members.{Known, bits_apart, member_from_bits}
+use Rattle.known_bits.proofs.Logic.{without_bit, and_mask_of, or_mask_of, and_bit, and_known, or_known}
+use Rattle.known_bits.proofs.Carry.{low_bit}
+use Rattle.known_bits.proofs.Parts.{high_bit}
+
+pub least_member : {v m : ℕ} → Known v m → IsMember v m v
+least_member {v} {m} k = member_from_bits k.value_in k.mask_in k.value_in
+    (λ i i_in. let a = bits_apart k i in record { apart = a; least = omega arith; most = omega arith })
+
+pub most_member : {v m : ℕ} → Known v m → IsMember v m (bit_or v m)
+most_member {v} {m} k = member_from_bits k.value_in k.mask_in (or_lt 64 v m k.value_in k.mask_in)
+    (λ i i_in. let a = bits_apart k i in let e = bit_at_or v m i in record { apart = a; least = omega arith; most = omega arith })
+
+set_below : (n i : ℕ) → n < 2 ^ 64 → bit_at n i ≡ 1 → i < 64
+set_below n i h e = elim (cases_lt i 64) [ inl lt ↦ lt | inr ge ↦ absurd (let z = bit_at_above n 64 i h ge in omega arith) ]
+
+module _ {av am bv bm : ℕ} (ka : Known av am) (kb : Known bv bm) where
+  pub and_sharp : (i : ℕ) → bit_at (and_mask_of av am bv bm) i ≡ 1 → Occurs av am bv bm bit_and i 0 × Occurs av am bv bm bit_and i 1
+  and_sharp i h =
+      let e = and_bit ka kb i (set_below _ i (and_known ka kb).mask_in h) in
+      let l1 = bit_at-lt av i in let l2 = bit_at-lt bv i in
+      let ea = bit_at_or av am i in let eb = bit_at_or bv bm i in (
+        record { x = av; y = bv; first = least_member ka; second = least_member kb; is = bit_at_and av bv i ∙ omega arith },
+        record { x = bit_or av am; y = bit_or bv bm; first = most_member ka; second = most_member kb; is = bit_at_and (bit_or av am) (bit_or bv bm) i ∙ (let m1 = bit_at-lt am i in let m2 = bit_at-lt bm i in omega arith) },
+      )
+
+  pub or_sharp : (i : ℕ) → bit_at (or_mask_of av am bv bm) i ≡ 1 → Occurs av am bv bm bit_or i 0 × Occurs av am bv bm bit_or i 1
+  or_sharp i h =
+      let e = without_bit (bit_or am bm) (bit_or av bv) (or_known ka kb).value_in i (set_below _ i (or_known ka kb).mask_in h) in
+      let em = bit_at_or am bm i in let ev = bit_at_or av bv i in
+      let l1 = bit_at-lt av i in let l2 = bit_at-lt bv i in
+      let m1 = bit_at-lt am i in let m2 = bit_at-lt bm i in
+      let ea = bit_at_or av am i in let eb = bit_at_or bv bm i in (
+        record { x = av; y = bv; first = least_member ka; second = least_member kb; is = ev ∙ omega arith },
+        record { x = bit_or av am; y = bit_or bv bm; first = most_member ka; second = most_member kb; is = bit_at_or (bit_or av am) (bit_or bv bm) i ∙ omega arith },
+      )
+
+  xor_at : (x y : ℕ) → IsMember av am x → IsMember bv bm y → (i b : ℕ) → (bit_at x i + bit_at y i) % 2 ≡ b → Occurs av am bv bm bit_xor i b
+  xor_at x y hx hy i b e = record { x = x; y = y; first = hx; second = hy; is = bit_at_xor x y i ∙ e }
+
+  pub xor_sharp : (i : ℕ) → bit_at (bit_or am bm) i ≡ 1 → Occurs av am bv bm bit_xor i 0 × Occurs av am bv bm bit_xor i 1
+  xor_sharp i h =
+      let em = bit_at_or am bm i in
+      let aa = bits_apart ka i in let ab = bits_apart kb i in
+      let ea = bit_at_or av am i in let eb = bit_at_or bv bm i in
+      let la = least_member ka in let lb = least_member kb in let ma = most_member ka in let mb = most_member kb in
+      elim (cases_lt 0 (bit_at am i)) [
+        | inl in_a ↦
+            elim (cases_lt 0 (bit_at bv i)) [
+              | inl one ↦ (xor_at (bit_or av am) bv ma lb i 0 (omega arith), xor_at av bv la lb i 1 (omega arith))
+              | inr none ↦ (xor_at av bv la lb i 0 (omega arith), xor_at (bit_or av am) bv ma lb i 1 (omega arith))
+            ]
+        | inr not_a ↦
+            elim (cases_lt 0 (bit_at av i)) [
+              | inl one ↦ (xor_at av (bit_or bv bm) la mb i 0 (omega arith), xor_at av bv la lb i 1 (omega arith))
+              | inr none ↦ (xor_at av bv la lb i 0 (omega arith), xor_at av (bit_or bv bm) la mb i 1 (omega arith))
+            ]
+      ]
+
+-- a truncated mask's bits are those of the whole
+pub low_set : (m n i : ℕ) → bit_at (m % 2 ^ n) i ≡ 1 → (i < n) × (bit_at m i ≡ 1)
+low_set m n i h =
+    elim (cases_lt i n) [ inl lt ↦ (lt, sym (low_bit m n i lt) ∙ h) | inr ge ↦ absurd (let z = high_bit m n i ge in omega arith) ]
+
+pub occurs_low : {av am bv bm : ℕ} (f g : ℕ → ℕ → ℕ) (n i b : ℕ) → i < n → ((x y : ℕ) → f x y % 2 ^ n ≡ g x y) → Occurs av am bv bm f i b → Occurs av am bv bm g i b
+occurs_low f g n i b i_in e o = record { x = o.x; y = o.y; first = o.first; second = o.second; is = ap (λ r. bit_at r i) (sym (e o.x o.y)) ∙ low_bit (f o.x o.y) n i i_in ∙ o.is }

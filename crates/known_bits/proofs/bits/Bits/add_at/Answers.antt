@@ -1,0 +1,6 @@
+use Rattle.std.proofs.Common.{◌+◌}
+use Rattle.isa_model.specs.NumberLemmas.{low_wrapped}
+use Rattle.known_bits.proofs.bits.Bits.add_at.Goals as goal
+
+pub returns : goal.returns
+returns c = λ x y hx hy. rw (low_wrapped c.args.width (x + y)) at (c.truncate.ensures.contains _ (c.add.ensures x y hx hy))

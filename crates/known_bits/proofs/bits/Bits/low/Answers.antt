@@ -1,0 +1,31 @@
+use Rattle.std.proofs.Common.{arith, ◌≡◌, ◌-◌, ◌^◌}
+use Rattle.std.proofs.lemmas.Nat.{and_mask}
+use Rattle.known_bits.proofs.Members.{Known}
+use Rattle.known_bits.proofs.Parts.{low_known, low_contains}
+use Rattle.known_bits.proofs.bits.Bits.low.Goals as goal
+
+pub invariant_of-result : goal.invariant_of-result
+invariant_of-result c =
+    let ka : Known c.args.self.value c.args.self.mask = record { value_in = omega arith; mask_in = omega arith; apart = c.args.self.apart } in
+    let k = c.args.count in
+    let e : c.ones-ones.result ≡ 2 ^ k - 1 = omega arith in
+    record { apart = rw (e, and_mask c.args.self.value k, and_mask c.args.self.mask k) (low_known ka k).apart }
+
+pub returns-clause-contains : goal.returns-clause-contains
+returns-clause-contains c =
+    let ka : Known c.args.self.value c.args.self.mask = record { value_in = omega arith; mask_in = omega arith; apart = c.args.self.apart } in
+    let k = c.args.count in
+    let e : c.ones-ones.result ≡ 2 ^ k - 1 = omega arith in
+    λ x hx. rw (e, and_mask c.args.self.value k, and_mask c.args.self.mask k) (low_contains ka k x hx)
+
+pub returns-clause-value : goal.returns-clause-value
+returns-clause-value c =
+    let k = c.args.count in
+    let e : c.ones-ones.result ≡ 2 ^ k - 1 = omega arith in
+    rw e (and_mask c.args.self.value k)
+
+pub returns-clause-mask : goal.returns-clause-mask
+returns-clause-mask c =
+    let k = c.args.count in
+    let e : c.ones-ones.result ≡ 2 ^ k - 1 = omega arith in
+    rw e (and_mask c.args.self.mask k)

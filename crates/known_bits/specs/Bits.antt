@@ -1,0 +1,28 @@
+-- What the contracts of `Bits` cite.
+use Rattle.std.specs.Prelude.{ℕ, ◌≡◌, ⊤}
+use Rattle.std.specs.Int.{bit_at}
+use Rattle.isa_model.specs.declared.instructions.AluOp.{AluOp}
+use Rattle.isa_model.specs.declared.instructions.AluOp.TheVariants.{Or, And, Xor}
+use Rattle.known_bits.specs.Member.{IsMember, Occurs}
+use Rattle.known_bits.specs.declared.bits.Bits.{Bits}
+
+-- x is one of the numbers
+abbrev pub Has : Bits → ℕ → Type 0
+Has b x = IsMember b.value b.mask x
+
+-- x is the one number
+abbrev pub IsConstant : Bits → ℕ → Type 0
+IsConstant b x = (b.value ≡ x) × (b.mask ≡ 0)
+
+-- a bit of what f gives is unknown only if both its values occur
+abbrev pub IsSharp : Bits → Bits → (ℕ → ℕ → ℕ) → ℕ → Type 0
+IsSharp a b f mask =
+    (i : ℕ) → bit_at mask i ≡ 1
+    → Occurs a.value a.mask b.value b.mask f i 0 × Occurs a.value a.mask b.value b.mask f i 1
+
+-- the operations that work on each bit by itself
+abbrev pub IsLogical : AluOp → Type 0
+IsLogical Or = ⊤
+IsLogical And = ⊤
+IsLogical Xor = ⊤
+IsLogical _ = ⊥

@@ -1,0 +1,16 @@
+-- The numbers that a value and a mask stand for. Linux, `struct tnum`.
+use Rattle.std.specs.Prelude.{ℕ, ◌≡◌, ◌^◌, ◌<◌, bit_and}
+use Rattle.std.specs.Int.{w64, bit_not, bit_at}
+
+-- x has the value's bits wherever the mask has none
+pub record IsMember (value mask x : ℕ) : Type 0 where
+  pub below : x < 2 ^ 64
+  pub known : bit_and x (bit_not w64 mask) ≡ value
+
+-- bit i of what f gives has this value for some members of both
+pub record Occurs (av am bv bm : ℕ) (f : ℕ → ℕ → ℕ) (i bit : ℕ) : Type 0 where
+  pub x : ℕ
+  pub y : ℕ
+  pub first : IsMember av am x
+  pub second : IsMember bv bm y
+  pub is : bit_at (f x y) i ≡ bit

@@ -1,0 +1,117 @@
+//! What the arithmetic instructions give.
+
+ghost use Rattle.std.specs.Prelude.{◌≡◌, ℕ, ◌+◌, ◌^◌, ◌<◌};
+ghost use Rattle.isa_model.specs.Sizes.{width_bits, span_bits};
+ghost use Rattle.isa_model.specs.Numbers.{negated, sign_extended, reordered};
+ghost use Rattle.isa_model.specs.ExtensionLemmas.{extension_bits, extension_width};
+
+use crate::bits::Bits;
+use isa_model::{AluOp, ByteOrder, Extension, Span, Width, numbers};
+
+impl Bits {
+    ghost use Rattle.isa_model.specs.Numbers.{alu};
+    ghost use Rattle.known_bits.specs.Bits.{Has, IsConstant, IsSharp, IsLogical};
+
+    /// What the operation gives on the numbers of both.
+    pub fn alu(op: AluOp, width: Width, a: Self, b: Self) -> Self
+        ensures contains { (x y : ℕ) → Has a x → Has b y → Has result (alu op width x y) }
+        ensures sharp { IsLogical op → IsSharp a b (alu op width) result.mask }
+        ensures exact { (u v : ℕ) → IsConstant a u → IsConstant b v → IsConstant result (alu op width u v) }
+    {
+        if a.mask == 0 && b.mask == 0 {
+            return Bits::constant(numbers::compute(op, width, a.value, b.value));
+        }
+        let x = a.truncate(width);
+        let y = b.truncate(width);
+        match op {
+            AluOp::Add => x.add_at(width, y),
+            AluOp::Sub => x.sub_at(width, y),
+            AluOp::Mul => x.mul_at(width, y),
+            AluOp::Or => a.or(b).truncate(width),
+            AluOp::And => a.and(b).truncate(width),
+            AluOp::Xor => a.xor(b).truncate(width),
+            AluOp::Lsh => x.shift_left_at(width, y),
+            AluOp::Rsh => x.shift_right_at(width, y),
+            AluOp::Arsh => x.shift_signed_at(width, y),
+            AluOp::Mov => y,
+            // Quotients and remainders are left open.
+            AluOp::Div | AluOp::SignedDiv | AluOp::Mod | AluOp::SignedMod => Bits::any(width),
+        }
+    }
+
+    /// The numbers with their signs changed.
+    pub fn negate(width: Width, a: Self) -> Self
+        ensures contains { (x : ℕ) → Has a x → Has result (negated width x) }
+        ensures exact { (u : ℕ) → IsConstant a u → IsConstant result (negated width u) }
+    {
+        Bits::alu(AluOp::Sub, width, Bits::constant(0), a)
+    }
+
+    /// The low bits of the numbers, sign-extended.
+    pub fn sign_extend(extension: Extension, a: Self) -> Self
+        ensures contains { (x : ℕ) → Has a x → Has result (sign_extended extension x) }
+        ensures exact { (u : ℕ) → IsConstant a u → IsConstant result (sign_extended extension u) }
+    {
+        if a.mask == 0 {
+            return Bits::constant(numbers::sign_extend(extension, a.value));
+        }
+        let count = bits_read(extension);
+        let half = Bits::constant(half_read(extension));
+        let lifted = a.low(count).add(half).low(count);
+        lifted.sub(half).truncate(width_made(extension))
+    }
+
+    /// The low bytes of the numbers, in an order. What they are reversed is left open.
+    pub fn reorder(order: ByteOrder, span: Span, a: Self) -> Self
+        ensures contains { (x : ℕ) → Has a x → Has result (reordered order span x) }
+        ensures exact { (u : ℕ) → IsConstant a u → IsConstant result (reordered order span u) }
+    {
+        if a.mask == 0 {
+            return Bits::constant(numbers::reorder(order, span, a.value));
+        }
+        match order {
+            ByteOrder::Little => a.low(span_size(span)),
+            _ => Bits::any(Width::Full64).low(span_size(span)),
+        }
+    }
+}
+
+fn bits_read(extension: Extension) -> u32
+    ensures { result ≡ extension_bits extension }
+{
+    match extension {
+        Extension::Low8 | Extension::Full8 => 8,
+        Extension::Low16 | Extension::Full16 => 16,
+        Extension::Full32 => 32,
+    }
+}
+
+// Half of 2 to the number of bits read.
+fn half_read(extension: Extension) -> u64
+    ensures { result + result ≡ 2 ^ extension_bits extension }
+{
+    match extension {
+        Extension::Low8 | Extension::Full8 => 0x80,
+        Extension::Low16 | Extension::Full16 => 0x8000,
+        Extension::Full32 => 0x8000_0000,
+    }
+}
+
+fn width_made(extension: Extension) -> Width
+    ensures { result ≡ extension_width extension }
+{
+    match extension {
+        Extension::Low8 | Extension::Low16 => Width::Low32,
+        _ => Width::Full64,
+    }
+}
+
+fn span_size(span: Span) -> u32
+    ensures { result ≡ span_bits span }
+{
+    match span {
+        Span::B16 => 16,
+        Span::B32 => 32,
+        Span::B64 => 64,
+    }
+}

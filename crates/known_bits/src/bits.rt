@@ -1,0 +1,88 @@
+//! Known bits: the type, common numbers and inclusion.
+
+ghost use Rattle.std.specs.Prelude.{◌≡◌, ℕ, ◌+◌, ◌^◌, ◌<◌, ◌≤◌, ◌↔◌, IsSomeAnd, IfSome, IsTrue, bit_and};
+ghost use Rattle.isa_model.specs.Sizes.{width_bits};
+
+use isa_model::Width;
+
+/// The numbers x with `x & !mask == value`: the mask has the unknown bits. Linux calls it a tnum.
+#[derive(Clone, Copy, PartialEq, Eq, Debug)]
+pub struct Bits {
+    pub value: u64,
+    pub mask: u64,
+    pub ghost apart: { bit_and value mask ≡ 0 },
+}
+
+impl Bits {
+    ghost use Rattle.known_bits.specs.Bits.{Has, IsConstant};
+
+    /// All numbers of the width.
+    pub fn any(width: Width) -> Self
+        ensures { (x : ℕ) → (Has result x ↔ (x < 2 ^ width_bits width)) }
+    {
+        Bits {
+            value: 0,
+            mask: ones(width.bits()),
+        }
+    }
+
+    pub fn constant(number: u64) -> Self
+        ensures contains { Has result number }
+        ensures only { (x : ℕ) → Has result x → x ≡ number }
+        ensures constant { IsConstant result number }
+    {
+        Bits {
+            value: number,
+            mask: 0,
+        }
+    }
+
+    /// The bits that all numbers from one to another share.
+    pub fn between(least: u64, greatest: u64) -> Self
+        requires { least ≤ greatest }
+        ensures { (x : ℕ) → least ≤ x → x ≤ greatest → Has result x }
+    {
+        let count = 64 - (least ^ greatest).leading_zeros();
+        let mask = ones(count);
+        Bits {
+            value: least & !mask,
+            mask,
+        }
+    }
+
+    /// The numbers that both stand for.
+    pub fn meet(self, other: Self) -> Option<Self>
+        ensures common { (x : ℕ) → Has self x → Has other x → IsSomeAnd result (λ m. Has m x) }
+        ensures left { IfSome result (λ m. (x : ℕ) → Has m x → Has self x) }
+        ensures right { IfSome result (λ m. (x : ℕ) → Has m x → Has other x) }
+    {
+        let clash = (self.value ^ other.value) & !(self.mask | other.mask);
+        if clash != 0 {
+            return None;
+        }
+        Some(Bits {
+            value: self.value | other.value,
+            mask: self.mask & other.mask,
+        })
+    }
+
+    /// Whether each number that `other` stands for is one of these.
+    pub fn covers(self, other: Self) -> bool
+        ensures inclusion { IsTrue result ↔ ((x : ℕ) → Has other x → Has self x) }
+        ensures equal { self ≡ other → IsTrue result }
+    {
+        other.mask & !self.mask == 0 && (self.value ^ other.value) & !self.mask == 0
+    }
+}
+
+// The number that is so many ones.
+pub(crate) fn ones(count: u32) -> u64
+    requires { count ≤ 64 }
+    ensures { result + 1 ≡ 2 ^ count }
+{
+    if count == 64 {
+        u64::MAX
+    } else {
+        (1u64 << count) - 1
+    }
+}

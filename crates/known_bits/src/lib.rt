@@ -1,0 +1,15 @@
+//! Sets of numbers that share known bits, and what the instructions make of them.
+#![tactic(auto)]
+
+mod arithmetic;
+pub mod bits;
+mod limits;
+mod logical;
+mod relations;
+mod shifts;
+mod sums;
+
+pub use bits::Bits;
+
+#[cfg(test)]
+mod tests;

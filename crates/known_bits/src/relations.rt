@@ -1,0 +1,135 @@
+//! Pairs of numbers between which a relation holds, one of each set: what is left of either.
+
+ghost use Rattle.std.specs.Prelude.{◌≡◌, ◌≢◌, ℕ, ◌<◌, ◌≤◌, ◌<ℤ◌, ◌≤ℤ◌, ◌^◌, IsSomeAnd, IfSome, bit_and};
+ghost use Rattle.std.specs.Int.{w64, cast_signed, bit_at};
+
+use crate::bits::Bits;
+
+impl Bits {
+    ghost use Rattle.known_bits.specs.Bits.{Has};
+
+    /// Those below some number of the other, and those above one. None: there is no such pair.
+    pub fn below(self, other: Self) -> Option<(Self, Self)>
+        ensures common { (x y : ℕ) → Has self x → Has other y → x < y
+            → IsSomeAnd result (λ p. Has p.0 x × Has p.1 y) }
+        ensures left { IfSome result (λ p. (x : ℕ) → Has p.0 x → Has self x) }
+        ensures right { IfSome result (λ p. (y : ℕ) → Has p.1 y → Has other y) }
+    {
+        let least = self.least();
+        let greatest = other.greatest();
+        if least >= greatest {
+            return None;
+        }
+        let left = self.meet(Bits::between(0, greatest - 1))?;
+        let right = other.meet(Bits::between(least + 1, u64::MAX))?;
+        Some((left, right))
+    }
+
+    /// Those at most some number of the other, and those at least one.
+    pub fn at_most(self, other: Self) -> Option<(Self, Self)>
+        ensures common { (x y : ℕ) → Has self x → Has other y → x ≤ y
+            → IsSomeAnd result (λ p. Has p.0 x × Has p.1 y) }
+        ensures left { IfSome result (λ p. (x : ℕ) → Has p.0 x → Has self x) }
+        ensures right { IfSome result (λ p. (y : ℕ) → Has p.1 y → Has other y) }
+    {
+        let left = self.meet(Bits::between(0, other.greatest()))?;
+        let right = other.meet(Bits::between(self.least(), u64::MAX))?;
+        Some((left, right))
+    }
+
+    /// Those below some number of the other, and those above one, read as signed numbers.
+    pub fn signed_below(self, other: Self) -> Option<(Self, Self)>
+        ensures common { (x y : ℕ) → Has self x → Has other y → cast_signed w64 x <ℤ cast_signed w64 y
+            → IsSomeAnd result (λ p. Has p.0 x × Has p.1 y) }
+        ensures left { IfSome result (λ p. (x : ℕ) → Has p.0 x → Has self x) }
+        ensures right { IfSome result (λ p. (y : ℕ) → Has p.1 y → Has other y) }
+    {
+        if self.signed_least() < other.signed_greatest() {
+            Some((self, other))
+        } else {
+            None
+        }
+    }
+
+    /// Those at most some number of the other, and those at least one, read as signed numbers.
+    pub fn signed_at_most(self, other: Self) -> Option<(Self, Self)>
+        ensures common { (x y : ℕ) → Has self x → Has other y → cast_signed w64 x ≤ℤ cast_signed w64 y
+            → IsSomeAnd result (λ p. Has p.0 x × Has p.1 y) }
+        ensures left { IfSome result (λ p. (x : ℕ) → Has p.0 x → Has self x) }
+        ensures right { IfSome result (λ p. (y : ℕ) → Has p.1 y → Has other y) }
+    {
+        if self.signed_least() <= other.signed_greatest() {
+            Some((self, other))
+        } else {
+            None
+        }
+    }
+
+    /// Those that differ from some number of the other, and the other way round.
+    pub fn apart(self, other: Self) -> Option<(Self, Self)>
+        ensures common { (x y : ℕ) → Has self x → Has other y → x ≢ y
+            → IsSomeAnd result (λ p. Has p.0 x × Has p.1 y) }
+        ensures left { IfSome result (λ p. (x : ℕ) → Has p.0 x → Has self x) }
+        ensures right { IfSome result (λ p. (y : ℕ) → Has p.1 y → Has other y) }
+    {
+        if self.mask == 0 && other.mask == 0 && self.value == other.value {
+            None
+        } else {
+            Some((self, other))
+        }
+    }
+
+    /// Those that have no bit in common with some number of the other, and the other way round.
+    pub fn disjoint(self, other: Self) -> Option<(Self, Self)>
+        ensures common { (x y : ℕ) → Has self x → Has other y → bit_and x y ≡ 0
+            → IsSomeAnd result (λ p. Has p.0 x × Has p.1 y) }
+        ensures left { IfSome result (λ p. (x : ℕ) → Has p.0 x → Has self x) }
+        ensures right { IfSome result (λ p. (y : ℕ) → Has p.1 y → Has other y) }
+    {
+        let left = self.meet(Bits::outside(other.value))?;
+        let right = other.meet(Bits::outside(self.value))?;
+        Some((left, right))
+    }
+
+    /// Those that have a bit in common with some number of the other, and the other way round.
+    pub fn overlapping(self, other: Self) -> Option<(Self, Self)>
+        ensures common { (x y : ℕ) → Has self x → Has other y → bit_and x y ≢ 0
+            → IsSomeAnd result (λ p. Has p.0 x × Has p.1 y) }
+        ensures left { IfSome result (λ p. (x : ℕ) → Has p.0 x → Has self x) }
+        ensures right { IfSome result (λ p. (y : ℕ) → Has p.1 y → Has other y) }
+    {
+        let shared = (self.value | self.mask) & (other.value | other.mask);
+        if shared == 0 {
+            return None;
+        }
+        let lowest = shared.trailing_zeros();
+        if shared != 1u64 << lowest {
+            return Some((self, other));
+        }
+        let left = self.meet(Bits::having(lowest))?;
+        let right = other.meet(Bits::having(lowest))?;
+        Some((left, right))
+    }
+
+    // The numbers that have none of these bits.
+    fn outside(bits: u64) -> Self
+        ensures { (x : ℕ) → x < 2 ^ 64 → bit_and x bits ≡ 0 → Has result x }
+    {
+        Bits {
+            value: 0,
+            mask: !bits,
+        }
+    }
+
+    // The numbers that have this bit.
+    fn having(place: u32) -> Self
+        requires { place < 64 }
+        ensures { (x : ℕ) → x < 2 ^ 64 → bit_at x place ≡ 1 → Has result x }
+    {
+        let bit = 1u64 << place;
+        Bits {
+            value: bit,
+            mask: !bit,
+        }
+    }
+}

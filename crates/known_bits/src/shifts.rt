@@ -1,0 +1,114 @@
+//! Low parts of numbers, and shifts by a known distance.
+
+ghost use Rattle.std.specs.Prelude.{◌≡◌, ℕ, ◌+◌, ◌*◌, ◌/◌, ◌%◌, ◌^◌, ◌<◌, ◌≤◌};
+ghost use Rattle.isa_model.specs.Sizes.{width_bits};
+ghost use Rattle.isa_model.specs.Numbers.{result_of, shift};
+
+use crate::bits::{Bits, ones};
+use isa_model::{AluOp, Width};
+
+impl Bits {
+    ghost use Rattle.known_bits.specs.Bits.{Has};
+
+    // The low bits, so many of them.
+    pub(crate) fn low(self, count: u32) -> Self
+        requires { count ≤ 64 }
+        ensures value { result.value ≡ self.value % 2 ^ count }
+        ensures mask { result.mask ≡ self.mask % 2 ^ count }
+        ensures contains { (x : ℕ) → Has self x → Has result (x % 2 ^ count) }
+    {
+        let ones = ones(count);
+        Bits {
+            value: self.value & ones,
+            mask: self.mask & ones,
+        }
+    }
+
+    pub(crate) fn truncate(self, width: Width) -> Self
+        ensures value { result.value ≡ self.value % 2 ^ width_bits width }
+        ensures mask { result.mask ≡ self.mask % 2 ^ width_bits width }
+        ensures contains { (x : ℕ) → Has self x → Has result (x % 2 ^ width_bits width) }
+    {
+        self.low(width.bits())
+    }
+
+    pub(crate) fn shift_left(self, by: u64) -> Self
+        requires { by < 64 }
+        ensures { (x : ℕ) → Has self x → Has result ((x * 2 ^ by) % 2 ^ 64) }
+    {
+        Bits {
+            value: self.value << by,
+            mask: self.mask << by,
+        }
+    }
+
+    fn shift_right(self, by: u64) -> Self
+        requires { by < 64 }
+        ensures { (x : ℕ) → Has self x → Has result (x / 2 ^ by) }
+    {
+        Bits {
+            value: self.value >> by,
+            mask: self.mask >> by,
+        }
+    }
+
+    // The shift that keeps the sign: half the size is added before a shift to the right, and taken away after it.
+    fn shift_signed(self, width: Width, by: u64) -> Self
+        requires { by < width_bits width }
+        ensures { (x : ℕ) → x < 2 ^ width_bits width → Has self x
+            → Has result (result_of AluOp.Arsh width x by) }
+    {
+        let half = half_of(width);
+        let lifted = self.add(Bits::constant(half)).truncate(width);
+        let moved = lifted.shift_right(by);
+        moved.sub(Bits::constant(half >> by)).truncate(width)
+    }
+
+    pub(crate) fn shift_left_at(self, width: Width, other: Self) -> Self
+        ensures { (x y : ℕ) → Has self x → Has other y → Has result (result_of AluOp.Lsh width x y) }
+    {
+        if other.mask != 0 {
+            return Bits::any(width);
+        }
+        self.shift_left(distance(width, other.value))
+            .truncate(width)
+    }
+
+    pub(crate) fn shift_right_at(self, width: Width, other: Self) -> Self
+        ensures { (x y : ℕ) → x < 2 ^ width_bits width → Has self x → Has other y
+            → Has result (result_of AluOp.Rsh width x y) }
+    {
+        if other.mask != 0 {
+            return Bits::any(width);
+        }
+        self.shift_right(distance(width, other.value))
+    }
+
+    pub(crate) fn shift_signed_at(self, width: Width, other: Self) -> Self
+        ensures { (x y : ℕ) → x < 2 ^ width_bits width → Has self x → Has other y
+            → Has result (result_of AluOp.Arsh width x y) }
+    {
+        if other.mask != 0 {
+            return Bits::any(width);
+        }
+        self.shift_signed(width, distance(width, other.value))
+    }
+}
+
+// Half of 2 to the width.
+fn half_of(width: Width) -> u64
+    ensures { result + result ≡ 2 ^ width_bits width }
+{
+    match width {
+        Width::Low32 => 0x8000_0000,
+        Width::Full64 => 0x8000_0000_0000_0000,
+    }
+}
+
+// How far a shift by a number goes.
+fn distance(width: Width, by: u64) -> u64
+    ensures value { result ≡ shift width by }
+    ensures below { result < width_bits width }
+{
+    by % u64::from(width.bits())
+}

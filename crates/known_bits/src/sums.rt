@@ -1,0 +1,90 @@
+//! Sums, differences and products, first at 64 bits and then at a width.
+
+ghost use Rattle.std.specs.Prelude.{◌≡◌, ℕ, ◌+◌, ◌-◌, ◌*◌, ◌%◌, ◌^◌, ◌<◌, ◌≤◌};
+ghost use Rattle.std.specs.Int.{bit_at};
+ghost use Rattle.isa_model.specs.Sizes.{width_bits};
+ghost use Rattle.isa_model.specs.Numbers.{result_of};
+
+use crate::bits::Bits;
+use isa_model::{AluOp, Width};
+
+impl Bits {
+    ghost use Rattle.known_bits.specs.Bits.{Has};
+
+    // A bit is unknown where an operand's is, or where the carries of the least and the greatest sum differ. Linux,
+    // `tnum_add`.
+    pub(crate) fn add(self, other: Self) -> Self
+        ensures { (x y : ℕ) → Has self x → Has other y → Has result ((x + y) % 2 ^ 64) }
+    {
+        let least = self.value.wrapping_add(other.value);
+        let greatest = (self.value | self.mask).wrapping_add(other.value | other.mask);
+        let mask = (greatest ^ least) | self.mask | other.mask;
+        Bits {
+            value: least & !mask,
+            mask,
+        }
+    }
+
+    // The complement of a difference is the complement of the first number plus the second.
+    pub(crate) fn sub(self, other: Self) -> Self
+        ensures { (x y : ℕ) → Has self x → Has other y → Has result ((x + (2 ^ 64 - y)) % 2 ^ 64) }
+    {
+        let flipped = self.not();
+        let sum = flipped.add(other);
+        sum.not()
+    }
+
+    fn or_zero(self) -> Self
+        ensures zero { Has result 0 }
+        ensures contains { (x : ℕ) → Has self x → Has result x }
+    {
+        Bits {
+            value: 0,
+            mask: self.value | self.mask,
+        }
+    }
+
+    // What bit `i` of the first factor adds to the product.
+    fn term(self, other: Self, i: u64) -> Self
+        requires { i < 64 }
+        ensures { (x y : ℕ) → Has self x → Has other y → Has result ((bit_at x i * y * 2 ^ i) % 2 ^ 64) }
+    {
+        let moved = other.shift_left(i);
+        if (self.value >> i) & 1 == 1 {
+            moved
+        } else if (self.mask >> i) & 1 == 1 {
+            moved.or_zero()
+        } else {
+            Bits::constant(0)
+        }
+    }
+
+    fn mul(self, other: Self) -> Self
+        ensures { (x y : ℕ) → Has self x → Has other y → Has result ((x * y) % 2 ^ 64) }
+    {
+        let mut sum = Bits::constant(0);
+        for i in 0..64 {
+            sum = sum.add(self.term(other, i));
+        }
+        sum
+    }
+
+    pub(crate) fn add_at(self, width: Width, other: Self) -> Self
+        ensures { (x y : ℕ) → Has self x → Has other y → Has result (result_of AluOp.Add width x y) }
+    {
+        self.add(other).truncate(width)
+    }
+
+    pub(crate) fn sub_at(self, width: Width, other: Self) -> Self
+        ensures { (x y : ℕ) → y ≤ 2 ^ width_bits width → Has self x → Has other y
+            → Has result (result_of AluOp.Sub width x y) }
+    {
+        self.sub(other).truncate(width)
+    }
+
+    pub(crate) fn mul_at(self, width: Width, other: Self) -> Self
+        ensures { (x y : ℕ) → Has self x → Has other y → Has result (result_of AluOp.Mul width x y) }
+    {
+        self.mul(other).truncate(width)
+    }
+}

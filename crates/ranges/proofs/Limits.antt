@@ -1,0 +1,122 @@
+-- Limits of sums, shifts and products.
+use Rattle.std.proofs.Common.{◌≡◌, ◌≢◌, ℕ, ℤ, pos, negsuc, zero, suc, ◌+◌, ◌-◌, ◌*◌, ◌/◌, ◌%◌, ◌^◌, ◌<◌, ◌≤◌, min, max, w32, w64, refl, sym, inl, inr, ap, ◌∙◌, arith, bit_and, bit_or, Bool, true, false, cond}
+use Rattle.std.specs.Prelude.{◌+ℤ◌, ◌-ℤ◌, ◌≤ℤ◌, FitsSigned, nat_eq}
+use Rattle.std.specs.Int.{cast_signed, cast_unsigned, int_shr}
+use lib.Signed.{shr_z, mag_shr}
+use Rattle.std.proofs.Math.Facts.{sfits_to_z}
+use Rattle.std.proofs.lemmas.Int.{ints}
+use borrow.Author.Differences.{up, down}
+use Rattle.isa_model.specs.declared.sizes.Width.TheVariants.{Low32}
+use Rattle.isa_model.specs.declared.sizes.Extension.TheVariants.{Full8, Full16, Full32}
+use Rattle.isa_model.specs.declared.instructions.AluOp.TheVariants.{Arsh}
+use Rattle.isa_model.specs.Numbers.{result_of, sign_extended}
+use Rattle.isa_model.specs.NumberLemmas.{signed_equation}
+use Rattle.isa_model.specs.ExtensionLemmas.{sign_extended_cases, sign_extended_fits}
+use Rattle.std.proofs.lemmas.Bool.{cases_lt, lt-ltb, le-ltb, ne_eqb}
+use Rattle.std.proofs.lemmas.Nat.{le-div, pow_pos, mul-le, mod_below}
+use Rattle.std.proofs.Math.Nat.{div-mul-le_self, mod-eq_of_lt, div-le_self, mod-le, div-zero}
+
+-- ---- sums and differences that fit
+
+pub sum_from : (x y : ℕ) (a b c d : ℤ) → x < 2 ^ 64 → y < 2 ^ 64 → a ≤ℤ cast_signed w64 x → cast_signed w64 x ≤ℤ c → b ≤ℤ cast_signed w64 y → cast_signed w64 y ≤ℤ d
+    → FitsSigned w64 (a +ℤ b) → FitsSigned w64 (c +ℤ d) → (a +ℤ b) ≤ℤ cast_signed w64 ((x + y) % 2 ^ 64)
+sum_from x y a b c d x_in y_in h1 h2 h3 h4 f g = omega (arith, ints, signed_equation x x_in, signed_equation y y_in, signed_equation ((x + y) % 2 ^ 64) (omega arith))
+
+pub sum_to : (x y : ℕ) (a b c d : ℤ) → x < 2 ^ 64 → y < 2 ^ 64 → a ≤ℤ cast_signed w64 x → cast_signed w64 x ≤ℤ c → b ≤ℤ cast_signed w64 y → cast_signed w64 y ≤ℤ d
+    → FitsSigned w64 (a +ℤ b) → FitsSigned w64 (c +ℤ d) → cast_signed w64 ((x + y) % 2 ^ 64) ≤ℤ (c +ℤ d)
+sum_to x y a b c d x_in y_in h1 h2 h3 h4 f g = omega (arith, ints, signed_equation x x_in, signed_equation y y_in, signed_equation ((x + y) % 2 ^ 64) (omega arith))
+
+pub difference_from : (x y : ℕ) (a b c d : ℤ) → x < 2 ^ 64 → y < 2 ^ 64 → a ≤ℤ cast_signed w64 x → cast_signed w64 x ≤ℤ c → b ≤ℤ cast_signed w64 y → cast_signed w64 y ≤ℤ d
+    → FitsSigned w64 (a -ℤ d) → FitsSigned w64 (c -ℤ b) → (a -ℤ d) ≤ℤ cast_signed w64 ((x + (2 ^ 64 - y)) % 2 ^ 64)
+difference_from x y a b c d x_in y_in h1 h2 h3 h4 f g = omega (arith, ints, signed_equation x x_in, signed_equation y y_in, signed_equation ((x + (2 ^ 64 - y)) % 2 ^ 64) (omega arith))
+
+pub difference_to : (x y : ℕ) (a b c d : ℤ) → x < 2 ^ 64 → y < 2 ^ 64 → a ≤ℤ cast_signed w64 x → cast_signed w64 x ≤ℤ c → b ≤ℤ cast_signed w64 y → cast_signed w64 y ≤ℤ d
+    → FitsSigned w64 (a -ℤ d) → FitsSigned w64 (c -ℤ b) → cast_signed w64 ((x + (2 ^ 64 - y)) % 2 ^ 64) ≤ℤ (c -ℤ b)
+difference_to x y a b c d x_in y_in h1 h2 h3 h4 f g = omega (arith, ints, signed_equation x x_in, signed_equation y y_in, signed_equation ((x + (2 ^ 64 - y)) % 2 ^ 64) (omega arith))
+
+pub div_mono : (a b k : ℕ) → a ≤ b → a / 2 ^ k ≤ b / 2 ^ k
+div_mono a b k h = le-div (a / 2 ^ k) b (2 ^ k) (pow_pos k) (let l = div-mul-le_self a (2 ^ k) in omega arith)
+
+-- a shift that loses no bit
+pub shl_whole_at : (x g k : ℕ) → x ≤ g → g ≤ (2 ^ 64 - 1) / 2 ^ k → (x * 2 ^ k) % 2 ^ 64 ≡ x * 2 ^ k
+shl_whole_at x g k h e =
+    let p = mul-le x (2 ^ k) ((2 ^ 64 - 1) / 2 ^ k) (2 ^ k) (omega arith) (omega arith) in
+    let l = div-mul-le_self (2 ^ 64 - 1) (2 ^ k) in
+    mod-eq_of_lt {n = x * 2 ^ k} {m = 2 ^ 64} (omega arith)
+
+pub shl_mono : (x g k : ℕ) → x ≤ g → x * 2 ^ k ≤ g * 2 ^ k
+shl_mono x g k h = mul-le x (2 ^ k) g (2 ^ k) h (omega arith)
+
+cond_le : (b : Bool) (p q n : ℕ) → p ≤ n → q ≤ n → cond b p q ≤ n
+cond_le true p q n h k = h
+cond_le false p q n h k = k
+
+pub zero_or_div : (x y : ℕ) → cond (nat_eq y 0) 0 (x / y) ≤ x
+zero_or_div x y = cond_le (nat_eq y 0) 0 (x / y) x (omega arith) (div-le_self x y)
+
+pub self_or_mod : (x y : ℕ) → cond (nat_eq y 0) x (x % y) ≤ x
+self_or_mod x y = cond_le (nat_eq y 0) x (x % y) x (omega arith) (mod-le x y)
+
+pub mod_apart : (x y : ℕ) → 0 < y → (cond (nat_eq y 0) x (x % y) ≤ x) × (cond (nat_eq y 0) x (x % y) < y)
+mod_apart x y h = rw (ne_eqb y 0 (λ e. omega arith)) (mod-le x y, mod_below x y h)
+
+pub div_apart : (x y a b c d : ℕ) → 0 < c → a ≤ x → x ≤ b → c ≤ y → y ≤ d → (a / d ≤ cond (nat_eq y 0) 0 (x / y)) × (cond (nat_eq y 0) 0 (x / y) ≤ b / c)
+div_apart x y a b c d p h1 h2 h3 h4 =
+    rw (ne_eqb y 0 (λ e. omega arith)) (
+      le-div (a / d) x y (omega arith) (let l = div-mul-le_self a d in let m = mul-le (a / d) y (a / d) d (omega arith) h4 in omega arith),
+      le-div (x / y) b c p (let l = div-mul-le_self x y in let m = mul-le (x / y) c (x / y) y (omega arith) h3 in omega arith),
+    )
+
+div_le : (a b m : ℕ) → a ≤ b → a / m ≤ b / m
+div_le a b m h = elim (cases_lt 0 m) [
+  | inl p ↦ le-div (a / m) b m p (let l = div-mul-le_self a m in omega arith)
+  | inr z ↦ let e : m ≡ 0 = omega arith in rw e (rw (div-zero a, div-zero b) (omega arith))
+]
+
+-- ---- the shift that keeps the sign
+
+pub shr_mono : (a b : ℤ) (m : ℕ) → a ≤ℤ b → shr_z a m ≤ℤ shr_z b m
+shr_mono (pos a) (pos b) m h = let l : a ≤ b = omega (arith, ints) in let d = div_le a b m l in omega (arith, ints)
+shr_mono (pos a) (negsuc b) m h = absurd (omega (arith, ints))
+shr_mono (negsuc a) (pos b) m h = omega (arith, ints)
+shr_mono (negsuc a) (negsuc b) m h = let l : b ≤ a = omega (arith, ints) in let d = div_le b a m l in omega (arith, ints)
+
+pub shr_fits : (a : ℤ) (k : ℕ) → FitsSigned w64 a → FitsSigned w64 (int_shr a k)
+shr_fits a k f = record { sfits = let l = mag_shr a (2 ^ k) in let s = f.sfits in omega arith }
+
+pub cast_fits : (x : ℕ) → x < 2 ^ 64 → FitsSigned w64 (cast_signed w64 x)
+cast_fits x h = sfits_to_z (record { fits = h })
+
+pub signed_below_64 : (z : ℤ) → FitsSigned w64 z → cast_unsigned w64 z < 2 ^ 64
+signed_below_64 (pos n) f = let s = f.sfits in omega arith
+signed_below_64 (negsuc n) f = omega arith
+
+-- at 32 bits a number below the half has no sign to keep
+pub shift_word_small : (x k : ℕ) → x < 2 ^ 31 → k < 32 → result_of Arsh Low32 x k ≡ x / 2 ^ k
+shift_word_small x k h k_in = rw (lt-ltb x (2 ^ 31) h) (ap (λ n. x / 2 ^ n) (mod-eq_of_lt {n = k} {m = 32} k_in))
+
+-- ---- sign extensions to 64 bits
+
+pub extended_8 : (x : ℕ) → (negsuc 127 ≤ℤ cast_signed w64 (sign_extended Full8 x)) × (cast_signed w64 (sign_extended Full8 x) ≤ℤ pos 127)
+extended_8 x =
+    let e = signed_equation (sign_extended Full8 x) (sign_extended_fits Full8 x) in
+    elim (sign_extended_cases Full8 x (2 ^ 7) refl) [
+      | inl p ↦ (omega (arith, ints, p.0, p.1), omega (arith, ints, p.0, p.1))
+      | inr p ↦ let b : x % 2 ^ 8 < 2 ^ 8 = omega arith in (omega (arith, ints, p.0, p.1), omega (arith, ints, p.0, p.1))
+    ]
+
+pub extended_16 : (x : ℕ) → (negsuc 32767 ≤ℤ cast_signed w64 (sign_extended Full16 x)) × (cast_signed w64 (sign_extended Full16 x) ≤ℤ pos 32767)
+extended_16 x =
+    let e = signed_equation (sign_extended Full16 x) (sign_extended_fits Full16 x) in
+    elim (sign_extended_cases Full16 x (2 ^ 15) refl) [
+      | inl p ↦ (omega (arith, ints, p.0, p.1), omega (arith, ints, p.0, p.1))
+      | inr p ↦ let b : x % 2 ^ 16 < 2 ^ 16 = omega arith in (omega (arith, ints, p.0, p.1), omega (arith, ints, p.0, p.1))
+    ]
+
+pub extended_32 : (x : ℕ) → (negsuc 2147483647 ≤ℤ cast_signed w64 (sign_extended Full32 x)) × (cast_signed w64 (sign_extended Full32 x) ≤ℤ pos 2147483647)
+extended_32 x =
+    let e = signed_equation (sign_extended Full32 x) (sign_extended_fits Full32 x) in
+    elim (sign_extended_cases Full32 x (2 ^ 31) refl) [
+      | inl p ↦ (omega (arith, ints, p.0, p.1), omega (arith, ints, p.0, p.1))
+      | inr p ↦ let b : x % 2 ^ 32 < 2 ^ 32 = omega arith in (omega (arith, ints, p.0, p.1), omega (arith, ints, p.0, p.1))
+    ]

@@ -1,0 +1,9 @@
+use Rattle.std.proofs.Common.{◌≡◌, ◌-◌, ◌^◌, ◌<◌, ◌≤◌, arith}
+use Rattle.isa_model.specs.NumberLemmas.{width_fits}
+use Rattle.ranges.proofs.range.Range.any.Goals as goal
+
+pub returns : goal.returns
+returns c = λ x.
+    let e = c.greatest_of.ensures in
+    let b = c.between.ensures x in
+    (λ h. let p = b.0 h in omega (arith, p.1), λ lt. b.1 (omega arith, omega arith))

@@ -1,0 +1,7 @@
+use Rattle.std.proofs.Common.{arith}
+use Rattle.std.proofs.lemmas.Int.{ints}
+use Rattle.ranges.proofs.range.Range.covers.Goals as goal
+
+pub returns-then-self-other-2-clause-yes : goal.returns-then-self-other-2-clause-yes
+returns-then-self-other-2-clause-yes c = λ t x hx.
+    record { below = hx.below; from = omega arith; to = omega arith; signed_from = grind (arith, ints); signed_to = grind (arith, ints) }

@@ -1,0 +1,104 @@
+//! What the arithmetic instructions give.
+
+ghost use Rattle.std.specs.Prelude.{◌≡◌, ℕ, ◌+◌, ◌^◌};
+ghost use Rattle.isa_model.specs.Sizes.{span_bits};
+ghost use Rattle.isa_model.specs.Numbers.{negated, sign_extended, reordered};
+ghost use Rattle.isa_model.specs.ExtensionLemmas.{extension_bits};
+
+use crate::range::Range;
+use isa_model::{AluOp, ByteOrder, Extension, Span, Width, numbers};
+
+impl Range {
+    ghost use Rattle.isa_model.specs.Numbers.{alu};
+    ghost use Rattle.ranges.specs.Ranges.{Has, IsConstant};
+
+    /// What the operation gives on the numbers of both.
+    pub fn alu(op: AluOp, width: Width, a: Self, b: Self) -> Self
+        ensures contains { (x y : ℕ) → Has a x → Has b y → Has result (alu op width x y) }
+        ensures exact { (u v : ℕ) → IsConstant a u → IsConstant b v → IsConstant result (alu op width u v) }
+    {
+        if a.least == a.greatest && b.least == b.greatest {
+            return Range::constant(numbers::compute(op, width, a.least, b.least));
+        }
+        let x = a.truncate(width);
+        let y = b.truncate(width);
+        match op {
+            AluOp::Add => x.add_at(width, y),
+            AluOp::Sub => x.sub_at(width, y),
+            AluOp::Mul => x.mul_at(width, y),
+            AluOp::Div => x.divide(y),
+            AluOp::Mod => x.remainder(y),
+            AluOp::And => x.and(y),
+            AluOp::Lsh => x.shift_left_at(width, y),
+            AluOp::Rsh => x.shift_right_at(width, y),
+            AluOp::Arsh => x.shift_signed_at(width, y),
+            AluOp::Mov => y,
+            // Limits say nothing of single bits; signed quotients and remainders are left open.
+            AluOp::Or | AluOp::Xor | AluOp::SignedDiv | AluOp::SignedMod => Range::any(width),
+        }
+    }
+
+    /// The numbers with their signs changed.
+    pub fn negate(width: Width, a: Self) -> Self
+        ensures contains { (x : ℕ) → Has a x → Has result (negated width x) }
+        ensures exact { (u : ℕ) → IsConstant a u → IsConstant result (negated width u) }
+    {
+        Range::alu(AluOp::Sub, width, Range::constant(0), a)
+    }
+
+    /// The low bits of the numbers, sign-extended.
+    pub fn sign_extend(extension: Extension, a: Self) -> Self
+        ensures contains { (x : ℕ) → Has a x → Has result (sign_extended extension x) }
+        ensures exact { (u : ℕ) → IsConstant a u → IsConstant result (sign_extended extension u) }
+    {
+        if a.least == a.greatest {
+            return Range::constant(numbers::sign_extend(extension, a.least));
+        }
+        if a.greatest < half_read(extension) {
+            return a;
+        }
+        match extension {
+            Extension::Full8 => Range::signed_between(-0x80, 0x7f),
+            Extension::Full16 => Range::signed_between(-0x8000, 0x7fff),
+            Extension::Full32 => Range::signed_between(-0x8000_0000, 0x7fff_ffff),
+            Extension::Low8 => Range::any(Width::Low32),
+            Extension::Low16 => Range::any(Width::Low32),
+        }
+    }
+
+    /// The low bytes of the numbers, in an order. What they are reversed is left open.
+    pub fn reorder(order: ByteOrder, span: Span, a: Self) -> Self
+        ensures contains { (x : ℕ) → Has a x → Has result (reordered order span x) }
+        ensures exact { (u : ℕ) → IsConstant a u → IsConstant result (reordered order span u) }
+    {
+        if a.least == a.greatest {
+            return Range::constant(numbers::reorder(order, span, a.least));
+        }
+        match order {
+            ByteOrder::Little => a.low(span),
+            _ => Range::between(0, greatest_read(span)),
+        }
+    }
+}
+
+// The greatest number of so many bits.
+fn greatest_read(span: Span) -> u64
+    ensures { result + 1 ≡ 2 ^ span_bits span }
+{
+    match span {
+        Span::B16 => 0xffff,
+        Span::B32 => 0xffff_ffff,
+        Span::B64 => u64::MAX,
+    }
+}
+
+// Half of 2 to the number of bits read.
+fn half_read(extension: Extension) -> u64
+    ensures { result + result ≡ 2 ^ extension_bits extension }
+{
+    match extension {
+        Extension::Low8 | Extension::Full8 => 0x80,
+        Extension::Low16 | Extension::Full16 => 0x8000,
+        Extension::Full32 => 0x8000_0000,
+    }
+}

@@ -1,0 +1,36 @@
+//! Unsigned quotients and remainders, and common bits.
+
+ghost use Rattle.std.specs.Prelude.{◌≡◌, ℕ, bit_and};
+ghost use Rattle.isa_model.specs.Numbers.{quotient, remainder};
+
+use crate::range::Range;
+
+impl Range {
+    ghost use Rattle.ranges.specs.Ranges.{Has};
+
+    pub(crate) fn divide(self, other: Self) -> Self
+        ensures { (x y : ℕ) → Has self x → Has other y → Has result (quotient x y) }
+    {
+        if other.least == 0 {
+            Range::between(0, self.greatest)
+        } else {
+            Range::between(self.least / other.greatest, self.greatest / other.least)
+        }
+    }
+
+    pub(crate) fn remainder(self, other: Self) -> Self
+        ensures { (x y : ℕ) → Has self x → Has other y → Has result (remainder x y) }
+    {
+        if other.least == 0 {
+            Range::between(0, self.greatest)
+        } else {
+            Range::between(0, self.greatest.min(other.greatest - 1))
+        }
+    }
+
+    pub(crate) fn and(self, other: Self) -> Self
+        ensures { (x y : ℕ) → Has self x → Has other y → Has result (bit_and x y) }
+    {
+        Range::between(0, self.greatest.min(other.greatest))
+    }
+}

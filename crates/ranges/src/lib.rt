@@ -1,0 +1,14 @@
+//! Limits of numbers, read without and with a sign, and what the instructions make of them.
+#![tactic(auto)]
+
+mod arithmetic;
+mod divisions;
+pub mod range;
+mod relations;
+mod shifts;
+mod sums;
+
+pub use range::Range;
+
+#[cfg(test)]
+mod tests;

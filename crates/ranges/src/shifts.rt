@@ -1,0 +1,138 @@
+//! Low parts of numbers, and shifts by a known distance.
+
+ghost use Rattle.std.specs.Prelude.{◌≡◌, ℕ, ◌*◌, ◌/◌, ◌%◌, ◌^◌, ◌<◌, ◌≤◌};
+ghost use Rattle.std.specs.Int.{w64, cast_signed, cast_unsigned, int_shr};
+ghost use Rattle.isa_model.specs.Sizes.{width_bits, span_bits};
+ghost use Rattle.isa_model.specs.Numbers.{result_of, shift};
+
+use crate::range::Range;
+use isa_model::{AluOp, Span, Width};
+
+impl Range {
+    ghost use Rattle.ranges.specs.Ranges.{Has};
+
+    pub(crate) fn truncate(self, width: Width) -> Self
+        ensures { (x : ℕ) → Has self x → Has result (x % 2 ^ width_bits width) }
+    {
+        match width {
+            Width::Low32 => self.low_word(),
+            Width::Full64 => self,
+        }
+    }
+
+    // Numbers with the same upper half keep their distances.
+    fn low_word(self) -> Self
+        ensures { (x : ℕ) → Has self x → Has result (x % 2 ^ 32) }
+    {
+        if self.greatest <= 0xffff_ffff {
+            self
+        } else if self.least >> 32 == self.greatest >> 32 {
+            Range::between(self.least & 0xffff_ffff, self.greatest & 0xffff_ffff)
+        } else {
+            Range::any(Width::Low32)
+        }
+    }
+
+    fn low_half(self) -> Self
+        ensures { (x : ℕ) → Has self x → Has result (x % 2 ^ 16) }
+    {
+        if self.greatest <= 0xffff {
+            self
+        } else {
+            Range::between(0, 0xffff)
+        }
+    }
+
+    // The low bytes.
+    pub(crate) fn low(self, span: Span) -> Self
+        ensures { (x : ℕ) → Has self x → Has result (x % 2 ^ span_bits span) }
+    {
+        match span {
+            Span::B16 => self.low_half(),
+            Span::B32 => self.low_word(),
+            Span::B64 => self,
+        }
+    }
+
+    fn shift_left(self, by: u64) -> Self
+        requires { by < 64 }
+        ensures { (x : ℕ) → Has self x → Has result ((x * 2 ^ by) % 2 ^ 64) }
+    {
+        if self.greatest <= u64::MAX >> by {
+            Range::between(self.least << by, self.greatest << by)
+        } else {
+            Range::any(Width::Full64)
+        }
+    }
+
+    fn shift_right(self, by: u64) -> Self
+        requires { by < 64 }
+        ensures { (x : ℕ) → Has self x → Has result (x / 2 ^ by) }
+    {
+        Range::between(self.least >> by, self.greatest >> by)
+    }
+
+    // The shift that keeps the sign, at 64 bits.
+    fn shift_signed(self, by: u64) -> Self
+        requires { by < 64 }
+        ensures { (x : ℕ) → Has self x
+            → Has result (cast_unsigned w64 (int_shr (cast_signed w64 x) by)) }
+    {
+        Range::signed_between(self.signed_least >> by, self.signed_greatest >> by)
+    }
+
+    // At 32 bits numbers below the half are shifted as unsigned ones.
+    fn shift_signed_word(self, by: u64) -> Self
+        requires { by < 32 }
+        ensures { (x : ℕ) → x < 2 ^ 32 → Has self x
+            → Has result (result_of AluOp.Arsh Width.Low32 x by) }
+    {
+        if self.greatest < 0x8000_0000 {
+            self.shift_right(by)
+        } else {
+            Range::any(Width::Low32)
+        }
+    }
+
+    pub(crate) fn shift_left_at(self, width: Width, other: Self) -> Self
+        ensures { (x y : ℕ) → Has self x → Has other y → Has result (result_of AluOp.Lsh width x y) }
+    {
+        if other.least != other.greatest {
+            return Range::any(width);
+        }
+        self.shift_left(distance(width, other.least))
+            .truncate(width)
+    }
+
+    // A shift to the right, however far, makes no number greater.
+    pub(crate) fn shift_right_at(self, width: Width, other: Self) -> Self
+        ensures { (x y : ℕ) → Has self x → Has other y → Has result (result_of AluOp.Rsh width x y) }
+    {
+        if other.least != other.greatest {
+            return Range::between(0, self.greatest);
+        }
+        self.shift_right(distance(width, other.least))
+    }
+
+    pub(crate) fn shift_signed_at(self, width: Width, other: Self) -> Self
+        ensures { (x y : ℕ) → x < 2 ^ width_bits width → Has self x → Has other y
+            → Has result (result_of AluOp.Arsh width x y) }
+    {
+        if other.least != other.greatest {
+            return Range::any(width);
+        }
+        let by = distance(width, other.least);
+        match width {
+            Width::Low32 => self.shift_signed_word(by),
+            Width::Full64 => self.shift_signed(by),
+        }
+    }
+}
+
+// How far a shift by a number goes.
+fn distance(width: Width, by: u64) -> u64
+    ensures value { result ≡ shift width by }
+    ensures below { result < width_bits width }
+{
+    by % u64::from(width.bits())
+}

@@ -1,0 +1,96 @@
+//! Sums, differences and products, first at 64 bits and then at a width.
+
+ghost use Rattle.std.specs.Prelude.{◌≡◌, ℕ, ◌+◌, ◌-◌, ◌*◌, ◌%◌, ◌^◌, ◌≤◌};
+ghost use Rattle.isa_model.specs.Sizes.{width_bits};
+ghost use Rattle.isa_model.specs.Numbers.{result_of};
+
+use crate::range::Range;
+use isa_model::{AluOp, Width};
+
+impl Range {
+    ghost use Rattle.ranges.specs.Ranges.{Has};
+
+    fn add_unsigned(self, other: Self) -> Self
+        ensures { (x y : ℕ) → Has self x → Has other y → Has result ((x + y) % 2 ^ 64) }
+    {
+        let never_wraps = self.greatest <= u64::MAX - other.greatest;
+        let always_wraps = self.least > u64::MAX - other.least;
+        if never_wraps || always_wraps {
+            Range::between(
+                self.least.wrapping_add(other.least),
+                self.greatest.wrapping_add(other.greatest),
+            )
+        } else {
+            Range::any(Width::Full64)
+        }
+    }
+
+    fn add_signed(self, other: Self) -> Self
+        ensures { (x y : ℕ) → Has self x → Has other y → Has result ((x + y) % 2 ^ 64) }
+    {
+        let Some(least) = self.signed_least.checked_add(other.signed_least) else {
+            return Range::any(Width::Full64);
+        };
+        let Some(greatest) = self.signed_greatest.checked_add(other.signed_greatest) else {
+            return Range::any(Width::Full64);
+        };
+        Range::signed_between(least, greatest)
+    }
+
+    fn sub_unsigned(self, other: Self) -> Self
+        ensures { (x y : ℕ) → Has self x → Has other y → Has result ((x + (2 ^ 64 - y)) % 2 ^ 64) }
+    {
+        if self.least >= other.greatest || self.greatest < other.least {
+            Range::between(
+                self.least.wrapping_sub(other.greatest),
+                self.greatest.wrapping_sub(other.least),
+            )
+        } else {
+            Range::any(Width::Full64)
+        }
+    }
+
+    fn sub_signed(self, other: Self) -> Self
+        ensures { (x y : ℕ) → Has self x → Has other y → Has result ((x + (2 ^ 64 - y)) % 2 ^ 64) }
+    {
+        let Some(least) = self.signed_least.checked_sub(other.signed_greatest) else {
+            return Range::any(Width::Full64);
+        };
+        let Some(greatest) = self.signed_greatest.checked_sub(other.signed_least) else {
+            return Range::any(Width::Full64);
+        };
+        Range::signed_between(least, greatest)
+    }
+
+    fn mul(self, other: Self) -> Self
+        ensures { (x y : ℕ) → Has self x → Has other y → Has result ((x * y) % 2 ^ 64) }
+    {
+        match self.greatest.checked_mul(other.greatest) {
+            Some(greatest) => Range::between(self.least * other.least, greatest),
+            None => Range::any(Width::Full64),
+        }
+    }
+
+    pub(crate) fn add_at(self, width: Width, other: Self) -> Self
+        ensures { (x y : ℕ) → Has self x → Has other y → Has result (result_of AluOp.Add width x y) }
+    {
+        let unsigned = self.add_unsigned(other);
+        let signed = self.add_signed(other);
+        unsigned.with(signed).truncate(width)
+    }
+
+    pub(crate) fn sub_at(self, width: Width, other: Self) -> Self
+        ensures { (x y : ℕ) → y ≤ 2 ^ width_bits width → Has self x → Has other y
+            → Has result (result_of AluOp.Sub width x y) }
+    {
+        let unsigned = self.sub_unsigned(other);
+        let signed = self.sub_signed(other);
+        unsigned.with(signed).truncate(width)
+    }
+
+    pub(crate) fn mul_at(self, width: Width, other: Self) -> Self
+        ensures { (x y : ℕ) → Has self x → Has other y → Has result (result_of AluOp.Mul width x y) }
+    {
+        self.mul(other).truncate(width)
+    }
+}
