@@ -1,7 +1,7 @@
 -- A run asks the clock at most once a step, so only the clock's first answers count.
-use Rattle.std.specs.Prelude.{◌≡◌, ℕ, zero, suc, ◌+◌, ◌<◌, ◌≤◌, ◌==◌, Bool, true, false, if◌then◌else◌, ℤ, pos, ◌+ℤ◌, List, map, length, slice_index, Option, Some, None, Result, Ok, Err, IfOk, refl}
+use Rattle.std.specs.Prelude.{◌≡◌, ℕ, zero, suc, ◌+◌, ◌<◌, ◌≤◌, ◌==◌, Bool, true, false, if◌then◌else◌, ℤ, ◌+ℤ◌, List, map, length, slice_index, Option, Some, None, Result, Ok, Err, IfOk, refl}
 use Rattle.std.specs.List.{list_any, range_with_len}
-use Rattle.std.proofs.Common.{sym, ap, ◌∙◌, subst, arith, add-zero, add-suc}
+use Rattle.std.proofs.Common.{ap, ◌∙◌, arith}
 use Rattle.std.proofs.lemmas.List.FromFn.{get_or-map-range_with_len}
 use Rattle.isa_model.specs.declared.registers.Reg.{Reg}
 use Rattle.isa_model.specs.declared.registers.Reg.TheVariants.{R0}
@@ -24,11 +24,11 @@ use Rattle.isa_model.specs.declared.ends.TrapReason.TheVariants.{UnsetRead, Read
 use Rattle.isa_model.specs.Sizes.{width_size}
 use Rattle.isa_model.specs.Numbers.{low, unsigned, alu, bytes_of, atomic_alu}
 use Rattle.isa_model.specs.Instructions.{Program, fetch, reads, writes, is_frame_pointer}
-use Rattle.isa_model.specs.States.{Entries, State, reg, set_reg}
+use Rattle.isa_model.specs.States.{Entries, State, reg}
 use Rattle.isa_model.specs.Memory.{and_then, pieces, index_at, place_of, put, write, load_number, store_number, store_pointer, store}
 use Rattle.isa_model.specs.Calls.{most_frames, enter, leave}
-use Rattle.isa_model.specs.Steps.{StepResult, Next, Finished, Trapped, base_of, destination, sets, goes_on, branches, test_of, finishes, atomic_number, swaps_in, fetched_into, act, is_unset, performed, performed_at, step}
-use Rattle.isa_model.specs.Runs.{start_state, Progress, GoesOn, Ended, after_step, advanced, progress, turn_of, Turn, turn}
+use Rattle.isa_model.specs.Steps.{StepResult, Next, Finished, Trapped, base_of, destination, sets, goes_on, branches, test_of, finishes, swaps_in, fetched_into, act, is_unset, performed_at, step}
+use Rattle.isa_model.specs.Runs.{start_state, Progress, GoesOn, Ended, after_step, advanced, progress, turn_of, turn}
 use Rattle.isa_model.specs.ValueLaws.{IfOk-and_then}
 use Rattle.isa_model.specs.StepLaws.{IfNext, with_number}
 

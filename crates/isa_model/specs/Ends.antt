@@ -1,7 +1,6 @@
 -- What ends: a run that comes to its exit within n steps and meets no trap.
-use Rattle.std.specs.Prelude.{◌≡◌, ℕ, zero, suc, ◌+◌, ◌≤◌, refl}
+use Rattle.std.specs.Prelude.{◌≡◌, ℕ, zero, suc, ◌≤◌, refl}
 use Rattle.std.proofs.Common.{sym, ap, ◌∙◌, subst, arith}
-use Rattle.isa_model.specs.declared.ends.End.{End}
 use Rattle.isa_model.specs.Instructions.{Program}
 use Rattle.isa_model.specs.States.{State}
 use Rattle.isa_model.specs.Steps.{StepResult, Next, Finished, Trapped, step}

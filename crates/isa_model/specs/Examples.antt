@@ -5,11 +5,11 @@ use Rattle.std.specs.Prelude.{◌≡◌, ℕ, zero, suc, false, ℤ, pos, negsuc
 use Rattle.isa_model.specs.declared.registers.Reg.{Reg}
 use Rattle.isa_model.specs.declared.registers.Reg.TheVariants.{R0, R1, R2, R3, R4, R5, R6, R7, R8, R10}
 use Rattle.isa_model.specs.declared.sizes.Width.TheVariants.{Low32, Full64}
-use Rattle.isa_model.specs.declared.sizes.Size.TheVariants.{U8, U16, U32, U64}
+use Rattle.isa_model.specs.declared.sizes.Size.TheVariants.{U8, U32, U64}
 use Rattle.isa_model.specs.declared.sizes.Narrow.TheVariants.{S8}
 use Rattle.isa_model.specs.declared.sizes.Span.TheVariants.{B16}
 use Rattle.isa_model.specs.declared.sizes.ByteOrder.TheVariants.{Big}
-use Rattle.isa_model.specs.declared.instructions.AluOp.TheVariants.{Add, Sub, SignedDiv, And, Rsh, Mod, SignedMod, Mov}
+use Rattle.isa_model.specs.declared.instructions.AluOp.TheVariants.{Add, Sub, SignedDiv, Rsh, Mod, SignedMod, Mov}
 use Rattle.isa_model.specs.declared.instructions.AtomicOp.TheVariants as atomic
 use Rattle.isa_model.specs.declared.instructions.Comparison.{Comparison}
 use Rattle.isa_model.specs.declared.instructions.Comparison.TheVariants.{Equal, NotEqual, Greater, GreaterEqual, Less}
@@ -22,7 +22,7 @@ use Rattle.isa_model.specs.declared.ends.End.TheVariants.{Exit, Trap, Limit}
 use Rattle.isa_model.specs.declared.ends.TrapReason.TheVariants.{NoCode, UnsetRead, ReadOnly, OutOfRange, BadAccess, TooManyFrames, NoResult}
 use Rattle.isa_model.specs.declared.frames.FrameHead.{FrameHead}
 use Rattle.isa_model.specs.Numbers.{alu, holds, sign_extended, reordered}
-use Rattle.isa_model.specs.Instructions.{Program, slots}
+use Rattle.isa_model.specs.Instructions.{slots}
 use Rattle.isa_model.specs.States.{new_frame}
 use Rattle.isa_model.specs.Steps.{act, step}
 use Rattle.isa_model.specs.Runs.{start_state, progress, Turn, turn}

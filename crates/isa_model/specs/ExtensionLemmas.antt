@@ -3,7 +3,7 @@ use Rattle.std.proofs.Common.{inl, inr, ◌≡◌, ◌⊎◌, ℕ, ◌+◌, ◌-
 use Rattle.std.specs.Prelude.{nat_lt}
 use Rattle.std.specs.Int.{Width as IntWidth, w8, w16, cast_signed, cast_unsigned}
 use mir.Val.{bits, hbits}
-use Rattle.std.proofs.Math.Nat.{mod-eq_of_lt, add-mul-mod_self_right, mod-mod}
+use Rattle.std.proofs.Math.Nat.{mod-eq_of_lt, add-mul-mod_self_right}
 use Rattle.std.proofs.lemmas.Nat.{mod_below}
 use Rattle.std.proofs.lemmas.Bool.{cases_lt, lt-ltb, le-ltb}
 use Rattle.isa_model.specs.declared.sizes.Width.{Width}

@@ -1,7 +1,7 @@
 -- Lemmas about numbers of 32 and 64 bits: how large results are, and 32-bit results by way of 64 bits.
-use Rattle.std.proofs.Common.{inl, inr, ◌≡◌, ◌≢◌, ℕ, ℤ, pos, negsuc, neg_ℤ, zero, suc, ◌+◌, ◌-◌, ◌*◌, ◌/◌, ◌%◌, ◌^◌, ◌<◌, ◌≤◌, refl, sym, ap, ◌∙◌, arith, Bool, true, false, cond, w32, w64}
-use Rattle.std.specs.Prelude.{int_div, int_rem, nat_eq, nat_lt, unsigned_abs, bit_and, bit_or, bit_xor}
-use Rattle.std.specs.Int.{Width as IntWidth, w8, w16, cast_signed, cast_unsigned, swap_bytes}
+use Rattle.std.proofs.Common.{inl, inr, ◌≡◌, ℕ, ℤ, pos, negsuc, neg_ℤ, zero, suc, ◌+◌, ◌-◌, ◌*◌, ◌/◌, ◌%◌, ◌^◌, ◌<◌, ◌≤◌, refl, arith, Bool, true, false, cond, w32, w64}
+use Rattle.std.specs.Prelude.{int_div, int_rem, nat_eq, unsigned_abs}
+use Rattle.std.specs.Int.{Width as IntWidth, cast_signed, cast_unsigned}
 use mir.Val.{bits, hbits}
 use lib.Signed.{mag, shr_z}
 use borrow.Author.Differences.{up, down}
@@ -10,8 +10,6 @@ use Rattle.std.proofs.lemmas.Nat.{mod_below, pow_pos, or_lt, xor_lt, and_le_l}
 use Rattle.std.proofs.lemmas.Bool.{cases_lt, lt-ltb, le-ltb}
 use Rattle.isa_model.specs.declared.sizes.Width.{Width}
 use Rattle.isa_model.specs.declared.sizes.Width.TheVariants.{Low32, Full64}
-use Rattle.isa_model.specs.declared.sizes.Extension.{Extension}
-use Rattle.isa_model.specs.declared.sizes.Extension.TheVariants.{Low8, Low16, Full8, Full16, Full32}
 use Rattle.isa_model.specs.declared.sizes.Span.{Span}
 use Rattle.isa_model.specs.declared.sizes.Span.TheVariants.{B16, B32, B64}
 use Rattle.isa_model.specs.declared.sizes.ByteOrder.{ByteOrder}
@@ -19,7 +17,7 @@ use Rattle.isa_model.specs.declared.sizes.ByteOrder.TheVariants.{Little, Big, Sw
 use Rattle.isa_model.specs.declared.instructions.AluOp.{AluOp}
 use Rattle.isa_model.specs.declared.instructions.AluOp.TheVariants.{Add, Sub, Mul, Div, SignedDiv, Or, And, Lsh, Rsh, Mod, SignedMod, Xor, Mov, Arsh}
 use Rattle.isa_model.specs.Sizes.{width_bits, span_bits}
-use Rattle.isa_model.specs.Numbers.{low, alu, result_of, shift, sign_extended, swapped, reordered}
+use Rattle.isa_model.specs.Numbers.{low, alu, result_of, shift, reordered}
 
 -- ---- widths
 

@@ -1,14 +1,13 @@
 -- Worked examples of frame streams and reports, computed from the definitions.
-use Rattle.std.specs.Prelude.{◌≡◌, ℕ, ◌+◌, ◌*◌, pos, negsuc, List, [], ◌∷◌, ◌++◌, length, map, take, replicate, codes, refl}
+use Rattle.std.specs.Prelude.{◌≡◌, ℕ, pos, negsuc, List, [], ◌∷◌, ◌++◌, length, map, take, replicate, codes, refl}
 use Rattle.std.specs.List.{range_with_len}
 use Rattle.std.specs.Fmt.{digits}
 use Rattle.byteorder.specs.Endian.{little_bytes}
 use Rattle.hex.specs.Hex.{encode_with}
-use Rattle.isa_model.specs.declared.registers.Reg.TheVariants.{R0, R2, R10}
-use Rattle.isa_model.specs.declared.instructions.Insn.{Insn}
+use Rattle.isa_model.specs.declared.registers.Reg.TheVariants.{R0, R2}
 use Rattle.isa_model.specs.declared.instructions.Insn.TheVariants as insn
-use Rattle.isa_model.specs.declared.map_defs.MapKind.TheVariants.{Hash, Array}
-use Rattle.isa_model.specs.declared.streams.Fault.TheVariants.{F1, F2, F3, F4, F5, F6}
+use Rattle.isa_model.specs.declared.map_defs.MapKind.TheVariants.{Array}
+use Rattle.isa_model.specs.declared.streams.Fault.TheVariants.{F1, F2, F5}
 use Rattle.isa_model.specs.declared.streams.Finish.{Finish}
 use Rattle.isa_model.specs.declared.streams.Finish.TheVariants as finish
 use Rattle.isa_model.specs.Numbers.{alu}

@@ -1,13 +1,13 @@
 -- Laws of runs: they are determined, an end stays, and a turn is the outcome where there is one within the limit.
-use Rattle.std.specs.Prelude.{◌≡◌, ℕ, zero, suc, ◌+◌, ◌-◌, ◌≤◌, List, map, refl}
+use Rattle.std.specs.Prelude.{◌≡◌, ℕ, zero, suc, ◌+◌, ◌-◌, ◌≤◌, List, refl}
 use Rattle.std.proofs.Common.{sym, ap, ◌∙◌, arith, add-suc, add-zero}
 use Rattle.isa_model.specs.declared.frames.FrameHead.{FrameHead}
 use Rattle.isa_model.specs.declared.ends.End.{End}
-use Rattle.isa_model.specs.declared.ends.End.TheVariants.{Exit, Trap, Limit}
+use Rattle.isa_model.specs.declared.ends.End.TheVariants.{Exit}
 use Rattle.isa_model.specs.Instructions.{Program}
-use Rattle.isa_model.specs.States.{Entries, entries_of, State}
-use Rattle.isa_model.specs.Steps.{StepResult, Next, Finished, Trapped, step}
-use Rattle.isa_model.specs.Runs.{start_state, Progress, GoesOn, Ended, after_step, advanced, progress, Reaches, Runs, Outcome, HasOutcome, Turn, left, turn_of, turn}
+use Rattle.isa_model.specs.States.{Entries, State}
+use Rattle.isa_model.specs.Steps.{Finished, step}
+use Rattle.isa_model.specs.Runs.{start_state, GoesOn, Ended, after_step, advanced, progress, Reaches, Runs, Outcome, HasOutcome, turn}
 
 -- no steps lead nowhere
 pub progress-zero : (p : Program) (clock : ℕ → ℕ) (s : State) → progress p clock 0 s ≡ GoesOn s

@@ -7,7 +7,7 @@ use Rattle.isa_model.specs.declared.sizes.Size.TheVariants.{U8, U16, U32, U64}
 use Rattle.isa_model.specs.declared.sizes.Narrow.{Narrow}
 use Rattle.isa_model.specs.declared.sizes.Narrow.TheVariants.{S8, S16, S32}
 use Rattle.isa_model.specs.declared.sizes.Extension.{Extension}
-use Rattle.isa_model.specs.declared.sizes.Extension.TheVariants.{Low8, Low16, Full8, Full16, Full32}
+use Rattle.isa_model.specs.declared.sizes.Extension.TheVariants.{Full8, Full16, Full32}
 use Rattle.isa_model.specs.declared.sizes.Span.{Span}
 use Rattle.isa_model.specs.declared.sizes.Span.TheVariants.{B16, B32, B64}
 

@@ -1,34 +1,31 @@
 -- What keeps a state a state: a register set, cells written, a frame pushed, a frame popped, another slot.
 -- And the start state is one.
-use Rattle.std.specs.Prelude.{◌≡◌, ◌≢◌, ℕ, zero, suc, ◌+◌, ◌-◌, ◌*◌, ◌^◌, ◌<◌, ◌≤◌, ◌==◌, ℤ, pos, negsuc, nat_le, true, false, if◌then◌else◌, List, [], ◌∷◌, ◌++◌, map, take, drop, length, replicate, slice_set, slice_index_or, All, AllPairs, Option, Some, None, Result, Ok, Err, IfOk, refl}
-use Rattle.std.specs.List.{AllZip, flat_map, position, splice}
+use Rattle.std.specs.Prelude.{◌≡◌, ◌≢◌, ℕ, zero, suc, ◌+◌, ◌-◌, ◌<◌, ◌≤◌, ◌==◌, nat_le, List, [], ◌∷◌, ◌++◌, map, take, length, slice_set, slice_index_or, All, AllPairs, Option, Some, None, Ok, Err, IfOk, refl}
+use Rattle.std.specs.List.{flat_map, splice}
 use Rattle.std.specs.Option.{option_map}
-use Rattle.std.proofs.Common.{sym, ap, ◌∙◌, subst, arith, length-append, append_assoc, append-nil, inl, inr}
+use Rattle.std.proofs.Common.{sym, ap, ◌∙◌, subst, arith, length-append, append_assoc}
 use Rattle.std.proofs.Math.Seq.{map-set_same, take-append-add, drop-append_seam}
 use Rattle.std.proofs.Math.ListN.{get_or-map as get_or-map_default}
 use Rattle.std.proofs.lemmas.Bool.Decides.{nat_tests}
-use Rattle.std.proofs.lemmas.List.{length-set, set-get_or, map-set, get_or-map, map-append, take-map, length-take-le, get_or-take, length-map}
-use Rattle.std.proofs.lemmas.List.Elements.{All-nil, All-cons, All-head, All-tail, All-get_or, All-append, All-set, All-push, All-take, All-drop, All-map, All-weaker, All-replicate, All-from_recursion, AllZip-get_or}
+use Rattle.std.proofs.lemmas.List.{length-set, map-set, map-append, take-map, length-take-le, get_or-take, length-map}
+use Rattle.std.proofs.lemmas.List.Elements.{All-head, All-tail, All-get_or, All-set, All-push, All-take, All-drop, All-weaker, All-replicate, All-from_recursion}
 use Rattle.std.proofs.lemmas.List.Quantifiers.{position-Some, all_pairs_push}
 use Rattle.isa_model.specs.declared.registers.Reg.{Reg}
 use Rattle.isa_model.specs.declared.registers.Reg.TheVariants.{R0}
 use Rattle.isa_model.specs.declared.values.Region.{Region}
 use Rattle.isa_model.specs.declared.values.Region.TheVariants as region
 use Rattle.isa_model.specs.declared.values.Value.{Value}
-use Rattle.isa_model.specs.declared.values.Value.TheVariants.{Unset, Num, Ptr}
 use Rattle.isa_model.specs.declared.values.Cell.{Cell}
 use Rattle.isa_model.specs.declared.values.Cell.TheVariants.{Unwritten, Byte}
 use Rattle.isa_model.specs.declared.values.CallFrame.{CallFrame}
 use Rattle.isa_model.specs.declared.map_defs.MapDef.{MapDef}
-use Rattle.isa_model.specs.declared.ends.TrapReason.{TrapReason}
 use Rattle.isa_model.specs.declared.ends.TrapReason.TheVariants.{BadAccess}
 use Rattle.isa_model.specs.Registers.{reg_number}
 use Rattle.isa_model.specs.Instructions.{Program}
-use Rattle.isa_model.specs.States.{Stored, Content, Entries, entries_of, State, value_at, reg, set_reg, go_to, content_of, frame_pointer, new_frame, frame_at}
-use Rattle.isa_model.specs.Pointers.{offset_limit}
+use Rattle.isa_model.specs.States.{Stored, Content, Entries, entries_of, State, value_at, reg, set_reg, go_to, content_of, new_frame, frame_at}
 use Rattle.isa_model.specs.Memory.{byte_in, frame_index, entry_index, entry_at, region_cells, place_in, put_frame, put_value, put}
 use Rattle.isa_model.specs.Calls.{most_frames, kept, regs_within, regs_after, enter, callers, innermost, leave}
-use Rattle.isa_model.specs.MachineStates.{AreBytes, IsEntry, KeysFit, keys_of, FitsRow, FitRows, IsOffset, IsRegion, IsValue, IsCell, IsCallFrame, IsSlot, value_serials, live_serials, IsState}
+use Rattle.isa_model.specs.MachineStates.{AreBytes, IsEntry, keys_of, FitsRow, FitRows, IsValue, IsCell, IsCallFrame, IsSlot, value_serials, live_serials, IsState}
 use Rattle.isa_model.specs.ValueLaws.{IfOk-if, IsValue-more, IsCell-more, bytes_in_fit, length-splice, All-splice}
 
 -- ---- another slot

@@ -1,26 +1,25 @@
 -- A step of a state of a program leads to a state of it, and the start state is one.
-use Rattle.std.specs.Prelude.{◌≡◌, ◌≢◌, ℕ, zero, suc, ◌+◌, ◌*◌, ◌^◌, ◌<◌, ◌≤◌, ◌==◌, Bool, true, false, if◌then◌else◌, ℤ, pos, negsuc, ◌+ℤ◌, ◌≤ℤ◌, unwrap_or, List, [], ◌∷◌, ◌++◌, map, take, drop, length, slice_index_or, All, AllPairs, Option, Some, None, Result, Ok, Err, IfOk, refl}
+use Rattle.std.specs.Prelude.{◌≡◌, ◌≢◌, ℕ, zero, suc, ◌+◌, ◌^◌, ◌<◌, ◌≤◌, ◌==◌, Bool, true, false, if◌then◌else◌, ℤ, pos, negsuc, ◌+ℤ◌, ◌≤ℤ◌, unwrap_or, List, [], ◌∷◌, ◌++◌, map, drop, length, slice_index_or, All, AllPairs, Option, Some, None, Result, Ok, Err, IfOk, refl}
 use Rattle.std.specs.Int.{w16, w32}
 use Rattle.std.specs.Int.RustNames.{FitsSigned}
 use Rattle.std.specs.List.{list_any, flat_map, range_with_len}
 use Rattle.std.specs.Option.{option_map}
-use Rattle.std.proofs.Common.{sym, ap, ◌∙◌, subst, arith, add-zero, add-one, zero-add, length-append}
+use Rattle.std.proofs.Common.{sym, ap, ◌∙◌, subst, arith, add-zero, add-one, zero-add}
 use Rattle.std.proofs.lemmas.Int.{ints}
 use Rattle.std.proofs.lemmas.Bool.Decides.{nat_tests}
 use Rattle.std.proofs.lemmas.List.{length-map}
-use Rattle.std.proofs.lemmas.List.Elements.{All-nil, All-cons, All-replicate, All-get_or, All-append, All-take, All-drop, All-push, All-map, All-weaker, All-from_recursion}
+use Rattle.std.proofs.lemmas.List.Elements.{All-nil, All-cons, All-replicate, All-get_or, All-take, All-drop, All-weaker, All-from_recursion}
 use Rattle.std.proofs.lemmas.List.Quantifiers.{position-Some}
 use Rattle.std.proofs.Math.ListN.{get_or-map as get_or-map_default}
 use Rattle.std.proofs.lemmas.List.FromFn.{length-range_with_len, get_or-range_with_len}
 use Rattle.isa_model.specs.declared.registers.Reg.{Reg}
 use Rattle.isa_model.specs.declared.registers.Reg.TheVariants.{R0}
 use Rattle.isa_model.specs.declared.sizes.Width.{Width}
-use Rattle.isa_model.specs.declared.sizes.Width.TheVariants.{Low32, Full64}
+use Rattle.isa_model.specs.declared.sizes.Width.TheVariants.{Full64}
 use Rattle.isa_model.specs.declared.sizes.Size.{Size}
 use Rattle.isa_model.specs.declared.sizes.Size.TheVariants.{U8, U16, U32, U64}
 use Rattle.isa_model.specs.declared.sizes.Narrow.{Narrow}
 use Rattle.isa_model.specs.declared.instructions.AluOp.TheVariants.{Sub}
-use Rattle.isa_model.specs.declared.instructions.Cond.{Cond}
 use Rattle.isa_model.specs.declared.instructions.Place.{Place}
 use Rattle.isa_model.specs.declared.instructions.Operand.{Operand}
 use Rattle.isa_model.specs.declared.instructions.Operand.TheVariants.{Constant, Register}
@@ -42,11 +41,11 @@ use Rattle.isa_model.specs.NumberLemmas.{alu_fits, reordered_fits}
 use Rattle.isa_model.specs.ExtensionLemmas.{sign_extended_fits}
 use Rattle.isa_model.specs.Spelling.{InsnFits, OperandFits}
 use Rattle.isa_model.specs.Instructions.{Program, fetch, slots_of, reads, writes, is_frame_pointer}
-use Rattle.isa_model.specs.States.{Stored, Content, Entries, entries_of, State, reg, set_reg, go_to, content_of, new_frame, frame_at}
-use Rattle.isa_model.specs.Memory.{and_then, frame_index, entry_index, entry_at, number_in, value_in, pieces, index_at, region_cells, place_of, cells_at, read, put, write, context_field, context_load, number_at, as_number, memory_load, load_from, load, load_number, load_signed, store_number, store_pointer, store}
+use Rattle.isa_model.specs.States.{Stored, Content, Entries, entries_of, State, reg, set_reg, content_of, new_frame, frame_at}
+use Rattle.isa_model.specs.Memory.{and_then, frame_index, entry_index, entry_at, number_in, value_in, pieces, index_at, region_cells, place_of, cells_at, read, put, write, context_field, number_at, memory_load, load_from, load, load_number, load_signed, store_number, store_pointer, store}
 use Rattle.isa_model.specs.Calls.{most_frames, enter, leave}
-use Rattle.isa_model.specs.Steps.{StepResult, Next, Finished, Trapped, operand_value, base_of, target, destination, sets, goes_on, jumps, branches, test_of, calls, finishes, exits, atomic_number, swaps_in, fetched_into, act, is_unset, performed, performed_at, step}
-use Rattle.isa_model.specs.Runs.{numbered, numbered_maps, count_values, start_regs, start_state, Progress, GoesOn, progress, Reaches}
+use Rattle.isa_model.specs.Steps.{StepResult, Next, Finished, Trapped, operand_value, base_of, destination, sets, goes_on, jumps, branches, test_of, calls, finishes, exits, atomic_number, swaps_in, fetched_into, act, is_unset, performed_at, step}
+use Rattle.isa_model.specs.Runs.{numbered, numbered_maps, count_values, start_regs, start_state, GoesOn, Reaches}
 use Rattle.isa_model.specs.RunLaws.{progress-zero}
 use Rattle.isa_model.specs.Ends.{Reaches-last}
 use Rattle.isa_model.specs.declared.frames.FrameHead.{FrameHead}

@@ -1,20 +1,18 @@
 -- Laws of values: arithmetic, loads and stores give values and cells that fit.
-use Rattle.std.specs.Prelude.{◌≡◌, ℕ, zero, suc, ◌+◌, ◌*◌, ◌^◌, ◌/◌, ◌%◌, ◌<◌, ◌≤◌, ◌==◌, ◌+ℤ◌, ◌-ℤ◌, Bool, true, false, ◌&&◌, nat_le, if◌then◌else◌, ℤ, pos, negsuc, unsigned_abs, List, [], ◌∷◌, ◌++◌, map, take, drop, length, slice_index, slice_index_or, All, Some, None, Option, Result, Ok, Err, IfOk, refl}
-use Rattle.std.specs.Int.{w8, w16, w32, w64, cast_unsigned, byte_at, to_le_bytes}
+use Rattle.std.specs.Prelude.{◌≡◌, ℕ, zero, suc, ◌+◌, ◌^◌, ◌<◌, ◌≤◌, ◌+ℤ◌, ◌-ℤ◌, Bool, true, false, nat_le, if◌then◌else◌, ℤ, unsigned_abs, List, [], ◌∷◌, ◌++◌, map, take, drop, length, slice_index, All, Result, Ok, Err, IfOk, refl}
+use Rattle.std.specs.Int.{w32, w64, to_le_bytes}
 use Rattle.std.specs.Int.RustNames.{FitsSigned}
 use Rattle.std.specs.List.{list_any, list_all, splice}
-use Rattle.std.proofs.Common.{sym, ap, ◌∙◌, subst, arith, rules, length-append, length-drop}
+use Rattle.std.proofs.Common.{arith, length-append, length-drop}
 use Rattle.std.proofs.lemmas.Int.{ints}
 use Rattle.std.proofs.lemmas.Bool.Decides.{nat_tests}
 use Rattle.std.proofs.lemmas.List.{length-take-le}
-use Rattle.std.proofs.lemmas.List.Elements.{All-nil, All-cons, All-head, All-tail, All-append, All-take, All-drop, All-map, All-weaker, All-from_recursion}
+use Rattle.std.proofs.lemmas.List.Elements.{All-head, All-tail, All-append, All-take, All-drop, All-map, All-weaker, All-from_recursion}
 use Rattle.isa_model.specs.declared.sizes.Width.{Width}
 use Rattle.isa_model.specs.declared.sizes.Width.TheVariants.{Low32, Full64}
 use Rattle.isa_model.specs.declared.sizes.Size.{Size}
-use Rattle.isa_model.specs.declared.sizes.Size.TheVariants.{U8, U16, U32, U64}
-use Rattle.isa_model.specs.declared.sizes.Narrow.{Narrow}
 use Rattle.isa_model.specs.declared.instructions.AluOp.{AluOp}
-use Rattle.isa_model.specs.declared.instructions.AluOp.TheVariants.{Add, Sub, Mul, Div, SignedDiv, Or, And, Lsh, Rsh, Mod, SignedMod, Xor, Mov, Arsh}
+use Rattle.isa_model.specs.declared.instructions.AluOp.TheVariants.{Add, Sub, Mov}
 use Rattle.isa_model.specs.declared.values.Region.{Region}
 use Rattle.isa_model.specs.declared.values.Region.TheVariants as region
 use Rattle.isa_model.specs.declared.values.Value.{Value}
@@ -23,8 +21,8 @@ use Rattle.isa_model.specs.declared.values.Cell.{Cell}
 use Rattle.isa_model.specs.declared.values.Cell.TheVariants.{Unwritten, Byte, Piece}
 use Rattle.isa_model.specs.declared.ends.TrapReason.{TrapReason}
 use Rattle.isa_model.specs.declared.ends.TrapReason.TheVariants.{UnsetRead, BadPointer, OutOfRange, BadAccess}
-use Rattle.isa_model.specs.Sizes.{width_bits, size_bytes, narrow_size, narrow_extension}
-use Rattle.isa_model.specs.Numbers.{low, signed, unsigned, alu, bytes_of, number_from}
+use Rattle.isa_model.specs.Sizes.{size_bytes}
+use Rattle.isa_model.specs.Numbers.{signed, unsigned, bytes_of, number_from}
 use Rattle.isa_model.specs.NumberLemmas.{alu_fits, low_below, width_fits}
 use Rattle.isa_model.specs.Pointers.{offset_limit, can_move, pointer_at, moved_to, pointer_and_number, number_and_pointer, moved, combined, arithmetic, on_number}
 use Rattle.isa_model.specs.Memory.{and_then, is_unwritten, is_byte, byte_in, number_of, pieces, are_pieces, pointer_in, number_in, value_in}
