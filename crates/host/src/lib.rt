@@ -16,5 +16,5 @@ pub use checked::run_checked;
 pub use errors::HostError;
 pub use tallies::Tally;
 
-
-
+#[cfg(test)]
+mod tests;

@@ -1,18 +1,17 @@
 -- Limits of sums, shifts and products.
-use Rattle.std.proofs.Common.{◌≡◌, ◌≢◌, ℕ, ℤ, pos, negsuc, zero, suc, ◌+◌, ◌-◌, ◌*◌, ◌/◌, ◌%◌, ◌^◌, ◌<◌, ◌≤◌, min, max, w32, w64, refl, sym, inl, inr, ap, ◌∙◌, arith, bit_and, bit_or, Bool, true, false, cond}
+use Rattle.std.proofs.Common.{◌≡◌, ℕ, ℤ, pos, negsuc, ◌+◌, ◌-◌, ◌*◌, ◌/◌, ◌%◌, ◌^◌, ◌<◌, ◌≤◌, w64, refl, inl, inr, ap, arith, Bool, true, false, cond}
 use Rattle.std.specs.Prelude.{◌+ℤ◌, ◌-ℤ◌, ◌≤ℤ◌, FitsSigned, nat_eq}
 use Rattle.std.specs.Int.{cast_signed, cast_unsigned, int_shr}
 use lib.Signed.{shr_z, mag_shr}
 use Rattle.std.proofs.Math.Facts.{sfits_to_z}
 use Rattle.std.proofs.lemmas.Int.{ints}
-use borrow.Author.Differences.{up, down}
 use Rattle.isa_model.specs.declared.sizes.Width.TheVariants.{Low32}
 use Rattle.isa_model.specs.declared.sizes.Extension.TheVariants.{Full8, Full16, Full32}
 use Rattle.isa_model.specs.declared.instructions.AluOp.TheVariants.{Arsh}
 use Rattle.isa_model.specs.Numbers.{result_of, sign_extended}
 use Rattle.isa_model.specs.NumberLemmas.{signed_equation}
 use Rattle.isa_model.specs.ExtensionLemmas.{sign_extended_cases, sign_extended_fits}
-use Rattle.std.proofs.lemmas.Bool.{cases_lt, lt-ltb, le-ltb, ne_eqb}
+use Rattle.std.proofs.lemmas.Bool.{cases_lt, lt-ltb, ne_eqb}
 use Rattle.std.proofs.lemmas.Nat.{le-div, pow_pos, mul-le, mod_below}
 use Rattle.std.proofs.Math.Nat.{div-mul-le_self, mod-eq_of_lt, div-le_self, mod-le, div-zero}
 

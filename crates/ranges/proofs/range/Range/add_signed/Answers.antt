@@ -1,6 +1,6 @@
-use Rattle.std.proofs.Common.{arith, rules, w64, ◌≡◌, ◌+◌, ◌-◌, ◌%◌, ◌^◌, ◌<◌}
+use Rattle.std.proofs.Common.{arith, rules, w64, ◌+◌, ◌%◌, ◌^◌, ◌<◌}
 use Rattle.std.specs.Prelude.{FitsSigned}
-use Rattle.std.proofs.lemmas.Int.{ints, to_z-of_z}
+use Rattle.std.proofs.lemmas.Int.{to_z-of_z}
 use Rattle.ranges.proofs.Limits.{sum_from, sum_to}
 use Rattle.ranges.proofs.range.Range.add_signed.Goals as goal
 

@@ -1,4 +1,4 @@
-use Rattle.std.proofs.Common.{arith, ◌≤◌, ◌<◌, ◌+◌, ◌%◌, ◌^◌}
+use Rattle.std.proofs.Common.{arith, ◌<◌, ◌+◌, ◌%◌, ◌^◌}
 use Rattle.ranges.proofs.range.Range.add_unsigned.Goals as goal
 
 pub returns-then-always_wraps : goal.returns-then-always_wraps

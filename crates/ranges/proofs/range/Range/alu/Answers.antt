@@ -1,5 +1,4 @@
-use Rattle.std.proofs.Common.{arith, ◌^◌, ◌<◌, ◌≤◌, ◌%◌}
-use Rattle.isa_model.specs.Sizes.{width_bits}
+use Rattle.std.proofs.Common.{arith}
 use Rattle.isa_model.specs.Numbers.{alu}
 use Rattle.isa_model.specs.NumberLemmas.{alu_below, low_below}
 use Rattle.ranges.proofs.range.Range.alu.Goals as goal

@@ -1,5 +1,4 @@
-use Rattle.std.proofs.Common.{◌≡◌, ◌-◌, ◌^◌, ◌<◌, ◌≤◌, arith}
-use Rattle.isa_model.specs.NumberLemmas.{width_fits}
+use Rattle.std.proofs.Common.{arith}
 use Rattle.ranges.proofs.range.Range.any.Goals as goal
 
 pub returns : goal.returns

@@ -1,6 +1,5 @@
-use Rattle.std.proofs.Common.{arith, ◌≡◌, ◌/◌, ◌≤◌, cond, zero}
+use Rattle.std.proofs.Common.{arith, ◌/◌, cond}
 use Rattle.std.specs.Prelude.{nat_eq}
-use Rattle.std.proofs.Math.Nat.{div-le_self}
 use Rattle.ranges.proofs.Limits.{zero_or_div, div_apart}
 use Rattle.ranges.proofs.range.Range.divide.Goals as goal
 

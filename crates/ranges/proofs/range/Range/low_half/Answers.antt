@@ -1,4 +1,4 @@
-use Rattle.std.proofs.Common.{arith, ◌%◌, ◌^◌, ◌≤◌}
+use Rattle.std.proofs.Common.{arith, ◌%◌, ◌^◌}
 use Rattle.ranges.proofs.range.Range.low_half.Goals as goal
 
 pub returns-else-self-le65535 : goal.returns-else-self-le65535

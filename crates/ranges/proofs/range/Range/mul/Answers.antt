@@ -1,4 +1,4 @@
-use Rattle.std.proofs.Common.{arith, ◌≡◌, ◌*◌, ◌%◌, ◌^◌, ◌<◌}
+use Rattle.std.proofs.Common.{arith, ◌*◌, ◌%◌, ◌^◌, ◌<◌}
 use Rattle.std.proofs.lemmas.Nat.{mul-le}
 use Rattle.std.proofs.Math.Nat.{mod-eq_of_lt}
 use Rattle.ranges.proofs.range.Range.mul.Goals as goal

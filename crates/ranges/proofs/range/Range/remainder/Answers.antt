@@ -1,4 +1,4 @@
-use Rattle.std.proofs.Common.{arith, ◌≡◌, ◌%◌, ◌≤◌, cond, zero}
+use Rattle.std.proofs.Common.{arith, ◌%◌, cond}
 use Rattle.std.specs.Prelude.{nat_eq}
 use Rattle.ranges.proofs.Limits.{self_or_mod, mod_apart}
 use Rattle.ranges.proofs.range.Range.remainder.Goals as goal

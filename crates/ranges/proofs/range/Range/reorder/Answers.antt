@@ -1,4 +1,4 @@
-use Rattle.std.proofs.Common.{arith, ◌≤◌, ◌<◌, ◌^◌}
+use Rattle.std.proofs.Common.{arith}
 use Rattle.isa_model.specs.Numbers.{reordered}
 use Rattle.isa_model.specs.NumberLemmas.{reordered_below}
 use Rattle.ranges.proofs.range.Range.reorder.Goals as goal

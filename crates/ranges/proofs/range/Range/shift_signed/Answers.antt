@@ -1,4 +1,4 @@
-use Rattle.std.proofs.Common.{arith, rules, w64, ◌≡◌, ◌^◌, ◌<◌}
+use Rattle.std.proofs.Common.{rules, w64, ◌^◌}
 use Rattle.std.specs.Prelude.{FitsSigned}
 use Rattle.std.specs.Int.{cast_signed, cast_unsigned, int_shr}
 use Rattle.std.proofs.lemmas.Int.{to_z-of_z}

@@ -1,6 +1,5 @@
 use Rattle.std.proofs.Common.{◌≡◌, ◌%◌, ◌^◌, ◌<◌, ap, sym, ◌∙◌, arith}
 use Rattle.std.proofs.Math.Nat.{mod-eq_of_lt}
-use Rattle.isa_model.specs.Sizes.{width_bits}
 use Rattle.isa_model.specs.Numbers.{shift}
 use Rattle.isa_model.specs.NumberLemmas.{arithmetic_shift_below}
 use Rattle.ranges.proofs.range.Range.shift_signed_at.Goals as goal

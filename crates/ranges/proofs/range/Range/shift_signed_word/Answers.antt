@@ -1,4 +1,4 @@
-use Rattle.std.proofs.Common.{◌≡◌, ◌/◌, ◌^◌, ◌<◌, arith}
+use Rattle.std.proofs.Common.{arith}
 use Rattle.isa_model.specs.NumberLemmas.{arithmetic_shift_below}
 use Rattle.isa_model.specs.declared.sizes.Width.TheVariants.{Low32}
 use Rattle.ranges.proofs.Limits.{shift_word_small}

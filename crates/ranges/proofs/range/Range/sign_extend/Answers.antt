@@ -1,6 +1,5 @@
-use Rattle.std.proofs.Common.{◌≡◌, ◌^◌, ◌<◌, ◌≤◌, arith}
+use Rattle.std.proofs.Common.{arith}
 use Rattle.isa_model.specs.declared.sizes.Extension.TheVariants.{Low8, Low16, Full8, Full16, Full32}
-use Rattle.isa_model.specs.Numbers.{sign_extended}
 use Rattle.isa_model.specs.ExtensionLemmas.{sign_extended-small, sign_extended_fits, sign_extended_below}
 use Rattle.ranges.proofs.Limits.{extended_8, extended_16, extended_32}
 use Rattle.ranges.proofs.range.Range.sign_extend.Goals as goal

@@ -1,4 +1,4 @@
-use Rattle.std.proofs.Common.{arith, ◌≤◌, ◌<◌, ◌+◌, ◌-◌, ◌%◌, ◌^◌}
+use Rattle.std.proofs.Common.{arith, ◌<◌, ◌+◌, ◌-◌, ◌%◌, ◌^◌}
 use Rattle.ranges.proofs.range.Range.sub_unsigned.Goals as goal
 
 pub returns-then-self-other-2 : goal.returns-then-self-other-2
