@@ -80,7 +80,6 @@ impl Checked {
         ensures clock { (k : ℕ) → C.at clock.new k
             ≡ C.at clock.old ((turn self.old.program limit (C.at clock.old) head packet.old self.old.contents).clock_calls + k) }
     {
-        self.core
-            .run(self.image.code(), head, packet, clock, limit)
+        self.core.run(self.image.code(), head, packet, clock, limit)
     }
 }

@@ -1,16 +1,18 @@
 //! A machine with tagged values: it runs any program, and stops at the first undefined use with its reason.
+//!
+//! `checked` has the machine; the other modules have one function for each definition of the meaning.
 #![tactic(auto)]
 
-pub mod atomics;
-pub mod cells;
+mod atomics;
+mod cells;
 pub mod checked;
-pub mod comparisons;
-pub mod core_state;
-pub mod forms;
-pub mod memory;
-pub mod places;
-pub mod runs;
-pub mod steps;
+mod comparisons;
+mod core_state;
+mod forms;
+mod memory;
+mod places;
+mod runs;
+mod steps;
 #[cfg(test)]
 mod tests;
-pub mod values;
+mod values;
