@@ -1,7 +1,7 @@
 //! Images worked out by hand, their refusals, and writers that stumble.
 
-use crate::ImageError::{Code, Long, Magic, Memory, Short, SlotCount, TooManyMaps};
 use crate::Image;
+use crate::ImageError::{Code, Long, Magic, Memory, Short, SlotCount, TooManyMaps};
 use insn_codec::CodecError;
 use isa_model::Operand::Constant;
 use isa_model::{AluOp, Insn, Reg, Width};
