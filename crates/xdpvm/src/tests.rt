@@ -2,6 +2,8 @@
 
 ghost use Rattle.std.specs.Prelude.{Some};
 
+mod programs;
+
 use super::execute;
 use std::alloc::Global;
 use std::io::{ErrorKind, Write};
