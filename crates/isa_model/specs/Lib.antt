@@ -14,6 +14,7 @@ pub mod Memory
 pub mod ByteCells
 pub mod Calls
 pub mod Steps
+pub mod Successors
 pub mod Runs
 pub mod RunLaws
 pub mod Ends

@@ -1,0 +1,27 @@
+-- Where an abstract step leads.
+use Rattle.std.specs.Prelude.{ℕ, ◌⊎◌}
+use Rattle.isa_model.specs.Instructions.{Program}
+use Rattle.isa_model.specs.States as Machine
+use Rattle.isa_model.specs.Steps.{step}
+use Rattle.isa_model.specs.Ends.{After}
+use Rattle.stack_state.specs.declared.states.State.{State}
+use Rattle.stack_state.specs.Meaning.{Means}
+use Rattle.transfer.specs.declared.Ways.{Ways}
+use Rattle.transfer.specs.declared.Ways.TheVariants.{None, One, Two}
+
+-- what is said of each state that the instruction leads to: the first, and the other
+abbrev pub EachWay : Ways → State → State → (State → Type 0) → Type 0
+EachWay None a b P = Unit {0}
+EachWay One a b P = P a
+EachWay Two a b P = P a × P b
+
+-- the machine state is meant by one of them
+abbrev pub InSome : Program → Ways → State → State → Machine.State → Type 0
+InSome p None a b s = ⊥
+InSome p One a b s = Means p a s
+InSome p Two a b s = Means p a s ⊎ Means p b s
+
+-- no machine state that is meant traps at its next step, and each that goes on goes into one of these
+unfoldable pub LeadsTo : Program → State → Ways → State → State → Type 0
+LeadsTo p from ways a b =
+    (clock : ℕ → ℕ) (s : Machine.State) → Means p from s → After (InSome p ways a b) (step p clock s)
