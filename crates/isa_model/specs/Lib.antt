@@ -23,6 +23,8 @@ pub mod ValueLaws
 pub mod StateLaws
 pub mod StepLaws
 pub mod ClockLaws
+pub mod Outcomes
 pub mod Reports
+pub mod ReportLaws
 pub mod Examples
 pub mod ReportExamples

@@ -66,13 +66,13 @@ unfolding frames_from
 frames_from-stops fuel p bytes e stop h = rw (h, frames_from) refl
 
 -- the records behind the one at the front
-abbrev frames_behind : ℕ → Position → List ℕ → Ending → List Frame × Finish
+abbrev pub frames_behind : ℕ → Position → List ℕ → Ending → List Frame × Finish
 frames_behind fuel p bytes e =
     let f = frame_of (drop (length (opening p)) bytes) in
     frames_from fuel (after_frame p f) (drop (20 + length f.body) (drop (length (opening p)) bytes)) e
 
 -- a stream that goes on has the record at its front, and then those behind it
-frames_from-goes_on : (fuel : ℕ) (p : Position) (bytes : List ℕ) (e : Ending) → stop_from p bytes e ≡ None
+pub frames_from-goes_on : (fuel : ℕ) (p : Position) (bytes : List ℕ) (e : Ending) → stop_from p bytes e ≡ None
     → frames_from (suc fuel) p bytes e ≡ (frame_of (drop (length (opening p)) bytes) ∷ (frames_behind fuel p bytes e).0, (frames_behind fuel p bytes e).1)
 unfolding frames_from
 frames_from-goes_on fuel p bytes e h = rw (h, frames_from) refl
