@@ -1,0 +1,6 @@
+//! STUB.
+#![tactic(auto)]
+
+pub mod verified;
+
+pub use verified::Verified;

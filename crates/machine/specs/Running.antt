@@ -1,0 +1,36 @@
+-- What callers see of the machine, and what its runs answer.
+use Rattle.std.specs.Prelude.{◌≡◌, ℕ, ◌+◌, ◌≤◌, List}
+use Rattle.isa_model.specs.declared.frames.FrameHead.{FrameHead}
+use Rattle.isa_model.specs.Instructions.{Program}
+use Rattle.isa_model.specs.States.{Entries}
+use Rattle.isa_model.specs.Runs.{Outcome, HasOutcome}
+use Rattle.isa_model.specs.Outcomes.{StartsEnd}
+use Rattle.isa_model.specs.MachineStates.{FitRows, IsProgram}
+use Rattle.machine.specs.declared.machines.Exit.{Exit}
+
+-- its program with the bound of its runs, and the maps' contents between runs
+pub record Running : Type 0 where
+  pub program : Program
+  pub bound : ℕ
+  pub contents : List Entries
+
+-- every run exits within the bound, and the contents fit the rows
+pub record IsRunning (r : Running) : Type 0 where
+  pub is_program : IsProgram r.program
+  pub ends : StartsEnd r.program r.bound
+  pub some : 1 ≤ r.bound
+  pub most : r.bound ≤ 1000000
+  pub fits : FitRows r.program.maps r.contents
+
+-- A run answers its outcome, which has at most as many steps as the bound: the number and the steps, the packet and
+-- the contents that it leaves, and the clock's coming answers.
+pub record Answers (r : Running) (head : FrameHead) (packet : List ℕ) (clock : ℕ → ℕ)
+    (exit : Exit) (after : List ℕ) (left : List Entries) (coming : ℕ → ℕ) : Type 0 where
+  pub outcome : Outcome
+  pub found : HasOutcome r.program head packet r.contents clock outcome
+  pub few : outcome.steps ≤ r.bound
+  pub number_is : exit.r0 ≡ outcome.number
+  pub steps_are : exit.steps ≡ outcome.steps
+  pub packet_is : after ≡ outcome.packet
+  pub contents_are : left ≡ outcome.contents
+  pub clock_is : (k : ℕ) → coming k ≡ clock (outcome.clock_calls + k)
