@@ -11,10 +11,12 @@ mod errors;
 mod lines;
 mod runners;
 mod tallies;
+mod verified;
 
 pub use checked::run_checked;
 pub use errors::HostError;
 pub use tallies::Tally;
+pub use verified::run;
 
 #[cfg(test)]
 mod tests;

@@ -1,0 +1,87 @@
+-- What the runs of an accepted program write.
+use Rattle.std.proofs.Common.{◌≡◌, ◌≢◌, ℕ, ◌<◌, ◌≤◌, List, [], ◌∷◌, ◌++◌, length, Option, Some, None, Result, Err, refl, sym, ap, ◌∙◌, subst, arith}
+use Rattle.std.specs.Prelude.{IfSome}
+use Rattle.std.proofs.lemmas.List.{take_at}
+use Rattle.std.proofs.lemmas.List.Elements.{All-take}
+use Rattle.isa_model.specs.declared.map_defs.MapDef.{MapDef}
+use Rattle.isa_model.specs.declared.frames.FrameHead.{FrameHead}
+use Rattle.isa_model.specs.declared.ends.End.TheVariants.{Exit}
+use Rattle.isa_model.specs.Instructions.{Program}
+use Rattle.isa_model.specs.States.{Entries}
+use Rattle.isa_model.specs.Streams.{stream_of}
+use Rattle.isa_model.specs.Runs.{Turn, turn}
+use Rattle.isa_model.specs.RunLaws.{turn-outcome}
+use Rattle.isa_model.specs.MachineStates.{AreBytes, FitRows}
+use Rattle.isa_model.specs.Reports.{Piece, turn_by, report_of, checked_rule, checked_report, starting_contents}
+use Rattle.isa_model.specs.ReportLaws.{IsReport-checked}
+use Rattle.image.specs.Images.{IsImage}
+use Rattle.image.specs.Programs.{IsProgram-IsImage}
+use Rattle.explorer.specs.Accepted.{Accepted, IsAccepted}
+use Rattle.machine.specs.declared.machines.Exit.{Exit as TheExit}
+use Rattle.machine.specs.Running.{Running, Answers}
+use Rattle.frames.specs.Inputs.{Hears}
+use Rattle.host.specs.declared.errors.HostError.{HostError}
+use Rattle.host.specs.declared.tallies.Tally.{Tally}
+use Rattle.host.specs.Writing.{Outputs}
+use Rattle.host.specs.Reported.{Reports}
+use Rattle.host.specs.Accepted.{ReportsRun}
+
+-- images have no maps yet
+pub no_maps : (p : Program) → IsImage p → p.maps ≡ []
+no_maps p h = empty p.maps h.few_maps
+  where
+    empty : (rows : List MapDef) → length rows ≤ 0 → rows ≡ []
+    empty [] h = refl
+    empty (row ∷ rows) h = absurd (omega arith)
+
+-- a machine's answer is the turn of its program
+pub turn-Answers : (r : Running) (head : FrameHead) (packet : List ℕ) (clock : ℕ → ℕ) (exit : TheExit) (after : List ℕ) (left : List Entries) (coming : ℕ → ℕ)
+    → Answers r head packet clock exit after left coming
+    → ((turn r.program r.bound clock head packet r.contents).ends ≡ Exit exit.r0 exit.steps)
+    × ((turn r.program r.bound clock head packet r.contents).packet ≡ after)
+    × ((turn r.program r.bound clock head packet r.contents).contents ≡ left)
+turn-Answers r head packet clock exit after left coming h =
+    let o = h.outcome in
+    let same = turn-outcome r.program head packet r.contents clock o r.bound h.found h.few in
+    let numbers : Exit o.number o.steps ≡ Exit exit.r0 exit.steps = rw (h.number_is, h.steps_are) refl in (
+      ap (λ (t : Turn). t.ends) same ∙ numbers,
+      ap (λ (t : Turn). t.packet) same ∙ sym h.packet_is,
+      ap (λ (t : Turn). t.contents) same ∙ sym h.contents_are,
+    )
+
+heard_bytes : (bytes heard unheard : List ℕ) → bytes ≡ heard ++ unheard → AreBytes bytes → AreBytes heard
+heard_bytes bytes heard unheard e h =
+    subst AreBytes (take_at heard unheard (length heard) refl)
+    (All-take (λ b. b < 256) (length heard) (heard ++ unheard) (subst AreBytes e h))
+
+-- what was written of an accepted program's turns is its report
+pub ReportsRun-Reports : (a : Accepted) (bytes : List ℕ) (old new : Outputs) (result : Result Tally HostError) → IsAccepted a
+    → Reports bytes (checked_report a.program a.bound) old new result → AreBytes bytes → ReportsRun a bytes old new result
+ReportsRun-Reports a bytes old new result h r are =
+    let p = a.program in
+    let fits : FitRows p.maps (starting_contents p.maps) = subst (λ rows. FitRows rows (starting_contents rows)) (sym (no_maps p h.image)) tt in
+    let (is_report, exits) = IsReport-checked p a.bound r.input (IsProgram-IsImage p h.image) h.ends fits (heard_bytes bytes r.input.bytes r.hears.unheard r.hears.split are) in
+    record {
+      input = r.input;
+      pieces = checked_report p a.bound r.input;
+      hears = r.hears;
+      is_report = is_report;
+      exits = exits;
+      writes = r.writes;
+      tells = r.tells;
+    }
+
+pub IfSome-weaker : {A : Type 0} (o : Option A) (P Q : A → Type 0) → ((x : A) → P x → Q x) → IfSome o P → IfSome o Q
+IfSome-weaker None P Q h k = tt
+IfSome-weaker (Some x) P Q h k = h x k
+
+-- the same of the machine that was made of the program, with its bound as the limit
+pub ReportsRun-machine : (a : Accepted) (bytes : List ℕ) (old new : Outputs) (result : Result Tally HostError) (limit : ℕ) (m : Running) → IsAccepted a
+    → limit ≡ a.bound → m ≡ record { program = a.program; bound = a.bound; contents = starting_contents a.program.maps }
+    → Reports bytes (λ input. report_of limit m.program.maps (checked_rule m.program m.bound) m.contents (stream_of input)) old new result
+    → AreBytes bytes → ReportsRun a bytes old new result
+ReportsRun-machine a bytes old new result limit m h bound made r are =
+    let bounded = subst (λ n. Reports bytes (λ input. report_of n m.program.maps (checked_rule m.program m.bound) m.contents (stream_of input)) old new result) bound r in
+    ReportsRun-Reports a bytes old new result h
+    (subst (λ (q : Running). Reports bytes (λ input. report_of a.bound q.program.maps (checked_rule q.program q.bound) q.contents (stream_of input)) old new result) made bounded)
+    are
