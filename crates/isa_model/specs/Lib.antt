@@ -28,3 +28,6 @@ pub mod Reports
 pub mod ReportLaws
 pub mod Examples
 pub mod ReportExamples
+pub mod CanonicalText
+pub mod TextLaws
+pub mod TextExamples
