@@ -1,0 +1,190 @@
+//! The words and signs of instructions.
+
+ghost use Rattle.std.specs.Prelude.{◌≡◌, ◌≤◌, length};
+ghost use Rattle.isa_model.specs.CanonicalText.{reg_digits, size_text, narrow_text, extension_text, extension_width, span_text, order_text, width_text, op_text, comparison_text, atomic_text, fetch_text, kind_text};
+
+use isa_model::{
+    AluOp, AtomicOp, ByteOrder, Comparison, Extension, MapKind, Narrow, Reg, Size, Span, Width,
+};
+
+/// A register's number.
+pub fn reg_digits(register: Reg) -> &'static str
+    ensures text { result.now ≡ reg_digits register }
+    ensures short { length result.now ≤ 2 }
+{
+    match register {
+        Reg::R0 => "0",
+        Reg::R1 => "1",
+        Reg::R2 => "2",
+        Reg::R3 => "3",
+        Reg::R4 => "4",
+        Reg::R5 => "5",
+        Reg::R6 => "6",
+        Reg::R7 => "7",
+        Reg::R8 => "8",
+        Reg::R9 => "9",
+        Reg::R10 => "10",
+    }
+}
+
+/// What a load or store moves.
+pub fn size_word(size: Size) -> &'static str
+    ensures text { result.now ≡ size_text size }
+    ensures short { length result.now ≤ 3 }
+{
+    match size {
+        Size::U8 => "u8",
+        Size::U16 => "u16",
+        Size::U32 => "u32",
+        Size::U64 => "u64",
+    }
+}
+
+/// What a sign-extending load reads.
+pub fn narrow_word(size: Narrow) -> &'static str
+    ensures text { result.now ≡ narrow_text size }
+    ensures short { length result.now ≤ 3 }
+{
+    match size {
+        Narrow::S8 => "s8",
+        Narrow::S16 => "s16",
+        Narrow::S32 => "s32",
+    }
+}
+
+/// What MOVSX extends.
+pub fn extension_word(extension: Extension) -> &'static str
+    ensures text { result.now ≡ extension_text extension }
+    ensures short { length result.now ≤ 3 }
+{
+    match extension {
+        Extension::Low8 | Extension::Full8 => "s8",
+        Extension::Low16 | Extension::Full16 => "s16",
+        Extension::Full32 => "s32",
+    }
+}
+
+/// What MOVSX extends to.
+pub fn extension_width(extension: Extension) -> Width
+    ensures { result ≡ extension_width extension }
+{
+    match extension {
+        Extension::Low8 | Extension::Low16 => Width::Low32,
+        Extension::Full8 | Extension::Full16 | Extension::Full32 => Width::Full64,
+    }
+}
+
+/// How many bits a byte swap instruction takes.
+pub fn span_word(span: Span) -> &'static str
+    ensures text { result.now ≡ span_text span }
+    ensures short { length result.now ≤ 2 }
+{
+    match span {
+        Span::B16 => "16",
+        Span::B32 => "32",
+        Span::B64 => "64",
+    }
+}
+
+/// What a byte swap instruction does.
+pub fn order_word(order: ByteOrder) -> &'static str
+    ensures text { result.now ≡ order_text order }
+    ensures short { length result.now ≤ 5 }
+{
+    match order {
+        ByteOrder::Little => "le",
+        ByteOrder::Big => "be",
+        ByteOrder::Swap => "bswap",
+    }
+}
+
+/// How many bits an atomic instruction works on.
+pub fn width_word(width: Width) -> &'static str
+    ensures text { result.now ≡ width_text width }
+    ensures short { length result.now ≤ 2 }
+{
+    match width {
+        Width::Low32 => "32",
+        Width::Full64 => "64",
+    }
+}
+
+/// The sign of an assignment.
+pub fn op_sign(op: AluOp) -> &'static str
+    ensures text { result.now ≡ op_text op }
+    ensures short { length result.now ≤ 4 }
+{
+    match op {
+        AluOp::Add => "+=",
+        AluOp::Sub => "-=",
+        AluOp::Mul => "*=",
+        AluOp::Div => "/=",
+        AluOp::SignedDiv => "s/=",
+        AluOp::Or => "|=",
+        AluOp::And => "&=",
+        AluOp::Lsh => "<<=",
+        AluOp::Rsh => ">>=",
+        AluOp::Mod => "%=",
+        AluOp::SignedMod => "s%=",
+        AluOp::Xor => "^=",
+        AluOp::Mov => "=",
+        AluOp::Arsh => "s>>=",
+    }
+}
+
+/// The sign of a test.
+pub fn comparison_sign(comparison: Comparison) -> &'static str
+    ensures text { result.now ≡ comparison_text comparison }
+    ensures short { length result.now ≤ 3 }
+{
+    match comparison {
+        Comparison::Equal => "==",
+        Comparison::NotEqual => "!=",
+        Comparison::Greater => ">",
+        Comparison::GreaterEqual => ">=",
+        Comparison::Less => "<",
+        Comparison::LessEqual => "<=",
+        Comparison::AnyBit => "&",
+        Comparison::SignedGreater => "s>",
+        Comparison::SignedGreaterEqual => "s>=",
+        Comparison::SignedLess => "s<",
+        Comparison::SignedLessEqual => "s<=",
+    }
+}
+
+/// The sign of an atomic instruction without FETCH.
+pub fn atomic_sign(op: AtomicOp) -> &'static str
+    ensures text { result.now ≡ atomic_text op }
+    ensures short { length result.now ≤ 2 }
+{
+    match op {
+        AtomicOp::Add => "+=",
+        AtomicOp::Or => "|=",
+        AtomicOp::And => "&=",
+        AtomicOp::Xor => "^=",
+    }
+}
+
+/// The name of an atomic instruction with FETCH, up to its bits.
+pub fn fetch_word(op: AtomicOp) -> &'static str
+    ensures text { result.now ≡ fetch_text op }
+    ensures short { length result.now ≤ 17 }
+{
+    match op {
+        AtomicOp::Add => "atomic_fetch_add_",
+        AtomicOp::Or => "atomic_fetch_or_",
+        AtomicOp::And => "atomic_fetch_and_",
+        AtomicOp::Xor => "atomic_fetch_xor_",
+    }
+}
+
+/// A type of map.
+pub fn kind_word(kind: MapKind) -> &'static str
+    ensures text { result.now ≡ kind_text kind }
+    ensures short { length result.now ≤ 5 }
+{
+    match kind {
+        MapKind::Hash => "hash",
+        MapKind::Array => "array",
+    }
+}
