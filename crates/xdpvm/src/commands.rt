@@ -11,6 +11,8 @@ use std::alloc::{AllocError, Global};
 pub enum Task<'a> {
     /// Run a program with checks.
     Trace(Paths<'a>, StepLimit),
+    /// Write the text of the image in a file.
+    Disassemble(&'a str),
     /// A command of this program that this build does not have.
     NotBuilt(&'static str),
 }
@@ -135,6 +137,7 @@ fn task_of<'a>(name: &str, matches: &ArgMatches<'a>) -> Option<Task<'a>> {
     match name {
         "run" => Some(Task::Trace(paths_of(matches)?, StepLimit { steps: MAX_STEPS })),
         "trace" => Some(Task::Trace(paths_of(matches)?, limit_in(matches)?)),
+        "dis" => Some(Task::Disassemble(matches.get_str("image")?)),
         _ => not_built(name),
     }
 }

@@ -1,7 +1,7 @@
 //! The program, on any runtime and any outputs.
 
 use super::commands::{Task, WordsError, read_words};
-use super::files::trace;
+use super::files::{disassemble_file, trace};
 use super::outcomes::{Outcome, say};
 use std::io::Write;
 use std::rt::Files;
@@ -28,6 +28,7 @@ pub fn execute<R: Files + AllocGlobal, W1: Write, W2: Write>(
     let alloc = rt.alloc();
     let outcome = match read_words(alloc, words) {
         Ok(Task::Trace(paths, limit)) => trace(rt, alloc, paths, limit, out),
+        Ok(Task::Disassemble(path)) => disassemble_file(rt, alloc, path, out),
         Ok(Task::NotBuilt(name)) => {
             say(err, &[USAGE, "this build has no command ", name, "\n"]);
             return WRONG_WORDS;

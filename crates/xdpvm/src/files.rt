@@ -1,7 +1,8 @@
-//! The files of a run.
+//! The files that the commands read and write.
 
 use super::commands::{Paths, StepLimit};
 use super::outcomes::Outcome;
+use disassembler::disassemble;
 use exact_io::write_bytes;
 use host::{HostError, run_checked};
 use image::{Image, ImageError};
@@ -79,5 +80,22 @@ pub fn trace<'a, R: Files, W: Write>(
         Err(HostError::Memory) => Outcome::NoMemory,
         Err(HostError::Report) => Outcome::CannotWrite(STANDARD_OUTPUT),
         Err(HostError::Frames) => Outcome::CannotWrite(paths.out),
+    }
+}
+
+/// Writes the text of an image: it is read and judged, and then the text goes to standard output.
+pub fn disassemble_file<'a, R: Files, W: Write>(
+    rt: &R,
+    alloc: Global,
+    path: &'a str,
+    out: &mut W,
+) -> Outcome<'a> {
+    let image = match load_image(rt, alloc, path, out) {
+        Ok(image) => image,
+        Err(outcome) => return outcome,
+    };
+    match disassemble(&image, out) {
+        Ok(()) => Outcome::Done,
+        Err(_) => Outcome::CannotWrite(STANDARD_OUTPUT),
     }
 }

@@ -152,9 +152,8 @@ fn statuses_of_words(rt: HostRuntime) -> Result<(), Fail> {
 
 #[test]
 fn commands_that_are_not_built(rt: HostRuntime) -> Result<(), Fail> {
-    let rows: [(&[&str], &str); 5] = [
+    let rows: [(&[&str], &str); 4] = [
         (&["asm", "a", "b"], "asm"),
-        (&["dis", "a"], "dis"),
         (&["verify", "a"], "verify"),
         (&["prove", "a", "b"], "prove"),
         (&["recheck", "a", "b"], "recheck"),
@@ -173,7 +172,9 @@ fn commands_that_are_not_built(rt: HostRuntime) -> Result<(), Fail> {
 fn files_that_fail(rt: HostRuntime) -> Result<(), Fail> {
     write_files(&rt)?;
     fs::create_dir(&rt, "folder")?;
-    let rows: [(&[&str], u8, &str, &str); 8] = [
+    let rows: [(&[&str], u8, &str, &str); 10] = [
+        (&["dis", "lost"], 4, "", "cannot read lost\n"),
+        (&["dis", "short"], 2, "refused I2\n", ""),
         (
             &["trace", "lost", "frames", "sent"],
             4,
@@ -386,5 +387,35 @@ fn standard_output_fails(rt: HostRuntime) -> Result<(), Fail> {
     let mut err = Vec::new(rt.alloc());
     assert_eq!(rt; execute(&rt, words.as_slice(), &mut out, &mut err), 4);
     assert_eq!(rt; out.taken.as_slice(), b"ref".as_slice());
+    Ok(())
+}
+
+// r1 = 16; goto -2
+const GOES_BACK: &str = "5842503100000200b7010000100000000500feff00000000";
+
+// The text of an image, and what is left of it where standard output fails.
+#[test]
+fn texts(rt: HostRuntime) -> Result<(), Fail> {
+    write_hex(&rt, "image", GOES_BACK)?;
+    let text = b"r1 = 16\ngoto -2\n";
+    let (status, out, err) = answer(&rt, &["dis", "image"])?;
+    assert_eq!(rt; status, 0);
+    assert_eq!(rt; out.as_slice(), text.as_slice());
+    assert_eq!(rt; err.len(), 0);
+    let words = words_of(rt.alloc(), &["dis", "image"])?;
+    for room in 0..16usize {
+        let mut out = Writer {
+            taken: Vec::new(rt.alloc()),
+            room,
+            fails: true,
+        };
+        let mut err = Vec::new(rt.alloc());
+        assert_eq!(rt; execute(&rt, words.as_slice(), &mut out, &mut err), 4);
+        assert_eq!(rt; Some(out.taken.as_slice()), text.get(..room));
+        assert_eq!(rt;
+            err.as_slice(),
+            b"cannot write standard output\n".as_slice()
+        );
+    }
     Ok(())
 }
