@@ -54,6 +54,53 @@ fn arithmetic(rt: HostRuntime) {
 }
 
 #[test]
+fn signs_of_assignments(rt: HostRuntime) {
+    let rows = [
+        (AluOp::Add, "r1 += r2\n"),
+        (AluOp::Sub, "r1 -= r2\n"),
+        (AluOp::Mul, "r1 *= r2\n"),
+        (AluOp::Div, "r1 /= r2\n"),
+        (AluOp::SignedDiv, "r1 s/= r2\n"),
+        (AluOp::Or, "r1 |= r2\n"),
+        (AluOp::And, "r1 &= r2\n"),
+        (AluOp::Lsh, "r1 <<= r2\n"),
+        (AluOp::Rsh, "r1 >>= r2\n"),
+        (AluOp::Mod, "r1 %= r2\n"),
+        (AluOp::Xor, "r1 ^= r2\n"),
+        (AluOp::Arsh, "r1 s>>= r2\n"),
+    ];
+    for (op, text) in rows {
+        let insn = Insn::Alu(Width::Full64, op, Reg::R1, Operand::Register(Reg::R2));
+        assert_eq!(rt; line_of(&insn).as_str(), text);
+    }
+}
+
+#[test]
+fn signs_of_tests(rt: HostRuntime) {
+    let rows = [
+        (Comparison::Equal, "if r1 == 7 goto -2\n"),
+        (Comparison::NotEqual, "if r1 != 7 goto -2\n"),
+        (Comparison::Greater, "if r1 > 7 goto -2\n"),
+        (Comparison::GreaterEqual, "if r1 >= 7 goto -2\n"),
+        (Comparison::Less, "if r1 < 7 goto -2\n"),
+        (Comparison::LessEqual, "if r1 <= 7 goto -2\n"),
+        (Comparison::SignedGreater, "if r1 s> 7 goto -2\n"),
+        (Comparison::SignedLess, "if r1 s< 7 goto -2\n"),
+        (Comparison::SignedLessEqual, "if r1 s<= 7 goto -2\n"),
+    ];
+    for (comparison, text) in rows {
+        let condition = Cond {
+            width: Width::Full64,
+            comparison,
+            register: Reg::R1,
+            operand: Operand::Constant(7),
+        };
+        let insn = Insn::JumpIf(condition, -2);
+        assert_eq!(rt; line_of(&insn).as_str(), text);
+    }
+}
+
+#[test]
 fn extensions_and_swaps(rt: HostRuntime) {
     check(
         &rt,
@@ -69,6 +116,10 @@ fn extensions_and_swaps(rt: HostRuntime) {
             (
                 Insn::ByteSwap(ByteOrder::Little, Span::B16, Reg::R1),
                 "r1 = le16 r1\n",
+            ),
+            (
+                Insn::ByteSwap(ByteOrder::Big, Span::B32, Reg::R10),
+                "r10 = be32 r10\n",
             ),
             (
                 Insn::ByteSwap(ByteOrder::Swap, Span::B64, Reg::R9),
@@ -135,6 +186,14 @@ fn atomics(rt: HostRuntime) {
             (
                 Insn::Atomic(Width::Full64, AtomicOp::Add, false, below, Reg::R2),
                 "lock *(u64 *)(r10 - 8) += r2\n",
+            ),
+            (
+                Insn::Atomic(Width::Low32, AtomicOp::Or, false, below, Reg::R2),
+                "lock *(u32 *)(r10 - 8) |= r2\n",
+            ),
+            (
+                Insn::Atomic(Width::Full64, AtomicOp::And, true, below, Reg::R2),
+                "r2 = atomic_fetch_and_64(r10 - 8, r2)\n",
             ),
             (
                 Insn::Atomic(Width::Low32, AtomicOp::Xor, true, below, Reg::R2),
