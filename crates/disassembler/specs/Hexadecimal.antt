@@ -15,10 +15,6 @@ unfoldable pub hex_digits : ℕ → ℕ → List ℕ
 hex_digits zero n = []
 hex_digits (suc k) n = (if n / 16 == 0 then [] else hex_digits k (n / 16)) ++ hex_glyph (n % 16)
 
-pub hex_digits_none : (n : ℕ) → hex_digits 0 n ≡ []
-unfolding hex_digits
-hex_digits_none n = refl
-
 -- the first digit
 pub hex_digits_last : (k n : ℕ) → 0 < k → n / 16 ≡ 0 → hex_digits k n ≡ hex_glyph (n % 16)
 unfolding hex_digits
@@ -66,5 +62,3 @@ digits-places m n small le = digits_onto-hex m n [] ∙ append-nil (hex_digits m
 pub digits_in_hex : (n : ℕ) → n < 2 ^ 64 → digits 16 false n ≡ hex_digits 16 n
 unfolding digits
 digits_in_hex n small = digits-places 64 n small (omega arith)
-
-pub ruleset digit_steps = (hex_digits_none, hex_digits_last, hex_digits_more, digits_in_hex)

@@ -9,7 +9,7 @@ ghost use Rattle.disassembler.specs.Hexadecimal.{hex_glyph, hex_digits};
 use arrayvec::ArrayString;
 use itoa::Buffer;
 
-/// A line of text; none has more than 72 bytes.
+/// A line of text; none has more than 44 bytes.
 pub type Line = ArrayString<96>;
 
 /// Appends a number in decimal.
@@ -87,7 +87,6 @@ fn hex_digit(digit: u64) -> &'static str
 }
 
 // Appends at most so many hexadecimal digits.
-#[tactic(auto, using(crate::specs::Hexadecimal::digit_steps))]
 fn push_digits(line: &mut Line, number: u64, places: u32)
     requires { array_string_len line.old + places ≤ 96 }
     ensures bytes { line.new.bytes ≡ line.old.bytes ++ hex_digits places number }
@@ -104,7 +103,7 @@ fn push_digits(line: &mut Line, number: u64, places: u32)
 }
 
 /// Appends a number in lower-case hexadecimal, without leading zeros.
-#[tactic(auto, using(crate::specs::Hexadecimal::digit_steps))]
+#[tactic(auto, using(crate::specs::Hexadecimal::digits_in_hex))]
 pub fn push_hex(line: &mut Line, number: u64)
     requires { array_string_len line.old + 16 ≤ 96 }
     ensures bytes { line.new.bytes ≡ line.old.bytes ++ digits 16 false number }
