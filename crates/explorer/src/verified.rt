@@ -1,7 +1,7 @@
 //! Programs that were accepted.
 
 ghost use Rattle.std.specs.Prelude.{◌≡◌};
-ghost use Rattle.explorer.specs.Accepted.{IsAccepted};
+ghost use Rattle.explorer.specs.Bounds.{IsVerified};
 
 use image::Image;
 use std::marker::Model;
@@ -14,20 +14,20 @@ pub struct Verified {
 }
 
 impl Model for Verified {
-    ghost use Rattle.explorer.specs.Accepted.{Accepted, IsAccepted};
+    ghost use Rattle.explorer.specs.Bounds.{Bounded, IsVerified};
 
-    ghost Value = { Accepted };
+    ghost Value = { Bounded };
 
     ghost view = { λ v. record { program = v.image; bound = v.bound } };
 
-    ghost invariant = { λ v. IsAccepted (record { program = v.image; bound = v.bound }) };
+    ghost invariant = { λ v. IsVerified (record { program = v.image; bound = v.bound }) };
 }
 
 impl Verified {
     /// The most steps of a run.
     pub fn bound(&self) -> u32
         ensures bound { result ≡ self.now.bound }
-        ensures accepted { IsAccepted self.now }
+        ensures verified { IsVerified self.now }
     {
         self.bound
     }
@@ -40,7 +40,8 @@ impl Verified {
 
     /// Gives the image back.
     pub fn into_image(self) -> Image
-        ensures { result ≡ self.program }
+        ensures program { result ≡ self.program }
+        ensures verified { IsVerified self }
     {
         let Verified { image, bound: _ } = self;
         image

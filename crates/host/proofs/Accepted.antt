@@ -16,7 +16,7 @@ use Rattle.isa_model.specs.Reports.{Piece, turn_by, report_of, checked_rule, che
 use Rattle.isa_model.specs.ReportLaws.{IsReport-checked}
 use Rattle.image.specs.Images.{IsImage}
 use Rattle.image.specs.Programs.{IsProgram-IsImage}
-use Rattle.explorer.specs.Accepted.{Accepted, IsAccepted}
+use Rattle.explorer.specs.Bounds.{Bounded, IsVerified}
 use Rattle.machine.specs.declared.machines.Exit.{Exit as TheExit}
 use Rattle.machine.specs.Running.{Running, Answers}
 use Rattle.frames.specs.Inputs.{Hears}
@@ -55,7 +55,7 @@ heard_bytes bytes heard unheard e h =
     (All-take (λ b. b < 256) (length heard) (heard ++ unheard) (subst AreBytes e h))
 
 -- what was written of an accepted program's turns is its report
-pub ReportsRun-Reports : (a : Accepted) (bytes : List ℕ) (old new : Outputs) (result : Result Tally HostError) → IsAccepted a
+pub ReportsRun-Reports : (a : Bounded) (bytes : List ℕ) (old new : Outputs) (result : Result Tally HostError) → IsVerified a
     → Reports bytes (checked_report a.program a.bound) old new result → AreBytes bytes → ReportsRun a bytes old new result
 ReportsRun-Reports a bytes old new result h r are =
     let p = a.program in
@@ -76,7 +76,7 @@ IfSome-weaker None P Q h k = tt
 IfSome-weaker (Some x) P Q h k = h x k
 
 -- the same of the machine that was made of the program, with its bound as the limit
-pub ReportsRun-machine : (a : Accepted) (bytes : List ℕ) (old new : Outputs) (result : Result Tally HostError) (limit : ℕ) (m : Running) → IsAccepted a
+pub ReportsRun-machine : (a : Bounded) (bytes : List ℕ) (old new : Outputs) (result : Result Tally HostError) (limit : ℕ) (m : Running) → IsVerified a
     → limit ≡ a.bound → m ≡ record { program = a.program; bound = a.bound; contents = starting_contents a.program.maps }
     → Reports bytes (λ input. report_of limit m.program.maps (checked_rule m.program m.bound) m.contents (stream_of input)) old new result
     → AreBytes bytes → ReportsRun a bytes old new result

@@ -3,7 +3,7 @@ use Rattle.std.specs.Prelude.{◌≡◌, ℕ, List, length, Result, IfOk}
 use Rattle.isa_model.specs.Streams.{Input, stream_of}
 use Rattle.isa_model.specs.Reports.{Piece, IsReport, starting_contents}
 use Rattle.isa_model.specs.ReportLaws.{AllExit}
-use Rattle.explorer.specs.Accepted.{Accepted}
+use Rattle.explorer.specs.Bounds.{Bounded}
 use Rattle.frames.specs.Inputs.{Hears}
 use Rattle.host.specs.declared.errors.HostError.{HostError}
 use Rattle.host.specs.declared.tallies.Tally.{Tally}
@@ -12,7 +12,7 @@ use Rattle.host.specs.Writing.{Outputs, Writes}
 
 -- Of a source with these bytes an input was heard. Its report was written: in every frame's run the meaning of the
 -- program meets no trap, and it exits within the bound. The tally is what the last line shows.
-pub record ReportsRun (a : Accepted) (bytes : List ℕ) (old new : Outputs) (result : Result Tally HostError) : Type 0 where
+pub record ReportsRun (a : Bounded) (bytes : List ℕ) (old new : Outputs) (result : Result Tally HostError) : Type 0 where
   pub input : Input
   pub pieces : List Piece
   pub hears : Hears bytes input

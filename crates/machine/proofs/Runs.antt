@@ -13,7 +13,7 @@ use Rattle.isa_model.specs.MachineStates.{AreBytes, FitRows, IsGiven}
 use Rattle.isa_model.specs.Outcomes.{ExitsWithin, ExitsWithin-StartsEnd, FitRows-HasOutcome}
 use Rattle.isa_model.specs.Reports.{turn_by, starting_contents}
 use Rattle.image.specs.Programs.{IsProgram-IsImage}
-use Rattle.explorer.specs.Accepted.{Accepted, IsAccepted}
+use Rattle.explorer.specs.Bounds.{Bounded, IsVerified}
 use Rattle.machine.specs.declared.machines.Exit.{Exit as TheExit}
 use Rattle.machine.specs.Running.{Running, IsRunning, Answers}
 
@@ -73,7 +73,7 @@ no_rows [] h = tt
 no_rows (row ∷ rows) h = absurd (omega arith)
 
 -- the machine of an accepted program
-pub starts_running : (a : Accepted) → IsAccepted a → IsRunning (record { program = a.program; bound = a.bound; contents = starting_contents a.program.maps })
+pub starts_running : (a : Bounded) → IsVerified a → IsRunning (record { program = a.program; bound = a.bound; contents = starting_contents a.program.maps })
 starts_running a h = record {
   is_program = IsProgram-IsImage a.program h.image;
   ends = h.ends;

@@ -9,5 +9,5 @@ returns-clause-reports g c = λ wrote.
     IfSome-weaker (g.R.Read.remaining c.args.source) _ _
     (λ bytes r are.
     ReportsRun-machine c.args.verified bytes old new c.run_frames.result c.bound-bound.result c.in-Ok.machine
-    c.bound-bound.ensures.accepted c.bound-bound.ensures.bound c.in-Ok.ensures r are)
+    c.bound-bound.ensures.verified c.bound-bound.ensures.bound c.in-Ok.ensures r are)
     c.run_frames.ensures.reports
