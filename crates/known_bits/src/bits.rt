@@ -1,6 +1,7 @@
 //! Known bits: the type, common numbers and inclusion.
 
-ghost use Rattle.std.specs.Prelude.{◌≡◌, ℕ, ◌+◌, ◌^◌, ◌<◌, ◌≤◌, ◌↔◌, IsSomeAnd, IfSome, IsTrue, bit_and};
+ghost use Rattle.std.specs.Prelude.{◌≡◌, ◌≢◌, ℕ, ◌+◌, ◌/◌, ◌^◌, ◌<◌, ◌≤◌, ◌↔◌, IsSomeAnd, IfSome, IsTrue, bit_and};
+ghost use Rattle.std.specs.Int.{bit_at};
 ghost use Rattle.isa_model.specs.Sizes.{width_bits};
 
 use isa_model::Width;
@@ -40,7 +41,8 @@ impl Bits {
     /// The bits that all numbers from one to another share.
     pub fn between(least: u64, greatest: u64) -> Self
         requires { least ≤ greatest }
-        ensures { (x : ℕ) → least ≤ x → x ≤ greatest → Has result x }
+        ensures contains { (x : ℕ) → least ≤ x → x ≤ greatest → Has result x }
+        ensures sharp { (i : ℕ) → bit_at result.mask i ≡ 1 → least / 2 ^ i ≢ greatest / 2 ^ i }
     {
         let count = 64 - (least ^ greatest).leading_zeros();
         let mask = ones(count);
