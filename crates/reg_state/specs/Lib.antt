@@ -1,2 +1,6 @@
+pub mod Constants
+pub mod Relations
 pub mod Scalars
 pub mod Kinds
+pub mod KindCover
+pub mod KindLaws

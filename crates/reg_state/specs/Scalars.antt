@@ -8,6 +8,6 @@ use Rattle.reg_state.specs.declared.scalars.Scalar.{Scalar}
 abbrev pub Has : Scalar → ℕ → Type 0
 Has s x = B.Has s.bits x × R.Has s.range x
 
--- each part is the one number
+-- both parts are x alone
 abbrev pub IsConstant : Scalar → ℕ → Type 0
 IsConstant s x = B.IsConstant s.bits x × R.IsConstant s.range x

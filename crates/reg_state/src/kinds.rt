@@ -1,5 +1,8 @@
 //! Kinds: what an abstract state knows of a value.
 
+ghost use Rattle.std.specs.Prelude.{◌≡◌, ℕ, IsSome, IsTrue};
+
+use crate::domains::Domain;
 use crate::scalars::Scalar;
 
 /// What is known of the value of a register or of a stack slot. Offsets are in bytes.
@@ -44,3 +47,118 @@ pub enum Kind {
         identity: u32,
     },
 }
+
+impl Kind {
+    ghost use Rattle.reg_state.specs.KindCover.{packet_identity_of, null_identity_of, IsCalled, KindCovers, IsNoNumber};
+
+    /// The packet identity that it names, 0 included, if it names one.
+    pub fn packet_identity(self) -> Option<u32>
+        ensures { result ≡ packet_identity_of self }
+    {
+        match self {
+            Kind::Packet { identity, .. } => Some(identity),
+            _ => None,
+        }
+    }
+
+    /// The null identity that it names, if it names one.
+    pub fn null_identity(self) -> Option<u32>
+        ensures { result ≡ null_identity_of self }
+    {
+        match self {
+            Kind::MapValueOrNull { identity, .. } => Some(identity),
+            _ => None,
+        }
+    }
+
+    /// Whether it allows what `other` does, where `identity` is what `other`'s state calls the identity that it names.
+    pub fn covers(self, other: Kind, identity: u32) -> bool
+        ensures yes { IsTrue result → (packet null : ℕ → ℕ) → IsCalled packet null self identity
+            → KindCovers packet null self other }
+        ensures no { IsNoNumber self → (packet null : ℕ → ℕ) → IsCalled packet null self identity
+            → KindCovers packet null self other → IsTrue result }
+        ensures equal { self ≡ other → IsCalled (λ i. i) (λ i. i) self identity → IsTrue result }
+    {
+        match self {
+            Kind::Unset => true,
+            Kind::Number(numbers) => match other {
+                Kind::Number(others) => numbers.covers(others),
+                _ => false,
+            },
+            Kind::Context => matches!(other, Kind::Context),
+            Kind::Stack { frame, offset } => match other {
+                Kind::Stack {
+                    frame: level,
+                    offset: place,
+                } => frame == level && offset == place,
+                _ => false,
+            },
+            Kind::Packet { .. } => self.covers_packet(other, identity),
+            Kind::PacketEnd => matches!(other, Kind::PacketEnd),
+            Kind::Map { index } => match other {
+                Kind::Map { index: map } => index == map,
+                _ => false,
+            },
+            Kind::MapValue {
+                index,
+                least,
+                greatest,
+            } => match other {
+                Kind::MapValue {
+                    index: map,
+                    least: low,
+                    greatest: high,
+                } => index == map && least <= low && high <= greatest,
+                _ => false,
+            },
+            Kind::MapValueOrNull { index, .. } => match other {
+                Kind::MapValueOrNull {
+                    index: map,
+                    identity: name,
+                } => index == map && identity == name,
+                _ => false,
+            },
+        }
+    }
+
+    // The same, of a packet pointer.
+    fn covers_packet(self, other: Kind, identity: u32) -> bool
+        requires { IsSome (packet_identity_of self) }
+        ensures yes { IsTrue result → (packet null : ℕ → ℕ) → IsCalled packet null self identity
+            → KindCovers packet null self other }
+        ensures no { (packet null : ℕ → ℕ) → IsCalled packet null self identity
+            → KindCovers packet null self other → IsTrue result }
+        ensures equal { self ≡ other → IsCalled (λ i. i) (λ i. i) self identity → IsTrue result }
+    {
+        match self {
+            Kind::Packet {
+                fixed,
+                least,
+                greatest,
+                proved,
+                ..
+            } => match other {
+                Kind::Packet {
+                    fixed: offset,
+                    identity: name,
+                    least: low,
+                    greatest: high,
+                    proved: shown,
+                } => {
+                    if fixed != offset || identity != name || shown < proved {
+                        return false;
+                    }
+                    if low < least || greatest < high {
+                        return false;
+                    }
+                    true
+                }
+                _ => false,
+            },
+            _ => false,
+        }
+    }
+}
+
+#[cfg(test)]
+mod tests;

@@ -1,8 +1,17 @@
 //! What is known of the value of a register or of a stack slot.
 #![tactic(auto)]
 
+mod bits_domain;
+pub mod comparisons;
+pub mod domains;
 pub mod kinds;
+mod range_domain;
 pub mod scalars;
 
+pub use comparisons::refine;
+pub use domains::Domain;
 pub use kinds::Kind;
 pub use scalars::Scalar;
+
+#[cfg(test)]
+mod tests;

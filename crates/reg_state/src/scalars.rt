@@ -1,11 +1,253 @@
-//! Scalars: what is known of a number, by its bits and by its limits.
+//! Known bits and limits at once.
 
+ghost use Rattle.std.specs.Prelude.{◌≡◌, ℕ, ◌≤◌, ◌↔◌, IsSomeAnd, IfSome, IsTrue};
+
+use crate::domains::Domain;
+use isa_model::{AluOp, ByteOrder, Extension, Span, Width};
 use known_bits::Bits;
 use ranges::Range;
 
-/// The numbers that both parts stand for.
+/// The numbers that both parts have.
 #[derive(Clone, Copy, PartialEq, Eq, Debug)]
 pub struct Scalar {
     pub bits: Bits,
     pub range: Range,
+}
+
+impl Scalar {
+    ghost use Rattle.known_bits.specs.Bits as B;
+    ghost use Rattle.ranges.specs.Ranges as R;
+    ghost use Rattle.reg_state.specs.Scalars.{Has, IsConstant};
+
+    // Each part takes up what the other shows; a single number left is written as a constant.
+    fn tightened(self) -> Option<Scalar>
+        ensures common { (x : ℕ) → Has self x → IsSomeAnd result (λ s. Has s x) }
+        ensures narrower { IfSome result (λ s. (x : ℕ) → Has s x → Has self x) }
+        ensures constant { (u : ℕ) → IsConstant self u → IsSomeAnd result (λ s. IsConstant s u) }
+    {
+        match self.bits.number() {
+            Some(number) => self.alone(number),
+            None => self.shared(),
+        }
+    }
+
+    // What the limits show of the bits, and then the bits of the limits.
+    fn shared(self) -> Option<Scalar>
+        ensures common { (x : ℕ) → Has self x → IsSomeAnd result (λ s. Has s x) }
+        ensures narrower { IfSome result (λ s. (x : ℕ) → Has s x → Has self x) }
+    {
+        let bits = self
+            .bits
+            .meet(Bits::between(self.range.least, self.range.greatest))?;
+        let unsigned = self
+            .range
+            .meet(Range::between(bits.least(), bits.greatest()))?;
+        let range = unsigned.meet(Range::signed_between(
+            bits.signed_least(),
+            bits.signed_greatest(),
+        ))?;
+        let both = Scalar { bits, range };
+        match range.number() {
+            Some(number) => both.alone(number),
+            None => Some(both),
+        }
+    }
+
+    // The same, where an answer is needed of a set with no members too.
+    fn settled(self) -> Scalar
+        ensures contains { (x : ℕ) → Has self x → Has result x }
+        ensures narrower { (x : ℕ) → Has result x → Has self x }
+        ensures constant { (u : ℕ) → IsConstant self u → IsConstant result u }
+    {
+        match self.tightened() {
+            Some(tightened) => tightened,
+            None => self,
+        }
+    }
+
+    // The set of this one member.
+    fn alone(self, number: u64) -> Option<Scalar>
+        ensures found { (x : ℕ) → Has self x → x ≡ number → IsSomeAnd result (λ s. Has s x) }
+        ensures constant { Has self number → IsSomeAnd result (λ s. IsConstant s number) }
+        ensures narrower { IfSome result (λ s. (x : ℕ) → Has s x → Has self x) }
+    {
+        if self.includes(number) {
+            Some(Scalar::constant(number))
+        } else {
+            None
+        }
+    }
+
+    // Whether the number is a member.
+    fn includes(self, number: u64) -> bool
+        ensures { IsTrue result ↔ Has self number }
+    {
+        if !self.bits.covers(Bits::constant(number)) {
+            return false;
+        }
+        let signed = number.cast_signed();
+        if number < self.range.least || self.range.greatest < number {
+            return false;
+        }
+        if signed < self.range.signed_least || self.range.signed_greatest < signed {
+            return false;
+        }
+        true
+    }
+
+    // Two sets from their parts.
+    fn joined(bits: (Bits, Bits), ranges: (Range, Range)) -> Option<(Scalar, Scalar)>
+        ensures common { (x y : ℕ) → B.Has bits.0 x → R.Has ranges.0 x → B.Has bits.1 y → R.Has ranges.1 y
+            → IsSomeAnd result (λ p. Has p.0 x × Has p.1 y) }
+        ensures left { IfSome result (λ p. (x : ℕ) → Has p.0 x → B.Has bits.0 x × R.Has ranges.0 x) }
+        ensures right { IfSome result (λ p. (y : ℕ) → Has p.1 y → B.Has bits.1 y × R.Has ranges.1 y) }
+    {
+        let left = Scalar {
+            bits: bits.0,
+            range: ranges.0,
+        };
+        let right = Scalar {
+            bits: bits.1,
+            range: ranges.1,
+        };
+        let first = left.tightened()?;
+        let second = right.tightened()?;
+        Some((first, second))
+    }
+}
+
+impl Domain for Scalar {
+    ghost use Rattle.reg_state.specs.Scalars.{Has, IsConstant};
+    ghost use Rattle.reg_state.specs.Constants.{bits_constant_has, bits_constant_only, range_constant_has};
+
+    ghost has = { Has };
+
+    ghost is_constant = { IsConstant };
+
+    fn any(width: Width) -> Scalar {
+        Scalar {
+            bits: Bits::any(width),
+            range: Range::any(width),
+        }
+    }
+
+    fn constant(number: u64) -> Scalar {
+        Scalar {
+            bits: Bits::constant(number),
+            range: Range::constant(number),
+        }
+    }
+
+    fn between(least: u64, greatest: u64) -> Scalar
+        requires { least ≤ greatest }
+        ensures contains { (x : ℕ) → least ≤ x → x ≤ greatest → Has result x }
+        ensures only { (x : ℕ) → Has result x → (least ≤ x) × (x ≤ greatest) }
+    {
+        Scalar {
+            bits: Bits::between(least, greatest),
+            range: Range::between(least, greatest),
+        }
+    }
+
+    fn number(self) -> Option<u64> {
+        match self.bits.number() {
+            Some(number) => Some(number),
+            None => self.range.number(),
+        }
+    }
+
+    fn greatest(self) -> u64 {
+        self.bits.greatest().min(self.range.greatest)
+    }
+
+    fn alu(op: AluOp, width: Width, a: Scalar, b: Scalar) -> Scalar {
+        let both = Scalar {
+            bits: Bits::alu(op, width, a.bits, b.bits),
+            range: Range::alu(op, width, a.range, b.range),
+        };
+        both.settled()
+    }
+
+    fn negate(width: Width, a: Scalar) -> Scalar {
+        let both = Scalar {
+            bits: Bits::negate(width, a.bits),
+            range: Range::negate(width, a.range),
+        };
+        both.settled()
+    }
+
+    fn sign_extend(extension: Extension, a: Scalar) -> Scalar {
+        let both = Scalar {
+            bits: Bits::sign_extend(extension, a.bits),
+            range: Range::sign_extend(extension, a.range),
+        };
+        both.settled()
+    }
+
+    fn reorder(order: ByteOrder, span: Span, a: Scalar) -> Scalar {
+        let both = Scalar {
+            bits: Bits::reorder(order, span, a.bits),
+            range: Range::reorder(order, span, a.range),
+        };
+        both.settled()
+    }
+
+    fn meet(self, other: Scalar) -> Option<Scalar> {
+        let bits = self.bits.meet(other.bits)?;
+        let range = self.range.meet(other.range)?;
+        let both = Scalar { bits, range };
+        both.tightened()
+    }
+
+    fn covers(self, other: Scalar) -> bool {
+        self.bits.covers(other.bits) && self.range.covers(other.range)
+    }
+
+    fn below(self, other: Scalar) -> Option<(Scalar, Scalar)> {
+        let bits = self.bits.below(other.bits)?;
+        let ranges = self.range.below(other.range)?;
+        Scalar::joined(bits, ranges)
+    }
+
+    fn at_most(self, other: Scalar) -> Option<(Scalar, Scalar)> {
+        let bits = self.bits.at_most(other.bits)?;
+        let ranges = self.range.at_most(other.range)?;
+        Scalar::joined(bits, ranges)
+    }
+
+    fn signed_below(self, other: Scalar) -> Option<(Scalar, Scalar)> {
+        let bits = self.bits.signed_below(other.bits)?;
+        let ranges = self.range.signed_below(other.range)?;
+        Scalar::joined(bits, ranges)
+    }
+
+    fn signed_at_most(self, other: Scalar) -> Option<(Scalar, Scalar)> {
+        let bits = self.bits.signed_at_most(other.bits)?;
+        let ranges = self.range.signed_at_most(other.range)?;
+        Scalar::joined(bits, ranges)
+    }
+
+    fn apart(self, other: Scalar) -> Option<(Scalar, Scalar)> {
+        let bits = self.bits.apart(other.bits)?;
+        let ranges = self.range.apart(other.range)?;
+        Scalar::joined(bits, ranges)
+    }
+
+    fn disjoint(self, other: Scalar) -> Option<(Scalar, Scalar)> {
+        let bits = self.bits.disjoint(other.bits)?;
+        let ranges = self.range.disjoint(other.range)?;
+        Scalar::joined(bits, ranges)
+    }
+
+    fn overlapping(self, other: Scalar) -> Option<(Scalar, Scalar)> {
+        let bits = self.bits.overlapping(other.bits)?;
+        let ranges = self.range.overlapping(other.range)?;
+        Scalar::joined(bits, ranges)
+    }
+
+    ghost bounded = { λ d x h. h.0.below };
+
+    ghost contains_constant = { λ d u h c. (bits_constant_has d.bits u h c.0, range_constant_has d.range u h c.1) };
+
+    ghost only_constant = { λ d u x c h. bits_constant_only d.bits u x c.0 h.0 };
 }

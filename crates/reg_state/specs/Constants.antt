@@ -1,0 +1,28 @@
+-- The laws of constants, for known bits and for ranges.
+use Rattle.std.proofs.Common.{ℕ, ◌≡◌, ◌^◌, ◌<◌, ◌∙◌, arith}
+use Rattle.std.proofs.lemmas.Int.{ints}
+use Rattle.std.proofs.lemmas.Nat.{and_mask}
+use Rattle.known_bits.specs.Member.{IsMember}
+use Rattle.known_bits.specs.declared.bits.Bits.{Bits}
+use Rattle.known_bits.specs.Bits as B
+use Rattle.ranges.specs.declared.range.Range.{Range}
+use Rattle.ranges.specs.Ranges as R
+
+one_has : (x : ℕ) → x < 2 ^ 64 → IsMember x 0 x
+one_has x h = record { below = h; known = and_mask x 64 ∙ omega arith }
+
+one_only : (x y : ℕ) → IsMember x 0 y → y ≡ x
+one_only x y h = let b = h.below in let k = h.known in let m = and_mask y 64 in omega arith
+
+pub bits_constant_has : (d : Bits) (u : ℕ) → u < 2 ^ 64 → B.IsConstant d u → B.Has d u
+bits_constant_has d u h c = rw (c.0, c.1) (one_has u h)
+
+pub bits_constant_only : (d : Bits) (u x : ℕ) → B.IsConstant d u → B.Has d x → x ≡ u
+bits_constant_only d u x c h = one_only d.value x (rw c.1 at h) ∙ c.0
+
+pub range_constant_has : (d : Range) (u : ℕ) → u < 2 ^ 64 → R.IsConstant d u → R.Has d u
+range_constant_has d u h c =
+    record { below = h; from = omega arith; to = omega arith; signed_from = omega (arith, ints); signed_to = omega (arith, ints) }
+
+pub range_constant_only : (d : Range) (u x : ℕ) → R.IsConstant d u → R.Has d x → x ≡ u
+range_constant_only d u x c h = omega arith

@@ -1,0 +1,122 @@
+-- Laws of kinds: which parts of an assignment they depend on, and which values they never allow.
+use Rattle.std.specs.Prelude.{◌≡◌, ◌≢◌, ℕ, ℤ, Option, Some, None, IfSome, if◌then◌else◌, nat_eq, slice_get}
+use Rattle.std.proofs.Common.{refl, sym, ◌∙◌, arith}
+use Rattle.std.proofs.lemmas.Bool.Decides.{nat_tests}
+use Rattle.isa_model.specs.declared.values.Region.{Region}
+use Rattle.isa_model.specs.declared.values.Value.{Value}
+use Rattle.isa_model.specs.declared.values.Value.TheVariants.{Num, Ptr}
+use Rattle.isa_model.specs.declared.values.Value.TheVariants as value
+use Rattle.reg_state.specs.declared.scalars.Scalar.{Scalar}
+use Rattle.reg_state.specs.declared.kinds.Kind.{Kind}
+use Rattle.reg_state.specs.declared.kinds.Kind.TheVariants.{Unset, Number, Context, Stack, Packet, PacketEnd, Map, MapValue, MapValueOrNull}
+use Rattle.reg_state.specs.Scalars.{Has}
+use Rattle.reg_state.specs.Kinds.{Assigned, Allows, AllowsOrNull, IsLive}
+use Rattle.reg_state.specs.KindCover.{packet_identity_of, null_identity_of}
+
+-- the frame into which a kind points
+abbrev pub frame_of : Kind → Option ℕ
+frame_of (Stack frame offset) = Some frame
+frame_of k = None
+
+-- the map of whose values a kind speaks
+abbrev pub map_of : Kind → Option ℕ
+map_of (MapValue m least greatest) = Some m
+map_of (MapValueOrNull m identity) = Some m
+map_of k = None
+
+-- f keeps what a kind speaks of in e: its identity and its frame are the same, and live values of its map are live
+pub record Keeps (k : Kind) (e f : Assigned) : Type 0 where
+  pub offsets : IfSome (packet_identity_of k) (λ i. e.offset i ≡ f.offset i)
+  pub values : IfSome (null_identity_of k) (λ i. e.value i ≡ f.value i)
+  pub packet_lengths : e.packet_length ≡ f.packet_length
+  pub serials : IfSome (frame_of k) (λ j. slice_get e.frames j ≡ slice_get f.frames j)
+  pub live : IfSome (map_of k) (λ m. (n : ℕ) → IsLive e.maps m n → IsLive f.maps m n)
+
+null_kept : (e f : Assigned) (m : ℕ) (o : Option ℕ) (v : Value) → ((n : ℕ) → IsLive e.maps m n → IsLive f.maps m n)
+    → AllowsOrNull e m o v → AllowsOrNull f m o v
+null_kept e f m None v live h = h
+null_kept e f m (Some n) v live h = (h.0, live n h.1)
+
+-- what the kind allows it then goes on to allow
+pub Allows-kept : (k : Kind) (e f : Assigned) (v : Value) → Keeps k e f → Allows e k v → Allows f k v
+Allows-kept Unset e f v a h = tt
+Allows-kept (Number s) e f v a h = h
+Allows-kept Context e f v a h = h
+Allows-kept (Stack n o) e f v a h = (h.0, sym a.serials ∙ h.1, h.2)
+Allows-kept (Packet x i l g p) e f v a h =
+    record {
+      points = rw a.offsets at h.points;
+      from = rw a.offsets at h.from;
+      to = rw a.offsets at h.to;
+      inside = rw (a.offsets, a.packet_lengths) at h.inside;
+    }
+Allows-kept PacketEnd e f v a h = h
+Allows-kept (Map m) e f v a h = h
+Allows-kept (MapValue m l g) e f v a h =
+    record { serial = h.serial; offset = h.offset; points = h.points; from = h.from; to = h.to; live = a.live h.serial h.live }
+Allows-kept (MapValueOrNull m i) e f v a h = rw (← a.values) (null_kept e f m (e.value i) v a.live h)
+
+-- the assignment with another number for a packet identity
+abbrev pub with_offset : Assigned → ℕ → ℤ → Assigned
+with_offset e i z = record e { offset = λ j. if nat_eq i j then z else e.offset j }
+
+-- the assignment with another serial, or null, for a null identity
+abbrev pub with_value : Assigned → ℕ → Option ℕ → Assigned
+with_value e i n = record e { value = λ j. if nat_eq i j then n else e.value j }
+
+other_offset : (e : Assigned) (i : ℕ) (z : ℤ) (j : ℕ) → j ≢ i → e.offset j ≡ (with_offset e i z).offset j
+other_offset e i z j other = grind (arith, nat_tests)
+
+other_value : (e : Assigned) (i : ℕ) (n : Option ℕ) (j : ℕ) → j ≢ i → e.value j ≡ (with_value e i n).value j
+other_value e i n j other = grind (arith, nat_tests)
+
+if_named : (o : Option ℕ) (P : ℕ → Type 0) → ((j : ℕ) → o ≡ Some j → P j) → IfSome o P
+if_named None P h = tt
+if_named (Some j) P h = h j refl
+
+-- a packet identity that the kind does not name may be assigned anew
+pub Allows-fresh_offset : (k : Kind) (e : Assigned) (i : ℕ) (z : ℤ) (v : Value)
+    → packet_identity_of k ≢ Some i → Allows e k v → Allows (with_offset e i z) k v
+Allows-fresh_offset k e i z v fresh h =
+    Allows-kept k e (with_offset e i z) v
+    record {
+      offsets = if_named (packet_identity_of k) (λ j. e.offset j ≡ (with_offset e i z).offset j)
+          (λ j is. other_offset e i z j (λ same. fresh (cc)));
+      values = if_named (null_identity_of k) (λ j. e.value j ≡ e.value j) (λ j is. refl);
+      packet_lengths = refl;
+      serials = if_named (frame_of k) (λ j. slice_get e.frames j ≡ slice_get e.frames j) (λ j is. refl);
+      live = if_named (map_of k) (λ m. (n : ℕ) → IsLive e.maps m n → IsLive e.maps m n) (λ m is n l. l);
+    }
+    h
+
+-- and so may a null identity
+pub Allows-fresh_value : (k : Kind) (e : Assigned) (i : ℕ) (n : Option ℕ) (v : Value)
+    → null_identity_of k ≢ Some i → Allows e k v → Allows (with_value e i n) k v
+Allows-fresh_value k e i n v fresh h =
+    Allows-kept k e (with_value e i n) v
+    record {
+      offsets = if_named (packet_identity_of k) (λ j. e.offset j ≡ e.offset j) (λ j is. refl);
+      values = if_named (null_identity_of k) (λ j. e.value j ≡ (with_value e i n).value j)
+          (λ j is. other_value e i n j (λ same. fresh (cc)));
+      packet_lengths = refl;
+      serials = if_named (frame_of k) (λ j. slice_get e.frames j ≡ slice_get e.frames j) (λ j is. refl);
+      live = if_named (map_of k) (λ m. (n : ℕ) → IsLive e.maps m n → IsLive e.maps m n) (λ m is n l. l);
+    }
+    h
+
+-- what a Number allows is a number, one of its own
+pub Allows-number : (e : Assigned) (s : Scalar) (x : ℕ) → Allows e (Number s) (Num x) → Has s x
+Allows-number e s x h = let same : h.0 ≡ x = cc (h.1) in rw same at h.2
+
+pub Allows-number_pointer : (e : Assigned) (s : Scalar) (r : Region) (z : ℤ) → Allows e (Number s) (Ptr r z) → ⊥
+Allows-number_pointer e s r z h = cc (h.1)
+
+pub Allows-number_unset : (e : Assigned) (s : Scalar) → Allows e (Number s) value.Unset → ⊥
+Allows-number_unset e s h = cc (h.1)
+
+-- what a Packet allows is a pointer into the packet
+pub Allows-packet_number : (e : Assigned) (x : ℤ) (i : ℕ) (l g : ℤ) (p n : ℕ) → Allows e (Packet x i l g p) (Num n) → ⊥
+Allows-packet_number e x i l g p n h = cc (h.points)
+
+pub Allows-packet_unset : (e : Assigned) (x : ℤ) (i : ℕ) (l g : ℤ) (p : ℕ) → Allows e (Packet x i l g p) value.Unset → ⊥
+Allows-packet_unset e x i l g p h = cc (h.points)

@@ -1,0 +1,99 @@
+//! Known bits as a domain.
+
+ghost use Rattle.std.specs.Prelude.{ℕ};
+
+use crate::domains::Domain;
+use isa_model::{AluOp, ByteOrder, Extension, Span, Width};
+use known_bits::Bits;
+
+impl Domain for Bits {
+    ghost use Rattle.isa_model.specs.Numbers.{alu};
+    ghost use Rattle.known_bits.specs.Bits.{Has, IsConstant, IsSharp, IsLogical};
+    ghost use Rattle.reg_state.specs.Constants.{bits_constant_has, bits_constant_only};
+
+    ghost has = { Has };
+
+    ghost is_constant = { IsConstant };
+
+    fn any(width: Width) -> Bits {
+        Bits::any(width)
+    }
+
+    fn constant(number: u64) -> Bits {
+        Bits::constant(number)
+    }
+
+    fn between(least: u64, greatest: u64) -> Bits {
+        Bits::between(least, greatest)
+    }
+
+    fn number(self) -> Option<u64> {
+        Bits::number(self)
+    }
+
+    fn greatest(self) -> u64 {
+        Bits::greatest(self)
+    }
+
+    fn alu(op: AluOp, width: Width, a: Bits, b: Bits) -> Bits
+        ensures contains { (x y : ℕ) → Has a x → Has b y → Has result (alu op width x y) }
+        ensures exact { (u v : ℕ) → IsConstant a u → IsConstant b v → IsConstant result (alu op width u v) }
+        ensures sharp { IsLogical op → IsSharp a b (alu op width) result.mask }
+    {
+        Bits::alu(op, width, a, b)
+    }
+
+    fn negate(width: Width, a: Bits) -> Bits {
+        Bits::negate(width, a)
+    }
+
+    fn sign_extend(extension: Extension, a: Bits) -> Bits {
+        Bits::sign_extend(extension, a)
+    }
+
+    fn reorder(order: ByteOrder, span: Span, a: Bits) -> Bits {
+        Bits::reorder(order, span, a)
+    }
+
+    fn meet(self, other: Bits) -> Option<Bits> {
+        Bits::meet(self, other)
+    }
+
+    fn covers(self, other: Bits) -> bool {
+        Bits::covers(self, other)
+    }
+
+    fn below(self, other: Bits) -> Option<(Bits, Bits)> {
+        Bits::below(self, other)
+    }
+
+    fn at_most(self, other: Bits) -> Option<(Bits, Bits)> {
+        Bits::at_most(self, other)
+    }
+
+    fn signed_below(self, other: Bits) -> Option<(Bits, Bits)> {
+        Bits::signed_below(self, other)
+    }
+
+    fn signed_at_most(self, other: Bits) -> Option<(Bits, Bits)> {
+        Bits::signed_at_most(self, other)
+    }
+
+    fn apart(self, other: Bits) -> Option<(Bits, Bits)> {
+        Bits::apart(self, other)
+    }
+
+    fn disjoint(self, other: Bits) -> Option<(Bits, Bits)> {
+        Bits::disjoint(self, other)
+    }
+
+    fn overlapping(self, other: Bits) -> Option<(Bits, Bits)> {
+        Bits::overlapping(self, other)
+    }
+
+    ghost bounded = { λ d x h. h.below };
+
+    ghost contains_constant = { λ d u h c. bits_constant_has d u h c };
+
+    ghost only_constant = { λ d u x c h. bits_constant_only d u x c h };
+}

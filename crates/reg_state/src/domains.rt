@@ -1,0 +1,126 @@
+//! What every domain of numbers offers.
+
+ghost use Rattle.std.specs.Prelude.{◌≡◌, ◌≢◌, ℕ, ◌^◌, ◌<◌, ◌≤◌, ◌<ℤ◌, ◌≤ℤ◌, ◌↔◌, Some, IsSomeAnd, IfSome, IsTrue, bit_and};
+ghost use Rattle.std.specs.Int.{w64, cast_signed};
+ghost use Rattle.isa_model.specs.Sizes.{width_bits};
+ghost use Rattle.isa_model.specs.Numbers.{alu, negated, sign_extended, reordered};
+
+use isa_model::{AluOp, ByteOrder, Extension, Span, Width};
+
+/// Sets of numbers below 2^64, each of which a register may hold. `has` says which numbers are members; `is_constant`
+/// that a set is written as the one of a single number.
+pub trait Domain: Copy {
+    ghost has: { Self → ℕ → Type 0 };
+
+    ghost is_constant: { Self → ℕ → Type 0 };
+
+    /// All numbers of the width.
+    fn any(width: Width) -> Self
+        ensures { (x : ℕ) → (has result x ↔ (x < 2 ^ width_bits width)) };
+
+    fn constant(number: u64) -> Self
+        ensures { is_constant result number };
+
+    /// At least the numbers from one to another.
+    fn between(least: u64, greatest: u64) -> Self
+        requires { least ≤ greatest }
+        ensures contains { (x : ℕ) → least ≤ x → x ≤ greatest → has result x };
+
+    /// The number, where only one is known to be left.
+    fn number(self) -> Option<u64>
+        ensures constant { (u : ℕ) → is_constant self u → result ≡ Some u }
+        ensures only { IfSome result (λ n. (x : ℕ) → has self x → x ≡ n) };
+
+    /// A number that no member is greater than.
+    fn greatest(self) -> u64
+        ensures bound { (x : ℕ) → has self x → x ≤ result }
+        ensures exact { (u : ℕ) → is_constant self u → result ≡ u };
+
+    /// What the operation gives on the members of both.
+    fn alu(op: AluOp, width: Width, a: Self, b: Self) -> Self
+        ensures contains { (x y : ℕ) → has a x → has b y → has result (alu op width x y) }
+        ensures exact { (u v : ℕ) → is_constant a u → is_constant b v → is_constant result (alu op width u v) };
+
+    /// The members with their signs changed.
+    fn negate(width: Width, a: Self) -> Self
+        ensures contains { (x : ℕ) → has a x → has result (negated width x) }
+        ensures exact { (u : ℕ) → is_constant a u → is_constant result (negated width u) };
+
+    /// The low bits of the members, sign-extended.
+    fn sign_extend(extension: Extension, a: Self) -> Self
+        ensures contains { (x : ℕ) → has a x → has result (sign_extended extension x) }
+        ensures exact { (u : ℕ) → is_constant a u → is_constant result (sign_extended extension u) };
+
+    /// The low bytes of the members, in an order.
+    fn reorder(order: ByteOrder, span: Span, a: Self) -> Self
+        ensures contains { (x : ℕ) → has a x → has result (reordered order span x) }
+        ensures exact { (u : ℕ) → is_constant a u → is_constant result (reordered order span u) };
+
+    /// The common members. None: there is none.
+    fn meet(self, other: Self) -> Option<Self>
+        ensures common { (x : ℕ) → has self x → has other x → IsSomeAnd result (λ m. has m x) }
+        ensures left { IfSome result (λ m. (x : ℕ) → has m x → has self x) }
+        ensures right { IfSome result (λ m. (x : ℕ) → has m x → has other x) };
+
+    /// Whether each member of `other` is seen to be a member of this.
+    fn covers(self, other: Self) -> bool
+        ensures yes { IsTrue result → (x : ℕ) → has other x → has self x }
+        ensures equal { self ≡ other → IsTrue result };
+
+    /// Those below some member of the other, and those above one. None: there is no such pair.
+    fn below(self, other: Self) -> Option<(Self, Self)>
+        ensures common { (x y : ℕ) → has self x → has other y → x < y
+            → IsSomeAnd result (λ p. has p.0 x × has p.1 y) }
+        ensures left { IfSome result (λ p. (x : ℕ) → has p.0 x → has self x) }
+        ensures right { IfSome result (λ p. (y : ℕ) → has p.1 y → has other y) };
+
+    /// Those at most some member of the other, and those at least one.
+    fn at_most(self, other: Self) -> Option<(Self, Self)>
+        ensures common { (x y : ℕ) → has self x → has other y → x ≤ y
+            → IsSomeAnd result (λ p. has p.0 x × has p.1 y) }
+        ensures left { IfSome result (λ p. (x : ℕ) → has p.0 x → has self x) }
+        ensures right { IfSome result (λ p. (y : ℕ) → has p.1 y → has other y) };
+
+    /// Those below some member of the other, and those above one, read as signed numbers.
+    fn signed_below(self, other: Self) -> Option<(Self, Self)>
+        ensures common { (x y : ℕ) → has self x → has other y → cast_signed w64 x <ℤ cast_signed w64 y
+            → IsSomeAnd result (λ p. has p.0 x × has p.1 y) }
+        ensures left { IfSome result (λ p. (x : ℕ) → has p.0 x → has self x) }
+        ensures right { IfSome result (λ p. (y : ℕ) → has p.1 y → has other y) };
+
+    /// Those at most some member of the other, and those at least one, read as signed numbers.
+    fn signed_at_most(self, other: Self) -> Option<(Self, Self)>
+        ensures common { (x y : ℕ) → has self x → has other y → cast_signed w64 x ≤ℤ cast_signed w64 y
+            → IsSomeAnd result (λ p. has p.0 x × has p.1 y) }
+        ensures left { IfSome result (λ p. (x : ℕ) → has p.0 x → has self x) }
+        ensures right { IfSome result (λ p. (y : ℕ) → has p.1 y → has other y) };
+
+    /// Those that differ from some member of the other, and the other way round.
+    fn apart(self, other: Self) -> Option<(Self, Self)>
+        ensures common { (x y : ℕ) → has self x → has other y → x ≢ y
+            → IsSomeAnd result (λ p. has p.0 x × has p.1 y) }
+        ensures left { IfSome result (λ p. (x : ℕ) → has p.0 x → has self x) }
+        ensures right { IfSome result (λ p. (y : ℕ) → has p.1 y → has other y) };
+
+    /// Those that have no bit in common with some member of the other, and the other way round.
+    fn disjoint(self, other: Self) -> Option<(Self, Self)>
+        ensures common { (x y : ℕ) → has self x → has other y → bit_and x y ≡ 0
+            → IsSomeAnd result (λ p. has p.0 x × has p.1 y) }
+        ensures left { IfSome result (λ p. (x : ℕ) → has p.0 x → has self x) }
+        ensures right { IfSome result (λ p. (y : ℕ) → has p.1 y → has other y) };
+
+    /// Those that have a bit in common with some member of the other, and the other way round.
+    fn overlapping(self, other: Self) -> Option<(Self, Self)>
+        ensures common { (x y : ℕ) → has self x → has other y → bit_and x y ≢ 0
+            → IsSomeAnd result (λ p. has p.0 x × has p.1 y) }
+        ensures left { IfSome result (λ p. (x : ℕ) → has p.0 x → has self x) }
+        ensures right { IfSome result (λ p. (y : ℕ) → has p.1 y → has other y) };
+
+    // every member is a number of a register
+    ghost bounded: { (d : Self) (x : ℕ) → has d x → x < 2 ^ 64 };
+
+    // a constant has its number, and no other
+    ghost contains_constant: { (d : Self) (u : ℕ) → u < 2 ^ 64 → is_constant d u → has d u };
+
+    ghost only_constant: { (d : Self) (u x : ℕ) → is_constant d u → has d x → x ≡ u };
+}

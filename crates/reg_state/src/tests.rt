@@ -1,0 +1,147 @@
+//! How precise the answers are, worked out by hand, and each function over a domain at each domain.
+
+use crate::comparisons::refine;
+use crate::domains::Domain;
+use crate::scalars::Scalar;
+use isa_model::{AluOp, ByteOrder, Comparison, Extension, Span, Width};
+use known_bits::Bits;
+use ranges::Range;
+use std::test::Fail;
+
+const FULL: Width = Width::Full64;
+
+const LOW: Width = Width::Low32;
+
+fn is(scalar: Scalar, least: u64, greatest: u64) -> bool {
+    scalar.range.least == least && scalar.range.greatest == greatest
+}
+
+fn is_signed(scalar: Scalar, least: i64, greatest: i64) -> bool {
+    scalar.range.signed_least == least && scalar.range.signed_greatest == greatest
+}
+
+fn byte() -> Scalar {
+    Scalar::between(0, 255)
+}
+
+fn with(op: AluOp, a: Scalar, number: u64) -> Scalar {
+    Scalar::alu(op, FULL, a, Scalar::constant(number))
+}
+
+#[test]
+fn sums_and_products(rt: HostRuntime) -> Result<(), Fail> {
+    // A header length of 0 to 60 bytes after 14 others.
+    let length = with(AluOp::Lsh, with(AluOp::And, byte(), 15), 2);
+    assert!(rt; is(length, 0, 60) && length.bits.mask == 60);
+    assert!(rt; is(with(AluOp::Add, length, 14), 14, 74));
+    let product = with(AluOp::Mul, byte(), 6);
+    assert!(rt; product.range.greatest <= 1530);
+    assert!(rt; (product.bits.mask | product.bits.value) & 1 == 0);
+    assert!(rt; is_signed(with(AluOp::Sub, byte(), 10), -10, 245));
+    assert!(rt; is_signed(Scalar::negate(FULL, byte()), -255, 0));
+    Ok(())
+}
+
+#[test]
+fn parts(rt: HostRuntime) -> Result<(), Fail> {
+    let any = Scalar::any(FULL);
+    assert!(rt; is(with(AluOp::And, any, 15), 0, 15));
+    assert!(rt; is(Scalar::alu(AluOp::Mov, LOW, any, any), 0, 0xffff_ffff));
+    assert!(rt; is(Scalar::reorder(ByteOrder::Big, Span::B16, any), 0, 0xffff));
+    assert!(rt; is(with(AluOp::Rsh, any, 48), 0, 0xffff));
+    assert!(rt; is(with(AluOp::Xor, byte(), 0x30), 0, 255));
+    assert!(rt; is_signed(Scalar::sign_extend(Extension::Full8, any), -128, 127));
+    Ok(())
+}
+
+#[test]
+fn common_members(rt: HostRuntime) -> Result<(), Fail> {
+    // Limits show bits, and a single number left is a constant.
+    let even = with(AluOp::Lsh, Scalar::any(FULL), 1);
+    assert_eq!(rt; even.meet(Scalar::between(8, 9)), Some(Scalar::constant(8)));
+    assert_eq!(rt; even.meet(Scalar::constant(7)), None);
+    assert_eq!(rt; Scalar::constant(8).number(), Some(8));
+    assert_eq!(rt; Scalar::between(8, 8).number(), Some(8));
+    assert_eq!(rt; byte().number(), None);
+    assert_eq!(rt; byte().greatest(), 255);
+    assert!(rt; byte().covers(Scalar::constant(7)) && !even.covers(byte()));
+    Ok(())
+}
+
+fn refined(comparison: Comparison, width: Width, taken: bool, a: Scalar, b: u64) -> Option<Scalar> {
+    let (left, _) = refine(comparison, width, taken, a, Scalar::constant(b))?;
+    Some(left)
+}
+
+#[test]
+fn jumps(rt: HostRuntime) -> Result<(), Fail> {
+    let any = Scalar::any(FULL);
+    let small = refined(Comparison::Less, FULL, true, any, 10).ok_or("never less")?;
+    assert!(rt; is(small, 0, 9) && is(with(AluOp::Add, small, 1), 1, 10));
+    let large = refined(Comparison::Less, FULL, false, any, 10).ok_or("never at least")?;
+    assert!(rt; is(large, 10, u64::MAX));
+    let positive = refined(Comparison::SignedLess, FULL, false, any, 0).ok_or("negative")?;
+    assert!(rt; is_signed(positive, 0, i64::MAX) && is(positive, 0, 0x7fff_ffff_ffff_ffff));
+    let even = refined(Comparison::AnyBit, FULL, false, any, 1).ok_or("odd")?;
+    assert!(rt; even.bits.value == 0 && even.bits.mask == u64::MAX - 1);
+    let five = refined(Comparison::Equal, FULL, true, any, 5).ok_or("never equal")?;
+    assert_eq!(rt; five, Scalar::constant(5));
+    Ok(())
+}
+
+#[test]
+fn constants(rt: HostRuntime) -> Result<(), Fail> {
+    let five = Scalar::constant(5);
+    assert!(rt; refined(Comparison::Less, FULL, true, five, 5).is_none());
+    assert_eq!(rt; refined(Comparison::Less, FULL, false, five, 5), Some(five));
+    // The low half of 2^32 + 5 is 5.
+    assert!(rt; refined(Comparison::NotEqual, LOW, true, five, 0x1_0000_0005).is_none());
+    assert_eq!(rt;
+        refined(Comparison::NotEqual, FULL, true, five, 0x1_0000_0005),
+        Some(five)
+    );
+    Ok(())
+}
+
+#[test]
+fn low_halves(rt: HostRuntime) -> Result<(), Fail> {
+    // What a low half shows is not kept of a number whose upper half is unknown.
+    let any = Scalar::any(FULL);
+    assert_eq!(rt; refined(Comparison::Less, LOW, true, any, 10), Some(any));
+    assert_eq!(rt; refined(Comparison::Equal, LOW, true, any, 5), Some(any));
+    let word = Scalar::any(LOW);
+    assert_eq!(rt;
+        refined(Comparison::Less, LOW, true, word, 10),
+        Some(Scalar::between(0, 9))
+    );
+    // 0xffff_ffff is -1 as a signed number of 32 bits.
+    assert_eq!(rt;
+        refined(Comparison::SignedLess, LOW, true, word, 0),
+        Some(word)
+    );
+    assert!(rt; refined(Comparison::SignedLess, LOW, true, byte(), 0xffff_ffff).is_none());
+    assert_eq!(rt;
+        refined(Comparison::SignedGreater, LOW, true, byte(), u64::MAX),
+        Some(byte())
+    );
+    Ok(())
+}
+
+fn at_most_nine<D: Domain>() -> Option<D> {
+    let (left, _) = refine(
+        Comparison::LessEqual,
+        FULL,
+        true,
+        D::any(FULL),
+        D::constant(9),
+    )?;
+    Some(left)
+}
+
+#[test]
+fn domains(rt: HostRuntime) -> Result<(), Fail> {
+    assert_eq!(rt; at_most_nine::<Bits>(), Some(Bits::between(0, 9)));
+    assert_eq!(rt; at_most_nine::<Range>(), Some(Range::between(0, 9)));
+    assert_eq!(rt; at_most_nine::<Scalar>(), Some(Scalar::between(0, 9)));
+    Ok(())
+}
