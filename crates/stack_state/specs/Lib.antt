@@ -1,1 +1,6 @@
 pub mod Meaning
+pub mod Places
+pub mod Identities
+pub mod MeaningLaws
+pub mod PlaceLaws
+pub mod Starts

@@ -59,8 +59,3 @@ Within p a n = (clock : ℕ → ℕ) (s : Machine.State) → Means p a s → End
 -- what b means a means too
 unfoldable pub Covers : Program → State → State → Type 0
 Covers p a b = (s : Machine.State) → Means p b s → Means p a s
-
--- every start of the program exits within n steps, with every clock
-unfoldable pub StartsEnd : Program → ℕ → Type 0
-StartsEnd p n = (clock : ℕ → ℕ) (head : FrameHead) (packet : List ℕ) (contents : List Entries)
-    → IsGiven p head packet contents → Ends p clock (start_state head packet contents) n

@@ -1,0 +1,72 @@
+-- What a register's kind is after one was set.
+use Rattle.std.specs.Prelude.{◌≡◌, ◌≢◌, ℕ, zero, suc, ◌-◌, ◌<◌, ◌⊎◌, pos, List, [], ◌∷◌, slice_set, Some, refl}
+use Rattle.std.proofs.Common.{sym, ap, ◌∙◌, subst, inl, inr}
+use Rattle.std.proofs.lemmas.Bool.{cases_eq}
+use Rattle.std.proofs.lemmas.List.{get_or-set_other}
+use Rattle.isa_model.specs.declared.registers.Reg.{Reg}
+use Rattle.isa_model.specs.declared.registers.Reg.TheVariants.{R0, R1, R2, R3, R4, R5, R6, R7, R8, R9, R10}
+use Rattle.isa_model.specs.Registers.{reg_number, reg_numbered}
+use Rattle.reg_state.specs.declared.kinds.Kind.{Kind}
+use Rattle.reg_state.specs.declared.kinds.Kind.TheVariants.{Unset, Stack}
+use Rattle.stack_state.specs.declared.states.State.{State}
+use Rattle.stack_state.specs.Meaning.{kind_at, registers_of, depth}
+use Rattle.stack_state.specs.Places.{kind_of, with_register}
+use Rattle.stack_state.specs.MeaningLaws.{depth-with, registers_of-with}
+
+-- ---- registers, told apart by their numbers
+
+reg_numbered-reg_number : (r : Reg) → reg_numbered (reg_number r) ≡ Some r
+reg_numbered-reg_number R0 = refl
+reg_numbered-reg_number R1 = refl
+reg_numbered-reg_number R2 = refl
+reg_numbered-reg_number R3 = refl
+reg_numbered-reg_number R4 = refl
+reg_numbered-reg_number R5 = refl
+reg_numbered-reg_number R6 = refl
+reg_numbered-reg_number R7 = refl
+reg_numbered-reg_number R8 = refl
+reg_numbered-reg_number R9 = refl
+reg_numbered-reg_number R10 = refl
+
+pub same_number : (q r : Reg) → reg_number q ≡ reg_number r → q ≡ r
+same_number q r h =
+    let there : Some q ≡ Some r = sym (reg_numbered-reg_number q) ∙ ap reg_numbered h ∙ reg_numbered-reg_number r in
+    cc
+
+pub same_or_other : (q r : Reg) → (q ≡ r) ⊎ (q ≢ r)
+same_or_other q r =
+    elim (cases_eq (reg_number q) (reg_number r)) [
+      | inl same ↦ inl (same_number q r same)
+      | inr other ↦ inr (λ h. other (ap reg_number h))
+    ]
+
+-- ---- kinds
+
+-- every register but r10 stands in the innermost frame's list
+pub kind_of-registers : (a : State) (r : Reg) → r ≢ R10 → kind_of a r ≡ kind_at (registers_of a) (reg_number r)
+kind_of-registers a R10 own = absurd (own refl)
+kind_of-registers a r own = refl
+
+set_place : (P : Kind → Type 0) (ks : List Kind) (n : ℕ) (k : Kind) → P k → P (kind_at ks n) → P (kind_at (slice_set ks n k) n)
+set_place P [] n k new old = old
+set_place P (x ∷ ks) zero k new old = new
+set_place P (x ∷ ks) (suc n) k new old = set_place P ks n k new old
+
+-- what holds of the new kind holds of the register's, if it did before
+pub kind_of-with_same : (P : Kind → Type 0) (a : State) (r : Reg) (k : Kind) → r ≢ R10 → 0 < depth a → P k → P (kind_of a r)
+    → P (kind_of (with_register a r k) r)
+kind_of-with_same P a r k own called new old =
+    let before = kind_of-registers a r own in
+    let after = kind_of-registers (with_register a r k) r own ∙ ap (λ ks. kind_at ks (reg_number r)) (registers_of-with a r k called) in
+    subst P (sym after) (set_place P (registers_of a) (reg_number r) k new (subst P before old))
+
+pub kind_of-with_other : (a : State) (r q : Reg) (k : Kind) → 0 < depth a → q ≢ r → kind_of (with_register a r k) q ≡ kind_of a q
+kind_of-with_other a r q k called other =
+    elim (same_or_other q R10) [
+      | inl end ↦ subst (λ q. kind_of (with_register a r k) q ≡ kind_of a q) (sym end)
+          (ap (λ n. Stack (n - 1) (pos 0)) (depth-with a r k))
+      | inr own ↦ kind_of-registers (with_register a r k) q own
+          ∙ ap (λ ks. kind_at ks (reg_number q)) (registers_of-with a r k called)
+          ∙ get_or-set_other (registers_of a) (reg_number r) (reg_number q) k Unset (λ h. other (same_number q r h))
+          ∙ sym (kind_of-registers a q own)
+    ]
