@@ -1,0 +1,237 @@
+-- What is kept where two numbers are compared and other numbers are put in their place.
+use Rattle.std.specs.Prelude.{◌≡◌, ◌≢◌, ℕ, ◌<◌, ◌^◌, Bool, true, false, Some, None, Ok, refl}
+use Rattle.std.proofs.Common.{sym, ap, ◌∙◌, subst, inl, inr, arith}
+use Rattle.isa_model.specs.declared.registers.Reg.{Reg}
+use Rattle.isa_model.specs.declared.registers.Reg.TheVariants.{R10}
+use Rattle.isa_model.specs.declared.sizes.Width.{Width}
+use Rattle.isa_model.specs.declared.instructions.Cond.{Cond}
+use Rattle.isa_model.specs.declared.instructions.Operand.{Operand}
+use Rattle.isa_model.specs.declared.instructions.Operand.TheVariants.{Constant, Register}
+use Rattle.isa_model.specs.declared.values.Value.TheVariants.{Num}
+use Rattle.isa_model.specs.Numbers.{unsigned, holds}
+use Rattle.isa_model.specs.Instructions.{Program}
+use Rattle.isa_model.specs.States.{reg}
+use Rattle.isa_model.specs.States as Machine
+use Rattle.isa_model.specs.Steps.{operand_value, tested, test_of}
+use Rattle.reg_state.specs.declared.kinds.Kind.{Kind}
+use Rattle.reg_state.specs.declared.kinds.Kind.TheVariants.{Number}
+use Rattle.reg_state.specs.declared.scalars.Scalar.{Scalar}
+use Rattle.reg_state.specs.Scalars.{Has, IsConstant}
+use Rattle.reg_state.specs.Constants.{bits_constant_has, range_constant_has}
+use Rattle.reg_state.specs.Kinds.{Assigned, Allows}
+use Rattle.stack_state.specs.declared.states.State.{State}
+use Rattle.stack_state.specs.Meaning.{MeansBy, depth}
+use Rattle.stack_state.specs.Places.{kind_of, with_register}
+use Rattle.stack_state.specs.MeaningLaws.{depth_positive, reg_allowed, MeansBy-narrow, depth-with, returns-with, frame_of-with}
+use Rattle.stack_state.specs.PlaceLaws.{same_or_other, kind_of-with_same, kind_of-with_other}
+use Rattle.branch_refine.specs.Refining.{IsNumber, IsJust, IsNumberOperand, IsJustOperand, Keeps, Narrows, KeepsOthers}
+use Rattle.branch_refine.specs.Numbers.{numbers_in, AreNumbersOf, with_operand, with_compared}
+
+-- ---- numbers and kinds
+
+pub kind_is : (k : Kind) (numbers : Scalar) → Some numbers ≡ numbers_in k → k ≡ Number numbers
+kind_is (Number m) numbers h = cc
+kind_is k numbers h = absurd (cc)
+
+-- a register that is known to hold a number is not r10
+pub holder : (a : State) (r : Reg) (numbers : Scalar) → Some numbers ≡ numbers_in (kind_of a r) → r ≢ R10
+holder a r numbers h = λ end.
+    let pointer : Some numbers ≡ None = subst (λ q. Some numbers ≡ numbers_in (kind_of a q)) end h in
+    absurd (cc)
+
+pub holder_operand : (a : State) (w : Width) (operand : Operand) (numbers : Scalar) → AreNumbersOf a w operand (Some numbers)
+    → operand ≢ Register R10
+holder_operand a w (Constant k) numbers h = λ end. absurd (cc)
+holder_operand a w (Register r) numbers h = λ end. holder a r numbers h (cc)
+
+pub is_number : (k : Kind) (numbers : Scalar) → Some numbers ≡ numbers_in k → IsNumber k
+is_number k numbers h = subst IsNumber (sym (kind_is k numbers h)) tt
+
+pub is_number_operand : (a : State) (w : Width) (operand : Operand) (numbers : Scalar) → AreNumbersOf a w operand (Some numbers)
+    → IsNumberOperand a operand
+is_number_operand a w (Constant k) numbers h = tt
+is_number_operand a w (Register r) numbers h = is_number (kind_of a r) numbers h
+
+pub just_number : (k : Kind) (numbers : Scalar) (x : ℕ) → Some numbers ≡ numbers_in k → IsJust k x → IsConstant numbers x
+just_number k numbers x h just = (subst (λ k. IsJust k x) (kind_is k numbers h) just).1
+
+pub just_operand : (a : State) (w : Width) (operand : Operand) (numbers : Scalar) (y : ℕ) → AreNumbersOf a w operand (Some numbers)
+    → IsJustOperand a w operand y → IsConstant numbers y
+just_operand a w (Constant k) numbers y h just = rw just h.1
+just_operand a w (Register r) numbers y h just = just_number (kind_of a r) numbers y h just
+
+pub no_number : (k : Kind) (x : ℕ) → None ≡ numbers_in k → IsJust k x → ⊥
+no_number (Number m) x h just = absurd (cc)
+no_number k x h just = just
+
+pub no_operand : (a : State) (w : Width) (operand : Operand) (y : ℕ) → AreNumbersOf a w operand None → IsJustOperand a w operand y → ⊥
+no_operand a w (Constant k) y h just = h
+no_operand a w (Register r) y h just = no_number (kind_of a r) y h just
+
+-- a number of 64 bits has its constant
+pub constant_has : (numbers : Scalar) (x : ℕ) → x < 2 ^ 64 → IsConstant numbers x → Has numbers x
+constant_has numbers x h c = (bits_constant_has numbers.bits x h c.0, range_constant_has numbers.range x h c.1)
+
+-- ---- the test of two numbers
+
+tested_says : (s : Machine.State) (cond : Cond) (operand : Operand) (x y : ℕ) (taken : Bool) → reg s cond.register ≡ Num x
+    → operand_value s cond.width operand ≡ Num y → tested s cond operand ≡ Ok taken → holds cond.comparison cond.width x y ≡ taken
+tested_says s cond (Constant k) x y taken left right says =
+    let told = rw left at says in
+    let same : unsigned cond.width k ≡ y = cc in
+    cc
+tested_says s cond (Register r) x y taken left right says = let told = rw (left, right) at says in cc
+
+operand_allowed : (p : Program) (e : Assigned) (a : State) (s : Machine.State) (w : Width) (operand : Operand) (numbers : Scalar)
+    → MeansBy p e a s → AreNumbersOf a w operand (Some numbers) → Allows e (Number numbers) (operand_value s w operand)
+operand_allowed p e a s w (Constant k) numbers m h = (unsigned w k, refl, h.0)
+operand_allowed p e a s w (Register r) numbers m h =
+    subst (λ k. Allows e k (reg s r)) (kind_is (kind_of a r) numbers h) (reg_allowed p e a s m (depth_positive p e a s m) r)
+
+operand_narrowed : (p : Program) (e : Assigned) (a : State) (s : Machine.State) (w : Width) (operand : Operand) (new : Scalar)
+    → operand ≢ Register R10 → Allows e (Number new) (operand_value s w operand) → MeansBy p e a s
+    → MeansBy p e (with_operand a operand new) s
+operand_narrowed p e a s w (Constant k) new own allowed m = m
+operand_narrowed p e a s w (Register r) new own allowed m =
+    MeansBy-narrow p e a s r (Number new) (λ end. own (ap Register end)) allowed m
+
+-- two numbers of a member that goes this way: the outcome of their comparison
+record Compared (e : Assigned) (s : Machine.State) (cond : Cond) (left right : Scalar) (taken : Bool) : Type 0 where
+  pub x : ℕ
+  pub y : ℕ
+  pub left_is : reg s cond.register ≡ Num x
+  pub right_is : operand_value s cond.width cond.operand ≡ Num y
+  pub left_has : Has left x
+  pub right_has : Has right y
+  pub outcome : holds cond.comparison cond.width x y ≡ taken
+
+compared : (p : Program) (e : Assigned) (a : State) (s : Machine.State) (cond : Cond) (left right : Scalar) (taken : Bool)
+    → Some left ≡ numbers_in (kind_of a cond.register) → AreNumbersOf a cond.width cond.operand (Some right)
+    → MeansBy p e a s → test_of s cond ≡ Ok taken → Compared e s cond left right taken
+compared p e a s cond left right taken is_left is_right m says =
+    let l : Allows e (Number left) (reg s cond.register) =
+    subst (λ k. Allows e k (reg s cond.register)) (kind_is (kind_of a cond.register) left is_left)
+    (reg_allowed p e a s m (depth_positive p e a s m) cond.register) in
+    let r : Allows e (Number right) (operand_value s cond.width cond.operand) =
+    operand_allowed p e a s cond.width cond.operand right m is_right in
+    record {
+      x = l.0;
+      y = r.0;
+      left_is = l.1;
+      right_is = r.1;
+      left_has = l.2;
+      right_has = r.2;
+      outcome = tested_says s cond cond.operand l.0 r.0 taken l.1 r.1 says;
+    }
+
+-- ---- what is kept
+
+pub Keeps-same : (cond : Cond) (taken : Bool) (a : State) → Keeps cond taken a true a
+unfolding Keeps
+Keeps-same cond taken a = λ p e s m says. (refl, m)
+
+-- the numbers that are left for members that go this way
+pub Keeps-compared : (cond : Cond) (taken : Bool) (a : State) (left right new_left new_right : Scalar)
+    → Some left ≡ numbers_in (kind_of a cond.register) → AreNumbersOf a cond.width cond.operand (Some right)
+    → ((x y : ℕ) → Has left x → Has right y → holds cond.comparison cond.width x y ≡ taken → Has new_left x × Has new_right y)
+    → Keeps cond taken a true (with_compared a cond new_left new_right)
+unfolding Keeps
+Keeps-compared cond taken a left right new_left new_right is_left is_right common = λ p e s m says.
+    let c = compared p e a s cond left right taken is_left is_right m says in
+    let both = common c.x c.y c.left_has c.right_has c.outcome in
+    let first : MeansBy p e (with_register a cond.register (Number new_left)) s =
+    MeansBy-narrow p e a s cond.register (Number new_left) (holder a cond.register left is_left) (c.x, c.left_is, both.0) m in (
+      refl,
+      operand_narrowed p e (with_register a cond.register (Number new_left)) s cond.width cond.operand new_right
+          (holder_operand a cond.width cond.operand right is_right) (c.y, c.right_is, both.1) first,
+    )
+
+-- no member goes this way
+pub Keeps-none : (cond : Cond) (taken : Bool) (a : State) (left right : Scalar)
+    → Some left ≡ numbers_in (kind_of a cond.register) → AreNumbersOf a cond.width cond.operand (Some right)
+    → ((x y : ℕ) → Has left x → Has right y → holds cond.comparison cond.width x y ≡ taken → ⊥)
+    → Keeps cond taken a false a
+unfolding Keeps
+Keeps-none cond taken a left right is_left is_right none = λ p e s m says.
+    let c = compared p e a s cond left right taken is_left is_right m says in
+    absurd (none c.x c.y c.left_has c.right_has c.outcome)
+
+-- ---- what stays
+
+pub Narrows-same : (a : State) → Narrows a a
+Narrows-same a = record {
+  slot = refl;
+  depths = refl;
+  returns = refl;
+  callers = λ j h. refl;
+  registers = λ e r v h. h;
+  constants = λ r x h. h;
+}
+
+-- a register whose numbers become fewer
+Narrows-with : (a b : State) (r : Reg) (old new : Scalar) → Narrows a b → 0 < depth a → r ≢ R10 → kind_of a r ≡ Number old
+    → ((x : ℕ) → Has new x → Has old x) → ((x : ℕ) → Has old x → IsConstant old x → Has new x × IsConstant new x)
+    → Narrows a (with_register b r (Number new))
+Narrows-with a b r old new n called own is fewer constant =
+    let deep = n.depths in
+    let within : 0 < depth b = omega arith in
+    record {
+      slot = n.slot;
+      depths = depth-with b r (Number new) ∙ n.depths;
+      returns = returns-with b r (Number new) ∙ n.returns;
+      callers = λ j h. frame_of-with b r (Number new) j (omega arith) ∙ n.callers j h;
+      registers = λ e q v.
+          let P : Kind → Type 0 = λ k. Allows e k v → Allows e (kind_of a r) v in
+          elim (same_or_other q r) [
+            | inl same ↦ subst (λ q. Allows e (kind_of (with_register b r (Number new)) q) v → Allows e (kind_of a q) v) (sym same)
+                (kind_of-with_same P b r (Number new) own within
+                (λ h. subst (λ k. Allows e k v) (sym is) (h.0, h.1, fewer h.0 h.2)) (n.registers e r v))
+            | inr other ↦ subst (λ k. Allows e k v → Allows e (kind_of a q) v) (sym (kind_of-with_other b r q (Number new) within other))
+                (n.registers e q v)
+          ];
+      constants = λ q x.
+          let P : Kind → Type 0 = λ k. IsJust (kind_of a r) x → IsJust k x in
+          elim (same_or_other q r) [
+            | inl same ↦ subst (λ q. IsJust (kind_of a q) x → IsJust (kind_of (with_register b r (Number new)) q) x) (sym same)
+                (kind_of-with_same P b r (Number new) own within
+                (λ h. let just = subst (λ k. IsJust k x) is h in constant x just.0 just.1) (n.constants r x))
+            | inr other ↦ subst (λ k. IsJust (kind_of a q) x → IsJust k x) (sym (kind_of-with_other b r q (Number new) within other))
+                (n.constants q x)
+          ];
+    }
+
+Narrows-operand : (a b : State) (w : Width) (operand : Operand) (old new : Scalar) → Narrows a b → 0 < depth a
+    → AreNumbersOf a w operand (Some old)
+    → ((x : ℕ) → Has new x → Has old x) → ((x : ℕ) → Has old x → IsConstant old x → Has new x × IsConstant new x)
+    → Narrows a (with_operand b operand new)
+Narrows-operand a b w (Constant k) old new n called is fewer constant = n
+Narrows-operand a b w (Register r) old new n called is fewer constant =
+    Narrows-with a b r old new n called (holder a r old is) (kind_is (kind_of a r) old is) fewer constant
+
+kept_constant : (old new : Scalar) → ((x : ℕ) → IsConstant old x → IsConstant new x) → (x : ℕ) → Has old x → IsConstant old x
+    → Has new x × IsConstant new x
+kept_constant old new kept x has c = (constant_has new x has.0.below (kept x c), kept x c)
+
+pub Narrows-compared : (a : State) (cond : Cond) (left right new_left new_right : Scalar) → 0 < depth a
+    → Some left ≡ numbers_in (kind_of a cond.register) → AreNumbersOf a cond.width cond.operand (Some right)
+    → ((x : ℕ) → Has new_left x → Has left x) → ((y : ℕ) → Has new_right y → Has right y)
+    → ((x : ℕ) → IsConstant left x → IsConstant new_left x) → ((y : ℕ) → IsConstant right y → IsConstant new_right y)
+    → Narrows a (with_compared a cond new_left new_right)
+Narrows-compared a cond left right new_left new_right called is_left is_right fewer_left fewer_right kept_left kept_right =
+    Narrows-operand a (with_register a cond.register (Number new_left)) cond.width cond.operand right new_right
+    (Narrows-with a a cond.register left new_left (Narrows-same a) called (holder a cond.register left is_left)
+    (kind_is (kind_of a cond.register) left is_left) fewer_left (kept_constant left new_left kept_left))
+    called is_right fewer_right (kept_constant right new_right kept_right)
+
+others_operand : (a : State) (operand : Operand) (new : Scalar) (q : Reg) → 0 < depth a → (operand ≡ Register q → ⊥)
+    → kind_of (with_operand a operand new) q ≡ kind_of a q
+others_operand a (Constant k) new q called unnamed = refl
+others_operand a (Register r) new q called unnamed =
+    kind_of-with_other a r q (Number new) called (λ same. unnamed (ap Register (sym same)))
+
+pub others_compared : (a : State) (cond : Cond) (new_left new_right : Scalar) → 0 < depth a
+    → KeepsOthers cond a (with_compared a cond new_left new_right)
+others_compared a cond new_left new_right called q unnamed =
+    let deep = depth-with a cond.register (Number new_left) in
+    others_operand (with_register a cond.register (Number new_left)) cond.operand new_right q (omega arith) (λ h. unnamed (inr h))
+    ∙ kind_of-with_other a cond.register q (Number new_left) called (λ same. unnamed (inl (sym same)))

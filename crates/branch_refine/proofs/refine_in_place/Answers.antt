@@ -1,0 +1,44 @@
+use Rattle.stack_state.specs.Places.{kind_of}
+use Rattle.branch_refine.proofs.Kept.{Keeps-same, Keeps-none, Keeps-compared, Narrows-compared, others_compared, just_number, just_operand}
+use Rattle.branch_refine.proofs.refine_in_place.Goals as goal
+
+pub returns-in_default-clause-kept : goal.returns-in_default-clause-kept
+returns-in_default-clause-kept c = Keeps-same c.args.cond c.args.taken c.args.state.now
+
+pub returns-in_default-operand_numbers-clause-kept :
+    goal.returns-in_default-operand_numbers-clause-kept
+returns-in_default-operand_numbers-clause-kept c = Keeps-same c.args.cond c.args.taken c.args.state.now
+
+pub returns-in_default-refine-clause-kept : goal.returns-in_default-refine-clause-kept
+returns-in_default-refine-clause-kept c =
+    Keeps-none c.args.cond c.args.taken c.args.state.now c.in-Some.left c.in-Some-operand_numbers.right
+    c.in-Some.ensures c.in-Some-operand_numbers.ensures (λ x y l r o. c.in_default-refine.ensures.common x y l r o)
+
+pub returns-clause-kept : goal.returns-clause-kept
+returns-clause-kept c =
+    rw (c.set_operand.ensures, c.set_register.ensures)
+    (Keeps-compared c.args.cond c.args.taken c.args.state.now c.in-Some.left c.in-Some-operand_numbers.right
+    c.in-Some-refine.new_left c.in-Some-refine.new_right
+    c.in-Some.ensures c.in-Some-operand_numbers.ensures (λ x y l r o. c.in-Some-refine.ensures.common x y l r o))
+
+pub returns-clause-narrowed : goal.returns-clause-narrowed
+returns-clause-narrowed c =
+    rw (c.set_operand.ensures, c.set_register.ensures)
+    (Narrows-compared c.args.state.now c.args.cond c.in-Some.left c.in-Some-operand_numbers.right
+    c.in-Some-refine.new_left c.in-Some-refine.new_right c.requires
+    c.in-Some.ensures c.in-Some-operand_numbers.ensures
+    c.in-Some-refine.ensures.left c.in-Some-refine.ensures.right
+    c.in-Some-refine.ensures.left_constant c.in-Some-refine.ensures.right_constant)
+
+pub returns-clause-others : goal.returns-clause-others
+returns-clause-others c =
+    rw (c.set_operand.ensures, c.set_register.ensures)
+    (others_compared c.args.state.now c.args.cond c.in-Some-refine.new_left c.in-Some-refine.new_right c.requires)
+
+pub returns-clause-constants : goal.returns-clause-constants
+returns-clause-constants c = λ x y left right apart.
+    let none = c.in-Some-refine.ensures.never x y
+    (just_number (kind_of c.args.state.now c.args.cond.register) c.in-Some.left x c.in-Some.ensures left)
+    (just_operand c.args.state.now c.args.cond.width c.args.cond.operand c.in-Some-operand_numbers.right y c.in-Some-operand_numbers.ensures right)
+    apart in
+    absurd (cc none)

@@ -1,0 +1,2 @@
+pub mod Refining
+pub mod Numbers

@@ -1,0 +1,88 @@
+-- What is kept of an abstract state on one way of a conditional jump.
+-- Linux, Documentation/bpf/verifier.rst (how the verifier narrows registers at conditional jumps).
+use Rattle.std.specs.Prelude.{◌≡◌, ℕ, suc, ◌<◌, ◌⊎◌, Bool, IsTrue, Ok, map}
+use Rattle.isa_model.specs.declared.sizes.Width.{Width}
+use Rattle.isa_model.specs.declared.registers.Reg.{Reg}
+use Rattle.isa_model.specs.declared.instructions.Cond.{Cond}
+use Rattle.isa_model.specs.declared.instructions.Operand.{Operand}
+use Rattle.isa_model.specs.declared.instructions.Operand.TheVariants.{Constant, Register}
+use Rattle.isa_model.specs.declared.values.Value.{Value}
+use Rattle.isa_model.specs.Numbers.{unsigned}
+use Rattle.isa_model.specs.Instructions.{Program}
+use Rattle.isa_model.specs.Steps.{test_of}
+use Rattle.isa_model.specs.States as Machine
+use Rattle.reg_state.specs.declared.kinds.Kind.{Kind}
+use Rattle.reg_state.specs.declared.kinds.Kind.TheVariants.{Number}
+use Rattle.reg_state.specs.Scalars.{Has, IsConstant}
+use Rattle.reg_state.specs.Kinds.{Assigned, Allows}
+use Rattle.stack_state.specs.declared.states.State.{State}
+use Rattle.stack_state.specs.Meaning.{MeansBy, depth}
+use Rattle.stack_state.specs.Places.{frame_of, kind_of}
+use Rattle.branch_refine.specs.declared.Branch.{Branch}
+use Rattle.branch_refine.specs.declared.Branch.TheVariants.{Never, Goes}
+
+-- ---- numbers
+
+abbrev pub IsNumber : Kind → Type 0
+IsNumber (Number numbers) = Unit {0}
+IsNumber k = ⊥
+
+-- the one number, written as a constant
+abbrev pub IsJust : Kind → ℕ → Type 0
+IsJust (Number numbers) x = Has numbers x × IsConstant numbers x
+IsJust k x = ⊥
+
+-- a constant of the instruction is a number
+abbrev pub IsNumberOperand : State → Operand → Type 0
+IsNumberOperand a (Constant k) = Unit {0}
+IsNumberOperand a (Register r) = IsNumber (kind_of a r)
+
+abbrev pub IsJustOperand : State → Width → Operand → ℕ → Type 0
+IsJustOperand a w (Constant k) y = y ≡ unsigned w k
+IsJustOperand a w (Register r) y = IsJust (kind_of a r) y
+
+-- two numbers are compared
+abbrev pub AreCompared : State → Cond → Type 0
+AreCompared a cond = IsNumber (kind_of a cond.register) × IsNumberOperand a cond.operand
+
+-- ---- what is kept
+
+-- each machine state that goes this way is still meant, under the same assignment; so there is none if none is kept
+unfoldable pub Keeps : Cond → Bool → State → Bool → State → Type 0
+Keeps cond taken a some b =
+    (p : Program) (e : Assigned) (s : Machine.State) → MeansBy p e a s → test_of s cond ≡ Ok taken
+    → IsTrue some × MeansBy p e b s
+
+-- the condition names the register
+abbrev pub Names : Cond → Reg → Type 0
+Names cond r = (cond.register ≡ r) ⊎ (cond.operand ≡ Register r)
+
+-- b is a but for kinds in registers: no wider ones, and a constant is still that constant
+pub record Narrows (a b : State) : Type 0 where
+  pub slot : b.slot ≡ a.slot
+  pub depths : depth b ≡ depth a
+  pub returns : map (λ f. f.return_slot) b.frames.items ≡ map (λ f. f.return_slot) a.frames.items
+  pub callers : (j : ℕ) → suc j < depth a → frame_of b j ≡ frame_of a j
+  pub registers : (e : Assigned) (r : Reg) (v : Value) → Allows e (kind_of b r) v → Allows e (kind_of a r) v
+  pub constants : (r : Reg) (x : ℕ) → IsJust (kind_of a r) x → IsJust (kind_of b r) x
+
+-- registers that the condition does not name have the kinds that they had
+abbrev pub KeepsOthers : Cond → State → State → Type 0
+KeepsOthers cond a b = (r : Reg) → (Names cond r → ⊥) → kind_of b r ≡ kind_of a r
+
+-- ---- branches
+
+-- what is said of the state on a way that is gone
+abbrev pub IfGoes : Branch → (State → Type 0) → Type 0
+IfGoes Never P = Unit {0}
+IfGoes (Goes b) P = P b
+
+-- the state on the way means the machine state
+abbrev pub IsMeant : Branch → Program → Assigned → Machine.State → Type 0
+IsMeant Never p e s = ⊥
+IsMeant (Goes b) p e s = MeansBy p e b s
+
+-- each machine state that goes this way is still meant, under the same assignment
+unfoldable pub KeepsIn : Cond → Bool → State → Branch → Type 0
+KeepsIn cond taken a branch =
+    (p : Program) (e : Assigned) (s : Machine.State) → MeansBy p e a s → test_of s cond ≡ Ok taken → IsMeant branch p e s

@@ -1,0 +1,77 @@
+//! What the test of a conditional jump shows of an abstract state.
+#![tactic(auto)]
+
+ghost use Rattle.std.specs.Prelude.{◌≡◌, ◌≢◌, ℕ, ◌<◌, IsTrue, false};
+ghost use Rattle.isa_model.specs.Numbers.{holds};
+ghost use Rattle.stack_state.specs.Meaning.{depth};
+ghost use Rattle.stack_state.specs.Places.{kind_of};
+ghost use Rattle.branch_refine.specs.Refining.{IsJust, IsJustOperand, AreCompared, Keeps, Narrows, KeepsOthers, IfGoes, KeepsIn};
+
+mod operands;
+
+use crate::operands::{number_of, operand_numbers, set_operand};
+use isa_model::{Cond, Reg};
+use reg_state::Kind;
+use stack_state::State;
+
+/// What is left of a state on one way of a conditional jump.
+#[derive(Drop)]
+pub enum Branch {
+    /// No member goes this way.
+    Never,
+    Goes(State),
+}
+
+/// What is left where the test comes out this way.
+pub fn refine(cond: Cond, taken: bool, state: &State) -> Branch
+    requires { 0 < depth state.now }
+    ensures kept { KeepsIn cond taken state.now result }
+    ensures narrowed { IfGoes result (λ left. Narrows state.now left) }
+    ensures others { IfGoes result (λ left. KeepsOthers cond state.now left) }
+    ensures constants { (x y : ℕ) → IsJust (kind_of state.now cond.register) x
+        → IsJustOperand state.now cond.width cond.operand y
+        → holds cond.comparison cond.width x y ≢ taken → result ≡ Branch.Never }
+    ensures not_numbers { (AreCompared state.now cond → ⊥) → result ≡ Branch.Goes state.now }
+{
+    let mut left = state.copy();
+    if refine_in_place(cond, taken, &mut left) {
+        Branch::Goes(left)
+    } else {
+        Branch::Never
+    }
+}
+
+/// Leaves of a state what goes this way. No: nothing does, and it stays as it is.
+pub fn refine_in_place(cond: Cond, taken: bool, state: &mut State) -> bool
+    requires { 0 < depth state.old }
+    ensures kept { Keeps cond taken state.old result state.new }
+    ensures narrowed { Narrows state.old state.new }
+    ensures others { KeepsOthers cond state.old state.new }
+    ensures constants { (x y : ℕ) → IsJust (kind_of state.old cond.register) x
+        → IsJustOperand state.old cond.width cond.operand y
+        → holds cond.comparison cond.width x y ≢ taken → result ≡ false }
+    ensures not_numbers { (AreCompared state.old cond → ⊥) → IsTrue result × (state.new ≡ state.old) }
+    ensures never { result ≡ false → state.new ≡ state.old }
+{
+    let Some(left) = number_of(state, cond.register) else {
+        return true;
+    };
+    let Some(right) = operand_numbers(state, cond.width, cond.operand) else {
+        return true;
+    };
+    let Some((new_left, new_right)) = reg_state::refine(
+        cond.comparison,
+        cond.width,
+        taken,
+        left,
+        right,
+    ) else {
+        return false;
+    };
+    state.set_register(cond.register, Kind::Number(new_left));
+    set_operand(state, cond.operand, new_right);
+    true
+}
+
+#[cfg(test)]
+mod tests;
