@@ -1,16 +1,85 @@
 //! A test that one abstract state covers another.
 #![tactic(auto)]
 
-ghost use Rattle.std.specs.Prelude.{◌≡◌, IsTrue};
+ghost use Rattle.std.specs.Prelude.{◌≡◌, IsTrue, length};
 ghost use Rattle.isa_model.specs.Instructions.{Program};
+ghost use Rattle.reg_state.specs.KindCover.{KindCovers};
 ghost use Rattle.stack_state.specs.Meaning.{Covers};
+ghost use Rattle.state_cover.specs.Names.{packet_name, null_name};
+ghost use Rattle.state_cover.specs.FrameCover.{FrameCovers, KindsCover};
 
-use stack_state::State;
+mod names;
+
+use names::name_in;
+use reg_state::Kind;
+use stack_state::{AbstractFrame, State};
 
 /// A yes says that all that `b` means `a` means too.
 pub fn covers(a: &State, b: &State) -> bool
     ensures yes { IsTrue result → (p : Program) → Covers p a.now b.now }
     ensures slot { IsTrue result → a.now.slot ≡ b.now.slot }
+    ensures equal { a.now ≡ b.now → IsTrue result }
 {
-    false
+    if a.slot != b.slot {
+        return false;
+    }
+    let left = a.frames.as_slice();
+    let right = b.frames.as_slice();
+    if left.len() != right.len() {
+        return false;
+    }
+    for index in 0..left.len() {
+        if !frame_covers(&left[index], &right[index], left, right) {
+            return false;
+        }
+    }
+    true
 }
+
+// Does a frame of a cover one of b, by the names that the frames of b have for the identities of a?
+fn frame_covers(
+    left: &AbstractFrame,
+    right: &AbstractFrame,
+    a: &[AbstractFrame],
+    b: &[AbstractFrame],
+) -> bool
+    requires { length a.now ≡ length b.now }
+    ensures yes { IsTrue result
+        → FrameCovers (packet_name a.now b.now) (null_name a.now b.now) left.now right.now }
+    ensures equal { a.now ≡ b.now → left.now ≡ right.now → IsTrue result }
+{
+    if left.return_slot != right.return_slot {
+        return false;
+    }
+    registers_cover(&left.registers, &right.registers, a, b)
+}
+
+// All ten are compared in an outer frame too: r0 to r5 are Unset there, which covers what stands there in b.
+fn registers_cover(
+    left: &[Kind; 10],
+    right: &[Kind; 10],
+    a: &[AbstractFrame],
+    b: &[AbstractFrame],
+) -> bool
+    requires { length a.now ≡ length b.now }
+    ensures yes { IsTrue result → KindsCover (packet_name a.now b.now) (null_name a.now b.now) left.now right.now }
+    ensures equal { a.now ≡ b.now → left.now ≡ right.now → IsTrue result }
+{
+    for index in 0..10 {
+        if !kind_covers(left[index], right[index], a, b) {
+            return false;
+        }
+    }
+    true
+}
+
+fn kind_covers(left: Kind, right: Kind, a: &[AbstractFrame], b: &[AbstractFrame]) -> bool
+    requires { length a.now ≡ length b.now }
+    ensures yes { IsTrue result → KindCovers (packet_name a.now b.now) (null_name a.now b.now) left right }
+    ensures equal { a.now ≡ b.now → left ≡ right → IsTrue result }
+{
+    left.covers(right, name_in(left, a, b))
+}
+
+#[cfg(test)]
+mod tests;

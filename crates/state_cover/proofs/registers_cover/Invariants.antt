@@ -1,0 +1,10 @@
+use Rattle.std.proofs.Common.{ℕ, ◌<◌}
+use Rattle.reg_state.specs.KindCover.{KindCovers}
+use Rattle.stack_state.specs.Meaning.{kind_at}
+use Rattle.state_cover.specs.Names.{packet_name, null_name}
+use Rattle.state_cover.proofs.registers_cover.Given as goal
+
+-- each register before it covers the other's
+abbrev pub invariant-loop-index : goal.invariant-loop-index
+invariant-loop-index l = (k : ℕ) → k < l.index
+    → KindCovers (packet_name l.a l.b) (null_name l.a l.b) (kind_at l.left k) (kind_at l.right k)

@@ -1,0 +1,44 @@
+-- What one state calls the identities of another: what stands in it at the first place where the other names them.
+use Rattle.std.specs.Prelude.{ℕ, List, [], ◌∷◌, ◌++◌, Bool, false, Option, Some, None, nat_eq, unwrap_or, if◌then◌else◌}
+use Rattle.std.specs.List.{find, zip}
+use Rattle.reg_state.specs.declared.kinds.Kind.{Kind}
+use Rattle.reg_state.specs.KindCover.{packet_identity_of, null_identity_of}
+use Rattle.stack_state.specs.declared.states.AbstractFrame.{AbstractFrame}
+use Rattle.state_cover.specs.declared.names.Sort.{Sort}
+use Rattle.state_cover.specs.declared.names.Sort.TheVariants.{Packet, Null}
+
+abbrev pub identity_of : Sort → Kind → Option ℕ
+identity_of Packet k = packet_identity_of k
+identity_of Null k = null_identity_of k
+
+abbrev pub is_number : Option ℕ → ℕ → Bool
+is_number None i = false
+is_number (Some j) i = nat_eq j i
+
+abbrev pub is_named : Sort → ℕ → Kind → Bool
+is_named sort i k = is_number (identity_of sort k) i
+
+-- the kinds of two lists of frames, place by place
+abbrev pub places : List AbstractFrame → List AbstractFrame → List (Kind × Kind)
+places [] gs = []
+places (f ∷ fs) [] = []
+places (f ∷ fs) (g ∷ gs) = zip f.registers g.registers ++ places fs gs
+
+-- the first place whose first kind names the identity
+abbrev pub first_named : Sort → ℕ → List (Kind × Kind) → Option (Kind × Kind)
+first_named sort i ps = find (λ place. is_named sort i place.0) ps
+
+-- the name that stands opposite; the identity itself, where there is none
+abbrev pub name_at : Sort → ℕ → Option (Kind × Kind) → ℕ
+name_at sort i None = i
+name_at sort i (Some place) = unwrap_or (identity_of sort place.1) i
+
+unfoldable pub name_of : Sort → List AbstractFrame → List AbstractFrame → ℕ → ℕ
+name_of sort fs gs i = name_at sort i (first_named sort i (places fs gs))
+
+-- packet identity 0 is none in every state
+abbrev pub packet_name : List AbstractFrame → List AbstractFrame → ℕ → ℕ
+packet_name fs gs i = if nat_eq i 0 then 0 else name_of Packet fs gs i
+
+abbrev pub null_name : List AbstractFrame → List AbstractFrame → ℕ → ℕ
+null_name fs gs i = name_of Null fs gs i

@@ -1,0 +1,120 @@
+//! Which states cover which, on examples.
+
+use super::*;
+use arrayvec::ArrayVec;
+use isa_model::Width;
+use known_bits::Bits;
+use ranges::Range;
+use reg_state::Scalar;
+use std::test::Fail;
+
+fn packet(identity: u32, proved: u32) -> Kind {
+    Kind::Packet {
+        fixed: 0,
+        identity,
+        least: 0,
+        greatest: 60,
+        proved,
+    }
+}
+
+fn number(bits: Bits, range: Range) -> Kind {
+    Kind::Number(Scalar { bits, range })
+}
+
+// r2 and r3 as they are given, and the others Unset.
+fn registers(second: Kind, third: Kind) -> [Kind; 10] {
+    let mut registers = [Kind::Unset; 10];
+    registers[2] = second;
+    registers[3] = third;
+    registers
+}
+
+fn state(slot: usize, registers: [Kind; 10]) -> State {
+    let mut frames = ArrayVec::new();
+    frames.push(AbstractFrame {
+        return_slot: 0,
+        registers,
+    });
+    State { slot, frames }
+}
+
+fn in_call(return_slot: usize, outer: [Kind; 10], inner: [Kind; 10]) -> State {
+    let mut frames = ArrayVec::new();
+    frames.push(AbstractFrame {
+        return_slot: 0,
+        registers: outer,
+    });
+    frames.push(AbstractFrame {
+        return_slot,
+        registers: inner,
+    });
+    State { slot: 3, frames }
+}
+
+#[test]
+fn one_identity_is_one_in_the_other(rt: HostRuntime) -> Result<(), Fail> {
+    let one = state(3, registers(packet(1, 0), packet(1, 0)));
+    let same = state(3, registers(packet(4, 0), packet(4, 0)));
+    let two = state(3, registers(packet(4, 0), packet(5, 0)));
+    assert!(rt; covers(&one, &same));
+    assert!(rt; !covers(&one, &two));
+    assert!(rt; covers(&two, &one));
+    Ok(())
+}
+
+#[test]
+fn a_longer_proof_is_not_covered(rt: HostRuntime) -> Result<(), Fail> {
+    let more = state(3, registers(packet(1, 14), Kind::Unset));
+    let less = state(3, registers(packet(2, 10), Kind::Unset));
+    assert!(rt; !covers(&more, &less));
+    assert!(rt; covers(&less, &more));
+    Ok(())
+}
+
+#[test]
+fn unset_covers_and_the_slot_counts(rt: HostRuntime) -> Result<(), Fail> {
+    let nothing = state(3, [Kind::Unset; 10]);
+    let mut last = [Kind::Unset; 10];
+    last[9] = Kind::Context;
+    let some = state(3, last);
+    assert!(rt; covers(&nothing, &some));
+    assert!(rt; !covers(&some, &nothing));
+    assert!(rt; covers(&some, &some));
+    assert!(rt; !covers(&state(4, last), &some));
+    Ok(())
+}
+
+#[test]
+fn numbers_go_by_their_limits(rt: HostRuntime) -> Result<(), Fail> {
+    let any = number(Bits::any(Width::Full64), Range::any(Width::Full64));
+    let seven = number(Bits::constant(7), Range::constant(7));
+    let wide = state(3, registers(any, Kind::Unset));
+    let narrow = state(3, registers(seven, Kind::Unset));
+    assert!(rt; covers(&wide, &narrow));
+    assert!(rt; !covers(&narrow, &wide));
+    Ok(())
+}
+
+#[test]
+fn return_slots_and_depth_count(rt: HostRuntime) -> Result<(), Fail> {
+    let none = [Kind::Unset; 10];
+    let seven = in_call(7, none, none);
+    assert!(rt; covers(&seven, &in_call(7, none, none)));
+    assert!(rt; !covers(&seven, &in_call(8, none, none)));
+    assert!(rt; !covers(&seven, &state(3, none)));
+    Ok(())
+}
+
+#[test]
+fn names_hold_across_frames(rt: HostRuntime) -> Result<(), Fail> {
+    let none = [Kind::Unset; 10];
+    let mut kept = none;
+    kept[6] = packet(1, 0);
+    let one = in_call(7, kept, registers(packet(1, 0), Kind::Unset));
+    let two = in_call(7, kept, registers(packet(2, 0), Kind::Unset));
+    assert!(rt; covers(&one, &one));
+    assert!(rt; !covers(&one, &two));
+    assert!(rt; covers(&two, &one));
+    Ok(())
+}
