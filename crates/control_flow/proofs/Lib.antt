@@ -1,0 +1,5 @@
+mod TargetTests
+mod MarkLemmas
+mod Owners
+mod Search
+mod Whole

@@ -1,0 +1,13 @@
+use Rattle.std.proofs.Common.{arith}
+use Rattle.std.proofs.lemmas.Bool.{iff_false}
+use Rattle.control_flow.specs.declared.errors.FlowError.TheVariants.{FallsOff}
+use Rattle.control_flow.specs.Flows.{Fails}
+use Rattle.control_flow.proofs.TargetTests.{none_more, none_at_all}
+use Rattle.control_flow.proofs.functions.first_falling_off.Goals as goal
+
+pub loop-slot-preserved : goal.loop-slot-preserved
+loop-slot-preserved c =
+    none_more (Fails c.args.image.now FallsOff) c.loop-slot.slot c.loop-slot.invariant (iff_false c.falls_off.ensures c.if-falls_off.false)
+
+pub returns : goal.returns
+returns c = none_at_all c.args.image.now FallsOff c.loop-slot.slot (omega arith) c.loop-slot.invariant

@@ -1,0 +1,7 @@
+use Rattle.std.proofs.Common.{ℕ, ◌<◌}
+use Rattle.control_flow.specs.declared.errors.FlowError.TheVariants.{OtherFunction}
+use Rattle.control_flow.specs.Flows.{Fails}
+use Rattle.control_flow.proofs.functions.first_leaving.Given as goal
+
+abbrev pub invariant-loop-slot : goal.invariant-loop-slot
+invariant-loop-slot l = (k : ℕ) → k < l.slot → ¬ Fails l.image OtherFunction k

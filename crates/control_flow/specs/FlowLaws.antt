@@ -1,0 +1,202 @@
+-- What good control flow gives, instruction by instruction, and what its tests say.
+use Rattle.std.proofs.Common.{◌≡◌, ℕ, ◌+◌, ◌<◌, ◌≤◌, ℤ, Bool, true, false, length, Option, Some, None, refl, sym, ap, ◌∙◌, subst, inl, inr, arith, if◌then◌else◌}
+use Rattle.std.specs.Prelude.{IsSome}
+use Rattle.std.specs.Option.{option_map, option_and_then, option_flatten}
+use Rattle.std.proofs.lemmas.Bool.{cases_lt, cases_order}
+use Rattle.std.proofs.lemmas.Option.{slice_get_past, cond_some}
+use Rattle.isa_model.specs.declared.instructions.Insn.{Insn}
+use Rattle.isa_model.specs.declared.instructions.Insn.TheVariants.{LoadNumber}
+use Rattle.isa_model.specs.Instructions.{Program, fetch, slots_of}
+use Rattle.isa_model.specs.Steps.{destination}
+use Rattle.isa_model.specs.Successors.{jump_distance, falls_through, Follows}
+use Rattle.control_flow.specs.declared.errors.FlowError.{FlowError}
+use Rattle.control_flow.specs.declared.errors.FlowError.TheVariants.{TargetOutside, SecondHalf, OtherFunction, FallsOff, Unreachable, Memory}
+use Rattle.control_flow.specs.Graph.{call_distance, BeginsInsn, jump_to, call_to, slot_behind, fall_to, Leads, Falls, Jumps, Calls}
+use Rattle.control_flow.specs.Functions.{SameFunction, EndsFunction}
+use Rattle.control_flow.specs.Flows.{IsFlow, IsJoin, HasTarget, Fails, place, IsFirst}
+
+-- ---- slots at which instructions begin
+
+pub BeginsInsn-insn : (p : Program) (slot : ℕ) → BeginsInsn p slot → (i : Insn) × (fetch p slot ≡ Some i)
+BeginsInsn-insn p slot h = of (fetch p slot) h where
+  of : (o : Option Insn) → IsSome o → (i : Insn) × (o ≡ Some i)
+  of (Some i) e = (i, refl)
+  of None e = absurd cc
+
+pub fetch-BeginsInsn : (p : Program) (slot : ℕ) (i : Insn) → fetch p slot ≡ Some i → BeginsInsn p slot
+fetch-BeginsInsn p slot i e = subst (λ (o : Option Insn). IsSome o) (sym e) refl
+
+-- they are inside the code
+pub BeginsInsn-inside : (p : Program) (slot : ℕ) → BeginsInsn p slot → slot < length p.insns
+BeginsInsn-inside p slot h =
+    elim (cases_lt slot (length p.insns)) [
+      | inl inside ↦ inside
+      | inr past ↦
+          let none : fetch p slot ≡ None = ap option_flatten (slice_get_past p.insns slot past) in
+          let some : fetch p slot ≡ Some (BeginsInsn-insn p slot h).0 = (BeginsInsn-insn p slot h).1 in
+          absurd cc
+    ]
+
+-- ---- the graph, by instructions
+
+pub jump_to-insn : (p : Program) (slot : ℕ) (i : Insn) (by : ℤ) → fetch p slot ≡ Some i → jump_distance i ≡ Some by → jump_to p slot ≡ Some (destination p slot by)
+unfolding jump_to
+jump_to-insn p slot i by e d =
+    ap (λ (o : Option Insn). option_map (destination p slot) (option_and_then jump_distance o)) e ∙ ap (option_map (destination p slot)) d
+
+pub call_to-insn : (p : Program) (slot : ℕ) (i : Insn) (by : ℤ) → fetch p slot ≡ Some i → call_distance i ≡ Some by → call_to p slot ≡ Some (destination p slot by)
+unfolding call_to
+call_to-insn p slot i by e d =
+    ap (λ (o : Option Insn). option_map (destination p slot) (option_and_then call_distance o)) e ∙ ap (option_map (destination p slot)) d
+
+behind : (slot : ℕ) (i : Insn) (b : Bool) → b ≡ true → (if b then Some (slot + slots_of i) else None) ≡ Some (slot + slots_of i)
+behind slot i true h = refl
+behind slot i false h = absurd cc
+
+pub fall_to-insn : (p : Program) (slot : ℕ) (i : Insn) → fetch p slot ≡ Some i → falls_through i ≡ true → fall_to p slot ≡ Some (slot + slots_of i)
+unfolding fall_to
+fall_to-insn p slot i e h = ap (option_and_then (slot_behind slot)) e ∙ behind slot i (falls_through i) h
+
+abbrev some_slot : ℕ → Option ℕ
+some_slot n = Some n
+
+-- it falls through to the slot behind an instruction
+pub fall_to-behind : (p : Program) (slot to : ℕ) → fall_to p slot ≡ Some to → (i : Insn) × (fetch p slot ≡ Some i) × (slot + slots_of i ≡ to)
+unfolding fall_to
+fall_to-behind p slot to h = of (fetch p slot) h where
+  of : (o : Option Insn) → option_and_then (slot_behind slot) o ≡ Some to → (i : Insn) × (o ≡ Some i) × (slot + slots_of i ≡ to)
+  of (Some i) e = (i, refl, (cond_some (falls_through i) (slot + slots_of i) to e).1)
+  of None e = absurd cc
+
+-- what follows an instruction in its function is led to
+pub Leads-Follows : (p : Program) (slot next : ℕ) → Follows p slot next → Leads p slot next
+Leads-Follows p slot next (i, e, inl (falls, at)) = Falls (fall_to-insn p slot i e falls ∙ ap some_slot (sym at))
+Leads-Follows p slot next (i, e, inr (by, jump, at)) = Jumps (jump_to-insn p slot i by e jump ∙ ap some_slot (sym at))
+
+-- where no instruction begins nothing leads on
+from_none : (p : Program) (slot to : ℕ) → fetch p slot ≡ None → Leads p slot to → ⊥
+unfolding jump_to call_to fall_to
+from_none p slot to e (Falls h) =
+    let none : fall_to p slot ≡ None = ap (option_and_then (slot_behind slot)) e in absurd cc
+from_none p slot to e (Jumps h) =
+    let none : jump_to p slot ≡ None = ap (λ (o : Option Insn). option_map (destination p slot) (option_and_then jump_distance o)) e in absurd cc
+from_none p slot to e (Calls h) =
+    let none : call_to p slot ≡ None = ap (λ (o : Option Insn). option_map (destination p slot) (option_and_then call_distance o)) e in absurd cc
+
+-- it leads on from instructions alone
+pub Leads-inside : (p : Program) (slot to : ℕ) → Leads p slot to → slot < length p.insns
+Leads-inside p slot to h =
+    elim (cases_lt slot (length p.insns)) [
+      | inl inside ↦ inside
+      | inr past ↦ absurd (from_none p slot to (ap option_flatten (slice_get_past p.insns slot past)) h)
+    ]
+
+-- ---- good control flow
+
+-- wherever control goes an instruction begins
+pub IsFlow-next : (p : Program) (slot to : ℕ) → IsFlow p → Leads p slot to → BeginsInsn p to
+IsFlow-next p slot to flow (Falls h) = (flow.falls slot to h).0
+IsFlow-next p slot to flow (Jumps h) = (flow.jumps slot to h).0
+IsFlow-next p slot to flow (Calls h) = flow.calls slot to h
+
+-- an instruction begins at each slot that follows one
+pub IsFlow-Follows : (p : Program) (slot next : ℕ) → IsFlow p → Follows p slot next → BeginsInsn p next
+IsFlow-Follows p slot next flow h = IsFlow-next p slot next flow (Leads-Follows p slot next h)
+
+-- an instruction begins behind each one that falls through
+pub IsFlow-fall : (p : Program) (slot : ℕ) (i : Insn) → IsFlow p → fetch p slot ≡ Some i → falls_through i ≡ true → BeginsInsn p (slot + slots_of i)
+IsFlow-fall p slot i flow e h = (flow.falls slot (slot + slots_of i) (fall_to-insn p slot i e h)).0
+
+-- an instruction begins where a jump leads, and that is a join
+pub IsFlow-jump : (p : Program) (slot : ℕ) (i : Insn) (by : ℤ) → IsFlow p → fetch p slot ≡ Some i → jump_distance i ≡ Some by → BeginsInsn p (destination p slot by)
+IsFlow-jump p slot i by flow e d = (flow.jumps slot (destination p slot by) (jump_to-insn p slot i by e d)).0
+
+pub IsJoin-jump : (p : Program) (slot : ℕ) (i : Insn) (by : ℤ) → fetch p slot ≡ Some i → jump_distance i ≡ Some by → IsJoin p (destination p slot by)
+IsJoin-jump p slot i by e d = (slot, jump_to-insn p slot i by e d)
+
+-- an instruction begins where a call leads
+pub IsFlow-call : (p : Program) (slot : ℕ) (i : Insn) (by : ℤ) → IsFlow p → fetch p slot ≡ Some i → call_distance i ≡ Some by → BeginsInsn p (destination p slot by)
+IsFlow-call p slot i by flow e d = flow.calls slot (destination p slot by) (call_to-insn p slot i by e d)
+
+-- ---- the tests
+
+abbrev LeadsOn : Program → ℕ → Type 0
+LeadsOn p slot = (to : ℕ) × Leads p slot to
+
+target-LeadsOn : (p : Program) (slot to : ℕ) → HasTarget p slot to → LeadsOn p slot
+target-LeadsOn p slot to (inl h) = (to, Jumps h)
+target-LeadsOn p slot to (inr h) = (to, Calls h)
+
+-- they fail inside the code alone
+pub Fails-inside : (p : Program) (e : FlowError) (slot : ℕ) → Fails p e slot → slot < length p.insns
+Fails-inside p TargetOutside slot (to, h, past) = let on = target-LeadsOn p slot to h in Leads-inside p slot on.0 on.1
+Fails-inside p SecondHalf slot (to, h, half) = let on = target-LeadsOn p slot to h in Leads-inside p slot on.0 on.1
+Fails-inside p OtherFunction slot (to, h, other) = Leads-inside p slot to (Jumps h)
+Fails-inside p FallsOff slot (to, h, ends) = Leads-inside p slot to (Falls h)
+Fails-inside p Unreachable slot (begins, unreached) = BeginsInsn-inside p slot begins
+Fails-inside p Memory slot h = absurd h
+
+IsFlow-target : (p : Program) (slot to : ℕ) → IsFlow p → HasTarget p slot to → BeginsInsn p to
+IsFlow-target p slot to flow (inl h) = (flow.jumps slot to h).0
+IsFlow-target p slot to flow (inr h) = flow.calls slot to h
+
+IsFlow-EndsFunction : (p : Program) (slot to : ℕ) → slot < to → BeginsInsn p to → SameFunction p slot to → EndsFunction p to → ⊥
+IsFlow-EndsFunction p slot to up begins same (inl past) = let inside = BeginsInsn-inside p to begins in absurd (omega arith)
+IsFlow-EndsFunction p slot to up begins same (inr function) =
+    let down : to ≤ slot = (same.none to function).1 (omega arith) in absurd (omega arith)
+
+slots_of-some : (i : Insn) → 1 ≤ slots_of i
+slots_of-some (LoadNumber d n) = omega arith
+slots_of-some i = omega arith
+
+-- control falls through upwards
+fall_to-up : (p : Program) (slot to : ℕ) → fall_to p slot ≡ Some to → slot < to
+fall_to-up p slot to h =
+    let found = fall_to-behind p slot to h in
+    let wide = slots_of-some found.0 in
+    omega (arith, found.2)
+
+-- none fails where control flow is good
+pub IsFlow-Fails : (p : Program) (e : FlowError) (slot : ℕ) → IsFlow p → Fails p e slot → ⊥
+IsFlow-Fails p TargetOutside slot flow (to, h, past) =
+    let inside = BeginsInsn-inside p to (IsFlow-target p slot to flow h) in absurd (omega arith)
+IsFlow-Fails p SecondHalf slot flow (to, h, half) =
+    let some = (BeginsInsn-insn p to (IsFlow-target p slot to flow h)).1 in
+    let none = half.1 in
+    absurd cc
+IsFlow-Fails p OtherFunction slot flow (to, h, other) = other (flow.jumps slot to h).1
+IsFlow-Fails p FallsOff slot flow (to, h, ends) =
+    IsFlow-EndsFunction p slot to (fall_to-up p slot to h) (flow.falls slot to h).0 (flow.falls slot to h).1 ends
+IsFlow-Fails p Unreachable slot flow (begins, unreached) = unreached (flow.reached slot begins)
+IsFlow-Fails p Memory slot flow h = h
+
+-- ---- the first test that fails
+
+-- tests have places of their own
+place-same : (d e : FlowError) → place d ≡ place e → d ≡ e
+place-same TargetOutside TargetOutside h = refl
+place-same SecondHalf SecondHalf h = refl
+place-same OtherFunction OtherFunction h = refl
+place-same FallsOff FallsOff h = refl
+place-same Unreachable Unreachable h = refl
+place-same Memory Memory h = refl
+place-same d e h = absurd (omega (arith, h))
+
+same_slot : (p : Program) (e : FlowError) (j k : ℕ) → IsFirst p e j → IsFirst p e k → j ≡ k
+same_slot p e j k x y =
+    elim (cases_order j k) [
+      | inl same ↦ same
+      | inr (inl below) ↦ absurd (y.lowest j below x.fails)
+      | inr (inr above) ↦ absurd (x.lowest k above y.fails)
+    ]
+
+-- there is one first refusal at most
+pub IsFirst-same : (p : Program) (d e : FlowError) (j k : ℕ) → IsFirst p d j → IsFirst p e k → (d ≡ e) × (j ≡ k)
+IsFirst-same p d e j k x y =
+    elim (cases_order (place d) (place e)) [
+      | inl same ↦
+          let one : d ≡ e = place-same d e same in
+          (one, same_slot p e j k (subst (λ (t : FlowError). IsFirst p t j) one x) y)
+      | inr (inl early) ↦ absurd (y.first d j early x.fails)
+      | inr (inr late) ↦ absurd (x.first e k late y.fails)
+    ]

@@ -1,0 +1,78 @@
+-- Programs whose control flow is good, and the tests that find out.
+use Rattle.std.specs.Prelude.{◌≡◌, ℕ, ◌<◌, ◌≤◌, ◌⊎◌, Option, Some, None, List, length, Bool, IsTrue, ◌↔◌, slice_index_or, false}
+use Rattle.isa_model.specs.Instructions.{Program}
+use Rattle.control_flow.specs.declared.errors.FlowError.{FlowError}
+use Rattle.control_flow.specs.declared.errors.FlowError.TheVariants.{TargetOutside, SecondHalf, OtherFunction, FallsOff, Unreachable, Memory}
+use Rattle.control_flow.specs.Graph.{BeginsInsn, IsSecondHalf, jump_to, call_to, fall_to, Reached}
+use Rattle.control_flow.specs.Functions.{SameFunction, EndsFunction}
+
+-- ---- good programs
+
+-- a jump leads to an instruction of its own function, a call to an instruction, at which a function begins, what falls
+-- through goes on in its function, and every instruction can be reached
+pub record IsFlow (p : Program) : Type 0 where
+  pub jumps : (slot to : ℕ) → jump_to p slot ≡ Some to → BeginsInsn p to × SameFunction p slot to
+  pub calls : (slot to : ℕ) → call_to p slot ≡ Some to → BeginsInsn p to
+  pub falls : (slot to : ℕ) → fall_to p slot ≡ Some to → BeginsInsn p to × SameFunction p slot to
+  pub reached : (slot : ℕ) → BeginsInsn p slot → Reached p slot
+
+-- the target of a jump, at which paths may meet
+abbrev pub IsJoin : Program → ℕ → Type 0
+IsJoin p to = (slot : ℕ) × (jump_to p slot ≡ Some to)
+
+-- ---- the tests
+
+-- the target of the jump or of the call at a slot
+abbrev pub HasTarget : Program → ℕ → ℕ → Type 0
+HasTarget p slot to = (jump_to p slot ≡ Some to) ⊎ (call_to p slot ≡ Some to)
+
+-- the test fails at a slot
+abbrev pub Fails : Program → FlowError → ℕ → Type 0
+Fails p TargetOutside slot = (to : ℕ) × HasTarget p slot to × (length p.insns ≤ to)
+Fails p SecondHalf slot = (to : ℕ) × HasTarget p slot to × IsSecondHalf p to
+Fails p OtherFunction slot = (to : ℕ) × (jump_to p slot ≡ Some to) × (¬ SameFunction p slot to)
+Fails p FallsOff slot = (to : ℕ) × (fall_to p slot ≡ Some to) × EndsFunction p to
+Fails p Unreachable slot = BeginsInsn p slot × (¬ Reached p slot)
+Fails p Memory slot = ⊥
+
+-- the order of the tests
+abbrev pub place : FlowError → ℕ
+place TargetOutside = 1
+place SecondHalf = 2
+place OtherFunction = 3
+place FallsOff = 4
+place Unreachable = 5
+place Memory = 6
+
+-- the first test that fails, at the lowest slot at which it does
+pub record IsFirst (p : Program) (e : FlowError) (slot : ℕ) : Type 0 where
+  pub fails : Fails p e slot
+  pub lowest : (k : ℕ) → k < slot → ¬ Fails p e k
+  pub first : (d : FlowError) (k : ℕ) → place d < place e → ¬ Fails p d k
+
+-- want of memory may come at any test
+abbrev pub IsRefusal : Program → FlowError → ℕ → Type 0
+IsRefusal p Memory slot = slot ≡ 0
+IsRefusal p e slot = IsFirst p e slot
+
+-- ---- what one test finds
+
+-- the lowest slot at which it fails, if there is one
+abbrev pub IsLowest : (ℕ → Type 0) → Option ℕ → Type 0
+IsLowest Fails None = (k : ℕ) → ¬ Fails k
+IsLowest Fails (Some slot) = Fails slot × ((k : ℕ) → k < slot → ¬ Fails k)
+
+-- ---- marks
+
+-- the slot is marked
+abbrev pub IsMarked : List Bool → ℕ → Type 0
+IsMarked marks slot = IsTrue (slice_index_or marks slot false)
+
+-- the joins of a program are marked, and no other slots
+abbrev pub MarksJoins : Program → List Bool → Type 0
+MarksJoins p marks = (slot : ℕ) → IsMarked marks slot ↔ IsJoin p slot
+
+-- what a `Flow` knows
+pub record IsKnown (p : Program) (joins : List Bool) : Type 0 where
+  pub flow : IsFlow p
+  pub marked : MarksJoins p joins

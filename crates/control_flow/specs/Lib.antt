@@ -1,0 +1,5 @@
+pub mod Graph
+pub mod Functions
+pub mod Searches
+pub mod Flows
+pub mod FlowLaws

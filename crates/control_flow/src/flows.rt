@@ -1,0 +1,103 @@
+//! Control flow that is good.
+
+ghost use Rattle.std.specs.Prelude.{◌≡◌, ◌↔◌, ℕ, IsTrue, IfOk, IfErr};
+ghost use Rattle.control_flow.specs.Flows.{IsFlow, IsJoin, IsRefusal};
+
+use crate::errors::FlowError;
+use crate::functions::{first_falling_off, first_leaving, functions_of};
+use crate::marks::is_marked;
+use crate::reachability::{first_unreached, reached};
+use crate::targets::{first_into_half, first_outside, joins_of};
+use image::Image;
+use std::alloc::Global;
+use std::marker::Model;
+
+/// A mask of all registers, r0 in its lowest bit.
+const ALL_REGISTERS: u16 = 0x3ff;
+
+/// An image whose control flow is good: jumps stay in their functions, calls lead to instructions, nothing falls off
+/// an end, and each instruction can be reached.
+///
+/// Contracts see its program.
+#[derive(Drop)]
+pub struct Flow<'a> {
+    image: &'a Image,
+    joins: Vec<bool>,
+}
+
+impl<'a> Model for Flow<'a> {
+    ghost use Rattle.isa_model.specs.Instructions.{Program};
+    ghost use Rattle.control_flow.specs.Flows.{IsKnown};
+
+    ghost Value = { Program };
+
+    ghost view = { λ flow. flow.image.now };
+
+    ghost invariant = { λ flow. IsKnown flow.image.now flow.joins.items };
+}
+
+/// Runs the tests in their order; each is run over the whole code.
+fn test_all(alloc: Global, image: &Image) -> Result<(), (FlowError, usize)>
+    ensures good { IfOk result (λ _. IsFlow image.now) }
+    ensures refused { IfErr result (λ refusal. IsRefusal image.now refusal.0 refusal.1) }
+{
+    let _slots = image.slots();
+    if let Some(slot) = first_outside(image) {
+        return Err((FlowError::TargetOutside, slot));
+    }
+    if let Some(slot) = first_into_half(image) {
+        return Err((FlowError::SecondHalf, slot));
+    }
+    let Ok(functions) = functions_of(alloc, image) else {
+        return Err((FlowError::Memory, 0));
+    };
+    if let Some(slot) = first_leaving(image, &functions) {
+        return Err((FlowError::OtherFunction, slot));
+    }
+    if let Some(slot) = first_falling_off(image, &functions) {
+        return Err((FlowError::FallsOff, slot));
+    }
+    let Ok(marks) = reached(alloc, image) else {
+        return Err((FlowError::Memory, 0));
+    };
+    if let Some(slot) = first_unreached(image, &marks) {
+        return Err((FlowError::Unreachable, slot));
+    }
+    Ok(())
+}
+
+impl<'a> Flow<'a> {
+    /// The control flow of an image, or why it is refused and at which slot.
+    pub fn of(alloc: Global, image: &'a Image) -> Result<Self, (FlowError, usize)>
+        // A good program is accepted, want of memory aside, and no other one.
+        ensures found { IfOk result (λ flow. flow ≡ image.now) }
+        ensures good { IfOk result (λ _. IsFlow image.now) }
+        ensures only { IsFlow image.now → IfErr result (λ refusal. refusal.0 ≡ FlowError.Memory) }
+
+        // All others get the first refusal at its lowest slot, or want of memory with slot 0.
+        ensures refused { IfErr result (λ refusal. IsRefusal image.now refusal.0 refusal.1) }
+    {
+        test_all(alloc, image)?;
+        let Ok(joins) = joins_of(alloc, image) else {
+            return Err((FlowError::Memory, 0));
+        };
+        Ok(Flow { image, joins })
+    }
+
+    /// Whether the slot is the target of a jump: there paths may meet.
+    pub fn is_join(&self, slot: usize) -> bool
+        ensures join { IsTrue result ↔ IsJoin self.now slot }
+        ensures good { IsFlow self.now }
+    {
+        is_marked(&self.joins, slot)
+    }
+
+    /// The registers whose values may still be read from this slot on, r0 in the lowest bit.
+    ///
+    /// It is advice, on which no proof rests. For now it is all registers.
+    pub fn live(&self, _slot: usize) -> u16
+        ensures { result ≡ 1023 }
+    {
+        ALL_REGISTERS
+    }
+}

@@ -1,0 +1,11 @@
+//! Marks of slots.
+
+ghost use Rattle.std.specs.Prelude.{◌↔◌, IsTrue};
+ghost use Rattle.control_flow.specs.Flows.{IsMarked};
+
+/// Whether a slot is marked. Outside the list none is.
+pub fn is_marked(marks: &[bool], slot: usize) -> bool
+    ensures { IsTrue result ↔ IsMarked marks.now slot }
+{
+    marks.get(slot).copied().unwrap_or(false)
+}
