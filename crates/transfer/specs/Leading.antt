@@ -8,6 +8,8 @@ use Rattle.stack_state.specs.declared.states.State.{State}
 use Rattle.stack_state.specs.Meaning.{Means}
 use Rattle.transfer.specs.declared.Ways.{Ways}
 use Rattle.transfer.specs.declared.Ways.TheVariants.{None, One, Two}
+use Rattle.transfer.specs.declared.Successors.{Successors}
+use Rattle.transfer.specs.declared.Successors.TheVariants as successors
 
 -- what is said of each state that the instruction leads to: the first, and the other
 abbrev pub EachWay : Ways → State → State → (State → Type 0) → Type 0
@@ -25,3 +27,9 @@ InSome p Two a b s = Means p a s ⊎ Means p b s
 unfoldable pub LeadsTo : Program → State → Ways → State → State → Type 0
 LeadsTo p from ways a b =
     (clock : ℕ → ℕ) (s : Machine.State) → Means p from s → After (InSome p ways a b) (step p clock s)
+
+-- what is said of the ways and the two states, said of the successors
+abbrev pub Given : Successors → (Ways → State → State → Type 0) → Type 0
+Given successors.None P = (a b : State) × P None a b
+Given (successors.One a) P = (b : State) × P One a b
+Given (successors.Two a b) P = P Two a b

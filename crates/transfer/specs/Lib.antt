@@ -1,1 +1,6 @@
 pub mod Leading
+pub mod Results
+pub mod Exact
+pub mod Refusing
+pub mod ResultLaws
+pub mod ExactLaws

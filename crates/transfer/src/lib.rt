@@ -1,20 +1,29 @@
 //! One abstract step: where the instruction at a state's slot leads.
 #![tactic(auto)]
 
-ghost use Rattle.std.specs.Prelude.{◌≡◌, ◌<◌, IfOk, IsSome};
+ghost use Rattle.std.specs.Prelude.{◌≡◌, ◌<◌, Some, IfOk, IsOk, IsSome};
+ghost use Rattle.isa_model.specs.declared.instructions.Insn.{Insn};
 ghost use Rattle.isa_model.specs.Instructions.{fetch};
 ghost use Rattle.isa_model.specs.Successors.{Follows};
 ghost use Rattle.stack_state.specs.Meaning.{depth};
-ghost use Rattle.transfer.specs.Leading.{LeadsTo, EachWay};
+ghost use Rattle.transfer.specs.Leading.{Given, LeadsTo, EachWay};
+ghost use Rattle.transfer.specs.Refusing.{register_refusal, Decides};
+ghost use Rattle.transfer.specs.Exact.{Makes, IsAccepted};
 
+mod arithmetic;
+mod exits;
+mod jumps;
+mod memory;
+mod pointers;
+pub mod refusals;
+mod steps;
+#[cfg(test)]
+mod tests;
+
+use crate::steps::{perform, reads_unset, writes_frame_pointer};
 use image::Image;
+pub use refusals::Refusal;
 use stack_state::State;
-
-/// Why no step was made.
-#[derive(Clone, Copy, PartialEq, Eq, Debug, Drop)]
-pub enum Refusal {
-    NotBuilt,
-}
 
 /// How many states an instruction leads to.
 #[derive(Clone, Copy, PartialEq, Eq, Debug, Drop)]
@@ -27,13 +36,61 @@ pub enum Ways {
     Two,
 }
 
-/// Makes the step in place.
+/// The states that an instruction leads to, the fall-through first.
+#[derive(Drop)]
+pub enum Successors {
+    /// It exits, or no member goes on.
+    None,
+    One(State),
+    Two(State, State),
+}
+
+/// What the instruction at the state's slot leads to: on each member it does not trap, and exits or goes into a
+/// successor.
+pub fn step(image: &Image, state: &State) -> Result<Successors, Refusal>
+    requires begins { IsSome (fetch image.now state.now.slot) }
+    requires called { 0 < depth state.now }
+    ensures leads { IfOk result (λ next. Given next (λ ways a b. LeadsTo image.now state.now ways a b)) }
+    ensures makes { (i : Insn) → fetch image.now state.now.slot ≡ Some i
+        → IfOk result (λ next. Given next (λ ways a b. Makes image.now state.now i ways a b)) }
+    ensures accepts { (i : Insn) → fetch image.now state.now.slot ≡ Some i → register_refusal state.now i ≡ None
+        → IsAccepted state.now i → IsOk result }
+    ensures decides { (i : Insn) → fetch image.now state.now.slot ≡ Some i → Decides state.now i (register_refusal state.now i) result }
+{
+    let mut first = state.copy();
+    let mut second = state.copy();
+    match step_in_place(image, &mut first, &mut second) {
+        Ok(Ways::None) => Ok(Successors::None),
+        Ok(Ways::One) => Ok(Successors::One(first)),
+        Ok(Ways::Two) => Ok(Successors::Two(first, second)),
+        Err(refusal) => Err(refusal),
+    }
+}
+
+/// The same in place. After a refusal the two states may hold anything.
 pub fn step_in_place(image: &Image, state: &mut State, other: &mut State) -> Result<Ways, Refusal>
     requires begins { IsSome (fetch image.now state.old.slot) }
     requires called { 0 < depth state.old }
     ensures leads { IfOk result (λ ways. LeadsTo image.now state.old ways state.new other.new) }
     ensures follows { IfOk result (λ ways. EachWay ways state.new other.new (λ next. Follows image.now state.old.slot next.slot)) }
     ensures depths { IfOk result (λ ways. EachWay ways state.new other.new (λ next. 0 < depth next)) }
+
+    // The successors, exactly; numbers are never refused, and the tests of the registers come first.
+    ensures makes { (i : Insn) → fetch image.now state.old.slot ≡ Some i
+        → IfOk result (λ ways. Makes image.now state.old i ways state.new other.new) }
+    ensures accepts { (i : Insn) → fetch image.now state.old.slot ≡ Some i → register_refusal state.old i ≡ None
+        → IsAccepted state.old i → IsOk result }
+    ensures decides { (i : Insn) → fetch image.now state.old.slot ≡ Some i → Decides state.old i (register_refusal state.old i) result }
 {
-    Err(Refusal::NotBuilt)
+    let Some(insn) = image.at(state.slot) else {
+        unreachable!()
+    };
+    if reads_unset(state, insn) {
+        return Err(Refusal::UnsetRegister);
+    }
+    if writes_frame_pointer(insn) {
+        return Err(Refusal::ReadOnlyRegister);
+    }
+    let ways = perform(insn, image.slots(), state, other)?;
+    Ok(ways)
 }

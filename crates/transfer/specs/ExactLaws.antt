@@ -1,0 +1,351 @@
+-- What an instruction makes of an abstract state means what the machine does.
+use Rattle.std.specs.Prelude.{◌≡◌, ◌≢◌, ℕ, ◌+◌, ◌-◌, ◌<◌, ◌≤◌, ◌==◌, ℤ, Bool, true, false, ◌||◌, if◌then◌else◌, List, [], ◌∷◌, length, Option, Some, None, Result, Ok, Err, refl}
+use Rattle.std.specs.List.{list_any}
+use Rattle.std.proofs.Common.{inl, inr, sym, ap, ◌∙◌, subst, arith}
+use Rattle.std.proofs.lemmas.Bool.Decides.{nat_tests}
+use Rattle.std.proofs.lemmas.List.{get_or-set_same}
+use Rattle.isa_model.specs.declared.sizes.Width.{Width}
+use Rattle.isa_model.specs.declared.registers.Reg.{Reg}
+use Rattle.isa_model.specs.declared.registers.Reg.TheVariants.{R0, R10}
+use Rattle.isa_model.specs.declared.instructions.AluOp.{AluOp}
+use Rattle.isa_model.specs.declared.instructions.AluOp.TheVariants.{Mov}
+use Rattle.isa_model.specs.declared.instructions.Cond.{Cond}
+use Rattle.isa_model.specs.declared.instructions.Operand.{Operand}
+use Rattle.isa_model.specs.declared.instructions.Operand.TheVariants.{Constant, Register}
+use Rattle.isa_model.specs.declared.instructions.Insn.{Insn}
+use Rattle.isa_model.specs.declared.instructions.Insn.TheVariants.{Alu, Neg, MovSx, ByteSwap, LoadNumber, Load, LoadSx, StoreConstant, Store, Atomic, Exchange, CompareExchange, Jump, JumpLong, JumpIf, CallLocal, Exit}
+use Rattle.isa_model.specs.declared.values.Value.{Value}
+use Rattle.isa_model.specs.declared.values.Value.TheVariants as value
+use Rattle.isa_model.specs.declared.ends.TrapReason.{TrapReason}
+use Rattle.isa_model.specs.declared.ends.TrapReason.TheVariants.{UnsetRead, ReadOnly}
+use Rattle.isa_model.specs.Registers.{reg_number}
+use Rattle.isa_model.specs.Numbers.{unsigned, negated, sign_extended, reordered, holds}
+use Rattle.isa_model.specs.Spelling.{InsnFits, OperandFits}
+use Rattle.isa_model.specs.Instructions.{Program, fetch, slots_of, operand_reads, alu_reads, reads, writes, is_frame_pointer}
+use Rattle.isa_model.specs.Pointers.{arithmetic, on_number, compared, compared_constant}
+use Rattle.isa_model.specs.States.{reg, set_reg, value_at}
+use Rattle.isa_model.specs.States as Machine
+use Rattle.isa_model.specs.Memory.{load}
+use Rattle.isa_model.specs.Steps.{StepResult, Next, Finished, Trapped, operand_value, base_of, destination, sets, jumps, branches, tested, test_of, finishes, exits, act, is_unset, performed, performed_at, step}
+use Rattle.isa_model.specs.Ends.{After, After-weaker}
+use Rattle.isa_model.specs.Successors.{Follows, falls_through}
+use Rattle.isa_model.specs.MachineStates.{IsProgram, IsState, IsValue, IsSlot}
+use Rattle.isa_model.specs.ValueLaws.{unsigned_fits}
+use Rattle.isa_model.specs.StateLaws.{reg_fits}
+use Rattle.isa_model.specs.StepLaws.{IfNext, act_keeps}
+use Rattle.reg_state.specs.declared.kinds.Kind.{Kind}
+use Rattle.reg_state.specs.declared.kinds.Kind.TheVariants as kind
+use Rattle.reg_state.specs.Kinds.{Assigned, Allows, AllowsOrNull}
+use Rattle.stack_state.specs.declared.states.State.{State}
+use Rattle.stack_state.specs.Meaning.{depth, MeansBy, Means}
+use Rattle.stack_state.specs.Places.{kind_of, with_register, go_to}
+use Rattle.stack_state.specs.MeaningLaws.{reg_allowed, depth_is_length, depth_positive, MeansBy-go_to, MeansBy-set, depth-with}
+use Rattle.branch_refine.specs.Refining.{IsNumber, IsJust, IsNumberOperand, AreCompared, Keeps, Narrows}
+use Rattle.transfer.specs.declared.refusals.Refusal.{Refusal}
+use Rattle.transfer.specs.declared.refusals.Refusal.TheVariants.{UnsetRegister, ReadOnlyRegister}
+use Rattle.transfer.specs.declared.Ways.{Ways}
+use Rattle.transfer.specs.declared.Ways.TheVariants as ways
+use Rattle.transfer.specs.Leading.{EachWay, InSome, LeadsTo}
+use Rattle.transfer.specs.Refusing.{is_unset as is_unset_kind, is_unset_in, reads_unset, register_refusal}
+use Rattle.transfer.specs.Results.{OfNumber, Arithmetic, Loads}
+use Rattle.transfer.specs.ResultLaws.{Yields, on_number_yields, arithmetic_yields, load_yields}
+use Rattle.transfer.specs.Exact.{IsOperand, Puts, Sets, Sides, Branches, JumpsTo, Makes}
+
+-- ---- the tests of the registers
+
+or_null_is_set : (e : Assigned) (m : ℕ) (o : Option ℕ) (v : Value) → AllowsOrNull e m o v → is_unset v ≡ false
+or_null_is_set e m None v h = ap is_unset h
+or_null_is_set e m (Some n) v h = ap is_unset h.0
+
+-- a register that is known to be set is set
+set_is_set : (e : Assigned) (k : Kind) (v : Value) → is_unset_kind k ≡ false → Allows e k v → is_unset v ≡ false
+set_is_set e kind.Unset v known allowed = absurd (cc)
+set_is_set e (kind.Number numbers) v known allowed = ap is_unset allowed.1
+set_is_set e kind.Context v known allowed = ap is_unset allowed
+set_is_set e (kind.Stack frame offset) v known allowed = ap is_unset allowed.2
+set_is_set e (kind.Packet fixed identity least greatest proved) v known allowed = ap is_unset allowed.points
+set_is_set e kind.PacketEnd v known allowed = ap is_unset allowed
+set_is_set e (kind.Map index) v known allowed = ap is_unset allowed
+set_is_set e (kind.MapValue index least greatest) v known allowed = ap is_unset allowed.points
+set_is_set e (kind.MapValueOrNull index identity) v known allowed = or_null_is_set e index (e.value identity) v allowed
+
+neither : (a b : Bool) → (a || b) ≡ false → (a ≡ false) × (b ≡ false)
+neither true b h = absurd (cc)
+neither false b h = (refl, h)
+
+abbrev unset_in : Machine.State → Reg → Bool
+unset_in s r = is_unset (reg s r)
+
+none_unset : (p : Program) (e : Assigned) (a : State) (s : Machine.State) → MeansBy p e a s → (rs : List Reg)
+    → list_any (is_unset_in a) rs ≡ false → list_any (unset_in s) rs ≡ false
+none_unset p e a s m [] h = refl
+none_unset p e a s m (r ∷ rs) h =
+    let (first, rest) = neither (is_unset_in a r) (list_any (is_unset_in a) rs) h in
+    let here : unset_in s r ≡ false =
+    set_is_set e (kind_of a r) (reg s r) first (reg_allowed p e a s m (depth_positive p e a s m) r) in
+    rw here (none_unset p e a s m rs rest)
+
+tests_pass : (x y : Bool) (u v : Refusal) → (if x then Some u else if y then Some v else None) ≡ None → (x ≡ false) × (y ≡ false)
+tests_pass true y u v h = absurd (cc)
+tests_pass false true u v h = absurd (cc)
+tests_pass false false u v h = (refl, refl)
+
+performed_acts : (p : Program) (clock : ℕ → ℕ) (s : Machine.State) (i : Insn) → list_any (unset_in s) (reads i) ≡ false
+    → is_frame_pointer (writes i) ≡ false → performed p clock s i ≡ act p clock s i
+performed_acts p clock s i set own = rw (set, own) refl
+
+-- ---- operands
+
+operand_allowed : (p : Program) (e : Assigned) (a : State) (s : Machine.State) (w : Width) (source : Operand) (b : Kind) → MeansBy p e a s
+    → IsOperand a w source b → Allows e b (operand_value s w source)
+operand_allowed p e a s w (Constant k) (kind.Number c) m h = (unsigned w k, refl, h.0)
+operand_allowed p e a s w (Constant k) b m h = absurd h
+operand_allowed p e a s w (Register r) b m h =
+    subst (λ x. Allows e x (reg s r)) (sym h) (reg_allowed p e a s m (depth_positive p e a s m) r)
+
+operand_fits : (p : Program) (s : Machine.State) (w : Width) (source : Operand) → OperandFits source → IsState p s
+    → IsValue (length p.maps) s.next_serial (operand_value s w source)
+operand_fits p s w (Constant k) fits is = unsigned_fits w k fits
+operand_fits p s w (Register r) fits is = reg_fits p s r is
+
+operand_set : (s : Machine.State) (w : Width) (source : Operand) → list_any (unset_in s) (operand_reads source) ≡ false
+    → is_unset (operand_value s w source) ≡ false
+operand_set s w (Constant k) h = refl
+operand_set s w (Register r) h = (neither (unset_in s r) false h).0
+
+alu_operand_set : (s : Machine.State) (w : Width) (op : AluOp) (d : Reg) (source : Operand)
+    → list_any (unset_in s) (alu_reads op d source) ≡ false → is_unset (operand_value s w source) ≡ false
+alu_operand_set s w Mov d source h = operand_set s w source h
+alu_operand_set s w op d source h = operand_set s w source (neither (unset_in s d) (list_any (unset_in s) (operand_reads source)) h).1
+
+-- ---- registers set
+
+-- what a form puts into its register is there, and its kind allows it
+puts_yields : (p : Program) (clock : ℕ → ℕ) (e : Assigned) (a : State) (s : Machine.State) (i : Insn) (d : Reg) (k : Kind) → InsnFits i
+    → MeansBy p e a s → list_any (unset_in s) (reads i) ≡ false → writes i ≡ Some d → Puts a i k
+    → (r : Result Value TrapReason) × (act p clock s i ≡ sets s i d r) × Yields e k r
+unfolding act
+puts_yields p clock e a s (Alu w op x source) d k fits m set written h =
+    let same : x ≡ d = cc in
+    let (b, operand, gives) = h in
+    let result : Result Value TrapReason = arithmetic op w (reg s x) (operand_value s w source) in (
+      result,
+      ap (λ y. sets s (Alu w op x source) y result) same,
+      arithmetic_yields e (length p.maps) s.next_serial op w (kind_of a x) b k (reg s x) (operand_value s w source) gives
+          (operand_fits p s w source fits m.is_state) (alu_operand_set s w op x source set)
+          (reg_allowed p e a s m (depth_positive p e a s m) x) (operand_allowed p e a s w source b m operand),
+    )
+puts_yields p clock e a s (Neg w x) d k fits m set written h =
+    let same : x ≡ d = cc in (
+      on_number (negated w) (reg s x),
+      ap (λ y. sets s (Neg w x) y (on_number (negated w) (reg s x))) same,
+      on_number_yields e (negated w) (kind_of a x) k (reg s x) h (reg_allowed p e a s m (depth_positive p e a s m) x),
+    )
+puts_yields p clock e a s (MovSx by x r) d k fits m set written h =
+    let same : x ≡ d = cc in (
+      on_number (sign_extended by) (reg s r),
+      ap (λ y. sets s (MovSx by x r) y (on_number (sign_extended by) (reg s r))) same,
+      on_number_yields e (sign_extended by) (kind_of a r) k (reg s r) h (reg_allowed p e a s m (depth_positive p e a s m) r),
+    )
+puts_yields p clock e a s (ByteSwap order span x) d k fits m set written h =
+    let same : x ≡ d = cc in (
+      on_number (reordered order span) (reg s x),
+      ap (λ y. sets s (ByteSwap order span x) y (on_number (reordered order span) (reg s x))) same,
+      on_number_yields e (reordered order span) (kind_of a x) k (reg s x) h (reg_allowed p e a s m (depth_positive p e a s m) x),
+    )
+puts_yields p clock e a s (LoadNumber x n) d k fits m set written h =
+    let same : x ≡ d = cc in
+    (Ok (value.Num n), ap (λ y. sets s (LoadNumber x n) y (Ok (value.Num n))) same, just_allowed e k n h)
+  where
+    just_allowed : (e : Assigned) (k : Kind) (n : ℕ) → IsJust k n → Allows e k (value.Num n)
+    just_allowed e (kind.Number c) n h = (n, refl, h.0)
+    just_allowed e k n h = absurd h
+puts_yields p clock e a s (Load size x place) d k fits m set written h =
+    let same : x ≡ d = cc in
+    let result : Result Value TrapReason = load s size (base_of s place) place.offset in (
+      result,
+      ap (λ y. sets s (Load size x place) y result) same,
+      load_yields e s size (kind_of a place.base) k place.offset (base_of s place) h m.is_state.interface m.is_state.queue
+          (reg_allowed p e a s m (depth_positive p e a s m) place.base),
+    )
+puts_yields p clock e a s i d k fits m set written h = absurd h
+
+below_eleven : (r : Reg) → reg_number r < 11
+below_eleven R0 = omega arith
+below_eleven r = omega arith
+
+-- where it is, the machine goes on into the state with that kind in the register
+sets_goes : (p : Program) (clock : ℕ → ℕ) (e : Assigned) (a : State) (s : Machine.State) (i : Insn) (d : Reg) (k : Kind) (r : Result Value TrapReason)
+    → InsnFits i → s.slot + slots_of i ≤ length p.insns → MeansBy p e a s → d ≢ R10 → act p clock s i ≡ sets s i d r → Yields e k r
+    → After (MeansBy p e (go_to (with_register a d k) (a.slot + slots_of i))) (act p clock s i)
+sets_goes p clock e a s i d k (Ok v) fits inside m own is yields =
+    let n : ℕ = s.slot + slots_of i in
+    let t : Machine.State = Machine.go_to (set_reg s d v) n in
+    let t_is : IsState p t = subst (λ r. IfNext r (IsState p)) is (act_keeps p clock s i fits inside m.is_state) in
+    let eleven = m.is_state.registers in
+    let within = below_eleven d in
+    let held : reg t d ≡ v = get_or-set_same s.regs (reg_number d) v value.Unset (omega arith) in
+    let v_fits : IsValue (length p.maps) s.next_serial v = subst (IsValue (length p.maps) s.next_serial) held (reg_fits p t d t_is) in
+    let set = MeansBy-set p e a s d k v own yields v_fits m in
+    let gone = MeansBy-go_to p e (with_register a d k) (set_reg s d v) n t_is.slot set in
+    subst (After (MeansBy p e (go_to (with_register a d k) (a.slot + slots_of i)))) (sym is)
+    (subst (λ m. MeansBy p e (go_to (with_register a d k) (m + slots_of i)) t) m.slot_is gone)
+sets_goes p clock e a s i d k (Err reason) fits inside m own is yields = absurd yields
+
+-- the one successor's meaning
+one_means : (p : Program) (e : Assigned) (w : Ways) (b c next : State) (t : Machine.State) → w ≡ ways.One → b ≡ next → MeansBy p e next t → InSome p w b c t
+unfolding Means
+one_means p e w b c next t one is m = subst (λ x. InSome p x b c t) (sym one) (e, subst (λ y. MeansBy p e y t) (sym is) m)
+
+sets_in : (p : Program) (clock : ℕ → ℕ) (e : Assigned) (a : State) (s : Machine.State) (i : Insn) (w : Ways) (b c : State)
+    → InsnFits i → s.slot + slots_of i ≤ length p.insns → MeansBy p e a s → list_any (unset_in s) (reads i) ≡ false
+    → w ≡ ways.One → Sets a i b → After (InSome p w b c) (act p clock s i)
+sets_in p clock e a s i w b c fits inside m set one h =
+    let (r, is, yields) = puts_yields p clock e a s i h.register h.kind fits m set h.written h.puts in
+    let next : State = go_to (with_register a h.register h.kind) (a.slot + slots_of i) in
+    After-weaker (MeansBy p e next) (InSome p w b c) (act p clock s i) (λ t means. one_means p e w b c next t one h.next means)
+    (sets_goes p clock e a s i h.register h.kind r fits inside m h.own is yields)
+
+-- ---- jumps
+
+jumps_in : (p : Program) (e : Assigned) (a : State) (s : Machine.State) (by : ℤ) (w : Ways) (b c : State)
+    → IfNext (jumps s p by) (IsState p) → MeansBy p e a s → JumpsTo p a by w b → After (InSome p w b c) (jumps s p by)
+jumps_in p e a s by w b c is m h =
+    let n : ℕ = destination p s.slot by in
+    one_means p e w b c (go_to a (destination p a.slot by)) (Machine.go_to s n) h.0 h.1
+    (subst (λ m. MeansBy p e (go_to a (destination p m by)) (Machine.go_to s n)) m.slot_is (MeansBy-go_to p e a s n is.slot m))
+
+number_there : (e : Assigned) (k : Kind) (v : Value) → IsNumber k → Allows e k v → (n : ℕ) × (v ≡ value.Num n)
+number_there e (kind.Number c) v h allowed = (allowed.0, allowed.1)
+number_there e k v h allowed = absurd h
+
+tested_there : (p : Program) (e : Assigned) (a : State) (s : Machine.State) (cond : Cond) (source : Operand) → MeansBy p e a s
+    → IsNumber (kind_of a cond.register) → IsNumberOperand a source → (t : Bool) × (tested s cond source ≡ Ok t)
+tested_there p e a s cond (Constant k) m left right =
+    let (x, is) = number_there e (kind_of a cond.register) (reg s cond.register) left (reg_allowed p e a s m (depth_positive p e a s m) cond.register) in
+    (holds cond.comparison cond.width x (unsigned cond.width k), ap (λ v. compared_constant cond.comparison cond.width v k) is)
+tested_there p e a s cond (Register r) m left right =
+    let called = depth_positive p e a s m in
+    let (x, is) = number_there e (kind_of a cond.register) (reg s cond.register) left (reg_allowed p e a s m called cond.register) in
+    let (y, is_other) = number_there e (kind_of a r) (reg s r) right (reg_allowed p e a s m called r) in (
+      holds cond.comparison cond.width x y,
+      ap (λ v. compared (length s.packet) cond.comparison cond.width v (reg s r)) is
+          ∙ ap (compared (length s.packet) cond.comparison cond.width (value.Num x)) is_other,
+    )
+
+-- the side that the test goes to is one of the successors
+stay_means : (p : Program) (e : Assigned) (stays goes : Bool) (stay go : State) (w : Ways) (b c : State) (t : Machine.State)
+    → Sides stays goes stay go w b c → stays ≡ true → MeansBy p e stay t → InSome p w b c t
+unfolding Means
+stay_means p e true true stay go w b c t h some m = subst (λ x. InSome p x b c t) (sym h.0) (inl (e, subst (λ y. MeansBy p e y t) (sym h.1) m))
+stay_means p e true false stay go w b c t h some m = one_means p e w b c stay t h.0 h.1 m
+stay_means p e false goes stay go w b c t h some m = absurd (cc)
+
+go_means : (p : Program) (e : Assigned) (stays goes : Bool) (stay go : State) (w : Ways) (b c : State) (t : Machine.State)
+    → Sides stays goes stay go w b c → goes ≡ true → MeansBy p e go t → InSome p w b c t
+unfolding Means
+go_means p e true true stay go w b c t h some m = subst (λ x. InSome p x b c t) (sym h.0) (inr (e, subst (λ y. MeansBy p e y t) (sym h.2) m))
+go_means p e false true stay go w b c t h some m = one_means p e w b c go t h.0 h.1 m
+go_means p e stays false stay go w b c t h some m = absurd (cc)
+
+branches_in : (p : Program) (e : Assigned) (a : State) (s : Machine.State) (cond : Cond) (by : ℤ) (w : Ways) (b c : State) (t : Bool)
+    → test_of s cond ≡ Ok t → IfNext (branches s p by (Ok t)) (IsState p) → MeansBy p e a s → Branches p a cond by w b c
+    → After (InSome p w b c) (branches s p by (Ok t))
+unfolding Keeps
+branches_in p e a s cond by w b c true says is m h =
+    let (some, kept) = h.kept_go p e s m says in
+    let n : ℕ = destination p s.slot by in
+    go_means p e h.stays h.goes (go_to h.stay (a.slot + 1)) (go_to h.go (destination p a.slot by)) w b c (Machine.go_to s n) h.sides some
+    (subst (λ m. MeansBy p e (go_to h.go (destination p m by)) (Machine.go_to s n)) m.slot_is (MeansBy-go_to p e h.go s n is.slot kept))
+branches_in p e a s cond by w b c false says is m h =
+    let (some, kept) = h.kept_stay p e s m says in
+    let n : ℕ = s.slot + 1 in
+    stay_means p e h.stays h.goes (go_to h.stay (a.slot + 1)) (go_to h.go (destination p a.slot by)) w b c (Machine.go_to s n) h.sides some
+    (subst (λ m. MeansBy p e (go_to h.stay (m + 1)) (Machine.go_to s n)) m.slot_is (MeansBy-go_to p e h.stay s n is.slot kept))
+
+-- ---- exits
+
+finishes_after : (P : Machine.State → Type 0) (v : Value) (n : ℕ) → v ≡ value.Num n → After P (finishes v)
+finishes_after P v n is = subst (λ v. After P (finishes v)) (sym is) tt
+
+exits_in : (p : Program) (e : Assigned) (a : State) (s : Machine.State) (w : Ways) (b c : State) → MeansBy p e a s
+    → depth a ≡ 1 → IsNumber (kind_of a R0) → After (InSome p w b c) (exits s)
+exits_in p e a s w b c m one number =
+    let (x, is) = number_there e (kind_of a R0) (reg s R0) number (reg_allowed p e a s m (depth_positive p e a s m) R0) in
+    let same : length s.frames ≡ 1 = depth_is_length p e a s m ∙ one in
+    let first : (length s.frames == 1) ≡ true = grind (arith, nat_tests) in
+    rw first (finishes_after (InSome p w b c) (reg s R0) x is)
+
+-- ---- instructions
+
+makes_in : (p : Program) (clock : ℕ → ℕ) (e : Assigned) (a : State) (s : Machine.State) (i : Insn) (w : Ways) (b c : State)
+    → InsnFits i → s.slot + slots_of i ≤ length p.insns → MeansBy p e a s → list_any (unset_in s) (reads i) ≡ false
+    → IfNext (act p clock s i) (IsState p) → Makes p a i w b c → After (InSome p w b c) (act p clock s i)
+unfolding act
+makes_in p clock e a s (Jump by) w b c fits inside m set is h = jumps_in p e a s by w b c is m h
+makes_in p clock e a s (JumpLong by) w b c fits inside m set is h = jumps_in p e a s by w b c is m h
+makes_in p clock e a s (JumpIf cond by) w b c fits inside m set is h =
+    let (t, says) = tested_there p e a s cond cond.operand m h.compared.0 h.compared.1 in
+    subst (λ r. After (InSome p w b c) (branches s p by r)) (sym says)
+    (branches_in p e a s cond by w b c t says (subst (λ r. IfNext (branches s p by r) (IsState p)) says is) m h)
+makes_in p clock e a s Exit w b c fits inside m set is h = exits_in p e a s w b c m h.1 h.2
+makes_in p clock e a s i w b c fits inside m set is h = sets_in p clock e a s i w b c fits inside m set h.0 h.1
+
+-- once the tests of its registers pass, no machine state that is meant traps, and each goes into a successor
+pub Makes-leads : (p : Program) (a : State) (i : Insn) (w : Ways) (b c : State) → IsProgram p → fetch p a.slot ≡ Some i
+    → register_refusal a i ≡ None → Makes p a i w b c → LeadsTo p a w b c
+unfolding LeadsTo Means step
+Makes-leads p a i w b c program here pass h = λ clock s means.
+    let (e, m) = means in
+    let (known, own) = tests_pass (reads_unset a i) (is_frame_pointer (writes i)) UnsetRegister ReadOnlyRegister pass in
+    let set = none_unset p e a s m (reads i) known in
+    let at : fetch p s.slot ≡ Some i = ap (fetch p) m.slot_is ∙ here in
+    let fits = program.fits s.slot i at in
+    let inside = program.inside s.slot i at in
+    let acts : performed_at p clock s (fetch p s.slot) ≡ act p clock s i = ap (performed_at p clock s) at ∙ performed_acts p clock s i set own in
+    subst (After (InSome p w b c)) (sym acts)
+    (makes_in p clock e a s i w b c fits inside m set (act_keeps p clock s i fits inside m.is_state) h)
+
+-- ---- where it leads
+
+each_one : (w : Ways) (b c : State) (P : State → Type 0) → w ≡ ways.One → P b → EachWay w b c P
+each_one w b c P one h = subst (λ x. EachWay x b c P) (sym one) h
+
+each_side : (stays goes : Bool) (stay go : State) (w : Ways) (b c : State) (P : State → Type 0)
+    → Sides stays goes stay go w b c → P stay → P go → EachWay w b c P
+each_side true true stay go w b c P h x y = subst (λ v. EachWay v b c P) (sym h.0) (subst P (sym h.1) x, subst P (sym h.2) y)
+each_side true false stay go w b c P h x y = each_one w b c P h.0 (subst P (sym h.1) x)
+each_side false true stay go w b c P h x y = each_one w b c P h.0 (subst P (sym h.1) y)
+each_side false false stay go w b c P h x y = subst (λ v. EachWay v b c P) (sym h) tt
+
+sets_follows : (p : Program) (a : State) (i : Insn) (w : Ways) (b c : State) → fetch p a.slot ≡ Some i → falls_through i ≡ true
+    → w ≡ ways.One → Sets a i b → EachWay w b c (λ next. Follows p a.slot next.slot)
+sets_follows p a i w b c here falls one h =
+    each_one w b c (λ next. Follows p a.slot next.slot) one (i, here, inl (falls, ap (λ next. next.slot) h.next))
+
+pub Makes-follows : (p : Program) (a : State) (i : Insn) (w : Ways) (b c : State) → fetch p a.slot ≡ Some i → Makes p a i w b c
+    → EachWay w b c (λ next. Follows p a.slot next.slot)
+Makes-follows p a (Jump by) w b c here h =
+    each_one w b c (λ next. Follows p a.slot next.slot) h.0 (Jump by, here, inr (by, refl, ap (λ next. next.slot) h.1))
+Makes-follows p a (JumpLong by) w b c here h =
+    each_one w b c (λ next. Follows p a.slot next.slot) h.0 (JumpLong by, here, inr (by, refl, ap (λ next. next.slot) h.1))
+Makes-follows p a (JumpIf cond by) w b c here h =
+    each_side h.stays h.goes (go_to h.stay (a.slot + 1)) (go_to h.go (destination p a.slot by)) w b c (λ next. Follows p a.slot next.slot) h.sides
+    (JumpIf cond by, here, inl (refl, refl)) (JumpIf cond by, here, inr (by, refl, refl))
+Makes-follows p a Exit w b c here h = subst (λ v. EachWay v b c (λ next. Follows p a.slot next.slot)) (sym h.0) tt
+Makes-follows p a (CallLocal by) w b c here h = let none : None ≡ Some h.1.register = h.1.written in absurd (cc)
+Makes-follows p a i w b c here h = sets_follows p a i w b c here refl h.0 h.1
+
+pub Makes-called : (p : Program) (a : State) (i : Insn) (w : Ways) (b c : State) → 0 < depth a → Makes p a i w b c
+    → EachWay w b c (λ next. 0 < depth next)
+Makes-called p a (Jump by) w b c called h = each_one w b c (λ next. 0 < depth next) h.0 (subst (λ next. 0 < depth next) (sym h.1) called)
+Makes-called p a (JumpLong by) w b c called h = each_one w b c (λ next. 0 < depth next) h.0 (subst (λ next. 0 < depth next) (sym h.1) called)
+Makes-called p a (JumpIf cond by) w b c called h =
+    let stay = h.narrows_stay.depths in
+    let go = h.narrows_go.depths in
+    each_side h.stays h.goes (go_to h.stay (a.slot + 1)) (go_to h.go (destination p a.slot by)) w b c (λ next. 0 < depth next) h.sides
+    (omega arith) (omega arith)
+Makes-called p a Exit w b c called h = subst (λ v. EachWay v b c (λ next. 0 < depth next)) (sym h.0) tt
+Makes-called p a i w b c called h =
+    each_one w b c (λ next. 0 < depth next) h.0
+    (subst (λ next. 0 < depth next) (sym h.1.next) (subst (λ n. 0 < n) (sym (depth-with a h.1.register h.1.kind)) called))

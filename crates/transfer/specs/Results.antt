@@ -1,0 +1,108 @@
+-- The kinds that arithmetic and loads give.
+use Rattle.std.specs.Prelude.{◌≡◌, ℕ, ◌^◌, ◌<◌, ◌≤◌, ◌⊎◌, ◌↔◌, ℤ, pos, ◌+ℤ◌, ◌-ℤ◌, Bool, true, false, unsigned_abs}
+use Rattle.isa_model.specs.declared.sizes.Width.{Width}
+use Rattle.isa_model.specs.declared.sizes.Width.TheVariants.{Low32, Full64}
+use Rattle.isa_model.specs.declared.sizes.Size.{Size}
+use Rattle.isa_model.specs.declared.sizes.Size.TheVariants.{U32}
+use Rattle.isa_model.specs.declared.instructions.AluOp.{AluOp}
+use Rattle.isa_model.specs.declared.instructions.AluOp.TheVariants.{Mov, Add, Sub}
+use Rattle.isa_model.specs.Numbers.{alu, low, signed}
+use Rattle.isa_model.specs.Pointers.{offset_limit}
+use Rattle.reg_state.specs.declared.scalars.Scalar.{Scalar}
+use Rattle.reg_state.specs.declared.kinds.Kind.{Kind}
+use Rattle.reg_state.specs.declared.kinds.Kind.TheVariants.{Number, Context, Stack}
+use Rattle.reg_state.specs.Scalars.{Has, IsConstant}
+use Rattle.branch_refine.specs.Refining.{IsNumber}
+
+-- ---- numbers
+
+-- any number of 32 bits
+abbrev pub IsWord : Kind → Type 0
+IsWord (Number c) = (x : ℕ) → (Has c x ↔ (x < 2 ^ 32))
+IsWord k = ⊥
+
+-- the numbers that f gives, and of a constant the constant
+abbrev pub Computes : (ℕ → ℕ) → Scalar → Scalar → Type 0
+Computes f a c = ((x : ℕ) → Has a x → Has c (f x)) × ((u : ℕ) → IsConstant a u → IsConstant c (f u))
+
+abbrev pub Combines : (ℕ → ℕ → ℕ) → Scalar → Scalar → Scalar → Type 0
+Combines f a b c =
+    ((x y : ℕ) → Has a x → Has b y → Has c (f x y))
+    × ((u v : ℕ) → IsConstant a u → IsConstant b v → IsConstant c (f u v))
+
+-- of a number, a number
+abbrev pub OfNumber : (ℕ → ℕ) → Kind → Kind → Type 0
+OfNumber f (Number a) (Number c) = Computes f a c
+OfNumber f a k = ⊥
+
+-- ---- pointers
+
+-- the number counts as a signed one
+abbrev pub moved_offset : Bool → ℤ → ℕ → ℤ
+moved_offset true z n = z -ℤ signed Full64 n
+moved_offset false z n = z +ℤ signed Full64 n
+
+-- a frame pointer moves by a number that can be one alone, within the limit of offsets
+pub record MovesFrame (back : Bool) (frame : ℕ) (offset : ℤ) (by : Scalar) (k : Kind) : Type 0 where
+  pub number : ℕ
+  pub only : (x : ℕ) → Has by x → x ≡ number
+  pub moved : k ≡ Stack frame (moved_offset back offset number)
+  pub within : unsigned_abs (moved_offset back offset number) ≤ offset_limit
+
+abbrev pub Moves : Bool → Kind → Scalar → Kind → Type 0
+Moves back (Stack frame offset) by k = MovesFrame back frame offset by k
+Moves back pointer by k = ⊥
+
+-- pointer + number and pointer - number at 64 bits alone
+abbrev pub PointerAndNumber : AluOp → Width → Kind → Scalar → Kind → Type 0
+PointerAndNumber Add Full64 pointer by k = Moves false pointer by k
+PointerAndNumber Sub Full64 pointer by k = Moves true pointer by k
+PointerAndNumber op w pointer by k = ⊥
+
+-- number + pointer
+abbrev pub NumberAndPointer : AluOp → Width → Scalar → Kind → Kind → Type 0
+NumberAndPointer Add Full64 by pointer k = Moves false pointer by k
+NumberAndPointer op w by pointer k = ⊥
+
+-- ---- arithmetic
+
+abbrev pub NumberAnd : AluOp → Width → Scalar → Kind → Kind → Type 0
+NumberAnd op w a (Number b) (Number c) = Combines (alu op w) a b c
+NumberAnd op w a b k = NumberAndPointer op w a b k
+
+abbrev pub PointerAnd : AluOp → Width → Kind → Kind → Kind → Type 0
+PointerAnd op w a (Number b) k = PointerAndNumber op w a b k
+PointerAnd op w a b k = ⊥
+
+-- every operation but MOV
+abbrev pub Combined : AluOp → Width → Kind → Kind → Kind → Type 0
+Combined op w (Number a) b k = NumberAnd op w a b k
+Combined op w a b k = PointerAnd op w a b k
+
+-- MOV: at 64 bits the kind as it is, at 32 bits a number's low half
+abbrev pub Copied : Width → Kind → Kind → Type 0
+Copied Full64 b k = k ≡ b
+Copied Low32 b k = OfNumber (low Low32) b k
+
+abbrev pub Arithmetic : AluOp → Width → Kind → Kind → Kind → Type 0
+Arithmetic Mov w a b k = Copied w b k
+Arithmetic op w a b k = Combined op w a b k
+
+-- what is never refused: numbers alone are computed with, and MOV at 64 bits copies anything
+abbrev pub IsCopied : Width → Kind → Type 0
+IsCopied Full64 b = Unit {0}
+IsCopied Low32 b = IsNumber b
+
+abbrev pub IsArithmetic : AluOp → Width → Kind → Kind → Type 0
+IsArithmetic Mov w a b = IsCopied w b
+IsArithmetic op w a b = IsNumber a × IsNumber b
+
+-- ---- loads
+
+-- the two fields of the context that give numbers
+abbrev pub IsLoaded : Size → Kind → ℤ → Type 0
+IsLoaded U32 Context by = (by ≡ pos 12) ⊎ (by ≡ pos 16)
+IsLoaded size base by = ⊥
+
+abbrev pub Loads : Size → Kind → ℤ → Kind → Type 0
+Loads size base by k = IsLoaded size base by × IsWord k

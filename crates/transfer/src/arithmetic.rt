@@ -1,0 +1,136 @@
+//! Arithmetic on kinds.
+
+ghost use Rattle.std.specs.Prelude.{◌≡◌, IfOk, IfErr, IsOk};
+ghost use Rattle.isa_model.specs.Numbers.{low, unsigned, negated, sign_extended, reordered};
+ghost use Rattle.branch_refine.specs.Refining.{IsNumber, IsJust};
+ghost use Rattle.transfer.specs.Refusing.{number_refusal, pointer_and_refusal, combined_refusal, arithmetic_refusal};
+ghost use Rattle.transfer.specs.Results.{OfNumber, NumberAnd, PointerAnd, Combined, Copied, Arithmetic, IsCopied, IsArithmetic};
+
+use crate::pointers::{number_and_pointer, pointer_and_number};
+use crate::refusals::Refusal;
+use isa_model::{AluOp, ByteOrder, Extension, Span, Width};
+use reg_state::{Domain, Kind, Scalar};
+
+/// A constant as the number of the width that it stands for.
+pub fn extended(width: Width, k: i32) -> u64
+    ensures { result ≡ unsigned width k }
+{
+    match width {
+        Width::Low32 => u64::from(k.cast_unsigned()),
+        Width::Full64 => i64::from(k).cast_unsigned(),
+    }
+}
+
+/// The kind of a constant.
+pub fn constant(number: u64) -> Kind
+    ensures { IsJust result number }
+{
+    Kind::Number(Scalar::constant(number))
+}
+
+/// NEG.
+pub fn negated(width: Width, kind: Kind) -> Result<Kind, Refusal>
+    ensures gives { IfOk result (OfNumber (negated width) kind) }
+    ensures accepts { IsNumber kind → IsOk result }
+    ensures refused { IfErr result (λ e. e ≡ Refusal.PointerOperand) }
+{
+    match kind {
+        Kind::Number(a) => Ok(Kind::Number(Scalar::negate(width, a))),
+        _ => Err(Refusal::PointerOperand),
+    }
+}
+
+/// MOVSX.
+pub fn sign_extended(extension: Extension, kind: Kind) -> Result<Kind, Refusal>
+    ensures gives { IfOk result (OfNumber (sign_extended extension) kind) }
+    ensures accepts { IsNumber kind → IsOk result }
+    ensures refused { IfErr result (λ e. e ≡ Refusal.PointerOperand) }
+{
+    match kind {
+        Kind::Number(a) => Ok(Kind::Number(Scalar::sign_extend(extension, a))),
+        _ => Err(Refusal::PointerOperand),
+    }
+}
+
+/// END.
+pub fn reordered(order: ByteOrder, span: Span, kind: Kind) -> Result<Kind, Refusal>
+    ensures gives { IfOk result (OfNumber (reordered order span) kind) }
+    ensures accepts { IsNumber kind → IsOk result }
+    ensures refused { IfErr result (λ e. e ≡ Refusal.PointerOperand) }
+{
+    match kind {
+        Kind::Number(a) => Ok(Kind::Number(Scalar::reorder(order, span, a))),
+        _ => Err(Refusal::PointerOperand),
+    }
+}
+
+/// The low 32 bits of a number.
+fn low_word(kind: Kind) -> Result<Kind, Refusal>
+    ensures gives { IfOk result (OfNumber (low Width.Low32) kind) }
+    ensures accepts { IsNumber kind → IsOk result }
+    ensures refused { IfErr result (λ e. e ≡ Refusal.PointerOperand) }
+{
+    match kind {
+        Kind::Number(a) => Ok(Kind::Number(Scalar::alu(AluOp::Mov, Width::Low32, a, a))),
+        _ => Err(Refusal::PointerOperand),
+    }
+}
+
+/// MOV: anything is copied at 64 bits, a number alone at 32.
+fn copied(width: Width, source: Kind) -> Result<Kind, Refusal>
+    ensures gives { IfOk result (Copied width source) }
+    ensures accepts { IsCopied width source → IsOk result }
+    ensures refused { IfErr result (λ e. e ≡ Refusal.PointerOperand) }
+{
+    match width {
+        Width::Full64 => Ok(source),
+        Width::Low32 => low_word(source),
+    }
+}
+
+/// A number on the left.
+fn number_and(op: AluOp, width: Width, a: Scalar, b: Kind) -> Result<Kind, Refusal>
+    ensures gives { IfOk result (NumberAnd op width a b) }
+    ensures accepts { IsNumber b → IsOk result }
+    ensures refused { IfErr result (λ e. e ≡ number_refusal op width b) }
+{
+    match b {
+        Kind::Number(number) => Ok(Kind::Number(Scalar::alu(op, width, a, number))),
+        _ => number_and_pointer(op, width, a, b),
+    }
+}
+
+/// A pointer on the left.
+fn pointer_and(op: AluOp, width: Width, a: Kind, b: Kind) -> Result<Kind, Refusal>
+    ensures gives { IfOk result (PointerAnd op width a b) }
+    ensures refused { IfErr result (λ e. e ≡ pointer_and_refusal op width a b) }
+{
+    match b {
+        Kind::Number(number) => pointer_and_number(op, width, a, number),
+        _ => Err(Refusal::PointerOperand),
+    }
+}
+
+/// Every operation but MOV.
+fn combined(op: AluOp, width: Width, a: Kind, b: Kind) -> Result<Kind, Refusal>
+    ensures gives { IfOk result (Combined op width a b) }
+    ensures accepts { IsNumber a → IsNumber b → IsOk result }
+    ensures refused { IfErr result (λ e. e ≡ combined_refusal op width a b) }
+{
+    match a {
+        Kind::Number(number) => number_and(op, width, number, b),
+        _ => pointer_and(op, width, a, b),
+    }
+}
+
+/// What an arithmetic instruction gives on two operands.
+pub fn arithmetic(op: AluOp, width: Width, a: Kind, b: Kind) -> Result<Kind, Refusal>
+    ensures gives { IfOk result (Arithmetic op width a b) }
+    ensures accepts { IsArithmetic op width a b → IsOk result }
+    ensures refused { IfErr result (λ e. e ≡ arithmetic_refusal op width a b) }
+{
+    match op {
+        AluOp::Mov => copied(width, b),
+        _ => combined(op, width, a, b),
+    }
+}

@@ -1,0 +1,87 @@
+//! Jumps.
+
+ghost use Rattle.std.specs.Prelude.{◌≡◌, ◌+◌, ◌<◌, ◌^◌, ◌↔◌, IfOk, IfErr, IsOk, IsTrue, length, unwrap_or};
+ghost use Rattle.isa_model.specs.Instructions.{Program};
+ghost use Rattle.isa_model.specs.Steps.{target};
+ghost use Rattle.stack_state.specs.Meaning.{depth};
+ghost use Rattle.stack_state.specs.Places.{kind_of, go_to};
+ghost use Rattle.branch_refine.specs.Refining.{IsNumber, IsNumberOperand, AreCompared};
+ghost use Rattle.transfer.specs.Exact.{Sides, Branches};
+
+use crate::Ways;
+use crate::refusals::Refusal;
+use branch_refine::refine_in_place;
+use isa_model::{Cond, Operand, Reg};
+use reg_state::Kind;
+use stack_state::State;
+
+/// Where a jump at a slot leads in a program of so many slots: past its end where that is before slot 0.
+pub fn destination(slot: usize, by: i32, slots: usize) -> usize
+    requires { slot < 2 ^ 63 }
+    ensures { result ≡ unwrap_or (target slot by) slots }
+{
+    let to = slot as i128 + 1 + i128::from(by);
+    if to < 0 { slots } else { to as usize }
+}
+
+fn is_number(state: &State, register: Reg) -> bool
+    ensures { IsTrue result ↔ IsNumber (kind_of state.now register) }
+{
+    match state.kind_of(register) {
+        Kind::Number(_) => true,
+        _ => false,
+    }
+}
+
+fn is_number_operand(state: &State, source: Operand) -> bool
+    ensures { IsTrue result ↔ IsNumberOperand state.now source }
+{
+    match source {
+        Operand::Constant(_) => true,
+        Operand::Register(register) => is_number(state, register),
+    }
+}
+
+/// Joins the two sides of a conditional jump: the fall-through in `stay`, the jump's target in `go`.
+fn joined(stays: bool, goes: bool, stay: &mut State, go: &State) -> Ways
+    ensures { Sides stays goes stay.old go.now result stay.new go.now }
+{
+    match (stays, goes) {
+        (true, true) => Ways::Two,
+        (true, false) => Ways::One,
+        (false, true) => {
+            stay.copy_from(go);
+            Ways::One
+        }
+        (false, false) => Ways::None,
+    }
+}
+
+/// A conditional jump on numbers.
+pub fn jump_if(
+    cond: Cond,
+    by: i32,
+    slots: usize,
+    state: &mut State,
+    other: &mut State,
+) -> Result<Ways, Refusal>
+    requires slot { state.old.slot < 2 ^ 63 }
+    requires called { 0 < depth state.old }
+    ensures branches { IfOk result (λ ways. (p : Program) → length p.insns ≡ slots
+        → Branches p state.old cond by ways state.new other.new) }
+    ensures accepts { AreCompared state.old cond → IsOk result }
+    ensures refused { IfErr result (λ e. e ≡ Refusal.Comparison) }
+{
+    if !is_number(state, cond.register) || !is_number_operand(state, cond.operand) {
+        return Err(Refusal::Comparison);
+    }
+    let next = state.slot + 1;
+    let target = destination(state.slot, by, slots);
+    other.copy_from(state);
+    let goes = refine_in_place(cond, true, other);
+    let stays = refine_in_place(cond, false, state);
+    state.slot = next;
+    other.slot = target;
+    let ways = joined(stays, goes, state, other);
+    Ok(ways)
+}

@@ -1,0 +1,88 @@
+//! Access to memory: the two loads of the context's fields that give numbers, and why there is no other yet.
+
+ghost use Rattle.std.specs.Prelude.{◌≡◌, IfOk, IfErr, IsOk};
+ghost use Rattle.transfer.specs.Refusing.{access_refusal, at_place, atomic_refusal, exchange_refusal};
+ghost use Rattle.transfer.specs.Results.{IsWord, IsLoaded, Loads};
+
+use crate::refusals::Refusal;
+use isa_model::{Size, Width};
+use reg_state::{Domain, Kind, Scalar};
+
+/// Any number of 32 bits.
+fn word() -> Kind
+    ensures { IsWord result }
+{
+    Kind::Number(Scalar::any(Width::Low32))
+}
+
+/// Why there is no access through a kind.
+pub fn access_refusal(base: Kind) -> Refusal
+    ensures { result ≡ access_refusal base }
+{
+    match base {
+        Kind::Unset | Kind::Number(_) | Kind::PacketEnd | Kind::Map { .. } => Refusal::NotMemory,
+        Kind::Context => Refusal::ContextAccess,
+        Kind::Stack { .. } => Refusal::StackPlace,
+        Kind::Packet { .. } | Kind::MapValue { .. } => Refusal::NotBuilt,
+        Kind::MapValueOrNull { .. } => Refusal::NullNotTested,
+    }
+}
+
+/// Why an atomic instruction on numbers is refused at a place.
+fn at_place(base: Kind) -> Refusal
+    ensures { result ≡ at_place base }
+{
+    match base {
+        Kind::Packet { .. } => Refusal::PacketAtomic,
+        _ => access_refusal(base),
+    }
+}
+
+/// Why an atomic instruction is refused.
+pub fn atomic_refusal(base: Kind, source: Kind) -> Refusal
+    ensures { result ≡ atomic_refusal base source }
+{
+    match source {
+        Kind::Number(_) => at_place(base),
+        _ => Refusal::PointerOperand,
+    }
+}
+
+/// The same where r0 is compared.
+pub fn exchange_refusal(compared: Kind, base: Kind, source: Kind) -> Refusal
+    ensures { result ≡ exchange_refusal compared base source }
+{
+    match compared {
+        Kind::Number(_) => atomic_refusal(base, source),
+        _ => Refusal::PointerOperand,
+    }
+}
+
+/// A load of the context: the interface and the queue of the frame.
+fn context_load(size: Size, offset: i16) -> Result<Kind, Refusal>
+    ensures loads { IfOk result (Loads size Kind.Context offset) }
+    ensures accepts { IsLoaded size Kind.Context offset → IsOk result }
+    ensures refused { IfErr result (λ e. e ≡ Refusal.ContextAccess) }
+{
+    match size {
+        Size::U32 => {
+            if offset == 12 || offset == 16 {
+                return Ok(word());
+            }
+            Err(Refusal::ContextAccess)
+        }
+        _ => Err(Refusal::ContextAccess),
+    }
+}
+
+/// What a load gives.
+pub fn load(size: Size, base: Kind, offset: i16) -> Result<Kind, Refusal>
+    ensures loads { IfOk result (Loads size base offset) }
+    ensures accepts { IsLoaded size base offset → IsOk result }
+    ensures refused { IfErr result (λ e. e ≡ access_refusal base) }
+{
+    match base {
+        Kind::Context => context_load(size, offset),
+        _ => Err(access_refusal(base)),
+    }
+}

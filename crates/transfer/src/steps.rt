@@ -1,0 +1,193 @@
+//! What an instruction makes of a state.
+
+ghost use Rattle.std.specs.Prelude.{false, ◌≡◌, ◌≢◌, ◌+◌, ◌<◌, ◌^◌, IfOk, IfErr, IsOk, length};
+ghost use Rattle.std.specs.List.{list_any};
+ghost use Rattle.isa_model.specs.Instructions.{Program, slots_of, operand_reads, reads, writes, is_frame_pointer};
+ghost use Rattle.stack_state.specs.Meaning.{depth};
+ghost use Rattle.stack_state.specs.Places.{kind_of};
+ghost use Rattle.transfer.specs.Refusing.{is_unset, is_unset_in, reads_unset, SetRefused, Refused};
+ghost use Rattle.transfer.specs.Exact.{IsOperand, Puts, Sets, Makes, IsComputed, IsAccepted};
+
+use crate::Ways;
+use crate::arithmetic::{arithmetic, constant, extended, negated, reordered, sign_extended};
+use crate::exits::exit;
+use crate::jumps::{destination, jump_if};
+use crate::memory::{access_refusal, atomic_refusal, exchange_refusal, load};
+use crate::refusals::Refusal;
+use isa_model::{AluOp, Insn, Operand, Reg, Width};
+use reg_state::Kind;
+use stack_state::State;
+
+// ---- the tests of the registers
+
+fn is_unset(state: &State, register: Reg) -> bool
+    ensures { result ≡ is_unset_in state.now register }
+{
+    matches!(state.kind_of(register), Kind::Unset)
+}
+
+fn is_operand_unset(state: &State, source: Operand) -> bool
+    ensures { result ≡ list_any (is_unset_in state.now) (operand_reads source) }
+{
+    match source {
+        Operand::Constant(_) => false,
+        Operand::Register(register) => is_unset(state, register),
+    }
+}
+
+/// Whether a register that an instruction reads may be unset.
+pub fn reads_unset(state: &State, insn: &Insn) -> bool
+    ensures { result ≡ reads_unset state.now insn.now }
+{
+    match *insn {
+        Insn::Alu(_, AluOp::Mov, _, source) => is_operand_unset(state, source),
+        Insn::Alu(_, _, d, source) => is_unset(state, d) || is_operand_unset(state, source),
+        Insn::Neg(_, d) => is_unset(state, d),
+        Insn::MovSx(_, _, source) => is_unset(state, source),
+        Insn::ByteSwap(_, _, d) => is_unset(state, d),
+        Insn::Load(_, _, place) => is_unset(state, place.base),
+        Insn::LoadSx(_, _, place) => is_unset(state, place.base),
+        Insn::StoreConstant(_, place, _) => is_unset(state, place.base),
+        Insn::Store(_, place, source) => is_unset(state, place.base) || is_unset(state, source),
+        Insn::Atomic(_, _, _, place, source) => {
+            is_unset(state, place.base) || is_unset(state, source)
+        }
+        Insn::Exchange(_, place, source) => is_unset(state, place.base) || is_unset(state, source),
+        Insn::CompareExchange(_, place, source) => {
+            is_unset(state, place.base) || is_unset(state, source) || is_unset(state, Reg::R0)
+        }
+        Insn::JumpIf(cond, _) => {
+            is_unset(state, cond.register) || is_operand_unset(state, cond.operand)
+        }
+        Insn::LoadNumber(_, _)
+        | Insn::Jump(_)
+        | Insn::JumpLong(_)
+        | Insn::CallLocal(_)
+        | Insn::Exit => false,
+    }
+}
+
+/// The register that an instruction writes, those of calls and exits aside.
+pub fn written(insn: &Insn) -> Option<Reg>
+    ensures { result ≡ writes insn.now }
+{
+    match *insn {
+        Insn::Alu(_, _, d, _)
+        | Insn::Neg(_, d)
+        | Insn::MovSx(_, d, _)
+        | Insn::ByteSwap(_, _, d)
+        | Insn::LoadNumber(d, _)
+        | Insn::Load(_, d, _)
+        | Insn::LoadSx(_, d, _) => Some(d),
+        Insn::Atomic(_, _, true, _, source) | Insn::Exchange(_, _, source) => Some(source),
+        Insn::CompareExchange(_, _, _) => Some(Reg::R0),
+        _ => None,
+    }
+}
+
+pub fn writes_frame_pointer(insn: &Insn) -> bool
+    ensures { result ≡ is_frame_pointer (writes insn.now) }
+{
+    matches!(written(insn), Some(Reg::R10))
+}
+
+// ---- registers set
+
+/// The kind of an operand; a constant is sign-extended to the width.
+fn operand(state: &State, width: Width, source: Operand) -> Kind
+    ensures { IsOperand state.now width source result }
+{
+    match source {
+        Operand::Constant(k) => constant(extended(width, k)),
+        Operand::Register(register) => state.kind_of(register),
+    }
+}
+
+/// The kind that a form puts into its register.
+fn result_kind(state: &State, insn: &Insn) -> Result<Kind, Refusal>
+    ensures puts { IfOk result (Puts state.now insn.now) }
+    ensures accepts { IsComputed state.now insn.now → IsOk result }
+    ensures refused { IfErr result (SetRefused state.now insn.now) }
+{
+    match *insn {
+        Insn::Alu(width, op, d, source) => {
+            arithmetic(op, width, state.kind_of(d), operand(state, width, source))
+        }
+        Insn::Neg(width, d) => negated(width, state.kind_of(d)),
+        Insn::MovSx(extension, _, source) => sign_extended(extension, state.kind_of(source)),
+        Insn::ByteSwap(order, span, d) => reordered(order, span, state.kind_of(d)),
+        Insn::LoadNumber(_, number) => Ok(constant(number)),
+        Insn::Load(size, _, place) => load(size, state.kind_of(place.base), place.offset),
+        Insn::LoadSx(_, _, place) => Err(access_refusal(state.kind_of(place.base))),
+        Insn::StoreConstant(_, place, _) | Insn::Store(_, place, _) => {
+            Err(access_refusal(state.kind_of(place.base)))
+        }
+        Insn::Atomic(_, _, _, place, source) | Insn::Exchange(_, place, source) => {
+            let base = state.kind_of(place.base);
+            Err(atomic_refusal(base, state.kind_of(source)))
+        }
+        Insn::CompareExchange(_, place, source) => {
+            let compared = state.kind_of(Reg::R0);
+            let base = state.kind_of(place.base);
+            Err(exchange_refusal(compared, base, state.kind_of(source)))
+        }
+        _ => Err(Refusal::NotBuilt),
+    }
+}
+
+/// Sets the register that a form writes, and goes on to the next instruction.
+fn set(state: &mut State, insn: &Insn) -> Result<(), Refusal>
+    requires writable { is_frame_pointer (writes insn.now) ≡ false }
+    requires called { 0 < depth state.old }
+    requires slot { state.old.slot + slots_of insn.now < 2 ^ 63 }
+    ensures sets { IfOk result (λ _. Sets state.old insn.now state.new) }
+    ensures accepts { IsComputed state.old insn.now → IsOk result }
+    ensures refused { IfErr result (SetRefused state.old insn.now) }
+{
+    let kind = result_kind(state, insn)?;
+    let Some(register) = written(insn) else {
+        unreachable!()
+    };
+    state.set_register(register, kind);
+    state.slot += insn.slots();
+    Ok(())
+}
+
+// ---- all forms
+
+/// What an instruction does, once the tests of its registers pass.
+pub fn perform(
+    insn: &Insn,
+    slots: usize,
+    state: &mut State,
+    other: &mut State,
+) -> Result<Ways, Refusal>
+    requires writable { is_frame_pointer (writes insn.now) ≡ false }
+    requires called { 0 < depth state.old }
+    requires slot { state.old.slot + slots_of insn.now < 2 ^ 63 }
+    ensures makes { IfOk result (λ ways. (p : Program) → length p.insns ≡ slots
+        → Makes p state.old insn.now ways state.new other.new) }
+    ensures accepts { IsAccepted state.old insn.now → IsOk result }
+    ensures refused { IfErr result (Refused state.old insn.now) }
+{
+    match *insn {
+        Insn::Jump(by) => {
+            state.slot = destination(state.slot, i32::from(by), slots);
+            Ok(Ways::One)
+        }
+        Insn::JumpLong(by) => {
+            state.slot = destination(state.slot, by, slots);
+            Ok(Ways::One)
+        }
+        Insn::JumpIf(cond, by) => jump_if(cond, i32::from(by), slots, state, other),
+        Insn::CallLocal(_) => Err(Refusal::TooManyFrames),
+        Insn::Exit => {
+            exit(state)?;
+            Ok(Ways::None)
+        }
+        _ => match set(state, insn) {
+            Ok(()) => Ok(Ways::One),
+            Err(refusal) => Err(refusal),
+        },
+    }
+}
