@@ -1,12 +1,21 @@
-//! Programs that were accepted.
+//! Programs each of whose runs ends within a bound.
 
-ghost use Rattle.std.specs.Prelude.{◌≡◌};
+ghost use Rattle.std.specs.Prelude.{◌≡◌, ◌≤◌, IfOk, IfErr};
+ghost use Rattle.isa_model.specs.Outcomes.{StartsEnd};
 ghost use Rattle.explorer.specs.Bounds.{IsVerified};
+ghost use Rattle.explorer.specs.Refused.{IsRefused};
 
+use crate::refusals::Refusal;
+use crate::search::Search;
+use control_flow::Flow;
 use image::Image;
+use std::alloc::Global;
 use std::marker::Model;
 
-/// A program every run of which exits within a bound.
+/// A program each of whose runs meets no trap and exits within the bound, whatever packet, context, map contents and
+/// clock it is given.
+///
+/// Contracts see the program and the bound.
 #[derive(Drop)]
 pub struct Verified {
     image: Image,
@@ -32,8 +41,10 @@ impl Verified {
         self.bound
     }
 
+    /// The program's image.
     pub fn image(&self) -> &Image
-        ensures { result.now ≡ self.now.program }
+        ensures program { result.now ≡ self.now.program }
+        ensures verified { IsVerified self.now }
     {
         &self.image
     }
@@ -46,4 +57,37 @@ impl Verified {
         let Verified { image, bound: _ } = self;
         image
     }
+}
+
+/// The bound of a program's runs.
+fn bound_of(alloc: Global, image: &Image) -> Result<u32, (Refusal, usize)>
+    ensures ends { IfOk result (StartsEnd image.now) }
+    ensures some { IfOk result (λ n. 1 ≤ n) }
+    ensures most { IfOk result (λ n. n ≤ 1000000) }
+    ensures refused { IfErr result (λ r. IsRefused image.now r.0 r.1) }
+{
+    let slots = image.slots();
+    let flow = match Flow::of(alloc, image) {
+        Ok(flow) => flow,
+        Err((error, slot)) => return Err((Refusal::Flow(error), slot)),
+    };
+    let Ok(mut search) = Search::new(alloc, slots) else {
+        return Err((Refusal::Memory, 0));
+    };
+    let bound = search.explore(alloc, image, &flow)?;
+    Ok(bound)
+}
+
+/// Looks for a bound on the steps of each run, or refuses, with the slot at which it does.
+///
+/// Control flow is tested first. Then states are explored from the start; a state's number is 1 more than the greatest
+/// of those behind it, and the bound is the number of the start. No more than 1,000,000 instructions are explored.
+pub fn verify(alloc: Global, image: Image) -> Result<Verified, (Refusal, usize)>
+    ensures program { IfOk result (λ verified. verified.program ≡ image) }
+    ensures verified { IfOk result IsVerified }
+    ensures refused { IfErr result (λ r. IsRefused image r.0 r.1) }
+{
+    let bound = bound_of(alloc, &image)?;
+    let _slots = image.slots();
+    Ok(Verified { image, bound })
 }

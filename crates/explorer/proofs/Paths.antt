@@ -1,0 +1,113 @@
+-- Paths, visit by visit.
+use Rattle.std.proofs.Common.{◌≡◌, ◌≤◌, ◌+◌, ◌∷◌, ◌++◌, [], ℕ, suc, Some, None, Option, List, length, max, arith, refl, sym, ap, add-one, subst, inl, inr, ◌⊎◌}
+use Rattle.isa_model.specs.Instructions.{Program}
+use Rattle.isa_model.specs.States as Machine
+use Rattle.isa_model.specs.Steps.{step}
+use Rattle.isa_model.specs.Ends.{Ends, After, After-weaker, Ends-more}
+use Rattle.stack_state.specs.declared.states.State.{State}
+use Rattle.stack_state.specs.Meaning.{Means, Within}
+use Rattle.transfer.specs.declared.Ways.TheVariants as ways
+use Rattle.transfer.specs.Leading.{LeadsTo, InSome}
+use Rattle.explorer.specs.declared.table.Stored.{Stored}
+use Rattle.explorer.specs.declared.search.Visit.{Visit}
+use Rattle.explorer.specs.Table.{StoredAt}
+use Rattle.explorer.specs.Search.{IfReady, MeantBy, Waits, Waiting, Path}
+use Rattle.explorer.proofs.Stores.{Keeps, Keeps-at}
+
+-- ---- paths
+
+pub Waiting-more : (p : Program) (m n : ℕ) (old new : List Stored) (visit : Visit) (s child : State) → m ≤ n → Keeps old new → Waiting p m old visit s child → Waiting p n new visit s child
+Waiting-more p m n old new visit s child le kept h =
+    record { waits = h.waits; best = omega (arith, h.best); stored = Keeps-at old new visit.stored s kept h.stored; ready = h.ready }
+
+pub Path-more : (p : Program) (m n : ℕ) (old new : List Stored) → m ≤ n → Keeps old new → (path : List Visit) (a b : State) → Path p m old a path b → Path p n new a path b
+unfolding Path
+Path-more p m n old new le kept [] a b h = h
+Path-more p m n old new le kept (visit ∷ path) a b h =
+    (h.0, Waiting-more p m n old new visit a h.0 le kept h.1, Path-more p m n old new le kept path h.0 b h.2)
+
+pub Path-push : (p : Program) (m : ℕ) (table : List Stored) (path : List Visit) (visit : Visit) (a s child : State) → Path p m table a path s → Waiting p m table visit s child → Path p m table a (path ++ visit ∷ []) child
+unfolding Path
+Path-push p m table [] visit a s child h waiting = (child, subst (λ x. Waiting p m table visit x child) h waiting, refl)
+Path-push p m table (first ∷ path) visit a s child h waiting = (h.0, h.1, Path-push p m table path visit h.0 s child h.2 waiting)
+
+-- the last visit of a path
+pub record Last (p : Program) (m : ℕ) (table : List Stored) (a : State) (path : List Visit) (visit : Visit) (child : State) : Type 0 where
+  pub state : State
+  pub before : Path p m table a path state
+  pub waiting : Waiting p m table visit state child
+
+pub Path-pop : (p : Program) (m : ℕ) (table : List Stored) (path : List Visit) (visit : Visit) (a child : State) → Path p m table a (path ++ visit ∷ []) child → Last p m table a path visit child
+unfolding Path
+Path-pop p m table [] visit a child h =
+    record { state = a; before = refl; waiting = subst (λ x. Waiting p m table visit a x) (sym h.2) h.1 }
+Path-pop p m table (first ∷ path) visit a child h =
+    let rest = Path-pop p m table path visit h.0 child h.2 in
+    record { state = rest.state; before = (h.0, h.1, rest.before); waiting = rest.waiting }
+
+pub Path-none : (p : Program) (m : ℕ) (table : List Stored) (path : List Visit) (a b : State) → length path ≡ 0 → Path p m table a path b → b ≡ a
+unfolding Path
+Path-none p m table [] a b none h = h
+Path-none p m table (visit ∷ path) a b none h = absurd (omega arith)
+
+pub Path-here : (p : Program) (m : ℕ) (table : List Stored) (path : List Visit) (a b : State) → path ≡ [] → b ≡ a → Path p m table a path b
+unfolding Path
+Path-here p m table path a b none e = subst (λ x. Path p m table a x b) (sym none) e
+
+-- ---- what a visit waits for
+
+-- the child ends within its number, and nothing is pending
+pub Waits-ends : (p : Program) (visit : Visit) (s child : State) (n best : ℕ) → Waits p visit s child → visit.pending ≡ None → Within p child n → best ≡ max visit.best n → Within p s (best + 1)
+unfolding Waits Within Ends
+Waits-ends p visit s child n best waits none within is = rw add-one (λ clock w means.
+    After-weaker (λ v. Means p child v ⊎ (MeantBy p visit.pending v ⊎ Ends p clock v visit.best)) (λ v. Ends p clock v best) (step p clock w)
+    (λ v h. elim h [
+      | inl a ↦ Ends-more p clock v n best (omega arith) (within clock v a)
+      | inr b ↦ elim b [ inl q ↦ absurd (subst (λ o. MeantBy p o v) none q) | inr e ↦ Ends-more p clock v visit.best best (omega arith) e ]
+    ])
+    (waits clock w means))
+
+-- the pending state ends within a number too
+pub Waits-both : (p : Program) (visit : Visit) (s child other : State) (n k best : ℕ) → Waits p visit s child → visit.pending ≡ Some other → Within p child n → Within p other k
+    → best ≡ max (max visit.best n) k → Within p s (best + 1)
+unfolding Waits Within Ends
+Waits-both p visit s child other n k best waits some within known is = rw add-one (λ clock w means.
+    After-weaker (λ v. Means p child v ⊎ (MeantBy p visit.pending v ⊎ Ends p clock v visit.best)) (λ v. Ends p clock v best) (step p clock w)
+    (λ v h. elim h [
+      | inl a ↦ Ends-more p clock v n best (omega arith) (within clock v a)
+      | inr b ↦ elim b [
+        | inl q ↦ Ends-more p clock v k best (omega arith) (known clock v (subst (λ o. MeantBy p o v) some q))
+        | inr e ↦ Ends-more p clock v visit.best best (omega arith) e
+      ]
+    ])
+    (waits clock w means))
+
+-- the pending state is explored next
+pub Waits-next : (p : Program) (visit : Visit) (s child other : State) (n : ℕ) → Waits p visit s child → visit.pending ≡ Some other → Within p child n
+    → Waits p (record { pending = None; best = max visit.best n; stored = visit.stored }) s other
+unfolding Waits Within Ends
+Waits-next p visit s child other n waits some within = λ clock w means.
+    After-weaker (λ v. Means p child v ⊎ (MeantBy p visit.pending v ⊎ Ends p clock v visit.best)) (λ v. Means p other v ⊎ (⊥ ⊎ Ends p clock v (max visit.best n))) (step p clock w)
+    (λ v h. elim h [
+      | inl a ↦ inr (inr (Ends-more p clock v n (max visit.best n) (omega arith) (within clock v a)))
+      | inr b ↦ elim b [ inl q ↦ inl (subst (λ o. MeantBy p o v) some q) | inr e ↦ inr (inr (Ends-more p clock v visit.best (max visit.best n) (omega arith) e)) ]
+    ])
+    (waits clock w means)
+
+-- ---- where a step leads
+
+-- nothing goes on
+pub LeadsTo-ends : (p : Program) (s a b : State) → LeadsTo p s ways.None a b → Within p s 1
+unfolding LeadsTo Within Ends
+LeadsTo-ends p s a b leads = λ clock w means. After-weaker (λ v. ⊥) (λ v. Ends p clock v 0) (step p clock w) (λ v h. h) (leads clock w means)
+
+pub Waits-one : (p : Program) (s a b : State) (stored : Option ℕ) → LeadsTo p s ways.One a b → Waits p (record { pending = None; best = 0; stored = stored }) s a
+unfolding LeadsTo Waits
+Waits-one p s a b stored leads = λ clock w means.
+    After-weaker (λ v. Means p a v) (λ v. Means p a v ⊎ (⊥ ⊎ Ends p clock v 0)) (step p clock w) (λ v h. inl h) (leads clock w means)
+
+pub Waits-two : (p : Program) (s a b : State) (stored : Option ℕ) → LeadsTo p s ways.Two a b → Waits p (record { pending = Some b; best = 0; stored = stored }) s a
+unfolding LeadsTo Waits
+Waits-two p s a b stored leads = λ clock w means.
+    After-weaker (λ v. Means p a v ⊎ Means p b v) (λ v. Means p a v ⊎ (Means p b v ⊎ Ends p clock v 0)) (step p clock w)
+    (λ v h. elim h [ inl x ↦ inl x | inr y ↦ inr (inl y) ]) (leads clock w means)

@@ -1,0 +1,186 @@
+-- What a search keeps, step by step.
+use Rattle.std.proofs.Common.{◌≡◌, ◌≤◌, ◌+◌, ◌<◌, ◌∷◌, ◌++◌, [], ℕ, suc, Some, None, Option, List, length, max, arith, refl, sym, ap, ◌∙◌, subst, inl, inr, ◌⊎◌}
+use Rattle.std.specs.Prelude.{IsSome}
+use Rattle.isa_model.specs.declared.instructions.Insn.{Insn}
+use Rattle.isa_model.specs.Instructions.{Program, fetch}
+use Rattle.image.specs.Images.{IsImage}
+use Rattle.image.specs.ImageLaws.{fetch-zero}
+use Rattle.image.specs.Programs.{IsProgram-IsImage}
+use Rattle.isa_model.specs.Runs.{start_state}
+use Rattle.stack_state.specs.Starts.{start, Means-start}
+use Rattle.stack_state.specs.declared.states.State.{State}
+use Rattle.isa_model.specs.Outcomes.{StartsEnd}
+use Rattle.stack_state.specs.Meaning.{Within, depth}
+use Rattle.isa_model.specs.Successors.{Follows}
+use Rattle.control_flow.specs.Flows.{IsFlow}
+use Rattle.control_flow.specs.FlowLaws.{IsFlow-Follows}
+use Rattle.transfer.specs.declared.Ways.{Ways}
+use Rattle.transfer.specs.declared.Ways.TheVariants as ways
+use Rattle.transfer.specs.Leading.{LeadsTo, EachWay}
+use Rattle.explorer.specs.declared.table.Stored.{Stored}
+use Rattle.explorer.specs.declared.search.Visit.{Visit}
+use Rattle.explorer.specs.declared.search.Arrival.{Arrival}
+use Rattle.explorer.specs.declared.search.Arrival.TheVariants.{Known, New}
+use Rattle.explorer.specs.Table.{StoredAt, IsNumbered}
+use Rattle.explorer.specs.Search.{Arrives, EndsAlone, EndsCovered, GoesOn, AllFine, IsReady, IfReady, Waiting, Path}
+use Rattle.explorer.proofs.Stores.{Keeps, Keeps-at, Keeps-same, AllFine-more, IsCovered-known, Arrives-keeps, Arrives-fine, Arrives-stored, IsNumbered-fine, IsNumbered-keeps}
+use Rattle.explorer.proofs.Paths.{Last, Waiting-more, Path-more, Path-push, Path-pop, Waits-ends, Waits-both, Waits-next, LeadsTo-ends, Waits-one, Waits-two}
+
+-- ---- a visit that ends
+
+-- what is known when a visit has its number
+pub record HasNumber (p : Program) (m : ℕ) (old new : List Stored) (s : State) (best : ℕ) : Type 0 where
+  pub within : Within p s (best + 1)
+  pub most : best ≤ m
+  pub keeps : Keeps old new
+  pub fine : AllFine p m new
+
+pub visit_ends : (p : Program) (m : ℕ) (old new : List Stored) (visit : Visit) (s child : State) (n best : ℕ) → AllFine p m old → Waiting p m old visit s child → Within p child n → n ≤ m
+    → EndsAlone old visit n best new ⊎ EndsCovered p old visit n best new → HasNumber p m old new s best
+visit_ends p m old new visit s child n best fine waiting within le (inl h) =
+    record {
+      within = Waits-ends p visit s child n best waiting.waits h.nothing within h.best_is;
+      most = omega (arith, waiting.best, h.best_is);
+      keeps = Keeps-same old new h.same;
+      fine = subst (λ x. AllFine p m x) (sym h.same) fine;
+    }
+visit_ends p m old new visit s child n best fine waiting within le (inr h) =
+    let known = IsCovered-known p m old h.other h.known fine h.arrives.1 in
+    record {
+      within = Waits-both p visit s child h.other n h.known best waiting.waits h.is_pending within known.0 h.best_is;
+      most = omega (arith, waiting.best, h.best_is, known.1);
+      keeps = Arrives-keeps p old h.other (Known h.known) new h.arrives;
+      fine = Arrives-fine p m old h.other (Known h.known) new h.arrives fine;
+    }
+
+-- the number is written, and the search is at the state before
+pub record IsBack (p : Program) (m : ℕ) (table : List Stored) (a : State) (path : List Visit) (number : ℕ) : Type 0 where
+  pub state : State
+  pub fine : AllFine p m table
+  pub before : Path p m table a path state
+  pub within : Within p state number
+  pub most : number ≤ m
+
+pub step_back : (p : Program) (m : ℕ) (old mid new : List Stored) (a : State) (path : List Visit) (visit : Visit) (child : State) (n best : ℕ)
+    → AllFine p m old → Last p m old a path visit child → Within p child n → n ≤ m → EndsAlone old visit n best mid ⊎ EndsCovered p old visit n best mid
+    → IsNumbered mid visit.stored (best + 1) new → IsBack p (m + 1) new a path (best + 1)
+step_back p m old mid new a path visit child n best fine last within le ends numbered =
+    let s = last.state in
+    let h = visit_ends p m old mid visit s child n best fine last.waiting within le ends in
+    let at : StoredAt mid visit.stored s = Keeps-at old mid visit.stored s h.keeps last.waiting.stored in
+    let kept = IsNumbered-keeps mid visit.stored s (best + 1) new numbered at in
+    record {
+      state = s;
+      fine = IsNumbered-fine p (m + 1) mid visit.stored s (best + 1) new numbered at h.within (omega (arith, h.most)) (AllFine-more p m (m + 1) mid (omega arith) h.fine);
+      before = Path-more p (m + 1) (m + 1) mid new (omega arith) kept path a s (Path-more p m (m + 1) old mid (omega arith) h.keeps path a s last.before);
+      within = h.within;
+      most = omega (arith, h.most);
+    }
+
+-- ---- a visit that goes on
+
+pub record IsOn (p : Program) (m : ℕ) (table : List Stored) (a : State) (path : List Visit) (at : Option ℕ) (current : State) : Type 0 where
+  pub fine : AllFine p m table
+  pub before : Path p m table a path current
+  pub stored : StoredAt table at current
+  pub ready : IsReady p current
+
+pub step_on : (p : Program) (m : ℕ) (old new : List Stored) (a : State) (path : List Visit) (visit : Visit) (child : State) (n : ℕ) (rest : Visit) (at : Option ℕ) (current : State) (whole : List Visit)
+    → AllFine p m old → Last p m old a path visit child → Within p child n → n ≤ m → GoesOn p old visit n rest at new current → whole ≡ path ++ rest ∷ []
+    → IsOn p m new a whole at current
+step_on p m old new a path visit child n rest at current whole fine last within le on e =
+    let s = last.state in
+    let kept = Arrives-keeps p old current (New at) new on.arrives in
+    let next : Visit = record { pending = None; best = max visit.best n; stored = visit.stored } in
+    let waiting : Waiting p m new next s current =
+    record {
+      waits = Waits-next p visit s child current n last.waiting.waits on.is_pending within;
+      best = omega (arith, last.waiting.best);
+      stored = Keeps-at old new visit.stored s kept last.waiting.stored;
+      ready = tt;
+    } in
+    let path' = Path-push p m new path next a s current (Path-more p m m old new (omega arith) kept path a s last.before) waiting in
+    record {
+      fine = Arrives-fine p m old current (New at) new on.arrives fine;
+      before = subst (λ x. Path p m new a x current) (sym (e ∙ ap (λ v. path ++ v ∷ []) on.rest_is)) path';
+      stored = Arrives-stored p old current at new on.arrives;
+      ready = subst (IfReady p) on.is_pending last.waiting.ready;
+    }
+
+-- ---- a visit that begins
+
+-- where control flow is good an instruction begins behind each step
+IsReady-next : (p : Program) (slot : ℕ) (next : State) → IsFlow p → Follows p slot next.slot → 0 < depth next → IsReady p next
+IsReady-next p slot next flow follows called = record { begins = IsFlow-Follows p slot next.slot flow follows; called = called }
+
+-- the instruction's state waits for the state behind it
+pub record Begins (p : Program) (m : ℕ) (table : List Stored) (visit : Visit) (s next : State) : Type 0 where
+  pub waiting : Waiting p m table visit s next
+  pub ready : IsReady p next
+
+pub one_way : (p q : Program) (m : ℕ) (table : List Stored) (stored : Option ℕ) (s a b : State) (w : Ways) (pending : Option State) → p ≡ q → IsFlow p → StoredAt table stored s
+    → LeadsTo q s w a b → EachWay w a b (λ next. Follows q s.slot next.slot) → EachWay w a b (λ next. 0 < depth next) → w ≡ ways.One → pending ≡ None
+    → Begins p m table (record { pending = pending; best = 0; stored = stored }) s a
+one_way p q m table stored s a b w pending same flow at leads follows called is none =
+    let leads' = subst (λ x. LeadsTo x s ways.One a b) (sym same) (subst (λ x. LeadsTo q s x a b) is leads) in
+    let follows' : Follows p s.slot a.slot = subst (λ x. Follows x s.slot a.slot) (sym same) (subst (λ x. EachWay x a b (λ next. Follows q s.slot next.slot)) is follows) in
+    let called' : 0 < depth a = subst (λ x. EachWay x a b (λ next. 0 < depth next)) is called in
+    subst (λ x. Begins p m table (record { pending = x; best = 0; stored = stored }) s a) (sym none) (record {
+      waiting = record { waits = Waits-one p s a b stored leads'; best = omega arith; stored = at; ready = tt };
+      ready = IsReady-next p s.slot a flow follows' called';
+    })
+
+pub two_ways : (p q : Program) (m : ℕ) (table : List Stored) (stored : Option ℕ) (s a b : State) (w : Ways) (pending : Option State) → p ≡ q → IsFlow p → StoredAt table stored s
+    → LeadsTo q s w a b → EachWay w a b (λ next. Follows q s.slot next.slot) → EachWay w a b (λ next. 0 < depth next) → w ≡ ways.Two → pending ≡ Some b
+    → Begins p m table (record { pending = pending; best = 0; stored = stored }) s a
+two_ways p q m table stored s a b w pending same flow at leads follows called is some =
+    let leads' = subst (λ x. LeadsTo x s ways.Two a b) (sym same) (subst (λ x. LeadsTo q s x a b) is leads) in
+    let follows' : Follows p s.slot a.slot × Follows p s.slot b.slot =
+    subst (λ x. Follows x s.slot a.slot × Follows x s.slot b.slot) (sym same) (subst (λ x. EachWay x a b (λ next. Follows q s.slot next.slot)) is follows) in
+    let called' : 0 < depth a × 0 < depth b = subst (λ x. EachWay x a b (λ next. 0 < depth next)) is called in
+    subst (λ x. Begins p m table (record { pending = x; best = 0; stored = stored }) s a) (sym some) (record {
+      waiting = record { waits = Waits-two p s a b stored leads'; best = omega arith; stored = at; ready = IsReady-next p s.slot b flow follows'.1 called'.1 };
+      ready = IsReady-next p s.slot a flow follows'.0 called'.0;
+    })
+
+-- the search is at the state behind
+pub step_into : (p : Program) (m : ℕ) (old new : List Stored) (a : State) (path : List Visit) (visit : Visit) (s child : State) (arrival : Arrival) (whole : List Visit)
+    → AllFine p m old → Path p m old a path s → Waiting p m old visit s child → Arrives p old child arrival new → whole ≡ path ++ visit ∷ [] → AllFine p m new × Path p m new a whole child
+step_into p m old new a path visit s child arrival whole fine before waiting arrives e =
+    let kept = Arrives-keeps p old child arrival new arrives in (
+      Arrives-fine p m old child arrival new arrives fine,
+      subst (λ x. Path p m new a x child) (sym e) (Path-push p m new path visit a s child (Path-more p m m old new (omega arith) kept path a s before) (Waiting-more p m m old new visit s child (omega arith) kept waiting)),
+    )
+
+-- nothing goes on, and the number 1 is written
+pub step_ends : (p q : Program) (m : ℕ) (old new : List Stored) (a : State) (path : List Visit) (stored : Option ℕ) (s x y : State) (w : Ways) → p ≡ q → AllFine p m old → Path p m old a path s → StoredAt old stored s
+    → LeadsTo q s w x y → w ≡ ways.None → IsNumbered old stored 1 new → IsBack p (m + 1) new a path 1
+step_ends p q m old new a path stored s x y w same fine before at leads is numbered =
+    let within = LeadsTo-ends p s x y (subst (λ z. LeadsTo z s ways.None x y) (sym same) (subst (λ z. LeadsTo q s z x y) is leads)) in
+    record {
+      state = s;
+      fine = IsNumbered-fine p (m + 1) old stored s 1 new numbered at within (omega arith) (AllFine-more p m (m + 1) old (omega arith) fine);
+      before = Path-more p m (m + 1) old new (omega arith) (IsNumbered-keeps old stored s 1 new numbered at) path a s before;
+      within = within;
+      most = omega arith;
+    }
+
+-- ---- the start
+
+pub empty_fine : (p : Program) (m : ℕ) (table : List Stored) → table ≡ [] → AllFine p m table
+unfolding AllFine
+empty_fine p m table e = subst (λ x. AllFine p m x) (sym e) (λ k d h. absurd (omega arith))
+
+start_ready : (p : Program) → IsImage p → IsReady p start
+unfolding start
+start_ready p image =
+    let first = fetch-zero p image in
+    record { begins = subst (λ (o : Option Insn). IsSome o) (sym first.1) refl; called = omega arith }
+
+pub starts_ready : (p q : Program) (s : State) → p ≡ q → IsImage q → s ≡ start → IsReady p s
+starts_ready p q s same image e = subst (IsReady p) (sym e) (start_ready p (subst IsImage (sym same) image))
+
+pub starts_end : (p q : Program) (n : ℕ) → p ≡ q → IsImage q → Within p start n → StartsEnd q n
+unfolding Within StartsEnd
+starts_end p q n same image within = λ clock head packet contents given.
+    subst (λ x. Within x start n) same within clock (start_state head packet contents) (Means-start q head packet contents (IsProgram-IsImage q image) given)

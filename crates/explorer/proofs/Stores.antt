@@ -1,0 +1,122 @@
+-- What stays true of the stored states.
+use Rattle.std.proofs.Common.{◌≡◌, ◌≤◌, ◌+◌, ◌<◌, ◌∷◌, ◌++◌, [], ℕ, zero, suc, Some, None, Option, List, length, arith, refl, sym, ap, subst, set, get_or, slice_get}
+use Rattle.std.proofs.lemmas.Option.{slice_get_within, get_or_from_slice_get}
+use Rattle.std.specs.List.{All}
+use Rattle.std.proofs.lemmas.List.Elements.{All-push, All-set, All-weaker}
+use Rattle.isa_model.specs.Instructions.{Program}
+use Rattle.stack_state.specs.declared.states.State.{State}
+use Rattle.stack_state.specs.Meaning.{Within, Covers}
+use Rattle.explorer.specs.declared.table.Stored.{Stored}
+use Rattle.explorer.specs.declared.search.Arrival.{Arrival}
+use Rattle.explorer.specs.declared.search.Arrival.TheVariants.{Known, New}
+use Rattle.explorer.specs.Table.{IsCovered, StoredAt, IsNumbered}
+use Rattle.explorer.specs.Search.{stored_too, Arrives, IsFine, AllFine}
+
+-- ---- numbers
+
+pub Within-covered : (p : Program) (a b : State) (n : ℕ) → Covers p a b → Within p a n → Within p b n
+unfolding Within Covers
+Within-covered p a b n covered h = λ clock w means. h clock w (covered w means)
+
+IsFine-more : (p : Program) (m n : ℕ) (e : Stored) → m ≤ n → IsFine p m e → IsFine p n e
+IsFine-more p m n e le h = λ above. ((h above).0, omega (arith, (h above).1))
+
+pub AllFine-more : (p : Program) (m n : ℕ) (table : List Stored) → m ≤ n → AllFine p m table → AllFine p n table
+unfolding AllFine
+AllFine-more p m n table le h = All-weaker (IsFine p m) (IsFine p n) (λ e fine. IsFine-more p m n e le fine) table h
+
+AllFine-push : (p : Program) (m : ℕ) (table : List Stored) (s : State) → AllFine p m table → AllFine p m (stored_too table s)
+unfolding AllFine
+AllFine-push p m table s h = All-push (IsFine p m) table _ h (λ above. absurd (omega arith))
+
+AllFine-set : (p : Program) (m : ℕ) (table : List Stored) (k : ℕ) (s : State) (n : ℕ) → AllFine p m table → Within p s n → n ≤ m
+    → AllFine p m (set table k (record { state = s; number = n }))
+unfolding AllFine
+AllFine-set p m table k s n h within le = All-set (IsFine p m) table k _ (λ above. (within, le)) h
+
+-- a state that a finished entry covers ends within the entry's number
+pub IsCovered-known : (p : Program) (m : ℕ) (table : List Stored) (s : State) (n : ℕ) → AllFine p m table → IsCovered table s n → Within p s n × (n ≤ m)
+unfolding AllFine
+IsCovered-known p m table s n fine h =
+    let e : Stored = record { state = h.entry; number = n } in
+    let same = get_or_from_slice_get table h.index e e h.stored in
+    let here : IsFine p m e = subst (IsFine p m) same (fine h.index e (slice_get_within table h.index e h.stored)) in
+    let known = here h.finished in
+    (Within-covered p h.entry s n (h.covers p) known.0, known.1)
+
+-- ---- places
+
+slice_get-push : {X : Type 0} (xs : List X) (y : X) (k : ℕ) (x : X) → slice_get xs k ≡ Some x → slice_get (xs ++ y ∷ []) k ≡ Some x
+slice_get-push [] y k x e = absurd (cc)
+slice_get-push (z ∷ xs) y zero x e = e
+slice_get-push (z ∷ xs) y (suc k) x e = slice_get-push xs y k x e
+
+slice_get-seam : {X : Type 0} (xs : List X) (y : X) → slice_get (xs ++ y ∷ []) (length xs) ≡ Some y
+slice_get-seam [] y = refl
+slice_get-seam (x ∷ xs) y = slice_get-seam xs y
+
+-- each state is stored where it was
+unfoldable pub Keeps : List Stored → List Stored → Type 0
+Keeps old new = (k : Option ℕ) (s : State) → StoredAt old k s → StoredAt new k s
+
+pub Keeps-at : (old new : List Stored) (k : Option ℕ) (s : State) → Keeps old new → StoredAt old k s → StoredAt new k s
+unfolding Keeps
+Keeps-at old new k s kept h = kept k s h
+
+pub Keeps-same : (old new : List Stored) → new ≡ old → Keeps old new
+unfolding Keeps
+Keeps-same old new e = λ k s h. subst (λ x. StoredAt x k s) (sym e) h
+
+Keeps-push : (table : List Stored) (e : Stored) → Keeps table (table ++ e ∷ [])
+unfolding Keeps
+Keeps-push table e = λ k s. elim k as (λ k. StoredAt table k s → StoredAt (table ++ e ∷ []) k s)
+    [ None ↦ λ h. tt | (Some i) ↦ λ h. (h.0, slice_get-push table e i _ h.1) ]
+
+-- a write of a number leaves each state where it was
+set-number : (table : List Stored) (i : ℕ) (s : State) (m n : ℕ) → slice_get table i ≡ Some (record { state = s; number = m })
+    → (k : ℕ) (t : State) → StoredAt table (Some k) t → StoredAt (set table i (record { state = s; number = n })) (Some k) t
+set-number [] i s m n e k t h = absurd (cc)
+set-number (z ∷ table) zero s m n e zero t h =
+    let q : ◌≡◌ {A = Stored} (record { state = s; number = m }) (record { state = t; number = h.0 }) = cc (e, h.1) in
+    let r : s ≡ t = ap (λ (x : Stored). x.state) q in
+    (n, ap (λ (x : State). Some (record { state = x; number = n })) r)
+set-number (z ∷ table) zero s m n e (suc k) t h = h
+set-number (z ∷ table) (suc i) s m n e zero t h = h
+set-number (z ∷ table) (suc i) s m n e (suc k) t h = set-number table i s m n e k t h
+
+Keeps-set : (table : List Stored) (i : ℕ) (s : State) (m n : ℕ) → slice_get table i ≡ Some (record { state = s; number = m })
+    → Keeps table (set table i (record { state = s; number = n }))
+unfolding Keeps
+Keeps-set table i s m n e = λ k t. elim k as (λ k. StoredAt table k t → StoredAt (set table i (record { state = s; number = n })) k t)
+    [ None ↦ λ h. tt | (Some j) ↦ λ h. set-number table i s m n e j t h ]
+
+-- ---- an arrival
+
+pub Arrives-keeps : (p : Program) (old : List Stored) (s : State) (a : Arrival) (new : List Stored) → Arrives p old s a new → Keeps old new
+Arrives-keeps p old s (Known n) new h = Keeps-same old new h.2
+Arrives-keeps p old s (New None) new h = Keeps-same old new h.1
+Arrives-keeps p old s (New (Some k)) new h = subst (λ x. Keeps old x) (sym h.2) (Keeps-push old _)
+
+pub Arrives-fine : (p : Program) (m : ℕ) (old : List Stored) (s : State) (a : Arrival) (new : List Stored) → Arrives p old s a new → AllFine p m old → AllFine p m new
+Arrives-fine p m old s (Known n) new h fine = subst (λ x. AllFine p m x) (sym h.2) fine
+Arrives-fine p m old s (New None) new h fine = subst (λ x. AllFine p m x) (sym h.1) fine
+Arrives-fine p m old s (New (Some k)) new h fine = subst (λ x. AllFine p m x) (sym h.2) (AllFine-push p m old s fine)
+
+pub Arrives-stored : (p : Program) (old : List Stored) (s : State) (k : Option ℕ) (new : List Stored) → Arrives p old s (New k) new → StoredAt new k s
+Arrives-stored p old s None new h = tt
+Arrives-stored p old s (Some k) new h = (
+  0,
+  subst (λ x. slice_get x k ≡ Some (record { state = s; number = 0 })) (sym h.2)
+      (subst (λ i. slice_get (stored_too old s) i ≡ Some (record { state = s; number = 0 })) (sym h.1) (slice_get-seam old _)),
+)
+
+-- ---- a number
+
+pub IsNumbered-fine : (p : Program) (m : ℕ) (old : List Stored) (stored : Option ℕ) (s : State) (n : ℕ) (new : List Stored) → IsNumbered old stored n new
+    → StoredAt old stored s → Within p s n → n ≤ m → AllFine p m old → AllFine p m new
+IsNumbered-fine p m old None s n new h at within le fine = subst (λ x. AllFine p m x) (sym h) fine
+IsNumbered-fine p m old (Some k) s n new h at within le fine = subst (λ x. AllFine p m x) (sym (h s at)) (AllFine-set p m old k s n fine within le)
+
+pub IsNumbered-keeps : (old : List Stored) (stored : Option ℕ) (s : State) (n : ℕ) (new : List Stored) → IsNumbered old stored n new → StoredAt old stored s → Keeps old new
+IsNumbered-keeps old None s n new h at = Keeps-same old new h
+IsNumbered-keeps old (Some k) s n new h at = subst (λ x. Keeps old x) (sym (h s at)) (Keeps-set old k s at.0 n at.1)

@@ -1,0 +1,66 @@
+use Rattle.std.proofs.Common.{◌≡◌, ◌≤◌, ◌+◌, ◌++◌, ◌∷◌, [], ℕ, List, arith, vec_len, length, subst}
+use Rattle.stack_state.specs.declared.states.State.{State}
+use Rattle.stack_state.specs.Starts.{start}
+use Rattle.stack_state.specs.Meaning.{Within}
+use Rattle.explorer.specs.declared.search.Visit.{Visit}
+use Rattle.explorer.specs.declared.search.Resumed.{Resumed}
+use Rattle.explorer.specs.declared.search.Resumed.TheVariants.{Ended, Next}
+use Rattle.explorer.specs.Table.{StoredAt}
+use Rattle.explorer.specs.Search.{IsAt, HasEnded, Explores, Path, IsResumed, EndsAlone, EndsCovered, GoesOn}
+use Rattle.explorer.proofs.Stores.{Keeps-at}
+use Rattle.explorer.proofs.Paths.{Last, Path-pop, Path-none}
+use Rattle.explorer.proofs.Steps.{HasNumber, visit_ends, step_back, step_on}
+use Rattle.explorer.proofs.search.Search.unwind.Goals as goal
+use Rattle.explorer.proofs.search.Search.unwind.Goals.{In-Some, In-Ended, In-Next}
+
+last_of : (c : In-Some) → Last c.args.flow.now c.loop-visit.self.finished c.loop-visit.self.table.entries.items start c.pop.new.self.items c.in-Some.visit c.loop-visit.invariant.at.state
+last_of c =
+    let at = c.loop-visit.invariant.at in
+    Path-pop c.args.flow.now c.loop-visit.self.finished c.loop-visit.self.table.entries.items c.pop.new.self.items c.in-Some.visit start at.state
+    (subst (λ (x : List Visit). Path c.args.flow.now c.loop-visit.self.finished c.loop-visit.self.table.entries.items start x at.state) c.in-Some.ensures.items at.at.path)
+
+ended_of : (c : In-Ended) → (state : State) × HasNumber c.args.flow.now c.loop-visit.self.finished c.loop-visit.self.table.entries.items c.resume.new.table.entries.items state c.in-Ended.best × StoredAt c.loop-visit.self.table.entries.items c.in-Some.visit.stored state
+ended_of c =
+    let at = c.loop-visit.invariant.at in
+    let last = last_of (goal.at.overflow_add-number c).In-Some in
+    let resumed : IsResumed c.args.flow.now c.loop-visit.self.table.entries.items c.in-Some.visit c.loop-visit.number (Ended c.in-Ended.best) c.resume.new.table.entries.items c.resume.new.current = rw c.in-Ended.is at c.in_ok-best.ensures.resumed in (
+      last.state,
+      visit_ends c.args.flow.now c.loop-visit.self.finished c.loop-visit.self.table.entries.items c.resume.new.table.entries.items c.in-Some.visit last.state at.state c.loop-visit.number c.in-Ended.best
+          at.at.fine last.waiting at.within at.most resumed,
+      last.waiting.stored,
+    )
+
+pub overflow_add-number : goal.overflow_add-number
+overflow_add-number c = let most = (ended_of c).1.most in omega (arith, most, c.requires.room, c.loop-visit.invariant.room)
+
+pub finish-requires : goal.finish-requires
+finish-requires c =
+    let ended = ended_of (goal.at.finish-requires c).In-Ended in
+    (ended.0, Keeps-at _ _ _ ended.0 ended.1.keeps ended.2)
+
+pub loop-visit-preserved : goal.loop-visit-preserved
+loop-visit-preserved c =
+    let at = c.loop-visit.invariant.at in
+    let last = last_of (goal.at.loop-visit-preserved c).In-Some in
+    let resumed : IsResumed c.args.flow.now c.loop-visit.self.table.entries.items c.in-Some.visit c.loop-visit.number (Ended c.in-Ended.best) c.resume.new.table.entries.items c.resume.new.current = rw c.in-Ended.is at c.in_ok-best.ensures.resumed in
+    let back = step_back c.args.flow.now c.loop-visit.self.finished c.loop-visit.self.table.entries.items c.resume.new.table.entries.items c.finish.new.self.entries.items start c.pop.new.self.items c.in-Some.visit at.state c.loop-visit.number c.in-Ended.best
+    at.at.fine last at.within at.most resumed c.finish.ensures in
+    record {
+      at = record { state = back.state; at = record { fine = back.fine; path = back.before }; within = back.within; some = omega arith; most = back.most };
+      room = omega (arith, c.in-Some.ensures.len);
+    }
+
+pub returns-in-Next-clause-goes : goal.returns-in-Next-clause-goes
+returns-in-Next-clause-goes c =
+    let at = c.loop-visit.invariant.at in
+    let last = last_of (goal.at.returns-in-Next-clause-goes c).In-Some in
+    let resumed : GoesOn c.args.flow.now c.loop-visit.self.table.entries.items c.in-Some.visit c.loop-visit.number c.in-Next.rest c.in-Next.at c.resume.new.table.entries.items c.resume.new.current = rw c.in-Next.is at c.in_ok-best.ensures.resumed in
+    let on = step_on c.args.flow.now c.loop-visit.self.finished c.loop-visit.self.table.entries.items c.resume.new.table.entries.items start c.pop.new.self.items c.in-Some.visit at.state c.loop-visit.number c.in-Next.rest c.in-Next.at c.resume.new.current c.push.new.self.items
+    at.at.fine last at.within at.most resumed c.in-Ok.ensures.items in
+    record { at = record { fine = on.fine; path = on.before }; stored_at = on.stored; ready = on.ready }
+
+pub returns-clause-goes : goal.returns-clause-goes
+returns-clause-goes c =
+    let at = c.loop-visit.invariant.at in
+    let same = Path-none c.args.flow.now c.loop-visit.self.finished c.loop-visit.self.table.entries.items c.loop-visit.self.path.items start at.state (omega (arith, c.in_default.ensures.cases.0, c.loop-visit.self.path.ok.0)) at.at.path in
+    (subst (λ x. Within c.args.flow.now x c.loop-visit.number) same at.within, at.some, at.most)

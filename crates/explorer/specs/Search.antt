@@ -1,0 +1,139 @@
+-- What a search knows: the numbers of the stored states, and the path.
+use Rattle.std.specs.Prelude.{◌≡◌, ℕ, ◌+◌, ◌<◌, ◌≤◌, ◌⊎◌, max, IsSome, List, [], ◌∷◌, ◌++◌, Option, Some, None, length}
+use Rattle.std.specs.List.{All}
+use Rattle.isa_model.specs.Instructions.{Program, fetch}
+use Rattle.isa_model.specs.States as Machine
+use Rattle.isa_model.specs.Steps.{step}
+use Rattle.isa_model.specs.Ends.{Ends, After}
+use Rattle.stack_state.specs.declared.states.State.{State}
+use Rattle.stack_state.specs.Meaning.{Means, Within, depth}
+use Rattle.stack_state.specs.Starts.{start}
+use Rattle.control_flow.specs.Flows.{IsJoin}
+use Rattle.explorer.specs.declared.refusals.Refusal.{Refusal}
+use Rattle.explorer.specs.declared.refusals.Refusal.TheVariants.{Flow, Step, Repeats, TooLong, Memory}
+use Rattle.explorer.specs.declared.table.Stored.{Stored}
+use Rattle.explorer.specs.declared.search.Visit.{Visit}
+use Rattle.explorer.specs.declared.search.Search.{Search}
+use Rattle.explorer.specs.declared.search.Arrival.{Arrival}
+use Rattle.explorer.specs.declared.search.Arrival.TheVariants.{Known, New}
+use Rattle.explorer.specs.declared.search.Turn.{Turn}
+use Rattle.explorer.specs.declared.search.Turn.TheVariants.{Explore, Done}
+use Rattle.explorer.specs.declared.search.Resumed.{Resumed}
+use Rattle.explorer.specs.declared.search.Resumed.TheVariants.{Next, Ended}
+use Rattle.explorer.specs.Table.{IsCovered, IsRepeated, StoredAt}
+
+-- ---- arriving at a state
+
+abbrev pub stored_too : List Stored → State → List Stored
+stored_too table s = table ++ record { state = s; number = 0 } ∷ []
+
+-- a state at a join has the number of one that covers it, or is stored; at other slots it is new
+abbrev pub Arrives : Program → List Stored → State → Arrival → List Stored → Type 0
+Arrives p old s (Known n) new = IsJoin p s.slot × IsCovered old s n × (new ≡ old)
+Arrives p old s (New None) new = (¬ IsJoin p s.slot) × (new ≡ old)
+Arrives p old s (New (Some k)) new = IsJoin p s.slot × (k ≡ length old) × (new ≡ stored_too old s)
+
+-- why a path is turned back at a state, and at which slot
+abbrev pub TurnsBack : Program → List Stored → State → Refusal → ℕ → Type 0
+TurnsBack p table s Repeats slot = IsJoin p s.slot × IsRepeated table s × (slot ≡ s.slot)
+TurnsBack p table s Memory slot = slot ≡ 0
+TurnsBack p table s e slot = ⊥
+
+-- ---- going on where a path waits
+
+-- nothing is pending
+pub record EndsAlone (old : List Stored) (visit : Visit) (number best : ℕ) (new : List Stored) : Type 0 where
+  pub nothing : visit.pending ≡ None
+  pub best_is : best ≡ max visit.best number
+  pub same : new ≡ old
+
+-- the pending state has a number at once
+pub record EndsCovered (p : Program) (old : List Stored) (visit : Visit) (number best : ℕ) (new : List Stored) : Type 0 where
+  pub other : State
+  pub known : ℕ
+  pub is_pending : visit.pending ≡ Some other
+  pub arrives : Arrives p old other (Known known) new
+  pub best_is : best ≡ max (max visit.best number) known
+
+-- the pending state is to be explored
+pub record GoesOn (p : Program) (old : List Stored) (visit : Visit) (number : ℕ) (rest : Visit) (at : Option ℕ) (new : List Stored) (current : State) : Type 0 where
+  pub is_pending : visit.pending ≡ Some current
+  pub arrives : Arrives p old current (New at) new
+  pub rest_is : rest ≡ record { pending = None; best = max visit.best number; stored = visit.stored }
+
+-- what becomes of a visit when the state that it waited for has its number
+abbrev pub IsResumed : Program → List Stored → Visit → ℕ → Resumed → List Stored → State → Type 0
+IsResumed p old visit number (Next rest at) new current = GoesOn p old visit number rest at new current
+IsResumed p old visit number (Ended best) new current = EndsAlone old visit number best new ⊎ EndsCovered p old visit number best new
+
+-- ---- what is known of the stored states and of the path
+
+-- the state of an entry with a number ends within it, and no number is above the count of finished instructions
+abbrev pub IsFine : Program → ℕ → Stored → Type 0
+IsFine p finished e = 0 < e.number → Within p e.state e.number × (e.number ≤ finished)
+
+unfoldable pub AllFine : Program → ℕ → List Stored → Type 0
+AllFine p finished table = All (IsFine p finished) table
+
+-- an instruction begins at the state's slot, in a frame
+pub record IsReady (p : Program) (s : State) : Type 0 where
+  pub begins : IsSome (fetch p s.slot)
+  pub called : 0 < depth s
+
+abbrev pub IfReady : Program → Option State → Type 0
+IfReady p None = Unit {0}
+IfReady p (Some s) = IsReady p s
+
+abbrev pub MeantBy : Program → Option State → Machine.State → Type 0
+MeantBy p None w = ⊥
+MeantBy p (Some s) w = Means p s w
+
+-- the step of each machine state that s stands for ends the run, or leads to the child, to what is pending, or to what ends in time
+unfoldable pub Waits : Program → Visit → State → State → Type 0
+Waits p visit s child = (clock : ℕ → ℕ) (w : Machine.State) → Means p s w
+    → After (λ v. Means p child v ⊎ (MeantBy p visit.pending v ⊎ Ends p clock v visit.best)) (step p clock w)
+
+-- a visit of a state that waits for another one
+pub record Waiting (p : Program) (finished : ℕ) (table : List Stored) (visit : Visit) (s child : State) : Type 0 where
+  pub waits : Waits p visit s child
+  pub best : visit.best ≤ finished
+  pub stored : StoredAt table visit.stored s
+  pub ready : IfReady p visit.pending
+
+-- the path leads from one state to another, with a visit for each instruction
+unfoldable pub Path : Program → ℕ → List Stored → State → List Visit → State → Type 0
+Path p finished table from [] to = to ≡ from
+Path p finished table from (visit ∷ path) to =
+    (child : State) × Waiting p finished table visit from child × Path p finished table child path to
+
+-- ---- the search
+
+-- the search is at the start, and nothing was explored
+pub record IsNew (search : Search) : Type 0 where
+  pub current : search.current ≡ start
+  pub table : search.table.entries.items ≡ []
+  pub path : search.path.items ≡ []
+  pub finished : search.finished ≡ 0
+
+-- the search is at this state
+pub record IsAt (p : Program) (search : Search) (s : State) : Type 0 where
+  pub fine : AllFine p search.finished search.table.entries.items
+  pub path : Path p search.finished search.table.entries.items start search.path.items s
+
+-- the search is at a state that ends within this number
+pub record HasEnded (p : Program) (search : Search) (n : ℕ) : Type 0 where
+  pub state : State
+  pub at : IsAt p search state
+  pub within : Within p state n
+  pub some : 0 < n
+  pub most : n ≤ search.finished
+
+-- the search is at its current state, which is stored there
+pub record Explores (p : Program) (search : Search) (stored : Option ℕ) : Type 0 where
+  pub at : IsAt p search search.current
+  pub stored_at : StoredAt search.table.entries.items stored search.current
+  pub ready : IsReady p search.current
+
+abbrev pub Goes : Program → Search → Turn → Type 0
+Goes p search (Explore stored) = Explores p search stored
+Goes p search (Done n) = Within p start n × (0 < n) × (n ≤ search.finished)

@@ -1,0 +1,275 @@
+//! The search through abstract states, depth first.
+
+ghost use Rattle.std.specs.Prelude.{◌≡◌, ◌≤◌, ◌+◌, ◌<◌, vec_len, IfOk, IfErr, OnErr};
+ghost use Rattle.stack_state.specs.Starts.{start};
+ghost use Rattle.stack_state.specs.Meaning.{Within};
+ghost use Rattle.image.specs.Images.{IsImage};
+ghost use Rattle.control_flow.specs.Flows.{IsFlow};
+ghost use Rattle.explorer.specs.Refused.{StopsAt};
+ghost use Rattle.explorer.specs.Search.{Arrives, TurnsBack, IsResumed, IsNew, HasEnded, Goes};
+
+use crate::kept::Kept;
+use crate::refusals::Refusal;
+use crate::table::Table;
+use control_flow::Flow;
+use image::Image;
+use stack_state::State;
+use std::alloc::{AllocError, Global};
+use transfer::{Ways, step_in_place};
+
+/// The most instructions that are explored.
+pub const LIMIT: u32 = 1_000_000;
+
+/// A refusal, and the slot at which it is given.
+pub type Refused = (Refusal, usize);
+
+/// The refusal for want of memory.
+const NO_MEMORY: Refused = (Refusal::Memory, 0);
+
+/// An instruction on the path, and what is still to be explored after it.
+#[derive(Drop)]
+pub struct Visit {
+    /// The state behind the taken jump, until it is explored.
+    pub pending: Option<Kept>,
+    /// The greatest number of the states behind it so far, 0 where there is none yet.
+    pub best: u32,
+    /// Where its own state is stored.
+    pub stored: Option<usize>,
+}
+
+/// What is known of a state on arrival: its number, or that it is to be explored and where it is stored.
+#[derive(Clone, Copy, Drop)]
+pub enum Arrival {
+    Known(u32),
+    New(Option<usize>),
+}
+
+/// What comes next: the current state is to be explored, or the start has its number.
+#[derive(Clone, Copy, Drop)]
+pub enum Turn {
+    Explore(Option<usize>),
+    Done(u32),
+}
+
+/// What becomes of a visit when the state that it waited for has its number.
+#[derive(Drop)]
+pub enum Resumed {
+    /// The pending state is to be explored.
+    Next(Visit, Option<usize>),
+    /// All is explored, and this is the greatest number behind it.
+    Ended(u32),
+}
+
+/// A search: the path from the start to the current state, and the states that were stored.
+#[derive(Drop)]
+pub struct Search {
+    pub table: Table,
+    pub path: Vec<Visit>,
+    /// How many instructions have their number.
+    pub finished: u32,
+    pub current: State,
+    /// A state for passing use.
+    pub scratch: State,
+}
+
+/// A path comes to a state.
+pub fn arrive(
+    alloc: Global,
+    flow: &Flow<'_>,
+    table: &mut Table,
+    state: &State,
+    scratch: &mut State,
+) -> Result<Arrival, Refused>
+    ensures arrives { IfOk result (λ a. Arrives flow.now table.old.entries.items state.now a table.new.entries.items) }
+    ensures refused { IfErr result (λ r. TurnsBack flow.now table.old.entries.items state.now r.0 r.1) }
+    ensures stops { IfErr result (λ r. StopsAt flow.now r.0 r.1) }
+    ensures err { OnErr result (table.new.entries.items ≡ table.old.entries.items) }
+{
+    if !flow.is_join(state.slot) {
+        return Ok(Arrival::New(None));
+    }
+    if let Some(number) = table.number_of(state, scratch) {
+        return Ok(Arrival::Known(number));
+    }
+    if table.repeats(state, scratch) {
+        return Err((Refusal::Repeats, state.slot));
+    }
+    match table.store(alloc, state) {
+        Ok(index) => Ok(Arrival::New(Some(index))),
+        Err(_) => Err(NO_MEMORY),
+    }
+}
+
+/// The state that a visit waited for has this number.
+fn resume(
+    alloc: Global,
+    flow: &Flow<'_>,
+    table: &mut Table,
+    current: &mut State,
+    scratch: &mut State,
+    visit: Visit,
+    number: u32,
+) -> Result<Resumed, Refused>
+    ensures resumed { IfOk result (λ r. IsResumed flow.now table.old.entries.items visit number r table.new.entries.items current.new) }
+    ensures stops { IfErr result (λ r. StopsAt flow.now r.0 r.1) }
+{
+    let Visit {
+        pending,
+        best,
+        stored,
+    } = visit;
+    let best = best.max(number);
+    let Some(other) = pending else {
+        return Ok(Resumed::Ended(best));
+    };
+    other.restore(current);
+    match arrive(alloc, flow, table, current, scratch)? {
+        Arrival::Known(known) => Ok(Resumed::Ended(best.max(known))),
+        Arrival::New(at) => {
+            let rest = Visit {
+                pending: None,
+                best,
+                stored,
+            };
+            Ok(Resumed::Next(rest, at))
+        }
+    }
+}
+
+impl Search {
+    /// A search at the start of code with so many slots.
+    pub fn new(alloc: Global, slots: usize) -> Result<Self, AllocError>
+        ensures { IfOk result (λ search. IsNew search) }
+    {
+        let table = Table::new(alloc, slots)?;
+        Ok(Search {
+            table,
+            path: Vec::new(alloc),
+            finished: 0,
+            current: State::start(),
+            scratch: State::start(),
+        })
+    }
+
+    /// The search is at a state with this number: goes back along the path to what comes next.
+    fn unwind(&mut self, alloc: Global, flow: &Flow<'_>, ended: u32) -> Result<Turn, Refused>
+        requires at { HasEnded flow.now self.old ended }
+        requires room { self.old.finished + vec_len self.old.path ≤ 1000000 }
+        ensures goes { IfOk result (λ turn. Goes flow.now self.new turn) }
+        ensures stops { IfErr result (λ r. StopsAt flow.now r.0 r.1) }
+        ensures room { self.new.finished + vec_len self.new.path ≤ self.old.finished + vec_len self.old.path }
+    {
+        let mut number = ended;
+        while let Some(visit) = self.path.pop() {
+            let stored = visit.stored;
+            match resume(
+                alloc,
+                flow,
+                &mut self.table,
+                &mut self.current,
+                &mut self.scratch,
+                visit,
+                number,
+            )? {
+                Resumed::Ended(best) => {
+                    number = best + 1;
+                    self.finished += 1;
+                    self.table.finish(stored, number);
+                }
+                Resumed::Next(rest, at) => {
+                    let Ok(()) = self.path.push(rest) else {
+                        return Err(NO_MEMORY);
+                    };
+                    return Ok(Turn::Explore(at));
+                }
+            }
+        }
+        Ok(Turn::Done(number))
+    }
+
+    /// Explores the instruction at the current state, which is stored there.
+    fn advance(
+        &mut self,
+        alloc: Global,
+        image: &Image,
+        flow: &Flow<'_>,
+        stored: Option<usize>,
+    ) -> Result<Turn, Refused>
+        requires image { flow.now ≡ image.now }
+        requires good { IsFlow flow.now }
+        requires at { Goes flow.now self.old (Turn.Explore stored) }
+        requires room { self.old.finished + vec_len self.old.path < 1000000 }
+        ensures goes { IfOk result (λ turn. Goes flow.now self.new turn) }
+        ensures stops { IfErr result (λ r. StopsAt flow.now r.0 r.1) }
+        ensures room { self.new.finished + vec_len self.new.path ≤ self.old.finished + vec_len self.old.path + 1 }
+    {
+        let slot = self.current.slot;
+        let ways = match step_in_place(image, &mut self.current, &mut self.scratch) {
+            Ok(ways) => ways,
+            Err(refusal) => return Err((Refusal::Step(refusal), slot)),
+        };
+        let pending = match ways {
+            Ways::None => {
+                self.finished += 1;
+                self.table.finish(stored, 1);
+                return self.unwind(alloc, flow, 1);
+            }
+            Ways::One => None,
+            Ways::Two => match Kept::of(alloc, &self.scratch) {
+                Ok(other) => Some(other),
+                Err(_) => return Err(NO_MEMORY),
+            },
+        };
+        let visit = Visit {
+            pending,
+            best: 0,
+            stored,
+        };
+        let Ok(()) = self.path.push(visit) else {
+            return Err(NO_MEMORY);
+        };
+        match arrive(
+            alloc,
+            flow,
+            &mut self.table,
+            &self.current,
+            &mut self.scratch,
+        )? {
+            Arrival::Known(number) => self.unwind(alloc, flow, number),
+            Arrival::New(at) => Ok(Turn::Explore(at)),
+        }
+    }
+
+    /// Explores all that the start leads to, and answers its number.
+    pub fn explore(&mut self, alloc: Global, image: &Image, flow: &Flow<'_>) -> Result<u32, Refused>
+        requires image { flow.now ≡ image.now }
+        requires whole { IsImage image.now }
+        requires good { IsFlow flow.now }
+        requires new { IsNew self.old }
+        ensures within { IfOk result (λ n. Within flow.now start n) }
+        ensures some { IfOk result (λ n. 0 < n) }
+        ensures most { IfOk result (λ n. n ≤ 1000000) }
+        ensures stops { IfErr result (λ r. StopsAt flow.now r.0 r.1) }
+    {
+        let mut turn = match arrive(
+            alloc,
+            flow,
+            &mut self.table,
+            &self.current,
+            &mut self.scratch,
+        )? {
+            Arrival::Known(number) => Turn::Done(number),
+            Arrival::New(stored) => Turn::Explore(stored),
+        };
+        for _explored in 0..LIMIT {
+            match turn {
+                Turn::Done(number) => return Ok(number),
+                Turn::Explore(stored) => turn = self.advance(alloc, image, flow, stored)?,
+            }
+        }
+        match turn {
+            Turn::Done(number) => Ok(number),
+            Turn::Explore(_) => Err((Refusal::TooLong, self.current.slot)),
+        }
+    }
+}

@@ -1,0 +1,121 @@
+//! The states that were met at joins.
+
+ghost use Rattle.std.specs.Prelude.{◌≡◌, ◌++◌, ◌∷◌, [], length, IsTrue, IfSome, IfOk, OnErr};
+ghost use Rattle.stack_state.specs.declared.states.State.{State as TheState};
+ghost use Rattle.explorer.specs.Table.{IsCovered, IsRepeated, StoredAt, IsNumbered};
+
+use crate::fingerprints::fingerprint_of;
+use crate::index::Index;
+use crate::kept::Kept;
+use stack_state::State;
+use state_cover::covers;
+use std::alloc::{AllocError, Global};
+
+/// A state that was met at a join, with its number: 0 until it is finished.
+#[derive(Drop)]
+pub struct Stored {
+    pub state: Kept,
+    pub number: u32,
+}
+
+/// The stored states, in the order in which they were met.
+#[derive(Drop)]
+pub struct Table {
+    pub entries: Vec<Stored>,
+    index: Index,
+}
+
+impl Table {
+    /// A table with no states, of code with so many slots.
+    pub fn new(alloc: Global, slots: usize) -> Result<Self, AllocError>
+        ensures { IfOk result (λ table. table.entries.items ≡ []) }
+    {
+        let index = Index::new(alloc, slots)?;
+        Ok(Table {
+            entries: Vec::new(alloc),
+            index,
+        })
+    }
+
+    /// The number of an entry that is finished and covers the state.
+    fn covering(&self, index: usize, state: &State, scratch: &mut State) -> Option<u32>
+        ensures { IfSome result (λ n. IsCovered self.now.entries.items state.now n) }
+    {
+        let entry = self.entries.get(index)?;
+        if entry.number == 0 || !entry.state.may_cover(state) {
+            return None;
+        }
+        entry.state.restore(scratch);
+        if !covers(scratch, state) {
+            return None;
+        }
+        Some(entry.number)
+    }
+
+    /// The number of the first finished state that covers this one.
+    pub fn number_of(&self, state: &State, scratch: &mut State) -> Option<u32>
+        ensures { IfSome result (λ n. IsCovered self.now.entries.items state.now n) }
+    {
+        for index in self.index.finished_at(state.slot) {
+            if let Some(number) = self.covering(index, state, scratch) {
+                return Some(number);
+            }
+        }
+        None
+    }
+
+    /// Whether an entry is unfinished and equal to the state.
+    fn is_equal(&self, index: usize, state: &State, scratch: &mut State) -> bool
+        ensures { IsTrue result → IsRepeated self.now.entries.items state.now }
+    {
+        let Some(entry) = self.entries.get(index) else {
+            return false;
+        };
+        if entry.number != 0 {
+            return false;
+        }
+        entry.state.restore(scratch);
+        if !covers(scratch, state) {
+            return false;
+        }
+        covers(state, scratch)
+    }
+
+    /// Whether an unfinished state is equal to this one: each covers the other.
+    pub fn repeats(&self, state: &State, scratch: &mut State) -> bool
+        ensures { IsTrue result → IsRepeated self.now.entries.items state.now }
+    {
+        let fingerprint = fingerprint_of(state);
+        for index in self.index.unfinished_like(fingerprint) {
+            if self.index.is_like(index, fingerprint) && self.is_equal(index, state, scratch) {
+                return true;
+            }
+        }
+        false
+    }
+
+    /// Stores a state, and answers its place.
+    pub fn store(&mut self, alloc: Global, state: &State) -> Result<usize, AllocError>
+        ensures place { IfOk result (λ k. k ≡ length self.old.entries.items) }
+        ensures stored { IfOk result (λ _. self.new.entries.items ≡ self.old.entries.items ++ record { state = state.now; number = 0 } ∷ []) }
+        ensures err { OnErr result (self.new.entries.items ≡ self.old.entries.items) }
+    {
+        let index = self.entries.len();
+        self.index.add(state.slot, fingerprint_of(state))?;
+        let state = Kept::of(alloc, state)?;
+        self.entries.push(Stored { state, number: 0 })?;
+        Ok(index)
+    }
+
+    /// Gives a state that was stored its number.
+    pub fn finish(&mut self, stored: Option<usize>, number: u32)
+        requires { (s : TheState) × StoredAt self.old.entries.items stored s }
+        ensures { IsNumbered self.old.entries.items stored number self.new.entries.items }
+    {
+        if let Some(index) = stored {
+            let entry = &mut self.entries[index];
+            entry.number = number;
+            self.index.finish(index);
+        }
+    }
+}
