@@ -3,7 +3,8 @@ ghost use Rattle.std.specs.Prelude.{◌≡◌, ◌≤◌, Some, IfOk};
 
 use super::engine::run_frames;
 use super::runners::Runner;
-use super::{HostError, Tally, run_checked};
+use super::{HostError, Tally, run, run_checked};
+use explorer::verify;
 use image::Image;
 use isa_model::{End, Fault, FrameHead, TrapReason};
 use std::alloc::Global;
@@ -333,5 +334,36 @@ fn checked(rt: HostRuntime) -> Result<(), Fail> {
         report.taken.as_slice(),
         b"0 TRAP exit 0 1\nend 1\n".as_slice()
     );
+    Ok(())
+}
+
+// A verified program is run as a checked one, and writes the same; where an output fails, the other gets nothing more.
+#[test]
+fn verified(rt: HostRuntime) -> Result<(), Fail> {
+    // r0 = 2; exit
+    let bytes = b"XBP1\0\0\x02\0\xb7\0\0\0\x02\0\0\0\x95\0\0\0\0\0\0\0";
+    let program = verify(rt.alloc(), Image::parse(rt.alloc(), bytes)?)?;
+    let mut report = make_writer(rt.alloc(), 0, None);
+    let mut out = make_writer(rt.alloc(), 0, None);
+    let tally = run(rt.alloc(), program, TWO.as_slice(), &mut report, &mut out)?;
+    assert_eq!(rt;
+        tally,
+        Tally {
+            frames: 2,
+            fault: None
+        }
+    );
+    assert_eq!(rt;
+        report.taken.as_slice(),
+        b"0 PASS 0 2\n1 PASS 0 2\nend 2\n".as_slice()
+    );
+    assert_eq!(rt; out.taken.as_slice(), TWO.as_slice());
+    let program = verify(rt.alloc(), Image::parse(rt.alloc(), bytes)?)?;
+    let mut report = make_writer(rt.alloc(), 3, Some(Stumble::Nothing));
+    let mut out = make_writer(rt.alloc(), 0, None);
+    let failed = run(rt.alloc(), program, TWO.as_slice(), &mut report, &mut out);
+    assert_eq!(rt; failed, Err(HostError::Report));
+    assert_eq!(rt; report.taken.as_slice(), b"0 P".as_slice());
+    assert_eq!(rt; out.taken.as_slice(), b"XPF1".as_slice());
     Ok(())
 }

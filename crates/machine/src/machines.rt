@@ -42,10 +42,16 @@ impl Model for Machine {
     ghost Value = { Running };
 
     ghost view = { λ machine. record {
-        program = machine.checked.program; bound = machine.bound; contents = machine.checked.contents } };
+      program = machine.checked.program;
+      bound = machine.bound;
+      contents = machine.checked.contents;
+    } };
 
     ghost invariant = { λ machine. IsRunning (record {
-        program = machine.checked.program; bound = machine.bound; contents = machine.checked.contents }) };
+      program = machine.checked.program;
+      bound = machine.bound;
+      contents = machine.checked.contents;
+    }) };
 }
 
 // What their types say of a head and of a packet.
@@ -63,8 +69,10 @@ impl Machine {
     /// Makes all room that runs fill.
     pub fn new(alloc: Global, verified: Verified) -> Result<Self, VmError>
         ensures { IfOk result (λ machine. machine ≡ record {
-            program = verified.program; bound = verified.bound;
-            contents = starting_contents verified.program.maps }) }
+          program = verified.program;
+          bound = verified.bound;
+          contents = starting_contents verified.program.maps;
+        }) }
     {
         let bound = verified.bound();
         let image = verified.into_image();
