@@ -7,7 +7,7 @@ use Rattle.isa_model.specs.declared.map_defs.MapKind.{MapKind}
 use Rattle.isa_model.specs.declared.map_defs.MapKind.TheVariants.{Hash, Array}
 use Rattle.isa_model.specs.declared.map_defs.MapDef.{MapDef}
 use Rattle.isa_model.specs.declared.instructions.Insn.{Insn}
-use Rattle.isa_model.specs.Instructions.{Program, slots_of}
+use Rattle.isa_model.specs.Instructions.{Program, slots, slots_of}
 use Rattle.isa_model.specs.Spelling.{spelling_of, InsnFits}
 use Rattle.image.specs.declared.head.TheConstants.{MAX_MAPS, MAX_SLOTS}
 
@@ -79,3 +79,7 @@ pub record IsImage (p : Program) : Type 0 where
   pub some_slots : 1 ≤ length p.insns
   pub few_slots : length p.insns ≤ MAX_SLOTS
   pub code : IsCode false p.insns
+
+-- the program of these instructions, without map rows
+abbrev pub code_alone : List Insn → Program
+code_alone insns = record { insns = slots insns; maps = [] }

@@ -2,3 +2,4 @@ pub mod Images
 pub mod Refusals
 pub mod ImageLaws
 pub mod Programs
+pub mod CodeLaws

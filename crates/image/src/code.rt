@@ -1,17 +1,18 @@
 //! The code of an image: its instructions by slot.
 
-ghost use Rattle.std.specs.Prelude.{◌≡◌, ◌/◌, false, length, OnOk, OnErr};
+ghost use Rattle.std.specs.Prelude.{◌≡◌, ◌/◌, false, length, IfOk, OnOk, OnErr};
 ghost use Rattle.std.specs.Io.KnownBytes.{Appends};
-ghost use Rattle.isa_model.specs.Spelling.{spelling_of};
+ghost use Rattle.isa_model.specs.Instructions.{slots};
+ghost use Rattle.isa_model.specs.Spelling.{spelling_of, InsnFits};
 ghost use Rattle.exact_io.specs.Transfers.{AppendsBeginning};
-ghost use Rattle.image.specs.Images.{code_bytes};
+ghost use Rattle.image.specs.Images.{code_bytes, IsCode};
 ghost use Rattle.image.specs.Refusals.{Gives, insn_at, code_from};
 
 use crate::errors::ImageError;
 use exact_io::write_bytes;
 use insn_codec::{decode, encode};
-use isa_model::Insn;
-use std::alloc::Global;
+use isa_model::{Insn, Operand, Place};
+use std::alloc::{AllocError, Global};
 use std::io;
 use std::io::Write;
 
@@ -25,7 +26,41 @@ fn insn_at(slot: usize, bytes: &[u8]) -> Result<Insn, ImageError>
     }
 }
 
+// The numbers in an instruction are of their types.
+fn numbers_fit(insn: Insn)
+    ensures { InsnFits insn }
+{
+    match insn {
+        Insn::Alu(_, _, _, Operand::Constant(_)) => {}
+        Insn::LoadNumber(_, _) => {}
+        Insn::StoreConstant(_, Place { base: _, offset: _ }, _) => {}
+        Insn::Load(_, _, Place { base: _, offset: _ })
+        | Insn::LoadSx(_, _, Place { base: _, offset: _ })
+        | Insn::Store(_, Place { base: _, offset: _ }, _)
+        | Insn::Atomic(_, _, _, Place { base: _, offset: _ }, _)
+        | Insn::Exchange(_, Place { base: _, offset: _ }, _)
+        | Insn::CompareExchange(_, Place { base: _, offset: _ }, _) => {}
+        _ => {}
+    }
+}
+
 /// The instructions by slot, with none at second halves.
+pub fn by_slot(alloc: Global, insns: &[Insn]) -> Result<Vec<Option<Insn>>, AllocError>
+    ensures slots { IfOk result (λ v. v.items ≡ slots insns.now) }
+    ensures code { IfOk result (λ v. IsCode false v.items) }
+{
+    let mut code = Vec::new(alloc);
+    for insn in insns {
+        numbers_fit(*insn);
+        code.push(Some(*insn))?;
+        if insn.slots() == 2 {
+            code.push(None)?;
+        }
+    }
+    Ok(code)
+}
+
+/// The instructions that bytes spell, by slot, with none at second halves.
 pub fn code_of(alloc: Global, bytes: &[u8]) -> Result<Vec<Option<Insn>>, ImageError>
     ensures { Gives (λ v. v.items) result (code_from (length bytes.now / 8) false 0 bytes.now) }
 {

@@ -3,7 +3,7 @@
 ghost use Rattle.std.specs.Prelude.{◌≡◌, ◌++◌};
 ghost use Rattle.byteorder.specs.Endian.{little_bytes};
 ghost use Rattle.image.specs.Images.{magic};
-ghost use Rattle.image.specs.Refusals.{size_refusal};
+ghost use Rattle.image.specs.Refusals.{count_refusal, size_refusal};
 
 use crate::errors::ImageError;
 use byteorder::{ByteOrder, LittleEndian};
@@ -40,6 +40,17 @@ pub fn size_refusal(bytes: &[u8]) -> Option<ImageError>
         return Some(ImageError::Long);
     }
     None
+}
+
+/// What is wrong with so many slots.
+pub fn count_refusal(slots: usize) -> Option<ImageError>
+    ensures { result ≡ count_refusal slots }
+{
+    if slots == 0 || slots > usize::from(MAX_SLOTS) {
+        Some(ImageError::SlotCount)
+    } else {
+        None
+    }
 }
 
 /// The head of an image with so many map rows and slots.

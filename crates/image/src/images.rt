@@ -3,14 +3,14 @@
 ghost use Rattle.std.specs.Prelude.{◌≡◌, ◌⊎◌, None, Some, length, IfOk, MatchResult, OnOk, OnErr};
 ghost use Rattle.std.specs.Option.{option_copied};
 ghost use Rattle.std.specs.Io.KnownBytes.{Appends};
-ghost use Rattle.isa_model.specs.Instructions.{Program, fetch};
+ghost use Rattle.isa_model.specs.Instructions.{Program, fetch, slots};
 ghost use Rattle.exact_io.specs.Transfers.{AppendsBeginning};
-ghost use Rattle.image.specs.Images.{IsImage, image_bytes};
-ghost use Rattle.image.specs.Refusals.{refusal_of};
+ghost use Rattle.image.specs.Images.{IsImage, image_bytes, code_alone};
+ghost use Rattle.image.specs.Refusals.{refusal_of, count_refusal};
 
-use crate::code::{code_of, write_code};
+use crate::code::{by_slot, code_of, write_code};
 use crate::errors::ImageError;
-use crate::head::{head_of, size_refusal};
+use crate::head::{count_refusal, head_of, size_refusal};
 use exact_io::write_bytes;
 use insn_codec::decoding_laws;
 use isa_model::{Insn, MapDef};
@@ -54,6 +54,26 @@ impl Image {
             return Err(error);
         }
         let slots = code_of(alloc, &bytes[8..])?;
+        Ok(Image {
+            maps: Vec::new(alloc),
+            slots,
+        })
+    }
+
+    /// The image of these instructions, without map rows.
+    ///
+    /// Jump targets are not tested.
+    pub fn of(alloc: Global, insns: &[Insn]) -> Result<Self, ImageError>
+        ensures found { IfOk result (λ image. image ≡ code_alone insns.now) }
+        ensures fits { IfOk result IsImage }
+
+        // The only refusals are that there are no slots or too many, and want of memory.
+        ensures refused { MatchResult result (λ _. count_refusal (length (slots insns.now)) ≡ None) (λ e. (e ≡ ImageError.Memory) ⊎ (count_refusal (length (slots insns.now)) ≡ Some e)) }
+    {
+        let slots = by_slot(alloc, insns)?;
+        if let Some(error) = count_refusal(slots.len()) {
+            return Err(error);
+        }
         Ok(Image {
             maps: Vec::new(alloc),
             slots,

@@ -1,0 +1,7 @@
+use Rattle.std.proofs.Common.{◌≡◌, take, false}
+use Rattle.isa_model.specs.Instructions.{slots}
+use Rattle.image.specs.Images.{IsCode}
+use Rattle.image.proofs.code.by_slot.Given as goal
+
+abbrev pub invariant-loop-insn : goal.invariant-loop-insn
+invariant-loop-insn l = record { all : l.code.items ≡ slots (take l.insn-index l.insns); code : IsCode false l.code.items }

@@ -1,0 +1,80 @@
+-- Instructions in a row, and their slots.
+use Rattle.std.proofs.Common.{◌≡◌, ◌≢◌, ℕ, ◌+◌, Bool, true, false, List, [], ◌∷◌, ◌++◌, length, Option, Some, None, refl, sym, ap, ◌∙◌, subst, arith, length-append}
+use Rattle.isa_model.specs.declared.instructions.Insn.{Insn}
+use Rattle.isa_model.specs.declared.instructions.Insn.TheVariants.{LoadNumber}
+use Rattle.isa_model.specs.Instructions.{slots, slots_of}
+use Rattle.isa_model.specs.Spelling.{InsnFits}
+use Rattle.isa_model.specs.CanonicalText.{instructions}
+use Rattle.image.specs.Images.{IsCode, is_wide}
+
+abbrev Slots : Type 0
+Slots = List (Option Insn)
+
+-- the numbers in instructions are of their types
+abbrev pub AllFit : List Insn → Type 0
+AllFit [] = Unit {0}
+AllFit (i ∷ is) = InsnFits i × AllFit is
+
+pub slots-append : (is js : List Insn) → slots (is ++ js) ≡ slots is ++ slots js
+slots-append [] js = refl
+slots-append (LoadNumber d n ∷ is) js = ap (λ (l : Slots). Some (LoadNumber d n) ∷ None ∷ l) (slots-append is js)
+slots-append (i ∷ is) js = ap (λ (l : Slots). Some i ∷ l) (slots-append is js)
+
+-- an instruction of two slots
+pub slots-two : (i : Insn) → slots_of i ≡ 2 → slots (i ∷ []) ≡ Some i ∷ None ∷ []
+slots-two (LoadNumber d n) h = refl
+slots-two i h = absurd (omega arith)
+
+-- and of one
+pub slots-one : (i : Insn) → slots_of i ≢ 2 → slots (i ∷ []) ≡ Some i ∷ []
+slots-one (LoadNumber d n) h = absurd (h refl)
+slots-one i h = refl
+
+pub length-slots : (i : Insn) → length (slots (i ∷ [])) ≡ slots_of i
+length-slots (LoadNumber d n) = refl
+length-slots i = refl
+
+-- one more instruction adds its slots
+pub length-slots-more : (is : List Insn) (i : Insn) → length (slots (is ++ i ∷ [])) ≡ length (slots is) + slots_of i
+length-slots-more is i = ap (λ (l : Slots). length l) (slots-append is (i ∷ [])) ∙ length-append (slots is) (slots (i ∷ [])) ∙ ap (λ n. length (slots is) + n) (length-slots i)
+
+pub IsCode-one : (i : Insn) → InsnFits i → IsCode false (slots (i ∷ []))
+IsCode-one (LoadNumber d n) h = (h, refl)
+IsCode-one i h = (h, refl)
+
+pub IsCode-append : (xs ys : List (Option Insn)) (half : Bool) → IsCode half xs → IsCode false ys → IsCode half (xs ++ ys)
+IsCode-append [] ys true h k = absurd cc
+IsCode-append [] ys false h k = k
+IsCode-append (None ∷ xs) ys true h k = IsCode-append xs ys false h k
+IsCode-append (Some i ∷ xs) ys true h k = absurd h
+IsCode-append (None ∷ xs) ys false h k = absurd h
+IsCode-append (Some i ∷ xs) ys false h k = (h.0, IsCode-append xs ys (is_wide i) h.1 k)
+
+-- where a second half comes first
+abbrev halves : Bool → List Insn → Slots
+halves true is = None ∷ slots is
+halves false is = slots is
+
+front : (i : Insn) (is : List Insn) → slots (i ∷ is) ≡ Some i ∷ halves (is_wide i) is
+front (LoadNumber d n) is = refl
+front i is = refl
+
+halves-instructions : (xs : List (Option Insn)) (half : Bool) → IsCode half xs → halves half (instructions xs) ≡ xs
+halves-instructions [] true h = absurd cc
+halves-instructions [] false h = refl
+halves-instructions (None ∷ xs) true h = ap (λ (l : Slots). None ∷ l) (halves-instructions xs false h)
+halves-instructions (Some i ∷ xs) true h = absurd h
+halves-instructions (None ∷ xs) false h = absurd h
+halves-instructions (Some i ∷ xs) false h = front i (instructions xs) ∙ ap (λ (l : Slots). Some i ∷ l) (halves-instructions xs (is_wide i) h.1)
+
+-- the slots of an image's instructions are its slots
+pub slots-instructions : (xs : List (Option Insn)) → IsCode false xs → slots (instructions xs) ≡ xs
+slots-instructions xs h = halves-instructions xs false h
+
+-- the numbers in code are of their types
+pub AllFit-instructions : (xs : List (Option Insn)) (half : Bool) → IsCode half xs → AllFit (instructions xs)
+AllFit-instructions [] half h = tt
+AllFit-instructions (None ∷ xs) true h = AllFit-instructions xs false h
+AllFit-instructions (Some i ∷ xs) true h = absurd h
+AllFit-instructions (None ∷ xs) false h = absurd h
+AllFit-instructions (Some i ∷ xs) false h = (h.0, AllFit-instructions xs (is_wide i) h.1)
