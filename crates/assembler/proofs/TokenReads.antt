@@ -1,0 +1,270 @@
+-- Tokens of canonical text are read.
+use Rattle.std.proofs.Common.{◌≡◌, ℕ, suc, ◌+◌, ◌<◌, ◌^◌, List, [], ◌∷◌, ◌++◌, length, refl, ap, ◌∙◌, arith, append_assoc, lit<, ne_eqb}
+use Rattle.std.specs.Prelude.{codes, Option, Some, None, Bool, true, false, slice_index, ◌==◌, decimal, ℤ, pos, negsuc}
+use Rattle.std.specs.Int.{w16, w32}
+use Rattle.std.specs.Int.RustNames.{FitsSigned}
+use Rattle.isa_model.specs.declared.registers.Reg.{Reg}
+use Rattle.isa_model.specs.declared.registers.Reg.TheVariants.{R0, R1, R2, R3, R4, R5, R6, R7, R8, R9, R10}
+use Rattle.isa_model.specs.declared.sizes.Width.{Width}
+use Rattle.isa_model.specs.declared.sizes.Width.TheVariants.{Low32, Full64}
+use Rattle.isa_model.specs.declared.sizes.Size.{Size}
+use Rattle.isa_model.specs.declared.sizes.Size.TheVariants.{U8, U16, U32, U64}
+use Rattle.isa_model.specs.declared.sizes.Narrow.{Narrow}
+use Rattle.isa_model.specs.declared.sizes.Narrow.TheVariants.{S8, S16, S32}
+use Rattle.isa_model.specs.declared.sizes.Extension.{Extension}
+use Rattle.isa_model.specs.declared.sizes.Extension.TheVariants.{Low8, Low16, Full8, Full16, Full32}
+use Rattle.isa_model.specs.declared.sizes.Span.{Span}
+use Rattle.isa_model.specs.declared.sizes.Span.TheVariants.{B16, B32, B64}
+use Rattle.isa_model.specs.declared.sizes.ByteOrder.{ByteOrder}
+use Rattle.isa_model.specs.declared.sizes.ByteOrder.TheVariants.{Little, Big, Swap}
+use Rattle.isa_model.specs.declared.instructions.AluOp.{AluOp}
+use Rattle.isa_model.specs.declared.instructions.AluOp.TheVariants as op
+use Rattle.isa_model.specs.declared.instructions.AtomicOp.{AtomicOp}
+use Rattle.isa_model.specs.declared.instructions.AtomicOp.TheVariants as atomic
+use Rattle.isa_model.specs.declared.instructions.Comparison.{Comparison}
+use Rattle.isa_model.specs.declared.instructions.Comparison.TheVariants as comparison
+use Rattle.isa_model.specs.declared.instructions.Operand.{Operand}
+use Rattle.isa_model.specs.declared.instructions.Operand.TheVariants.{Constant, Register}
+use Rattle.isa_model.specs.declared.instructions.Place.{Place}
+use Rattle.isa_model.specs.declared.instructions.Insn.{Insn}
+use Rattle.isa_model.specs.Spelling.{OperandFits}
+use Rattle.isa_model.specs.CanonicalText.{reg_text, size_text, narrow_text, extension_text, span_text, order_text, width_text, op_text, comparison_text, atomic_text, fetch_text, operand_text, offset_text, distance_text}
+use Rattle.assembler.specs.declared.tokens.Word.TheVariants as word
+use Rattle.assembler.specs.declared.tokens.Sign.{Sign}
+use Rattle.assembler.specs.declared.tokens.Sign.TheVariants as sign
+use Rattle.assembler.specs.declared.tokens.Token.{Token}
+use Rattle.assembler.specs.declared.tokens.Token.TheVariants.{Named, Number, Signed}
+use Rattle.assembler.specs.declared.tokens.Lexeme.TheVariants.{Solid}
+use Rattle.assembler.specs.Lexing.{is_word_byte, lexeme_at}
+use Rattle.assembler.specs.Assembling.{Progress, assembled}
+use Rattle.assembler.proofs.Turns.{token}
+use Rattle.assembler.proofs.DigitRuns.{decimal-read, no-equals}
+
+-- the tokens of the statement so far, and the instructions before it
+abbrev pub draft : List Token → List Insn → Progress
+draft ts is = record { tokens = ts; insns = is }
+
+-- ---- registers, followed by a byte of no word
+
+reg-lexeme : (w : Width) (r : Reg) (c : ℕ) (rest : List ℕ) → is_word_byte c ≡ false → lexeme_at (reg_text w r ++ c ∷ rest) ≡ Some (Solid (Named (word.Register w r)), length (reg_text w r))
+reg-lexeme Low32 R0 c rest h = rw h refl
+reg-lexeme Low32 R1 c rest h = rw h refl
+reg-lexeme Low32 R2 c rest h = rw h refl
+reg-lexeme Low32 R3 c rest h = rw h refl
+reg-lexeme Low32 R4 c rest h = rw h refl
+reg-lexeme Low32 R5 c rest h = rw h refl
+reg-lexeme Low32 R6 c rest h = rw h refl
+reg-lexeme Low32 R7 c rest h = rw h refl
+reg-lexeme Low32 R8 c rest h = rw h refl
+reg-lexeme Low32 R9 c rest h = rw h refl
+reg-lexeme Low32 R10 c rest h = rw h refl
+reg-lexeme Full64 R0 c rest h = rw h refl
+reg-lexeme Full64 R1 c rest h = rw h refl
+reg-lexeme Full64 R2 c rest h = rw h refl
+reg-lexeme Full64 R3 c rest h = rw h refl
+reg-lexeme Full64 R4 c rest h = rw h refl
+reg-lexeme Full64 R5 c rest h = rw h refl
+reg-lexeme Full64 R6 c rest h = rw h refl
+reg-lexeme Full64 R7 c rest h = rw h refl
+reg-lexeme Full64 R8 c rest h = rw h refl
+reg-lexeme Full64 R9 c rest h = rw h refl
+reg-lexeme Full64 R10 c rest h = rw h refl
+
+some-letters : (w : Width) (r : Reg) → 0 < length (reg_text w r)
+some-letters Low32 r = omega arith
+some-letters Full64 r = omega arith
+
+pub reg-read : (w : Width) (r : Reg) (c : ℕ) (rest : List ℕ) (ts : List Token) (is : List Insn) → is_word_byte c ≡ false → assembled (reg_text w r ++ c ∷ rest) 0 (draft ts is) ≡ assembled (c ∷ rest) 0 (draft (ts ++ Named (word.Register w r) ∷ []) is)
+reg-read w r c rest ts is h = token (reg_text w r) (c ∷ rest) (Named (word.Register w r)) (draft ts is) (reg-lexeme w r c rest h) (some-letters w r)
+
+-- ---- other words
+
+pub size-read : (size : Size) (rest : List ℕ) (ts : List Token) (is : List Insn) → assembled (size_text size ++ 32 ∷ rest) 0 (draft ts is) ≡ assembled (32 ∷ rest) 0 (draft (ts ++ Named (word.Unsigned size) ∷ []) is)
+size-read U8 rest ts is = refl
+size-read U16 rest ts is = refl
+size-read U32 rest ts is = refl
+size-read U64 rest ts is = refl
+
+pub narrow-read : (size : Narrow) (rest : List ℕ) (ts : List Token) (is : List Insn) → assembled (narrow_text size ++ 32 ∷ rest) 0 (draft ts is) ≡ assembled (32 ∷ rest) 0 (draft (ts ++ Named (word.SignExtended size) ∷ []) is)
+narrow-read S8 rest ts is = refl
+narrow-read S16 rest ts is = refl
+narrow-read S32 rest ts is = refl
+
+-- the size that is extended
+abbrev pub extended_from : Extension → Narrow
+extended_from Low8 = S8
+extended_from Low16 = S16
+extended_from Full8 = S8
+extended_from Full16 = S16
+extended_from Full32 = S32
+
+pub extension-read : (e : Extension) (rest : List ℕ) (ts : List Token) (is : List Insn) → assembled (extension_text e ++ 41 ∷ rest) 0 (draft ts is) ≡ assembled (41 ∷ rest) 0 (draft (ts ++ Named (word.SignExtended (extended_from e)) ∷ []) is)
+extension-read Low8 rest ts is = refl
+extension-read Low16 rest ts is = refl
+extension-read Full8 rest ts is = refl
+extension-read Full16 rest ts is = refl
+extension-read Full32 rest ts is = refl
+
+pub swap-read : (order : ByteOrder) (span : Span) (rest : List ℕ) (ts : List Token) (is : List Insn) → assembled (order_text order ++ (span_text span ++ 32 ∷ rest)) 0 (draft ts is) ≡ assembled (32 ∷ rest) 0 (draft (ts ++ Named (word.Swapped order span) ∷ []) is)
+swap-read Little B16 rest ts is = refl
+swap-read Little B32 rest ts is = refl
+swap-read Little B64 rest ts is = refl
+swap-read Big B16 rest ts is = refl
+swap-read Big B32 rest ts is = refl
+swap-read Big B64 rest ts is = refl
+swap-read Swap B16 rest ts is = refl
+swap-read Swap B32 rest ts is = refl
+swap-read Swap B64 rest ts is = refl
+
+pub fetch-read : (o : AtomicOp) (w : Width) (rest : List ℕ) (ts : List Token) (is : List Insn) → assembled (fetch_text o ++ (width_text w ++ 40 ∷ rest)) 0 (draft ts is) ≡ assembled (40 ∷ rest) 0 (draft (ts ++ Named (word.Fetch o w) ∷ []) is)
+fetch-read atomic.Add Low32 rest ts is = refl
+fetch-read atomic.Add Full64 rest ts is = refl
+fetch-read atomic.Or Low32 rest ts is = refl
+fetch-read atomic.Or Full64 rest ts is = refl
+fetch-read atomic.And Low32 rest ts is = refl
+fetch-read atomic.And Full64 rest ts is = refl
+fetch-read atomic.Xor Low32 rest ts is = refl
+fetch-read atomic.Xor Full64 rest ts is = refl
+
+pub exchange-read : (w : Width) (rest : List ℕ) (ts : List Token) (is : List Insn) → assembled (codes "xchg_" ++ (width_text w ++ 40 ∷ rest)) 0 (draft ts is) ≡ assembled (40 ∷ rest) 0 (draft (ts ++ Named (word.Exchange w) ∷ []) is)
+exchange-read Low32 rest ts is = refl
+exchange-read Full64 rest ts is = refl
+
+pub compare-read : (w : Width) (rest : List ℕ) (ts : List Token) (is : List Insn) → assembled (codes "cmpxchg_" ++ (width_text w ++ 40 ∷ rest)) 0 (draft ts is) ≡ assembled (40 ∷ rest) 0 (draft (ts ++ Named (word.CompareExchange w) ∷ []) is)
+compare-read Low32 rest ts is = refl
+compare-read Full64 rest ts is = refl
+
+-- ---- signs
+
+abbrev pub op_sign : AluOp → Sign
+op_sign op.Mov = sign.Assign
+op_sign op.Add = sign.AddAssign
+op_sign op.Sub = sign.SubAssign
+op_sign op.Mul = sign.MulAssign
+op_sign op.Div = sign.DivAssign
+op_sign op.SignedDiv = sign.SignedDivAssign
+op_sign op.Or = sign.OrAssign
+op_sign op.And = sign.AndAssign
+op_sign op.Lsh = sign.LshAssign
+op_sign op.Rsh = sign.RshAssign
+op_sign op.Mod = sign.ModAssign
+op_sign op.SignedMod = sign.SignedModAssign
+op_sign op.Xor = sign.XorAssign
+op_sign op.Arsh = sign.ArshAssign
+
+pub op-read : (o : AluOp) (rest : List ℕ) (ts : List Token) (is : List Insn) → assembled (op_text o ++ 32 ∷ rest) 0 (draft ts is) ≡ assembled (32 ∷ rest) 0 (draft (ts ++ Signed (op_sign o) ∷ []) is)
+op-read op.Mov rest ts is = refl
+op-read op.Add rest ts is = refl
+op-read op.Sub rest ts is = refl
+op-read op.Mul rest ts is = refl
+op-read op.Div rest ts is = refl
+op-read op.SignedDiv rest ts is = refl
+op-read op.Or rest ts is = refl
+op-read op.And rest ts is = refl
+op-read op.Lsh rest ts is = refl
+op-read op.Rsh rest ts is = refl
+op-read op.Mod rest ts is = refl
+op-read op.SignedMod rest ts is = refl
+op-read op.Xor rest ts is = refl
+op-read op.Arsh rest ts is = refl
+
+abbrev pub atomic_sign : AtomicOp → Sign
+atomic_sign atomic.Add = sign.AddAssign
+atomic_sign atomic.Or = sign.OrAssign
+atomic_sign atomic.And = sign.AndAssign
+atomic_sign atomic.Xor = sign.XorAssign
+
+pub atomic-read : (o : AtomicOp) (rest : List ℕ) (ts : List Token) (is : List Insn) → assembled (atomic_text o ++ 32 ∷ rest) 0 (draft ts is) ≡ assembled (32 ∷ rest) 0 (draft (ts ++ Signed (atomic_sign o) ∷ []) is)
+atomic-read atomic.Add rest ts is = refl
+atomic-read atomic.Or rest ts is = refl
+atomic-read atomic.And rest ts is = refl
+atomic-read atomic.Xor rest ts is = refl
+
+abbrev pub comparison_sign : Comparison → Sign
+comparison_sign comparison.Equal = sign.Equal
+comparison_sign comparison.NotEqual = sign.NotEqual
+comparison_sign comparison.Greater = sign.Greater
+comparison_sign comparison.GreaterEqual = sign.GreaterEqual
+comparison_sign comparison.Less = sign.Less
+comparison_sign comparison.LessEqual = sign.LessEqual
+comparison_sign comparison.AnyBit = sign.Ampersand
+comparison_sign comparison.SignedGreater = sign.SignedGreater
+comparison_sign comparison.SignedGreaterEqual = sign.SignedGreaterEqual
+comparison_sign comparison.SignedLess = sign.SignedLess
+comparison_sign comparison.SignedLessEqual = sign.SignedLessEqual
+
+pub comparison-read : (c : Comparison) (rest : List ℕ) (ts : List Token) (is : List Insn) → assembled (comparison_text c ++ 32 ∷ rest) 0 (draft ts is) ≡ assembled (32 ∷ rest) 0 (draft (ts ++ Signed (comparison_sign c) ∷ []) is)
+comparison-read comparison.Equal rest ts is = refl
+comparison-read comparison.NotEqual rest ts is = refl
+comparison-read comparison.Greater rest ts is = refl
+comparison-read comparison.GreaterEqual rest ts is = refl
+comparison-read comparison.Less rest ts is = refl
+comparison-read comparison.LessEqual rest ts is = refl
+comparison-read comparison.AnyBit rest ts is = refl
+comparison-read comparison.SignedGreater rest ts is = refl
+comparison-read comparison.SignedGreaterEqual rest ts is = refl
+comparison-read comparison.SignedLess rest ts is = refl
+comparison-read comparison.SignedLessEqual rest ts is = refl
+
+-- a minus before a register
+pub negative-read : (w : Width) (r : Reg) (rest : List ℕ) (ts : List Token) (is : List Insn) → assembled (45 ∷ (reg_text w r ++ rest)) 0 (draft ts is) ≡ assembled (reg_text w r ++ rest) 0 (draft (ts ++ Signed sign.Minus ∷ []) is)
+negative-read Low32 r rest ts is = refl
+negative-read Full64 r rest ts is = refl
+
+-- ---- numbers with their signs
+
+abbrev pub signed_tokens : ℤ → List Token
+signed_tokens (pos n) = Signed sign.Plus ∷ Number n ∷ []
+signed_tokens (negsuc n) = Signed sign.Minus ∷ Number (suc n) ∷ []
+
+abbrev pub constant_tokens : ℤ → List Token
+constant_tokens (pos n) = Number n ∷ []
+constant_tokens (negsuc n) = Signed sign.Minus ∷ Number (suc n) ∷ []
+
+abbrev pub operand_tokens : Width → Operand → List Token
+operand_tokens w (Register r) = Named (word.Register w r) ∷ []
+operand_tokens w (Constant k) = constant_tokens k
+
+abbrev pub place_tokens : Place → List Token
+place_tokens p = Named (word.Register Full64 p.base) ∷ signed_tokens p.offset
+
+-- two tokens, one after the other
+two : (bs : List ℕ) (ts : List Token) (a b : Token) (is : List Insn) → assembled bs 0 (draft ((ts ++ a ∷ []) ++ b ∷ []) is) ≡ assembled bs 0 (draft (ts ++ a ∷ b ∷ []) is)
+two bs ts a b is = ap (λ us. assembled bs 0 (draft us is)) (append_assoc ts (a ∷ []) (b ∷ []))
+
+minus-one : (n c : ℕ) (rest : List ℕ) (ts : List Token) (is : List Insn) → n < 2 ^ 64 → c < 48 → assembled (45 ∷ (decimal n ++ c ∷ rest)) 0 (draft ts is) ≡ assembled (decimal n ++ c ∷ rest) 0 (draft (ts ++ Signed sign.Minus ∷ []) is)
+minus-one n c rest ts is small low = let t : (slice_index (decimal n ++ c ∷ rest) 0 == 61) ≡ false = no-equals n c rest small low in rw t refl
+
+plus-one : (n c : ℕ) (rest : List ℕ) (ts : List Token) (is : List Insn) → n < 2 ^ 64 → c < 48 → assembled (43 ∷ (decimal n ++ c ∷ rest)) 0 (draft ts is) ≡ assembled (decimal n ++ c ∷ rest) 0 (draft (ts ++ Signed sign.Plus ∷ []) is)
+plus-one n c rest ts is small low = let t : (slice_index (decimal n ++ c ∷ rest) 0 == 61) ≡ false = no-equals n c rest small low in rw t refl
+
+signed-number : (n c : ℕ) (t : Token) (rest : List ℕ) (ts : List Token) (is : List Insn) → n < 2 ^ 64 → c < 48 → assembled (decimal n ++ c ∷ rest) 0 (draft (ts ++ t ∷ []) is) ≡ assembled (c ∷ rest) 0 (draft (ts ++ t ∷ Number n ∷ []) is)
+signed-number n c t rest ts is small low = decimal-read n c rest (draft (ts ++ t ∷ []) is) small low ∙ two (c ∷ rest) ts t (Number n) is
+
+pub distance-read : (by : ℤ) (c : ℕ) (rest : List ℕ) (ts : List Token) (is : List Insn) → FitsSigned w32 by → c < 48 → assembled (distance_text by ++ c ∷ rest) 0 (draft ts is) ≡ assembled (c ∷ rest) 0 (draft (ts ++ signed_tokens by) is)
+distance-read (pos n) c rest ts is h low = plus-one n c rest ts is (omega (arith, h)) low ∙ signed-number n c (Signed sign.Plus) rest ts is (omega (arith, h)) low
+distance-read (negsuc n) c rest ts is h low = minus-one (suc n) c rest ts is (omega (arith, h)) low ∙ signed-number (suc n) c (Signed sign.Minus) rest ts is (omega (arith, h)) low
+
+pub near-read : (by : ℤ) (c : ℕ) (rest : List ℕ) (ts : List Token) (is : List Insn) → FitsSigned w16 by → c < 48 → assembled (distance_text by ++ c ∷ rest) 0 (draft ts is) ≡ assembled (c ∷ rest) 0 (draft (ts ++ signed_tokens by) is)
+near-read (pos n) c rest ts is h low = plus-one n c rest ts is (omega (arith, h)) low ∙ signed-number n c (Signed sign.Plus) rest ts is (omega (arith, h)) low
+near-read (negsuc n) c rest ts is h low = minus-one (suc n) c rest ts is (omega (arith, h)) low ∙ signed-number (suc n) c (Signed sign.Minus) rest ts is (omega (arith, h)) low
+
+offset-read : (by : ℤ) (c : ℕ) (rest : List ℕ) (ts : List Token) (is : List Insn) → FitsSigned w16 by → c < 48 → assembled (offset_text by ++ c ∷ rest) 0 (draft ts is) ≡ assembled (c ∷ rest) 0 (draft (ts ++ signed_tokens by) is)
+offset-read (pos n) c rest ts is h low = signed-number n c (Signed sign.Plus) rest ts is (omega (arith, h)) low
+offset-read (negsuc n) c rest ts is h low = signed-number (suc n) c (Signed sign.Minus) rest ts is (omega (arith, h)) low
+
+pub constant-read : (k : ℤ) (c : ℕ) (rest : List ℕ) (ts : List Token) (is : List Insn) → FitsSigned w32 k → c < 48 → assembled (operand_text Full64 (Constant k) ++ c ∷ rest) 0 (draft ts is) ≡ assembled (c ∷ rest) 0 (draft (ts ++ constant_tokens k) is)
+constant-read (pos n) c rest ts is h low = decimal-read n c rest (draft ts is) (omega (arith, h)) low
+constant-read (negsuc n) c rest ts is h low = minus-one (suc n) c rest ts is (omega (arith, h)) low ∙ signed-number (suc n) c (Signed sign.Minus) rest ts is (omega (arith, h)) low
+
+pub operand-read : (w : Width) (x : Operand) (c : ℕ) (rest : List ℕ) (ts : List Token) (is : List Insn) → OperandFits x → c < 48 → is_word_byte c ≡ false → assembled (operand_text w x ++ c ∷ rest) 0 (draft ts is) ≡ assembled (c ∷ rest) 0 (draft (ts ++ operand_tokens w x) is)
+operand-read w (Register r) c rest ts is h low e = reg-read w r c rest ts is e
+operand-read w (Constant k) c rest ts is h low e = constant-read k c rest ts is h low
+
+-- a base and an offset
+pub place-read : (p : Place) (c : ℕ) (rest : List ℕ) (ts : List Token) (is : List Insn) → FitsSigned w16 p.offset → c < 48 → assembled (reg_text Full64 p.base ++ 32 ∷ (offset_text p.offset ++ c ∷ rest)) 0 (draft ts is) ≡ assembled (c ∷ rest) 0 (draft (ts ++ place_tokens p) is)
+place-read p c rest ts is h low =
+    let base : Token = Named (word.Register Full64 p.base) in
+    reg-read Full64 p.base 32 (offset_text p.offset ++ c ∷ rest) ts is refl
+    ∙ offset-read p.offset c rest (ts ++ base ∷ []) is h low
+    ∙ ap (λ us. assembled (c ∷ rest) 0 (draft us is)) (append_assoc ts (base ∷ []) (signed_tokens p.offset))

@@ -1,0 +1,111 @@
+//! Images from texts.
+
+ghost use Rattle.std.specs.Prelude.{◌≡◌, ◌-◌, ◌<◌, [], length, drop, Some, MatchResult};
+ghost use Rattle.isa_model.specs.Instructions.{Program};
+ghost use Rattle.isa_model.specs.CanonicalText.{canonical_text};
+ghost use Rattle.image.specs.Images.{IsImage, code_alone};
+ghost use Rattle.assembler.specs.declared.errors.AsmErrorKind.TheVariants as AsmErrorKind;
+ghost use Rattle.assembler.specs.Assembling.{Progress, assembled, start, Makes};
+ghost use Rattle.assembler.specs.Drafts.{Finishes};
+
+use super::code::Code;
+use super::draft::{Draft, Span};
+use super::errors::{AsmError, AsmErrorKind};
+use super::lexer::lexeme_at;
+use super::names::resolve;
+use super::refusals::{Refusal, located};
+use image::{Image, ImageError};
+use std::alloc::Global;
+
+// What stands behind so many bytes, and at least one.
+fn after(bytes: &[u8], count: usize) -> &[u8]
+    requires { 0 < length bytes.now }
+    ensures value { result.now ≡ drop (count - 1) (drop 1 bytes.now) }
+    ensures less { length result.now < length bytes.now }
+{
+    let tail = &bytes[1..];
+    let more = count.saturating_sub(1);
+    if more <= tail.len() {
+        &tail[more..]
+    } else {
+        &[]
+    }
+}
+
+// Reads the whole text.
+fn read<'a>(alloc: Global, text: &'a [u8]) -> Result<Draft<'a>, Refusal>
+    ensures { (final : Progress) → assembled text.now 0 start ≡ Some final → Finishes result final.insns }
+{
+    let mut draft = Draft::new(alloc);
+    let mut rest = text;
+    while !rest.is_empty() {
+        let offset = text.len().saturating_sub(rest.len());
+        let (lexeme, len) = match lexeme_at(rest) {
+            Ok(found) => found,
+            Err(at) => {
+                return Err(Refusal {
+                    kind: AsmErrorKind::UnknownByte,
+                    offset: offset.saturating_add(at),
+                });
+            }
+        };
+        let bytes = &rest[..len.min(rest.len())];
+        match draft.accept(lexeme, Span { offset, bytes }) {
+            Ok(()) => {}
+            Err(refusal) => return Err(refusal),
+        }
+        rest = after(rest, len);
+    }
+    match draft.close() {
+        Ok(()) => Ok(draft),
+        Err(refusal) => Err(refusal),
+    }
+}
+
+// The image of a text that was read.
+fn finish(alloc: Global, draft: Draft<'_>) -> Result<Image, Refusal>
+    ensures { draft.entry.uses.items ≡ [] → IsImage (code_alone draft.entry.code.insns.items) → Makes (λ image. image) result (code_alone draft.entry.code.insns.items) }
+{
+    let Draft {
+        tokens: _,
+        spans: _,
+        code,
+        labels,
+        uses,
+    } = draft;
+    let mut insns = code.into_insns();
+    resolve(&mut insns, &labels, &uses)?;
+    match Image::of(alloc, &insns) {
+        Ok(image) => Ok(image),
+        Err(ImageError::SlotCount) => Err(Refusal {
+            kind: AsmErrorKind::SlotCount,
+            offset: 0,
+        }),
+        Err(_) => Err(Refusal {
+            kind: AsmErrorKind::Memory,
+            offset: 0,
+        }),
+    }
+}
+
+fn image_of(alloc: Global, text: &[u8]) -> Result<Image, Refusal>
+    ensures { (p : Program) → IsImage p → text.now ≡ canonical_text p → Makes (λ image. image) result p }
+{
+    match read(alloc, text) {
+        Ok(draft) => finish(alloc, draft),
+        Err(refusal) => Err(refusal),
+    }
+}
+
+/// The program that the text spells, without map rows. docs/TEXT.md describes the language.
+///
+/// Jump targets are not tested, those of names aside.
+pub fn assemble(alloc: Global, text: &[u8]) -> Result<Image, AsmError>
+    // The canonical text of an image gives that image, or memory is wanting.
+    ensures round_trip { (p : Program) → IsImage p → text.now ≡ canonical_text p → MatchResult result (λ image. image ≡ p) (λ e. e.kind ≡ AsmErrorKind.Memory) }
+{
+    match image_of(alloc, text) {
+        Ok(image) => Ok(image),
+        Err(refusal) => Err(located(text, refusal)),
+    }
+}

@@ -1,0 +1,63 @@
+//! Instructions in a row, and the slots that they fill.
+
+ghost use Rattle.std.specs.Prelude.{◌≡◌, ◌≤◌, ◌+◌, ◌++◌, ◌∷◌, [], length};
+ghost use Rattle.isa_model.specs.Instructions.{slots};
+
+use super::errors::AsmErrorKind;
+use image::MAX_SLOTS;
+use isa_model::Insn;
+use std::alloc::Global;
+
+/// The instructions so far, and how many slots they fill.
+#[derive(Drop)]
+pub struct Code {
+    pub insns: Vec<Insn>,
+    count: u16,
+    ghost counted: { count ≡ length (slots insns.items) },
+    ghost few: { count ≤ 4096 },
+}
+
+impl Code {
+    ghost use Rattle.assembler.specs.Assembling.{Pushed};
+
+    pub fn new(alloc: Global) -> Self
+        ensures { result.insns.items ≡ [] }
+    {
+        Code {
+            insns: Vec::new(alloc),
+            count: 0,
+        }
+    }
+
+    /// The slot of the next instruction.
+    pub fn next_slot(&self) -> u16
+        ensures { result ≡ length (slots self.now.insns.items) }
+    {
+        self.count
+    }
+
+    /// Adds an instruction, unless its slots are too many.
+    pub fn push(&mut self, insn: Insn) -> Result<(), AsmErrorKind>
+        ensures { Pushed result self.old.insns.items insn self.new.insns.items }
+    {
+        let count = self.count + insn.slots() as u16;
+        if count > MAX_SLOTS {
+            return Err(AsmErrorKind::SlotCount);
+        }
+        match self.insns.push(insn) {
+            Ok(()) => {
+                self.count = count;
+                Ok(())
+            }
+            Err(_) => Err(AsmErrorKind::Memory),
+        }
+    }
+
+    /// The instructions.
+    pub fn into_insns(self) -> Vec<Insn>
+        ensures { result.items ≡ self.insns.items }
+    {
+        let Code { insns, count: _ } = self;
+        insns
+    }
+}

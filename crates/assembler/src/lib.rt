@@ -1,0 +1,29 @@
+//! Programs from text.
+//!
+//! Bytes become tokens (`lexer`), the tokens of a statement an instruction (`statements`), and instructions with their
+//! names a program (`draft`, `assembly`). `specs/` has one definition for each step, and none of them knows names: where
+//! a text without names is read, each step does what its definition says.
+#![tactic(auto)]
+
+mod assembly;
+mod assignments;
+mod code;
+mod draft;
+pub mod errors;
+mod lexer;
+mod names;
+mod numbers;
+mod operands;
+mod parts;
+mod readings;
+mod refusals;
+mod signs;
+mod statements;
+#[cfg(test)]
+mod tests;
+mod tokens;
+mod words;
+mod wrong;
+
+pub use assembly::assemble;
+pub use errors::{AsmError, AsmErrorKind};

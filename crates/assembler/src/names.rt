@@ -1,0 +1,97 @@
+//! Names of places of the code: where they are defined, and where they are used.
+
+ghost use Rattle.std.specs.Prelude.{◌≡◌, ◌+◌, ◌-◌, ◌≤◌, [], length, Some, None, Ok, IfOk, IfSome, OnOk, bytes_eq, pos};
+ghost use Rattle.indexmap.specs.IndexMap.{get_by};
+ghost use Rattle.assembler.specs.Naming.{with_distance, distance, Jumps};
+
+use super::errors::AsmErrorKind;
+use super::refusals::Refusal;
+use indexmap::IndexMap;
+use isa_model::Insn;
+
+/// The names and the slot that each stands for, in the order of their definitions.
+pub type Labels<'a> = IndexMap<&'a [u8], u16>;
+
+/// An instruction that jumps to a name: where it stands, and where the name stands in the text.
+#[derive(Clone, Copy)]
+pub struct Use<'a> {
+    pub index: usize,
+    pub slot: u16,
+    pub name: &'a [u8],
+    pub offset: usize,
+}
+
+/// Defines a name, unless it is defined.
+pub fn define<'a>(labels: &mut Labels<'a>, name: &'a [u8], slot: u16) -> Result<(), AsmErrorKind>
+    ensures fresh { OnOk result (get_by (λ k. bytes_eq name.now k.now) labels.old ≡ None) }
+    ensures stands { OnOk result (get_by (λ k. bytes_eq name.now k.now) labels.new ≡ Some slot) }
+{
+    if labels.contains_key(name) {
+        return Err(AsmErrorKind::DefinedTwice);
+    }
+    match labels.insert(name, slot) {
+        Ok(_) => Ok(()),
+        Err(_) => Err(AsmErrorKind::Memory),
+    }
+}
+
+// How far it is to the slot from behind the one at `from`.
+fn distance(from: u16, to: u16) -> i32
+    ensures { result ≡ distance from to }
+{
+    i32::from(to) - (i32::from(from) + 1)
+}
+
+// The jump, over that distance.
+fn aimed(insn: Insn, by: i32) -> Option<Insn>
+    ensures { IfSome result (λ i. i ≡ with_distance insn by) }
+{
+    match insn {
+        Insn::Jump(_) => match i16::try_from(by) {
+            Ok(by) => Some(Insn::Jump(by)),
+            Err(_) => None,
+        },
+        Insn::JumpIf(cond, _) => match i16::try_from(by) {
+            Ok(by) => Some(Insn::JumpIf(cond, by)),
+            Err(_) => None,
+        },
+        Insn::JumpLong(_) => Some(Insn::JumpLong(by)),
+        Insn::CallLocal(_) => Some(Insn::CallLocal(by)),
+        _ => Some(insn),
+    }
+}
+
+// What the instruction at a use becomes.
+fn aim(labels: &Labels<'_>, used: &Use<'_>, insn: Insn) -> Result<Insn, AsmErrorKind>
+    ensures { IfOk result (λ i. Jumps (get_by (λ k. bytes_eq used.now.name.now k.now) labels.now) used.now.slot insn i) }
+{
+    let Some(to) = labels.get(used.name) else {
+        return Err(AsmErrorKind::NotDefined);
+    };
+    match aimed(insn, distance(used.slot, *to)) {
+        Some(insn) => Ok(insn),
+        None => Err(AsmErrorKind::TooFar),
+    }
+}
+
+/// Puts the distances of names into the instructions that use them.
+pub fn resolve(insns: &mut Vec<Insn>, labels: &Labels<'_>, uses: &[Use<'_>]) -> Result<(), Refusal>
+    ensures { uses.now ≡ [] → (result ≡ Ok tt) × (insns.new.items ≡ insns.old.items) }
+{
+    for used in uses {
+        let Some(insn) = insns.get_mut(used.index) else {
+            return Err(Refusal {
+                kind: AsmErrorKind::NotDefined,
+                offset: used.offset,
+            });
+        };
+        match aim(labels, used, *insn) {
+            Ok(aimed) => *insn = aimed,
+            Err(kind) => return Err(Refusal {
+                kind,
+                offset: used.offset,
+            }),
+        }
+    }
+    Ok(())
+}

@@ -1,0 +1,307 @@
+//! Numbers in their ranges, registers, operands, places and targets.
+
+ghost use Rattle.std.specs.Prelude.{◌≡◌, ◌+◌, ◌-◌, ◌<◌, ◌≤◌, ◌^◌, ◌==◌, if◌then◌else◌, IfOk};
+ghost use Rattle.std.specs.Result.{result_ok};
+ghost use Rattle.assembler.specs.Statements.{signed_within, wide_within, signed_at, number_index, constant_at, same_width, same_register, as_register, register_at, again_at, operand_token, operand_at, place_at, memory_at, argument_at, is_name, target_token, target_at};
+
+use super::parts::{expect_at, is_minus, number_at, sign_at, token_at, word_at};
+use super::tokens::{Sign, Token, Word};
+use super::wrong::Wrong;
+use isa_model::{Operand, Place, Reg, Width};
+
+// A number for `imm`; `at` is the token at which it begins.
+fn imm_within(minus: bool, n: u128, at: usize) -> Result<i32, Wrong>
+    ensures { result_ok result ≡ signed_within (2 ^ 31) minus n }
+{
+    if minus {
+        if n <= 1 << 31 {
+            Ok((-(n as i64)) as i32)
+        } else {
+            Err(Wrong::Range(at))
+        }
+    } else {
+        if n < 1 << 31 {
+            Ok(n as i32)
+        } else {
+            Err(Wrong::Range(at))
+        }
+    }
+}
+
+// A number for `offset`.
+fn offset_within(minus: bool, n: u128, at: usize) -> Result<i16, Wrong>
+    ensures { result_ok result ≡ signed_within (2 ^ 15) minus n }
+{
+    if minus {
+        if n <= 1 << 15 {
+            Ok((-(n as i64)) as i16)
+        } else {
+            Err(Wrong::Range(at))
+        }
+    } else {
+        if n < 1 << 15 {
+            Ok(n as i16)
+        } else {
+            Err(Wrong::Range(at))
+        }
+    }
+}
+
+// The number of a wide load that has a minus, by two's complement.
+fn negative_wide(n: u128) -> u64
+    requires { n ≤ 2 ^ 63 }
+    ensures { result ≡ if n == 0 then 0 else 2 ^ 64 - n }
+{
+    if n == 0 { 0 } else { ((1 << 64) - n) as u64 }
+}
+
+/// The number of a wide load.
+pub fn wide_within(minus: bool, n: u128, at: usize) -> Result<u64, Wrong>
+    ensures { result_ok result ≡ wide_within minus n }
+{
+    if minus {
+        if n <= 1 << 63 {
+            Ok(negative_wide(n))
+        } else {
+            Err(Wrong::Range(at))
+        }
+    } else {
+        if n < 1 << 64 {
+            Ok(n as u64)
+        } else {
+            Err(Wrong::Range(at))
+        }
+    }
+}
+
+/// A sign and a number for `imm`.
+pub fn signed_imm(tokens: &[Token], i: usize) -> Result<i32, Wrong>
+    requires { i < 16 }
+    ensures { result_ok result ≡ signed_at (2 ^ 31) tokens.now i }
+{
+    let minus = is_minus(sign_at(tokens, i)?)?;
+    imm_within(minus, number_at(tokens, i + 1)?, i)
+}
+
+/// A sign and a number for `offset`.
+pub fn signed_offset(tokens: &[Token], i: usize) -> Result<i16, Wrong>
+    requires { i < 16 }
+    ensures { result_ok result ≡ signed_at (2 ^ 15) tokens.now i }
+{
+    let minus = is_minus(sign_at(tokens, i)?)?;
+    offset_within(minus, number_at(tokens, i + 1)?, i)
+}
+
+// Whether a minus stands at this token, and where the number then stands.
+fn number_index(i: usize, token: Token) -> Result<(bool, usize), Wrong>
+    requires { i < 16 }
+    ensures index { result_ok result ≡ number_index i token }
+    ensures near { IfOk result (λ at. at.1 ≤ i + 1) }
+{
+    match token {
+        Token::Number(_) => Ok((false, i)),
+        Token::Signed(Sign::Minus) => Ok((true, i + 1)),
+        _ => Err(Wrong::Form),
+    }
+}
+
+/// A number for `imm` with a minus or without one, and the index behind it.
+pub fn constant_at(tokens: &[Token], i: usize) -> Result<(i32, usize), Wrong>
+    requires { i < 16 }
+    ensures value { result_ok result ≡ constant_at tokens.now i }
+    ensures near { IfOk result (λ k. k.1 ≤ i + 2) }
+{
+    let (minus, at) = number_index(i, token_at(tokens, i)?)?;
+    let number = imm_within(minus, number_at(tokens, at)?, i)?;
+    Ok((number, at + 1))
+}
+
+fn same_width(a: Width, b: Width) -> bool
+    ensures { result ≡ same_width a b }
+{
+    a.bits() == b.bits()
+}
+
+/// Whether they are one register.
+pub fn same_register(a: Reg, b: Reg) -> bool
+    ensures { result ≡ same_register a b }
+{
+    a.number() == b.number()
+}
+
+/// The register of that width that the word is.
+pub fn as_register(width: Width, word: Word) -> Result<Reg, Wrong>
+    ensures { result_ok result ≡ as_register width word }
+{
+    match word {
+        Word::Register(other, register) => {
+            if same_width(other, width) {
+                Ok(register)
+            } else {
+                Err(Wrong::Form)
+            }
+        }
+        _ => Err(Wrong::Form),
+    }
+}
+
+/// A register of that width.
+pub fn register_at(width: Width, tokens: &[Token], i: usize) -> Result<Reg, Wrong>
+    ensures { result_ok result ≡ register_at width tokens.now i }
+{
+    as_register(width, word_at(tokens, i)?)
+}
+
+/// That register, at that width.
+pub fn again_at(width: Width, register: Reg, tokens: &[Token], i: usize) -> Result<(), Wrong>
+    ensures { result_ok result ≡ again_at width register tokens.now i }
+{
+    if same_register(register_at(width, tokens, i)?, register) {
+        Ok(())
+    } else {
+        Err(Wrong::Form)
+    }
+}
+
+fn operand_token(
+    width: Width,
+    tokens: &[Token],
+    i: usize,
+    token: Token,
+) -> Result<(Operand, usize), Wrong>
+    requires { i < 8 }
+    ensures value { result_ok result ≡ operand_token width tokens.now i token }
+    ensures near { IfOk result (λ x. x.1 ≤ i + 2) }
+{
+    match token {
+        Token::Named(word) => Ok((Operand::Register(as_register(width, word)?), i + 1)),
+        _ => {
+            let (constant, end) = constant_at(tokens, i)?;
+            Ok((Operand::Constant(constant), end))
+        }
+    }
+}
+
+/// A register of that width or a number, and the index behind it.
+pub fn operand_at(width: Width, tokens: &[Token], i: usize) -> Result<(Operand, usize), Wrong>
+    requires { i < 8 }
+    ensures value { result_ok result ≡ operand_at width tokens.now i }
+    ensures near { IfOk result (λ x. x.1 ≤ i + 2) }
+{
+    operand_token(width, tokens, i, token_at(tokens, i)?)
+}
+
+// A base, and an offset behind its sign.
+fn place_at(tokens: &[Token], i: usize) -> Result<Place, Wrong>
+    requires { i < 12 }
+    ensures { result_ok result ≡ place_at tokens.now i }
+{
+    let base = register_at(Width::Full64, tokens, i)?;
+    let offset = signed_offset(tokens, i + 1)?;
+    Ok(Place { base, offset })
+}
+
+/// `*(size *)(place)`: ten tokens from that index on.
+pub fn memory_at(tokens: &[Token], i: usize) -> Result<(Word, Place), Wrong>
+    requires { i < 3 }
+    ensures { result_ok result ≡ memory_at tokens.now i }
+{
+    expect_at(tokens, i, Sign::Star)?;
+    expect_at(tokens, i + 1, Sign::Open)?;
+    let size = word_at(tokens, i + 2)?;
+    expect_at(tokens, i + 3, Sign::Star)?;
+    expect_at(tokens, i + 4, Sign::Close)?;
+    expect_at(tokens, i + 5, Sign::Open)?;
+    let place = place_at(tokens, i + 6)?;
+    expect_at(tokens, i + 9, Sign::Close)?;
+    Ok((size, place))
+}
+
+/// `(place,`: five tokens from that index on.
+pub fn argument_at(tokens: &[Token], i: usize) -> Result<Place, Wrong>
+    requires { i < 4 }
+    ensures { result_ok result ≡ argument_at tokens.now i }
+{
+    expect_at(tokens, i, Sign::Open)?;
+    let place = place_at(tokens, i + 1)?;
+    expect_at(tokens, i + 4, Sign::Comma)?;
+    Ok(place)
+}
+
+/// Whether the word may name a place of the code: all words but `pc` may.
+pub fn is_name(word: Word) -> bool
+    ensures { result ≡ is_name word }
+{
+    match word {
+        Word::Pc => false,
+        _ => true,
+    }
+}
+
+fn near_target_token(
+    tokens: &[Token],
+    i: usize,
+    token: Token,
+) -> Result<(i16, Option<usize>), Wrong>
+    requires { i < 8 }
+    ensures { result_ok result ≡ target_token (2 ^ 15) tokens.now i token }
+{
+    match token {
+        Token::Signed(_) => {
+            let by = signed_offset(tokens, i)?;
+            if tokens.len() == i + 2 {
+                Ok((by, None))
+            } else {
+                Err(Wrong::Form)
+            }
+        }
+        Token::Named(word) => {
+            if is_name(word) && tokens.len() == i + 1 {
+                Ok((0, Some(i)))
+            } else {
+                Err(Wrong::Form)
+            }
+        }
+        Token::Number(_) => Err(Wrong::Form),
+    }
+}
+
+/// The target of `goto` and `if`, up to the end: a distance, or 0 and where a name stands.
+pub fn near_target_at(tokens: &[Token], i: usize) -> Result<(i16, Option<usize>), Wrong>
+    requires { i < 8 }
+    ensures { result_ok result ≡ target_at (2 ^ 15) tokens.now i }
+{
+    near_target_token(tokens, i, token_at(tokens, i)?)
+}
+
+fn far_target_token(tokens: &[Token], i: usize, token: Token) -> Result<(i32, Option<usize>), Wrong>
+    requires { i < 8 }
+    ensures { result_ok result ≡ target_token (2 ^ 31) tokens.now i token }
+{
+    match token {
+        Token::Signed(_) => {
+            let by = signed_imm(tokens, i)?;
+            if tokens.len() == i + 2 {
+                Ok((by, None))
+            } else {
+                Err(Wrong::Form)
+            }
+        }
+        Token::Named(word) => {
+            if is_name(word) && tokens.len() == i + 1 {
+                Ok((0, Some(i)))
+            } else {
+                Err(Wrong::Form)
+            }
+        }
+        Token::Number(_) => Err(Wrong::Form),
+    }
+}
+
+/// The target of `gotol`, up to the end: a distance, or 0 and where a name stands.
+pub fn far_target_at(tokens: &[Token], i: usize) -> Result<(i32, Option<usize>), Wrong>
+    requires { i < 8 }
+    ensures { result_ok result ≡ target_at (2 ^ 31) tokens.now i }
+{
+    far_target_token(tokens, i, token_at(tokens, i)?)
+}

@@ -1,0 +1,196 @@
+//! Single tokens of a statement.
+
+ghost use Rattle.std.specs.Prelude.{◌≡◌, slice_get};
+ghost use Rattle.std.specs.Result.{result_ok};
+ghost use Rattle.assembler.specs.Statements.{sign_at, number_at, word_at, is_sign, expect_at, is_minus, op_of, atomic_op_of, comparison_of, width_of, extension_of, as_size, as_narrow, is_full};
+
+use super::tokens::{Sign, Token, Word};
+use super::wrong::Wrong;
+use isa_model::{AluOp, AtomicOp, Comparison, Extension, Narrow, Size, Width};
+
+/// The token at the index.
+pub fn token_at(tokens: &[Token], i: usize) -> Result<Token, Wrong>
+    ensures { result_ok result ≡ slice_get tokens.now i }
+{
+    match tokens.get(i).copied() {
+        Some(token) => Ok(token),
+        None => Err(Wrong::Form),
+    }
+}
+
+pub fn sign_at(tokens: &[Token], i: usize) -> Result<Sign, Wrong>
+    ensures { result_ok result ≡ sign_at tokens.now i }
+{
+    match tokens.get(i).copied() {
+        Some(Token::Signed(sign)) => Ok(sign),
+        Some(Token::Named(_)) => Err(Wrong::Form),
+        Some(Token::Number(_)) => Err(Wrong::Form),
+        None => Err(Wrong::Form),
+    }
+}
+
+pub fn number_at(tokens: &[Token], i: usize) -> Result<u128, Wrong>
+    ensures { result_ok result ≡ number_at tokens.now i }
+{
+    match tokens.get(i).copied() {
+        Some(Token::Number(n)) => Ok(n),
+        Some(Token::Named(_)) => Err(Wrong::Form),
+        Some(Token::Signed(_)) => Err(Wrong::Form),
+        None => Err(Wrong::Form),
+    }
+}
+
+pub fn word_at(tokens: &[Token], i: usize) -> Result<Word, Wrong>
+    ensures { result_ok result ≡ word_at tokens.now i }
+{
+    match tokens.get(i).copied() {
+        Some(Token::Named(word)) => Ok(word),
+        Some(Token::Number(_)) => Err(Wrong::Form),
+        Some(Token::Signed(_)) => Err(Wrong::Form),
+        None => Err(Wrong::Form),
+    }
+}
+
+fn is_sign(sign: Sign, wanted: Sign) -> bool
+    ensures { result ≡ is_sign sign wanted }
+{
+    match (sign, wanted) {
+        (Sign::Open, Sign::Open) => true,
+        (Sign::Close, Sign::Close) => true,
+        (Sign::Star, Sign::Star) => true,
+        (Sign::Comma, Sign::Comma) => true,
+        (Sign::Assign, Sign::Assign) => true,
+        _ => false,
+    }
+}
+
+/// The wanted sign stands at the index: one of `(`, `)`, `*`, `,` and `=`.
+pub fn expect_at(tokens: &[Token], i: usize, wanted: Sign) -> Result<(), Wrong>
+    ensures { result_ok result ≡ expect_at tokens.now i wanted }
+{
+    if is_sign(sign_at(tokens, i)?, wanted) {
+        Ok(())
+    } else {
+        Err(Wrong::Form)
+    }
+}
+
+/// Whether the sign of a number is a minus; it has to be `+` or `-`.
+pub fn is_minus(sign: Sign) -> Result<bool, Wrong>
+    ensures { result_ok result ≡ is_minus sign }
+{
+    match sign {
+        Sign::Minus => Ok(true),
+        Sign::Plus => Ok(false),
+        _ => Err(Wrong::Form),
+    }
+}
+
+/// The operation of an assigning sign.
+pub fn op_of(sign: Sign) -> Result<AluOp, Wrong>
+    ensures { result_ok result ≡ op_of sign }
+{
+    match sign {
+        Sign::Assign => Ok(AluOp::Mov),
+        Sign::AddAssign => Ok(AluOp::Add),
+        Sign::SubAssign => Ok(AluOp::Sub),
+        Sign::MulAssign => Ok(AluOp::Mul),
+        Sign::DivAssign => Ok(AluOp::Div),
+        Sign::SignedDivAssign => Ok(AluOp::SignedDiv),
+        Sign::ModAssign => Ok(AluOp::Mod),
+        Sign::SignedModAssign => Ok(AluOp::SignedMod),
+        Sign::OrAssign => Ok(AluOp::Or),
+        Sign::AndAssign => Ok(AluOp::And),
+        Sign::XorAssign => Ok(AluOp::Xor),
+        Sign::LshAssign => Ok(AluOp::Lsh),
+        Sign::RshAssign => Ok(AluOp::Rsh),
+        Sign::ArshAssign => Ok(AluOp::Arsh),
+        _ => Err(Wrong::Form),
+    }
+}
+
+/// The operation of an atomic instruction without fetch.
+pub fn atomic_op_of(sign: Sign) -> Result<AtomicOp, Wrong>
+    ensures { result_ok result ≡ atomic_op_of sign }
+{
+    match sign {
+        Sign::AddAssign => Ok(AtomicOp::Add),
+        Sign::OrAssign => Ok(AtomicOp::Or),
+        Sign::AndAssign => Ok(AtomicOp::And),
+        Sign::XorAssign => Ok(AtomicOp::Xor),
+        _ => Err(Wrong::Form),
+    }
+}
+
+/// The comparison of a conditional jump.
+pub fn comparison_of(sign: Sign) -> Result<Comparison, Wrong>
+    ensures { result_ok result ≡ comparison_of sign }
+{
+    match sign {
+        Sign::Equal => Ok(Comparison::Equal),
+        Sign::NotEqual => Ok(Comparison::NotEqual),
+        Sign::Greater => Ok(Comparison::Greater),
+        Sign::GreaterEqual => Ok(Comparison::GreaterEqual),
+        Sign::Less => Ok(Comparison::Less),
+        Sign::LessEqual => Ok(Comparison::LessEqual),
+        Sign::Ampersand => Ok(Comparison::AnyBit),
+        Sign::SignedGreater => Ok(Comparison::SignedGreater),
+        Sign::SignedGreaterEqual => Ok(Comparison::SignedGreaterEqual),
+        Sign::SignedLess => Ok(Comparison::SignedLess),
+        Sign::SignedLessEqual => Ok(Comparison::SignedLessEqual),
+        _ => Err(Wrong::Form),
+    }
+}
+
+/// The width of an atomic instruction.
+pub fn width_of(size: Size) -> Result<Width, Wrong>
+    ensures { result_ok result ≡ width_of size }
+{
+    match size {
+        Size::U32 => Ok(Width::Low32),
+        Size::U64 => Ok(Width::Full64),
+        Size::U8 | Size::U16 => Err(Wrong::Form),
+    }
+}
+
+/// The extension from a size to a width.
+pub fn extension_of(width: Width, size: Narrow) -> Result<Extension, Wrong>
+    ensures { result_ok result ≡ extension_of width size }
+{
+    match (width, size) {
+        (Width::Low32, Narrow::S8) => Ok(Extension::Low8),
+        (Width::Low32, Narrow::S16) => Ok(Extension::Low16),
+        (Width::Low32, Narrow::S32) => Err(Wrong::Form),
+        (Width::Full64, Narrow::S8) => Ok(Extension::Full8),
+        (Width::Full64, Narrow::S16) => Ok(Extension::Full16),
+        (Width::Full64, Narrow::S32) => Ok(Extension::Full32),
+    }
+}
+
+pub fn as_size(word: Word) -> Result<Size, Wrong>
+    ensures { result_ok result ≡ as_size word }
+{
+    match word {
+        Word::Unsigned(size) => Ok(size),
+        _ => Err(Wrong::Form),
+    }
+}
+
+pub fn as_narrow(word: Word) -> Result<Narrow, Wrong>
+    ensures { result_ok result ≡ as_narrow word }
+{
+    match word {
+        Word::SignExtended(size) => Ok(size),
+        _ => Err(Wrong::Form),
+    }
+}
+
+/// Whether it is all of a register.
+pub fn is_full(width: Width) -> bool
+    ensures { result ≡ is_full width }
+{
+    match width {
+        Width::Full64 => true,
+        Width::Low32 => false,
+    }
+}

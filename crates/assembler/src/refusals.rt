@@ -1,0 +1,57 @@
+//! Refusals, and the lines and columns that they stand at.
+
+ghost use Rattle.std.specs.Prelude.{◌≡◌, take};
+ghost use Rattle.assembler.specs.Positions.{line_behind, column_behind};
+
+use super::errors::{AsmError, AsmErrorKind};
+
+/// What is wrong, and at which byte of the text.
+#[derive(Clone, Copy)]
+pub struct Refusal {
+    pub kind: AsmErrorKind,
+    pub offset: usize,
+}
+
+fn line_behind(front: &[u8]) -> usize
+    ensures { result ≡ line_behind front.now }
+{
+    let mut line: usize = 1;
+    for byte in front {
+        if *byte == b'\n' {
+            line += 1;
+        }
+    }
+    line
+}
+
+#[tactic(auto, using(crate::proofs::ColumnCounts::column_feed, crate::proofs::ColumnCounts::column_line))]
+fn column_behind(front: &[u8]) -> usize
+    ensures { result ≡ column_behind front.now }
+{
+    let mut column: usize = 1;
+    for byte in front {
+        if *byte == b'\n' {
+            column = 1;
+        } else {
+            column += 1;
+        }
+    }
+    column
+}
+
+/// The refusal with its line and column.
+pub fn located(text: &[u8], refusal: Refusal) -> AsmError
+    ensures kind { result.kind ≡ refusal.kind }
+    ensures line { result.line ≡ line_behind (take refusal.offset text.now) }
+    ensures column { result.column ≡ column_behind (take refusal.offset text.now) }
+{
+    let front = match text.get(..refusal.offset) {
+        Some(front) => front,
+        None => text,
+    };
+    AsmError {
+        kind: refusal.kind,
+        line: line_behind(front),
+        column: column_behind(front),
+    }
+}

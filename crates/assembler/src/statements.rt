@@ -1,0 +1,179 @@
+//! The instruction that a statement's tokens spell.
+
+ghost use Rattle.std.specs.Prelude.{◌≡◌, ◌+◌, ◌≤◌, ◌<◌};
+ghost use Rattle.std.specs.Result.{result_ok};
+ghost use Rattle.assembler.specs.Statements.{stored_token, stored, locked, jump, long_jump, is_goto, goto_at, condition, tested, called_word, by_word, by_token, statement_of};
+
+use super::assignments::{assigned, plain};
+use super::operands::{
+    as_register, constant_at, far_target_at, is_name, memory_at, near_target_at, operand_at,
+    register_at, signed_imm,
+};
+use super::parts::{
+    as_size, atomic_op_of, comparison_of, expect_at, sign_at, token_at, width_of, word_at,
+};
+use super::readings::Reading;
+use super::tokens::{Sign, Token, Word};
+use super::wrong::Wrong;
+use isa_model::{Cond, Insn, Place, Reg, Size, Width};
+
+// What is stored behind `*(size *)(place) =`.
+fn stored_token(size: Size, place: Place, tokens: &[Token], token: Token) -> Result<Reading, Wrong>
+    ensures { result_ok result ≡ stored_token size place tokens.now token }
+{
+    match token {
+        Token::Named(word) => {
+            let source = as_register(Width::Full64, word)?;
+            plain(Insn::Store(size, place, source), tokens, 12)
+        }
+        _ => {
+            let (constant, end) = constant_at(tokens, 11)?;
+            plain(Insn::StoreConstant(size, place, constant), tokens, end)
+        }
+    }
+}
+
+fn stored(tokens: &[Token]) -> Result<Reading, Wrong>
+    ensures { result_ok result ≡ stored tokens.now }
+{
+    let (word, place) = memory_at(tokens, 0)?;
+    let size = as_size(word)?;
+    expect_at(tokens, 10, Sign::Assign)?;
+    stored_token(size, place, tokens, token_at(tokens, 11)?)
+}
+
+fn locked(tokens: &[Token]) -> Result<Reading, Wrong>
+    ensures { result_ok result ≡ locked tokens.now }
+{
+    let (word, place) = memory_at(tokens, 1)?;
+    let width = width_of(as_size(word)?)?;
+    let op = atomic_op_of(sign_at(tokens, 11)?)?;
+    let source = register_at(Width::Full64, tokens, 12)?;
+    plain(Insn::Atomic(width, op, false, place, source), tokens, 13)
+}
+
+fn jump(tokens: &[Token]) -> Result<Reading, Wrong>
+    ensures { result_ok result ≡ jump tokens.now }
+{
+    let (by, name) = near_target_at(tokens, 1)?;
+    Ok(Reading {
+        insn: Insn::Jump(by),
+        name,
+    })
+}
+
+fn long_jump(tokens: &[Token]) -> Result<Reading, Wrong>
+    ensures { result_ok result ≡ long_jump tokens.now }
+{
+    let (by, name) = far_target_at(tokens, 1)?;
+    Ok(Reading {
+        insn: Insn::JumpLong(by),
+        name,
+    })
+}
+
+fn is_goto(word: Word) -> bool
+    ensures { result ≡ is_goto word }
+{
+    match word {
+        Word::Goto => true,
+        _ => false,
+    }
+}
+
+fn goto_at(tokens: &[Token], i: usize) -> Result<(i16, Option<usize>), Wrong>
+    requires { i < 7 }
+    ensures { result_ok result ≡ goto_at tokens.now i }
+{
+    if is_goto(word_at(tokens, i)?) {
+        near_target_at(tokens, i + 1)
+    } else {
+        Err(Wrong::Form)
+    }
+}
+
+// What stands behind `if R`.
+fn condition(width: Width, register: Reg, tokens: &[Token]) -> Result<Reading, Wrong>
+    ensures { result_ok result ≡ condition width register tokens.now }
+{
+    let comparison = comparison_of(sign_at(tokens, 2)?)?;
+    let (operand, end) = operand_at(width, tokens, 3)?;
+    let (by, name) = goto_at(tokens, end)?;
+    let cond = Cond {
+        width,
+        comparison,
+        register,
+        operand,
+    };
+    Ok(Reading {
+        insn: Insn::JumpIf(cond, by),
+        name,
+    })
+}
+
+fn tested(tokens: &[Token], word: Word) -> Result<Reading, Wrong>
+    ensures { result_ok result ≡ tested tokens.now word }
+{
+    match word {
+        Word::Register(width, register) => condition(width, register, tokens),
+        _ => Err(Wrong::Form),
+    }
+}
+
+// What stands behind `call`: `pc` and a distance, or a name.
+fn called_word(tokens: &[Token], word: Word) -> Result<Reading, Wrong>
+    ensures { result_ok result ≡ called_word tokens.now word }
+{
+    match word {
+        Word::Pc => {
+            let by = signed_imm(tokens, 2)?;
+            plain(Insn::CallLocal(by), tokens, 4)
+        }
+        _ => {
+            if tokens.len() == 2 {
+                Ok(Reading {
+                    insn: Insn::CallLocal(0),
+                    name: Some(1),
+                })
+            } else {
+                Err(Wrong::Form)
+            }
+        }
+    }
+}
+
+fn by_word(tokens: &[Token], word: Word) -> Result<Reading, Wrong>
+    ensures { result_ok result ≡ by_word tokens.now word }
+{
+    match word {
+        Word::Register(width, register) => assigned(width, register, tokens),
+        Word::If => tested(tokens, word_at(tokens, 1)?),
+        Word::Goto => jump(tokens),
+        Word::GotoLong => long_jump(tokens),
+        Word::Call => called_word(tokens, word_at(tokens, 1)?),
+        Word::Exit => plain(Insn::Exit, tokens, 1),
+        Word::Lock => locked(tokens),
+        _ => Err(Wrong::Form),
+    }
+}
+
+fn by_token(tokens: &[Token], token: Token) -> Result<Reading, Wrong>
+    ensures { result_ok result ≡ by_token tokens.now token }
+{
+    match token {
+        Token::Named(word) => by_word(tokens, word),
+        Token::Signed(Sign::Star) => stored(tokens),
+        Token::Signed(_) => Err(Wrong::Form),
+        Token::Number(_) => Err(Wrong::Form),
+    }
+}
+
+/// The instruction that the tokens of a statement without a label spell.
+///
+/// Forms are tried from left to right. `Wrong::Range` may come of tokens that no form fits whatever their numbers are.
+#[tactic(auto, unfolding(crate::specs::Statements::statement_of))]
+pub fn statement_of(tokens: &[Token]) -> Result<Reading, Wrong>
+    ensures { result_ok result ≡ statement_of tokens.now }
+{
+    by_token(tokens, token_at(tokens, 0)?)
+}

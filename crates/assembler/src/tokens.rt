@@ -1,0 +1,88 @@
+//! The tokens of the text.
+
+use isa_model::{AtomicOp, ByteOrder, Narrow, Reg, Size, Span, Width};
+
+/// What a word stands for in an instruction. As a name of a place a word is known by its letters alone.
+#[derive(Clone, Copy)]
+pub enum Word {
+    /// `r0` to `r10`, `w0` to `w10`.
+    Register(Width, Reg),
+    /// `u8` to `u64`.
+    Unsigned(Size),
+    /// `s8` to `s32`.
+    SignExtended(Narrow),
+    /// `le16` to `bswap64`.
+    Swapped(ByteOrder, Span),
+    /// `atomic_fetch_add_64` and its kin.
+    Fetch(AtomicOp, Width),
+    /// `xchg_64`, `xchg_32`.
+    Exchange(Width),
+    /// `cmpxchg_64`, `cmpxchg_32`.
+    CompareExchange(Width),
+    If,
+    Goto,
+    GotoLong,
+    Call,
+    /// `pc`, the one word that is no name.
+    Pc,
+    Exit,
+    Lock,
+    /// `ll`, behind the number of a wide load.
+    Wide,
+    Other,
+}
+
+/// Signs: `Is` and its kin compare, `Assign` and its kin end with `=` and assign.
+#[derive(Clone, Copy)]
+pub enum Sign {
+    Open,
+    Close,
+    Star,
+    Comma,
+    Colon,
+    Plus,
+    Minus,
+    Assign,
+    AddAssign,
+    SubAssign,
+    MulAssign,
+    DivAssign,
+    SignedDivAssign,
+    ModAssign,
+    SignedModAssign,
+    OrAssign,
+    AndAssign,
+    XorAssign,
+    LshAssign,
+    RshAssign,
+    ArshAssign,
+    Equal,
+    NotEqual,
+    Greater,
+    GreaterEqual,
+    Less,
+    LessEqual,
+    Ampersand,
+    SignedGreater,
+    SignedGreaterEqual,
+    SignedLess,
+    SignedLessEqual,
+}
+
+#[derive(Clone, Copy)]
+pub enum Token {
+    Named(Word),
+    /// A number; one of 2^64 and more stands for all that are as large.
+    Number(u128),
+    Signed(Sign),
+}
+
+/// What stands at a place of the text.
+#[derive(Clone, Copy)]
+pub enum Lexeme {
+    /// A blank or a comment.
+    Blank,
+    /// The end of a statement.
+    End,
+    Solid(Token),
+}

@@ -1,0 +1,156 @@
+//! What words stand for.
+
+ghost use Rattle.std.specs.Prelude.{◌≡◌, bytes_eq};
+ghost use Rattle.assembler.specs.Words.{reg_of, register_word, word_of, key_word, size_word, swap_word, atomic_word};
+
+use super::tokens::Word;
+use isa_model::{AtomicOp, ByteOrder, Narrow, Reg, Size, Span, Width};
+
+fn reg_of(digits: &[u8]) -> Option<Reg>
+    ensures { result ≡ reg_of digits.now }
+{
+    match digits {
+        b"0" => Some(Reg::R0),
+        b"1" => Some(Reg::R1),
+        b"2" => Some(Reg::R2),
+        b"3" => Some(Reg::R3),
+        b"4" => Some(Reg::R4),
+        b"5" => Some(Reg::R5),
+        b"6" => Some(Reg::R6),
+        b"7" => Some(Reg::R7),
+        b"8" => Some(Reg::R8),
+        b"9" => Some(Reg::R9),
+        b"10" => Some(Reg::R10),
+        _ => None,
+    }
+}
+
+fn register_word(width: Width, reg: Option<Reg>) -> Word
+    ensures { result ≡ register_word width reg }
+{
+    match reg {
+        Some(reg) => Word::Register(width, reg),
+        None => Word::Other,
+    }
+}
+
+fn is_text(word: &[u8], text: &str) -> bool
+    ensures { result ≡ bytes_eq word.now text.now }
+{
+    word == text.as_bytes()
+}
+
+fn atomic_word(word: &[u8]) -> Word
+    ensures { result ≡ atomic_word word.now }
+{
+    if is_text(word, "atomic_fetch_add_32") {
+        Word::Fetch(AtomicOp::Add, Width::Low32)
+    } else if is_text(word, "atomic_fetch_add_64") {
+        Word::Fetch(AtomicOp::Add, Width::Full64)
+    } else if is_text(word, "atomic_fetch_or_32") {
+        Word::Fetch(AtomicOp::Or, Width::Low32)
+    } else if is_text(word, "atomic_fetch_or_64") {
+        Word::Fetch(AtomicOp::Or, Width::Full64)
+    } else if is_text(word, "atomic_fetch_and_32") {
+        Word::Fetch(AtomicOp::And, Width::Low32)
+    } else if is_text(word, "atomic_fetch_and_64") {
+        Word::Fetch(AtomicOp::And, Width::Full64)
+    } else if is_text(word, "atomic_fetch_xor_32") {
+        Word::Fetch(AtomicOp::Xor, Width::Low32)
+    } else if is_text(word, "atomic_fetch_xor_64") {
+        Word::Fetch(AtomicOp::Xor, Width::Full64)
+    } else if is_text(word, "xchg_32") {
+        Word::Exchange(Width::Low32)
+    } else if is_text(word, "xchg_64") {
+        Word::Exchange(Width::Full64)
+    } else if is_text(word, "cmpxchg_32") {
+        Word::CompareExchange(Width::Low32)
+    } else if is_text(word, "cmpxchg_64") {
+        Word::CompareExchange(Width::Full64)
+    } else {
+        Word::Other
+    }
+}
+
+fn swap_word(word: &[u8]) -> Word
+    ensures { result ≡ swap_word word.now }
+{
+    if is_text(word, "le16") {
+        Word::Swapped(ByteOrder::Little, Span::B16)
+    } else if is_text(word, "le32") {
+        Word::Swapped(ByteOrder::Little, Span::B32)
+    } else if is_text(word, "le64") {
+        Word::Swapped(ByteOrder::Little, Span::B64)
+    } else if is_text(word, "be16") {
+        Word::Swapped(ByteOrder::Big, Span::B16)
+    } else if is_text(word, "be32") {
+        Word::Swapped(ByteOrder::Big, Span::B32)
+    } else if is_text(word, "be64") {
+        Word::Swapped(ByteOrder::Big, Span::B64)
+    } else if is_text(word, "bswap16") {
+        Word::Swapped(ByteOrder::Swap, Span::B16)
+    } else if is_text(word, "bswap32") {
+        Word::Swapped(ByteOrder::Swap, Span::B32)
+    } else if is_text(word, "bswap64") {
+        Word::Swapped(ByteOrder::Swap, Span::B64)
+    } else {
+        atomic_word(word)
+    }
+}
+
+fn size_word(word: &[u8]) -> Word
+    ensures { result ≡ size_word word.now }
+{
+    if is_text(word, "u8") {
+        Word::Unsigned(Size::U8)
+    } else if is_text(word, "u16") {
+        Word::Unsigned(Size::U16)
+    } else if is_text(word, "u32") {
+        Word::Unsigned(Size::U32)
+    } else if is_text(word, "u64") {
+        Word::Unsigned(Size::U64)
+    } else if is_text(word, "s8") {
+        Word::SignExtended(Narrow::S8)
+    } else if is_text(word, "s16") {
+        Word::SignExtended(Narrow::S16)
+    } else if is_text(word, "s32") {
+        Word::SignExtended(Narrow::S32)
+    } else {
+        swap_word(word)
+    }
+}
+
+fn key_word(word: &[u8]) -> Word
+    ensures { result ≡ key_word word.now }
+{
+    if is_text(word, "if") {
+        Word::If
+    } else if is_text(word, "goto") {
+        Word::Goto
+    } else if is_text(word, "gotol") {
+        Word::GotoLong
+    } else if is_text(word, "call") {
+        Word::Call
+    } else if is_text(word, "pc") {
+        Word::Pc
+    } else if is_text(word, "exit") {
+        Word::Exit
+    } else if is_text(word, "lock") {
+        Word::Lock
+    } else if is_text(word, "ll") {
+        Word::Wide
+    } else {
+        size_word(word)
+    }
+}
+
+/// What the word stands for.
+pub fn word_of(word: &[u8]) -> Word
+    ensures { result ≡ word_of word.now }
+{
+    match word {
+        [b'r', digits @ ..] => register_word(Width::Full64, reg_of(digits)),
+        [b'w', digits @ ..] => register_word(Width::Low32, reg_of(digits)),
+        _ => key_word(word),
+    }
+}
