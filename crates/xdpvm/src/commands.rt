@@ -11,6 +11,12 @@ use std::alloc::{AllocError, Global};
 pub enum Task<'a> {
     /// Run a program with checks.
     Trace(Paths<'a>, StepLimit),
+    /// Verify a program and run it.
+    Run(Paths<'a>),
+    /// Verify a program.
+    Verify(&'a str),
+    /// Make an image of the text in a file.
+    Assemble(Assembly<'a>),
     /// Write the text of the image in a file.
     Disassemble(&'a str),
     /// A command of this program that this build does not have.
@@ -31,6 +37,13 @@ pub struct Paths<'a> {
     pub image: &'a str,
     pub frames: &'a str,
     pub out: &'a str,
+}
+
+/// The files of an assembly: the text, and the image that is made.
+#[derive(Clone, Copy, PartialEq, Eq, Debug)]
+pub struct Assembly<'a> {
+    pub text: &'a str,
+    pub image: &'a str,
 }
 
 /// Why the words ask for nothing.
@@ -115,6 +128,13 @@ fn paths_of<'a>(matches: &ArgMatches<'a>) -> Option<Paths<'a>> {
     })
 }
 
+fn assembly_of<'a>(matches: &ArgMatches<'a>) -> Option<Assembly<'a>> {
+    Some(Assembly {
+        text: matches.get_str("text")?,
+        image: matches.get_str("image")?,
+    })
+}
+
 // The limit that the words give, or the most.
 fn limit_in(matches: &ArgMatches<'_>) -> Option<StepLimit> {
     match matches.get_str("limit") {
@@ -135,8 +155,10 @@ fn not_built<'a>(name: &str) -> Option<Task<'a>> {
 
 fn task_of<'a>(name: &str, matches: &ArgMatches<'a>) -> Option<Task<'a>> {
     match name {
-        "run" => Some(Task::Trace(paths_of(matches)?, StepLimit { steps: MAX_STEPS })),
+        "run" => Some(Task::Run(paths_of(matches)?)),
+        "verify" => Some(Task::Verify(matches.get_str("image")?)),
         "trace" => Some(Task::Trace(paths_of(matches)?, limit_in(matches)?)),
+        "asm" => Some(Task::Assemble(assembly_of(matches)?)),
         "dis" => Some(Task::Disassemble(matches.get_str("image")?)),
         _ => not_built(name),
     }

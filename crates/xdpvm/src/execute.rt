@@ -1,7 +1,7 @@
 //! The program, on any runtime and any outputs.
 
 use super::commands::{Task, WordsError, read_words};
-use super::files::{disassemble_file, trace};
+use super::files::{assemble_file, disassemble_file, run_verified, trace, verify_file};
 use super::outcomes::{Outcome, say};
 use std::io::Write;
 use std::rt::Files;
@@ -28,6 +28,9 @@ pub fn execute<R: Files + AllocGlobal, W1: Write, W2: Write>(
     let alloc = rt.alloc();
     let outcome = match read_words(alloc, words) {
         Ok(Task::Trace(paths, limit)) => trace(rt, alloc, paths, limit, out),
+        Ok(Task::Run(paths)) => run_verified(rt, alloc, paths, out),
+        Ok(Task::Verify(path)) => verify_file(rt, alloc, path, out),
+        Ok(Task::Assemble(paths)) => assemble_file(rt, alloc, paths, out),
         Ok(Task::Disassemble(path)) => disassemble_file(rt, alloc, path, out),
         Ok(Task::NotBuilt(name)) => {
             say(err, &[USAGE, "this build has no command ", name, "\n"]);

@@ -7,6 +7,7 @@ mod commands;
 mod execute;
 mod files;
 mod outcomes;
+mod verdicts;
 
 use execute::execute;
 use std::process::ExitCode;

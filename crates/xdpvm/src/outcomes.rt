@@ -4,6 +4,9 @@ use exact_io::write_bytes;
 use std::io;
 use std::io::{ErrorKind, Write};
 
+/// How messages name standard output.
+pub const STANDARD_OUTPUT: &str = "standard output";
+
 /// How a task ended. A file or output that failed is named.
 #[derive(Clone, Copy, PartialEq, Eq, Debug)]
 pub enum Outcome<'a> {

@@ -3,6 +3,8 @@
 ghost use Rattle.std.specs.Prelude.{Some};
 
 mod programs;
+mod texts;
+mod verdicts;
 
 use super::execute;
 use std::alloc::Global;
@@ -152,9 +154,7 @@ fn statuses_of_words(rt: HostRuntime) -> Result<(), Fail> {
 
 #[test]
 fn commands_that_are_not_built(rt: HostRuntime) -> Result<(), Fail> {
-    let rows: [(&[&str], &str); 4] = [
-        (&["asm", "a", "b"], "asm"),
-        (&["verify", "a"], "verify"),
+    let rows: [(&[&str], &str); 2] = [
         (&["prove", "a", "b"], "prove"),
         (&["recheck", "a", "b"], "recheck"),
     ];
@@ -387,35 +387,5 @@ fn standard_output_fails(rt: HostRuntime) -> Result<(), Fail> {
     let mut err = Vec::new(rt.alloc());
     assert_eq!(rt; execute(&rt, words.as_slice(), &mut out, &mut err), 4);
     assert_eq!(rt; out.taken.as_slice(), b"ref".as_slice());
-    Ok(())
-}
-
-// r1 = 16; goto -2
-const GOES_BACK: &str = "5842503100000200b7010000100000000500feff00000000";
-
-// The text of an image, and what is left of it where standard output fails.
-#[test]
-fn texts(rt: HostRuntime) -> Result<(), Fail> {
-    write_hex(&rt, "image", GOES_BACK)?;
-    let text = b"r1 = 16\ngoto -2\n";
-    let (status, out, err) = answer(&rt, &["dis", "image"])?;
-    assert_eq!(rt; status, 0);
-    assert_eq!(rt; out.as_slice(), text.as_slice());
-    assert_eq!(rt; err.len(), 0);
-    let words = words_of(rt.alloc(), &["dis", "image"])?;
-    for room in 0..16usize {
-        let mut out = Writer {
-            taken: Vec::new(rt.alloc()),
-            room,
-            fails: true,
-        };
-        let mut err = Vec::new(rt.alloc());
-        assert_eq!(rt; execute(&rt, words.as_slice(), &mut out, &mut err), 4);
-        assert_eq!(rt; Some(out.taken.as_slice()), text.get(..room));
-        assert_eq!(rt;
-            err.as_slice(),
-            b"cannot write standard output\n".as_slice()
-        );
-    }
     Ok(())
 }

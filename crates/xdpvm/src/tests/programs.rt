@@ -15,7 +15,7 @@ type Example = (
 const NO_LIMIT: &str = "1000000";
 
 /// One frame without bytes.
-const EMPTY: &[(u8, u8)] = &[(0, 0)];
+pub const EMPTY: &[(u8, u8)] = &[(0, 0)];
 
 /// Two frames each, by their lengths or by their interfaces.
 const OF_14_AND_13: &[(u8, u8)] = &[(0, 14), (0, 13)];
@@ -27,7 +27,7 @@ const ON_5_AND_7: &[(u8, u8)] = &[(5, 0), (7, 0)];
 const OF_6_AND_5: &[(u8, u8)] = &[(0, 6), (0, 5)];
 
 /// A stream of frames of zero bytes, at time 0 and on queue 0.
-fn write_frames(rt: &HostRuntime, frames: &[(u8, u8)]) -> Result<(), Fail> {
+pub fn write_frames(rt: &HostRuntime, frames: &[(u8, u8)]) -> Result<(), Fail> {
     let mut bytes = b"XPF1".to_vec(rt.alloc())?;
     for (interface, length) in frames {
         bytes.extend_from_slice(&[0, 0, 0, 0, 0, 0, 0, 0, *interface, 0, 0, 0, 0, 0, 0, 0])?;

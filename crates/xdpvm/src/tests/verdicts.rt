@@ -1,0 +1,153 @@
+//! Programs that are verified and run.
+
+use super::programs::{EMPTY, write_frames};
+use super::{answer, write_hex};
+use std::alloc::Global;
+use std::fs;
+use std::test::Fail;
+
+/// What is accepted, with its bound; `run` writes what `trace` writes.
+#[test]
+fn verifies_and_runs(rt: HostRuntime) -> Result<(), Fail> {
+    let examples: [(&str, &str, &str); 7] = [
+        // r0 = 2; exit
+        (
+            "5842503100000200b7000000020000009500000000000000",
+            "ok bound 2\n",
+            "0 PASS 0 2\nend 1\n",
+        ),
+        // r0 = 0x100000002 ll; w1 = 0; w0 %= w1; exit
+        (
+            "584250310000050018000000020000000000000001000000b4010000000000009c100000000000009500000000000000",
+            "ok bound 4\n",
+            "0 PASS 0 4\nend 1\n",
+        ),
+        // r0 = 0x8000000000000000 ll; r1 = -1; r0 s/= r1; r0 >>= 62; exit
+        (
+            "584250310000060018000000000000000000000000000080b7010000ffffffff3f10010000000000770000003e0000009500000000000000",
+            "ok bound 5\n",
+            "0 PASS 0 5\nend 1\n",
+        ),
+        // r0 = 0x102030405060708 ll; r0 = be16 r0; exit
+        (
+            "584250310000040018000000080706050000000004030201dc000000100000009500000000000000",
+            "ok bound 3\n",
+            "0 INVALID 0 3\nend 1\n",
+        ),
+        // r0 = -13; r0 s%= 3; r0 += 3; exit
+        (
+            "5842503100000400b7000000f3ffffff970001000300000007000000030000009500000000000000",
+            "ok bound 4\n",
+            "0 PASS 0 4\nend 1\n",
+        ),
+        // r0 = -1; r1 = 0; w0 %= w1; r0 >>= 31; exit
+        (
+            "5842503100000500b7000000ffffffffb7010000000000009c10000000000000770000001f0000009500000000000000",
+            "ok bound 5\n",
+            "0 DROP 0 5\nend 1\n",
+        ),
+        // r1 = 0; r1 += 1; if r1 < 10 goto -2; r0 = 2; exit
+        (
+            "5842503100000500b7010000000000000701000001000000a501feff0a000000b7000000020000009500000000000000",
+            "ok bound 23\n",
+            "0 PASS 0 23\nend 1\n",
+        ),
+    ];
+    write_frames(&rt, EMPTY)?;
+    for (image, bound, report) in examples {
+        write_hex(&rt, "image", image)?;
+        let (status, found, _) = answer(&rt, &["verify", "image"])?;
+        assert_eq!(rt; status, 0, "{image}");
+        assert_eq!(rt; found.as_slice(), bound.as_bytes(), "{image}");
+        let (status, found, _) = answer(&rt, &["run", "image", "frames", "sent"])?;
+        assert_eq!(rt; status, 0, "{image}");
+        assert_eq!(rt; found.as_slice(), report.as_bytes(), "{image}");
+        let sent = fs::read(&rt, "sent")?;
+        let (_, traced, _) = answer(&rt, &["trace", "image", "frames", "sent"])?;
+        assert_eq!(rt; found.as_slice(), traced.as_slice(), "{image}");
+        let again = fs::read(&rt, "sent")?;
+        assert_eq!(rt; sent.as_slice(), again.as_slice(), "{image}");
+    }
+    Ok(())
+}
+
+/// What is refused, by what and where. No instruction is run, and the frames and the frames out are not opened.
+#[test]
+fn refuses_and_runs_nothing(rt: HostRuntime) -> Result<(), Fail> {
+    let examples: [(&str, &str); 8] = [
+        // r0 = r2; exit
+        (
+            "5842503100000200bf200000000000009500000000000000",
+            "refused V1 slot 0\n",
+        ),
+        // r10 = 0; exit
+        (
+            "5842503100000200b70a0000000000009500000000000000",
+            "refused V2 slot 0\n",
+        ),
+        // r0 = r10; exit
+        (
+            "5842503100000200bfa00000000000009500000000000000",
+            "refused V17 slot 1\n",
+        ),
+        // r0 = 0x1 ll; goto -2
+        (
+            "5842503100000300180000000100000000000000000000000500feff00000000",
+            "refused G2 slot 2\n",
+        ),
+        // r0 = 0
+        ("5842503100000100b700000000000000", "refused G3 slot 0\n"),
+        // r0 = 0; exit; exit
+        (
+            "5842503100000300b70000000000000095000000000000009500000000000000",
+            "refused G4 slot 2\n",
+        ),
+        // r0 = 0; goto -1
+        (
+            "5842503100000200b7000000000000000500ffff00000000",
+            "refused V18 slot 1\n",
+        ),
+        // r6 = *(u32 *)(r1 + 12); if r6 != 0 goto -2; r0 = 2; exit
+        (
+            "584250310000040061160c00000000005506feff00000000b7000000020000009500000000000000",
+            "refused V18 slot 0\n",
+        ),
+    ];
+    for (image, refusal) in examples {
+        write_hex(&rt, "image", image)?;
+        for words in [
+            ["verify", "image"].as_slice(),
+            ["run", "image", "lost", "lost/sent"].as_slice(),
+        ] {
+            let (status, found, _) = answer(&rt, words)?;
+            assert_eq!(rt; status, 2, "{image}");
+            assert_eq!(rt; found.as_slice(), refusal.as_bytes(), "{image}");
+        }
+    }
+    Ok(())
+}
+
+/// `r0 = 2`, then 20 times `r7 = *(u32 *)(r1 + 12); if r7 == 0 goto +0`, then `exit`.
+fn joins(alloc: Global) -> Result<Vec<u8>, Fail> {
+    let mut bytes = hex::decode(alloc, "5842503100002a00b700000002000000")?;
+    for _ in 0..20 {
+        bytes.extend_from_slice(&[0x61, 0x17, 12, 0, 0, 0, 0, 0, 0x15, 7, 0, 0, 0, 0, 0, 0])?;
+    }
+    bytes.extend_from_slice(&[0x95, 0, 0, 0, 0, 0, 0, 0])?;
+    Ok(bytes)
+}
+
+/// Both sides of each jump come together again: without that, 2,097,151 instructions would be explored.
+#[test]
+fn verifies_where_paths_join(rt: HostRuntime) -> Result<(), Fail> {
+    let bytes = joins(rt.alloc())?;
+    fs::write(&rt, "image", bytes.as_slice())?;
+    write_frames(&rt, EMPTY)?;
+    let (status, found, _) = answer(&rt, &["verify", "image"])?;
+    assert_eq!(rt; status, 0);
+    assert_eq!(rt; found.as_slice(), b"ok bound 42\n".as_slice());
+    let (status, found, _) = answer(&rt, &["run", "image", "frames", "sent"])?;
+    assert_eq!(rt; status, 0);
+    assert_eq!(rt; found.as_slice(), b"0 PASS 0 42\nend 1\n".as_slice());
+    Ok(())
+}
