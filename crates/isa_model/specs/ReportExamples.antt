@@ -1,53 +1,30 @@
--- Worked examples of frame streams and reports, computed from the definitions.
-use Rattle.std.specs.Prelude.{◌≡◌, ℕ, pos, negsuc, List, [], ◌∷◌, ◌++◌, length, map, take, replicate, codes, refl}
+-- Worked examples of reports, computed from the definitions. docs/FORMATS.md.
+use Rattle.std.specs.Prelude.{◌≡◌, ℕ, pos, negsuc, true, false, List, [], ◌∷◌, ◌++◌, length, map, take, slice_index_or, codes, refl}
 use Rattle.std.specs.List.{range_with_len}
 use Rattle.std.specs.Fmt.{digits}
-use Rattle.byteorder.specs.Endian.{little_bytes}
 use Rattle.hex.specs.Hex.{encode_with}
-use Rattle.isa_model.specs.declared.registers.Reg.TheVariants.{R0, R2}
+use Rattle.isa_model.specs.declared.registers.Reg.TheVariants.{R0, R1, R2}
+use Rattle.isa_model.specs.declared.sizes.Size.TheVariants.{U8, U32}
 use Rattle.isa_model.specs.declared.instructions.Insn.TheVariants as insn
-use Rattle.isa_model.specs.declared.map_defs.MapKind.TheVariants.{Array}
-use Rattle.isa_model.specs.declared.streams.Fault.TheVariants.{F1, F2, F5}
-use Rattle.isa_model.specs.declared.streams.Finish.{Finish}
+use Rattle.isa_model.specs.declared.map_defs.MapKind.TheVariants.{Hash, Array}
+use Rattle.isa_model.specs.declared.map_defs.MapDef.{MapDef}
+use Rattle.isa_model.specs.declared.frames.Action.TheVariants as action
+use Rattle.isa_model.specs.declared.ends.End.TheVariants.{Exit, Trap, Limit}
+use Rattle.isa_model.specs.declared.ends.TrapReason.TheVariants.{NoCode, UnsetRead, ReadOnly, BadPointer, OutOfRange, BadAccess, BadCompare, BadHelper, TooManyFrames, NoResult}
+use Rattle.isa_model.specs.declared.streams.Fault.TheVariants.{F1, F2, F3, F4, F5, F6}
 use Rattle.isa_model.specs.declared.streams.Finish.TheVariants as finish
 use Rattle.isa_model.specs.Numbers.{alu}
+use Rattle.isa_model.specs.Frames.{action_of}
 use Rattle.isa_model.specs.Instructions.{Program, slots}
 use Rattle.isa_model.specs.States.{new_frame}
 use Rattle.isa_model.specs.Steps.{act, step}
 use Rattle.isa_model.specs.Runs.{start_state, progress, turn}
-use Rattle.isa_model.specs.Streams.{magic, Ending, ByEnd, ByError, head_bytes, stop_at, stop_from, frames_from, stream_of}
-use Rattle.isa_model.specs.Reports.{frame_line, map_line, last_line, report_bytes, frames_out, frame_pieces, in_report_order, checked_report}
-use Rattle.isa_model.specs.Examples.{set, copy, zeros}
+use Rattle.isa_model.specs.Streams.{magic, ByEnd, head_bytes, stop_at, stop_from, frames_from}
+use Rattle.isa_model.specs.Reports.{frame_line, map_line, last_line, report_bytes, frames_out, is_sent, frame_pieces, Rule, in_report_order, starting_contents, report_of, checked_report}
+use Rattle.isa_model.specs.StreamExamples.{head_of}
+use Rattle.isa_model.specs.Examples.{set, copy, above, zeros}
 
--- ---- streams
-
--- the magic, and two records of no bytes
-abbrev pub two_empty_records : List ℕ
-two_empty_records = magic ++ zeros 40
-
--- how many records there are, and how they end
-abbrev pub summary_of : List ℕ → Ending → ℕ × Finish
-summary_of bytes ending = let found = stream_of (record { bytes = bytes; ending = ending }) in (length found.0, found.1)
-
--- the two records cut after 0, 1, .. 44 bytes
-pub cuts_by_an_end : map (λ n. summary_of (take n two_empty_records) ByEnd) (range_with_len 0 45)
-    ≡ replicate 4 (0, finish.Fault F1 0) ++ (0, finish.End) ∷ replicate 19 (0, finish.Fault F2 4)
-    ++ (1, finish.End) ∷ replicate 19 (1, finish.Fault F2 24) ++ (2, finish.End) ∷ []
-unfolding frames_from stop_from stop_at
-cuts_by_an_end = refl
-
--- and by an error of the reader
-pub cuts_by_an_error : map (λ n. summary_of (take n two_empty_records) ByError) (range_with_len 0 45)
-    ≡ replicate 4 (0, finish.Fault F5 0) ++ replicate 20 (0, finish.Fault F5 4)
-    ++ replicate 20 (1, finish.Fault F5 24) ++ (2, finish.Fault F5 44) ∷ []
-unfolding frames_from stop_from stop_at
-cuts_by_an_error = refl
-
-pub other_magic : summary_of (codes "XPF2" ++ zeros 20) ByEnd ≡ (0, finish.Fault F1 0)
-unfolding frames_from stop_from stop_at
-other_magic = refl
-
--- ---- reports
+-- ---- whole reports
 
 -- r0 = 2; exit
 abbrev pub passes : Program
@@ -63,10 +40,6 @@ out_on p bytes = frames_out (checked_report p 100 (record { bytes = bytes; endin
 -- the magic and a record of no bytes
 abbrev pub one_empty_record : List ℕ
 one_empty_record = magic ++ zeros 20
-
--- a record's head whose body has n bytes, all other fields 0
-abbrev pub head_of : ℕ → List ℕ
-head_of n = zeros 16 ++ little_bytes 4 n
 
 pub passes_an_empty_frame : report_on passes one_empty_record ≡ codes "0 PASS 0 2\nend 1\n"
 unfolding frames_from stop_from stop_at turn progress start_state new_frame step act alu frame_pieces frame_line last_line digits
@@ -114,6 +87,60 @@ pub limit_line : report_on (record { insns = slots (insn.Jump (pos 0) ∷ insn.J
 unfolding frames_from stop_from stop_at turn progress start_state new_frame step act alu frame_pieces frame_line last_line digits
 limit_line = refl
 
+-- ---- actions and lines
+
+-- 0 to 5, and results whose low 32 bits are 2, 4 and 2^32 - 1
+pub actions : map action_of (0 ∷ 1 ∷ 2 ∷ 3 ∷ 4 ∷ 5 ∷ 0x700000002 ∷ 0x100000004 ∷ 0xffffffff ∷ [])
+    ≡ action.Aborted ∷ action.Drop ∷ action.Pass ∷ action.Tx ∷ action.Redirect ∷ action.Invalid ∷ action.Pass ∷ action.Redirect ∷ action.Invalid ∷ []
+actions = refl
+
+-- frame 12 of 60 bytes, by a program that answers 0 to 5 after 7 steps
+pub lines_of_actions : map (λ n. frame_line 100 12 (Exit n 7) 60) (0 ∷ 1 ∷ 2 ∷ 3 ∷ 4 ∷ 5 ∷ [])
+    ≡ codes "12 ABORTED 60 7\n" ∷ codes "12 DROP 60 7\n" ∷ codes "12 PASS 60 7\n" ∷ codes "12 TX 60 7\n" ∷ codes "12 REDIRECT 60 7\n" ∷ codes "12 INVALID 60 7\n" ∷ []
+unfolding frame_line digits
+lines_of_actions = refl
+
+pub lines_of_traps : map (λ reason. frame_line 100 12 (Trap reason 7) 60)
+    (NoCode ∷ UnsetRead ∷ ReadOnly ∷ BadPointer ∷ OutOfRange ∷ BadAccess ∷ BadCompare ∷ BadHelper ∷ TooManyFrames ∷ NoResult ∷ [])
+    ≡ codes "12 TRAP code 60 7\n" ∷ codes "12 TRAP unset 60 7\n" ∷ codes "12 TRAP readonly 60 7\n" ∷ codes "12 TRAP pointer 60 7\n" ∷ codes "12 TRAP range 60 7\n"
+    ∷ codes "12 TRAP access 60 7\n" ∷ codes "12 TRAP compare 60 7\n" ∷ codes "12 TRAP helper 60 7\n" ∷ codes "12 TRAP frames 60 7\n" ∷ codes "12 TRAP exit 60 7\n" ∷ []
+unfolding frame_line digits
+lines_of_traps = refl
+
+pub line_at_the_limit : frame_line 1000000 12 Limit 60 ≡ codes "12 LIMIT 60 1000000\n"
+unfolding frame_line digits
+line_at_the_limit = refl
+
+pub last_lines : last_line 7 finish.End ∷ map (λ f. last_line 7 (finish.Fault f 24)) (F1 ∷ F2 ∷ F3 ∷ F4 ∷ F5 ∷ F6 ∷ [])
+    ≡ codes "end 7\n" ∷ codes "fault F1 at 24\n" ∷ codes "fault F2 at 24\n" ∷ codes "fault F3 at 24\n" ∷ codes "fault F4 at 24\n" ∷ codes "fault F5 at 24\n" ∷ codes "fault F6 at 24\n" ∷ []
+unfolding last_line digits
+last_lines = refl
+
+-- PASS and TX frames go out
+pub frames_sent : map is_sent (Exit 0 1 ∷ Exit 1 1 ∷ Exit 2 1 ∷ Exit 3 1 ∷ Exit 4 1 ∷ Exit 5 1 ∷ Exit 0x700000003 1 ∷ Trap NoResult 2 ∷ Limit ∷ [])
+    ≡ false ∷ false ∷ true ∷ true ∷ false ∷ false ∷ true ∷ false ∷ false ∷ []
+frames_sent = refl
+
+-- ---- frames out
+
+-- r2 = *(u32 *)(r1 + 0); *(u8 *)(r2 + 1) = 7; r0 = 3; exit
+abbrev pub writes_and_sends_back : Program
+writes_and_sends_back =
+    record { insns = slots (insn.Load U32 R2 (above R1 0) ∷ insn.StoreConstant U8 (above R2 1) (pos 7) ∷ set R0 (pos 3) ∷ insn.Exit ∷ []); maps = [] }
+
+-- a record whose head's bytes count up from 1, as far as the length
+abbrev pub record_of : List ℕ → List ℕ
+record_of body = range_with_len 1 16 ++ length body ∷ 0 ∷ 0 ∷ 0 ∷ body
+
+abbrev pub three_records : List ℕ
+three_records = magic ++ record_of (8 ∷ 9 ∷ []) ++ record_of (8 ∷ []) ++ record_of (5 ∷ 5 ∷ 5 ∷ [])
+
+-- a frame goes out as its run left it, with its head; the run on the second one, of one byte, traps, and the third is run
+pub frames_out_as_they_are_left : report_on writes_and_sends_back three_records ∷ out_on writes_and_sends_back three_records ∷ []
+    ≡ codes "0 TX 2 4\n1 TRAP access 1 1\n2 TX 3 4\nend 3\n" ∷ (magic ++ record_of (8 ∷ 7 ∷ []) ++ record_of (5 ∷ 7 ∷ 5 ∷ [])) ∷ []
+unfolding frames_from stop_from stop_at turn progress start_state new_frame step act alu frame_pieces frame_line last_line head_bytes digits
+frames_out_as_they_are_left = refl
+
 -- ---- maps
 
 pub hexadecimal_is_lower_case : map_line 1 (0 ∷ 171 ∷ [], 255 ∷ []) ≡ codes "map 1 00ab ff\n"
@@ -124,3 +151,26 @@ hexadecimal_is_lower_case = refl
 pub arrays_go_by_index : map (λ e. e.1) (in_report_order Array 257 ((0 ∷ 0 ∷ 0 ∷ 0 ∷ [], 7 ∷ []) ∷ (0 ∷ 1 ∷ 0 ∷ 0 ∷ [], 9 ∷ []) ∷ (1 ∷ 0 ∷ 0 ∷ 0 ∷ [], 8 ∷ []) ∷ []))
     ≡ (7 ∷ []) ∷ (8 ∷ []) ∷ (9 ∷ []) ∷ []
 arrays_go_by_index = refl
+
+-- an array of two values of 3 bytes and a hash map: the first has all its values from the start, zero-filled, the second none
+abbrev pub rows : List MapDef
+rows = record { kind = Array; key_size = 4; value_size = 3; entries = 2 } ∷ record { kind = Hash; key_size = 1; value_size = 1; entries = 9 } ∷ []
+
+pub contents_at_the_start : starting_contents rows ≡ ((0 ∷ 0 ∷ 0 ∷ 0 ∷ [], 0 ∷ 0 ∷ 0 ∷ []) ∷ (1 ∷ 0 ∷ 0 ∷ 0 ∷ [], 0 ∷ 0 ∷ 0 ∷ []) ∷ []) ∷ [] ∷ []
+contents_at_the_start = refl
+
+-- a made-up rule: a run puts the packet into the hash map under its first byte, and traps
+abbrev pub remembers : Rule
+remembers head body contents = record {
+  ends = Trap NoCode 5;
+  packet = body;
+  contents = take 1 contents ++ (slice_index_or contents 1 [] ++ (take 1 body, body) ∷ []) ∷ [];
+  clock_calls = 0;
+}
+
+-- contents are carried from frame to frame, also where a run traps, and then each map's lines come, map by map
+pub contents_carried_along : report_bytes (report_of 100 rows remembers (starting_contents rows)
+    (map (λ body. record { head = record { time = 0; interface = 0; queue = 0 }; body = body }) ((8 ∷ []) ∷ (9 ∷ 10 ∷ []) ∷ []), finish.Fault F5 70))
+    ≡ codes "0 TRAP code 1 5\n1 TRAP code 2 5\nmap 0 00000000 000000\nmap 0 01000000 000000\nmap 1 08 08\nmap 1 09 090a\nfault F5 at 70\n"
+unfolding frame_pieces frame_line map_line last_line encode_with digits
+contents_carried_along = refl

@@ -1,5 +1,5 @@
 -- The report of a program all of whose runs exit: it is the report of its outcomes.
-use Rattle.std.specs.Prelude.{◌≡◌, ℕ, zero, suc, ◌+◌, ◌<◌, ◌≤◌, ◌^◌, List, [], ◌∷◌, ◌++◌, drop, length, slice_index, nat_lt, nat_eq, if◌then◌else◌, Bool, true, false, All, Option, Some, None, refl}
+use Rattle.std.specs.Prelude.{◌≡◌, ℕ, zero, suc, ◌+◌, ◌<◌, ◌≤◌, ◌^◌, List, [], ◌∷◌, ◌++◌, drop, length, nat_lt, nat_eq, if◌then◌else◌, Bool, true, false, All, Option, Some, None, refl}
 use Rattle.std.specs.List.{starts_with}
 use Rattle.std.proofs.Common.{sym, ap, ◌∙◌, subst, arith}
 use Rattle.std.proofs.lemmas.List.{length-take}
@@ -16,6 +16,7 @@ use Rattle.isa_model.specs.StreamLaws.{frames_from-stops, frames_from-goes_on, f
 use Rattle.isa_model.specs.Runs.{Outcome, HasOutcome, Turn}
 use Rattle.isa_model.specs.RunLaws.{turn-outcome}
 use Rattle.isa_model.specs.MachineStates.{AreBytes, FitRows, IsProgram, IsGiven}
+use Rattle.isa_model.specs.ValueLaws.{slice_index_fits}
 use Rattle.isa_model.specs.Outcomes.{StartsEnd, ExitsWithin, ExitsWithin-StartsEnd, FitRows-HasOutcome}
 use Rattle.isa_model.specs.Reports.{frame_pieces, frame_line, turns_pieces, contents_after, checked_rule, checked_report, turn_by, starting_contents, ReportsFrames, IsReport}
 
@@ -34,18 +35,13 @@ AllExit p n contents (f ∷ frames) =
 
 -- ---- the frames of a stream of bytes
 
-byte_at : (bytes : List ℕ) → AreBytes bytes → (k : ℕ) → slice_index bytes k < 256
-byte_at [] h k = omega arith
-byte_at (b ∷ bytes) h zero = All-head (λ b. b < 256) b bytes h
-byte_at (b ∷ bytes) h (suc k) = byte_at bytes (All-tail (λ b. b < 256) b bytes h) k
-
 -- the record at the front of bytes is a frame, if its body is no longer than it may be
 Arrives-frame_of : (bytes : List ℕ) → AreBytes bytes → length_field bytes ≤ max_body → Arrives (frame_of bytes)
 Arrives-frame_of bytes h short = record {
   short = let cut = length-take (length_field bytes) (drop 20 bytes) in omega arith;
   bytes = All-take (λ b. b < 256) (length_field bytes) (drop 20 bytes) (All-drop (λ b. b < 256) 20 bytes h);
-  interface = little_from-lt 8 4 bytes (byte_at bytes h);
-  queue = little_from-lt 12 4 bytes (byte_at bytes h);
+  interface = little_from-lt 8 4 bytes (slice_index_fits bytes h);
+  queue = little_from-lt 12 4 bytes (slice_index_fits bytes h);
 }
 
 -- where a record follows, its body is no longer than it may be

@@ -1,5 +1,5 @@
 -- Laws of values: arithmetic, loads and stores give values and cells that fit.
-use Rattle.std.specs.Prelude.{◌≡◌, ℕ, zero, suc, ◌+◌, ◌^◌, ◌<◌, ◌≤◌, ◌+ℤ◌, ◌-ℤ◌, Bool, true, false, nat_le, if◌then◌else◌, ℤ, unsigned_abs, List, [], ◌∷◌, ◌++◌, map, take, drop, length, slice_index, All, Result, Ok, Err, IfOk, refl}
+use Rattle.std.specs.Prelude.{◌≡◌, ℕ, zero, suc, ◌+◌, ◌^◌, ◌<◌, ◌≤◌, ◌+ℤ◌, ◌-ℤ◌, Bool, true, false, nat_le, if◌then◌else◌, ℤ, unsigned_abs, List, [], ◌∷◌, ◌++◌, map, take, drop, length, All, Result, Ok, Err, IfOk, refl}
 use Rattle.std.specs.Int.{w32, w64, to_le_bytes}
 use Rattle.std.specs.Int.RustNames.{FitsSigned}
 use Rattle.std.specs.List.{list_any, list_all, splice}
@@ -26,6 +26,7 @@ use Rattle.isa_model.specs.Numbers.{signed, unsigned, bytes_of, number_from}
 use Rattle.isa_model.specs.NumberLemmas.{alu_fits, low_below, width_fits}
 use Rattle.isa_model.specs.Pointers.{offset_limit, can_move, pointer_at, moved_to, pointer_and_number, number_and_pointer, moved, combined, arithmetic, on_number}
 use Rattle.isa_model.specs.Memory.{and_then, is_unwritten, is_byte, byte_in, number_of, pieces, are_pieces, pointer_in, number_in, value_in}
+use Rattle.isa_model.specs.LittleEndian.{EachByte}
 use Rattle.isa_model.specs.MachineStates.{AreBytes, IsOffset, IsRegion, IsValue, IsCell}
 
 -- ---- results
@@ -70,7 +71,7 @@ unsigned_fits Low32 k h = omega (arith, ints)
 unsigned_fits Full64 k h = omega (arith, ints)
 
 -- eight bytes spell a number of a register
-pub number_from_fits : (bytes : List ℕ) → ((i : ℕ) → slice_index bytes i < 256) → number_from bytes < 2 ^ 64
+pub number_from_fits : (bytes : List ℕ) → EachByte bytes → number_from bytes < 2 ^ 64
 number_from_fits bytes h =
     let h0 = h 0 in
     let h1 = h 1 in
@@ -151,8 +152,8 @@ bytes_in_fit rows next cs h =
 pub Byte_cells_fit : (rows next : ℕ) (bytes : List ℕ) → AreBytes bytes → All (IsCell rows next) (map Byte bytes)
 Byte_cells_fit rows next bytes h = All-map (IsCell rows next) Byte bytes h
 
--- a number in bytes
-pub slice_index_fits : (bytes : List ℕ) → AreBytes bytes → (i : ℕ) → slice_index bytes i < 256
+-- what is a byte by its place
+pub slice_index_fits : (bytes : List ℕ) → AreBytes bytes → EachByte bytes
 slice_index_fits [] h i = omega arith
 slice_index_fits (b ∷ bytes) h zero = All-head (λ b. b < 256) b bytes h
 slice_index_fits (b ∷ bytes) h (suc i) = slice_index_fits bytes (All-tail (λ b. b < 256) b bytes h) i

@@ -3,7 +3,7 @@
 //! The parts' types admit only what can be spelled, so each value is an instruction.
 
 ghost use Rattle.std.specs.Prelude.{◌≡◌};
-ghost use Rattle.isa_model.specs.Instructions.{slots_of};
+ghost use Rattle.isa_model.specs.Instructions.{slots_of, writes, is_frame_pointer};
 
 use crate::registers::Reg;
 use crate::sizes::{ByteOrder, Extension, Narrow, Size, Span, Width};
@@ -124,5 +124,30 @@ impl Insn {
             Insn::LoadNumber(_, _) => 2,
             _ => 1,
         }
+    }
+
+    /// The register that it writes, those of calls and exits aside.
+    pub fn written(&self) -> Option<Reg>
+        ensures { result ≡ writes self.now }
+    {
+        match *self {
+            Insn::Alu(_, _, d, _)
+            | Insn::Neg(_, d)
+            | Insn::MovSx(_, d, _)
+            | Insn::ByteSwap(_, _, d)
+            | Insn::LoadNumber(d, _)
+            | Insn::Load(_, d, _)
+            | Insn::LoadSx(_, d, _) => Some(d),
+            Insn::Atomic(_, _, true, _, source) | Insn::Exchange(_, _, source) => Some(source),
+            Insn::CompareExchange(_, _, _) => Some(Reg::R0),
+            _ => None,
+        }
+    }
+
+    /// Whether it writes r10, which no instruction may.
+    pub fn writes_frame_pointer(&self) -> bool
+        ensures { result ≡ is_frame_pointer (writes self.now) }
+    {
+        matches!(self.written(), Some(Reg::R10))
     }
 }

@@ -3,7 +3,7 @@
 //! Machines and abstract domains compute with these functions and have no others.
 
 ghost use Rattle.std.specs.Prelude.{◌≡◌, ◌%◌, ◌^◌};
-ghost use Rattle.isa_model.specs.Numbers.{low, signed, alu, result_of, negated, sign_extended, reordered, holds};
+ghost use Rattle.isa_model.specs.Numbers.{low, signed, unsigned, alu, result_of, negated, sign_extended, reordered, holds};
 
 use crate::instructions::{AluOp, Comparison};
 use crate::sizes::{ByteOrder, Extension, Span, Width};
@@ -13,6 +13,16 @@ pub fn low_word(a: u64) -> u32
     ensures { result ≡ a % 2 ^ 32 }
 {
     (a % 0x1_0000_0000) as u32
+}
+
+/// A constant as a number of a width: at 64 bits it is sign-extended.
+pub fn unsigned(width: Width, k: i32) -> u64
+    ensures { result ≡ unsigned width k }
+{
+    match width {
+        Width::Low32 => u64::from(k.cast_unsigned()),
+        Width::Full64 => i64::from(k).cast_unsigned(),
+    }
 }
 
 /// What the operation gives on two registers' numbers. A 32-bit result has an upper half of zeros.
