@@ -2,8 +2,6 @@
 //!
 //! std's `write_all` and `read_exact` say nothing of a failure, and try again where a call was interrupted.
 //! Here an error of any kind is the failure, nothing is tried again, and what was moved before it is known.
-//!
-//! `specs/LittleEndian.antt` has the laws of numbers that stand in lists of bytes.
 #![tactic(auto)]
 
 mod reading;

@@ -2,7 +2,7 @@
 use Rattle.std.proofs.Common.{◌≡◌, ℕ, ◌+◌, ◌-◌, ◌≤◌, List, ◌++◌, length, take, drop, sym, ap, ◌∙◌, arith}
 use Rattle.std.proofs.lemmas.List.{take-append-drop, drop-drop, take_all, length-drop}
 use Rattle.byteorder.specs.Endian.{little_from, little_bytes}
-use Rattle.exact_io.specs.LittleEndian.{AreBytes, little_bytes-little_from, little_from-drop}
+use Rattle.isa_model.specs.LittleEndian.{EachByte, little_bytes-little_from, little_from-drop}
 
 -- a number that was read from the part of a list behind its first i bytes
 pub little_from-behind : (n i : ℕ) (xs : List ℕ) → little_from 0 n (take (length xs - i) (drop i xs)) ≡ little_from (i + 0) n xs
@@ -10,7 +10,7 @@ little_from-behind n i xs =
     ap (little_from 0 n) (take_all (length xs - i) (drop i xs) (omega (arith, length-drop i xs))) ∙ little_from-drop n 0 i xs
 
 -- the bytes of four numbers that stand one after another
-pub little_bytes-four : (xs : List ℕ) → AreBytes xs → length xs ≡ 20
+pub little_bytes-four : (xs : List ℕ) → EachByte xs → length xs ≡ 20
     → little_bytes 8 (little_from 0 8 xs) ++ (little_bytes 4 (little_from 8 4 xs) ++ (little_bytes 4 (little_from 12 4 xs) ++ little_bytes 4 (little_from 16 4 xs))) ≡ xs
 little_bytes-four xs small size =
     let part : (n i : ℕ) → i + n ≤ 20 → little_bytes n (little_from i n xs) ≡ take n (drop i xs) = λ n i fits. little_bytes-little_from n i xs small (omega arith) in

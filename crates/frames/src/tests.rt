@@ -1,11 +1,10 @@
-// Streams that are cut, damaged or broken, readers and writers that move a few bytes at a time and stumble once.
-ghost use Rattle.std.specs.Prelude.{◌≡◌, Some, IfOk};
+//! Streams that are cut, damaged or broken, from readers and to writers that stumble at each place.
 
 use super::{FrameReader, Next, write_frame};
 use isa_model::{Fault, FrameHead};
-use std::io;
-use std::io::{ErrorKind, Read, Write};
+use std::io::{ErrorKind, Read};
 use std::test::Fail;
+use stumbling_io::{Reader, STUMBLES, Stumble, Writer};
 
 // The magic and two empty records.
 const TWO: [u8; 44] = [
@@ -25,85 +24,6 @@ const HEAD_BYTES: [u8; 16] = [1, 2, 3, 4, 5, 6, 7, 8, 9, 10, 11, 12, 13, 14, 15,
 // The magic, and a record of five bytes.
 const RECORD: [u8; 29] =
     *b"XPF1\x01\x02\x03\x04\x05\x06\x07\x08\x09\x0a\x0b\x0c\x0d\x0e\x0f\x10\x05\0\0\0hello";
-
-// What comes once in place of bytes: an error, or the answer that no byte was moved.
-#[derive(Clone, Copy)]
-enum Stumble {
-    Error(ErrorKind),
-    Nothing,
-}
-
-const ERRORS: [Stumble; 2] = [
-    Stumble::Error(ErrorKind::BrokenPipe),
-    Stumble::Error(ErrorKind::Interrupted),
-];
-
-fn answer_of(stumble: Stumble) -> io::Result<usize>
-    ensures { IfOk result (λ count. count ≡ 0) }
-{
-    match stumble {
-        Stumble::Error(kind) => Err(io::Error::from(kind)),
-        Stumble::Nothing => Ok(0),
-    }
-}
-
-// Takes at most `step` bytes at a call, stumbles once after `room` bytes, and would then take more.
-#[derive(Drop)]
-struct Writer {
-    taken: Vec<u8>,
-    step: usize,
-    room: usize,
-    stumble: Option<Stumble>,
-}
-
-impl Write for Writer {
-    ghost contents = { λ w. Some w.taken.items };
-
-    fn write(&mut self, buf: &[u8]) -> io::Result<usize> {
-        let mut count = buf.len().min(self.step);
-        if let Some(stumble) = self.stumble {
-            if self.room == 0 {
-                self.stumble = None;
-                return answer_of(stumble);
-            }
-            count = count.min(self.room);
-            self.room -= count;
-        }
-        self.taken.extend_from_slice(&buf[..count])?;
-        Ok(count)
-    }
-
-    fn flush(&mut self) -> io::Result<()> {
-        Ok(())
-    }
-}
-
-// Gives at most `step` bytes at a call, stumbles once after `room` bytes, and would then give more.
-#[derive(Drop)]
-struct Reader<'a> {
-    left: &'a [u8],
-    step: usize,
-    room: usize,
-    stumble: Option<Stumble>,
-}
-
-impl Read for Reader<'_> {
-    fn read(&mut self, buf: &mut [u8]) -> io::Result<usize> {
-        let mut count = buf.len().min(self.left.len()).min(self.step);
-        if let Some(stumble) = self.stumble {
-            if self.room == 0 {
-                self.stumble = None;
-                return answer_of(stumble);
-            }
-            count = count.min(self.room);
-            self.room -= count;
-        }
-        let (front, rest) = self.left.split_at(count);
-        buf[..count].copy_from_slice(front);
-        self.left = rest;
-        Ok(count)
-    }
-}
 
 // How many records come before the stop, the stop, and the answer of the call after it.
 fn stop_of<R: Read + Drop>(source: R) -> (u32, Next, Next) {
@@ -139,11 +59,15 @@ fn cut(rt: HostRuntime) {
             assert_eq!(rt; stop_of(source), (count, stop, stop), "{n} bytes");
         }
     }
+    for n in 24..29usize {
+        let stop = Next::Fault(Fault::F4, 4);
+        assert_eq!(rt; stop_of(&RECORD[..n]), (0, stop, stop), "{n} bytes");
+    }
 }
 
 #[test]
 fn broken(rt: HostRuntime) {
-    for error in ERRORS {
+    for error in [STUMBLES[0], STUMBLES[1]] {
         for step in [1, 2, 3, 7usize] {
             for n in 0..45usize {
                 let (count, offset) = match n {
@@ -235,15 +159,10 @@ fn round_trip(rt: HostRuntime) -> Result<(), Fail> {
 #[test]
 fn failing_writes(rt: HostRuntime) -> Result<(), Fail> {
     let record = &RECORD[4..];
-    for stumble in [ERRORS[0], ERRORS[1], Stumble::Nothing] {
+    for stumble in STUMBLES {
         for step in [1, 7, 25usize] {
             for room in 0..26usize {
-                let mut writer = Writer {
-                    taken: Vec::new(rt.alloc()),
-                    step,
-                    room,
-                    stumble: Some(stumble),
-                };
+                let mut writer = Writer::new(rt.alloc(), step, room, Some(stumble));
                 let result = write_frame(&mut writer, &HEAD, b"hello");
                 let want = match stumble {
                     Stumble::Error(kind) => kind,

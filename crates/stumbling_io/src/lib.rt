@@ -1,0 +1,109 @@
+//! Readers and writers for tests, which move a few bytes at a time and stumble once. What stands above them has to
+//! take what comes, and must not try again.
+#![tactic(auto)]
+
+ghost use Rattle.std.specs.Prelude.{◌≡◌, [], Some, IfOk};
+
+use std::alloc::Global;
+use std::io;
+use std::io::{ErrorKind, Read, Write};
+
+/// What comes once in place of bytes: an error, or the answer that no byte was moved.
+#[derive(Clone, Copy, PartialEq, Eq, Debug)]
+pub enum Stumble {
+    Error(ErrorKind),
+    Nothing,
+}
+
+/// The stumbles that callers must tell apart, or must not: an error that some callers try again after is among them.
+pub const STUMBLES: [Stumble; 3] = [
+    Stumble::Error(ErrorKind::BrokenPipe),
+    Stumble::Error(ErrorKind::Interrupted),
+    Stumble::Nothing,
+];
+
+fn answer_of(stumble: Stumble) -> io::Result<usize>
+    ensures { IfOk result (λ count. count ≡ 0) }
+{
+    match stumble {
+        Stumble::Error(kind) => Err(io::Error::from(kind)),
+        Stumble::Nothing => Ok(0),
+    }
+}
+
+/// Takes at most `step` bytes at a call. Where it is to stumble it does so once, after `room` bytes, and would then
+/// take more.
+#[derive(Drop)]
+pub struct Writer {
+    pub taken: Vec<u8>,
+    pub step: usize,
+    pub room: usize,
+    pub stumble: Option<Stumble>,
+}
+
+impl Writer {
+    /// A writer that has taken nothing yet.
+    pub fn new(alloc: Global, step: usize, room: usize, stumble: Option<Stumble>) -> Writer
+        ensures nothing { result.taken.items ≡ [] }
+        ensures steps { result.step ≡ step }
+        ensures rooms { result.room ≡ room }
+        ensures stumbles { result.stumble ≡ stumble }
+    {
+        Writer {
+            taken: Vec::new(alloc),
+            step,
+            room,
+            stumble,
+        }
+    }
+}
+
+impl Write for Writer {
+    ghost contents = { λ w. Some w.taken.items };
+
+    fn write(&mut self, buf: &[u8]) -> io::Result<usize> {
+        let mut count = buf.len().min(self.step);
+        if let Some(stumble) = self.stumble {
+            if self.room == 0 {
+                self.stumble = None;
+                return answer_of(stumble);
+            }
+            count = count.min(self.room);
+            self.room -= count;
+        }
+        self.taken.extend_from_slice(&buf[..count])?;
+        Ok(count)
+    }
+
+    fn flush(&mut self) -> io::Result<()> {
+        Ok(())
+    }
+}
+
+/// Gives at most `step` bytes at a call. Where it is to stumble it does so once, after `room` bytes, and would then
+/// give more.
+#[derive(Drop)]
+pub struct Reader<'a> {
+    pub left: &'a [u8],
+    pub step: usize,
+    pub room: usize,
+    pub stumble: Option<Stumble>,
+}
+
+impl Read for Reader<'_> {
+    fn read(&mut self, buf: &mut [u8]) -> io::Result<usize> {
+        let mut count = buf.len().min(self.left.len()).min(self.step);
+        if let Some(stumble) = self.stumble {
+            if self.room == 0 {
+                self.stumble = None;
+                return answer_of(stumble);
+            }
+            count = count.min(self.room);
+            self.room -= count;
+        }
+        let (front, rest) = self.left.split_at(count);
+        buf[..count].copy_from_slice(front);
+        self.left = rest;
+        Ok(count)
+    }
+}
