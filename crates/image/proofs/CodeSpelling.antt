@@ -1,5 +1,5 @@
 -- Code that was read from bytes is spelled by them, and is code; and code that is spelled is read.
-use Rattle.std.proofs.Common.{◌≡◌, ℕ, zero, suc, ◌-◌, ◌+◌, ◌*◌, ◌≤◌, ◌<◌, Bool, true, false, List, [], ◌∷◌, ◌++◌, take, drop, length, Option, Some, None, Result, Ok, Err, refl, sym, ap, ◌∙◌, subst, arith, drop-drop, length-append}
+use Rattle.std.proofs.Common.{◌≡◌, ℕ, zero, suc, ◌-◌, ◌+◌, ◌*◌, ◌≤◌, ◌<◌, Bool, true, false, List, [], ◌∷◌, ◌++◌, take, drop, length, Option, Some, None, Result, Ok, Err, refl, sym, ap, ◌∙◌, subst, arith, drop-drop, length-append, take_all}
 use Rattle.std.specs.Prelude.{slice_index}
 use Rattle.std.proofs.lemmas.List.{get_or-drop, length-drop, length-take, take-append-drop, drop_at}
 use Rattle.isa_model.specs.declared.instructions.Insn.{Insn}
@@ -8,7 +8,7 @@ use Rattle.isa_model.specs.Instructions.{slots_of}
 use Rattle.isa_model.specs.Spelling.{spelling_of, InsnFits}
 use Rattle.insn_codec.specs.declared.errors.CodecError.{CodecError}
 use Rattle.insn_codec.specs.Decoding.{decoded}
-use Rattle.exact_io.specs.LittleEndian.{AreBytes}
+use Rattle.isa_model.specs.LittleEndian.{EachByte, EachByte-drop}
 use Rattle.image.specs.declared.errors.ImageError.{ImageError}
 use Rattle.image.specs.Images.{code_bytes, is_wide, IsCode}
 use Rattle.image.specs.Refusals.{◌>>=◌, insn_at, at_slot, code_from}
@@ -18,12 +18,9 @@ Slots = List (Option Insn)
 
 -- the laws of the decoder
 pub record Laws : Type 0 where
-  pub found : (bytes : List ℕ) (i : Insn) → AreBytes bytes → decoded bytes ≡ Ok i → take (8 * slots_of i) bytes ≡ spelling_of i
-  pub fits : (bytes : List ℕ) (i : Insn) → AreBytes bytes → decoded bytes ≡ Ok i → InsnFits i
+  pub found : (bytes : List ℕ) (i : Insn) → EachByte bytes → decoded bytes ≡ Ok i → take (8 * slots_of i) bytes ≡ spelling_of i
+  pub fits : (bytes : List ℕ) (i : Insn) → EachByte bytes → decoded bytes ≡ Ok i → InsnFits i
   pub again : (i : Insn) (rest : List ℕ) → InsnFits i → decoded (spelling_of i ++ rest) ≡ Ok i
-
-pub AreBytes-drop : (n : ℕ) (bytes : List ℕ) → AreBytes bytes → AreBytes (drop n bytes)
-AreBytes-drop n bytes h j = rw get_or-drop (h (n + j))
 
 bind_ok : {A B : Type 0} (r : Result A ImageError) (f : A → Result B ImageError) (y : B) → (r >>= f) ≡ Ok y → (x : A) × (r ≡ Ok x) × (f x ≡ Ok y)
 bind_ok (Ok x) f y e = (x, refl, e)
@@ -41,6 +38,10 @@ decoded_ok i = Ok i
 at_slot_ok : (slot : ℕ) (r : Result Insn CodecError) (i : Insn) → at_slot slot r ≡ Ok i → r ≡ Ok i
 at_slot_ok slot (Err e) i h = absurd cc
 at_slot_ok slot (Ok j) i h = ap (λ (x : Insn). decoded_ok x) cc
+
+-- the rest of a slice
+pub take-rest : (n : ℕ) (xs : List ℕ) → take (length xs - n) (drop n xs) ≡ drop n xs
+take-rest n xs = take_all (length xs - n) (drop n xs) (omega (arith, length-drop n xs))
 
 -- the bytes of the slots whose instructions begin there
 abbrev pub rest_of : Bool → List ℕ → List ℕ
@@ -79,7 +80,7 @@ no_half : (half : Bool) → HasHalf half 0 → half ≡ false
 no_half true h = absurd (omega arith)
 no_half false h = refl
 
-pub code_from-found : Laws → (n : ℕ) (half : Bool) (slot : ℕ) (bytes : List ℕ) (xs : List (Option Insn)) → AreBytes bytes → length bytes ≡ 8 * n → HasHalf half n → code_from n half slot bytes ≡ Ok xs → IsReadFrom n half bytes xs
+pub code_from-found : Laws → (n : ℕ) (half : Bool) (slot : ℕ) (bytes : List ℕ) (xs : List (Option Insn)) → EachByte bytes → length bytes ≡ 8 * n → HasHalf half n → code_from n half slot bytes ≡ Ok xs → IsReadFrom n half bytes xs
 unfolding code_from
 code_from-found laws zero half slot bytes xs small len room e =
     subst (λ (ys : Slots). IsReadFrom 0 half bytes ys) (ok_is [] xs e) (record {
@@ -89,7 +90,7 @@ code_from-found laws zero half slot bytes xs small len room e =
     })
 code_from-found laws (suc n) true slot bytes xs small len room e =
     let b = bind_ok (code_from n false (slot + 1) (drop 8 bytes)) (λ ys. slots_ok (None ∷ ys)) xs e in
-    let more = code_from-found laws n false (slot + 1) (drop 8 bytes) b.0 (AreBytes-drop 8 bytes small) (omega (arith, length-drop 8 bytes)) tt b.1 in
+    let more = code_from-found laws n false (slot + 1) (drop 8 bytes) b.0 (EachByte-drop 8 bytes small) (omega (arith, length-drop 8 bytes)) tt b.1 in
     subst (λ (ys : Slots). IsReadFrom (suc n) true bytes ys) (ok_is (None ∷ b.0) xs b.2) (record {
       spelled = more.spelled;
       count = ap suc more.count;
@@ -102,7 +103,7 @@ code_from-found laws (suc n) false slot bytes xs small len room e =
     let read = at_slot_ok slot (decoded bytes) a.0 a.1 in
     let spelled = laws.found bytes a.0 small read in
     let long : slots_of a.0 ≤ suc n = omega (arith, ap length spelled, length-spelling_of a.0, length-take (8 * slots_of a.0) bytes, len) in
-    let more = code_from-found laws n (is_wide a.0) (slot + 1) (drop 8 bytes) b.0 (AreBytes-drop 8 bytes small) (omega (arith, length-drop 8 bytes)) (has_half a.0 n long) b.1 in
+    let more = code_from-found laws n (is_wide a.0) (slot + 1) (drop 8 bytes) b.0 (EachByte-drop 8 bytes small) (omega (arith, length-drop 8 bytes)) (has_half a.0 n long) b.1 in
     subst (λ (ys : Slots). IsReadFrom (suc n) false bytes ys) (ok_is (Some a.0 ∷ b.0) xs b.2) (record {
       spelled =
           ap (λ l. spelling_of a.0 ++ l) (more.spelled ∙ after a.0 bytes)
@@ -113,9 +114,6 @@ code_from-found laws (suc n) false slot bytes xs small len room e =
     })
 
 -- ---- and back
-
-abbrev insn_ok : Insn → Result Insn ImageError
-insn_ok i = Ok i
 
 -- code is read from its spelling
 pub code_from-code_bytes : Laws → (xs : List (Option Insn)) (half : Bool) (slot : ℕ) (bytes : List ℕ) → IsCode half xs → rest_of half bytes ≡ code_bytes xs → code_from (length xs) half slot bytes ≡ Ok xs

@@ -14,13 +14,14 @@ use Rattle.byteorder.specs.Numbers.{little_number-reads_back}
 use Rattle.isa_model.specs.declared.map_defs.MapDef.{MapDef}
 use Rattle.isa_model.specs.declared.instructions.Insn.{Insn}
 use Rattle.isa_model.specs.Instructions.{Program}
-use Rattle.exact_io.specs.LittleEndian.{AreBytes, little_bytes-little_from}
+use Rattle.isa_model.specs.LittleEndian.{EachByte, EachByte-drop, little_bytes-little_from}
 use Rattle.image.specs.declared.errors.ImageError.{ImageError}
 use Rattle.image.specs.declared.errors.ImageError.TheVariants.{Magic, Short, Long, TooManyMaps, SlotCount, Memory}
 use Rattle.image.specs.declared.head.TheConstants.{MAX_MAPS, MAX_SLOTS}
 use Rattle.image.specs.Images.{magic, row_bytes, head_bytes, code_bytes, image_bytes, IsCode, IsRow, room_of, IsImage}
+use Rattle.image.specs.Programs.{no_maps}
 use Rattle.image.specs.Refusals.{map_count, slot_count, size_of, size_refusal, code_from, code_read, code_refusal, refusal_of}
-use Rattle.image.proofs.CodeSpelling.{Laws, AreBytes-drop, IsReadFrom, code_from-found, code_from-code_bytes, length-code_bytes}
+use Rattle.image.proofs.CodeSpelling.{Laws, take-rest, IsReadFrom, code_from-found, code_from-code_bytes, length-code_bytes}
 
 -- ---- the tests of the sizes
 
@@ -95,10 +96,6 @@ no_rows = []
 abbrev pub program_of : List (Option Insn) → Program
 program_of xs = record { insns = xs; maps = [] }
 
--- the rest of a slice
-pub take-rest : (n : ℕ) (xs : List ℕ) → take (length xs - n) (drop n xs) ≡ drop n xs
-take-rest n xs = take_all (length xs - n) (drop n xs) (omega (arith, length-drop n xs))
-
 -- the code of an image with no rows stands behind its head
 code_behind : (bytes : List ℕ) → map_count bytes ≡ 0 → drop (8 + 12 * map_count bytes) bytes ≡ drop 8 bytes
 code_behind bytes h = ap (λ (k : ℕ). drop (8 + 12 * k) bytes) h
@@ -111,12 +108,12 @@ code_read-slice bytes s =
     ∙ ap (λ (l : List ℕ). code_from (slot_count bytes) false 0 l) (sym (code_behind bytes s.maps))
 
 -- the 8 bytes of the head
-head_spelled : (bytes : List ℕ) (n : ℕ) → AreBytes bytes → Sizes bytes → n ≡ slot_count bytes → magic ++ (little_bytes 2 0 ++ little_bytes 2 n) ≡ take 8 bytes
+head_spelled : (bytes : List ℕ) (n : ℕ) → EachByte bytes → Sizes bytes → n ≡ slot_count bytes → magic ++ (little_bytes 2 0 ++ little_bytes 2 n) ≡ take 8 bytes
 head_spelled bytes n small s count =
     let maps : little_bytes 2 0 ≡ take 2 (drop 4 bytes) =
-    ap (little_bytes 2) (sym s.maps) ∙ little_bytes-little_from 2 0 (drop 4 bytes) (AreBytes-drop 4 bytes small) (omega (arith, s.long, length-drop 4 bytes)) in
+    ap (little_bytes 2) (sym s.maps) ∙ little_bytes-little_from 2 0 (drop 4 bytes) (EachByte-drop 4 bytes small) (omega (arith, s.long, length-drop 4 bytes)) in
     let slots : little_bytes 2 n ≡ take 2 (drop 6 bytes) =
-    ap (little_bytes 2) count ∙ little_bytes-little_from 2 0 (drop 6 bytes) (AreBytes-drop 6 bytes small) (omega (arith, s.long, length-drop 6 bytes)) in
+    ap (little_bytes 2) count ∙ little_bytes-little_from 2 0 (drop 6 bytes) (EachByte-drop 6 bytes small) (omega (arith, s.long, length-drop 6 bytes)) in
     let counts : take 4 (drop 4 bytes) ≡ take 2 (drop 4 bytes) ++ take 2 (drop 6 bytes) =
     take-add 2 2 (drop 4 bytes) ∙ ap (λ (l : List ℕ). take 2 (drop 4 bytes) ++ take 2 l) (drop-drop 2 4 bytes) in
     ap (λ (l : List ℕ). l ++ (little_bytes 2 0 ++ little_bytes 2 n)) (sym s.text)
@@ -130,12 +127,12 @@ pub record IsParsed (bytes : List ℕ) (xs : List (Option Insn)) : Type 0 where
   pub spelled : bytes ≡ image_bytes (program_of xs)
   pub image : IsImage (program_of xs)
 
-pub code_read-found : Laws → (bytes : List ℕ) (xs : List (Option Insn)) → AreBytes bytes → Sizes bytes → code_read bytes ≡ Ok xs → IsParsed bytes xs
+pub code_read-found : Laws → (bytes : List ℕ) (xs : List (Option Insn)) → EachByte bytes → Sizes bytes → code_read bytes ≡ Ok xs → IsParsed bytes xs
 unfolding image_bytes
 code_read-found laws bytes xs small s e =
     let n = slot_count bytes in
     let read = ap (λ (l : List ℕ). code_from n false 0 l) (sym (code_behind bytes s.maps)) ∙ e in
-    let found = code_from-found laws n false 0 (drop 8 bytes) xs (AreBytes-drop 8 bytes small) (omega (arith, s.whole, length-drop 8 bytes)) tt read in
+    let found = code_from-found laws n false 0 (drop 8 bytes) xs (EachByte-drop 8 bytes small) (omega (arith, s.whole, length-drop 8 bytes)) tt read in
     record {
       spelled =
           sym (take-append-drop 8 bytes)
@@ -174,10 +171,6 @@ size_refusal-plain_bytes n code some few len =
     (le-ltb _ _ (omega (arith, count)))
     (le-ltb _ _ (omega (arith, count)))
 
-no_maps : (rows : List MapDef) → length rows ≤ MAX_MAPS → rows ≡ []
-no_maps [] h = refl
-no_maps (row ∷ rows) h = absurd (omega arith)
-
 -- an image is read
 pub record IsRead (bytes : List ℕ) (p : Program) : Type 0 where
   pub sizes : size_refusal bytes ≡ None
@@ -191,7 +184,7 @@ image_bytes-plain p h = ap (λ (rows : List MapDef). (magic ++ (little_bytes 2 (
 -- an image is its head and its code: it has no rows
 image_bytes-parts : (p : Program) → IsImage p → image_bytes p ≡ head_bytes p ++ code_bytes p.insns
 unfolding image_bytes
-image_bytes-parts p h = ap (λ (rows : List MapDef). head_bytes p ++ (flat_map row_bytes rows ++ code_bytes p.insns)) (no_maps p.maps h.few_maps)
+image_bytes-parts p h = ap (λ (rows : List MapDef). head_bytes p ++ (flat_map row_bytes rows ++ code_bytes p.insns)) (no_maps p h)
 
 -- the head and the code that are written
 pub image_bytes-written : (p q : Program) (head : List ℕ) (m n : ℕ) → IsImage p → p ≡ q → head ≡ magic ++ (little_bytes 2 m ++ little_bytes 2 n) → m ≡ length p.maps → n ≡ length p.insns → head ++ code_bytes p.insns ≡ image_bytes q
@@ -207,7 +200,7 @@ code_read-plain_bytes laws xs h few =
 
 pub image_bytes-read : Laws → (bytes : List ℕ) (p : Program) → IsImage p → bytes ≡ image_bytes p → IsRead bytes p
 image_bytes-read laws bytes p h e =
-    let none = no_maps p.maps h.few_maps in
+    let none = no_maps p h in
     let plain = e ∙ image_bytes-plain p none in
     let len : length (code_bytes p.insns) ≡ 8 * length p.insns = omega (arith, length-code_bytes p.insns false h.code) in
     record {

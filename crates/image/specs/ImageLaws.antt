@@ -78,31 +78,6 @@ second_of (None ∷ xs) false k i h e w = absurd h
 second_of (Some j ∷ xs) false zero i h e w = second_of_first j xs h.1 (ap slots_of (same_insn j i e) ∙ w)
 second_of (Some j ∷ xs) false (suc k) i h e w = one_further (Some j) xs (k + 1) (suc k + 1) (omega arith) (second_of xs (is_wide j) k i h.1 e w)
 
--- the slot before it begins an instruction of two slots
-abbrev HasFirst : List (Option Insn) → ℕ → Type 0
-HasFirst xs k = (j : ℕ) × (i : Insn) × (k ≡ j + 1) × (insn_in xs j ≡ Some i) × (slots_of i ≡ 2)
-
-one_later : (x : Option Insn) (xs : List (Option Insn)) (k : ℕ) → HasFirst xs k → HasFirst (x ∷ xs) (suc k)
-one_later x xs k (j, i, e, h, w) = (suc j, i, omega arith, h, w)
-
-is_wide-two : (i : Insn) → is_wide i ≡ true → slots_of i ≡ 2
-is_wide-two (LoadNumber d n) h = refl
-is_wide-two i h = absurd cc
-
-first_of_second : (xs : List (Option Insn)) (half : Bool) (k : ℕ) → IsCode half xs → k < length xs → insn_in xs k ≡ None → ((half ≡ true) × (k ≡ 0)) ⊎ HasFirst xs k
-first_of_second [] half k h lt e = absurd (omega arith)
-first_of_second (None ∷ xs) true zero h lt e = inl (refl, refl)
-first_of_second (None ∷ xs) true (suc k) h lt e =
-    elim (first_of_second xs false k h (omega arith) e) [ inl w ↦ absurd cc | inr f ↦ inr (one_later None xs k f) ]
-first_of_second (Some j ∷ xs) true k h lt e = absurd h
-first_of_second (None ∷ xs) false k h lt e = absurd h
-first_of_second (Some i ∷ xs) false zero h lt e = absurd cc
-first_of_second (Some i ∷ xs) false (suc k) h lt e =
-    elim (first_of_second xs (is_wide i) k h.1 (omega arith) e) [
-      | inl w ↦ inr (0, i, omega arith, refl, is_wide-two i w.0)
-      | inr f ↦ inr (one_later (Some i) xs k f)
-    ]
-
 -- ---- images
 
 -- the numbers in an instruction are of their types
@@ -120,7 +95,3 @@ fetch-next p s i h e = behind p.insns false s i h.code e
 -- an instruction of two slots has its second half
 pub fetch-second : (p : Program) (s : ℕ) (i : Insn) → IsImage p → fetch p s ≡ Some i → slots_of i ≡ 2 → (s + 1 < length p.insns) × (fetch p (s + 1) ≡ None)
 fetch-second p s i h e w = second_of p.insns false s i h.code e w
-
--- a slot at which none begins is the second half of the one before it
-pub fetch-none : (p : Program) (s : ℕ) → IsImage p → s < length p.insns → fetch p s ≡ None → (j : ℕ) × (i : Insn) × (s ≡ j + 1) × (fetch p j ≡ Some i) × (slots_of i ≡ 2)
-fetch-none p s h lt e = elim (first_of_second p.insns false s h.code lt e) [ inl w ↦ absurd cc | inr f ↦ f ]

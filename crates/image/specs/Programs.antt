@@ -1,13 +1,15 @@
 -- The program of an image is one, as the meaning of programs wants it.
-use Rattle.std.specs.Prelude.{◌≡◌, ℕ, ◌+◌, ◌<◌, ◌≤◌, ◌⊎◌, length, Option, Some, None, refl}
+use Rattle.std.specs.Prelude.{◌≡◌, ℕ, ◌+◌, ◌<◌, ◌≤◌, ◌⊎◌, List, [], ◌∷◌, length, Option, Some, None, refl}
 use Rattle.std.specs.Option.{option_flatten}
-use Rattle.std.proofs.Common.{sym, ap, ◌∙◌, arith, inl, inr}
+use Rattle.std.proofs.Common.{sym, ap, ◌∙◌, subst, arith, inl, inr}
 use Rattle.std.proofs.lemmas.Bool.{cases_lt}
 use Rattle.std.proofs.lemmas.Option.{slice_get_past}
 use Rattle.isa_model.specs.declared.instructions.Insn.{Insn}
+use Rattle.isa_model.specs.declared.map_defs.MapDef.{MapDef}
 use Rattle.isa_model.specs.declared.instructions.Insn.TheVariants.{LoadNumber}
 use Rattle.isa_model.specs.Instructions.{Program, fetch, slots_of}
-use Rattle.isa_model.specs.MachineStates.{IsProgram}
+use Rattle.isa_model.specs.MachineStates.{IsProgram, FitRows}
+use Rattle.isa_model.specs.Reports.{starting_contents}
 use Rattle.image.specs.Images.{IsImage}
 use Rattle.image.specs.ImageLaws.{InsnFits-fetch, fetch-second}
 
@@ -35,3 +37,15 @@ IsProgram-IsImage p h = record {
   ];
   halves = λ slot i e two. (fetch-second p slot i h e two).1;
 }
+
+-- images have no map rows yet
+pub no_maps : (p : Program) → IsImage p → p.maps ≡ []
+no_maps p h = empty p.maps h.few_maps
+  where
+    empty : (rows : List MapDef) → length rows ≤ 0 → rows ≡ []
+    empty [] h = refl
+    empty (row ∷ rows) h = absurd (omega arith)
+
+-- the contents that maps start with fit their rows
+pub FitRows-starting_contents : (p : Program) → IsImage p → FitRows p.maps (starting_contents p.maps)
+FitRows-starting_contents p h = subst (λ rows. FitRows rows (starting_contents rows)) (sym (no_maps p h)) tt

@@ -1,6 +1,6 @@
 -- What an instruction's spelling is decoded to.
-use Rattle.std.proofs.Common.{◌≡◌, ℕ, ◌+◌, ◌*◌, ◌/◌, ◌%◌, ◌^◌, ◌<◌, ◌≤◌, Bool, true, false, cond, ℤ, List, [], ◌∷◌, ◌++◌, length, take, drop, Option, Some, None, Result, Ok, Err, refl, sym, ap, ◌∙◌, subst, arith}
-use Rattle.std.specs.Prelude.{◌==◌, nat_lt, not}
+use Rattle.std.proofs.Common.{◌≡◌, ℕ, ◌+◌, ◌*◌, ◌/◌, ◌%◌, ◌^◌, ◌<◌, Bool, true, false, cond, ℤ, List, ◌++◌, length, Option, Some, Result, Ok, Err, refl, ap, ◌∙◌, arith}
+use Rattle.std.specs.Prelude.{nat_lt}
 use Rattle.std.specs.Int.{w16, w32, cast_signed, cast_unsigned}
 use Rattle.std.specs.Int.RustNames.{FitsSigned}
 use Rattle.std.proofs.lemmas.Int.{to_z-of_z}
@@ -10,11 +10,11 @@ use Rattle.byteorder.specs.Numbers.{little_number-reads_back}
 use Rattle.isa_model.specs.declared.registers.Reg.{Reg}
 use Rattle.isa_model.specs.declared.registers.Reg.TheVariants.{R0, R1}
 use Rattle.isa_model.specs.declared.sizes.Size.{Size}
-use Rattle.isa_model.specs.declared.sizes.Size.TheVariants.{U8, U16, U32, U64}
+use Rattle.isa_model.specs.declared.sizes.Size.TheVariants.{U8}
 use Rattle.isa_model.specs.declared.sizes.Narrow.{Narrow}
-use Rattle.isa_model.specs.declared.sizes.Narrow.TheVariants.{S8, S16, S32}
+use Rattle.isa_model.specs.declared.sizes.Narrow.TheVariants.{S8}
 use Rattle.isa_model.specs.declared.sizes.Span.{Span}
-use Rattle.isa_model.specs.declared.sizes.Span.TheVariants.{B16, B32, B64}
+use Rattle.isa_model.specs.declared.sizes.Span.TheVariants.{B16}
 use Rattle.isa_model.specs.declared.sizes.Extension.{Extension}
 use Rattle.isa_model.specs.declared.sizes.Extension.TheVariants.{Low8, Low16, Full8, Full16, Full32}
 use Rattle.isa_model.specs.declared.sizes.Width.{Width}
@@ -24,7 +24,7 @@ use Rattle.isa_model.specs.declared.instructions.AluOp.TheVariants as ops
 use Rattle.isa_model.specs.declared.instructions.Comparison.{Comparison}
 use Rattle.isa_model.specs.declared.instructions.Comparison.TheVariants.{Equal}
 use Rattle.isa_model.specs.declared.sizes.ByteOrder.{ByteOrder}
-use Rattle.isa_model.specs.declared.sizes.ByteOrder.TheVariants.{Little, Big, Swap}
+use Rattle.isa_model.specs.declared.sizes.ByteOrder.TheVariants.{Little}
 use Rattle.isa_model.specs.declared.instructions.AtomicOp.{AtomicOp}
 use Rattle.isa_model.specs.declared.instructions.AtomicOp.TheVariants as atomics
 use Rattle.isa_model.specs.declared.instructions.Operand.{Operand}
@@ -34,9 +34,9 @@ use Rattle.isa_model.specs.declared.instructions.Cond.{Cond}
 use Rattle.isa_model.specs.declared.instructions.Insn.{Insn}
 use Rattle.isa_model.specs.declared.instructions.Insn.TheVariants.{Alu, Neg, MovSx, ByteSwap, LoadNumber, Load, LoadSx, StoreConstant, Store, Atomic, Exchange, CompareExchange, Jump, JumpLong, JumpIf, CallLocal, Exit}
 use Rattle.isa_model.specs.declared.slots.Slot.{Slot}
-use Rattle.isa_model.specs.Registers.{reg_number, reg_numbered}
+use Rattle.isa_model.specs.Registers.{reg_numbered}
 use Rattle.isa_model.specs.Sizes.{span_bits}
-use Rattle.isa_model.specs.Spelling.{alu_code, alu_offset, alu_class, jump_class, jump_code, extension_class, extension_bits, order_opcode, size_code, narrow_code, atomic_opcode, atomic_code, fetch_bit, first_slot, next_imm, second_bytes, slot}
+use Rattle.isa_model.specs.Spelling.{alu_code, alu_offset, alu_class, jump_class, jump_code, extension_class, extension_bits, order_opcode, size_code, narrow_code, atomic_opcode, atomic_code, fetch_bit, first_slot, next_imm, second_bytes}
 use Rattle.isa_model.specs.Spelling.{InsnFits, OperandFits}
 use Rattle.insn_codec.specs.declared.errors.CodecError.{CodecError}
 use Rattle.insn_codec.specs.declared.errors.CodecError.TheVariants.{UnusedField, SecondSlot}
@@ -44,10 +44,9 @@ use Rattle.insn_codec.specs.declared.forms.AluCode.{AluCode}
 use Rattle.insn_codec.specs.declared.forms.AluCode.TheVariants as codes
 use Rattle.insn_codec.specs.declared.forms.Form.{Form}
 use Rattle.insn_codec.specs.declared.forms.Form.TheVariants as form
-use Rattle.insn_codec.specs.declared.forms.Uses.{Uses}
 use Rattle.insn_codec.specs.declared.fields.Fields.{Fields}
 use Rattle.insn_codec.specs.Forms.{form_of, uses, zero_unused}
-use Rattle.insn_codec.specs.Decoding.{meaning, slot_meaning, with_form, with_dst, with_src, with_fields, wide_number}
+use Rattle.insn_codec.specs.Decoding.{meaning, slot_meaning, with_form, with_dst, with_src}
 use Rattle.insn_codec.proofs.Opcodes.{reg_numbered-number}
 
 abbrev fields : Reg → Reg → ℕ → ℕ → Fields

@@ -1,11 +1,10 @@
 -- What is decoded is spelled so.
-use Rattle.std.proofs.Common.{◌≡◌, ℕ, ◌+◌, ◌*◌, ◌/◌, ◌%◌, ◌^◌, ◌<◌, ◌≤◌, Bool, true, false, cond, ℤ, List, [], ◌∷◌, ◌++◌, length, take, drop, get_or, Option, Some, None, Result, Ok, Err, refl, sym, ap, ◌∙◌, subst, arith, inl, inr}
-use Rattle.std.specs.Prelude.{◌==◌, ◌||◌, ◌&&◌, ◌⊎◌, slice_index, nat_lt, not}
-use Rattle.std.proofs.lemmas.List.{get_or-drop, length-drop}
+use Rattle.std.proofs.Common.{◌≡◌, ℕ, ◌+◌, ◌*◌, ◌/◌, ◌%◌, ◌^◌, ◌<◌, ◌≤◌, true, false, List, [], ◌∷◌, ◌++◌, length, take, drop, Option, Some, None, Ok, refl, sym, ap, ◌∙◌, subst, arith, inl, inr}
+use Rattle.std.specs.Prelude.{◌==◌, nat_lt, not}
+use Rattle.std.proofs.lemmas.List.{length-drop}
 use Rattle.std.proofs.Common.{take-add}
-use Rattle.std.specs.Option.{option_map}
 use Rattle.std.specs.Int.{w16, w32, cast_signed, cast_unsigned}
-use Rattle.std.proofs.lemmas.Bool.{and_parts, eqb-true, ltb-false, not-false}
+use Rattle.std.proofs.lemmas.Bool.{eqb-true, ltb-false, not-false}
 use Rattle.std.proofs.lemmas.Int.{of_z-to_z}
 use Rattle.std.proofs.Math.Facts.{sfits_to_z}
 use Rattle.std.specs.Int.RustNames.{FitsSigned}
@@ -14,146 +13,23 @@ use Rattle.byteorder.specs.Endian.{little_number, little_bytes}
 use Rattle.isa_model.specs.declared.registers.Reg.{Reg}
 use Rattle.isa_model.specs.declared.registers.Reg.TheVariants.{R0, R1}
 use Rattle.isa_model.specs.declared.sizes.Width.{Width}
-use Rattle.isa_model.specs.declared.sizes.Width.TheVariants.{Low32, Full64}
-use Rattle.isa_model.specs.declared.instructions.AluOp.{AluOp}
 use Rattle.isa_model.specs.declared.instructions.AluOp.TheVariants as ops
 use Rattle.isa_model.specs.declared.sizes.ByteOrder.{ByteOrder}
-use Rattle.isa_model.specs.declared.sizes.Span.{Span}
-use Rattle.isa_model.specs.declared.sizes.Span.TheVariants.{B16, B32, B64}
-use Rattle.isa_model.specs.declared.sizes.Extension.{Extension}
-use Rattle.isa_model.specs.declared.sizes.Extension.TheVariants.{Low8, Low16, Full8, Full16, Full32}
 use Rattle.isa_model.specs.declared.instructions.AtomicOp.TheVariants as atomics
 use Rattle.isa_model.specs.declared.instructions.Operand.TheVariants.{Constant, Register}
-use Rattle.isa_model.specs.declared.instructions.Place.{Place}
 use Rattle.isa_model.specs.declared.instructions.Insn.{Insn}
-use Rattle.isa_model.specs.declared.instructions.Insn.TheVariants.{Alu, Neg, MovSx, ByteSwap, LoadNumber, Load, LoadSx, StoreConstant, Store, Atomic, Exchange, CompareExchange, Jump, JumpLong, JumpIf, CallLocal, Exit}
+use Rattle.isa_model.specs.declared.instructions.Insn.TheVariants.{Alu, MovSx, ByteSwap, Atomic, Exchange, CompareExchange}
 use Rattle.isa_model.specs.declared.slots.Slot.{Slot}
 use Rattle.isa_model.specs.Registers.{reg_number, reg_numbered}
-use Rattle.isa_model.specs.Sizes.{span_bits}
-use Rattle.isa_model.specs.Spelling.{InsnFits, alu_code, alu_offset, alu_class, atomic_opcode, extension_class, extension_bits, first_slot, next_imm, second_bytes, slot}
-use Rattle.insn_codec.specs.declared.errors.CodecError.{CodecError}
-use Rattle.insn_codec.specs.declared.errors.CodecError.TheVariants.{UnusedField}
+use Rattle.isa_model.specs.Spelling.{InsnFits, alu_class, atomic_opcode, first_slot, next_imm, second_bytes, slot}
+use Rattle.isa_model.specs.LittleEndian.{EachByte, EachByte-drop, little_bytes-little_from}
 use Rattle.insn_codec.specs.declared.forms.AluCode.{AluCode}
-use Rattle.insn_codec.specs.declared.forms.AluCode.TheVariants as codes
 use Rattle.insn_codec.specs.declared.forms.Form.{Form}
 use Rattle.insn_codec.specs.declared.forms.Form.TheVariants as form
-use Rattle.insn_codec.specs.declared.forms.Uses.{Uses}
-use Rattle.insn_codec.specs.declared.fields.Fields.{Fields}
-use Rattle.insn_codec.specs.Forms.{has_selector, uses, zero_unused, is_r0, form_of}
-use Rattle.insn_codec.specs.Decoding.{op_selected, extension_selected, span_selected, selected, meaning, slot_meaning, with_form, with_dst, with_src, with_fields, atomic, called_by, moved, swapped, wide_by, wide_number, constant_in, place_in}
-use Rattle.insn_codec.proofs.Little.{bytes-little_from}
-use Rattle.insn_codec.proofs.Opcodes.{opcode_of, code_of, opcode-form_of, number-reg_numbered}
-
--- ---- tools
-
--- which way a test went
-pub chosen : {A : Type 0} (b : Bool) (x y z : A) → cond b x y ≡ z → ((b ≡ true) × (x ≡ z)) ⊎ ((b ≡ false) × (y ≡ z))
-chosen true x y z e = inl (refl, e)
-chosen false x y z e = inr (refl, e)
-
-abbrev done : Insn → Result Insn CodecError
-done i = Ok i
-
-ok_is : (i j : Insn) → done i ≡ done j → i ≡ j
-ok_is i j e = cc
-
-some_is : {A : Type 0} (x y : A) → Some x ≡ Some y → x ≡ y
-some_is x y e = cc
-
-selected_ok : {A : Type 0} (g : A → Insn) (o : Option A) (i : Insn) → selected (option_map g o) ≡ Ok i → (x : A) × (o ≡ Some x) × (g x ≡ i)
-selected_ok g (Some x) i e = (x, refl, ok_is _ _ e)
-selected_ok g None i e = absurd cc
-
-r0_is : (r : Reg) → is_r0 r ≡ true → reg_number r ≡ 0
-r0_is R0 e = refl
-r0_is r e = absurd cc
-
-abbrev fields : Reg → Reg → ℕ → ℕ → Fields
-fields d r o k = record { dst = d; src = r; offset = o; imm = k }
-
--- the unused fields are zero
-record Zeroes (u : Uses) (d r : Reg) (o k : ℕ) : Type 0 where
-  dst : (u.dst || is_r0 d) ≡ true
-  src : (u.src || is_r0 r) ≡ true
-  offset : (u.offset || o == 0) ≡ true
-  imm : (u.imm || k == 0) ≡ true
-
-zeroes : (u : Uses) (d r : Reg) (o k : ℕ) → zero_unused u (fields d r o k) ≡ true → Zeroes u d r o k
-zeroes u d r o k e =
-    let p = and_parts _ _ e in
-    let q = and_parts _ _ p.0 in
-    let s = and_parts _ _ q.0 in
-    record { dst = s.0; src = s.1; offset = q.1; imm = p.1 }
-
--- ---- selectors
-
-abbrev OpIs : AluCode → ℕ → AluOp → Type 0
-OpIs c o op = (alu_code op ≡ code_of c) × (alu_offset op ≡ o)
-
-op_is : (c : AluCode) (o : ℕ) (op : AluOp) → op_selected c o ≡ Some op → (has_selector c || o == 0) ≡ true → OpIs c o op
-op_is codes.Div o op e z =
-    elim (chosen (o == 0) (Some ops.Div) _ _ e) [
-      | inl p ↦ subst (OpIs codes.Div o) (some_is _ _ p.1) (refl, sym (eqb-true o 0 p.0))
-      | inr p ↦ elim (chosen (o == 1) (Some ops.SignedDiv) _ _ p.1) [
-        | inl q ↦ subst (OpIs codes.Div o) (some_is _ _ q.1) (refl, sym (eqb-true o 1 q.0))
-        | inr q ↦ absurd cc
-      ]
-    ]
-op_is codes.Mod o op e z =
-    elim (chosen (o == 0) (Some ops.Mod) _ _ e) [
-      | inl p ↦ subst (OpIs codes.Mod o) (some_is _ _ p.1) (refl, sym (eqb-true o 0 p.0))
-      | inr p ↦ elim (chosen (o == 1) (Some ops.SignedMod) _ _ p.1) [
-        | inl q ↦ subst (OpIs codes.Mod o) (some_is _ _ q.1) (refl, sym (eqb-true o 1 q.0))
-        | inr q ↦ absurd cc
-      ]
-    ]
-op_is codes.Add o op e z = subst (OpIs codes.Add o) (some_is _ _ e) (refl, sym (eqb-true o 0 z))
-op_is codes.Sub o op e z = subst (OpIs codes.Sub o) (some_is _ _ e) (refl, sym (eqb-true o 0 z))
-op_is codes.Mul o op e z = subst (OpIs codes.Mul o) (some_is _ _ e) (refl, sym (eqb-true o 0 z))
-op_is codes.Or o op e z = subst (OpIs codes.Or o) (some_is _ _ e) (refl, sym (eqb-true o 0 z))
-op_is codes.And o op e z = subst (OpIs codes.And o) (some_is _ _ e) (refl, sym (eqb-true o 0 z))
-op_is codes.Lsh o op e z = subst (OpIs codes.Lsh o) (some_is _ _ e) (refl, sym (eqb-true o 0 z))
-op_is codes.Rsh o op e z = subst (OpIs codes.Rsh o) (some_is _ _ e) (refl, sym (eqb-true o 0 z))
-op_is codes.Xor o op e z = subst (OpIs codes.Xor o) (some_is _ _ e) (refl, sym (eqb-true o 0 z))
-op_is codes.Mov o op e z = subst (OpIs codes.Mov o) (some_is _ _ e) (refl, sym (eqb-true o 0 z))
-op_is codes.Arsh o op e z = subst (OpIs codes.Arsh o) (some_is _ _ e) (refl, sym (eqb-true o 0 z))
-
-abbrev ExtensionIs : Width → ℕ → Extension → Type 0
-ExtensionIs w o x = (extension_class x ≡ alu_class w) × (extension_bits x ≡ o)
-
-extension_is : (w : Width) (o : ℕ) (x : Extension) → extension_selected w o ≡ Some x → ExtensionIs w o x
-extension_is Low32 o x e =
-    elim (chosen (o == 8) (Some Low8) _ _ e) [
-      | inl p ↦ subst (ExtensionIs Low32 o) (some_is _ _ p.1) (refl, sym (eqb-true o 8 p.0))
-      | inr p ↦ elim (chosen (o == 16) (Some Low16) _ _ p.1) [
-        | inl q ↦ subst (ExtensionIs Low32 o) (some_is _ _ q.1) (refl, sym (eqb-true o 16 q.0))
-        | inr q ↦ absurd cc
-      ]
-    ]
-extension_is Full64 o x e =
-    elim (chosen (o == 8) (Some Full8) _ _ e) [
-      | inl p ↦ subst (ExtensionIs Full64 o) (some_is _ _ p.1) (refl, sym (eqb-true o 8 p.0))
-      | inr p ↦ elim (chosen (o == 16) (Some Full16) _ _ p.1) [
-        | inl q ↦ subst (ExtensionIs Full64 o) (some_is _ _ q.1) (refl, sym (eqb-true o 16 q.0))
-        | inr q ↦ elim (chosen (o == 32) (Some Full32) _ _ q.1) [
-          | inl s ↦ subst (ExtensionIs Full64 o) (some_is _ _ s.1) (refl, sym (eqb-true o 32 s.0))
-          | inr s ↦ absurd cc
-        ]
-      ]
-    ]
-
-span_is : (k : ℕ) (x : Span) → span_selected k ≡ Some x → span_bits x ≡ k
-span_is k x e =
-    elim (chosen (k == 16) (Some B16) _ _ e) [
-      | inl p ↦ subst (λ (s : Span). span_bits s ≡ k) (some_is _ _ p.1) (sym (eqb-true k 16 p.0))
-      | inr p ↦ elim (chosen (k == 32) (Some B32) _ _ p.1) [
-        | inl q ↦ subst (λ (s : Span). span_bits s ≡ k) (some_is _ _ q.1) (sym (eqb-true k 32 q.0))
-        | inr q ↦ elim (chosen (k == 64) (Some B64) _ _ q.1) [
-          | inl s ↦ subst (λ (y : Span). span_bits y ≡ k) (some_is _ _ s.1) (sym (eqb-true k 64 s.0))
-          | inr s ↦ absurd cc
-        ]
-      ]
-    ]
+use Rattle.insn_codec.specs.Forms.{uses, zero_unused, form_of}
+use Rattle.insn_codec.specs.Decoding.{op_selected, extension_selected, span_selected, meaning, slot_meaning, with_form, with_dst, with_src, with_fields, atomic, called_by, moved, swapped, wide_by, wide_number, constant_in, place_in}
+use Rattle.insn_codec.proofs.Selectors.{chosen, ok_is, selected_ok, r0_is, zeroes, op_is, extension_is, span_is, done, fields, Zeroes}
+use Rattle.insn_codec.proofs.Opcodes.{opcode_of, opcode-form_of, number-reg_numbered}
 
 -- ---- forms
 
@@ -172,11 +48,11 @@ record Within (o k : ℕ) (rest : List ℕ) : Type 0 where
   offset : cast_unsigned w16 (cast_signed w16 o) ≡ o
   imm : cast_unsigned w32 (cast_signed w32 k) ≡ k
   small : k < 2 ^ 32
-  bytes : (j : ℕ) → slice_index rest j < 256
+  bytes : EachByte rest
   distance : FitsSigned w16 (cast_signed w16 o)
   constant : FitsSigned w32 (cast_signed w32 k)
 
-within : (o k : ℕ) (rest : List ℕ) → o < 2 ^ 16 → k < 2 ^ 32 → ((j : ℕ) → slice_index rest j < 256) → Within o k rest
+within : (o k : ℕ) (rest : List ℕ) → o < 2 ^ 16 → k < 2 ^ 32 → EachByte rest → Within o k rest
 within o k rest ho hk hb = record {
   offset = of_z-to_z w16 o ho;
   imm = of_z-to_z w32 k hk;
@@ -310,10 +186,10 @@ atomic_at w d r o k rest i h e =
     ]
 
 -- the eight bytes of a second slot whose reserved bits are zero
-second : (rest : List ℕ) → ((j : ℕ) → slice_index rest j < 256) → 8 ≤ length rest → little_number 4 rest ≡ 0 → take 8 rest ≡ second_bytes (Some (little_number 4 (drop 4 rest)))
+second : (rest : List ℕ) → EachByte rest → 8 ≤ length rest → little_number 4 rest ≡ 0 → take 8 rest ≡ second_bytes (Some (little_number 4 (drop 4 rest)))
 second rest small long zeros =
-    let front : little_bytes 4 (little_number 4 rest) ≡ take 4 rest = bytes-little_from 4 0 rest small (omega arith) in
-    let back : little_bytes 4 (little_number 4 (drop 4 rest)) ≡ take 4 (drop 4 rest) = bytes-little_from 4 0 (drop 4 rest) (λ j. rw get_or-drop (small (4 + j))) (omega (arith, length-drop 4 rest)) in
+    let front : little_bytes 4 (little_number 4 rest) ≡ take 4 rest = little_bytes-little_from 4 0 rest small (omega arith) in
+    let back : little_bytes 4 (little_number 4 (drop 4 rest)) ≡ take 4 (drop 4 rest) = little_bytes-little_from 4 0 (drop 4 rest) (EachByte-drop 4 rest small) (omega (arith, length-drop 4 rest)) in
     let zero : take 4 rest ≡ 0 ∷ 0 ∷ 0 ∷ 0 ∷ [] = sym front ∙ ap (little_bytes 4) zeros in
     take-add 4 4 rest ∙ ap (λ l. l ++ take 4 (drop 4 rest)) zero ∙ ap (λ l. 0 ∷ 0 ∷ 0 ∷ 0 ∷ l) (sym back)
 
@@ -326,7 +202,7 @@ wide_number_is d r o k rest i h hr ho e =
         | inl q ↦ absurd cc
         | inr q ↦
             let high = little_number 4 (drop 4 rest) in
-            let high_small : high < 2 ^ 32 = little_from-lt 0 4 (drop 4 rest) (λ j. rw get_or-drop (h.bytes (4 + j))) in
+            let high_small : high < 2 ^ 32 = little_from-lt 0 4 (drop 4 rest) (EachByte-drop 4 rest h.bytes) in
             let zeros : little_number 4 rest ≡ 0 = eqb-true _ 0 (not-false _ q.0) in
             let low : (k + high * 2 ^ 32) % 2 ^ 32 ≡ k = omega (arith, h.small) in
             let top : (k + high * 2 ^ 32) / 2 ^ 32 ≡ high = omega (arith, h.small) in
@@ -412,7 +288,7 @@ src_some : (f : Form) (s : Slot) (d : Reg) (r : Option Reg) (rest : List ℕ) (i
 src_some f s d None rest i e = absurd cc
 src_some f s d (Some x) rest i e = (x, refl, e)
 
-pub slot_meaning-spelled : (s : Slot) (rest : List ℕ) (i : Insn) → SlotFits s → ((j : ℕ) → slice_index rest j < 256) → slot_meaning s rest ≡ Ok i → SpelledBy s rest i
+pub slot_meaning-spelled : (s : Slot) (rest : List ℕ) (i : Insn) → SlotFits s → EachByte rest → slot_meaning s rest ≡ Ok i → SpelledBy s rest i
 unfolding slot_meaning
 slot_meaning-spelled s rest i fits small e =
     let a = form_some (form_of s.opcode) s rest i e in

@@ -1,12 +1,12 @@
 -- The two laws of decoding.
-use Rattle.std.proofs.Common.{◌≡◌, ℕ, ◌+◌, ◌*◌, ◌/◌, ◌%◌, ◌^◌, ◌<◌, ◌≤◌, Bool, true, false, cond, ℤ, pos, negsuc, List, [], ◌∷◌, ◌++◌, length, take, drop, get_or, Option, Some, None, Result, Ok, Err, refl, sym, ap, ◌∙◌, subst, arith, inl, inr, take-add, append_assoc, append-nil, drop-cons, drop-drop, take_all}
-use Rattle.std.specs.Prelude.{◌==◌, ◌⊎◌, nat_lt, slice_index, IfOk}
+use Rattle.std.proofs.Common.{◌≡◌, ℕ, ◌+◌, ◌*◌, ◌/◌, ◌%◌, ◌^◌, ◌<◌, ◌≤◌, Bool, true, false, cond, ℤ, pos, negsuc, List, [], ◌∷◌, ◌++◌, length, take, drop, Result, Ok, Err, refl, sym, ap, ◌∙◌, arith, inl, inr, take-add, append-nil, drop-drop, take_all}
+use Rattle.std.specs.Prelude.{nat_lt, slice_index, IfOk}
 use Rattle.std.specs.Int.{w16, w32, cast_unsigned}
 use Rattle.std.specs.Int.RustNames.{FitsSigned}
-use Rattle.std.proofs.lemmas.Bool.{ltb-false, le-ltb, cases_lt}
-use Rattle.std.proofs.lemmas.List.{get_or-drop, get_or-take, get_or_past, length-drop, length-take, take_at, drop_at, take-append-drop}
+use Rattle.std.proofs.lemmas.Bool.{ltb-false, le-ltb}
+use Rattle.std.proofs.lemmas.List.{length-drop, length-take}
 use Rattle.byteorder.specs.Endian.{little_number, little_bytes}
-use Rattle.byteorder.specs.Numbers.{little_number-reads_back, little_from-lt, little_from-take}
+use Rattle.byteorder.specs.Numbers.{little_number-reads_back, little_from-lt}
 use Rattle.isa_model.specs.declared.registers.Reg.{Reg}
 use Rattle.isa_model.specs.declared.registers.Reg.TheVariants.{R0}
 use Rattle.isa_model.specs.declared.instructions.Insn.{Insn}
@@ -27,25 +27,13 @@ use Rattle.isa_model.specs.Sizes.{span_bits}
 use Rattle.isa_model.specs.Instructions.{slots_of}
 use Rattle.isa_model.specs.Spelling.{first_slot, next_imm, second_bytes, slot_bytes, spelling_of, alu_offset, extension_bits, atomic_code, fetch_bit}
 use Rattle.isa_model.specs.Spelling.{InsnFits, OperandFits, operand_imm}
+use Rattle.isa_model.specs.LittleEndian.{EachByte, EachByte-drop, EachByte-take, little_bytes-little_from}
 use Rattle.insn_codec.specs.declared.errors.CodecError.{CodecError}
 use Rattle.insn_codec.specs.declared.errors.CodecError.TheVariants.{Short}
 use Rattle.insn_codec.specs.Decoding.{slot_at, slot_meaning, decoded, sized}
-use Rattle.insn_codec.proofs.Little.{bytes-little_from}
-use Rattle.insn_codec.proofs.Sound.{chosen, slot_is, Continues, SlotFits, SpelledBy, slot_meaning-spelled}
+use Rattle.insn_codec.proofs.Selectors.{chosen}
+use Rattle.insn_codec.proofs.Sound.{slot_is, Continues, SlotFits, SpelledBy, slot_meaning-spelled}
 use Rattle.insn_codec.proofs.Again.{slot_meaning-first_slot}
-
-abbrev pub IsBytes : List ℕ → Type 0
-IsBytes bytes = (j : ℕ) → slice_index bytes j < 256
-
-bytes-drop : (n : ℕ) (bytes : List ℕ) → IsBytes bytes → IsBytes (drop n bytes)
-bytes-drop n bytes h j = rw get_or-drop (h (n + j))
-
-bytes-take : (n : ℕ) (bytes : List ℕ) → IsBytes bytes → IsBytes (take n bytes)
-bytes-take n bytes h j =
-    elim (cases_lt j n) [
-      | inl lt ↦ rw (get_or-take n bytes j 0 lt) (h j)
-      | inr le ↦ rw (get_or_past (take n bytes) j 0 (omega (arith, length-take n bytes))) (omega arith)
-    ]
 
 two_heads : (xs : List ℕ) → 2 ≤ length xs → take 2 xs ≡ slice_index xs 0 ∷ slice_index xs 1 ∷ []
 two_heads [] h = absurd (omega arith)
@@ -53,11 +41,11 @@ two_heads (x ∷ []) h = absurd (omega arith)
 two_heads (x ∷ y ∷ xs) h = refl
 
 -- the fields of 8 bytes spell them
-bytes-slot_at : (xs : List ℕ) → IsBytes xs → 8 ≤ length xs → slot_bytes (slot_at xs) ≡ take 8 xs
+bytes-slot_at : (xs : List ℕ) → EachByte xs → 8 ≤ length xs → slot_bytes (slot_at xs) ≡ take 8 xs
 bytes-slot_at xs small long =
     let byte : slice_index xs 1 % 16 + 16 * (slice_index xs 1 / 16) ≡ slice_index xs 1 = omega arith in
-    let two : little_bytes 2 (little_number 2 (drop 2 xs)) ≡ take 2 (drop 2 xs) = bytes-little_from 2 0 (drop 2 xs) (bytes-drop 2 xs small) (omega (arith, length-drop 2 xs)) in
-    let four : little_bytes 4 (little_number 4 (drop 4 xs)) ≡ take 4 (drop 4 xs) = bytes-little_from 4 0 (drop 4 xs) (bytes-drop 4 xs small) (omega (arith, length-drop 4 xs)) in
+    let two : little_bytes 2 (little_number 2 (drop 2 xs)) ≡ take 2 (drop 2 xs) = little_bytes-little_from 2 0 (drop 2 xs) (EachByte-drop 2 xs small) (omega (arith, length-drop 2 xs)) in
+    let four : little_bytes 4 (little_number 4 (drop 4 xs)) ≡ take 4 (drop 4 xs) = little_bytes-little_from 4 0 (drop 4 xs) (EachByte-drop 4 xs small) (omega (arith, length-drop 4 xs)) in
     let six : take 6 (drop 2 xs) ≡ take 2 (drop 2 xs) ++ take 4 (drop 4 xs) = take-add 2 4 (drop 2 xs) ∙ ap (λ l. take 2 (drop 2 xs) ++ take 4 l) (drop-drop 2 2 xs) in
     let heads : take 2 xs ≡ slice_index xs 0 ∷ slice_index xs 1 ∷ [] = two_heads xs (omega arith) in
     ap (λ n. slice_index xs 0 ∷ n ∷ (little_bytes 2 (little_number 2 (drop 2 xs)) ++ little_bytes 4 (little_number 4 (drop 4 xs)))) byte
@@ -66,13 +54,13 @@ bytes-slot_at xs small long =
     ∙ ap (λ l. slice_index xs 0 ∷ slice_index xs 1 ∷ l) (sym six)
     ∙ sym (take-add 2 6 xs ∙ ap (λ l. l ++ take 6 (drop 2 xs)) heads)
 
-slot_at-fits : (xs : List ℕ) → IsBytes xs → SlotFits (slot_at xs)
+slot_at-fits : (xs : List ℕ) → EachByte xs → SlotFits (slot_at xs)
 slot_at-fits xs small = record {
   opcode = small 0;
   dst = omega arith;
   src = omega (arith, small 1);
-  offset = little_from-lt 0 2 (drop 2 xs) (bytes-drop 2 xs small);
-  imm = little_from-lt 0 4 (drop 4 xs) (bytes-drop 4 xs small);
+  offset = little_from-lt 0 2 (drop 2 xs) (EachByte-drop 2 xs small);
+  imm = little_from-lt 0 4 (drop 4 xs) (EachByte-drop 4 xs small);
 }
 
 ends : (i : Insn) (bytes : List ℕ) → Continues (next_imm i) (drop 8 bytes) → take (8 * slots_of i) bytes ≡ take 8 bytes ++ second_bytes (next_imm i)
@@ -80,26 +68,26 @@ ends (LoadNumber d n) bytes h = take-add 8 8 bytes ∙ ap (λ l. take 8 bytes ++
 ends i bytes h = sym (append-nil (take 8 bytes))
 
 -- what is decoded is spelled by a slot and what follows it
-decoded_by : (bytes : List ℕ) (i : Insn) → IsBytes bytes → decoded bytes ≡ Ok i → (8 ≤ length bytes) × SpelledBy (slot_at (take 8 bytes)) (drop 8 bytes) i
+decoded_by : (bytes : List ℕ) (i : Insn) → EachByte bytes → decoded bytes ≡ Ok i → (8 ≤ length bytes) × SpelledBy (slot_at (take 8 bytes)) (drop 8 bytes) i
 unfolding decoded
 decoded_by bytes i small e =
     elim (chosen (nat_lt (length bytes) 8) _ _ _ e) [
       | inl p ↦ absurd cc
-      | inr p ↦ (ltb-false _ _ p.0, slot_meaning-spelled (slot_at (take 8 bytes)) (drop 8 bytes) i (slot_at-fits (take 8 bytes) (bytes-take 8 bytes small)) (bytes-drop 8 bytes small) p.1)
+      | inr p ↦ (ltb-false _ _ p.0, slot_meaning-spelled (slot_at (take 8 bytes)) (drop 8 bytes) i (slot_at-fits (take 8 bytes) (EachByte-take 8 bytes small)) (EachByte-drop 8 bytes small) p.1)
     ]
 
 -- what is decoded has numbers of their types
-pub decoded-fits : (bytes : List ℕ) (i : Insn) → IsBytes bytes → decoded bytes ≡ Ok i → InsnFits i
+pub decoded-fits : (bytes : List ℕ) (i : Insn) → EachByte bytes → decoded bytes ≡ Ok i → InsnFits i
 decoded-fits bytes i small e = (decoded_by bytes i small e).1.fits
 
 -- what is decoded is spelled by a front of the bytes
-pub decoded-spelled : (bytes : List ℕ) (i : Insn) → IsBytes bytes → decoded bytes ≡ Ok i → take (8 * slots_of i) bytes ≡ spelling_of i
+pub decoded-spelled : (bytes : List ℕ) (i : Insn) → EachByte bytes → decoded bytes ≡ Ok i → take (8 * slots_of i) bytes ≡ spelling_of i
 decoded-spelled bytes i small e =
     let m = decoded_by bytes i small e in
     let front = take 8 bytes in
     let front_long : length front ≡ 8 = omega (arith, m.0, length-take 8 bytes) in
     ends i bytes m.1.second
-    ∙ ap (λ l. l ++ second_bytes (next_imm i)) (sym (ap slot_bytes m.1.first ∙ bytes-slot_at front (bytes-take 8 bytes small) (omega arith) ∙ take_all 8 front (omega arith)))
+    ∙ ap (λ l. l ++ second_bytes (next_imm i)) (sym (ap slot_bytes m.1.first ∙ bytes-slot_at front (EachByte-take 8 bytes small) (omega arith) ∙ take_all 8 front (omega arith)))
 
 -- ---- and back
 
@@ -184,10 +172,10 @@ decoded-spelling_of i rest h =
     ∙ ap (λ (s : Slot). slot_meaning s (second_bytes (next_imm i) ++ rest)) front
     ∙ slot_meaning-first_slot i rest h
 
-pub sized-found : (bytes : List ℕ) (r : Result Insn CodecError) → IsBytes bytes → decoded bytes ≡ r → IfOk (sized r) (λ f. take f.1 bytes ≡ spelling_of f.0)
+pub sized-found : (bytes : List ℕ) (r : Result Insn CodecError) → EachByte bytes → decoded bytes ≡ r → IfOk (sized r) (λ f. take f.1 bytes ≡ spelling_of f.0)
 sized-found bytes (Ok i) small e = decoded-spelled bytes i small e
 sized-found bytes (Err d) small e = tt
 
-pub sized-fits : (bytes : List ℕ) (r : Result Insn CodecError) → IsBytes bytes → decoded bytes ≡ r → IfOk (sized r) (λ f. InsnFits f.0)
+pub sized-fits : (bytes : List ℕ) (r : Result Insn CodecError) → EachByte bytes → decoded bytes ≡ r → IfOk (sized r) (λ f. InsnFits f.0)
 sized-fits bytes (Ok i) small e = decoded-fits bytes i small e
 sized-fits bytes (Err d) small e = tt

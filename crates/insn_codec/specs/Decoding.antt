@@ -1,6 +1,6 @@
 -- What bytes are decoded to. The tests stand in their order: length, opcode, registers, unused fields, selectors,
 -- and then the second slot of a wide load. RFC 9669, sections 3 to 5; that an unused field is zero is this project's own.
-use Rattle.std.specs.Prelude.{ℕ, ◌+◌, ◌*◌, ◌/◌, ◌%◌, ◌^◌, ◌==◌, Bool, true, false, not, nat_lt, ℤ, if◌then◌else◌, List, length, take, drop, slice_index, Option, Some, None, Result, Ok, Err}
+use Rattle.std.specs.Prelude.{ℕ, ◌+◌, ◌*◌, ◌/◌, ◌%◌, ◌^◌, ◌==◌, true, false, not, nat_lt, ℤ, if◌then◌else◌, List, length, take, drop, slice_index, Option, Some, None, Result, Ok, Err}
 use Rattle.std.specs.Option.{option_map, ok_or}
 use Rattle.std.specs.Int.{w16, w32, cast_signed}
 use Rattle.byteorder.specs.Endian.{little_number}

@@ -215,6 +215,20 @@ fn register_slot(opcode: u8, dst: Reg, src: Reg, offset: u16) -> Slot
     slot(opcode, register_field(dst), register_field(src), offset, 0)
 }
 
+/// The slot of an instruction of one register and `imm`.
+fn constant_slot(opcode: u8, dst: Reg, imm: u32) -> Slot
+    ensures { result ≡ slot opcode (reg_number dst) 0 0 imm }
+{
+    slot(opcode, register_field(dst), 0, 0, imm)
+}
+
+/// The slot of an instruction that loads a register from a place.
+fn load_slot(opcode: u8, dst: Reg, place: Place) -> Slot
+    ensures { result ≡ slot opcode (reg_number dst) (reg_number place.base) (offset16 place.offset) 0 }
+{
+    register_slot(opcode, dst, place.base, place.offset.cast_unsigned())
+}
+
 /// The slot of an instruction that stores a register at a place.
 fn store_slot(opcode: u8, place: Place, src: Reg, imm: u32) -> Slot
     ensures { result ≡ slot opcode (reg_number place.base) (reg_number src) (offset16 place.offset) imm }
@@ -249,45 +263,19 @@ pub fn first_slot(insn: &Insn) -> Slot
 {
     match *insn {
         Insn::Alu(width, op, dst, operand) => alu_slot(width, op, dst, operand),
-        Insn::Neg(width, dst) => slot(0x80 + alu_class(width), register_field(dst), 0, 0, 0),
+        Insn::Neg(width, dst) => constant_slot(0x80 + alu_class(width), dst, 0),
         Insn::MovSx(extension, dst, src) => {
             let opcode = 0xb8 + extension_class(extension);
             register_slot(opcode, dst, src, extension_bits(extension))
         }
-        Insn::ByteSwap(order, span, dst) => {
-            slot(
-                order_opcode(order),
-                register_field(dst),
-                0,
-                0,
-                span_bits(span),
-            )
-        }
-        Insn::LoadNumber(dst, number) => {
-            slot(
-                0x18,
-                register_field(dst),
-                0,
-                0,
-                (number % 0x1_0000_0000) as u32,
-            )
-        }
-        Insn::Load(size, dst, place) => {
-            register_slot(
-                0x61 + size_code(size),
-                dst,
-                place.base,
-                place.offset.cast_unsigned(),
-            )
-        }
-        Insn::LoadSx(size, dst, place) => {
-            register_slot(
-                0x81 + narrow_code(size),
-                dst,
-                place.base,
-                place.offset.cast_unsigned(),
-            )
-        }
+        Insn::ByteSwap(order, span, dst) => constant_slot(
+            order_opcode(order),
+            dst,
+            span_bits(span),
+        ),
+        Insn::LoadNumber(dst, number) => constant_slot(0x18, dst, (number % 0x1_0000_0000) as u32),
+        Insn::Load(size, dst, place) => load_slot(0x61 + size_code(size), dst, place),
+        Insn::LoadSx(size, dst, place) => load_slot(0x81 + narrow_code(size), dst, place),
         Insn::StoreConstant(size, place, constant) => store_constant_slot(size, place, constant),
         Insn::Store(size, place, src) => store_slot(0x63 + size_code(size), place, src, 0),
         Insn::Atomic(width, op, fetch, place, src) => {

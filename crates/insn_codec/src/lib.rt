@@ -12,9 +12,10 @@ mod slots;
 #[cfg(test)]
 mod tests;
 
-ghost use Rattle.std.specs.Prelude.{◌≡◌, ◌*◌, ◌++◌, ◌<◌, take, drop, ℕ, List, Ok, IfOk, slice_index};
+ghost use Rattle.std.specs.Prelude.{◌≡◌, ◌*◌, ◌++◌, ◌<◌, take, drop, ℕ, List, Ok, IfOk};
 ghost use Rattle.isa_model.specs.declared.instructions.Insn.{Insn};
 ghost use Rattle.isa_model.specs.Instructions.{slots_of};
+ghost use Rattle.isa_model.specs.LittleEndian.{EachByte};
 ghost use Rattle.isa_model.specs.Spelling.{spelling_of, InsnFits};
 ghost use Rattle.insn_codec.specs.Decoding.{decoded, sized};
 
@@ -65,7 +66,7 @@ pub fn encode(insn: &Insn, out: &mut [u8; 16]) -> usize
 
 /// The laws of decoding, for proofs about many instructions in a row.
 pub fn decoding_laws()
-    ensures found { (bytes : List ℕ) (i : Insn) → ((j : ℕ) → slice_index bytes j < 256) → decoded bytes ≡ Ok i → take (8 * slots_of i) bytes ≡ spelling_of i }
-    ensures fits { (bytes : List ℕ) (i : Insn) → ((j : ℕ) → slice_index bytes j < 256) → decoded bytes ≡ Ok i → InsnFits i }
+    ensures found { (bytes : List ℕ) (i : Insn) → EachByte bytes → decoded bytes ≡ Ok i → take (8 * slots_of i) bytes ≡ spelling_of i }
+    ensures fits { (bytes : List ℕ) (i : Insn) → EachByte bytes → decoded bytes ≡ Ok i → InsnFits i }
     ensures again { (i : Insn) (rest : List ℕ) → InsnFits i → decoded (spelling_of i ++ rest) ≡ Ok i }
 {}

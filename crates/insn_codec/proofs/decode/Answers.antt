@@ -1,4 +1,4 @@
-use Rattle.std.proofs.Common.{◌≡◌, ℕ, ◌*◌, ◌∙◌, List, Result, Ok, IfOk, take, ap, sym, subst, refl, arith}
+use Rattle.std.proofs.Common.{◌≡◌, ℕ, ◌∙◌, Result, IfOk, take, ap, sym, subst, refl, arith}
 use Rattle.isa_model.specs.declared.instructions.Insn.{Insn}
 use Rattle.isa_model.specs.Spelling.{spelling_of, InsnFits}
 use Rattle.insn_codec.specs.declared.errors.CodecError.{CodecError}

@@ -4,7 +4,7 @@ use Rattle.std.proofs.lemmas.Result.{err_from_is_err_and}
 use Rattle.isa_model.specs.declared.map_defs.MapDef.{MapDef}
 use Rattle.isa_model.specs.declared.instructions.Insn.{Insn}
 use Rattle.isa_model.specs.Instructions.{Program}
-use Rattle.exact_io.specs.LittleEndian.{AreBytes}
+use Rattle.isa_model.specs.LittleEndian.{EachByte}
 use Rattle.image.specs.declared.errors.ImageError.{ImageError}
 use Rattle.image.specs.declared.errors.ImageError.TheVariants.{Memory}
 use Rattle.image.specs.Images.{IsImage, image_bytes}
@@ -53,7 +53,7 @@ returns-in_err-slots-clause-refused c =
     rw (given.1, given.2) (code_refused bytes error none read)
 
 -- what was read at the end
-parsed : Laws → (bytes : List ℕ) (xs : List (Option Insn)) (rows : List MapDef) → AreBytes bytes → None ≡ size_refusal bytes → code_read bytes ≡ Ok xs → rows ≡ [] → (bytes ≡ image_bytes (record { insns = xs; maps = rows })) × IsImage (record { insns = xs; maps = rows })
+parsed : Laws → (bytes : List ℕ) (xs : List (Option Insn)) (rows : List MapDef) → EachByte bytes → None ≡ size_refusal bytes → code_read bytes ≡ Ok xs → rows ≡ [] → (bytes ≡ image_bytes (record { insns = xs; maps = rows })) × IsImage (record { insns = xs; maps = rows })
 parsed laws bytes xs rows small none read no_rows =
     let found = code_read-found laws bytes xs small (sizes bytes (sym none)) read in
     (found.spelled ∙ ap image_bytes (with_rows xs rows no_rows), subst IsImage (with_rows xs rows no_rows) found.image)
