@@ -4,6 +4,7 @@ pub mod Carry
 pub mod Shift
 pub mod Parts
 pub mod Sharp
+pub mod Precise
 pub mod Product
 pub mod Order
 pub mod Prefix

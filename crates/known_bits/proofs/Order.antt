@@ -1,11 +1,12 @@
 -- Common members, and inclusion.
 use Rattle.std.proofs.Common.{◌≡◌, ℕ, ◌+◌, ◌-◌, ◌%◌, ◌^◌, ◌<◌, ◌≤◌, min, max, w64, sym, ap, ◌∙◌, arith, bit_and, bit_or, bit_xor}
 use Rattle.std.specs.Int.{bit_at, bit_not}
-use Rattle.std.proofs.lemmas.Nat.{and_le_l, and_le_r, or_lt, xor_lt}
+use Rattle.std.proofs.lemmas.Nat.{and_le_l, and_le_r, or_lt, xor_lt, mod_below, pow_pos}
 use Rattle.std.proofs.lemmas.Nat.Bits.{bit_at_and, bit_at_or, bit_at_xor, bit_at-lt, bit_at-zero, same_from_bits_below, same_from_bits}
 use Rattle.known_bits.specs.Member.{IsMember}
 use Rattle.known_bits.proofs.Members.{Known, bits_between, bits_apart, known_from_bits, member_from_bits, member_and_most}
 use Rattle.known_bits.proofs.Logic.{without, without_bit}
+use Rattle.known_bits.proofs.Parts.{low_known}
 use Rattle.known_bits.proofs.Sharp.{least_member, most_member}
 
 -- where the two differ in a bit that both know
@@ -82,6 +83,14 @@ member_least {v} {m} {x} h = let k = h.known in let le = and_le_l x (bit_not w64
 
 pub member_most : {v m x : ℕ} → Known v m → IsMember v m x → x ≤ bit_or v m
 member_most {v} {m} {x} k h = let e = member_and_most k h in let le = and_le_r x (bit_or v m) in omega arith
+
+-- a member of the low parts is below
+pub low_fits : {v m x : ℕ} → Known v m → (n : ℕ) → IsMember (v % 2 ^ n) (m % 2 ^ n) x → x < 2 ^ n
+low_fits {v} {m} {x} k n h =
+    let most = member_most (low_known k n) h in
+    let p = pow_pos n in
+    let top = or_lt n (v % 2 ^ n) (m % 2 ^ n) (mod_below v (2 ^ n) p) (mod_below m (2 ^ n) p) in
+    omega arith
 
 -- ---- what inclusion shows of the value and the mask
 

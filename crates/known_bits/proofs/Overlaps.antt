@@ -1,9 +1,10 @@
 -- Members with bits in common, and runs of unknown bits.
 use Rattle.std.proofs.Common.{◌≡◌, ◌≢◌, ℕ, ◌+◌, ◌-◌, ◌*◌, ◌/◌, ◌%◌, ◌^◌, ◌<◌, ◌≤◌, min, w64, sym, ap, ◌∙◌, inl, inr, arith, bit_and, bit_or}
-use Rattle.std.specs.Int.{bit_at, bit_not}
+use Rattle.std.specs.Int.{bit_at, bit_not, trailing_zeros}
 use Rattle.std.proofs.lemmas.Nat.{and_le_l, and_le_r, one_shl, pow_pos}
-use Rattle.std.proofs.lemmas.Nat.Bits.{bit_at_and, bit_at_or, bit_at-lt, bit_at-zero, and_pow, and_high_mask, same_from_bits_below}
+use Rattle.std.proofs.lemmas.Nat.Bits.{bit_at_and, bit_at_or, bit_at-lt, bit_at-zero, bit_at-pow_same, bit_at-pow_other, bit_at-trailing_zeros, and_pow, and_high_mask, same_from_bits_below}
 use Rattle.std.proofs.Math.Nat.{div-eq_of_lt}
+use Rattle.std.proofs.Math.Pow.{pow-lt}
 use Rattle.std.proofs.lemmas.Bool.{cases_lt}
 use Rattle.known_bits.specs.Member.{IsMember}
 use Rattle.known_bits.proofs.Members.{Known, bits_between}
@@ -61,6 +62,39 @@ having_member x j j_in x_in one =
 -- the numbers without these bits
 pub outside_member : (x bits : ℕ) → bits < 2 ^ 64 → x < 2 ^ 64 → bit_and x bits ≡ 0 → IsMember 0 (bit_not w64 bits) x
 outside_member x bits bits_in x_in none = record { below = x_in; known = ap (bit_and x) (not_not bits bits_in) ∙ none }
+
+pub member_having : (x j : ℕ) → j < 64 → IsMember (1 * 2 ^ j % 2 ^ 64) (bit_not w64 (1 * 2 ^ j % 2 ^ 64)) x → bit_at x j ≡ 1
+member_having x j j_in h =
+    let e = one_shl j 64 j_in in
+    let known : bit_and x (2 ^ j) ≡ 2 ^ j = ap (bit_and x) (sym e ∙ sym (not_not _ (omega arith))) ∙ h.known ∙ e in
+    sym (bit_at-pow_and x j) ∙ ap (λ n. bit_at n j) known ∙ bit_at-pow_same j
+  where
+    bit_at-pow_and : (x j : ℕ) → bit_at (bit_and x (2 ^ j)) j ≡ bit_at x j
+    bit_at-pow_and x j = bit_at_and x (2 ^ j) j ∙ (let p = bit_at-pow_same j in let l = bit_at-lt x j in omega arith)
+
+pub member_outside : (x bits : ℕ) → bits < 2 ^ 64 → IsMember 0 (bit_not w64 bits) x → bit_and x bits ≡ 0
+member_outside x bits bits_in h = ap (bit_and x) (sym (not_not bits bits_in)) ∙ h.known
+
+-- a power of two has one bit
+pub same_place : (i j : ℕ) → 2 ^ i ≡ 2 ^ j → i ≡ j
+same_place i j e =
+    elim (cases_lt i j) [
+      | inl lt ↦ absurd (let p : 2 ^ i < 2 ^ j = pow-lt lt in omega arith)
+      | inr ge ↦ elim (cases_lt j i) [ inl lt ↦ absurd (let p : 2 ^ j < 2 ^ i = pow-lt lt in omega arith) | inr le ↦ omega arith ]
+    ]
+
+-- a power of two is 1, moved as far as it has zeros at its end
+pub one_place : (n i : ℕ) → n < 2 ^ 64 → n ≡ 2 ^ i → n ≡ 1 * 2 ^ trailing_zeros w64 n % 2 ^ 64
+one_place n i n_in e =
+    let p = pow_pos i in
+    let t = bit_at-trailing_zeros w64 n (omega arith) n_in in
+    let j = trailing_zeros w64 n in
+    let set : bit_at (2 ^ i) j ≡ 1 = ap (λ m. bit_at m j) (sym e) ∙ t.1 in
+    let same : i ≡ j = elim (cases_lt i j) [
+      | inl lt ↦ absurd (let z = bit_at-pow_other i j (λ is. omega arith) in omega arith)
+      | inr ge ↦ elim (cases_lt j i) [ inl lt ↦ absurd (let z = bit_at-pow_other i j (λ is. omega arith) in omega arith) | inr le ↦ omega arith ]
+    ] in
+    e ∙ ap (λ k. 2 ^ k) same ∙ sym (one_shl j 64 t.0)
 
 -- the numbers of so many bits
 pub low_member : (k x : ℕ) → k ≤ 64 → x < 2 ^ 64 → x < 2 ^ k → IsMember 0 (2 ^ k - 1) x

@@ -1,5 +1,5 @@
 -- Both values of each unknown bit occur.
-use Rattle.std.proofs.Common.{inl, inr, ◌≡◌, ℕ, ◌+◌, ◌%◌, ◌^◌, ◌<◌, sym, ap, ◌∙◌, arith, bit_and, bit_or, bit_xor}
+use Rattle.std.proofs.Common.{inl, inr, ◌≡◌, ◌≢◌, ℕ, ◌+◌, ◌%◌, ◌^◌, ◌<◌, sym, ap, ◌∙◌, arith, bit_and, bit_or, bit_xor}
 use Rattle.std.specs.Int.{bit_at}
 use Rattle.std.proofs.lemmas.Nat.{or_lt}
 use Rattle.std.proofs.lemmas.Nat.Bits.{bit_at_and, bit_at_or, bit_at_xor, bit_at-lt, bit_at_above}
@@ -18,8 +18,22 @@ pub most_member : {v m : ℕ} → Known v m → IsMember v m (bit_or v m)
 most_member {v} {m} k = member_from_bits k.value_in k.mask_in (or_lt 64 v m k.value_in k.mask_in)
     (λ i i_in. let a = bits_apart k i in let e = bit_at_or v m i in record { apart = a; least = omega arith; most = omega arith })
 
-set_below : (n i : ℕ) → n < 2 ^ 64 → bit_at n i ≡ 1 → i < 64
+-- a bit that is set has a place below 64
+pub set_below : (n i : ℕ) → n < 2 ^ 64 → bit_at n i ≡ 1 → i < 64
 set_below n i h e = elim (cases_lt i 64) [ inl lt ↦ lt | inr ge ↦ absurd (let z = bit_at_above n 64 i h ge in omega arith) ]
+
+-- two results that differ in a bit show both its values
+pub both_values : {av am bv bm : ℕ} (f : ℕ → ℕ → ℕ) (i x y x' y' : ℕ) → IsMember av am x → IsMember bv bm y → IsMember av am x' → IsMember bv bm y'
+    → bit_at (f x y) i ≢ bit_at (f x' y') i → Occurs av am bv bm f i 0 × Occurs av am bv bm f i 1
+both_values f i x y x' y' hx hy hx' hy' differ =
+    let l = bit_at-lt (f x y) i in
+    let l' = bit_at-lt (f x' y') i in
+    elim (cases_lt 0 (bit_at (f x y) i)) [
+      | inl one ↦
+          (record { x = x'; y = y'; first = hx'; second = hy'; is = omega arith }, record { x = x; y = y; first = hx; second = hy; is = omega arith })
+      | inr none ↦
+          (record { x = x; y = y; first = hx; second = hy; is = omega arith }, record { x = x'; y = y'; first = hx'; second = hy'; is = omega arith })
+    ]
 
 module _ {av am bv bm : ℕ} (ka : Known av am) (kb : Known bv bm) where
   pub and_sharp : (i : ℕ) → bit_at (and_mask_of av am bv bm) i ≡ 1 → Occurs av am bv bm bit_and i 0 × Occurs av am bv bm bit_and i 1
@@ -42,26 +56,19 @@ module _ {av am bv bm : ℕ} (ka : Known av am) (kb : Known bv bm) where
         record { x = bit_or av am; y = bit_or bv bm; first = most_member ka; second = most_member kb; is = bit_at_or (bit_or av am) (bit_or bv bm) i ∙ omega arith },
       )
 
-  xor_at : (x y : ℕ) → IsMember av am x → IsMember bv bm y → (i b : ℕ) → (bit_at x i + bit_at y i) % 2 ≡ b → Occurs av am bv bm bit_xor i b
-  xor_at x y hx hy i b e = record { x = x; y = y; first = hx; second = hy; is = bit_at_xor x y i ∙ e }
-
   pub xor_sharp : (i : ℕ) → bit_at (bit_or am bm) i ≡ 1 → Occurs av am bv bm bit_xor i 0 × Occurs av am bv bm bit_xor i 1
   xor_sharp i h =
       let em = bit_at_or am bm i in
       let aa = bits_apart ka i in let ab = bits_apart kb i in
       let ea = bit_at_or av am i in let eb = bit_at_or bv bm i in
-      let la = least_member ka in let lb = least_member kb in let ma = most_member ka in let mb = most_member kb in
+      let least = bit_at_xor av bv i in
       elim (cases_lt 0 (bit_at am i)) [
         | inl in_a ↦
-            elim (cases_lt 0 (bit_at bv i)) [
-              | inl one ↦ (xor_at (bit_or av am) bv ma lb i 0 (omega arith), xor_at av bv la lb i 1 (omega arith))
-              | inr none ↦ (xor_at av bv la lb i 0 (omega arith), xor_at (bit_or av am) bv ma lb i 1 (omega arith))
-            ]
+            let other = bit_at_xor (bit_or av am) bv i in
+            both_values bit_xor i av bv (bit_or av am) bv (least_member ka) (least_member kb) (most_member ka) (least_member kb) (λ same. omega arith)
         | inr not_a ↦
-            elim (cases_lt 0 (bit_at av i)) [
-              | inl one ↦ (xor_at av (bit_or bv bm) la mb i 0 (omega arith), xor_at av bv la lb i 1 (omega arith))
-              | inr none ↦ (xor_at av bv la lb i 0 (omega arith), xor_at av (bit_or bv bm) la mb i 1 (omega arith))
-            ]
+            let other = bit_at_xor av (bit_or bv bm) i in
+            both_values bit_xor i av bv av (bit_or bv bm) (least_member ka) (least_member kb) (least_member ka) (most_member kb) (λ same. omega arith)
       ]
 
 -- a truncated mask's bits are those of the whole
@@ -69,5 +76,13 @@ pub low_set : (m n i : ℕ) → bit_at (m % 2 ^ n) i ≡ 1 → (i < n) × (bit_a
 low_set m n i h =
     elim (cases_lt i n) [ inl lt ↦ (lt, sym (low_bit m n i lt) ∙ h) | inr ge ↦ absurd (let z = high_bit m n i ge in omega arith) ]
 
-pub occurs_low : {av am bv bm : ℕ} (f g : ℕ → ℕ → ℕ) (n i b : ℕ) → i < n → ((x y : ℕ) → f x y % 2 ^ n ≡ g x y) → Occurs av am bv bm f i b → Occurs av am bv bm g i b
-occurs_low f g n i b i_in e o = record { x = o.x; y = o.y; first = o.first; second = o.second; is = ap (λ r. bit_at r i) (sym (e o.x o.y)) ∙ low_bit (f o.x o.y) n i i_in ∙ o.is }
+pub occurs_low : {av am bv bm : ℕ} (f g : ℕ → ℕ → ℕ) (n i b : ℕ) → i < n
+    → ((x y : ℕ) → IsMember av am x → IsMember bv bm y → f x y % 2 ^ n ≡ g x y)
+    → Occurs av am bv bm f i b → Occurs av am bv bm g i b
+occurs_low f g n i b i_in e o = record {
+  x = o.x;
+  y = o.y;
+  first = o.first;
+  second = o.second;
+  is = ap (λ r. bit_at r i) (sym (e o.x o.y o.first o.second)) ∙ low_bit (f o.x o.y) n i i_in ∙ o.is;
+}

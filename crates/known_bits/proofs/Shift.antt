@@ -37,6 +37,14 @@ not_contains {v} {m} k x h =
     let b = bits_between k h i i_in in let bx = bit_at-lt x i in
     record { apart = bits_apart kn i; least = omega arith; most = omega arith })
 
+pub not_back : {v m : ℕ} → Known v m → (x : ℕ) → IsMember (bit_not w64 (bit_or v m)) m x → IsMember v m (2 ^ 64 - 1 - x)
+not_back {v} {m} k x h =
+    let o = or_lt 64 v m k.value_in k.mask_in in
+    member_from_bits k.value_in k.mask_in (omega arith)
+    (λ i i_in. let n = bit_at_not w64 (bit_or v m) i o i_in in let nx = bit_at_not w64 x i h.below i_in in let e = bit_at_or v m i in
+    let b = bits_between (not_known k) h i i_in in let bx = bit_at-lt x i in let a = bits_apart k i in
+    record { apart = a; least = omega arith; most = omega arith })
+
 -- ---- to the left
 
 pub shifted_low : (n k i : ℕ) → i < 64 → i < k → bit_at ((n * 2 ^ k) % 2 ^ 64) i ≡ 0

@@ -2,7 +2,7 @@
 use Rattle.std.specs.Prelude.{ℕ, ◌≡◌, ⊤}
 use Rattle.std.specs.Int.{bit_at}
 use Rattle.isa_model.specs.declared.instructions.AluOp.{AluOp}
-use Rattle.isa_model.specs.declared.instructions.AluOp.TheVariants.{Or, And, Xor}
+use Rattle.isa_model.specs.declared.instructions.AluOp.TheVariants.{Add, Sub, Or, And, Xor, Lsh, Rsh, Mov}
 use Rattle.known_bits.specs.Member.{IsMember, Occurs}
 use Rattle.known_bits.specs.declared.bits.Bits.{Bits}
 
@@ -20,9 +20,22 @@ IsSharp a b f mask =
     (i : ℕ) → bit_at mask i ≡ 1
     → Occurs a.value a.mask b.value b.mask f i 0 × Occurs a.value a.mask b.value b.mask f i 1
 
--- the operations that work on each bit by itself
-abbrev pub IsLogical : AluOp → Type 0
-IsLogical Or = ⊤
-IsLogical And = ⊤
-IsLogical Xor = ⊤
-IsLogical _ = ⊥
+-- the operations that leave no bit unknown of which they could know more: shifts, by a distance that is known
+abbrev pub IsPrecise : AluOp → Bits → Type 0
+IsPrecise Add b = ⊤
+IsPrecise Sub b = ⊤
+IsPrecise Or b = ⊤
+IsPrecise And b = ⊤
+IsPrecise Xor b = ⊤
+IsPrecise Mov b = ⊤
+IsPrecise Lsh b = b.mask ≡ 0
+IsPrecise Rsh b = b.mask ≡ 0
+IsPrecise _ b = ⊥
+
+-- some number of a and some number of b have the relation
+pub record SomePair (a b : Bits) (R : ℕ → ℕ → Type 0) : Type 0 where
+  pub x : ℕ
+  pub y : ℕ
+  pub first : Has a x
+  pub second : Has b y
+  pub is : R x y

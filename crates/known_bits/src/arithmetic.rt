@@ -1,6 +1,6 @@
 //! What the arithmetic instructions give.
 
-ghost use Rattle.std.specs.Prelude.{◌≡◌, ℕ, ◌+◌, ◌^◌, ◌<◌};
+ghost use Rattle.std.specs.Prelude.{◌≡◌, ℕ, ◌+◌, ◌%◌, ◌^◌, ◌<◌};
 ghost use Rattle.isa_model.specs.Sizes.{width_bits, span_bits};
 ghost use Rattle.isa_model.specs.Numbers.{negated, sign_extended, reordered};
 ghost use Rattle.isa_model.specs.ExtensionLemmas.{extension_bits, extension_width};
@@ -10,13 +10,14 @@ use isa_model::{AluOp, ByteOrder, Extension, Span, Width, numbers};
 
 impl Bits {
     ghost use Rattle.isa_model.specs.Numbers.{alu};
-    ghost use Rattle.known_bits.specs.Bits.{Has, IsConstant, IsSharp, IsLogical};
+    ghost use Rattle.known_bits.specs.Bits.{Has, IsConstant, IsSharp, IsPrecise};
 
     /// What the operation gives on the numbers of both.
     pub fn alu(op: AluOp, width: Width, a: Self, b: Self) -> Self
         ensures contains { (x y : ℕ) → Has a x → Has b y → Has result (alu op width x y) }
-        ensures sharp { IsLogical op → IsSharp a b (alu op width) result.mask }
+        ensures sharp { IsPrecise op b → IsSharp a b (alu op width) result.mask }
         ensures exact { (u v : ℕ) → IsConstant a u → IsConstant b v → IsConstant result (alu op width u v) }
+        ensures fits { (x : ℕ) → Has result x → x < 2 ^ width_bits width }
     {
         if a.mask == 0 && b.mask == 0 {
             return Bits::constant(numbers::compute(op, width, a.value, b.value));
@@ -43,6 +44,7 @@ impl Bits {
     pub fn negate(width: Width, a: Self) -> Self
         ensures contains { (x : ℕ) → Has a x → Has result (negated width x) }
         ensures exact { (u : ℕ) → IsConstant a u → IsConstant result (negated width u) }
+        ensures fits { (x : ℕ) → Has result x → x < 2 ^ width_bits width }
     {
         Bits::alu(AluOp::Sub, width, Bits::constant(0), a)
     }
@@ -51,6 +53,7 @@ impl Bits {
     pub fn sign_extend(extension: Extension, a: Self) -> Self
         ensures contains { (x : ℕ) → Has a x → Has result (sign_extended extension x) }
         ensures exact { (u : ℕ) → IsConstant a u → IsConstant result (sign_extended extension u) }
+        ensures fits { (x : ℕ) → Has result x → x < 2 ^ width_bits (extension_width extension) }
     {
         if a.mask == 0 {
             return Bits::constant(numbers::sign_extend(extension, a.value));
@@ -65,6 +68,8 @@ impl Bits {
     pub fn reorder(order: ByteOrder, span: Span, a: Self) -> Self
         ensures contains { (x : ℕ) → Has a x → Has result (reordered order span x) }
         ensures exact { (u : ℕ) → IsConstant a u → IsConstant result (reordered order span u) }
+        ensures fits { (x : ℕ) → Has result x → x < 2 ^ span_bits span }
+        ensures little { order ≡ ByteOrder.Little → result.mask ≡ a.mask % 2 ^ span_bits span }
     {
         if a.mask == 0 {
             return Bits::constant(numbers::reorder(order, span, a.value));

@@ -27,6 +27,7 @@ impl Bits {
         }
     }
 
+    /// The one number.
     pub fn constant(number: u64) -> Self
         ensures contains { Has result number }
         ensures only { (x : ℕ) → Has result x → x ≡ number }

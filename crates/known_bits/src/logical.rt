@@ -38,7 +38,9 @@ impl Bits {
     }
 
     pub(crate) fn not(self) -> Self
-        ensures { (x : ℕ) → Has self x → Has result (2 ^ 64 - 1 - x) }
+        ensures contains { (x : ℕ) → Has self x → Has result (2 ^ 64 - 1 - x) }
+        ensures back { (x : ℕ) → Has result x → Has self (2 ^ 64 - 1 - x) }
+        ensures mask { result.mask ≡ self.mask }
     {
         Bits {
             value: !(self.value | self.mask),

@@ -1,12 +1,12 @@
 //! Pairs of numbers between which a relation holds, one of each set: what is left of either.
 
-ghost use Rattle.std.specs.Prelude.{◌≡◌, ◌≢◌, ℕ, ◌<◌, ◌≤◌, ◌<ℤ◌, ◌≤ℤ◌, ◌^◌, IsSomeAnd, IfSome, bit_and};
+ghost use Rattle.std.specs.Prelude.{◌≡◌, ◌≢◌, ℕ, ◌<◌, ◌≤◌, ◌<ℤ◌, ◌≤ℤ◌, ◌^◌, IsSomeAnd, IfSome, bit_and, bit_or};
 ghost use Rattle.std.specs.Int.{w64, cast_signed, bit_at};
 
 use crate::bits::Bits;
 
 impl Bits {
-    ghost use Rattle.known_bits.specs.Bits.{Has};
+    ghost use Rattle.known_bits.specs.Bits.{Has, SomePair};
 
     /// Those below some number of the other, and those above one. None: there is no such pair.
     pub fn below(self, other: Self) -> Option<(Self, Self)>
@@ -14,6 +14,7 @@ impl Bits {
             → IsSomeAnd result (λ p. Has p.0 x × Has p.1 y) }
         ensures left { IfSome result (λ p. (x : ℕ) → Has p.0 x → Has self x) }
         ensures right { IfSome result (λ p. (y : ℕ) → Has p.1 y → Has other y) }
+        ensures found { IfSome result (λ p. SomePair self other (λ x y. x < y)) }
     {
         let least = self.least();
         let greatest = other.greatest();
@@ -31,9 +32,15 @@ impl Bits {
             → IsSomeAnd result (λ p. Has p.0 x × Has p.1 y) }
         ensures left { IfSome result (λ p. (x : ℕ) → Has p.0 x → Has self x) }
         ensures right { IfSome result (λ p. (y : ℕ) → Has p.1 y → Has other y) }
+        ensures found { IfSome result (λ p. SomePair self other (λ x y. x ≤ y)) }
     {
-        let left = self.meet(Bits::between(0, other.greatest()))?;
-        let right = other.meet(Bits::between(self.least(), u64::MAX))?;
+        let least = self.least();
+        let greatest = other.greatest();
+        if least > greatest {
+            return None;
+        }
+        let left = self.meet(Bits::between(0, greatest))?;
+        let right = other.meet(Bits::between(least, u64::MAX))?;
         Some((left, right))
     }
 
@@ -43,6 +50,7 @@ impl Bits {
             → IsSomeAnd result (λ p. Has p.0 x × Has p.1 y) }
         ensures left { IfSome result (λ p. (x : ℕ) → Has p.0 x → Has self x) }
         ensures right { IfSome result (λ p. (y : ℕ) → Has p.1 y → Has other y) }
+        ensures found { IfSome result (λ p. SomePair self other (λ x y. cast_signed w64 x <ℤ cast_signed w64 y)) }
     {
         if self.signed_least() < other.signed_greatest() {
             Some((self, other))
@@ -57,6 +65,7 @@ impl Bits {
             → IsSomeAnd result (λ p. Has p.0 x × Has p.1 y) }
         ensures left { IfSome result (λ p. (x : ℕ) → Has p.0 x → Has self x) }
         ensures right { IfSome result (λ p. (y : ℕ) → Has p.1 y → Has other y) }
+        ensures found { IfSome result (λ p. SomePair self other (λ x y. cast_signed w64 x ≤ℤ cast_signed w64 y)) }
     {
         if self.signed_least() <= other.signed_greatest() {
             Some((self, other))
@@ -71,6 +80,7 @@ impl Bits {
             → IsSomeAnd result (λ p. Has p.0 x × Has p.1 y) }
         ensures left { IfSome result (λ p. (x : ℕ) → Has p.0 x → Has self x) }
         ensures right { IfSome result (λ p. (y : ℕ) → Has p.1 y → Has other y) }
+        ensures found { IfSome result (λ p. SomePair self other (λ x y. x ≢ y)) }
     {
         if self.mask == 0 && other.mask == 0 && self.value == other.value {
             None
@@ -85,6 +95,9 @@ impl Bits {
             → IsSomeAnd result (λ p. Has p.0 x × Has p.1 y) }
         ensures left { IfSome result (λ p. (x : ℕ) → Has p.0 x → Has self x) }
         ensures right { IfSome result (λ p. (y : ℕ) → Has p.1 y → Has other y) }
+        ensures found { IfSome result (λ p. SomePair self other (λ x y. bit_and x y ≡ 0)) }
+        ensures left_only { IfSome result (λ p. (x : ℕ) → Has p.0 x → bit_and x other.value ≡ 0) }
+        ensures right_only { IfSome result (λ p. (y : ℕ) → Has p.1 y → bit_and y self.value ≡ 0) }
     {
         let left = self.meet(Bits::outside(other.value))?;
         let right = other.meet(Bits::outside(self.value))?;
@@ -97,6 +110,11 @@ impl Bits {
             → IsSomeAnd result (λ p. Has p.0 x × Has p.1 y) }
         ensures left { IfSome result (λ p. (x : ℕ) → Has p.0 x → Has self x) }
         ensures right { IfSome result (λ p. (y : ℕ) → Has p.1 y → Has other y) }
+        ensures found { IfSome result (λ p. SomePair self other (λ x y. bit_and x y ≢ 0)) }
+        ensures left_only { IfSome result (λ p. (x i : ℕ) → bit_and (bit_or self.value self.mask) (bit_or other.value other.mask) ≡ 2 ^ i
+            → Has p.0 x → bit_at x i ≡ 1) }
+        ensures right_only { IfSome result (λ p. (y i : ℕ) → bit_and (bit_or self.value self.mask) (bit_or other.value other.mask) ≡ 2 ^ i
+            → Has p.1 y → bit_at y i ≡ 1) }
     {
         let shared = (self.value | self.mask) & (other.value | other.mask);
         if shared == 0 {
@@ -113,7 +131,8 @@ impl Bits {
 
     // The numbers that have none of these bits.
     fn outside(bits: u64) -> Self
-        ensures { (x : ℕ) → x < 2 ^ 64 → bit_and x bits ≡ 0 → Has result x }
+        ensures contains { (x : ℕ) → x < 2 ^ 64 → bit_and x bits ≡ 0 → Has result x }
+        ensures only { (x : ℕ) → Has result x → bit_and x bits ≡ 0 }
     {
         Bits {
             value: 0,
@@ -124,7 +143,8 @@ impl Bits {
     // The numbers that have this bit.
     fn having(place: u32) -> Self
         requires { place < 64 }
-        ensures { (x : ℕ) → x < 2 ^ 64 → bit_at x place ≡ 1 → Has result x }
+        ensures contains { (x : ℕ) → x < 2 ^ 64 → bit_at x place ≡ 1 → Has result x }
+        ensures only { (x : ℕ) → Has result x → bit_at x place ≡ 1 }
     {
         let bit = 1u64 << place;
         Bits {

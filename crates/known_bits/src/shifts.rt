@@ -8,7 +8,7 @@ use crate::bits::{Bits, ones};
 use isa_model::{AluOp, Width};
 
 impl Bits {
-    ghost use Rattle.known_bits.specs.Bits.{Has};
+    ghost use Rattle.known_bits.specs.Bits.{Has, IsSharp};
 
     // The low bits, so many of them.
     pub(crate) fn low(self, count: u32) -> Self
@@ -16,6 +16,7 @@ impl Bits {
         ensures value { result.value ≡ self.value % 2 ^ count }
         ensures mask { result.mask ≡ self.mask % 2 ^ count }
         ensures contains { (x : ℕ) → Has self x → Has result (x % 2 ^ count) }
+        ensures fits { (x : ℕ) → Has result x → x < 2 ^ count }
     {
         let ones = ones(count);
         Bits {
@@ -28,13 +29,15 @@ impl Bits {
         ensures value { result.value ≡ self.value % 2 ^ width_bits width }
         ensures mask { result.mask ≡ self.mask % 2 ^ width_bits width }
         ensures contains { (x : ℕ) → Has self x → Has result (x % 2 ^ width_bits width) }
+        ensures fits { (x : ℕ) → Has result x → x < 2 ^ width_bits width }
     {
         self.low(width.bits())
     }
 
     pub(crate) fn shift_left(self, by: u64) -> Self
         requires { by < 64 }
-        ensures { (x : ℕ) → Has self x → Has result ((x * 2 ^ by) % 2 ^ 64) }
+        ensures contains { (x : ℕ) → Has self x → Has result ((x * 2 ^ by) % 2 ^ 64) }
+        ensures mask { result.mask ≡ (self.mask * 2 ^ by) % 2 ^ 64 }
     {
         Bits {
             value: self.value << by,
@@ -44,7 +47,8 @@ impl Bits {
 
     fn shift_right(self, by: u64) -> Self
         requires { by < 64 }
-        ensures { (x : ℕ) → Has self x → Has result (x / 2 ^ by) }
+        ensures contains { (x : ℕ) → Has self x → Has result (x / 2 ^ by) }
+        ensures mask { result.mask ≡ self.mask / 2 ^ by }
     {
         Bits {
             value: self.value >> by,
@@ -55,8 +59,9 @@ impl Bits {
     // The shift that keeps the sign: half the size is added before a shift to the right, and taken away after it.
     fn shift_signed(self, width: Width, by: u64) -> Self
         requires { by < width_bits width }
-        ensures { (x : ℕ) → x < 2 ^ width_bits width → Has self x
+        ensures contains { (x : ℕ) → x < 2 ^ width_bits width → Has self x
             → Has result (result_of AluOp.Arsh width x by) }
+        ensures fits { (x : ℕ) → Has result x → x < 2 ^ width_bits width }
     {
         let half = half_of(width);
         let lifted = self.add(Bits::constant(half)).truncate(width);
@@ -65,7 +70,9 @@ impl Bits {
     }
 
     pub(crate) fn shift_left_at(self, width: Width, other: Self) -> Self
-        ensures { (x y : ℕ) → Has self x → Has other y → Has result (result_of AluOp.Lsh width x y) }
+        ensures contains { (x y : ℕ) → Has self x → Has other y → Has result (result_of AluOp.Lsh width x y) }
+        ensures sharp { other.mask ≡ 0 → IsSharp self other (result_of AluOp.Lsh width) result.mask }
+        ensures fits { (x : ℕ) → Has result x → x < 2 ^ width_bits width }
     {
         if other.mask != 0 {
             return Bits::any(width);
@@ -75,18 +82,23 @@ impl Bits {
     }
 
     pub(crate) fn shift_right_at(self, width: Width, other: Self) -> Self
-        ensures { (x y : ℕ) → x < 2 ^ width_bits width → Has self x → Has other y
+        ensures contains { (x y : ℕ) → x < 2 ^ width_bits width → Has self x → Has other y
             → Has result (result_of AluOp.Rsh width x y) }
+        ensures sharp { other.mask ≡ 0 → ((x : ℕ) → Has self x → x < 2 ^ width_bits width)
+            → IsSharp self other (result_of AluOp.Rsh width) result.mask }
+        ensures fits { (x : ℕ) → Has result x → x < 2 ^ width_bits width }
     {
         if other.mask != 0 {
             return Bits::any(width);
         }
         self.shift_right(distance(width, other.value))
+            .truncate(width)
     }
 
     pub(crate) fn shift_signed_at(self, width: Width, other: Self) -> Self
-        ensures { (x y : ℕ) → x < 2 ^ width_bits width → Has self x → Has other y
+        ensures contains { (x y : ℕ) → x < 2 ^ width_bits width → Has self x → Has other y
             → Has result (result_of AluOp.Arsh width x y) }
+        ensures fits { (x : ℕ) → Has result x → x < 2 ^ width_bits width }
     {
         if other.mask != 0 {
             return Bits::any(width);

@@ -170,6 +170,11 @@ fn relations(rt: HostRuntime) -> Result<(), Fail> {
     let minus_one = Bits::constant(u64::MAX);
     assert!(rt; exactly(byte.below(ten), Bits::between(0, 15), ten));
     assert!(rt; ten.below(Bits::between(0, 7)).is_none());
+    // What is above a great number shares its leading ones.
+    let great = Bits::constant(0xffff_ffff_ffff_ff00);
+    let above = Bits::between(0xffff_ffff_ffff_ff00, u64::MAX);
+    assert!(rt; exactly(great.below(Bits::any(FULL)), great, above));
+    assert!(rt; exactly(great.at_most(Bits::any(FULL)), great, above));
     assert!(rt;
         exactly(
             byte.at_most(Bits::constant(7)),

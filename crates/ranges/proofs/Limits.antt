@@ -1,19 +1,25 @@
 -- Limits of sums, shifts and products.
-use Rattle.std.proofs.Common.{◌≡◌, ℕ, ℤ, pos, negsuc, ◌+◌, ◌-◌, ◌*◌, ◌/◌, ◌%◌, ◌^◌, ◌<◌, ◌≤◌, w64, refl, inl, inr, ap, arith, Bool, true, false, cond}
+use Rattle.std.proofs.Common.{◌≡◌, ℕ, ℤ, pos, negsuc, ◌+◌, ◌-◌, ◌*◌, ◌/◌, ◌%◌, ◌^◌, ◌<◌, ◌≤◌, w64, refl, inl, inr, ap, ◌∙◌, arith, Bool, true, false, cond}
 use Rattle.std.specs.Prelude.{◌+ℤ◌, ◌-ℤ◌, ◌≤ℤ◌, FitsSigned, nat_eq}
 use Rattle.std.specs.Int.{cast_signed, cast_unsigned, int_shr}
 use lib.Signed.{shr_z, mag_shr}
 use Rattle.std.proofs.Math.Facts.{sfits_to_z}
 use Rattle.std.proofs.lemmas.Int.{ints}
+use Rattle.isa_model.specs.declared.sizes.Width.{Width}
 use Rattle.isa_model.specs.declared.sizes.Width.TheVariants.{Low32}
-use Rattle.isa_model.specs.declared.sizes.Extension.TheVariants.{Full8, Full16, Full32}
-use Rattle.isa_model.specs.declared.instructions.AluOp.TheVariants.{Arsh}
-use Rattle.isa_model.specs.Numbers.{result_of, sign_extended}
+use Rattle.isa_model.specs.declared.sizes.Extension.{Extension}
+use Rattle.isa_model.specs.declared.sizes.Extension.TheVariants.{Low8, Low16, Full8, Full16, Full32}
+use Rattle.isa_model.specs.declared.instructions.AluOp.{AluOp}
+use Rattle.isa_model.specs.declared.instructions.AluOp.TheVariants.{Add, Sub, Mul, Div, SignedDiv, Or, And, Lsh, Rsh, Mod, SignedMod, Xor, Mov, Arsh}
+use Rattle.isa_model.specs.Sizes.{width_bits}
+use Rattle.isa_model.specs.Numbers.{result_of, shift, sign_extended}
 use Rattle.isa_model.specs.NumberLemmas.{signed_equation}
-use Rattle.isa_model.specs.ExtensionLemmas.{sign_extended_cases, sign_extended_fits}
+use Rattle.isa_model.specs.ExtensionLemmas.{extension_bits, sign_extended_cases, sign_extended_fits, sign_extended-small}
 use Rattle.std.proofs.lemmas.Bool.{cases_lt, lt-ltb, ne_eqb}
-use Rattle.std.proofs.lemmas.Nat.{le-div, pow_pos, mul-le, mod_below}
-use Rattle.std.proofs.Math.Nat.{div-mul-le_self, mod-eq_of_lt, div-le_self, mod-le, div-zero}
+use Rattle.std.proofs.lemmas.Nat.{le-div, pow_pos, mul-le, mod_below, and_le_l, and_le_r}
+use Rattle.std.proofs.Math.Nat.{div-mul-le_self, mod-eq_of_lt, div-le_self, mod-le, div-zero, add-mod_right}
+use Rattle.ranges.specs.declared.range.Range.{Range}
+use Rattle.ranges.specs.Ranges.{Encloses, IsBetween, KeepsLimits}
 
 -- ---- sums and differences that fit
 
@@ -119,3 +125,63 @@ extended_32 x =
       | inl p ↦ (omega (arith, ints, p.0, p.1), omega (arith, ints, p.0, p.1))
       | inr p ↦ let b : x % 2 ^ 32 < 2 ^ 32 = omega arith in (omega (arith, ints, p.0, p.1), omega (arith, ints, p.0, p.1))
     ]
+
+-- ---- enclosure
+
+pub Encloses-trans : (a b d : Range) → Encloses a b → Encloses b d → Encloses a d
+Encloses-trans a b d p q = (omega arith, omega arith, omega (arith, ints), omega (arith, ints))
+
+-- ---- what an operation keeps of the limits of two constants
+
+difference_low : (x y n : ℕ) → y ≤ x → x < n → (x + (n - y)) % n ≡ x - y
+difference_low x y n le h =
+    ap (λ t. t % n) (let e : x + (n - y) ≡ (x - y) + n = omega arith in e) ∙ add-mod_right (x - y) n
+    ∙ mod-eq_of_lt {n = x - y} {m = n} (omega arith)
+
+pub keeps_constant : (op : AluOp) (w : Width) (a b r : Range) → a.greatest ≡ a.least → b.greatest ≡ b.least
+    → a.least < 2 ^ width_bits w → b.least < 2 ^ width_bits w → r.least ≡ result_of op w a.least b.least
+    → r.greatest ≡ result_of op w a.least b.least
+    → KeepsLimits op w a b (IsBetween r)
+keeps_constant Add w a b r ea eb ia ib e f = λ fits.
+    let m = mod-eq_of_lt {n = a.least + b.least} {m = 2 ^ width_bits w} (omega arith) in
+    (omega arith, omega arith)
+keeps_constant Sub w a b r ea eb ia ib e f = λ le.
+    let m = difference_low (a.least) (b.least) (2 ^ width_bits w) (omega arith) ia in
+    (omega arith, omega arith)
+keeps_constant Mul w a b r ea eb ia ib e f = λ fits.
+    let m = mod-eq_of_lt {n = a.least * b.least} {m = 2 ^ width_bits w} (rw (ea, eb) at fits) in
+    rw (ea, eb) (omega arith, omega arith)
+keeps_constant Div w a b r ea eb ia ib e f =
+    let z = zero_or_div a.least b.least in
+    ((omega arith, omega arith), λ some. let d = div_apart a.least b.least a.least a.greatest b.least b.greatest some (omega arith) (omega arith) (omega arith) (omega arith) in (omega arith, omega arith))
+keeps_constant Mod w a b r ea eb ia ib e f =
+    let z = self_or_mod a.least b.least in
+    ((omega arith, omega arith), λ some. let d = mod_apart a.least b.least some in (omega arith, omega arith))
+keeps_constant And w a b r ea eb ia ib e f =
+    let l = and_le_l a.least b.least in
+    let right = and_le_r a.least b.least in
+    ((omega arith, omega arith), (omega arith, omega arith))
+keeps_constant Lsh w a b r ea eb ia ib e f = λ one fits.
+    let m = mod-eq_of_lt {n = a.least * 2 ^ shift w b.least} {m = 2 ^ width_bits w} (rw ea at fits) in
+    rw ea (omega arith, omega arith)
+keeps_constant Rsh w a b r ea eb ia ib e f =
+    let l = div-le_self a.least (2 ^ shift w b.least) in
+    ((omega arith, omega arith), λ one. rw ea (omega arith, omega arith))
+keeps_constant Mov w a b r ea eb ia ib e f = (omega arith, omega arith)
+keeps_constant Or w a b r ea eb ia ib e f = tt
+keeps_constant Xor w a b r ea eb ia ib e f = tt
+keeps_constant SignedDiv w a b r ea eb ia ib e f = tt
+keeps_constant SignedMod w a b r ea eb ia ib e f = tt
+keeps_constant Arsh w a b r ea eb ia ib e f = tt
+
+-- a product of limits that fits: the shift to the left is by a factor
+pub shl_within : (g k : ℕ) → g * 2 ^ k < 2 ^ 64 → g ≤ (2 ^ 64 - 1) / 2 ^ k
+shl_within g k h = le-div g (2 ^ 64 - 1) (2 ^ k) (pow_pos k) (omega arith)
+
+-- below half of what is read nothing is extended
+pub extended_small : (e : Extension) (x : ℕ) → x + x < 2 ^ extension_bits e → sign_extended e x ≡ x
+extended_small Low8 x h = sign_extended-small Low8 x (2 ^ 7) refl (omega arith)
+extended_small Low16 x h = sign_extended-small Low16 x (2 ^ 15) refl (omega arith)
+extended_small Full8 x h = sign_extended-small Full8 x (2 ^ 7) refl (omega arith)
+extended_small Full16 x h = sign_extended-small Full16 x (2 ^ 15) refl (omega arith)
+extended_small Full32 x h = sign_extended-small Full32 x (2 ^ 31) refl (omega arith)

@@ -1,21 +1,24 @@
 //! What the arithmetic instructions give.
 
-ghost use Rattle.std.specs.Prelude.{◌≡◌, ℕ, ◌+◌, ◌^◌};
-ghost use Rattle.isa_model.specs.Sizes.{span_bits};
+ghost use Rattle.std.specs.Prelude.{◌≡◌, ℕ, ◌+◌, ◌^◌, ◌<◌};
+ghost use Rattle.isa_model.specs.Sizes.{width_bits, span_bits};
 ghost use Rattle.isa_model.specs.Numbers.{negated, sign_extended, reordered};
-ghost use Rattle.isa_model.specs.ExtensionLemmas.{extension_bits};
+ghost use Rattle.isa_model.specs.ExtensionLemmas.{extension_bits, extension_width};
 
 use crate::range::Range;
 use isa_model::{AluOp, ByteOrder, Extension, Span, Width, numbers};
 
 impl Range {
     ghost use Rattle.isa_model.specs.Numbers.{alu};
-    ghost use Rattle.ranges.specs.Ranges.{Has, IsConstant};
+    ghost use Rattle.ranges.specs.Ranges.{Has, IsConstant, IsBetween, KeepsLimits};
 
     /// What the operation gives on the numbers of both.
     pub fn alu(op: AluOp, width: Width, a: Self, b: Self) -> Self
         ensures contains { (x y : ℕ) → Has a x → Has b y → Has result (alu op width x y) }
         ensures exact { (u v : ℕ) → IsConstant a u → IsConstant b v → IsConstant result (alu op width u v) }
+        ensures fits { result.greatest < 2 ^ width_bits width }
+        ensures limits { a.greatest < 2 ^ width_bits width → b.greatest < 2 ^ width_bits width
+            → KeepsLimits op width a b (IsBetween result) }
     {
         if a.least == a.greatest && b.least == b.greatest {
             return Range::constant(numbers::compute(op, width, a.least, b.least));
@@ -42,6 +45,7 @@ impl Range {
     pub fn negate(width: Width, a: Self) -> Self
         ensures contains { (x : ℕ) → Has a x → Has result (negated width x) }
         ensures exact { (u : ℕ) → IsConstant a u → IsConstant result (negated width u) }
+        ensures fits { result.greatest < 2 ^ width_bits width }
     {
         Range::alu(AluOp::Sub, width, Range::constant(0), a)
     }
@@ -50,6 +54,8 @@ impl Range {
     pub fn sign_extend(extension: Extension, a: Self) -> Self
         ensures contains { (x : ℕ) → Has a x → Has result (sign_extended extension x) }
         ensures exact { (u : ℕ) → IsConstant a u → IsConstant result (sign_extended extension u) }
+        ensures fits { result.greatest < 2 ^ width_bits (extension_width extension) }
+        ensures small { a.greatest + a.greatest < 2 ^ extension_bits extension → IsBetween result a.least a.greatest }
     {
         if a.least == a.greatest {
             return Range::constant(numbers::sign_extend(extension, a.least));
@@ -70,6 +76,8 @@ impl Range {
     pub fn reorder(order: ByteOrder, span: Span, a: Self) -> Self
         ensures contains { (x : ℕ) → Has a x → Has result (reordered order span x) }
         ensures exact { (u : ℕ) → IsConstant a u → IsConstant result (reordered order span u) }
+        ensures fits { result.greatest < 2 ^ span_bits span }
+        ensures little { order ≡ ByteOrder.Little → a.greatest < 2 ^ span_bits span → IsBetween result a.least a.greatest }
     {
         if a.least == a.greatest {
             return Range::constant(numbers::reorder(order, span, a.least));

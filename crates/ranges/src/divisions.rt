@@ -4,12 +4,14 @@ ghost use Rattle.std.specs.Prelude.{◌≡◌, ℕ, bit_and};
 ghost use Rattle.isa_model.specs.Numbers.{quotient, remainder};
 
 use crate::range::Range;
+use isa_model::{AluOp, Width};
 
 impl Range {
-    ghost use Rattle.ranges.specs.Ranges.{Has};
+    ghost use Rattle.ranges.specs.Ranges.{Has, IsBetween, KeepsLimits};
 
     pub(crate) fn divide(self, other: Self) -> Self
-        ensures { (x y : ℕ) → Has self x → Has other y → Has result (quotient x y) }
+        ensures contains { (x y : ℕ) → Has self x → Has other y → Has result (quotient x y) }
+        ensures limits { KeepsLimits AluOp.Div Width.Full64 self other (IsBetween result) }
     {
         if other.least == 0 {
             Range::between(0, self.greatest)
@@ -19,7 +21,8 @@ impl Range {
     }
 
     pub(crate) fn remainder(self, other: Self) -> Self
-        ensures { (x y : ℕ) → Has self x → Has other y → Has result (remainder x y) }
+        ensures contains { (x y : ℕ) → Has self x → Has other y → Has result (remainder x y) }
+        ensures limits { KeepsLimits AluOp.Mod Width.Full64 self other (IsBetween result) }
     {
         if other.least == 0 {
             Range::between(0, self.greatest)
@@ -29,7 +32,8 @@ impl Range {
     }
 
     pub(crate) fn and(self, other: Self) -> Self
-        ensures { (x y : ℕ) → Has self x → Has other y → Has result (bit_and x y) }
+        ensures contains { (x y : ℕ) → Has self x → Has other y → Has result (bit_and x y) }
+        ensures limits { KeepsLimits AluOp.And Width.Full64 self other (IsBetween result) }
     {
         Range::between(0, self.greatest.min(other.greatest))
     }

@@ -19,15 +19,17 @@ pub struct Range {
 }
 
 impl Range {
-    ghost use Rattle.ranges.specs.Ranges.{Has, IsConstant};
+    ghost use Rattle.ranges.specs.Ranges.{Has, IsConstant, IsBetween, Encloses};
 
     /// All numbers of the width.
     pub fn any(width: Width) -> Self
-        ensures { (x : ℕ) → (Has result x ↔ (x < 2 ^ width_bits width)) }
+        ensures members { (x : ℕ) → (Has result x ↔ (x < 2 ^ width_bits width)) }
+        ensures fits { result.greatest < 2 ^ width_bits width }
     {
         Range::between(0, greatest_of(width))
     }
 
+    /// The one number.
     pub fn constant(number: u64) -> Self
         ensures contains { Has result number }
         ensures only { (x : ℕ) → Has result x → x ≡ number }
@@ -57,7 +59,8 @@ impl Range {
     /// The numbers between two unsigned limits.
     pub fn between(least: u64, greatest: u64) -> Self
         requires { least ≤ greatest }
-        ensures { (x : ℕ) → (Has result x ↔ ((least ≤ x) × (x ≤ greatest))) }
+        ensures members { (x : ℕ) → (Has result x ↔ ((least ≤ x) × (x ≤ greatest))) }
+        ensures limits { (result.least ≡ least) × (result.greatest ≡ greatest) }
     {
         if greatest < SIGN || least >= SIGN {
             Range {
@@ -104,6 +107,7 @@ impl Range {
         ensures common { (x : ℕ) → Has self x → Has other x → IsSomeAnd result (λ m. Has m x) }
         ensures left { IfSome result (λ m. (x : ℕ) → Has m x → Has self x) }
         ensures right { IfSome result (λ m. (x : ℕ) → Has m x → Has other x) }
+        ensures enclosed { IfSome result (λ m. Encloses self m × Encloses other m) }
     {
         let both = self.within(other)?;
         let unsigned = both.within(Range::between(both.least, both.greatest))?;
@@ -119,6 +123,7 @@ impl Range {
         ensures common { (x : ℕ) → Has self x → Has other x → IsSomeAnd result (λ m. Has m x) }
         ensures left { IfSome result (λ m. (x : ℕ) → Has m x → Has self x) }
         ensures right { IfSome result (λ m. (x : ℕ) → Has m x → Has other x) }
+        ensures enclosed { IfSome result (λ m. Encloses self m × Encloses other m) }
     {
         let least = self.least.max(other.least);
         let greatest = self.greatest.min(other.greatest);
@@ -137,7 +142,8 @@ impl Range {
 
     // The common numbers; where there are none, any answer will do.
     pub(crate) fn with(self, other: Self) -> Self
-        ensures { (x : ℕ) → Has self x → Has other x → Has result x }
+        ensures common { (x : ℕ) → Has self x → Has other x → Has result x }
+        ensures limits { IsBetween result self.least self.greatest }
     {
         match self.meet(other) {
             Some(both) => both,
@@ -147,6 +153,7 @@ impl Range {
 
     /// Whether the limits show that each number that `other` stands for is one of these.
     pub fn covers(self, other: Self) -> bool
+        ensures limits { IsTrue result ↔ Encloses self other }
         ensures yes { IsTrue result → (x : ℕ) → Has other x → Has self x }
         ensures equal { self ≡ other → IsTrue result }
     {

@@ -1,12 +1,12 @@
 //! Pairs of numbers between which a relation holds, one of each range: what is left of either.
 
-ghost use Rattle.std.specs.Prelude.{◌≡◌, ◌≢◌, ℕ, ◌<◌, ◌≤◌, ◌<ℤ◌, ◌≤ℤ◌, IsSomeAnd, IfSome, bit_and};
+ghost use Rattle.std.specs.Prelude.{◌≡◌, ◌≢◌, ◌⊎◌, ℕ, ◌<◌, ◌≤◌, ◌<ℤ◌, ◌≤ℤ◌, None, IsSomeAnd, IfSome, bit_and};
 ghost use Rattle.std.specs.Int.{w64, cast_signed};
 
 use crate::range::Range;
 
 impl Range {
-    ghost use Rattle.ranges.specs.Ranges.{Has};
+    ghost use Rattle.ranges.specs.Ranges.{Has, IsConstant};
 
     /// Those below some number of the other, and those above one. None: there is no such pair.
     pub fn below(self, other: Self) -> Option<(Self, Self)>
@@ -14,6 +14,8 @@ impl Range {
             → IsSomeAnd result (λ p. Has p.0 x × Has p.1 y) }
         ensures left { IfSome result (λ p. (x : ℕ) → Has p.0 x → Has self x) }
         ensures right { IfSome result (λ p. (y : ℕ) → Has p.1 y → Has other y) }
+        ensures left_limit { IfSome result (λ p. (x : ℕ) → Has p.0 x → x < other.greatest) }
+        ensures right_limit { IfSome result (λ p. (y : ℕ) → Has p.1 y → self.least < y) }
     {
         if other.greatest == 0 || self.least == u64::MAX {
             return None;
@@ -29,6 +31,8 @@ impl Range {
             → IsSomeAnd result (λ p. Has p.0 x × Has p.1 y) }
         ensures left { IfSome result (λ p. (x : ℕ) → Has p.0 x → Has self x) }
         ensures right { IfSome result (λ p. (y : ℕ) → Has p.1 y → Has other y) }
+        ensures left_limit { IfSome result (λ p. (x : ℕ) → Has p.0 x → x ≤ other.greatest) }
+        ensures right_limit { IfSome result (λ p. (y : ℕ) → Has p.1 y → self.least ≤ y) }
     {
         let left = self.meet(Range::between(0, other.greatest))?;
         let right = other.meet(Range::between(self.least, u64::MAX))?;
@@ -41,6 +45,8 @@ impl Range {
             → IsSomeAnd result (λ p. Has p.0 x × Has p.1 y) }
         ensures left { IfSome result (λ p. (x : ℕ) → Has p.0 x → Has self x) }
         ensures right { IfSome result (λ p. (y : ℕ) → Has p.1 y → Has other y) }
+        ensures left_limit { IfSome result (λ p. (x : ℕ) → Has p.0 x → cast_signed w64 x <ℤ other.signed_greatest) }
+        ensures right_limit { IfSome result (λ p. (y : ℕ) → Has p.1 y → self.signed_least <ℤ cast_signed w64 y) }
     {
         if other.signed_greatest == i64::MIN || self.signed_least == i64::MAX {
             return None;
@@ -56,6 +62,8 @@ impl Range {
             → IsSomeAnd result (λ p. Has p.0 x × Has p.1 y) }
         ensures left { IfSome result (λ p. (x : ℕ) → Has p.0 x → Has self x) }
         ensures right { IfSome result (λ p. (y : ℕ) → Has p.1 y → Has other y) }
+        ensures left_limit { IfSome result (λ p. (x : ℕ) → Has p.0 x → cast_signed w64 x ≤ℤ other.signed_greatest) }
+        ensures right_limit { IfSome result (λ p. (y : ℕ) → Has p.1 y → self.signed_least ≤ℤ cast_signed w64 y) }
     {
         let left = self.meet(Range::signed_between(i64::MIN, other.signed_greatest))?;
         let right = other.meet(Range::signed_between(self.signed_least, i64::MAX))?;
@@ -68,15 +76,11 @@ impl Range {
             → IsSomeAnd result (λ p. Has p.0 x × Has p.1 y) }
         ensures left { IfSome result (λ p. (x : ℕ) → Has p.0 x → Has self x) }
         ensures right { IfSome result (λ p. (y : ℕ) → Has p.1 y → Has other y) }
+        ensures left_limit { IfSome result (λ p. (v : ℕ) → IsConstant other v → (self.least ≡ v) ⊎ (self.greatest ≡ v) → Has p.0 v → ⊥) }
+        ensures right_limit { IfSome result (λ p. (u : ℕ) → IsConstant self u → (other.least ≡ u) ⊎ (other.greatest ≡ u) → Has p.1 u → ⊥) }
     {
-        let left = match other.number() {
-            Some(number) => self.without(number)?,
-            None => self,
-        };
-        let right = match self.number() {
-            Some(number) => other.without(number)?,
-            None => other,
-        };
+        let left = self.apart_from(other)?;
+        let right = other.apart_from(self)?;
         Some((left, right))
     }
 
@@ -87,6 +91,7 @@ impl Range {
             → IsSomeAnd result (λ p. Has p.0 x × Has p.1 y) }
         ensures left { IfSome result (λ p. (x : ℕ) → Has p.0 x → Has self x) }
         ensures right { IfSome result (λ p. (y : ℕ) → Has p.1 y → Has other y) }
+        ensures constants { (u v : ℕ) → IsConstant self u → IsConstant other v → bit_and u v ≢ 0 → result ≡ None }
     {
         match (self.number(), other.number()) {
             (Some(a), Some(b)) if a & b != 0 => None,
@@ -100,16 +105,31 @@ impl Range {
             → IsSomeAnd result (λ p. Has p.0 x × Has p.1 y) }
         ensures left { IfSome result (λ p. (x : ℕ) → Has p.0 x → Has self x) }
         ensures right { IfSome result (λ p. (y : ℕ) → Has p.1 y → Has other y) }
+        ensures left_limit { IfSome result (λ p. (x : ℕ) → Has p.0 x → 0 < x) }
+        ensures right_limit { IfSome result (λ p. (y : ℕ) → Has p.1 y → 0 < y) }
     {
         let left = self.meet(Range::between(1, u64::MAX))?;
         let right = other.meet(Range::between(1, u64::MAX))?;
         Some((left, right))
     }
 
+    // Those that differ from some number of the other.
+    fn apart_from(self, other: Self) -> Option<Self>
+        ensures common { (x y : ℕ) → Has self x → Has other y → x ≢ y → IsSomeAnd result (λ r. Has r x) }
+        ensures left { IfSome result (λ r. (x : ℕ) → Has r x → Has self x) }
+        ensures limit { IfSome result (λ r. (v : ℕ) → IsConstant other v → (self.least ≡ v) ⊎ (self.greatest ≡ v) → Has r v → ⊥) }
+    {
+        match other.number() {
+            Some(number) => self.without(number),
+            None => Some(self),
+        }
+    }
+
     // Those that are not this number, where it is an unsigned limit.
     fn without(self, number: u64) -> Option<Self>
         ensures common { (x : ℕ) → Has self x → x ≢ number → IsSomeAnd result (λ r. Has r x) }
         ensures left { IfSome result (λ r. (x : ℕ) → Has r x → Has self x) }
+        ensures limit { IfSome result (λ r. (self.least ≡ number) ⊎ (self.greatest ≡ number) → Has r number → ⊥) }
     {
         if self.least == number {
             if number == u64::MAX {

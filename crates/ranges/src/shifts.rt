@@ -9,10 +9,12 @@ use crate::range::Range;
 use isa_model::{AluOp, Span, Width};
 
 impl Range {
-    ghost use Rattle.ranges.specs.Ranges.{Has};
+    ghost use Rattle.ranges.specs.Ranges.{Has, IsBetween, KeepsLimits};
 
     pub(crate) fn truncate(self, width: Width) -> Self
-        ensures { (x : ℕ) → Has self x → Has result (x % 2 ^ width_bits width) }
+        ensures contains { (x : ℕ) → Has self x → Has result (x % 2 ^ width_bits width) }
+        ensures fits { result.greatest < 2 ^ width_bits width }
+        ensures same { self.greatest < 2 ^ width_bits width → result ≡ self }
     {
         match width {
             Width::Low32 => self.low_word(),
@@ -22,7 +24,9 @@ impl Range {
 
     // Numbers with the same upper half keep their distances.
     fn low_word(self) -> Self
-        ensures { (x : ℕ) → Has self x → Has result (x % 2 ^ 32) }
+        ensures contains { (x : ℕ) → Has self x → Has result (x % 2 ^ 32) }
+        ensures fits { result.greatest < 2 ^ 32 }
+        ensures same { self.greatest < 2 ^ 32 → result ≡ self }
     {
         if self.greatest <= 0xffff_ffff {
             self
@@ -34,7 +38,9 @@ impl Range {
     }
 
     fn low_half(self) -> Self
-        ensures { (x : ℕ) → Has self x → Has result (x % 2 ^ 16) }
+        ensures contains { (x : ℕ) → Has self x → Has result (x % 2 ^ 16) }
+        ensures fits { result.greatest < 2 ^ 16 }
+        ensures same { self.greatest < 2 ^ 16 → result ≡ self }
     {
         if self.greatest <= 0xffff {
             self
@@ -45,7 +51,9 @@ impl Range {
 
     // The low bytes.
     pub(crate) fn low(self, span: Span) -> Self
-        ensures { (x : ℕ) → Has self x → Has result (x % 2 ^ span_bits span) }
+        ensures contains { (x : ℕ) → Has self x → Has result (x % 2 ^ span_bits span) }
+        ensures fits { result.greatest < 2 ^ span_bits span }
+        ensures same { self.greatest < 2 ^ span_bits span → result ≡ self }
     {
         match span {
             Span::B16 => self.low_half(),
@@ -56,7 +64,9 @@ impl Range {
 
     fn shift_left(self, by: u64) -> Self
         requires { by < 64 }
-        ensures { (x : ℕ) → Has self x → Has result ((x * 2 ^ by) % 2 ^ 64) }
+        ensures contains { (x : ℕ) → Has self x → Has result ((x * 2 ^ by) % 2 ^ 64) }
+        ensures limits { self.greatest * 2 ^ by < 2 ^ 64
+            → (result.least ≡ self.least * 2 ^ by) × (result.greatest ≡ self.greatest * 2 ^ by) }
     {
         if self.greatest <= u64::MAX >> by {
             Range::between(self.least << by, self.greatest << by)
@@ -67,7 +77,8 @@ impl Range {
 
     fn shift_right(self, by: u64) -> Self
         requires { by < 64 }
-        ensures { (x : ℕ) → Has self x → Has result (x / 2 ^ by) }
+        ensures contains { (x : ℕ) → Has self x → Has result (x / 2 ^ by) }
+        ensures limits { (result.least ≡ self.least / 2 ^ by) × (result.greatest ≡ self.greatest / 2 ^ by) }
     {
         Range::between(self.least >> by, self.greatest >> by)
     }
@@ -84,8 +95,9 @@ impl Range {
     // At 32 bits numbers below the half are shifted as unsigned ones.
     fn shift_signed_word(self, by: u64) -> Self
         requires { by < 32 }
-        ensures { (x : ℕ) → x < 2 ^ 32 → Has self x
+        ensures contains { (x : ℕ) → x < 2 ^ 32 → Has self x
             → Has result (result_of AluOp.Arsh Width.Low32 x by) }
+        ensures fits { result.greatest < 2 ^ 32 }
     {
         if self.greatest < 0x8000_0000 {
             self.shift_right(by)
@@ -95,7 +107,9 @@ impl Range {
     }
 
     pub(crate) fn shift_left_at(self, width: Width, other: Self) -> Self
-        ensures { (x y : ℕ) → Has self x → Has other y → Has result (result_of AluOp.Lsh width x y) }
+        ensures contains { (x y : ℕ) → Has self x → Has other y → Has result (result_of AluOp.Lsh width x y) }
+        ensures fits { result.greatest < 2 ^ width_bits width }
+        ensures limits { KeepsLimits AluOp.Lsh width self other (IsBetween result) }
     {
         if other.least != other.greatest {
             return Range::any(width);
@@ -106,7 +120,8 @@ impl Range {
 
     // A shift to the right, however far, makes no number greater.
     pub(crate) fn shift_right_at(self, width: Width, other: Self) -> Self
-        ensures { (x y : ℕ) → Has self x → Has other y → Has result (result_of AluOp.Rsh width x y) }
+        ensures contains { (x y : ℕ) → Has self x → Has other y → Has result (result_of AluOp.Rsh width x y) }
+        ensures limits { KeepsLimits AluOp.Rsh width self other (IsBetween result) }
     {
         if other.least != other.greatest {
             return Range::between(0, self.greatest);
@@ -115,8 +130,9 @@ impl Range {
     }
 
     pub(crate) fn shift_signed_at(self, width: Width, other: Self) -> Self
-        ensures { (x y : ℕ) → x < 2 ^ width_bits width → Has self x → Has other y
+        ensures contains { (x y : ℕ) → x < 2 ^ width_bits width → Has self x → Has other y
             → Has result (result_of AluOp.Arsh width x y) }
+        ensures fits { result.greatest < 2 ^ width_bits width }
     {
         if other.least != other.greatest {
             return Range::any(width);

@@ -1,6 +1,6 @@
 //! Sums, differences and products, first at 64 bits and then at a width.
 
-ghost use Rattle.std.specs.Prelude.{◌≡◌, ℕ, ◌+◌, ◌-◌, ◌*◌, ◌%◌, ◌^◌, ◌≤◌};
+ghost use Rattle.std.specs.Prelude.{◌≡◌, ℕ, ◌+◌, ◌-◌, ◌*◌, ◌%◌, ◌^◌, ◌<◌, ◌≤◌};
 ghost use Rattle.isa_model.specs.Sizes.{width_bits};
 ghost use Rattle.isa_model.specs.Numbers.{result_of};
 
@@ -8,10 +8,11 @@ use crate::range::Range;
 use isa_model::{AluOp, Width};
 
 impl Range {
-    ghost use Rattle.ranges.specs.Ranges.{Has};
+    ghost use Rattle.ranges.specs.Ranges.{Has, IsBetween, KeepsLimits};
 
     fn add_unsigned(self, other: Self) -> Self
-        ensures { (x y : ℕ) → Has self x → Has other y → Has result ((x + y) % 2 ^ 64) }
+        ensures contains { (x y : ℕ) → Has self x → Has other y → Has result ((x + y) % 2 ^ 64) }
+        ensures limits { KeepsLimits AluOp.Add Width.Full64 self other (IsBetween result) }
     {
         let never_wraps = self.greatest <= u64::MAX - other.greatest;
         let always_wraps = self.least > u64::MAX - other.least;
@@ -38,7 +39,8 @@ impl Range {
     }
 
     fn sub_unsigned(self, other: Self) -> Self
-        ensures { (x y : ℕ) → Has self x → Has other y → Has result ((x + (2 ^ 64 - y)) % 2 ^ 64) }
+        ensures contains { (x y : ℕ) → Has self x → Has other y → Has result ((x + (2 ^ 64 - y)) % 2 ^ 64) }
+        ensures limits { KeepsLimits AluOp.Sub Width.Full64 self other (IsBetween result) }
     {
         if self.least >= other.greatest || self.greatest < other.least {
             Range::between(
@@ -63,7 +65,8 @@ impl Range {
     }
 
     fn mul(self, other: Self) -> Self
-        ensures { (x y : ℕ) → Has self x → Has other y → Has result ((x * y) % 2 ^ 64) }
+        ensures contains { (x y : ℕ) → Has self x → Has other y → Has result ((x * y) % 2 ^ 64) }
+        ensures limits { KeepsLimits AluOp.Mul Width.Full64 self other (IsBetween result) }
     {
         match self.greatest.checked_mul(other.greatest) {
             Some(greatest) => Range::between(self.least * other.least, greatest),
@@ -72,7 +75,9 @@ impl Range {
     }
 
     pub(crate) fn add_at(self, width: Width, other: Self) -> Self
-        ensures { (x y : ℕ) → Has self x → Has other y → Has result (result_of AluOp.Add width x y) }
+        ensures contains { (x y : ℕ) → Has self x → Has other y → Has result (result_of AluOp.Add width x y) }
+        ensures fits { result.greatest < 2 ^ width_bits width }
+        ensures limits { KeepsLimits AluOp.Add width self other (IsBetween result) }
     {
         let unsigned = self.add_unsigned(other);
         let signed = self.add_signed(other);
@@ -80,8 +85,10 @@ impl Range {
     }
 
     pub(crate) fn sub_at(self, width: Width, other: Self) -> Self
-        ensures { (x y : ℕ) → y ≤ 2 ^ width_bits width → Has self x → Has other y
+        ensures contains { (x y : ℕ) → y ≤ 2 ^ width_bits width → Has self x → Has other y
             → Has result (result_of AluOp.Sub width x y) }
+        ensures fits { result.greatest < 2 ^ width_bits width }
+        ensures limits { self.greatest < 2 ^ width_bits width → KeepsLimits AluOp.Sub width self other (IsBetween result) }
     {
         let unsigned = self.sub_unsigned(other);
         let signed = self.sub_signed(other);
@@ -89,7 +96,9 @@ impl Range {
     }
 
     pub(crate) fn mul_at(self, width: Width, other: Self) -> Self
-        ensures { (x y : ℕ) → Has self x → Has other y → Has result (result_of AluOp.Mul width x y) }
+        ensures contains { (x y : ℕ) → Has self x → Has other y → Has result (result_of AluOp.Mul width x y) }
+        ensures fits { result.greatest < 2 ^ width_bits width }
+        ensures limits { KeepsLimits AluOp.Mul width self other (IsBetween result) }
     {
         self.mul(other).truncate(width)
     }

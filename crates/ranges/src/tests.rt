@@ -56,6 +56,14 @@ fn sums_and_products(rt: HostRuntime) -> Result<(), Fail> {
             0xffff_ffff
         )
     );
+    let around = Range::signed_between(-10, 5);
+    assert!(rt;
+        is_signed(
+            Range::alu(AluOp::Add, FULL, around, Range::constant(3)),
+            -7,
+            8
+        )
+    );
     // A signed sum that wraps has no limits.
     let high = Range::signed_between(i64::MAX - 1, i64::MAX);
     let wrapped = Range::alu(AluOp::Add, FULL, high, Range::between(0, 2));
@@ -130,6 +138,7 @@ fn parts_and_shifts(rt: HostRuntime) -> Result<(), Fail> {
         )
     );
     assert!(rt; is_signed(Range::sign_extend(Extension::Full8, any), -128, 127));
+    assert!(rt; is_signed(Range::sign_extend(Extension::Full16, any), -32768, 32767));
     assert!(rt;
         is_signed(
             Range::sign_extend(Extension::Full32, any),
@@ -149,6 +158,11 @@ fn common_numbers(rt: HostRuntime) -> Result<(), Fail> {
     let above = Range::between(200, 1000);
     assert_eq!(rt; byte.meet(above), Some(Range::between(200, 255)));
     assert_eq!(rt; byte.meet(Range::constant(256)), None);
+    // Each pair of limits takes up what the other shows.
+    assert_eq!(rt;
+        byte.meet(Range::signed_between(-5, 10)),
+        Some(Range::between(0, 10))
+    );
     assert!(rt; Range::any(LOW).covers(byte) && !byte.covers(above) && byte.covers(byte));
     assert_eq!(rt; Range::constant(7).number(), Some(7));
     assert_eq!(rt; byte.number(), None);

@@ -1,6 +1,7 @@
 //! Known bits as a domain.
 
-ghost use Rattle.std.specs.Prelude.{ℕ};
+ghost use Rattle.std.specs.Prelude.{ℕ, ◌^◌, ◌<◌};
+ghost use Rattle.isa_model.specs.Sizes.{width_bits};
 
 use crate::domains::Domain;
 use isa_model::{AluOp, ByteOrder, Extension, Span, Width};
@@ -8,7 +9,7 @@ use known_bits::Bits;
 
 impl Domain for Bits {
     ghost use Rattle.isa_model.specs.Numbers.{alu};
-    ghost use Rattle.known_bits.specs.Bits.{Has, IsConstant, IsSharp, IsLogical};
+    ghost use Rattle.known_bits.specs.Bits.{Has, IsConstant, IsSharp, IsPrecise};
     ghost use Rattle.reg_state.specs.Constants.{bits_constant_has, bits_constant_only};
 
     ghost has = { Has };
@@ -38,7 +39,8 @@ impl Domain for Bits {
     fn alu(op: AluOp, width: Width, a: Bits, b: Bits) -> Bits
         ensures contains { (x y : ℕ) → Has a x → Has b y → Has result (alu op width x y) }
         ensures exact { (u v : ℕ) → IsConstant a u → IsConstant b v → IsConstant result (alu op width u v) }
-        ensures sharp { IsLogical op → IsSharp a b (alu op width) result.mask }
+        ensures fits { (x : ℕ) → Has result x → x < 2 ^ width_bits width }
+        ensures sharp { IsPrecise op b → IsSharp a b (alu op width) result.mask }
     {
         Bits::alu(op, width, a, b)
     }

@@ -2,8 +2,9 @@
 
 ghost use Rattle.std.specs.Prelude.{◌≡◌, ◌≢◌, ℕ, ◌^◌, ◌<◌, ◌≤◌, ◌<ℤ◌, ◌≤ℤ◌, ◌↔◌, Some, IsSomeAnd, IfSome, IsTrue, bit_and};
 ghost use Rattle.std.specs.Int.{w64, cast_signed};
-ghost use Rattle.isa_model.specs.Sizes.{width_bits};
+ghost use Rattle.isa_model.specs.Sizes.{width_bits, span_bits};
 ghost use Rattle.isa_model.specs.Numbers.{alu, negated, sign_extended, reordered};
+ghost use Rattle.isa_model.specs.ExtensionLemmas.{extension_width};
 
 use isa_model::{AluOp, ByteOrder, Extension, Span, Width};
 
@@ -39,22 +40,26 @@ pub trait Domain: Copy {
     /// What the operation gives on the members of both.
     fn alu(op: AluOp, width: Width, a: Self, b: Self) -> Self
         ensures contains { (x y : ℕ) → has a x → has b y → has result (alu op width x y) }
-        ensures exact { (u v : ℕ) → is_constant a u → is_constant b v → is_constant result (alu op width u v) };
+        ensures exact { (u v : ℕ) → is_constant a u → is_constant b v → is_constant result (alu op width u v) }
+        ensures fits { (x : ℕ) → has result x → x < 2 ^ width_bits width };
 
     /// The members with their signs changed.
     fn negate(width: Width, a: Self) -> Self
         ensures contains { (x : ℕ) → has a x → has result (negated width x) }
-        ensures exact { (u : ℕ) → is_constant a u → is_constant result (negated width u) };
+        ensures exact { (u : ℕ) → is_constant a u → is_constant result (negated width u) }
+        ensures fits { (x : ℕ) → has result x → x < 2 ^ width_bits width };
 
     /// The low bits of the members, sign-extended.
     fn sign_extend(extension: Extension, a: Self) -> Self
         ensures contains { (x : ℕ) → has a x → has result (sign_extended extension x) }
-        ensures exact { (u : ℕ) → is_constant a u → is_constant result (sign_extended extension u) };
+        ensures exact { (u : ℕ) → is_constant a u → is_constant result (sign_extended extension u) }
+        ensures fits { (x : ℕ) → has result x → x < 2 ^ width_bits (extension_width extension) };
 
     /// The low bytes of the members, in an order.
     fn reorder(order: ByteOrder, span: Span, a: Self) -> Self
         ensures contains { (x : ℕ) → has a x → has result (reordered order span x) }
-        ensures exact { (u : ℕ) → is_constant a u → is_constant result (reordered order span u) };
+        ensures exact { (u : ℕ) → is_constant a u → is_constant result (reordered order span u) }
+        ensures fits { (x : ℕ) → has result x → x < 2 ^ span_bits span };
 
     /// The common members. None: there is none.
     fn meet(self, other: Self) -> Option<Self>

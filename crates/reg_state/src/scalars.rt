@@ -1,6 +1,7 @@
 //! Known bits and limits at once.
 
-ghost use Rattle.std.specs.Prelude.{◌≡◌, ℕ, ◌≤◌, ◌↔◌, IsSomeAnd, IfSome, IsTrue};
+ghost use Rattle.std.specs.Prelude.{◌≡◌, ℕ, ◌^◌, ◌<◌, ◌≤◌, ◌↔◌, IsSomeAnd, IfSome, IsTrue};
+ghost use Rattle.isa_model.specs.Sizes.{width_bits};
 
 use crate::domains::Domain;
 use isa_model::{AluOp, ByteOrder, Extension, Span, Width};
@@ -117,6 +118,8 @@ impl Scalar {
 }
 
 impl Domain for Scalar {
+    ghost use Rattle.isa_model.specs.Numbers.{alu};
+    ghost use Rattle.ranges.specs.Ranges.{KeepsLimits};
     ghost use Rattle.reg_state.specs.Scalars.{Has, IsConstant};
     ghost use Rattle.reg_state.specs.Constants.{bits_constant_has, bits_constant_only, range_constant_has};
 
@@ -160,7 +163,13 @@ impl Domain for Scalar {
         self.bits.greatest().min(self.range.greatest)
     }
 
-    fn alu(op: AluOp, width: Width, a: Scalar, b: Scalar) -> Scalar {
+    fn alu(op: AluOp, width: Width, a: Scalar, b: Scalar) -> Scalar
+        ensures contains { (x y : ℕ) → Has a x → Has b y → Has result (alu op width x y) }
+        ensures exact { (u v : ℕ) → IsConstant a u → IsConstant b v → IsConstant result (alu op width u v) }
+        ensures fits { (x : ℕ) → Has result x → x < 2 ^ width_bits width }
+        ensures limits { a.range.greatest < 2 ^ width_bits width → b.range.greatest < 2 ^ width_bits width
+            → KeepsLimits op width a.range b.range (λ l g. (x : ℕ) → Has result x → (l ≤ x) × (x ≤ g)) }
+    {
         let both = Scalar {
             bits: Bits::alu(op, width, a.bits, b.bits),
             range: Range::alu(op, width, a.range, b.range),

@@ -51,6 +51,11 @@ fn parts(rt: HostRuntime) -> Result<(), Fail> {
     assert!(rt; is(with(AluOp::Rsh, any, 48), 0, 0xffff));
     assert!(rt; is(with(AluOp::Xor, byte(), 0x30), 0, 255));
     assert!(rt; is_signed(Scalar::sign_extend(Extension::Full8, any), -128, 127));
+    // An even number stays even, and an unknown sign is the greatest in what it takes away.
+    let even = Scalar::sign_extend(Extension::Full8, with(AluOp::Lsh, any, 1));
+    assert!(rt; (even.bits.mask | even.bits.value) & 1 == 0);
+    let sign_and_four = with(AluOp::And, any, 0x8000_0000_0000_000f);
+    assert!(rt; is_signed(sign_and_four, i64::MIN, 15));
     Ok(())
 }
 
@@ -86,6 +91,42 @@ fn jumps(rt: HostRuntime) -> Result<(), Fail> {
     assert!(rt; even.bits.value == 0 && even.bits.mask == u64::MAX - 1);
     let five = refined(Comparison::Equal, FULL, true, any, 5).ok_or("never equal")?;
     assert_eq!(rt; five, Scalar::constant(5));
+    Ok(())
+}
+
+// What the comparison of a byte with 10 leaves of the byte, by its limits.
+fn left_of_ten(comparison: Comparison, taken: bool) -> Option<(u64, u64)> {
+    let left = refined(comparison, FULL, taken, byte(), 10)?;
+    Some((left.range.least, left.range.greatest))
+}
+
+#[test]
+fn each_comparison_narrows(rt: HostRuntime) -> Result<(), Fail> {
+    let below = Some((0, 9));
+    let at_most = Some((0, 10));
+    let at_least = Some((10, 255));
+    let above = Some((11, 255));
+    let rows = [
+        (Comparison::Equal, Some((10, 10)), Some((0, 255))),
+        (Comparison::NotEqual, Some((0, 255)), Some((10, 10))),
+        (Comparison::Greater, above, at_most),
+        (Comparison::GreaterEqual, at_least, below),
+        (Comparison::Less, below, at_least),
+        (Comparison::LessEqual, at_most, above),
+        (Comparison::SignedGreater, above, at_most),
+        (Comparison::SignedGreaterEqual, at_least, below),
+        (Comparison::SignedLess, below, at_least),
+        (Comparison::SignedLessEqual, at_most, above),
+        // Of 8 and 2 either may be the common bit: only 0 is ruled out.
+        (Comparison::AnyBit, Some((1, 255)), Some((0, 245))),
+    ];
+    for (comparison, goes, stays) in rows {
+        assert_eq!(rt; left_of_ten(comparison, true), goes);
+        assert_eq!(rt; left_of_ten(comparison, false), stays);
+    }
+    // A limit that is ruled out is trimmed.
+    let some = refined(Comparison::NotEqual, FULL, true, byte(), 0).ok_or("never other")?;
+    assert!(rt; is(some, 1, 255));
     Ok(())
 }
 

@@ -1,25 +1,32 @@
-use Rattle.std.proofs.Common.{arith, ◌^◌, ◌%◌, bit_and, bit_or, bit_xor}
-use Rattle.std.proofs.lemmas.Nat.{and_mod, or_mod, xor_mod}
+use Rattle.std.proofs.Common.{arith, ℕ, ◌≡◌, ◌<◌, ◌^◌, ◌%◌, refl, ap, ◌∙◌, bit_and, bit_or, bit_xor}
+use Rattle.std.proofs.lemmas.Nat.{and_mod, or_mod, xor_mod, pow_pos}
 use Rattle.isa_model.specs.Sizes.{width_bits}
-use Rattle.isa_model.specs.Numbers.{alu}
-use Rattle.isa_model.specs.NumberLemmas.{alu_below, low_below}
+use Rattle.isa_model.specs.declared.instructions.AluOp.TheVariants.{Add, Sub, Lsh, Rsh}
+use Rattle.isa_model.specs.Numbers.{alu, result_of}
+use Rattle.isa_model.specs.NumberLemmas.{alu_below, low_below, width_most}
+use Rattle.std.proofs.Math.Nat.{mod-eq_of_lt}
+use Rattle.known_bits.proofs.Members.{Known}
 use Rattle.known_bits.proofs.Sharp.{low_set, occurs_low}
+use Rattle.known_bits.proofs.Precise.{occurs_lifted, second_sharp}
 use Rattle.known_bits.proofs.bits.Bits.alu.Goals as goal
+
+zero_low : (n : ℕ) → 0 % 2 ^ n ≡ 0
+zero_low n = mod-eq_of_lt {n = 0} {m = 2 ^ n} (pow_pos n)
 
 pub returns-in-Add-clause-contains : goal.returns-in-Add-clause-contains
 unfolding alu
 returns-in-Add-clause-contains c = λ x y hx hy.
-    rw c.in-Add.is (c.add_at.ensures _ _ (c.truncate-x.ensures.contains x hx) (c.truncate-y.ensures.contains y hy))
+    rw c.in-Add.is (c.add_at.ensures.contains _ _ (c.truncate-x.ensures.contains x hx) (c.truncate-y.ensures.contains y hy))
 
 pub returns-in-Sub-clause-contains : goal.returns-in-Sub-clause-contains
 unfolding alu
 returns-in-Sub-clause-contains c = λ x y hx hy.
-    rw c.in-Sub.is (c.sub_at.ensures _ _ (let b = low_below c.args.width y in omega arith) (c.truncate-x.ensures.contains x hx) (c.truncate-y.ensures.contains y hy))
+    rw c.in-Sub.is (c.sub_at.ensures.contains _ _ (let b = low_below c.args.width y in omega arith) (c.truncate-x.ensures.contains x hx) (c.truncate-y.ensures.contains y hy))
 
 pub returns-in-Mul-clause-contains : goal.returns-in-Mul-clause-contains
 unfolding alu
 returns-in-Mul-clause-contains c = λ x y hx hy.
-    rw c.in-Mul.is (c.mul_at.ensures _ _ (c.truncate-x.ensures.contains x hx) (c.truncate-y.ensures.contains y hy))
+    rw c.in-Mul.is (c.mul_at.ensures.contains _ _ (c.truncate-x.ensures.contains x hx) (c.truncate-y.ensures.contains y hy))
 
 pub returns-in-Or-clause-contains : goal.returns-in-Or-clause-contains
 unfolding alu
@@ -33,8 +40,8 @@ returns-in-Or-clause-sharp c = λ l i h.
     let s = low_set c.or.result.mask n i (rw c.truncate.ensures.mask at h) in
     let o = c.or.ensures.sharp i s.1 in
     rw c.in-Or.is (
-      occurs_low bit_or (λ x y. bit_or (x % 2 ^ n) (y % 2 ^ n)) n i 0 s.0 (λ x y. or_mod x y n) o.0,
-      occurs_low bit_or (λ x y. bit_or (x % 2 ^ n) (y % 2 ^ n)) n i 1 s.0 (λ x y. or_mod x y n) o.1,
+      occurs_low bit_or (λ x y. bit_or (x % 2 ^ n) (y % 2 ^ n)) n i 0 s.0 (λ x y hx hy. or_mod x y n) o.0,
+      occurs_low bit_or (λ x y. bit_or (x % 2 ^ n) (y % 2 ^ n)) n i 1 s.0 (λ x y hx hy. or_mod x y n) o.1,
     )
 
 pub returns-in-And-clause-contains : goal.returns-in-And-clause-contains
@@ -49,8 +56,8 @@ returns-in-And-clause-sharp c = λ l i h.
     let s = low_set c.and.result.mask n i (rw c.truncate-in-And.ensures.mask at h) in
     let o = c.and.ensures.sharp i s.1 in
     rw c.in-And.is (
-      occurs_low bit_and (λ x y. bit_and (x % 2 ^ n) (y % 2 ^ n)) n i 0 s.0 (λ x y. and_mod x y n) o.0,
-      occurs_low bit_and (λ x y. bit_and (x % 2 ^ n) (y % 2 ^ n)) n i 1 s.0 (λ x y. and_mod x y n) o.1,
+      occurs_low bit_and (λ x y. bit_and (x % 2 ^ n) (y % 2 ^ n)) n i 0 s.0 (λ x y hx hy. and_mod x y n) o.0,
+      occurs_low bit_and (λ x y. bit_and (x % 2 ^ n) (y % 2 ^ n)) n i 1 s.0 (λ x y hx hy. and_mod x y n) o.1,
     )
 
 pub returns-in-Xor-clause-contains : goal.returns-in-Xor-clause-contains
@@ -65,24 +72,24 @@ returns-in-Xor-clause-sharp c = λ l i h.
     let s = low_set c.xor.result.mask n i (rw c.truncate-in-Xor.ensures.mask at h) in
     let o = c.xor.ensures.sharp i s.1 in
     rw c.in-Xor.is (
-      occurs_low bit_xor (λ x y. bit_xor (x % 2 ^ n) (y % 2 ^ n)) n i 0 s.0 (λ x y. xor_mod x y n) o.0,
-      occurs_low bit_xor (λ x y. bit_xor (x % 2 ^ n) (y % 2 ^ n)) n i 1 s.0 (λ x y. xor_mod x y n) o.1,
+      occurs_low bit_xor (λ x y. bit_xor (x % 2 ^ n) (y % 2 ^ n)) n i 0 s.0 (λ x y hx hy. xor_mod x y n) o.0,
+      occurs_low bit_xor (λ x y. bit_xor (x % 2 ^ n) (y % 2 ^ n)) n i 1 s.0 (λ x y hx hy. xor_mod x y n) o.1,
     )
 
 pub returns-in-Lsh-clause-contains : goal.returns-in-Lsh-clause-contains
 unfolding alu
 returns-in-Lsh-clause-contains c = λ x y hx hy.
-    rw c.in-Lsh.is (c.shift_left_at.ensures _ _ (c.truncate-x.ensures.contains x hx) (c.truncate-y.ensures.contains y hy))
+    rw c.in-Lsh.is (c.shift_left_at.ensures.contains _ _ (c.truncate-x.ensures.contains x hx) (c.truncate-y.ensures.contains y hy))
 
 pub returns-in-Rsh-clause-contains : goal.returns-in-Rsh-clause-contains
 unfolding alu
 returns-in-Rsh-clause-contains c = λ x y hx hy.
-    rw c.in-Rsh.is (c.shift_right_at.ensures _ _ (low_below c.args.width x) (c.truncate-x.ensures.contains x hx) (c.truncate-y.ensures.contains y hy))
+    rw c.in-Rsh.is (c.shift_right_at.ensures.contains _ _ (low_below c.args.width x) (c.truncate-x.ensures.contains x hx) (c.truncate-y.ensures.contains y hy))
 
 pub returns-in-Arsh-clause-contains : goal.returns-in-Arsh-clause-contains
 unfolding alu
 returns-in-Arsh-clause-contains c = λ x y hx hy.
-    rw c.in-Arsh.is (c.shift_signed_at.ensures _ _ (low_below c.args.width x) (c.truncate-x.ensures.contains x hx) (c.truncate-y.ensures.contains y hy))
+    rw c.in-Arsh.is (c.shift_signed_at.ensures.contains _ _ (low_below c.args.width x) (c.truncate-x.ensures.contains x hx) (c.truncate-y.ensures.contains y hy))
 
 pub returns-in-Mov-clause-contains : goal.returns-in-Mov-clause-contains
 unfolding alu
@@ -90,3 +97,80 @@ returns-in-Mov-clause-contains c = λ x y hx hy. rw c.in-Mov.is (c.truncate-y.en
 
 pub returns-in-Div-clause-contains : goal.returns-in-Div-clause-contains
 returns-in-Div-clause-contains c = λ x y hx hy. (c.any.ensures _).1 (alu_below c.args.op c.args.width x y)
+
+pub returns-in-Add-clause-sharp : goal.returns-in-Add-clause-sharp
+unfolding alu
+returns-in-Add-clause-sharp c = λ precise i h.
+    let ka : Known c.args.a.value c.args.a.mask = record { value_in = omega arith; mask_in = omega arith; apart = c.args.a.apart } in
+    let kb : Known c.args.b.value c.args.b.mask = record { value_in = omega arith; mask_in = omega arith; apart = c.args.b.apart } in
+    let w = c.args.width in
+    let n = width_bits w in
+    let o = rw (c.truncate-x.ensures.value, c.truncate-x.ensures.mask, c.truncate-y.ensures.value, c.truncate-y.ensures.mask) at (c.add_at.ensures.sharp i h) in
+    rw c.in-Add.is (
+      occurs_lifted ka kb (result_of Add w) n i 0 (width_most w) o.0,
+      occurs_lifted ka kb (result_of Add w) n i 1 (width_most w) o.1,
+    )
+
+pub returns-in-Sub-clause-sharp : goal.returns-in-Sub-clause-sharp
+unfolding alu
+returns-in-Sub-clause-sharp c = λ precise i h.
+    let ka : Known c.args.a.value c.args.a.mask = record { value_in = omega arith; mask_in = omega arith; apart = c.args.a.apart } in
+    let kb : Known c.args.b.value c.args.b.mask = record { value_in = omega arith; mask_in = omega arith; apart = c.args.b.apart } in
+    let w = c.args.width in
+    let n = width_bits w in
+    let o = rw (c.truncate-x.ensures.value, c.truncate-x.ensures.mask, c.truncate-y.ensures.value, c.truncate-y.ensures.mask) at (c.sub_at.ensures.sharp (λ y hy. (let b = c.truncate-y.ensures.fits y hy in omega arith)) i h) in
+    rw c.in-Sub.is (
+      occurs_lifted ka kb (result_of Sub w) n i 0 (width_most w) o.0,
+      occurs_lifted ka kb (result_of Sub w) n i 1 (width_most w) o.1,
+    )
+
+pub returns-in-Lsh-clause-sharp : goal.returns-in-Lsh-clause-sharp
+unfolding alu
+returns-in-Lsh-clause-sharp c = λ precise i h.
+    let ka : Known c.args.a.value c.args.a.mask = record { value_in = omega arith; mask_in = omega arith; apart = c.args.a.apart } in
+    let kb : Known c.args.b.value c.args.b.mask = record { value_in = omega arith; mask_in = omega arith; apart = c.args.b.apart } in
+    let w = c.args.width in
+    let n = width_bits w in
+    let zero : c.args.b.mask ≡ 0 = rw c.in-Lsh.is at precise in
+    let one : c.truncate-y.result.mask ≡ 0 = c.truncate-y.ensures.mask ∙ ap (λ m. m % 2 ^ n) zero ∙ zero_low n in
+    let o = rw (c.truncate-x.ensures.value, c.truncate-x.ensures.mask, c.truncate-y.ensures.value, c.truncate-y.ensures.mask) at (c.shift_left_at.ensures.sharp one i h) in
+    rw c.in-Lsh.is (
+      occurs_lifted ka kb (result_of Lsh w) n i 0 (width_most w) o.0,
+      occurs_lifted ka kb (result_of Lsh w) n i 1 (width_most w) o.1,
+    )
+
+pub returns-in-Rsh-clause-sharp : goal.returns-in-Rsh-clause-sharp
+unfolding alu
+returns-in-Rsh-clause-sharp c = λ precise i h.
+    let ka : Known c.args.a.value c.args.a.mask = record { value_in = omega arith; mask_in = omega arith; apart = c.args.a.apart } in
+    let kb : Known c.args.b.value c.args.b.mask = record { value_in = omega arith; mask_in = omega arith; apart = c.args.b.apart } in
+    let w = c.args.width in
+    let n = width_bits w in
+    let zero : c.args.b.mask ≡ 0 = rw c.in-Rsh.is at precise in
+    let one : c.truncate-y.result.mask ≡ 0 = c.truncate-y.ensures.mask ∙ ap (λ m. m % 2 ^ n) zero ∙ zero_low n in
+    let o = rw (c.truncate-x.ensures.value, c.truncate-x.ensures.mask, c.truncate-y.ensures.value, c.truncate-y.ensures.mask) at (c.shift_right_at.ensures.sharp one c.truncate-x.ensures.fits i h) in
+    rw c.in-Rsh.is (
+      occurs_lifted ka kb (result_of Rsh w) n i 0 (width_most w) o.0,
+      occurs_lifted ka kb (result_of Rsh w) n i 1 (width_most w) o.1,
+    )
+
+pub returns-in-Mov-clause-sharp : goal.returns-in-Mov-clause-sharp
+unfolding alu
+returns-in-Mov-clause-sharp c = λ precise i h.
+    let ka : Known c.args.a.value c.args.a.mask = record { value_in = omega arith; mask_in = omega arith; apart = c.args.a.apart } in
+    let kb : Known c.args.b.value c.args.b.mask = record { value_in = omega arith; mask_in = omega arith; apart = c.args.b.apart } in
+    let w = c.args.width in
+    let n = width_bits w in
+    let s = low_set c.args.b.mask n i (rw c.truncate-y.ensures.mask at h) in
+    let o = second_sharp ka kb i s.1 in
+    rw c.in-Mov.is (
+      occurs_low (λ x y. y) (λ x y. y % 2 ^ n) n i 0 s.0 (λ x y hx hy. refl) o.0,
+      occurs_low (λ x y. y) (λ x y. y % 2 ^ n) n i 1 s.0 (λ x y hx hy. refl) o.1,
+    )
+
+pub returns-then-b-eq0-clause-fits : goal.returns-then-b-eq0-clause-fits
+returns-then-b-eq0-clause-fits c = λ x h.
+    let same = c.constant.ensures.only x h in
+    let is = c.compute.ensures in
+    let b = alu_below c.args.op c.args.width c.args.a.value c.args.b.value in
+    omega arith

@@ -1,9 +1,12 @@
 use Rattle.std.proofs.Common.{◌*◌, ◌%◌, ◌^◌, arith}
-use Rattle.known_bits.proofs.Overlaps.{having_member, having_apart}
+use Rattle.known_bits.proofs.Overlaps.{having_member, having_apart, member_having}
 use Rattle.known_bits.proofs.bits.Bits.having.Goals as goal
 
 pub invariant_of-result : goal.invariant_of-result
 invariant_of-result c = record { apart = having_apart (1 * 2 ^ c.args.place % 2 ^ 64) (omega arith) }
 
-pub returns : goal.returns
-returns c = λ x x_in one. having_member x c.args.place c.requires x_in one
+pub returns-clause-contains : goal.returns-clause-contains
+returns-clause-contains c = λ x x_in one. having_member x c.args.place c.requires x_in one
+
+pub returns-clause-only : goal.returns-clause-only
+returns-clause-only c = λ x h. member_having x c.args.place c.requires h

@@ -2,6 +2,7 @@ use Rattle.std.proofs.Common.{arith, ◌≡◌, ◌-◌, ◌^◌}
 use Rattle.std.proofs.lemmas.Nat.{and_mask}
 use Rattle.known_bits.proofs.Members.{Known}
 use Rattle.known_bits.proofs.Parts.{low_known, low_contains}
+use Rattle.known_bits.proofs.Order.{low_fits}
 use Rattle.known_bits.proofs.bits.Bits.low.Goals as goal
 
 pub invariant_of-result : goal.invariant_of-result
@@ -29,3 +30,10 @@ returns-clause-mask c =
     let k = c.args.count in
     let e : c.ones-ones.result ≡ 2 ^ k - 1 = omega arith in
     rw e (and_mask c.args.self.mask k)
+
+pub returns-clause-fits : goal.returns-clause-fits
+returns-clause-fits c =
+    let ka : Known c.args.self.value c.args.self.mask = record { value_in = omega arith; mask_in = omega arith; apart = c.args.self.apart } in
+    let k = c.args.count in
+    let e : c.ones-ones.result ≡ 2 ^ k - 1 = omega arith in
+    λ x hx. low_fits ka k (rw (e, and_mask c.args.self.value k, and_mask c.args.self.mask k) at hx)

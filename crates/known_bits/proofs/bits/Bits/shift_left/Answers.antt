@@ -8,7 +8,7 @@ invariant_of-result c =
     let k : Known c.args.self.value c.args.self.mask = record { value_in = omega arith; mask_in = omega arith; apart = c.args.self.apart } in
     record { apart = (left_known k c.args.by).apart }
 
-pub returns : goal.returns
-returns c =
+pub returns-clause-contains : goal.returns-clause-contains
+returns-clause-contains c =
     let k : Known c.args.self.value c.args.self.mask = record { value_in = omega arith; mask_in = omega arith; apart = c.args.self.apart } in
     left_contains k c.args.by

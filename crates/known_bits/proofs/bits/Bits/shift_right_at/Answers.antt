@@ -1,16 +1,42 @@
-use Rattle.std.proofs.Common.{◌≡◌, ◌^◌, ap, sym, ◌∙◌, arith}
+use Rattle.std.proofs.Common.{◌/◌, ◌≡◌, ◌^◌, ap, sym, ◌∙◌, arith, ℕ, ◌%◌}
 use Rattle.std.proofs.Math.Nat.{div-le_self}
-use Rattle.isa_model.specs.Numbers.{shift}
+use Rattle.isa_model.specs.Numbers.{shift, result_of}
+use Rattle.isa_model.specs.NumberLemmas.{low_same}
 use Rattle.known_bits.proofs.Widths.{only_member}
+use Rattle.isa_model.specs.declared.instructions.AluOp.TheVariants.{Rsh}
+use Rattle.isa_model.specs.Sizes.{width_bits}
+use Rattle.known_bits.proofs.Members.{Known}
+use Rattle.known_bits.proofs.Sharp.{low_set, occurs_low}
+use Rattle.known_bits.proofs.Precise.{right_sharp}
+use Rattle.known_bits.specs.Member.{IsMember}
 use Rattle.known_bits.proofs.bits.Bits.shift_right_at.Goals as goal
 
-pub returns-then-other-ne0 : goal.returns-then-other-ne0
-returns-then-other-ne0 c = λ x y x_in hx hy.
+pub returns-then-other-ne0-clause-contains : goal.returns-then-other-ne0-clause-contains
+returns-then-other-ne0-clause-contains c = λ x y x_in hx hy.
     let l = div-le_self x (2 ^ shift c.args.width y) in
     (c.any.ensures _).1 (omega arith)
 
-pub returns : goal.returns
-returns c = λ x y x_in hx hy.
+pub returns-clause-contains : goal.returns-clause-contains
+returns-clause-contains c = λ x y x_in hx hy.
     let w = c.args.width in
-    let e : shift w y ≡ c.distance.result = ap (shift w) (only_member c.if-other-ne0.false hy) ∙ sym c.distance.ensures.value in
-    rw e (c.shift_right.ensures x hx)
+    let k = c.distance.result in
+    let e : shift w y ≡ k = ap (shift w) (only_member c.if-other-ne0.false hy) ∙ sym c.distance.ensures.value in
+    let l = div-le_self x (2 ^ k) in
+    rw e (rw (low_same w (x / 2 ^ k) (omega arith)) at (c.truncate.ensures.contains _ (c.shift_right.ensures.contains x hx)))
+
+pub returns-then-other-ne0-clause-sharp : goal.returns-then-other-ne0-clause-sharp
+returns-then-other-ne0-clause-sharp c = λ known small. absurd (c.if-other-ne0.true known)
+
+pub returns-clause-sharp : goal.returns-clause-sharp
+returns-clause-sharp c = λ known small i h.
+    let ka : Known c.args.self.value c.args.self.mask = record { value_in = omega arith; mask_in = omega arith; apart = c.args.self.apart } in
+    let kb : Known c.args.other.value c.args.other.mask = record { value_in = omega arith; mask_in = omega arith; apart = c.args.other.apart } in
+    let w = c.args.width in
+    let k = c.distance.result in
+    let s = low_set c.shift_right.result.mask (width_bits w) i (rw c.truncate.ensures.mask at h) in
+    let o = right_sharp ka kb k i (rw c.shift_right.ensures.mask at s.1) in
+    let moved = λ (y : ℕ) (hy : IsMember c.args.other.value c.args.other.mask y). (let e : shift w y ≡ k = ap (shift w) (only_member c.if-other-ne0.false hy) ∙ sym c.distance.ensures.value in e) in
+    let kept = λ (x : ℕ) (hx : IsMember c.args.self.value c.args.self.mask x). (let e : x / 2 ^ k % 2 ^ width_bits w ≡ x / 2 ^ k = low_same w (x / 2 ^ k) (let l = div-le_self x (2 ^ k) in let b = small x hx in omega arith) in e) in (
+      occurs_low (λ x y. x / 2 ^ k) (result_of Rsh w) (width_bits w) i 0 s.0 (λ x y hx hy. rw (moved y hy) (kept x hx)) o.0,
+      occurs_low (λ x y. x / 2 ^ k) (result_of Rsh w) (width_bits w) i 1 s.0 (λ x y hx hy. rw (moved y hy) (kept x hx)) o.1,
+    )

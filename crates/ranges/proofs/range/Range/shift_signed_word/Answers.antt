@@ -4,8 +4,8 @@ use Rattle.isa_model.specs.declared.sizes.Width.TheVariants.{Low32}
 use Rattle.ranges.proofs.Limits.{shift_word_small}
 use Rattle.ranges.proofs.range.Range.shift_signed_word.Goals as goal
 
-pub returns-then-self-lt2147483648 : goal.returns-then-self-lt2147483648
-returns-then-self-lt2147483648 c = λ x x_in hx. rw (shift_word_small x c.args.by (omega arith) c.requires) (c.shift_right.ensures x hx)
+pub returns-then-self-lt2147483648-clause-contains : goal.returns-then-self-lt2147483648-clause-contains
+returns-then-self-lt2147483648-clause-contains c = λ x x_in hx. rw (shift_word_small x c.args.by (omega arith) c.requires) (c.shift_right.ensures.contains x hx)
 
-pub returns-else-self-lt2147483648 : goal.returns-else-self-lt2147483648
-returns-else-self-lt2147483648 c = λ x x_in hx. (c.any.ensures _).1 (arithmetic_shift_below Low32 x c.args.by x_in)
+pub returns-else-self-lt2147483648-clause-contains : goal.returns-else-self-lt2147483648-clause-contains
+returns-else-self-lt2147483648-clause-contains c = λ x x_in hx. (c.any.ensures.members _).1 (arithmetic_shift_below Low32 x c.args.by x_in)

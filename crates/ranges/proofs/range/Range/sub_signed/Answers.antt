@@ -20,7 +20,7 @@ returns c = λ x y hx hy.
     (c.signed_between.ensures _).1 (in_width, rw l.1 (rw (to_z-of_z w64 _ l.0) low), rw g.1 (rw (to_z-of_z w64 _ g.0) high))
 
 pub returns-in_default : goal.returns-in_default
-returns-in_default c = λ x y hx hy. let in_width : (x + (2 ^ 64 - y)) % 2 ^ 64 < 2 ^ 64 = omega arith in (c.any.ensures _).1 in_width
+returns-in_default c = λ x y hx hy. let in_width : (x + (2 ^ 64 - y)) % 2 ^ 64 < 2 ^ 64 = omega arith in (c.any.ensures.members _).1 in_width
 
 pub returns-in_default-checked_sub : goal.returns-in_default-checked_sub
-returns-in_default-checked_sub c = λ x y hx hy. let in_width : (x + (2 ^ 64 - y)) % 2 ^ 64 < 2 ^ 64 = omega arith in (c.any-in_default-checked_sub.ensures _).1 in_width
+returns-in_default-checked_sub c = λ x y hx hy. let in_width : (x + (2 ^ 64 - y)) % 2 ^ 64 < 2 ^ 64 = omega arith in (c.any-in_default-checked_sub.ensures.members _).1 in_width

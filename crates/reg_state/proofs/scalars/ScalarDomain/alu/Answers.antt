@@ -1,4 +1,15 @@
+use Rattle.std.proofs.Common.{arith}
+use Rattle.reg_state.proofs.Numbers.{keeps_map}
 use Rattle.reg_state.proofs.scalars.ScalarDomain.alu.Goals as goal
 
 pub returns-clause-exact : goal.returns-clause-exact
 returns-clause-exact c = λ u v ha hb. c.settled.ensures.constant _ (c.alu.ensures.exact u v ha.0 hb.0, c.alu-2.ensures.exact u v ha.1 hb.1)
+
+pub returns-clause-fits : goal.returns-clause-fits
+returns-clause-fits c = λ x h. c.alu.ensures.fits x (c.settled.ensures.narrower x h).0
+
+pub returns-clause-limits : goal.returns-clause-limits
+returns-clause-limits c = λ fa fb.
+    keeps_map c.args.op c.args.width c.args.a.range c.args.b.range _ _
+    (λ least greatest kept x h. let r = (c.settled.ensures.narrower x h).1 in (omega arith, omega arith))
+    (c.alu-2.ensures.limits fa fb)

@@ -1,0 +1,13 @@
+use Rattle.std.proofs.Common.{arith, w64}
+use Rattle.std.specs.Int.{cast_unsigned}
+use Rattle.std.proofs.lemmas.Int.{ints}
+use Rattle.known_bits.proofs.bits.Bits.signed_at_most.Goals as goal
+
+pub returns-then-signed_least-signed_greatest-clause-found : goal.returns-then-signed_least-signed_greatest-clause-found
+returns-then-signed_least-signed_greatest-clause-found c = record {
+  x = cast_unsigned w64 c.signed_least.result;
+  y = cast_unsigned w64 c.signed_greatest.result;
+  first = c.signed_least.ensures.member;
+  second = c.signed_greatest.ensures.member;
+  is = omega (arith, ints);
+}

@@ -1,0 +1,4 @@
+use Rattle.reg_state.proofs.scalars.ScalarDomain.reorder.Goals as goal
+
+pub returns-clause-fits : goal.returns-clause-fits
+returns-clause-fits c = λ x h. c.reorder.ensures.fits x (c.settled.ensures.narrower x h).0
