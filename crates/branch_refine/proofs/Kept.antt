@@ -24,52 +24,38 @@ use Rattle.stack_state.specs.Meaning.{MeansBy, depth}
 use Rattle.stack_state.specs.Places.{kind_of, with_register}
 use Rattle.stack_state.specs.MeaningLaws.{depth_positive, reg_allowed, MeansBy-narrow, depth-with, returns-with, frame_of-with}
 use Rattle.stack_state.specs.PlaceLaws.{same_or_other, kind_of-with_same, kind_of-with_other}
-use Rattle.branch_refine.specs.Refining.{IsNumber, IsJust, IsNumberOperand, IsJustOperand, Keeps, Narrows, KeepsOthers}
+use Rattle.branch_refine.specs.Refining.{IsJust, IsJustOperand, Keeps, Narrows, KeepsOthers}
 use Rattle.branch_refine.specs.Numbers.{numbers_in, AreNumbersOf, with_operand, with_compared}
 
 -- ---- numbers and kinds
 
-pub kind_is : (k : Kind) (numbers : Scalar) → Some numbers ≡ numbers_in k → k ≡ Number numbers
+kind_is : (k : Kind) (numbers : Scalar) → Some numbers ≡ numbers_in k → k ≡ Number numbers
 kind_is (Number m) numbers h = cc
 kind_is k numbers h = absurd (cc)
 
 -- a register that is known to hold a number is not r10
-pub holder : (a : State) (r : Reg) (numbers : Scalar) → Some numbers ≡ numbers_in (kind_of a r) → r ≢ R10
+holder : (a : State) (r : Reg) (numbers : Scalar) → Some numbers ≡ numbers_in (kind_of a r) → r ≢ R10
 holder a r numbers h = λ end.
     let pointer : Some numbers ≡ None = subst (λ q. Some numbers ≡ numbers_in (kind_of a q)) end h in
     absurd (cc)
 
-pub holder_operand : (a : State) (w : Width) (operand : Operand) (numbers : Scalar) → AreNumbersOf a w operand (Some numbers)
+holder_operand : (a : State) (w : Width) (operand : Operand) (numbers : Scalar) → AreNumbersOf a w operand (Some numbers)
     → operand ≢ Register R10
 holder_operand a w (Constant k) numbers h = λ end. absurd (cc)
 holder_operand a w (Register r) numbers h = λ end. holder a r numbers h (cc)
 
-pub is_number : (k : Kind) (numbers : Scalar) → Some numbers ≡ numbers_in k → IsNumber k
-is_number k numbers h = subst IsNumber (sym (kind_is k numbers h)) tt
-
-pub is_number_operand : (a : State) (w : Width) (operand : Operand) (numbers : Scalar) → AreNumbersOf a w operand (Some numbers)
-    → IsNumberOperand a operand
-is_number_operand a w (Constant k) numbers h = tt
-is_number_operand a w (Register r) numbers h = is_number (kind_of a r) numbers h
-
-pub just_number : (k : Kind) (numbers : Scalar) (x : ℕ) → Some numbers ≡ numbers_in k → IsJust k x → IsConstant numbers x
-just_number k numbers x h just = (subst (λ k. IsJust k x) (kind_is k numbers h) just).1
+-- a constant as it stands in a register, or as an operand
+pub just_number : (k : Kind) (numbers : Scalar) (x : ℕ) → Some numbers ≡ numbers_in k → IsJust k x
+    → Has numbers x × IsConstant numbers x
+just_number k numbers x h just = subst (λ k. IsJust k x) (kind_is k numbers h) just
 
 pub just_operand : (a : State) (w : Width) (operand : Operand) (numbers : Scalar) (y : ℕ) → AreNumbersOf a w operand (Some numbers)
-    → IsJustOperand a w operand y → IsConstant numbers y
-just_operand a w (Constant k) numbers y h just = rw just h.1
+    → IsJustOperand a w operand y → Has numbers y × IsConstant numbers y
+just_operand a w (Constant k) numbers y h just = rw just h
 just_operand a w (Register r) numbers y h just = just_number (kind_of a r) numbers y h just
 
-pub no_number : (k : Kind) (x : ℕ) → None ≡ numbers_in k → IsJust k x → ⊥
-no_number (Number m) x h just = absurd (cc)
-no_number k x h just = just
-
-pub no_operand : (a : State) (w : Width) (operand : Operand) (y : ℕ) → AreNumbersOf a w operand None → IsJustOperand a w operand y → ⊥
-no_operand a w (Constant k) y h just = h
-no_operand a w (Register r) y h just = no_number (kind_of a r) y h just
-
 -- a number of 64 bits has its constant
-pub constant_has : (numbers : Scalar) (x : ℕ) → x < 2 ^ 64 → IsConstant numbers x → Has numbers x
+constant_has : (numbers : Scalar) (x : ℕ) → x < 2 ^ 64 → IsConstant numbers x → Has numbers x
 constant_has numbers x h c = (bits_constant_has numbers.bits x h c.0, range_constant_has numbers.range x h c.1)
 
 -- ---- the test of two numbers

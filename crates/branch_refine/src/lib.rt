@@ -31,6 +31,9 @@ pub fn refine(cond: Cond, taken: bool, state: &State) -> Branch
     ensures constants { (x y : ℕ) → IsJust (kind_of state.now cond.register) x
         → IsJustOperand state.now cond.width cond.operand y
         → holds cond.comparison cond.width x y ≢ taken → result ≡ Branch.Never }
+    ensures constants_go { (x y : ℕ) → IsJust (kind_of state.now cond.register) x
+        → IsJustOperand state.now cond.width cond.operand y
+        → holds cond.comparison cond.width x y ≡ taken → result ≢ Branch.Never }
     ensures not_numbers { (AreCompared state.now cond → ⊥) → result ≡ Branch.Goes state.now }
 {
     let mut left = state.copy();
@@ -50,6 +53,9 @@ pub fn refine_in_place(cond: Cond, taken: bool, state: &mut State) -> bool
     ensures constants { (x y : ℕ) → IsJust (kind_of state.old cond.register) x
         → IsJustOperand state.old cond.width cond.operand y
         → holds cond.comparison cond.width x y ≢ taken → result ≡ false }
+    ensures constants_go { (x y : ℕ) → IsJust (kind_of state.old cond.register) x
+        → IsJustOperand state.old cond.width cond.operand y
+        → holds cond.comparison cond.width x y ≡ taken → IsTrue result }
     ensures not_numbers { (AreCompared state.old cond → ⊥) → IsTrue result × (state.new ≡ state.old) }
     ensures never { result ≡ false → state.new ≡ state.old }
 {

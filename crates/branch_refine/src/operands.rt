@@ -1,11 +1,11 @@
 //! The numbers that a condition compares.
 
 ghost use Rattle.std.specs.Prelude.{◌≡◌, ◌≢◌, ◌<◌};
-ghost use Rattle.isa_model.specs.Numbers.{unsigned};
 ghost use Rattle.stack_state.specs.Meaning.{depth};
 ghost use Rattle.stack_state.specs.Places.{kind_of};
 ghost use Rattle.branch_refine.specs.Numbers.{numbers_in, AreNumbersOf, with_operand};
 
+use isa_model::numbers::unsigned;
 use isa_model::{Operand, Reg, Width};
 use reg_state::{Domain, Kind, Scalar};
 use stack_state::State;
@@ -20,22 +20,12 @@ pub fn number_of(state: &State, register: Reg) -> Option<Scalar>
     }
 }
 
-/// A constant as the number of the width that it stands for.
-fn constant(width: Width, k: i32) -> u64
-    ensures { result ≡ unsigned width k }
-{
-    match width {
-        Width::Low32 => u64::from(k.cast_unsigned()),
-        Width::Full64 => i64::from(k).cast_unsigned(),
-    }
-}
-
 /// The numbers of an operand, if it is known to be one.
 pub fn operand_numbers(state: &State, width: Width, operand: Operand) -> Option<Scalar>
     ensures { AreNumbersOf state.now width operand result }
 {
     match operand {
-        Operand::Constant(k) => Some(Scalar::constant(constant(width, k))),
+        Operand::Constant(k) => Some(Scalar::constant(unsigned(width, k))),
         Operand::Register(register) => number_of(state, register),
     }
 }

@@ -1,6 +1,7 @@
 -- What keeps the meaning of an abstract state, by effect.
 use Rattle.std.specs.Prelude.{◌≡◌, ◌≢◌, ℕ, zero, suc, ◌+◌, ◌-◌, ◌<◌, ℤ, pos, List, [], ◌∷◌, map, length, slice_get, slice_set, slice_index_or, Option, Some, refl}
 use Rattle.std.proofs.Common.{sym, ap, ◌∙◌, subst, arith}
+use Rattle.std.proofs.lemmas.Bool.Decides.{nat_tests}
 use Rattle.std.proofs.lemmas.List.{length-map, length-set, get_or-set_same, get_or-set_other, set-get_or}
 use Rattle.std.proofs.lemmas.Option.{slice_get-get_or}
 use Rattle.std.proofs.Math.Seq.{map-set_same}
@@ -19,10 +20,11 @@ use Rattle.isa_model.specs.StateLaws.{IsState-go_to, IsState-set_reg, reg_fits}
 use Rattle.reg_state.specs.declared.kinds.Kind.{Kind}
 use Rattle.reg_state.specs.declared.kinds.Kind.TheVariants.{Stack}
 use Rattle.reg_state.specs.Kinds.{Assigned, Allows}
+use Rattle.reg_state.specs.KindLaws.{with_offset, with_value, Allows-fresh_offset, Allows-fresh_value}
 use Rattle.stack_state.specs.declared.states.AbstractFrame.{AbstractFrame}
 use Rattle.stack_state.specs.declared.states.State.{State}
 use Rattle.stack_state.specs.Meaning.{kind_at, kinds_of, depth, registers_of, IsOf, MeansBy}
-use Rattle.stack_state.specs.Identities.{with_offset, with_value, IsFreshPacket, IsFreshNull, other_choice, Allows-with_offset, Allows-with_value}
+use Rattle.stack_state.specs.Identities.{IsFreshPacket, IsFreshNull}
 use Rattle.stack_state.specs.Places.{frame_of, kind_of, with_kind, with_register, go_to}
 
 -- ---- frames
@@ -204,18 +206,22 @@ MeansBy-change p e f a b s of slot returns each m =
 
 -- ---- a fresh identity
 
+-- identity 0 stays none
+offset_none : (e : Assigned) (i : ℕ) (z : ℤ) → i ≢ 0 → (with_offset e i z).offset 0 ≡ e.offset 0
+offset_none e i z some = grind (arith, nat_tests)
+
 -- a packet identity that no kind of the state names may stand for any number
 pub MeansBy-fresh : (p : Program) (e : Assigned) (a : State) (s : Machine.State) (i : ℕ) (z : ℤ) → i ≢ 0 → IsFreshPacket a i
     → MeansBy p e a s → MeansBy p (with_offset e i z) a s
 MeansBy-fresh p e a s i z some fresh m =
     MeansBy-change p e (with_offset e i z) a a s
     (record {
-      none = other_choice i 0 z (e.offset 0) (λ h. some (sym h)) ∙ m.assigned.none;
+      none = offset_none e i z some ∙ m.assigned.none;
       length_is = m.assigned.length_is;
       serials = m.assigned.serials;
       contents = m.assigned.contents;
     })
-    refl refl (λ j k v h. Allows-with_offset e i z (kind_at (kinds_of a j) k) v (fresh j k) h) m
+    refl refl (λ j k v h. Allows-fresh_offset (kind_at (kinds_of a j) k) e i z v (fresh j k) h) m
 
 -- and a null identity for null or for any value
 pub MeansBy-fresh_null : (p : Program) (e : Assigned) (a : State) (s : Machine.State) (i : ℕ) (o : Option ℕ) → IsFreshNull a i
@@ -228,4 +234,4 @@ MeansBy-fresh_null p e a s i o fresh m =
       serials = m.assigned.serials;
       contents = m.assigned.contents;
     })
-    refl refl (λ j k v h. Allows-with_value e i o (kind_at (kinds_of a j) k) v (fresh j k) h) m
+    refl refl (λ j k v h. Allows-fresh_value (kind_at (kinds_of a j) k) e i o v (fresh j k) h) m

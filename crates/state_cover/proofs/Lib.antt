@@ -1,3 +1,3 @@
 pub mod Places
-pub mod OwnNames
+pub mod Renaming
 pub mod Inclusion

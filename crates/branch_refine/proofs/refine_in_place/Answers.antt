@@ -35,10 +35,15 @@ returns-clause-others c =
     rw (c.set_operand.ensures, c.set_register.ensures)
     (others_compared c.args.state.now c.args.cond c.in-Some-refine.new_left c.in-Some-refine.new_right c.requires)
 
+pub returns-in_default-refine-clause-constants_go : goal.returns-in_default-refine-clause-constants_go
+returns-in_default-refine-clause-constants_go c = λ x y left right goes.
+    let l = just_number (kind_of c.args.state.now c.args.cond.register) c.in-Some.left x c.in-Some.ensures left in
+    let r = just_operand c.args.state.now c.args.cond.width c.args.cond.operand c.in-Some-operand_numbers.right y c.in-Some-operand_numbers.ensures right in
+    absurd (c.in_default-refine.ensures.stays x y l.0.0.below r.0.0.below l.1 r.1 goes)
+
 pub returns-clause-constants : goal.returns-clause-constants
 returns-clause-constants c = λ x y left right apart.
-    let none = c.in-Some-refine.ensures.never x y
-    (just_number (kind_of c.args.state.now c.args.cond.register) c.in-Some.left x c.in-Some.ensures left)
-    (just_operand c.args.state.now c.args.cond.width c.args.cond.operand c.in-Some-operand_numbers.right y c.in-Some-operand_numbers.ensures right)
-    apart in
+    let l = just_number (kind_of c.args.state.now c.args.cond.register) c.in-Some.left x c.in-Some.ensures left in
+    let r = just_operand c.args.state.now c.args.cond.width c.args.cond.operand c.in-Some-operand_numbers.right y c.in-Some-operand_numbers.ensures right in
+    let none = c.in-Some-refine.ensures.never x y l.1 r.1 apart in
     absurd (cc none)

@@ -1,7 +1,33 @@
-use Rattle.std.proofs.Common.{◌≡◌, length, refl, arith}
+use Rattle.std.proofs.Common.{◌≡◌, ◌<◌, length, false, refl, arith}
+use Rattle.std.specs.Prelude.{IsTrue}
 use Rattle.state_cover.specs.Names.{packet_name, null_name}
 use Rattle.state_cover.proofs.Inclusion.{AllCover-from, Covers-from}
+use Rattle.state_cover.proofs.Renaming.{depth-same, frame_found, own_found}
 use Rattle.state_cover.proofs.covers.Goals as goal
+
+pub returns-then-a-b-clause-plain : goal.returns-then-a-b-clause-plain
+returns-then-a-b-clause-plain c = λ packet null h. absurd (omega (arith, h.slot))
+
+pub returns-then-left-right-clause-plain : goal.returns-then-left-right-clause-plain
+returns-then-left-right-clause-plain c = λ packet null h.
+    let depth : length c.as_slice-left.result.now ≡ length c.as_slice-right.result.now =
+    rw (c.as_slice-left.ensures.value, c.as_slice-right.ensures.value) (depth-same c.args.a.now c.args.b.now packet null h) in
+    absurd (omega arith)
+
+pub returns-then-not-frame_covers-clause-plain : goal.returns-then-not-frame_covers-clause-plain
+returns-then-not-frame_covers-clause-plain c = λ packet null h.
+    let left = c.as_slice-left.result.now in
+    let right = c.as_slice-right.result.now in
+    let in_left : c.loop-index.index < length left = omega arith in
+    let in_right : c.loop-index.index < length right = omega arith in
+    let found = frame_found c.args.a.now c.args.b.now left right packet null c.loop-index.index c.index-left-index.result c.index-right-index.result
+    c.as_slice-left.ensures.value c.as_slice-right.ensures.value h in_left in_right c.index-left-index.is c.index-right-index.is in
+    let yes = c.frame_covers.ensures.no found.0 found.1 in
+    absurd (cc (yes, c.if-not-frame_covers.true))
+
+pub returns-then-not-frame_covers-clause-equal : goal.returns-then-not-frame_covers-clause-equal
+returns-then-not-frame_covers-clause-equal c =
+    own_found c.args.a.now c.args.b.now (IsTrue false) (returns-then-not-frame_covers-clause-plain c)
 
 pub returns-clause-yes : goal.returns-clause-yes
 returns-clause-yes c = λ _ p.
