@@ -8,17 +8,8 @@ ghost use Rattle.control_flow.specs.Flows.{HasTarget, Fails, IsLowest, MarksJoin
 
 use crate::errors::FlowError;
 use image::Image;
-use isa_model::Insn;
+use isa_model::{Insn, destination};
 use std::alloc::{AllocError, Global};
-
-/// Where a distance leads: past the end of the code where that is before slot 0.
-fn destination(image: &Image, slot: usize, by: i32) -> usize
-    requires { slot < 2 ^ 63 }
-    ensures { result ≡ destination image.now slot by }
-{
-    let to = slot as i128 + 1 + i128::from(by);
-    if to < 0 { image.slots() } else { to as usize }
-}
 
 /// The distance of a jump.
 fn jump_distance(insn: &Insn) -> Option<i32>
@@ -62,7 +53,7 @@ pub fn jump_target(image: &Image, slot: usize) -> Option<usize>
 {
     let insn = image.at(slot)?;
     let by = jump_distance(insn)?;
-    Some(destination(image, slot, by))
+    Some(destination(slot, by, image.slots()))
 }
 
 /// The function that the call at a slot calls.
@@ -73,7 +64,7 @@ pub fn call_target(image: &Image, slot: usize) -> Option<usize>
 {
     let insn = image.at(slot)?;
     let by = call_distance(insn)?;
-    Some(destination(image, slot, by))
+    Some(destination(slot, by, image.slots()))
 }
 
 /// The slot behind the instruction at a slot, if it goes on there.

@@ -1,3 +1,5 @@
 pub mod Stores
 pub mod Paths
 pub mod Steps
+pub mod Unfinished
+pub mod Walking

@@ -11,14 +11,15 @@ use Rattle.transfer.specs.Leading.{LeadsTo, InSome}
 use Rattle.explorer.specs.declared.table.Stored.{Stored}
 use Rattle.explorer.specs.declared.search.Visit.{Visit}
 use Rattle.explorer.specs.Table.{StoredAt}
-use Rattle.explorer.specs.Search.{IfReady, MeantBy, Waits, Waiting, Path}
+use Rattle.explorer.specs.Walks.{StepsTo, Leads}
+use Rattle.explorer.specs.Search.{IfReady, IfStepsTo, MeantBy, Waits, Waiting, Path}
 use Rattle.explorer.proofs.Stores.{Keeps, Keeps-at}
 
 -- ---- paths
 
 pub Waiting-more : (p : Program) (m n : ℕ) (old new : List Stored) (visit : Visit) (s child : State) → m ≤ n → Keeps old new → Waiting p m old visit s child → Waiting p n new visit s child
 Waiting-more p m n old new visit s child le kept h =
-    record { waits = h.waits; best = omega (arith, h.best); stored = Keeps-at old new visit.stored s kept h.stored; ready = h.ready }
+    record { waits = h.waits; steps = h.steps; steps_aside = h.steps_aside; best = omega (arith, h.best); stored = Keeps-at old new visit.stored s kept h.stored; ready = h.ready }
 
 pub Path-more : (p : Program) (m n : ℕ) (old new : List Stored) → m ≤ n → Keeps old new → (path : List Visit) (a b : State) → Path p m old a path b → Path p n new a path b
 unfolding Path

@@ -17,13 +17,16 @@ use Rattle.control_flow.specs.FlowLaws.{IsFlow-Follows}
 use Rattle.transfer.specs.declared.Ways.{Ways}
 use Rattle.transfer.specs.declared.Ways.TheVariants as ways
 use Rattle.transfer.specs.Leading.{LeadsTo, EachWay}
+use Rattle.transfer.specs.Exact.{Makes}
 use Rattle.explorer.specs.declared.table.Stored.{Stored}
 use Rattle.explorer.specs.declared.search.Visit.{Visit}
 use Rattle.explorer.specs.declared.search.Arrival.{Arrival}
 use Rattle.explorer.specs.declared.search.Arrival.TheVariants.{Known, New}
 use Rattle.explorer.specs.Table.{StoredAt, IsNumbered}
-use Rattle.explorer.specs.Search.{Arrives, EndsAlone, EndsCovered, GoesOn, AllFine, IsReady, IfReady, Waiting, Path}
+use Rattle.explorer.specs.Search.{Arrives, EndsAlone, EndsCovered, GoesOn, AllFine, IsReady, IfReady, IfStepsTo, Waiting, Path, OnPath}
+use Rattle.explorer.proofs.Walking.{steps_by}
 use Rattle.explorer.proofs.Stores.{Keeps, Keeps-at, Keeps-same, AllFine-more, IsCovered-known, Arrives-keeps, Arrives-fine, Arrives-stored, IsNumbered-fine, IsNumbered-keeps}
+use Rattle.explorer.proofs.Unfinished.{OnPath-same, OnPath-push, OnPath-arrives, OnPath-finish}
 use Rattle.explorer.proofs.Paths.{Last, Waiting-more, Path-more, Path-push, Path-pop, Waits-ends, Waits-both, Waits-next, LeadsTo-ends, Waits-one, Waits-two}
 
 -- ---- a visit that ends
@@ -58,13 +61,18 @@ pub record IsBack (p : Program) (m : ℕ) (table : List Stored) (a : State) (pat
   pub state : State
   pub fine : AllFine p m table
   pub before : Path p m table a path state
+  pub on_path : OnPath table path None
   pub within : Within p state number
   pub most : number ≤ m
 
+ends_same : (p : Program) (old new : List Stored) (visit : Visit) (n best : ℕ) → EndsAlone old visit n best new ⊎ EndsCovered p old visit n best new → new ≡ old
+ends_same p old new visit n best (inl h) = h.same
+ends_same p old new visit n best (inr h) = h.arrives.2
+
 pub step_back : (p : Program) (m : ℕ) (old mid new : List Stored) (a : State) (path : List Visit) (visit : Visit) (child : State) (n best : ℕ)
-    → AllFine p m old → Last p m old a path visit child → Within p child n → n ≤ m → EndsAlone old visit n best mid ⊎ EndsCovered p old visit n best mid
+    → AllFine p m old → Last p m old a path visit child → OnPath old path visit.stored → Within p child n → n ≤ m → EndsAlone old visit n best mid ⊎ EndsCovered p old visit n best mid
     → IsNumbered mid visit.stored (best + 1) new → IsBack p (m + 1) new a path (best + 1)
-step_back p m old mid new a path visit child n best fine last within le ends numbered =
+step_back p m old mid new a path visit child n best fine last on_path within le ends numbered =
     let s = last.state in
     let h = visit_ends p m old mid visit s child n best fine last.waiting within le ends in
     let at : StoredAt mid visit.stored s = Keeps-at old mid visit.stored s h.keeps last.waiting.stored in
@@ -73,6 +81,7 @@ step_back p m old mid new a path visit child n best fine last within le ends num
       state = s;
       fine = IsNumbered-fine p (m + 1) mid visit.stored s (best + 1) new numbered at h.within (omega (arith, h.most)) (AllFine-more p m (m + 1) mid (omega arith) h.fine);
       before = Path-more p (m + 1) (m + 1) mid new (omega arith) kept path a s (Path-more p m (m + 1) old mid (omega arith) h.keeps path a s last.before);
+      on_path = OnPath-finish mid new path visit.stored s (best + 1) numbered at (omega arith) (OnPath-same old mid path visit.stored (ends_same p old mid visit n best ends) on_path);
       within = h.within;
       most = omega (arith, h.most);
     }
@@ -82,27 +91,40 @@ step_back p m old mid new a path visit child n best fine last within le ends num
 pub record IsOn (p : Program) (m : ℕ) (table : List Stored) (a : State) (path : List Visit) (at : Option ℕ) (current : State) : Type 0 where
   pub fine : AllFine p m table
   pub before : Path p m table a path current
+  pub on_path : OnPath table path at
   pub stored : StoredAt table at current
   pub ready : IsReady p current
 
-pub step_on : (p : Program) (m : ℕ) (old new : List Stored) (a : State) (path : List Visit) (visit : Visit) (child : State) (n : ℕ) (rest : Visit) (at : Option ℕ) (current : State) (whole : List Visit)
-    → AllFine p m old → Last p m old a path visit child → Within p child n → n ≤ m → GoesOn p old visit n rest at new current → whole ≡ path ++ rest ∷ []
-    → IsOn p m new a whole at current
-step_on p m old new a path visit child n rest at current whole fine last within le on e =
+-- the path to the pending state, once the child has its number
+pub step_aside : (p : Program) (m : ℕ) (table : List Stored) (a : State) (path : List Visit) (visit : Visit) (child : State) (n : ℕ) (current : State)
+    → Last p m table a path visit child → Within p child n → n ≤ m → visit.pending ≡ Some current
+    → Path p m table a (path ++ record { pending = None; best = max visit.best n; stored = visit.stored } ∷ []) current
+step_aside p m table a path visit child n current last within le is =
     let s = last.state in
-    let kept = Arrives-keeps p old current (New at) new on.arrives in
     let next : Visit = record { pending = None; best = max visit.best n; stored = visit.stored } in
-    let waiting : Waiting p m new next s current =
+    let waiting : Waiting p m table next s current =
     record {
-      waits = Waits-next p visit s child current n last.waiting.waits on.is_pending within;
+      waits = Waits-next p visit s child current n last.waiting.waits is within;
+      steps = subst (IfStepsTo p s) is last.waiting.steps_aside;
+      steps_aside = tt;
       best = omega (arith, last.waiting.best);
-      stored = Keeps-at old new visit.stored s kept last.waiting.stored;
+      stored = last.waiting.stored;
       ready = tt;
     } in
-    let path' = Path-push p m new path next a s current (Path-more p m m old new (omega arith) kept path a s last.before) waiting in
+    Path-push p m table path next a s current last.before waiting
+
+pub step_on : (p : Program) (m : ℕ) (old new : List Stored) (a : State) (path : List Visit) (visit : Visit) (child : State) (n : ℕ) (rest : Visit) (at : Option ℕ) (current : State) (whole : List Visit)
+    → AllFine p m old → Last p m old a path visit child → OnPath old path visit.stored → Within p child n → n ≤ m → GoesOn p old visit n rest at new current → whole ≡ path ++ rest ∷ []
+    → IsOn p m new a whole at current
+step_on p m old new a path visit child n rest at current whole fine last on_path within le on e =
+    let kept = Arrives-keeps p old current (New at) new on.arrives in
+    let next : Visit = record { pending = None; best = max visit.best n; stored = visit.stored } in
+    let is : whole ≡ path ++ next ∷ [] = e ∙ ap (λ v. path ++ v ∷ []) on.rest_is in
+    let aside = step_aside p m old a path visit child n current last within le on.is_pending in
     record {
       fine = Arrives-fine p m old current (New at) new on.arrives fine;
-      before = subst (λ x. Path p m new a x current) (sym (e ∙ ap (λ v. path ++ v ∷ []) on.rest_is)) path';
+      before = subst (λ x. Path p m new a x current) (sym is) (Path-more p m m old new (omega arith) kept (path ++ next ∷ []) a current aside);
+      on_path = OnPath-arrives p old new whole current at on.arrives (OnPath-push old path whole next is on_path);
       stored = Arrives-stored p old current at new on.arrives;
       ready = subst (IfReady p) on.is_pending last.waiting.ready;
     }
@@ -113,33 +135,42 @@ step_on p m old new a path visit child n rest at current whole fine last within 
 IsReady-next : (p : Program) (slot : ℕ) (next : State) → IsFlow p → Follows p slot next.slot → 0 < depth next → IsReady p next
 IsReady-next p slot next flow follows called = record { begins = IsFlow-Follows p slot next.slot flow follows; called = called }
 
+some_there : (o : Option Insn) → IsSome o → (i : Insn) × (o ≡ Some i)
+some_there (Some i) h = (i, refl)
+some_there None h = absurd (cc)
+
+pub fetched : (p : Program) (s : State) → IsReady p s → (i : Insn) × (fetch p s.slot ≡ Some i)
+fetched p s ready = some_there (fetch p s.slot) ready.begins
+
 -- the instruction's state waits for the state behind it
 pub record Begins (p : Program) (m : ℕ) (table : List Stored) (visit : Visit) (s next : State) : Type 0 where
   pub waiting : Waiting p m table visit s next
   pub ready : IsReady p next
 
-pub one_way : (p q : Program) (m : ℕ) (table : List Stored) (stored : Option ℕ) (s a b : State) (w : Ways) (pending : Option State) → p ≡ q → IsFlow p → StoredAt table stored s
-    → LeadsTo q s w a b → EachWay w a b (λ next. Follows q s.slot next.slot) → EachWay w a b (λ next. 0 < depth next) → w ≡ ways.One → pending ≡ None
+pub one_way : (p q : Program) (m : ℕ) (table : List Stored) (stored : Option ℕ) (s a b : State) (w : Ways) (pending : Option State) → p ≡ q → IsFlow p → IsReady p s → StoredAt table stored s
+    → LeadsTo q s w a b → ((i : Insn) → fetch q s.slot ≡ Some i → Makes q s i w a b) → EachWay w a b (λ next. Follows q s.slot next.slot) → EachWay w a b (λ next. 0 < depth next) → w ≡ ways.One → pending ≡ None
     → Begins p m table (record { pending = pending; best = 0; stored = stored }) s a
-one_way p q m table stored s a b w pending same flow at leads follows called is none =
+one_way p q m table stored s a b w pending same flow ready at leads makes follows called is none =
+    let (i, here) = fetched p s ready in
     let leads' = subst (λ x. LeadsTo x s ways.One a b) (sym same) (subst (λ x. LeadsTo q s x a b) is leads) in
     let follows' : Follows p s.slot a.slot = subst (λ x. Follows x s.slot a.slot) (sym same) (subst (λ x. EachWay x a b (λ next. Follows q s.slot next.slot)) is follows) in
     let called' : 0 < depth a = subst (λ x. EachWay x a b (λ next. 0 < depth next)) is called in
     subst (λ x. Begins p m table (record { pending = x; best = 0; stored = stored }) s a) (sym none) (record {
-      waiting = record { waits = Waits-one p s a b stored leads'; best = omega arith; stored = at; ready = tt };
+      waiting = record { waits = Waits-one p s a b stored leads'; steps = steps_by p q s a b a w ways.One same makes i here is refl; steps_aside = tt; best = omega arith; stored = at; ready = tt };
       ready = IsReady-next p s.slot a flow follows' called';
     })
 
-pub two_ways : (p q : Program) (m : ℕ) (table : List Stored) (stored : Option ℕ) (s a b : State) (w : Ways) (pending : Option State) → p ≡ q → IsFlow p → StoredAt table stored s
-    → LeadsTo q s w a b → EachWay w a b (λ next. Follows q s.slot next.slot) → EachWay w a b (λ next. 0 < depth next) → w ≡ ways.Two → pending ≡ Some b
+pub two_ways : (p q : Program) (m : ℕ) (table : List Stored) (stored : Option ℕ) (s a b : State) (w : Ways) (pending : Option State) → p ≡ q → IsFlow p → IsReady p s → StoredAt table stored s
+    → LeadsTo q s w a b → ((i : Insn) → fetch q s.slot ≡ Some i → Makes q s i w a b) → EachWay w a b (λ next. Follows q s.slot next.slot) → EachWay w a b (λ next. 0 < depth next) → w ≡ ways.Two → pending ≡ Some b
     → Begins p m table (record { pending = pending; best = 0; stored = stored }) s a
-two_ways p q m table stored s a b w pending same flow at leads follows called is some =
+two_ways p q m table stored s a b w pending same flow ready at leads makes follows called is some =
+    let (i, here) = fetched p s ready in
     let leads' = subst (λ x. LeadsTo x s ways.Two a b) (sym same) (subst (λ x. LeadsTo q s x a b) is leads) in
     let follows' : Follows p s.slot a.slot × Follows p s.slot b.slot =
     subst (λ x. Follows x s.slot a.slot × Follows x s.slot b.slot) (sym same) (subst (λ x. EachWay x a b (λ next. Follows q s.slot next.slot)) is follows) in
     let called' : 0 < depth a × 0 < depth b = subst (λ x. EachWay x a b (λ next. 0 < depth next)) is called in
     subst (λ x. Begins p m table (record { pending = x; best = 0; stored = stored }) s a) (sym some) (record {
-      waiting = record { waits = Waits-two p s a b stored leads'; best = omega arith; stored = at; ready = IsReady-next p s.slot b flow follows'.1 called'.1 };
+      waiting = record { waits = Waits-two p s a b stored leads'; steps = steps_by p q s a b a w ways.Two same makes i here is (inl refl); steps_aside = steps_by p q s a b b w ways.Two same makes i here is (inr refl); best = omega arith; stored = at; ready = IsReady-next p s.slot b flow follows'.1 called'.1 };
       ready = IsReady-next p s.slot a flow follows'.0 called'.0;
     })
 
@@ -154,13 +185,14 @@ step_into p m old new a path visit s child arrival whole fine before waiting arr
 
 -- nothing goes on, and the number 1 is written
 pub step_ends : (p q : Program) (m : ℕ) (old new : List Stored) (a : State) (path : List Visit) (stored : Option ℕ) (s x y : State) (w : Ways) → p ≡ q → AllFine p m old → Path p m old a path s → StoredAt old stored s
-    → LeadsTo q s w x y → w ≡ ways.None → IsNumbered old stored 1 new → IsBack p (m + 1) new a path 1
-step_ends p q m old new a path stored s x y w same fine before at leads is numbered =
+    → OnPath old path stored → LeadsTo q s w x y → w ≡ ways.None → IsNumbered old stored 1 new → IsBack p (m + 1) new a path 1
+step_ends p q m old new a path stored s x y w same fine before at on_path leads is numbered =
     let within = LeadsTo-ends p s x y (subst (λ z. LeadsTo z s ways.None x y) (sym same) (subst (λ z. LeadsTo q s z x y) is leads)) in
     record {
       state = s;
       fine = IsNumbered-fine p (m + 1) old stored s 1 new numbered at within (omega arith) (AllFine-more p m (m + 1) old (omega arith) fine);
       before = Path-more p m (m + 1) old new (omega arith) (IsNumbered-keeps old stored s 1 new numbered at) path a s before;
+      on_path = OnPath-finish old new path stored s 1 numbered at (omega arith) on_path;
       within = within;
       most = omega arith;
     }

@@ -1,5 +1,5 @@
 -- What a search knows: the numbers of the stored states, and the path.
-use Rattle.std.specs.Prelude.{◌≡◌, ℕ, ◌+◌, ◌<◌, ◌≤◌, ◌⊎◌, max, IsSome, List, [], ◌∷◌, ◌++◌, Option, Some, None, length}
+use Rattle.std.specs.Prelude.{◌≡◌, ℕ, zero, suc, ◌+◌, ◌<◌, ◌≤◌, ◌⊎◌, max, IsSome, List, [], ◌∷◌, ◌++◌, Option, Some, None, map, length, vec_len}
 use Rattle.std.specs.List.{All}
 use Rattle.isa_model.specs.Instructions.{Program, fetch}
 use Rattle.isa_model.specs.States as Machine
@@ -20,6 +20,7 @@ use Rattle.explorer.specs.declared.search.Turn.{Turn}
 use Rattle.explorer.specs.declared.search.Turn.TheVariants.{Explore, Done}
 use Rattle.explorer.specs.declared.search.Resumed.{Resumed}
 use Rattle.explorer.specs.declared.search.Resumed.TheVariants.{Next, Ended}
+use Rattle.explorer.specs.Walks.{StepsTo}
 use Rattle.explorer.specs.Table.{IsCovered, IsRepeated, StoredAt}
 
 -- ---- arriving at a state
@@ -84,6 +85,10 @@ abbrev pub IfReady : Program → Option State → Type 0
 IfReady p None = Unit {0}
 IfReady p (Some s) = IsReady p s
 
+abbrev pub IfStepsTo : Program → State → Option State → Type 0
+IfStepsTo p a None = Unit {0}
+IfStepsTo p a (Some b) = StepsTo p a b
+
 abbrev pub MeantBy : Program → Option State → Machine.State → Type 0
 MeantBy p None w = ⊥
 MeantBy p (Some s) w = Means p s w
@@ -96,6 +101,8 @@ Waits p visit s child = (clock : ℕ → ℕ) (w : Machine.State) → Means p s 
 -- a visit of a state that waits for another one
 pub record Waiting (p : Program) (finished : ℕ) (table : List Stored) (visit : Visit) (s child : State) : Type 0 where
   pub waits : Waits p visit s child
+  pub steps : StepsTo p s child
+  pub steps_aside : IfStepsTo p s visit.pending
   pub best : visit.best ≤ finished
   pub stored : StoredAt table visit.stored s
   pub ready : IfReady p visit.pending
@@ -105,6 +112,36 @@ unfoldable pub Path : Program → ℕ → List Stored → State → List Visit �
 Path p finished table from [] to = to ≡ from
 Path p finished table from (visit ∷ path) to =
     (child : State) × Waiting p finished table visit from child × Path p finished table child path to
+
+-- ---- the entries without a number
+
+-- where zeros stand, in a list that begins at place k
+abbrev pub zeros_from : ℕ → List ℕ → List ℕ
+zeros_from k [] = []
+zeros_from k (zero ∷ numbers) = k ∷ zeros_from (suc k) numbers
+zeros_from k (suc n ∷ numbers) = zeros_from (suc k) numbers
+
+-- their places, in the order in which they were stored
+abbrev pub unfinished : List Stored → List ℕ
+unfinished table = zeros_from 0 (map (λ e. e.number) table)
+
+-- the places with one in front of them, or behind them, if there is one
+abbrev pub with_first : Option ℕ → List ℕ → List ℕ
+with_first None places = places
+with_first (Some k) places = k ∷ places
+
+abbrev pub with_last : List ℕ → Option ℕ → List ℕ
+with_last places None = places
+with_last places (Some k) = places ++ k ∷ []
+
+-- where the states of the path are stored
+abbrev pub places_of : List Visit → List ℕ
+places_of [] = []
+places_of (visit ∷ path) = with_first visit.stored (places_of path)
+
+-- the entries without a number are those of the path and the one behind it, in their order, and no others
+unfoldable pub OnPath : List Stored → List Visit → Option ℕ → Type 0
+OnPath table path stored = unfinished table ≡ with_last (places_of path) stored
 
 -- ---- the search
 
@@ -124,6 +161,7 @@ pub record IsAt (p : Program) (search : Search) (s : State) : Type 0 where
 pub record HasEnded (p : Program) (search : Search) (n : ℕ) : Type 0 where
   pub state : State
   pub at : IsAt p search state
+  pub on_path : OnPath search.table.entries.items search.path.items None
   pub within : Within p state n
   pub some : 0 < n
   pub most : n ≤ search.finished
@@ -131,8 +169,22 @@ pub record HasEnded (p : Program) (search : Search) (n : ℕ) : Type 0 where
 -- the search is at its current state, which is stored there
 pub record Explores (p : Program) (search : Search) (stored : Option ℕ) : Type 0 where
   pub at : IsAt p search search.current
+  pub on_path : OnPath search.table.entries.items search.path.items stored
   pub stored_at : StoredAt search.table.entries.items stored search.current
   pub ready : IsReady p search.current
+
+-- the state that the path leads to is stored there, and waits for the current one and for what is pending
+pub record HasEntered (p : Program) (search : Search) (stored : Option ℕ) (pending : Option State) : Type 0 where
+  pub state : State
+  pub at : IsAt p search state
+  pub on_path : OnPath search.table.entries.items search.path.items stored
+  pub waiting : Waiting p search.finished search.table.entries.items (record { pending = pending; best = 0; stored = stored }) state search.current
+  pub ready : IsReady p search.current
+
+-- as many instructions were explored as may be, and the next one is at this slot
+pub record IsFull (search : Search) (slot : ℕ) : Type 0 where
+  pub explored : search.finished + vec_len search.path ≡ 1000000
+  pub next : slot ≡ search.current.slot
 
 abbrev pub Goes : Program → Search → Turn → Type 0
 Goes p search (Explore stored) = Explores p search stored

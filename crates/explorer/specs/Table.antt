@@ -5,6 +5,10 @@ use Rattle.stack_state.specs.declared.states.State.{State}
 use Rattle.stack_state.specs.Meaning.{Covers}
 use Rattle.explorer.specs.declared.table.Stored.{Stored}
 
+-- the entry at this place is the state, with this number
+abbrev pub IsStored : List Stored → ℕ → State → ℕ → Type 0
+IsStored table index s n = slice_get table index ≡ Some (record { state = s; number = n })
+
 -- a finished entry with this number covers the state
 pub record IsCovered (table : List Stored) (s : State) (n : ℕ) : Type 0 where
   pub index : ℕ

@@ -6,7 +6,8 @@
 use reg_state::{Kind, Scalar};
 use stack_state::State;
 
-fn mixed(print: u64, word: u64) -> u64 {
+/// A fingerprint and one more word.
+pub fn mixed(print: u64, word: u64) -> u64 {
     (print ^ word)
         .wrapping_mul(0x9e37_79b9_7f4a_7c15)
         .rotate_left(29)

@@ -2,22 +2,25 @@
 //!
 //! It proposes entries, and the table tests each of them again: no contract rests on it.
 
+ghost use Rattle.std.specs.Prelude.{◌≡◌, IfOk, vec_len};
 ghost use Rattle.std.specs.Iterator.{at_most};
 
+use crate::fingerprints::{fingerprint_of, mixed};
+use crate::shapes::Shape;
+use stack_state::State;
 use std::alloc::{AllocError, Global};
 use std::mem;
 
-/// How many lists the unfinished entries are spread over.
+/// How many lists the entries are spread over, the finished and the unfinished ones.
 const LISTS: usize = 1 << 16;
 
 /// Where an entry stands in the index. It is in one list at a time.
 #[derive(Clone, Copy, Drop)]
 struct Link {
-    slot: usize,
     fingerprint: u64,
-    /// The entry behind it in its list.
-    next: Option<usize>,
-    /// The last entry of its slot that was finished when this one was stored.
+    /// Its list when it is finished.
+    list: usize,
+    /// The last entry of that list when this one was stored.
     before: Option<usize>,
 }
 
@@ -32,33 +35,48 @@ struct Ends {
 #[derive(Drop)]
 pub struct Index {
     links: Vec<Link>,
-    /// By slot, the finished entries in the order in which they were stored.
+    /// Of each entry the one behind it in its list.
+    behind: Vec<Option<usize>>,
+    /// The shapes that stored states have, and of each the next one of its slot.
+    shapes: Vec<Shape>,
+    shape_behind: Vec<Option<usize>>,
+    /// By slot, the first of its shapes.
+    first_shapes: Vec<Option<usize>>,
+    /// By shape and what is known in it, the finished entries in the order in which they were stored.
     finished: Vec<Ends>,
     /// By fingerprint, the unfinished entries, the newest first.
     unfinished: Vec<Option<usize>>,
 }
 
-/// The entries of a list.
+/// A list, given by its first place and by the place behind each.
 #[derive(Drop)]
-pub struct Entries<'a> {
-    links: &'a [Link],
+pub struct Places<'a> {
+    behind: &'a [Option<usize>],
     next: Option<usize>,
     left: usize,
 }
 
-impl<'a> Iterator for Entries<'a> {
+impl<'a> Iterator for Places<'a> {
     type Item = usize;
 
-    ghost remaining = { λ entries. at_most entries.left };
+    ghost remaining = { λ places. at_most places.left };
 
     fn next(&mut self) -> Option<usize> {
         if self.left == 0 {
             return None;
         }
-        let index = self.next?;
-        self.next = self.links.get(index)?.next;
+        let place = self.next?;
+        self.next = *self.behind.get(place)?;
         self.left -= 1;
-        Some(index)
+        Some(place)
+    }
+}
+
+fn places_from(behind: &[Option<usize>], first: Option<usize>) -> Places<'_> {
+    Places {
+        behind,
+        next: first,
+        left: behind.len(),
     }
 }
 
@@ -69,39 +87,49 @@ fn list_of(fingerprint: u64) -> usize {
 
 impl Index {
     /// The index of no entries, of code with so many slots.
-    pub fn new(alloc: Global, slots: usize) -> Result<Self, AllocError> {
+    pub fn new(alloc: Global, slots: usize) -> Result<Self, AllocError>
+        ensures room { IfOk result (λ index. vec_len index.first_shapes ≡ slots) }
+    {
         let none = Ends {
             first: None,
             last: None,
         };
         Ok(Index {
             links: Vec::new(alloc),
-            finished: vec![in alloc; none; slots]?,
+            behind: Vec::new(alloc),
+            shapes: Vec::new(alloc),
+            shape_behind: Vec::new(alloc),
+            first_shapes: vec![in alloc; None; slots]?,
+            finished: vec![in alloc; none; LISTS]?,
             unfinished: vec![in alloc; None; LISTS]?,
         })
     }
 
-    fn entries(&self, first: Option<usize>) -> Entries<'_> {
-        Entries {
-            links: &self.links,
-            next: first,
-            left: self.links.len(),
-        }
+    /// The shapes that the stored states of a slot have.
+    pub fn shapes_at(&self, slot: usize) -> Places<'_> {
+        let first = self.first_shapes.get(slot).copied().flatten();
+        places_from(&self.shape_behind, first)
     }
 
-    /// The finished entries of a slot, in the order in which they were stored.
-    pub fn finished_at(&self, slot: usize) -> Entries<'_> {
-        let first = match self.finished.get(slot) {
+    /// The list in which the finished entries of a shape stand that may cover the state, if there can be any.
+    pub fn list_for(&self, shape: usize, state: &State) -> Option<usize> {
+        let known = self.shapes.get(shape)?.known_of(state)?;
+        Some(list_of(mixed(known, shape as u64)))
+    }
+
+    /// The finished entries of a list, in the order in which they were stored.
+    pub fn finished_in(&self, list: usize) -> Places<'_> {
+        let first = match self.finished.get(list) {
             Some(ends) => ends.first,
             None => None,
         };
-        self.entries(first)
+        places_from(&self.behind, first)
     }
 
     /// Unfinished entries, all of the fingerprint among them.
-    pub fn unfinished_like(&self, fingerprint: u64) -> Entries<'_> {
+    pub fn unfinished_like(&self, fingerprint: u64) -> Places<'_> {
         let first = self.unfinished.get(list_of(fingerprint)).copied().flatten();
-        self.entries(first)
+        places_from(&self.behind, first)
     }
 
     /// Whether an entry has the fingerprint.
@@ -112,51 +140,73 @@ impl Index {
         }
     }
 
+    /// The number of a state's shape, which is a new one where no stored state of its slot has it.
+    fn shape_of(&mut self, state: &State) -> Result<usize, AllocError> {
+        let shape = Shape::of(state);
+        for number in self.shapes_at(state.slot) {
+            if self.shapes.get(number) == Some(&shape) {
+                return Ok(number);
+            }
+        }
+        let number = self.shapes.len();
+        self.shapes.push(shape)?;
+        let mut next = None;
+        if let Some(first) = self.first_shapes.get_mut(state.slot) {
+            next = mem::replace(first, Some(number));
+        }
+        self.shape_behind.push(next)?;
+        Ok(number)
+    }
+
     /// Adds an entry that is unfinished.
-    pub fn add(&mut self, slot: usize, fingerprint: u64) -> Result<(), AllocError> {
+    pub fn add(&mut self, state: &State) -> Result<(), AllocError> {
         let index = self.links.len();
-        let mut link = Link {
-            slot,
-            fingerprint,
-            next: None,
-            before: None,
+        let fingerprint = fingerprint_of(state);
+        let shape = self.shape_of(state)?;
+        let list = self.list_for(shape, state).unwrap_or(0);
+        let before = match self.finished.get(list) {
+            Some(ends) => ends.last,
+            None => None,
         };
-        if let Some(ends) = self.finished.get(slot) {
-            link.before = ends.last;
-        }
+        let mut next = None;
         if let Some(first) = self.unfinished.get_mut(list_of(fingerprint)) {
-            link.next = *first;
-            *first = Some(index);
+            next = mem::replace(first, Some(index));
         }
-        self.links.push(link)?;
+        self.links.push(Link {
+            fingerprint,
+            list,
+            before,
+        })?;
+        self.behind.push(next)?;
         Ok(())
     }
 
-    /// Moves an entry to the finished ones of its slot; all that were stored after it are finished.
+    /// Moves an entry to the finished ones of its list; all that were stored after it are finished.
     pub fn finish(&mut self, index: usize) {
         let Some(link) = self.links.get(index).copied() else {
             return;
         };
+        let next = self.behind.get(index).copied().flatten();
         if let Some(first) = self.unfinished.get_mut(list_of(link.fingerprint)) {
-            *first = link.next;
+            *first = next;
         }
-        let next = self.put_behind(link.slot, link.before, index);
-        if let Some(link) = self.links.get_mut(index) {
-            link.next = next;
+        let next = self.put_behind(link, index);
+        if let Some(behind) = self.behind.get_mut(index) {
+            *behind = next;
         }
     }
 
-    /// Makes the entry the one behind another one, or the first, and answers the one that was.
-    fn put_behind(&mut self, slot: usize, before: Option<usize>, index: usize) -> Option<usize> {
-        let ends = self.finished.get_mut(slot)?;
-        if ends.last == before {
+    /// Makes the entry the one behind the last of its list when it was stored, and answers the one that was.
+    fn put_behind(&mut self, link: Link, index: usize) -> Option<usize> {
+        let ends = self.finished.get_mut(link.list)?;
+        if ends.last == link.before {
             ends.last = Some(index);
         }
-        match before {
+        match link.before {
             None => mem::replace(&mut ends.first, Some(index)),
             Some(before) => {
-                let link = self.links.get_mut(before)?;
-                mem::replace(&mut link.next, Some(index))
+                let behind = self.behind.get_mut(before)?;
+                mem::replace(behind, Some(index))
             }
         }
     }

@@ -1,6 +1,6 @@
 //! Abstract states in as little room as they need.
 
-ghost use Rattle.std.specs.Prelude.{◌≡◌, IfOk};
+ghost use Rattle.std.specs.Prelude.{◌≡◌, IfOk, IsTrue};
 
 use reg_state::Kind;
 use stack_state::{AbstractFrame, State};
@@ -40,7 +40,9 @@ impl Kept {
     }
 
     /// A quick test whether the state may be one that this one covers: a no says that it is not.
-    pub fn may_cover(&self, state: &State) -> bool {
+    pub fn may_cover(&self, state: &State) -> bool
+        ensures equal { self.now ≡ state.now → IsTrue result }
+    {
         let Some(frame) = self.frames.last() else {
             return true;
         };
@@ -68,7 +70,9 @@ impl Kept {
 }
 
 /// Whether a kind may allow all that the other one does.
-fn may_allow(kind: &Kind, other: &Kind) -> bool {
+fn may_allow(kind: &Kind, other: &Kind) -> bool
+    ensures equal { kind.now ≡ other.now → IsTrue result }
+{
     match kind {
         Kind::Unset => true,
         Kind::Number(numbers) => match other {

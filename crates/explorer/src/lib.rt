@@ -9,6 +9,7 @@ mod index;
 mod kept;
 pub mod refusals;
 mod search;
+mod shapes;
 mod table;
 pub mod verified;
 

@@ -1,12 +1,12 @@
 //! The search through abstract states, depth first.
 
-ghost use Rattle.std.specs.Prelude.{◌≡◌, ◌≤◌, ◌+◌, ◌<◌, vec_len, IfOk, IfErr, OnErr};
+ghost use Rattle.std.specs.Prelude.{◌≡◌, ◌≢◌, ◌≤◌, ◌+◌, ◌<◌, Some, vec_len, IfOk, IfErr, OnOk, OnErr};
 ghost use Rattle.stack_state.specs.Starts.{start};
 ghost use Rattle.stack_state.specs.Meaning.{Within};
 ghost use Rattle.image.specs.Images.{IsImage};
 ghost use Rattle.control_flow.specs.Flows.{IsFlow};
 ghost use Rattle.explorer.specs.Refused.{StopsAt};
-ghost use Rattle.explorer.specs.Search.{Arrives, TurnsBack, IsResumed, IsNew, HasEnded, Goes};
+ghost use Rattle.explorer.specs.Search.{Arrives, TurnsBack, IsResumed, IsNew, HasEnded, HasEntered, Goes, IsFull};
 
 use crate::kept::Kept;
 use crate::refusals::Refusal;
@@ -82,7 +82,7 @@ pub fn arrive(
 ) -> Result<Arrival, Refused>
     ensures arrives { IfOk result (λ a. Arrives flow.now table.old.entries.items state.now a table.new.entries.items) }
     ensures refused { IfErr result (λ r. TurnsBack flow.now table.old.entries.items state.now r.0 r.1) }
-    ensures stops { IfErr result (λ r. StopsAt flow.now r.0 r.1) }
+    ensures not_long { IfErr result (λ r. r.0 ≢ Refusal.TooLong) }
     ensures err { OnErr result (table.new.entries.items ≡ table.old.entries.items) }
 {
     if !flow.is_join(state.slot) {
@@ -111,7 +111,9 @@ fn resume(
     number: u32,
 ) -> Result<Resumed, Refused>
     ensures resumed { IfOk result (λ r. IsResumed flow.now table.old.entries.items visit number r table.new.entries.items current.new) }
-    ensures stops { IfErr result (λ r. StopsAt flow.now r.0 r.1) }
+    ensures pending { OnErr result (visit.pending ≡ Some current.new) }
+    ensures refused { IfErr result (λ r. TurnsBack flow.now table.old.entries.items current.new r.0 r.1) }
+    ensures not_long { IfErr result (λ r. r.0 ≢ Refusal.TooLong) }
 {
     let Visit {
         pending,
@@ -139,7 +141,8 @@ fn resume(
 impl Search {
     /// A search at the start of code with so many slots.
     pub fn new(alloc: Global, slots: usize) -> Result<Self, AllocError>
-        ensures { IfOk result (λ search. IsNew search) }
+        ensures new { IfOk result (λ search. IsNew search) }
+        ensures room { IfOk result (λ search. vec_len search.table.index.first_shapes ≡ slots) }
     {
         let table = Table::new(alloc, slots)?;
         Ok(Search {
@@ -157,7 +160,8 @@ impl Search {
         requires room { self.old.finished + vec_len self.old.path ≤ 1000000 }
         ensures goes { IfOk result (λ turn. Goes flow.now self.new turn) }
         ensures stops { IfErr result (λ r. StopsAt flow.now r.0 r.1) }
-        ensures room { self.new.finished + vec_len self.new.path ≤ self.old.finished + vec_len self.old.path }
+        ensures not_long { IfErr result (λ r. r.0 ≢ Refusal.TooLong) }
+        ensures explored { OnOk result (self.new.finished + vec_len self.new.path ≡ self.old.finished + vec_len self.old.path) }
     {
         let mut number = ended;
         while let Some(visit) = self.path.pop() {
@@ -201,7 +205,8 @@ impl Search {
         requires room { self.old.finished + vec_len self.old.path < 1000000 }
         ensures goes { IfOk result (λ turn. Goes flow.now self.new turn) }
         ensures stops { IfErr result (λ r. StopsAt flow.now r.0 r.1) }
-        ensures room { self.new.finished + vec_len self.new.path ≤ self.old.finished + vec_len self.old.path + 1 }
+        ensures not_long { IfErr result (λ r. r.0 ≢ Refusal.TooLong) }
+        ensures explored { OnOk result (self.new.finished + vec_len self.new.path ≡ self.old.finished + vec_len self.old.path + 1) }
     {
         let slot = self.current.slot;
         let ways = match step_in_place(image, &mut self.current, &mut self.scratch) {
@@ -220,6 +225,24 @@ impl Search {
                 Err(_) => return Err(NO_MEMORY),
             },
         };
+        self.descend(alloc, flow, stored, pending)
+    }
+
+    /// Puts a visit behind the path, whose state is stored there and leads to the current state and to what is pending.
+    fn descend(
+        &mut self,
+        alloc: Global,
+        flow: &Flow<'_>,
+        stored: Option<usize>,
+        pending: Option<Kept>,
+    ) -> Result<Turn, Refused>
+        requires entered { HasEntered flow.now self.old stored pending }
+        requires room { self.old.finished + vec_len self.old.path < 1000000 }
+        ensures goes { IfOk result (λ turn. Goes flow.now self.new turn) }
+        ensures stops { IfErr result (λ r. StopsAt flow.now r.0 r.1) }
+        ensures not_long { IfErr result (λ r. r.0 ≢ Refusal.TooLong) }
+        ensures explored { OnOk result (self.new.finished + vec_len self.new.path ≡ self.old.finished + vec_len self.old.path + 1) }
+    {
         let visit = Visit {
             pending,
             best: 0,
@@ -250,6 +273,7 @@ impl Search {
         ensures some { IfOk result (λ n. 0 < n) }
         ensures most { IfOk result (λ n. n ≤ 1000000) }
         ensures stops { IfErr result (λ r. StopsAt flow.now r.0 r.1) }
+        ensures too_long { IfErr result (λ r. r.0 ≡ Refusal.TooLong → IsFull self.new r.1) }
     {
         let mut turn = match arrive(
             alloc,

@@ -1,8 +1,8 @@
 //! The states that were met at joins.
 
-ghost use Rattle.std.specs.Prelude.{◌≡◌, ◌++◌, ◌∷◌, [], length, IsTrue, IfSome, IfOk, OnErr};
+ghost use Rattle.std.specs.Prelude.{◌≡◌, ℕ, ◌<◌, ◌++◌, ◌∷◌, [], Some, length, vec_len, IsTrue, IfSome, IfOk, OnErr};
 ghost use Rattle.stack_state.specs.declared.states.State.{State as TheState};
-ghost use Rattle.explorer.specs.Table.{IsCovered, IsRepeated, StoredAt, IsNumbered};
+ghost use Rattle.explorer.specs.Table.{IsStored, IsCovered, IsRepeated, StoredAt, IsNumbered};
 
 use crate::fingerprints::fingerprint_of;
 use crate::index::Index;
@@ -28,7 +28,8 @@ pub struct Table {
 impl Table {
     /// A table with no states, of code with so many slots.
     pub fn new(alloc: Global, slots: usize) -> Result<Self, AllocError>
-        ensures { IfOk result (λ table. table.entries.items ≡ []) }
+        ensures empty { IfOk result (λ table. table.entries.items ≡ []) }
+        ensures room { IfOk result (λ table. vec_len table.index.first_shapes ≡ slots) }
     {
         let index = Index::new(alloc, slots)?;
         Ok(Table {
@@ -39,7 +40,8 @@ impl Table {
 
     /// The number of an entry that is finished and covers the state.
     fn covering(&self, index: usize, state: &State, scratch: &mut State) -> Option<u32>
-        ensures { IfSome result (λ n. IsCovered self.now.entries.items state.now n) }
+        ensures covered { IfSome result (λ n. IsCovered self.now.entries.items state.now n) }
+        ensures equal { (n : ℕ) → IsStored self.now.entries.items index state.now n → 0 < n → result ≡ Some n }
     {
         let entry = self.entries.get(index)?;
         if entry.number == 0 || !entry.state.may_cover(state) {
@@ -52,21 +54,48 @@ impl Table {
         Some(entry.number)
     }
 
-    /// The number of the first finished state that covers this one.
-    pub fn number_of(&self, state: &State, scratch: &mut State) -> Option<u32>
-        ensures { IfSome result (λ n. IsCovered self.now.entries.items state.now n) }
+    /// The first of a list's finished states that covers this one, if it was stored before another one: its place and
+    /// its number.
+    fn first_in(
+        &self,
+        list: usize,
+        other: Option<(usize, u32)>,
+        state: &State,
+        scratch: &mut State,
+    ) -> Option<(usize, u32)>
+        ensures { IfSome result (λ r. IsCovered self.now.entries.items state.now r.1) }
     {
-        for index in self.index.finished_at(state.slot) {
+        for index in self.index.finished_in(list) {
+            if other.is_some_and(|(place, _)| place < index) {
+                return None;
+            }
             if let Some(number) = self.covering(index, state, scratch) {
-                return Some(number);
+                return Some((index, number));
             }
         }
         None
     }
 
+    /// The number of the first finished state that covers this one.
+    pub fn number_of(&self, state: &State, scratch: &mut State) -> Option<u32>
+        ensures { IfSome result (λ n. IsCovered self.now.entries.items state.now n) }
+    {
+        let mut first = None;
+        for shape in self.index.shapes_at(state.slot) {
+            if let Some(list) = self.index.list_for(shape, state) {
+                if let Some(found) = self.first_in(list, first, state, scratch) {
+                    first = Some(found);
+                }
+            }
+        }
+        let (_, number) = first?;
+        Some(number)
+    }
+
     /// Whether an entry is unfinished and equal to the state.
     fn is_equal(&self, index: usize, state: &State, scratch: &mut State) -> bool
-        ensures { IsTrue result → IsRepeated self.now.entries.items state.now }
+        ensures repeated { IsTrue result → IsRepeated self.now.entries.items state.now }
+        ensures equal { IsStored self.now.entries.items index state.now 0 → IsTrue result }
     {
         let Some(entry) = self.entries.get(index) else {
             return false;
@@ -101,7 +130,7 @@ impl Table {
         ensures err { OnErr result (self.new.entries.items ≡ self.old.entries.items) }
     {
         let index = self.entries.len();
-        self.index.add(state.slot, fingerprint_of(state))?;
+        self.index.add(state)?;
         let state = Kept::of(alloc, state)?;
         self.entries.push(Stored { state, number: 0 })?;
         Ok(index)

@@ -1,8 +1,10 @@
 //! Small programs, spelled by hand, with their bounds or refusals. A slot is written as its eight bytes in order.
 
-use crate::Refusal::{Flow, Repeats, TooLong};
+mod advice;
+mod verdicts;
+
+use crate::Refusal::{Repeats, TooLong};
 use crate::{Refusal, verify};
-use control_flow::FlowError;
 use image::Image;
 use std::alloc::{AllocError, Global};
 use std::test::Fail;
@@ -145,25 +147,5 @@ fn limit(rt: HostRuntime) -> Result<(), Fail> {
     assert_eq!(rt; verdict(alloc, &most)?, Ok(1_000_000));
     let over = repeated(alloc, &[CLEAR, COUNT], &[TWO], 3935, &[back, TWO, EXIT])?;
     assert_eq!(rt; verdict(alloc, &over)?, Err((TooLong, 3939)));
-    Ok(())
-}
-
-#[test]
-fn refusals(rt: HostRuntime) -> Result<(), Fail> {
-    let alloc = rt.alloc();
-    assert_eq!(rt;
-        verdict(alloc, &[TWO])?,
-        Err((Flow(FlowError::FallsOff), 0))
-    );
-    assert_eq!(rt; Repeats.to_string(alloc)?.as_str(), "V18");
-    assert_eq!(rt; TooLong.to_string(alloc)?.as_str(), "V19");
-    assert_eq!(rt; Refusal::Memory.to_string(alloc)?.as_str(), "V0");
-    assert_eq!(rt; Flow(FlowError::FallsOff).to_string(alloc)?.as_str(), "G3");
-    assert_eq!(rt;
-        Refusal::Step(transfer::Refusal::ExitValue)
-            .to_string(alloc)?
-            .as_str(),
-        "V17"
-    );
     Ok(())
 }

@@ -88,14 +88,43 @@ abbrev pub Arithmetic : AluOp → Width → Kind → Kind → Kind → Type 0
 Arithmetic Mov w a b k = Copied w b k
 Arithmetic op w a b k = Combined op w a b k
 
--- what is never refused: numbers alone are computed with, and MOV at 64 bits copies anything
+-- ---- what is never refused
+
+-- a frame pointer that a constant moves, within the limit of offsets
+abbrev pub IsMoved : Bool → Kind → Scalar → Type 0
+IsMoved back (Stack frame offset) by = (n : ℕ) × IsConstant by n × (unsigned_abs (moved_offset back offset n) ≤ offset_limit)
+IsMoved back pointer by = ⊥
+
+abbrev pub IsPointerAndNumber : AluOp → Width → Kind → Scalar → Type 0
+IsPointerAndNumber Add Full64 pointer by = IsMoved false pointer by
+IsPointerAndNumber Sub Full64 pointer by = IsMoved true pointer by
+IsPointerAndNumber op w pointer by = ⊥
+
+abbrev pub IsNumberAndPointer : AluOp → Width → Scalar → Kind → Type 0
+IsNumberAndPointer Add Full64 by pointer = IsMoved false pointer by
+IsNumberAndPointer op w by pointer = ⊥
+
+-- two numbers are always computed with
+abbrev pub IsNumberAnd : AluOp → Width → Scalar → Kind → Type 0
+IsNumberAnd op w a (Number b) = Unit {0}
+IsNumberAnd op w a b = IsNumberAndPointer op w a b
+
+abbrev pub IsPointerAnd : AluOp → Width → Kind → Kind → Type 0
+IsPointerAnd op w a (Number b) = IsPointerAndNumber op w a b
+IsPointerAnd op w a b = ⊥
+
+abbrev pub IsCombined : AluOp → Width → Kind → Kind → Type 0
+IsCombined op w (Number a) b = IsNumberAnd op w a b
+IsCombined op w a b = IsPointerAnd op w a b
+
+-- MOV at 64 bits copies anything
 abbrev pub IsCopied : Width → Kind → Type 0
 IsCopied Full64 b = Unit {0}
 IsCopied Low32 b = IsNumber b
 
 abbrev pub IsArithmetic : AluOp → Width → Kind → Kind → Type 0
 IsArithmetic Mov w a b = IsCopied w b
-IsArithmetic op w a b = IsNumber a × IsNumber b
+IsArithmetic op w a b = IsCombined op w a b
 
 -- ---- loads
 

@@ -1,25 +1,15 @@
 //! Arithmetic on kinds.
 
 ghost use Rattle.std.specs.Prelude.{◌≡◌, IfOk, IfErr, IsOk};
-ghost use Rattle.isa_model.specs.Numbers.{low, unsigned, negated, sign_extended, reordered};
+ghost use Rattle.isa_model.specs.Numbers.{low, negated, sign_extended, reordered};
 ghost use Rattle.branch_refine.specs.Refining.{IsNumber, IsJust};
 ghost use Rattle.transfer.specs.Refusing.{number_refusal, pointer_and_refusal, combined_refusal, arithmetic_refusal};
-ghost use Rattle.transfer.specs.Results.{OfNumber, NumberAnd, PointerAnd, Combined, Copied, Arithmetic, IsCopied, IsArithmetic};
+ghost use Rattle.transfer.specs.Results.{OfNumber, NumberAnd, PointerAnd, Combined, Copied, Arithmetic, IsNumberAnd, IsPointerAnd, IsCombined, IsCopied, IsArithmetic};
 
 use crate::pointers::{number_and_pointer, pointer_and_number};
 use crate::refusals::Refusal;
 use isa_model::{AluOp, ByteOrder, Extension, Span, Width};
 use reg_state::{Domain, Kind, Scalar};
-
-/// A constant as the number of the width that it stands for.
-pub fn extended(width: Width, k: i32) -> u64
-    ensures { result ≡ unsigned width k }
-{
-    match width {
-        Width::Low32 => u64::from(k.cast_unsigned()),
-        Width::Full64 => i64::from(k).cast_unsigned(),
-    }
-}
 
 /// The kind of a constant.
 pub fn constant(number: u64) -> Kind
@@ -91,7 +81,7 @@ fn copied(width: Width, source: Kind) -> Result<Kind, Refusal>
 /// A number on the left.
 fn number_and(op: AluOp, width: Width, a: Scalar, b: Kind) -> Result<Kind, Refusal>
     ensures gives { IfOk result (NumberAnd op width a b) }
-    ensures accepts { IsNumber b → IsOk result }
+    ensures accepts { IsNumberAnd op width a b → IsOk result }
     ensures refused { IfErr result (λ e. e ≡ number_refusal op width b) }
 {
     match b {
@@ -103,6 +93,7 @@ fn number_and(op: AluOp, width: Width, a: Scalar, b: Kind) -> Result<Kind, Refus
 /// A pointer on the left.
 fn pointer_and(op: AluOp, width: Width, a: Kind, b: Kind) -> Result<Kind, Refusal>
     ensures gives { IfOk result (PointerAnd op width a b) }
+    ensures accepts { IsPointerAnd op width a b → IsOk result }
     ensures refused { IfErr result (λ e. e ≡ pointer_and_refusal op width a b) }
 {
     match b {
@@ -114,7 +105,7 @@ fn pointer_and(op: AluOp, width: Width, a: Kind, b: Kind) -> Result<Kind, Refusa
 /// Every operation but MOV.
 fn combined(op: AluOp, width: Width, a: Kind, b: Kind) -> Result<Kind, Refusal>
     ensures gives { IfOk result (Combined op width a b) }
-    ensures accepts { IsNumber a → IsNumber b → IsOk result }
+    ensures accepts { IsCombined op width a b → IsOk result }
     ensures refused { IfErr result (λ e. e ≡ combined_refusal op width a b) }
 {
     match a {

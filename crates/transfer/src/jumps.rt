@@ -11,18 +11,9 @@ ghost use Rattle.transfer.specs.Exact.{Sides, Branches};
 use crate::Ways;
 use crate::refusals::Refusal;
 use branch_refine::refine_in_place;
-use isa_model::{Cond, Operand, Reg};
+use isa_model::{Cond, Operand, Reg, destination};
 use reg_state::Kind;
 use stack_state::State;
-
-/// Where a jump at a slot leads in a program of so many slots: past its end where that is before slot 0.
-pub fn destination(slot: usize, by: i32, slots: usize) -> usize
-    requires { slot < 2 ^ 63 }
-    ensures { result ≡ unwrap_or (target slot by) slots }
-{
-    let to = slot as i128 + 1 + i128::from(by);
-    if to < 0 { slots } else { to as usize }
-}
 
 fn is_number(state: &State, register: Reg) -> bool
     ensures { IsTrue result ↔ IsNumber (kind_of state.now register) }

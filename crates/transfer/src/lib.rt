@@ -20,7 +20,7 @@ mod steps;
 #[cfg(test)]
 mod tests;
 
-use crate::steps::{perform, reads_unset, writes_frame_pointer};
+use crate::steps::{perform, reads_unset};
 use image::Image;
 pub use refusals::Refusal;
 use stack_state::State;
@@ -88,7 +88,7 @@ pub fn step_in_place(image: &Image, state: &mut State, other: &mut State) -> Res
     if reads_unset(state, insn) {
         return Err(Refusal::UnsetRegister);
     }
-    if writes_frame_pointer(insn) {
+    if insn.writes_frame_pointer() {
         return Err(Refusal::ReadOnlyRegister);
     }
     let ways = perform(insn, image.slots(), state, other)?;

@@ -1,9 +1,9 @@
 //! Arithmetic on pointers.
 
-ghost use Rattle.std.specs.Prelude.{◌≡◌, nat_le, unsigned_abs, if◌then◌else◌, Ok, Err, IfOk, IfErr};
+ghost use Rattle.std.specs.Prelude.{◌≡◌, nat_le, unsigned_abs, if◌then◌else◌, Ok, Err, IfOk, IfErr, IsOk};
 ghost use Rattle.isa_model.specs.Pointers.{offset_limit};
 ghost use Rattle.transfer.specs.Refusing.{moved_refusal, pointer_refusal, number_refusal};
-ghost use Rattle.transfer.specs.Results.{moved_offset, Moves, PointerAndNumber, NumberAndPointer};
+ghost use Rattle.transfer.specs.Results.{moved_offset, Moves, PointerAndNumber, NumberAndPointer, IsMoved, IsPointerAndNumber, IsNumberAndPointer};
 
 use crate::refusals::Refusal;
 use isa_model::{AluOp, Width};
@@ -41,6 +41,7 @@ fn frame_pointer(frame: u8, offset: i128) -> Result<Kind, Refusal>
 /// A pointer that a number moves, back or on.
 fn moved(back: bool, pointer: Kind, by: Scalar) -> Result<Kind, Refusal>
     ensures moves { IfOk result (Moves back pointer by) }
+    ensures accepts { IsMoved back pointer by → IsOk result }
     ensures refused { IfErr result (λ e. e ≡ moved_refusal pointer) }
 {
     match pointer {
@@ -65,6 +66,7 @@ pub fn pointer_and_number(
     by: Scalar,
 ) -> Result<Kind, Refusal>
     ensures gives { IfOk result (PointerAndNumber op width pointer by) }
+    ensures accepts { IsPointerAndNumber op width pointer by → IsOk result }
     ensures refused { IfErr result (λ e. e ≡ pointer_refusal op width pointer) }
 {
     match (op, width) {
@@ -82,6 +84,7 @@ pub fn number_and_pointer(
     pointer: Kind,
 ) -> Result<Kind, Refusal>
     ensures gives { IfOk result (NumberAndPointer op width by pointer) }
+    ensures accepts { IsNumberAndPointer op width by pointer → IsOk result }
     ensures refused { IfErr result (λ e. e ≡ number_refusal op width pointer) }
 {
     match (op, width) {

@@ -9,12 +9,13 @@ ghost use Rattle.transfer.specs.Refusing.{is_unset, is_unset_in, reads_unset, Se
 ghost use Rattle.transfer.specs.Exact.{IsOperand, Puts, Sets, Makes, IsComputed, IsAccepted};
 
 use crate::Ways;
-use crate::arithmetic::{arithmetic, constant, extended, negated, reordered, sign_extended};
+use crate::arithmetic::{arithmetic, constant, negated, reordered, sign_extended};
 use crate::exits::exit;
-use crate::jumps::{destination, jump_if};
+use crate::jumps::jump_if;
 use crate::memory::{access_refusal, atomic_refusal, exchange_refusal, load};
 use crate::refusals::Refusal;
-use isa_model::{AluOp, Insn, Operand, Reg, Width};
+use isa_model::numbers::unsigned;
+use isa_model::{AluOp, Insn, Operand, Reg, Width, destination};
 use reg_state::Kind;
 use stack_state::State;
 
@@ -67,30 +68,6 @@ pub fn reads_unset(state: &State, insn: &Insn) -> bool
     }
 }
 
-/// The register that an instruction writes, those of calls and exits aside.
-pub fn written(insn: &Insn) -> Option<Reg>
-    ensures { result ≡ writes insn.now }
-{
-    match *insn {
-        Insn::Alu(_, _, d, _)
-        | Insn::Neg(_, d)
-        | Insn::MovSx(_, d, _)
-        | Insn::ByteSwap(_, _, d)
-        | Insn::LoadNumber(d, _)
-        | Insn::Load(_, d, _)
-        | Insn::LoadSx(_, d, _) => Some(d),
-        Insn::Atomic(_, _, true, _, source) | Insn::Exchange(_, _, source) => Some(source),
-        Insn::CompareExchange(_, _, _) => Some(Reg::R0),
-        _ => None,
-    }
-}
-
-pub fn writes_frame_pointer(insn: &Insn) -> bool
-    ensures { result ≡ is_frame_pointer (writes insn.now) }
-{
-    matches!(written(insn), Some(Reg::R10))
-}
-
 // ---- registers set
 
 /// The kind of an operand; a constant is sign-extended to the width.
@@ -98,7 +75,7 @@ fn operand(state: &State, width: Width, source: Operand) -> Kind
     ensures { IsOperand state.now width source result }
 {
     match source {
-        Operand::Constant(k) => constant(extended(width, k)),
+        Operand::Constant(k) => constant(unsigned(width, k)),
         Operand::Register(register) => state.kind_of(register),
     }
 }
@@ -145,7 +122,7 @@ fn set(state: &mut State, insn: &Insn) -> Result<(), Refusal>
     ensures refused { IfErr result (SetRefused state.old insn.now) }
 {
     let kind = result_kind(state, insn)?;
-    let Some(register) = written(insn) else {
+    let Some(register) = insn.written() else {
         unreachable!()
     };
     state.set_register(register, kind);

@@ -1,4 +1,5 @@
-use Rattle.std.proofs.Common.{◌≡◌, ◌≤◌, ◌+◌, ◌<◌, ℕ, List, [], arith, vec_len, length, ap, subst}
+use Rattle.std.proofs.Common.{◌≡◌, ◌≤◌, ◌+◌, ◌<◌, ℕ, List, [], arith, refl, vec_len, length, ap, subst}
+use Rattle.std.proofs.lemmas.Result.{err_from_is_err_and}
 use Rattle.stack_state.specs.declared.states.State.{State}
 use Rattle.stack_state.specs.Meaning.{Within}
 use Rattle.explorer.specs.declared.search.Visit.{Visit}
@@ -6,6 +7,8 @@ use Rattle.explorer.specs.declared.search.Arrival.TheVariants.{New}
 use Rattle.explorer.specs.Search.{Goes, Explores}
 use Rattle.explorer.proofs.Stores.{IsCovered-known, Arrives-fine, Arrives-stored}
 use Rattle.explorer.proofs.Paths.{Path-here}
+use Rattle.explorer.proofs.Walking.{Path-leads, turned_back}
+use Rattle.explorer.proofs.Unfinished.{OnPath-start, OnPath-arrives}
 use Rattle.explorer.proofs.Steps.{empty_fine, starts_ready}
 use Rattle.explorer.proofs.search.Search.explore.Goals as goal
 use Rattle.explorer.proofs.search.Search.explore.Goals.{in-Known, in-New}
@@ -16,6 +19,7 @@ loop-explored-init c =
     let old = c.args.self.now.table.entries.items in
     let s = c.args.self.now.current in
     let fine = empty_fine p c.args.self.now.finished old c.requires.new.table in
+    let on_path = OnPath-start old c.args.self.now.path.items c.requires.new.table c.requires.new.path in
     record {
       goes = elim c.match-branch-2.branch [
         | in-Known w ↦
@@ -29,9 +33,36 @@ loop-explored-init c =
                 fine = Arrives-fine p c.args.self.now.finished old s (New w.in-New.stored) c.arrive.new.table.entries.items arrives fine;
                 path = Path-here p c.args.self.now.finished c.arrive.new.table.entries.items c.args.self.now.path.items _ s c.requires.new.path c.requires.new.current;
               };
+              on_path = OnPath-arrives p old c.arrive.new.table.entries.items c.args.self.now.path.items s w.in-New.stored arrives on_path;
               stored_at = Arrives-stored p old s w.in-New.stored c.arrive.new.table.entries.items arrives;
               ready = starts_ready p c.args.image.now s c.requires.image c.requires.whole c.requires.new.current;
             })
       ];
-      room = omega (arith, c.requires.new.finished, c.args.self.now.path.ok.0, ap (λ (x : List Visit). length x) c.requires.new.path);
+      explored = omega (arith, c.requires.new.finished, c.args.self.now.path.ok.0, ap (λ (x : List Visit). length x) c.requires.new.path);
+    }
+
+pub returns-in_err-number-clause-stops : goal.returns-in_err-number-clause-stops
+returns-in_err-number-clause-stops c =
+    let p = c.args.flow.now in
+    let m = c.args.self.now.finished in
+    let table = c.args.self.now.table.entries.items in
+    let path = c.args.self.now.path.items in
+    let s = c.args.self.now.current in
+    let refusal = c.in_err-number.field-0.0 in
+    let given = err_from_is_err_and c.from_residual.result c.from_residual.ensures.1 in
+    let walk = Path-here p m table path _ s c.requires.new.path c.requires.new.current in
+    let on_path = OnPath-start table path c.requires.new.table c.requires.new.path in
+    rw (given.1, given.2) (turned_back p m table path s refusal.0 refusal.1 walk on_path c.in_err-number.ensures.refused)
+
+pub returns-in-Explore-turn-clause-stops : goal.returns-in-Explore-turn-clause-stops
+returns-in-Explore-turn-clause-stops c =
+    let p = c.args.flow.now in
+    let search = c.loop-explored.self in
+    let goes = rw c.in-Explore-turn.is at c.loop-explored.invariant.goes in
+    record {
+      state = search.current;
+      steps = length search.path.items;
+      leads = Path-leads p search.finished search.table.entries.items search.path.items _ search.current goes.at.path;
+      slot_is = refl;
+      begins = goes.ready.begins;
     }

@@ -1,4 +1,5 @@
-use Rattle.std.proofs.Common.{◌≡◌, ◌≤◌, ◌+◌, ◌++◌, ◌∷◌, [], ℕ, List, arith, vec_len, length, subst}
+use Rattle.std.proofs.Common.{◌≡◌, ◌≤◌, ◌+◌, ◌++◌, ◌∷◌, [], ℕ, None, List, max, arith, refl, vec_len, length, subst}
+use Rattle.std.proofs.lemmas.Result.{err_from_is_err_and}
 use Rattle.stack_state.specs.declared.states.State.{State}
 use Rattle.stack_state.specs.Starts.{start}
 use Rattle.stack_state.specs.Meaning.{Within}
@@ -6,10 +7,12 @@ use Rattle.explorer.specs.declared.search.Visit.{Visit}
 use Rattle.explorer.specs.declared.search.Resumed.{Resumed}
 use Rattle.explorer.specs.declared.search.Resumed.TheVariants.{Ended, Next}
 use Rattle.explorer.specs.Table.{StoredAt}
-use Rattle.explorer.specs.Search.{IsAt, HasEnded, Explores, Path, IsResumed, EndsAlone, EndsCovered, GoesOn}
+use Rattle.explorer.specs.Search.{IsAt, HasEnded, Explores, Path, OnPath, IsResumed, EndsAlone, EndsCovered, GoesOn}
 use Rattle.explorer.proofs.Stores.{Keeps-at}
 use Rattle.explorer.proofs.Paths.{Last, Path-pop, Path-none}
-use Rattle.explorer.proofs.Steps.{HasNumber, visit_ends, step_back, step_on}
+use Rattle.explorer.proofs.Unfinished.{OnPath-push, OnPath-pop}
+use Rattle.explorer.proofs.Walking.{turned_back}
+use Rattle.explorer.proofs.Steps.{HasNumber, visit_ends, step_back, step_aside, step_on}
 use Rattle.explorer.proofs.search.Search.unwind.Goals as goal
 use Rattle.explorer.proofs.search.Search.unwind.Goals.{In-Some, In-Ended, In-Next}
 
@@ -18,6 +21,10 @@ last_of c =
     let at = c.loop-visit.invariant.at in
     Path-pop c.args.flow.now c.loop-visit.self.finished c.loop-visit.self.table.entries.items c.pop.new.self.items c.in-Some.visit start at.state
     (subst (λ (x : List Visit). Path c.args.flow.now c.loop-visit.self.finished c.loop-visit.self.table.entries.items start x at.state) c.in-Some.ensures.items at.at.path)
+
+on_path_of : (c : In-Some) → OnPath c.loop-visit.self.table.entries.items c.pop.new.self.items c.in-Some.visit.stored
+on_path_of c =
+    OnPath-pop c.loop-visit.self.table.entries.items c.pop.new.self.items c.loop-visit.self.path.items c.in-Some.visit c.in-Some.ensures.items c.loop-visit.invariant.at.on_path
 
 ended_of : (c : In-Ended) → (state : State) × HasNumber c.args.flow.now c.loop-visit.self.finished c.loop-visit.self.table.entries.items c.resume.new.table.entries.items state c.in-Ended.best × StoredAt c.loop-visit.self.table.entries.items c.in-Some.visit.stored state
 ended_of c =
@@ -31,7 +38,7 @@ ended_of c =
     )
 
 pub overflow_add-number : goal.overflow_add-number
-overflow_add-number c = let most = (ended_of c).1.most in omega (arith, most, c.requires.room, c.loop-visit.invariant.room)
+overflow_add-number c = let most = (ended_of c).1.most in omega (arith, most, c.requires.room, c.loop-visit.invariant.explored)
 
 pub finish-requires : goal.finish-requires
 finish-requires c =
@@ -44,10 +51,10 @@ loop-visit-preserved c =
     let last = last_of (goal.at.loop-visit-preserved c).In-Some in
     let resumed : IsResumed c.args.flow.now c.loop-visit.self.table.entries.items c.in-Some.visit c.loop-visit.number (Ended c.in-Ended.best) c.resume.new.table.entries.items c.resume.new.current = rw c.in-Ended.is at c.in_ok-best.ensures.resumed in
     let back = step_back c.args.flow.now c.loop-visit.self.finished c.loop-visit.self.table.entries.items c.resume.new.table.entries.items c.finish.new.self.entries.items start c.pop.new.self.items c.in-Some.visit at.state c.loop-visit.number c.in-Ended.best
-    at.at.fine last at.within at.most resumed c.finish.ensures in
+    at.at.fine last (on_path_of (goal.at.loop-visit-preserved c).In-Some) at.within at.most resumed c.finish.ensures in
     record {
-      at = record { state = back.state; at = record { fine = back.fine; path = back.before }; within = back.within; some = omega arith; most = back.most };
-      room = omega (arith, c.in-Some.ensures.len);
+      at = record { state = back.state; at = record { fine = back.fine; path = back.before }; on_path = back.on_path; within = back.within; some = omega arith; most = back.most };
+      explored = omega (arith, c.in-Some.ensures.len);
     }
 
 pub returns-in-Next-clause-goes : goal.returns-in-Next-clause-goes
@@ -56,11 +63,29 @@ returns-in-Next-clause-goes c =
     let last = last_of (goal.at.returns-in-Next-clause-goes c).In-Some in
     let resumed : GoesOn c.args.flow.now c.loop-visit.self.table.entries.items c.in-Some.visit c.loop-visit.number c.in-Next.rest c.in-Next.at c.resume.new.table.entries.items c.resume.new.current = rw c.in-Next.is at c.in_ok-best.ensures.resumed in
     let on = step_on c.args.flow.now c.loop-visit.self.finished c.loop-visit.self.table.entries.items c.resume.new.table.entries.items start c.pop.new.self.items c.in-Some.visit at.state c.loop-visit.number c.in-Next.rest c.in-Next.at c.resume.new.current c.push.new.self.items
-    at.at.fine last at.within at.most resumed c.in-Ok.ensures.items in
-    record { at = record { fine = on.fine; path = on.before }; stored_at = on.stored; ready = on.ready }
+    at.at.fine last (on_path_of (goal.at.returns-in-Next-clause-goes c).In-Some) at.within at.most resumed c.in-Ok.ensures.items in
+    record { at = record { fine = on.fine; path = on.before }; on_path = on.on_path; stored_at = on.stored; ready = on.ready }
 
 pub returns-clause-goes : goal.returns-clause-goes
 returns-clause-goes c =
     let at = c.loop-visit.invariant.at in
     let same = Path-none c.args.flow.now c.loop-visit.self.finished c.loop-visit.self.table.entries.items c.loop-visit.self.path.items start at.state (omega (arith, c.in_default.ensures.cases.0, c.loop-visit.self.path.ok.0)) at.at.path in
     (subst (λ x. Within c.args.flow.now x c.loop-visit.number) same at.within, at.some, at.most)
+
+pub returns-in_err-best-clause-stops : goal.returns-in_err-best-clause-stops
+returns-in_err-best-clause-stops c =
+    let p = c.args.flow.now in
+    let m = c.loop-visit.self.finished in
+    let table = c.loop-visit.self.table.entries.items in
+    let path = c.pop.new.self.items in
+    let visit = c.in-Some.visit in
+    let n = c.loop-visit.number in
+    let at = c.loop-visit.invariant.at in
+    let b = c.resume.new.current in
+    let w = (goal.at.returns-in_err-best-clause-stops c).In-Some in
+    let next : Visit = record { pending = None; best = max visit.best n; stored = visit.stored } in
+    let refusal = c.in_err-best.field-0.0 in
+    let given = err_from_is_err_and c.from_residual.result c.from_residual.ensures.1 in
+    let walk = step_aside p m table start path visit at.state n b (last_of w) at.within at.most c.in_err-best.ensures.pending in
+    let on_path = OnPath-push table path (path ++ next ∷ []) next refl (on_path_of w) in
+    rw (given.1, given.2) (turned_back p m table (path ++ next ∷ []) b refusal.0 refusal.1 walk on_path c.in_err-best.ensures.refused)

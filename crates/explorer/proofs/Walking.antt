@@ -1,0 +1,128 @@
+-- What the path says of walks from the start.
+use Rattle.std.proofs.Common.{◌≡◌, ◌+◌, ◌∷◌, ◌++◌, [], ℕ, zero, suc, Some, None, Option, List, length, map, arith, refl, sym, ap, ◌∙◌, subst, inl, inr, ◌⊎◌, slice_get}
+use Rattle.std.specs.Option.{option_map}
+use Rattle.std.proofs.lemmas.Option.{slice_get-map}
+use Rattle.isa_model.specs.declared.instructions.Insn.{Insn}
+use Rattle.isa_model.specs.Instructions.{Program, fetch}
+use Rattle.stack_state.specs.declared.states.State.{State}
+use Rattle.stack_state.specs.Starts.{start}
+use Rattle.control_flow.specs.Flows.{IsJoin}
+use Rattle.transfer.specs.declared.Ways.{Ways}
+use Rattle.transfer.specs.declared.Ways.TheVariants as ways
+use Rattle.transfer.specs.Exact.{Makes}
+use Rattle.explorer.specs.declared.refusals.Refusal.{Refusal}
+use Rattle.explorer.specs.declared.refusals.Refusal.TheVariants.{Flow, Step, Repeats, TooLong, Memory}
+use Rattle.explorer.specs.declared.table.Stored.{Stored}
+use Rattle.explorer.specs.declared.search.Visit.{Visit}
+use Rattle.explorer.specs.Walks.{IsAmong, StepsTo, Leads, ComesBack}
+use Rattle.explorer.specs.Refused.{StopsAt}
+use Rattle.explorer.specs.Table.{StoredAt, IsRepeated}
+use Rattle.explorer.specs.Search.{Waiting, Path, TurnsBack, zeros_from, with_first, places_of, OnPath}
+
+-- ---- steps
+
+pub steps_by : (p q : Program) (s a b t : State) (w v : Ways) → p ≡ q → ((i : Insn) → fetch q s.slot ≡ Some i → Makes q s i w a b) → (i : Insn) → fetch p s.slot ≡ Some i
+    → w ≡ v → IsAmong v a b t → StepsTo p s t
+steps_by p q s a b t w v same makes i here is among =
+    let there : fetch q s.slot ≡ Some i = subst (λ x. fetch x s.slot ≡ Some i) same here in
+    record {
+      insn = i;
+      here = here;
+      taken = w;
+      first = a;
+      other = b;
+      makes = subst (λ x. Makes x s i w a b) (sym same) (makes i there);
+      among = subst (λ x. IsAmong x a b t) (sym is) among;
+    }
+
+-- ---- the path is a walk
+
+pub Path-leads : (p : Program) (m : ℕ) (table : List Stored) (path : List Visit) (a b : State) → Path p m table a path b → Leads p (length path) a b
+unfolding Path Leads
+Path-leads p m table [] a b h = h
+Path-leads p m table (visit ∷ path) a b h = (h.0, h.1.steps, Path-leads p m table path h.0 b h.2)
+
+-- ---- places
+
+abbrev IsIn : ℕ → List ℕ → Type 0
+IsIn k [] = ⊥
+IsIn k (x ∷ xs) = (k ≡ x) ⊎ IsIn k xs
+
+zeros_from-in : (k : ℕ) (ns : List ℕ) (i j : ℕ) → j ≡ k + i → slice_get ns i ≡ Some 0 → IsIn j (zeros_from k ns)
+zeros_from-in k [] i j at e = absurd (cc)
+zeros_from-in k (zero ∷ ns) zero j at e = inl (omega (arith, at))
+zeros_from-in k (zero ∷ ns) (suc i) j at e = inr (zeros_from-in (suc k) ns i j (omega (arith, at)) e)
+zeros_from-in k (suc n ∷ ns) zero j at e = absurd (cc)
+zeros_from-in k (suc n ∷ ns) (suc i) j at e = zeros_from-in (suc k) ns i j (omega (arith, at)) e
+
+in_first : (o : Option ℕ) (k : ℕ) (xs : List ℕ) → IsIn k (with_first o xs) → (o ≡ Some k) ⊎ IsIn k xs
+in_first None k xs h = inr h
+in_first (Some i) k xs (inl e) = inl (ap Some (sym e))
+in_first (Some i) k xs (inr h) = inr h
+
+-- two states that are stored at one place are one
+same_stored : (table : List Stored) (k n : ℕ) (s t : State) → StoredAt table (Some k) s → slice_get table k ≡ Some (record { state = t; number = n }) → t ≡ s
+same_stored table k n s t at e =
+    let q : ◌≡◌ {A = Stored} (record { state = t; number = n }) (record { state = s; number = at.0 }) = cc (e, at.1) in
+    ap (λ (x : Stored). x.state) q
+
+-- a walk goes through the state
+record Through (p : Program) (a t b : State) : Type 0 where
+  before : ℕ
+  between : ℕ
+  leads : Leads p before a t
+  leads_on : Leads p (suc between) t b
+
+starts_here : (p : Program) (n : ℕ) (a t b : State) → t ≡ a → Leads p (suc n) a b → Through p a t b
+unfolding Leads
+starts_here p n a t b e h = record { before = 0; between = n; leads = e; leads_on = subst (λ x. Leads p (suc n) x b) (sym e) h }
+
+one_more : (p : Program) (a c t b : State) → StepsTo p a c → Through p c t b → Through p a t b
+unfolding Leads
+one_more p a c t b step h = record { before = suc h.before; between = h.between; leads = (c, step, h.leads); leads_on = h.leads_on }
+
+through : (p : Program) (m : ℕ) (table : List Stored) (path : List Visit) (a b : State) (k : ℕ) (t : State) → Path p m table a path b → IsIn k (places_of path)
+    → slice_get table k ≡ Some (record { state = t; number = 0 }) → Through p a t b
+unfolding Path Leads
+through p m table [] a b k t h member e = absurd member
+through p m table (visit ∷ path) a b k t h member e =
+    let child = h.0 in
+    let waiting = h.1 in
+    elim (in_first visit.stored k (places_of path) member) [
+      | inl is ↦
+          starts_here p (length path) a t b (same_stored table k 0 a t (subst (λ x. StoredAt table x a) is waiting.stored) e)
+          (child, waiting.steps, Path-leads p m table path child b h.2)
+      | inr rest ↦ one_more p a child t b waiting.steps (through p m table path child b k t h.2 rest e)
+    ]
+
+-- ---- why a path is turned back
+
+unfinished_in : (table : List Stored) (path : List Visit) (k : ℕ) (t : State) → OnPath table path None → slice_get table k ≡ Some (record { state = t; number = 0 }) → IsIn k (places_of path)
+unfolding OnPath
+unfinished_in table path k t on e =
+    let f : Stored → ℕ = λ x. x.number in
+    let found : slice_get (map f table) k ≡ Some 0 = slice_get-map f table k ∙ ap (option_map f) e in
+    subst (IsIn k) on (zeros_from-in 0 (map f table) k k (omega arith) found)
+
+pub turned_back : (p : Program) (m : ℕ) (table : List Stored) (path : List Visit) (b : State) (e : Refusal) (slot : ℕ) → Path p m table start path b → OnPath table path None
+    → TurnsBack p table b e slot → StopsAt p e slot
+turned_back p m table path b (Flow e) slot h on back = absurd back
+turned_back p m table path b (Step e) slot h on back = absurd back
+turned_back p m table path b Repeats slot h on back =
+    let repeated = back.1 in
+    let walk = through p m table path start b repeated.index repeated.entry h (unfinished_in table path repeated.index repeated.entry on repeated.stored) repeated.stored in
+    record {
+      join = subst (λ n. IsJoin p n) (sym back.2) back.0;
+      first = repeated.entry;
+      again = b;
+      before = walk.before;
+      between = walk.between;
+      leads = walk.leads;
+      leads_back = walk.leads_on;
+      first_slot = repeated.same_slot ∙ sym back.2;
+      again_slot = sym back.2;
+      covers = repeated.covers p;
+      covered = repeated.covered p;
+    }
+turned_back p m table path b TooLong slot h on back = absurd back
+turned_back p m table path b Memory slot h on back = back
