@@ -1,9 +1,9 @@
 -- Columns, a byte at a time.
-use Rattle.std.proofs.Common.{◌≡◌, ◌≢◌, ℕ, ◌+◌, ◌<◌, false, true, not, List, [], ◌∷◌, ◌++◌, take, length, get_or, refl, ap, ◌∙◌, arith, ne_eqb, eq-eqb}
-use Rattle.std.specs.Prelude.{Bool, ◌==◌, reverse}
+use Rattle.std.proofs.Common.{◌≡◌, ◌≢◌, ℕ, ◌+◌, ◌<◌, false, true, List, [], ◌∷◌, take, length, get_or, refl, ap, ◌∙◌, arith, ne_eqb, eq-eqb}
+use Rattle.std.specs.Prelude.{◌==◌, reverse}
 use Rattle.std.specs.List.{prefix_len}
 use Rattle.std.proofs.lemmas.List.{take_more, reverse-append}
-use Rattle.assembler.specs.Lexing.{is_line_byte}
+use Rattle.lexer.specs.Lexing.{is_line_byte}
 use Rattle.assembler.specs.Positions.{column_behind}
 
 one_more : (xs : List ℕ) (i : ℕ) → i < length xs → column_behind (take (i + 1) xs) ≡ prefix_len is_line_byte (get_or xs i 0 ∷ reverse (take i xs)) + 1

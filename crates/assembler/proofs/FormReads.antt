@@ -1,6 +1,6 @@
 -- The tokens of each form are read as its instruction.
-use Rattle.std.proofs.Common.{◌≡◌, ℕ, suc, ◌+◌, ◌<◌, ◌^◌, List, [], ◌∷◌, ◌++◌, length, refl, ap, ◌∙◌, arith, lt-ltb, le-leb, eq-eqb}
-use Rattle.std.specs.Prelude.{Option, Some, None, Bool, true, false, ◌==◌, nat_lt, nat_le, ℤ, pos, negsuc}
+use Rattle.std.proofs.Common.{◌≡◌, ℕ, suc, ◌<◌, ◌^◌, List, [], ◌∷◌, ◌++◌, refl, ap, arith, lt-ltb, le-leb, eq-eqb}
+use Rattle.std.specs.Prelude.{Option, Some, None, true, false, ◌==◌, nat_lt, nat_le, ℤ, pos, negsuc}
 use Rattle.std.specs.Int.{w16, w32}
 use Rattle.std.specs.Int.RustNames.{FitsSigned}
 use Rattle.isa_model.specs.declared.registers.Reg.{Reg}
@@ -21,23 +21,21 @@ use Rattle.isa_model.specs.declared.instructions.Comparison.{Comparison}
 use Rattle.isa_model.specs.declared.instructions.Comparison.TheVariants as comparison
 use Rattle.isa_model.specs.declared.instructions.Operand.{Operand}
 use Rattle.isa_model.specs.declared.instructions.Operand.TheVariants.{Constant, Register}
-use Rattle.isa_model.specs.declared.instructions.Place.{Place}
-use Rattle.isa_model.specs.declared.instructions.Cond.{Cond}
 use Rattle.isa_model.specs.declared.instructions.Insn.{Insn}
 use Rattle.isa_model.specs.declared.instructions.Insn.TheVariants.{Alu, Neg, MovSx, ByteSwap, LoadNumber, Load, LoadSx, StoreConstant, Store, Atomic, Exchange, CompareExchange, Jump, JumpLong, JumpIf, CallLocal, Exit}
 use Rattle.isa_model.specs.Registers.{reg_number}
 use Rattle.isa_model.specs.Sizes.{width_bits, width_size}
 use Rattle.isa_model.specs.Spelling.{OperandFits}
 use Rattle.isa_model.specs.CanonicalText.{extension_width}
-use Rattle.assembler.specs.declared.tokens.Word.{Word}
-use Rattle.assembler.specs.declared.tokens.Word.TheVariants as word
-use Rattle.assembler.specs.declared.tokens.Sign.{Sign}
-use Rattle.assembler.specs.declared.tokens.Sign.TheVariants as sign
-use Rattle.assembler.specs.declared.tokens.Token.{Token}
-use Rattle.assembler.specs.declared.tokens.Token.TheVariants.{Named, Number, Signed}
+use Rattle.lexer.specs.declared.tokens.Word.{Word}
+use Rattle.lexer.specs.declared.tokens.Word.TheVariants as word
+use Rattle.lexer.specs.declared.tokens.Sign.{Sign}
+use Rattle.lexer.specs.declared.tokens.Sign.TheVariants as sign
+use Rattle.lexer.specs.declared.tokens.Token.{Token}
+use Rattle.lexer.specs.declared.tokens.Token.TheVariants.{Named, Number, Signed}
 use Rattle.assembler.specs.declared.readings.Reading.{Reading}
-use Rattle.assembler.specs.Statements.{◌>>=◌, unnamed, arithmetic, op_of, atomic_op_of, comparison_of, width_of, signed_within, same_width, same_register, statement_of, plain_statement}
-use Rattle.assembler.proofs.TokenReads.{op_sign, atomic_sign, comparison_sign, extended_from, signed_tokens, constant_tokens, operand_tokens, place_tokens}
+use Rattle.assembler.specs.Statements.{◌>>=◌, unnamed, arithmetic, atomic_op_of, comparison_of, width_of, statement_of, plain_statement}
+use Rattle.assembler.proofs.TokenReads.{op_sign, atomic_sign, comparison_sign, extended_from, signed_tokens, constant_tokens, operand_tokens}
 
 -- ---- single tokens and numbers
 

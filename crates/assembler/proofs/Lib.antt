@@ -5,3 +5,4 @@ pub mod FormReads
 pub mod LineReads
 pub mod TextReads
 pub mod ColumnCounts
+pub mod LabelLookups

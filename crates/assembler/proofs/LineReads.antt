@@ -1,13 +1,13 @@
 -- Lines of canonical text are read as their instructions.
-use Rattle.std.proofs.Common.{◌≡◌, ℕ, suc, ◌+◌, ◌<◌, ◌^◌, List, [], ◌∷◌, ◌++◌, length, drop, refl, sym, ap, ◌∙◌, arith, append_assoc, append-nil, lit<, ne_eqb}
-use Rattle.std.specs.Prelude.{codes, Option, Some, None, Bool, true, false, ◌==◌, ℤ, pos, negsuc, if◌then◌else◌}
+use Rattle.std.proofs.Common.{◌≡◌, ℕ, ◌<◌, ◌^◌, List, [], ◌∷◌, ◌++◌, length, drop, refl, ap, ◌∙◌, arith, append_assoc, lit<, ne_eqb}
+use Rattle.std.specs.Prelude.{codes, Option, Some, Bool, true, false, ◌==◌, ℤ, pos, negsuc, if◌then◌else◌}
 use Rattle.std.specs.Int.{w16, w32}
 use Rattle.std.specs.Int.RustNames.{FitsSigned}
 use Rattle.std.specs.Fmt.{digits, signed_decimal}
 use Rattle.isa_model.specs.declared.registers.Reg.{Reg}
 use Rattle.isa_model.specs.declared.registers.Reg.TheVariants.{R0}
 use Rattle.isa_model.specs.declared.sizes.Width.{Width}
-use Rattle.isa_model.specs.declared.sizes.Width.TheVariants.{Low32, Full64}
+use Rattle.isa_model.specs.declared.sizes.Width.TheVariants.{Full64}
 use Rattle.isa_model.specs.declared.sizes.Size.{Size}
 use Rattle.isa_model.specs.declared.sizes.Narrow.{Narrow}
 use Rattle.isa_model.specs.declared.sizes.Extension.{Extension}
@@ -15,23 +15,21 @@ use Rattle.isa_model.specs.declared.sizes.Span.{Span}
 use Rattle.isa_model.specs.declared.sizes.ByteOrder.{ByteOrder}
 use Rattle.isa_model.specs.declared.instructions.AluOp.{AluOp}
 use Rattle.isa_model.specs.declared.instructions.AtomicOp.{AtomicOp}
-use Rattle.isa_model.specs.declared.instructions.Comparison.{Comparison}
 use Rattle.isa_model.specs.declared.instructions.Operand.{Operand}
-use Rattle.isa_model.specs.declared.instructions.Operand.TheVariants.{Constant}
 use Rattle.isa_model.specs.declared.instructions.Place.{Place}
 use Rattle.isa_model.specs.declared.instructions.Cond.{Cond}
 use Rattle.isa_model.specs.declared.instructions.Insn.{Insn}
 use Rattle.isa_model.specs.declared.instructions.Insn.TheVariants.{Alu, Neg, MovSx, ByteSwap, LoadNumber, Load, LoadSx, StoreConstant, Store, Atomic, Exchange, CompareExchange, Jump, JumpLong, JumpIf, CallLocal, Exit}
 use Rattle.isa_model.specs.Sizes.{width_size}
 use Rattle.isa_model.specs.Spelling.{OperandFits, InsnFits}
-use Rattle.isa_model.specs.CanonicalText.{reg_text, size_text, narrow_text, extension_text, extension_width, span_text, order_text, width_text, op_text, comparison_text, atomic_text, fetch_text, operand_text, offset_text, place_text, distance_text, line_of}
-use Rattle.assembler.specs.declared.tokens.Word.{Word}
-use Rattle.assembler.specs.declared.tokens.Word.TheVariants as word
-use Rattle.assembler.specs.declared.tokens.Sign.TheVariants as sign
-use Rattle.assembler.specs.declared.tokens.Token.{Token}
-use Rattle.assembler.specs.declared.tokens.Token.TheVariants.{Named, Number, Signed}
-use Rattle.assembler.specs.Statements.{◌>>=◌, keep, plain_statement, statement_of}
-use Rattle.assembler.specs.Assembling.{Progress, has_room, added, assembled}
+use Rattle.isa_model.specs.CanonicalText.{reg_text, size_text, narrow_text, extension_text, extension_width, span_text, order_text, width_text, op_text, comparison_text, atomic_text, fetch_text, operand_text, offset_text, distance_text, line_of}
+use Rattle.lexer.specs.declared.tokens.Word.{Word}
+use Rattle.lexer.specs.declared.tokens.Word.TheVariants as word
+use Rattle.lexer.specs.declared.tokens.Sign.TheVariants as sign
+use Rattle.lexer.specs.declared.tokens.Token.{Token}
+use Rattle.lexer.specs.declared.tokens.Token.TheVariants.{Named, Number, Signed}
+use Rattle.assembler.specs.Statements.{◌>>=◌, keep, plain_statement}
+use Rattle.assembler.specs.Assembling.{has_room, added, assembled}
 use Rattle.assembler.proofs.DigitRuns.{hexadecimal-read}
 use Rattle.assembler.proofs.TokenReads.{draft, reg-read, size-read, narrow-read, extension-read, extended_from, swap-read, fetch-read, exchange-read, compare-read, op-read, op_sign, atomic-read, atomic_sign, comparison-read, comparison_sign, negative-read, signed_tokens, constant_tokens, operand_tokens, place_tokens, distance-read, near-read, constant-read, operand-read, place-read}
 use Rattle.assembler.proofs.FormReads.{alu-form, neg-form, extension-form, swap-form, wide-form, memory_tokens, load-form, extending-form, store-form, constant-form, lock-form, exchange_tokens, fetch-form, exchange-form, compare-form, jump-form, long-form, call-form, exit-form, condition-form}

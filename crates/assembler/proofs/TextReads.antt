@@ -1,12 +1,12 @@
 -- The canonical text of an image is read as its instructions.
-use Rattle.std.proofs.Common.{◌≡◌, ℕ, ◌+◌, ◌≤◌, false, true, not, List, [], ◌∷◌, ◌++◌, length, Option, Some, refl, sym, ap, ◌∙◌, subst, arith, append_assoc, append-nil, length-append, le-ltb}
+use Rattle.std.proofs.Common.{◌≡◌, ◌+◌, ◌≤◌, false, true, not, List, [], ◌∷◌, ◌++◌, length, Some, refl, sym, ap, ◌∙◌, arith, append_assoc, append-nil, length-append, le-ltb}
 use Rattle.isa_model.specs.declared.map_defs.MapDef.{MapDef}
 use Rattle.isa_model.specs.declared.instructions.Insn.{Insn}
 use Rattle.isa_model.specs.Instructions.{Program, slots}
 use Rattle.isa_model.specs.CanonicalText.{canonical_text, code_text, rows_text, instructions}
 use Rattle.image.specs.Images.{IsImage, code_alone}
 use Rattle.image.specs.CodeLaws.{AllFit, AllFit-instructions, slots-append, slots-instructions}
-use Rattle.assembler.specs.Assembling.{Progress, assembled, has_room, start}
+use Rattle.assembler.specs.Assembling.{assembled, has_room, start}
 use Rattle.assembler.proofs.TokenReads.{draft}
 use Rattle.assembler.proofs.LineReads.{line-read}
 

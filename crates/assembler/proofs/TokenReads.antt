@@ -1,6 +1,6 @@
 -- Tokens of canonical text are read.
-use Rattle.std.proofs.Common.{◌≡◌, ℕ, suc, ◌+◌, ◌<◌, ◌^◌, List, [], ◌∷◌, ◌++◌, length, refl, ap, ◌∙◌, arith, append_assoc, lit<, ne_eqb}
-use Rattle.std.specs.Prelude.{codes, Option, Some, None, Bool, true, false, slice_index, ◌==◌, decimal, ℤ, pos, negsuc}
+use Rattle.std.proofs.Common.{◌≡◌, ℕ, suc, ◌<◌, ◌^◌, List, [], ◌∷◌, ◌++◌, length, refl, ap, ◌∙◌, arith, append_assoc}
+use Rattle.std.specs.Prelude.{codes, Some, false, slice_index, ◌==◌, decimal, ℤ, pos, negsuc}
 use Rattle.std.specs.Int.{w16, w32}
 use Rattle.std.specs.Int.RustNames.{FitsSigned}
 use Rattle.isa_model.specs.declared.registers.Reg.{Reg}
@@ -29,13 +29,13 @@ use Rattle.isa_model.specs.declared.instructions.Place.{Place}
 use Rattle.isa_model.specs.declared.instructions.Insn.{Insn}
 use Rattle.isa_model.specs.Spelling.{OperandFits}
 use Rattle.isa_model.specs.CanonicalText.{reg_text, size_text, narrow_text, extension_text, span_text, order_text, width_text, op_text, comparison_text, atomic_text, fetch_text, operand_text, offset_text, distance_text}
-use Rattle.assembler.specs.declared.tokens.Word.TheVariants as word
-use Rattle.assembler.specs.declared.tokens.Sign.{Sign}
-use Rattle.assembler.specs.declared.tokens.Sign.TheVariants as sign
-use Rattle.assembler.specs.declared.tokens.Token.{Token}
-use Rattle.assembler.specs.declared.tokens.Token.TheVariants.{Named, Number, Signed}
-use Rattle.assembler.specs.declared.tokens.Lexeme.TheVariants.{Solid}
-use Rattle.assembler.specs.Lexing.{is_word_byte, lexeme_at}
+use Rattle.lexer.specs.declared.tokens.Word.TheVariants as word
+use Rattle.lexer.specs.declared.tokens.Sign.{Sign}
+use Rattle.lexer.specs.declared.tokens.Sign.TheVariants as sign
+use Rattle.lexer.specs.declared.tokens.Token.{Token}
+use Rattle.lexer.specs.declared.tokens.Token.TheVariants.{Named, Number, Signed}
+use Rattle.lexer.specs.declared.tokens.Lexeme.TheVariants.{Solid}
+use Rattle.lexer.specs.Lexing.{is_word_byte, lexeme_at}
 use Rattle.assembler.specs.Assembling.{Progress, assembled}
 use Rattle.assembler.proofs.Turns.{token}
 use Rattle.assembler.proofs.DigitRuns.{decimal-read, no-equals}

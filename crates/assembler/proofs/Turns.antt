@@ -1,11 +1,11 @@
 -- Turns of the loop over a text.
-use Rattle.std.proofs.Common.{◌≡◌, ℕ, zero, suc, ◌+◌, ◌<◌, ◌-◌, List, [], ◌∷◌, ◌++◌, length, drop, refl, ap, ◌∙◌, sym, arith, Option, Some, None, Result, Ok, Err}
+use Rattle.std.proofs.Common.{◌≡◌, ℕ, zero, suc, ◌<◌, ◌-◌, List, [], ◌∷◌, ◌++◌, length, drop, refl, ap, ◌∙◌, sym, arith, Option, Some, None, Ok, Err}
 use Rattle.assembler.specs.declared.errors.AsmErrorKind.TheVariants.{Memory}
 use Rattle.assembler.specs.declared.refusals.Refusal.{Refusal}
-use Rattle.assembler.specs.declared.tokens.Token.{Token}
-use Rattle.assembler.specs.declared.tokens.Lexeme.{Lexeme}
-use Rattle.assembler.specs.declared.tokens.Lexeme.TheVariants.{Solid}
-use Rattle.assembler.specs.Lexing.{lexeme_at}
+use Rattle.lexer.specs.declared.tokens.Token.{Token}
+use Rattle.lexer.specs.declared.tokens.Lexeme.{Lexeme}
+use Rattle.lexer.specs.declared.tokens.Lexeme.TheVariants.{Solid}
+use Rattle.lexer.specs.Lexing.{lexeme_at}
 use Rattle.assembler.specs.Statements.{◌>>=◌}
 use Rattle.assembler.specs.Assembling.{Progress, assembled, accept, closed, Keeps}
 

@@ -5,10 +5,10 @@ use Rattle.isa_model.specs.Instructions.{Program, slots}
 use Rattle.assembler.specs.declared.errors.AsmErrorKind.{AsmErrorKind}
 use Rattle.assembler.specs.declared.errors.AsmErrorKind.TheVariants.{Memory, SlotCount}
 use Rattle.assembler.specs.declared.refusals.Refusal.{Refusal}
-use Rattle.assembler.specs.declared.tokens.Token.{Token}
-use Rattle.assembler.specs.declared.tokens.Lexeme.{Lexeme}
-use Rattle.assembler.specs.declared.tokens.Lexeme.TheVariants.{Blank, End, Solid}
-use Rattle.assembler.specs.Lexing.{lexeme_at}
+use Rattle.lexer.specs.declared.tokens.Token.{Token}
+use Rattle.lexer.specs.declared.tokens.Lexeme.{Lexeme}
+use Rattle.lexer.specs.declared.tokens.Lexeme.TheVariants.{Blank, End, Solid}
+use Rattle.lexer.specs.Lexing.{lexeme_at}
 use Rattle.assembler.specs.Statements.{◌>>=◌, keep, plain_statement}
 
 -- the tokens of the statement so far, and the instructions before it

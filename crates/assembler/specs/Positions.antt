@@ -1,7 +1,7 @@
 -- Lines and columns, counted from 1; columns in bytes.
 use Rattle.std.specs.Prelude.{ℕ, ◌+◌, ◌==◌, List, count_by, reverse}
 use Rattle.std.specs.List.{prefix_len}
-use Rattle.assembler.specs.Lexing.{is_line_byte}
+use Rattle.lexer.specs.Lexing.{is_line_byte}
 
 -- the line of the byte that stands behind these
 abbrev pub line_behind : List ℕ → ℕ

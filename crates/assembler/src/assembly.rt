@@ -11,10 +11,10 @@ ghost use Rattle.assembler.specs.Drafts.{Finishes};
 use super::code::Code;
 use super::draft::{Draft, Span};
 use super::errors::{AsmError, AsmErrorKind};
-use super::lexer::lexeme_at;
 use super::names::resolve;
 use super::refusals::{Refusal, located};
 use image::{Image, ImageError};
+use lexer::lexeme_at;
 use std::alloc::Global;
 
 // What stands behind so many bytes, and at least one.

@@ -12,9 +12,9 @@ use super::parts::{
     as_narrow, expect_at, extension_of, is_full, number_at, op_of, sign_at, token_at, word_at,
 };
 use super::readings::Reading;
-use super::tokens::{Sign, Token, Word};
 use super::wrong::Wrong;
 use isa_model::{AluOp, AtomicOp, ByteOrder, Insn, Place, Reg, Span, Width};
+use lexer::{Sign, Token, Word};
 
 /// The instruction of a statement without a name that ends before the index.
 pub fn plain(insn: Insn, tokens: &[Token], end: usize) -> Result<Reading, Wrong>

@@ -3,7 +3,7 @@
 ghost use Rattle.std.specs.Prelude.{◌≡◌, ◌≤◌, ◌++◌, ◌∷◌, [], length, Some, OnOk, bytes_eq, true, slice_get};
 ghost use Rattle.indexmap.specs.IndexMap.{get_by};
 ghost use Rattle.isa_model.specs.Instructions.{slots};
-ghost use Rattle.assembler.specs.declared.tokens.Lexeme.TheVariants as Lexeme;
+ghost use Rattle.lexer.specs.declared.tokens.Lexeme.TheVariants as Lexeme;
 ghost use Rattle.assembler.specs.Statements.{unnamed};
 ghost use Rattle.assembler.specs.Assembling.{Progress, added, closed, accept, start, Keeps};
 
@@ -14,9 +14,9 @@ use super::operands::is_name;
 use super::readings::Reading;
 use super::refusals::Refusal;
 use super::statements::statement_of;
-use super::tokens::{Lexeme, Sign, Token};
 use super::wrong::Wrong;
 use indexmap::IndexMap;
+use lexer::{Lexeme, Sign, Token};
 use std::alloc::Global;
 
 /// Where a token begins in the text, and its bytes.

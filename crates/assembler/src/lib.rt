@@ -10,19 +10,14 @@ mod assignments;
 mod code;
 mod draft;
 pub mod errors;
-mod lexer;
 mod names;
-mod numbers;
 mod operands;
 mod parts;
 mod readings;
 mod refusals;
-mod signs;
 mod statements;
 #[cfg(test)]
 mod tests;
-mod tokens;
-mod words;
 mod wrong;
 
 pub use assembly::assemble;

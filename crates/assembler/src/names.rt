@@ -1,8 +1,10 @@
 //! Names of places of the code: where they are defined, and where they are used.
 
-ghost use Rattle.std.specs.Prelude.{◌≡◌, ◌+◌, ◌-◌, ◌≤◌, [], length, Some, None, Ok, IfOk, IfSome, OnOk, bytes_eq, pos};
+ghost use Rattle.std.specs.Prelude.{◌≡◌, ◌+◌, ◌-◌, ◌≤◌, [], length, map, Some, Ok, IfOk, IfSome, OnOk, bytes_eq, pos};
 ghost use Rattle.indexmap.specs.IndexMap.{get_by};
+ghost use Rattle.std.specs.Map.{lookup};
 ghost use Rattle.assembler.specs.Naming.{with_distance, distance, Jumps};
+ghost use Rattle.assembler.specs.Labels.{label_of, with_label, Makes};
 
 use super::errors::AsmErrorKind;
 use super::refusals::Refusal;
@@ -21,17 +23,25 @@ pub struct Use<'a> {
     pub offset: usize,
 }
 
+// The slot that the name stands for.
+#[tactic(auto, using(crate::proofs::LabelLookups::lookup_label))]
+fn slot_of(labels: &Labels<'_>, name: &[u8]) -> Option<u16>
+    ensures { result ≡ lookup (bytes_eq name.now) (map label_of labels.now.entries) }
+{
+    labels.get(name).copied()
+}
+
 /// Defines a name, unless it is defined.
 pub fn define<'a>(labels: &mut Labels<'a>, name: &'a [u8], slot: u16) -> Result<(), AsmErrorKind>
-    ensures fresh { OnOk result (get_by (λ k. bytes_eq name.now k.now) labels.old ≡ None) }
+    ensures exact { Makes (λ _. map label_of labels.new.entries) result (with_label (map label_of labels.old.entries) name.now slot) }
     ensures stands { OnOk result (get_by (λ k. bytes_eq name.now k.now) labels.new ≡ Some slot) }
 {
-    if labels.contains_key(name) {
-        return Err(AsmErrorKind::DefinedTwice);
-    }
-    match labels.insert(name, slot) {
-        Ok(_) => Ok(()),
-        Err(_) => Err(AsmErrorKind::Memory),
+    match slot_of(labels, name) {
+        Some(_) => Err(AsmErrorKind::DefinedTwice),
+        None => match labels.insert(name, slot) {
+            Ok(_) => Ok(()),
+            Err(_) => Err(AsmErrorKind::Memory),
+        },
     }
 }
 

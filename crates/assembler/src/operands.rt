@@ -5,9 +5,9 @@ ghost use Rattle.std.specs.Result.{result_ok};
 ghost use Rattle.assembler.specs.Statements.{signed_within, wide_within, signed_at, number_index, constant_at, same_width, same_register, as_register, register_at, again_at, operand_token, operand_at, place_at, memory_at, argument_at, is_name, target_token, target_at};
 
 use super::parts::{expect_at, is_minus, number_at, sign_at, token_at, word_at};
-use super::tokens::{Sign, Token, Word};
 use super::wrong::Wrong;
 use isa_model::{Operand, Place, Reg, Width};
+use lexer::{Sign, Token, Word};
 
 // A number for `imm`; `at` is the token at which it begins.
 fn imm_within(minus: bool, n: u128, at: usize) -> Result<i32, Wrong>

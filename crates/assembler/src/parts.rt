@@ -4,9 +4,9 @@ ghost use Rattle.std.specs.Prelude.{◌≡◌, slice_get};
 ghost use Rattle.std.specs.Result.{result_ok};
 ghost use Rattle.assembler.specs.Statements.{sign_at, number_at, word_at, is_sign, expect_at, is_minus, op_of, atomic_op_of, comparison_of, width_of, extension_of, as_size, as_narrow, is_full};
 
-use super::tokens::{Sign, Token, Word};
 use super::wrong::Wrong;
 use isa_model::{AluOp, AtomicOp, Comparison, Extension, Narrow, Size, Width};
+use lexer::{Sign, Token, Word};
 
 /// The token at the index.
 pub fn token_at(tokens: &[Token], i: usize) -> Result<Token, Wrong>

@@ -13,9 +13,9 @@ use super::parts::{
     as_size, atomic_op_of, comparison_of, expect_at, sign_at, token_at, width_of, word_at,
 };
 use super::readings::Reading;
-use super::tokens::{Sign, Token, Word};
 use super::wrong::Wrong;
 use isa_model::{Cond, Insn, Place, Reg, Size, Width};
+use lexer::{Sign, Token, Word};
 
 // What is stored behind `*(size *)(place) =`.
 fn stored_token(size: Size, place: Place, tokens: &[Token], token: Token) -> Result<Reading, Wrong>

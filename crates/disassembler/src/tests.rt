@@ -1,324 +1,134 @@
-//! Texts that were worked out by hand from the forms, and outputs that fail.
-
-ghost use Rattle.std.specs.Prelude.{Some};
+//! A text that was worked out by hand from the forms, and outputs that fail.
 
 use super::disassemble;
-use super::lines::{line_of, line_of_row};
+use super::lines::line_of_row;
 use image::Image;
-use isa_model::{
-    AluOp, AtomicOp, ByteOrder, Comparison, Cond, Extension, Insn, MapDef, MapKind, Narrow,
-    Operand, Place, Reg, Size, Span, Width,
-};
-use std::io;
-use std::io::{ErrorKind, Write};
-use std::process::Abort;
+use isa_model::{MapDef, MapKind};
+use std::alloc::Global;
+use std::io::ErrorKind;
 use std::test::Fail;
 
-fn check(rt: &impl Abort, rows: &[(Insn, &str)]) {
-    for (insn, text) in rows {
-        assert_eq!(rt; line_of(insn).as_str(), *text);
+/// Each slot, its first byte first, and its line; the second half of a wide load has none.
+const FORMS: [(u64, &str); 58] = [
+    (0xb701_0000_10000000, "r1 = 16\n"),
+    (0xbf2a_0000_00000000, "r10 = r2\n"),
+    (0x0f21_0000_00000000, "r1 += r2\n"),
+    (0x1701_0000_00000080, "r1 -= -2147483648\n"),
+    (0x2c21_0000_00000000, "w1 *= w2\n"),
+    (0x3f21_0000_00000000, "r1 /= r2\n"),
+    (0x3701_0100_07000000, "r1 s/= 7\n"),
+    (0x4701_0000_01000000, "r1 |= 1\n"),
+    (0x5701_0000_01000000, "r1 &= 1\n"),
+    (0x6701_0000_03000000, "r1 <<= 3\n"),
+    (0x7f21_0000_00000000, "r1 >>= r2\n"),
+    (0xc403_0000_05000000, "w3 s>>= 5\n"),
+    (0x9701_0000_07000000, "r1 %= 7\n"),
+    (0x9c20_0100_00000000, "w0 s%= w2\n"),
+    (0xaf01_0000_00000000, "r1 ^= r0\n"),
+    (0x8407_0000_00000000, "w7 = -w7\n"),
+    (0xbfa9_0800_00000000, "r9 = (s8)r10\n"),
+    (0xbc21_1000_00000000, "w1 = (s16)w2\n"),
+    (0xbf21_2000_00000000, "r1 = (s32)r2\n"),
+    (0xd401_0000_10000000, "r1 = le16 r1\n"),
+    (0xdc0a_0000_20000000, "r10 = be32 r10\n"),
+    (0xd709_0000_40000000, "r9 = bswap64 r9\n"),
+    (0x1800_0000_08070605, "r0 = 0x102030405060708 ll\n"),
+    (0x0000_0000_04030201, ""),
+    (0x1804_0000_00000000, "r4 = 0x0 ll\n"),
+    (0x0000_0000_00000000, ""),
+    (0x1804_0000_10325476, "r4 = 0xfedcba9876543210 ll\n"),
+    (0x0000_0000_98badcfe, ""),
+    (0x7121_0000_00000000, "r1 = *(u8 *)(r2 + 0)\n"),
+    (0x8921_0080_00000000, "r1 = *(s16 *)(r2 - 32768)\n"),
+    (0x6a03_0100_00000000, "*(u16 *)(r3 + 1) = 0\n"),
+    (0x7a0a_f8ff_ffffffff, "*(u64 *)(r10 - 8) = -1\n"),
+    (0x6303_ff7f_00000000, "*(u32 *)(r3 + 32767) = r0\n"),
+    (0xdb2a_f8ff_00000000, "lock *(u64 *)(r10 - 8) += r2\n"),
+    (0xc32a_f8ff_40000000, "lock *(u32 *)(r10 - 8) |= r2\n"),
+    (0xdb2a_f8ff_50000000, "lock *(u64 *)(r10 - 8) &= r2\n"),
+    (
+        0xdb2a_f8ff_51000000,
+        "r2 = atomic_fetch_and_64(r10 - 8, r2)\n",
+    ),
+    (
+        0xc32a_f8ff_a1000000,
+        "r2 = atomic_fetch_xor_32(r10 - 8, r2)\n",
+    ),
+    (0xdb2a_f8ff_e1000000, "r2 = xchg_64(r10 - 8, r2)\n"),
+    (0xc31a_f8ff_f1000000, "r0 = cmpxchg_32(r10 - 8, r0, r1)\n"),
+    (0x0500_0000_00000000, "goto +0\n"),
+    (0x0600_0000_00000080, "gotol -2147483648\n"),
+    (0x1501_feff_07000000, "if r1 == 7 goto -2\n"),
+    (0x5501_feff_07000000, "if r1 != 7 goto -2\n"),
+    (0x2501_feff_07000000, "if r1 > 7 goto -2\n"),
+    (0x3501_feff_07000000, "if r1 >= 7 goto -2\n"),
+    (0xa501_feff_07000000, "if r1 < 7 goto -2\n"),
+    (0xb501_feff_07000000, "if r1 <= 7 goto -2\n"),
+    (0x4d21_0080_00000000, "if r1 & r2 goto -32768\n"),
+    (0x6501_feff_07000000, "if r1 s> 7 goto -2\n"),
+    (0x7601_0300_fcffffff, "if w1 s>= -4 goto +3\n"),
+    (0xc501_feff_07000000, "if r1 s< 7 goto -2\n"),
+    (0xd501_feff_07000000, "if r1 s<= 7 goto -2\n"),
+    (0x8510_0000_01000000, "call pc+1\n"),
+    (0x8510_0000_f7ffffff, "call pc-9\n"),
+    (0x7961_0800_00000000, "r1 = *(u64 *)(r6 + 8)\n"),
+    (0xb408_0000_ffffffff, "w8 = -1\n"),
+    (0x9500_0000_00000000, "exit\n"),
+];
+
+/// The image of all those slots.
+fn image(alloc: Global) -> Result<Image, Fail> {
+    let mut bytes = Vec::new(alloc);
+    bytes.extend_from_slice(b"XBP1\0\0\x3a\0")?;
+    for (slot, _) in FORMS {
+        bytes.extend_from_slice(&slot.to_be_bytes())?;
     }
-}
-
-fn place(base: Reg, offset: i16) -> Place {
-    Place { base, offset }
+    Ok(Image::parse(alloc, &bytes)?)
 }
 
 #[test]
-fn arithmetic(rt: HostRuntime) {
-    let two = Operand::Register(Reg::R2);
-    let five = Operand::Constant(5);
-    let least = Operand::Constant(i32::MIN);
-    check(
-        &rt,
-        &[
-            (
-                Insn::Alu(Width::Full64, AluOp::Mov, Reg::R10, two),
-                "r10 = r2\n",
-            ),
-            (
-                Insn::Alu(Width::Low32, AluOp::Arsh, Reg::R3, five),
-                "w3 s>>= 5\n",
-            ),
-            (
-                Insn::Alu(Width::Low32, AluOp::SignedMod, Reg::R0, two),
-                "w0 s%= w2\n",
-            ),
-            (
-                Insn::Alu(Width::Full64, AluOp::Sub, Reg::R1, least),
-                "r1 -= -2147483648\n",
-            ),
-            (Insn::Neg(Width::Low32, Reg::R7), "w7 = -w7\n"),
-        ],
-    );
-}
-
-#[test]
-fn signs_of_assignments(rt: HostRuntime) {
-    let rows = [
-        (AluOp::Add, "r1 += r2\n"),
-        (AluOp::Sub, "r1 -= r2\n"),
-        (AluOp::Mul, "r1 *= r2\n"),
-        (AluOp::Div, "r1 /= r2\n"),
-        (AluOp::SignedDiv, "r1 s/= r2\n"),
-        (AluOp::Or, "r1 |= r2\n"),
-        (AluOp::And, "r1 &= r2\n"),
-        (AluOp::Lsh, "r1 <<= r2\n"),
-        (AluOp::Rsh, "r1 >>= r2\n"),
-        (AluOp::Mod, "r1 %= r2\n"),
-        (AluOp::Xor, "r1 ^= r2\n"),
-        (AluOp::Arsh, "r1 s>>= r2\n"),
-    ];
-    for (op, text) in rows {
-        let insn = Insn::Alu(Width::Full64, op, Reg::R1, Operand::Register(Reg::R2));
-        assert_eq!(rt; line_of(&insn).as_str(), text);
+fn each_form(rt: HostRuntime) -> Result<(), Fail> {
+    let mut out = Vec::new(rt.alloc());
+    disassemble(&image(rt.alloc())?, &mut out)?;
+    let mut rest = out.as_slice();
+    for (_, line) in FORMS {
+        let (front, behind) = rest.split_at(line.len().min(rest.len()));
+        assert_eq!(rt; front, line.as_bytes(), "{line}");
+        rest = behind;
     }
+    assert_eq!(rt; rest.len(), 0);
+    Ok(())
 }
 
+/// An output that is full has what came before, and its failure is handed on.
 #[test]
-fn signs_of_tests(rt: HostRuntime) {
-    let rows = [
-        (Comparison::Equal, "if r1 == 7 goto -2\n"),
-        (Comparison::NotEqual, "if r1 != 7 goto -2\n"),
-        (Comparison::Greater, "if r1 > 7 goto -2\n"),
-        (Comparison::GreaterEqual, "if r1 >= 7 goto -2\n"),
-        (Comparison::Less, "if r1 < 7 goto -2\n"),
-        (Comparison::LessEqual, "if r1 <= 7 goto -2\n"),
-        (Comparison::SignedGreater, "if r1 s> 7 goto -2\n"),
-        (Comparison::SignedLess, "if r1 s< 7 goto -2\n"),
-        (Comparison::SignedLessEqual, "if r1 s<= 7 goto -2\n"),
-    ];
-    for (comparison, text) in rows {
-        let condition = Cond {
-            width: Width::Full64,
-            comparison,
-            register: Reg::R1,
-            operand: Operand::Constant(7),
-        };
-        let insn = Insn::JumpIf(condition, -2);
-        assert_eq!(rt; line_of(&insn).as_str(), text);
+fn full_outputs(rt: HostRuntime) -> Result<(), Fail> {
+    let image = image(rt.alloc())?;
+    let mut text = Vec::new(rt.alloc());
+    disassemble(&image, &mut text)?;
+    for room in 0..99usize {
+        let mut taken = [0; 99];
+        let mut out = &mut taken[..room];
+        let kind = disassemble(&image, &mut out).map_err(|error| error.kind());
+        assert_eq!(rt; kind, Err(ErrorKind::WriteZero), "{room} bytes");
+        assert_eq!(rt; Some(&taken[..room]), text.get(..room), "{room} bytes");
     }
+    Ok(())
 }
 
-#[test]
-fn extensions_and_swaps(rt: HostRuntime) {
-    check(
-        &rt,
-        &[
-            (
-                Insn::MovSx(Extension::Full32, Reg::R1, Reg::R2),
-                "r1 = (s32)r2\n",
-            ),
-            (
-                Insn::MovSx(Extension::Low16, Reg::R1, Reg::R2),
-                "w1 = (s16)w2\n",
-            ),
-            (
-                Insn::ByteSwap(ByteOrder::Little, Span::B16, Reg::R1),
-                "r1 = le16 r1\n",
-            ),
-            (
-                Insn::ByteSwap(ByteOrder::Big, Span::B32, Reg::R10),
-                "r10 = be32 r10\n",
-            ),
-            (
-                Insn::ByteSwap(ByteOrder::Swap, Span::B64, Reg::R9),
-                "r9 = bswap64 r9\n",
-            ),
-        ],
-    );
-}
-
-#[test]
-fn wide_numbers(rt: HostRuntime) {
-    check(
-        &rt,
-        &[
-            (
-                Insn::LoadNumber(Reg::R0, 0x0102_0304_0506_0708),
-                "r0 = 0x102030405060708 ll\n",
-            ),
-            (Insn::LoadNumber(Reg::R0, 0), "r0 = 0x0 ll\n"),
-            (
-                Insn::LoadNumber(Reg::R4, 0xfedc_ba98_7654_3210),
-                "r4 = 0xfedcba9876543210 ll\n",
-            ),
-            (
-                Insn::LoadNumber(Reg::R4, 1 << 63),
-                "r4 = 0x8000000000000000 ll\n",
-            ),
-            (Insn::LoadNumber(Reg::R10, 16), "r10 = 0x10 ll\n"),
-        ],
-    );
-}
-
-#[test]
-fn loads_and_stores(rt: HostRuntime) {
-    check(
-        &rt,
-        &[
-            (
-                Insn::Load(Size::U8, Reg::R1, place(Reg::R2, 0)),
-                "r1 = *(u8 *)(r2 + 0)\n",
-            ),
-            (
-                Insn::LoadSx(Narrow::S16, Reg::R1, place(Reg::R2, i16::MIN)),
-                "r1 = *(s16 *)(r2 - 32768)\n",
-            ),
-            (
-                Insn::StoreConstant(Size::U64, place(Reg::R10, -8), -1),
-                "*(u64 *)(r10 - 8) = -1\n",
-            ),
-            (
-                Insn::Store(Size::U32, place(Reg::R3, i16::MAX), Reg::R0),
-                "*(u32 *)(r3 + 32767) = r0\n",
-            ),
-        ],
-    );
-}
-
-#[test]
-fn atomics(rt: HostRuntime) {
-    let below = place(Reg::R10, -8);
-    check(
-        &rt,
-        &[
-            (
-                Insn::Atomic(Width::Full64, AtomicOp::Add, false, below, Reg::R2),
-                "lock *(u64 *)(r10 - 8) += r2\n",
-            ),
-            (
-                Insn::Atomic(Width::Low32, AtomicOp::Or, false, below, Reg::R2),
-                "lock *(u32 *)(r10 - 8) |= r2\n",
-            ),
-            (
-                Insn::Atomic(Width::Full64, AtomicOp::And, true, below, Reg::R2),
-                "r2 = atomic_fetch_and_64(r10 - 8, r2)\n",
-            ),
-            (
-                Insn::Atomic(Width::Low32, AtomicOp::Xor, true, below, Reg::R2),
-                "r2 = atomic_fetch_xor_32(r10 - 8, r2)\n",
-            ),
-            (
-                Insn::Exchange(Width::Full64, below, Reg::R2),
-                "r2 = xchg_64(r10 - 8, r2)\n",
-            ),
-            (
-                Insn::CompareExchange(Width::Low32, below, Reg::R1),
-                "r0 = cmpxchg_32(r10 - 8, r0, r1)\n",
-            ),
-        ],
-    );
-}
-
-#[test]
-fn jumps_and_calls(rt: HostRuntime) {
-    let over = Cond {
-        width: Width::Low32,
-        comparison: Comparison::SignedGreaterEqual,
-        register: Reg::R1,
-        operand: Operand::Constant(-4),
-    };
-    let bits = Cond {
-        width: Width::Full64,
-        comparison: Comparison::AnyBit,
-        register: Reg::R1,
-        operand: Operand::Register(Reg::R2),
-    };
-    check(
-        &rt,
-        &[
-            (Insn::Jump(0), "goto +0\n"),
-            (Insn::JumpLong(i32::MIN), "gotol -2147483648\n"),
-            (Insn::JumpIf(over, 3), "if w1 s>= -4 goto +3\n"),
-            (Insn::JumpIf(bits, i16::MIN), "if r1 & r2 goto -32768\n"),
-            (Insn::CallLocal(1), "call pc+1\n"),
-            (Insn::CallLocal(-9), "call pc-9\n"),
-            (Insn::Exit, "exit\n"),
-        ],
-    );
-}
-
+/// No image has map rows yet.
 #[test]
 fn map_rows(rt: HostRuntime) {
-    let hash = MapDef {
-        kind: MapKind::Hash,
-        key_size: 64,
-        value_size: 4096,
-        entries: 65536,
-    };
-    let array = MapDef {
-        kind: MapKind::Array,
-        key_size: 4,
-        value_size: 16,
-        entries: 1,
-    };
-    assert_eq!(rt; line_of_row(&hash).as_str(), "map hash 64 4096 65536\n");
-    assert_eq!(rt; line_of_row(&array).as_str(), "map array 4 16 1\n");
-}
-
-// Takes two bytes at a call, fails once after `room` bytes, and would then take more.
-#[derive(Drop)]
-struct Writer {
-    taken: Vec<u8>,
-    room: usize,
-    failed: bool,
-}
-
-impl Write for Writer {
-    ghost contents = { λ w. Some w.taken.items };
-
-    fn write(&mut self, buf: &[u8]) -> io::Result<usize> {
-        let mut count = buf.len().min(2);
-        if !self.failed {
-            if self.room == 0 {
-                self.failed = true;
-                return Err(io::Error::from(ErrorKind::BrokenPipe));
-            }
-            count = count.min(self.room);
-            self.room -= count;
-        }
-        self.taken.extend_from_slice(&buf[..count])?;
-        Ok(count)
-    }
-
-    fn flush(&mut self) -> io::Result<()> {
-        Ok(())
-    }
-}
-
-// r1 = 16; r0 = 2 ll; goto -2
-const CODE: [u8; 40] = *b"XBP1\x00\x00\x04\x00\
-    \xb7\x01\x00\x00\x10\x00\x00\x00\
-    \x18\x00\x00\x00\x02\x00\x00\x00\x00\x00\x00\x00\x00\x00\x00\x00\
-    \x05\x00\xfe\xff\x00\x00\x00\x00";
-
-const TEXT: &str = "r1 = 16\nr0 = 0x2 ll\ngoto -2\n";
-
-#[test]
-fn whole_programs(rt: HostRuntime) -> Result<(), Fail> {
-    let image = Image::parse(rt.alloc(), &CODE)?;
-    let mut out = Vec::new(rt.alloc());
-    disassemble(&image, &mut out)?;
-    assert_eq!(rt; out.as_slice(), TEXT.as_bytes());
-    Ok(())
-}
-
-// An output that fails after each byte has what came before, and the failure is handed on.
-#[test]
-fn failing_outputs(rt: HostRuntime) -> Result<(), Fail> {
-    let image = Image::parse(rt.alloc(), &CODE)?;
-    for room in 0..28usize {
-        let mut out = Writer {
-            taken: Vec::new(rt.alloc()),
-            room,
-            failed: false,
+    for (kind, key_size, value_size, entries, text) in [
+        (MapKind::Hash, 64, 4096, 65536, "map hash 64 4096 65536\n"),
+        (MapKind::Array, 4, 16, 1, "map array 4 16 1\n"),
+    ] {
+        let row = MapDef {
+            kind,
+            key_size,
+            value_size,
+            entries,
         };
-        match disassemble(&image, &mut out) {
-            Ok(()) => return Err(Fail::from("no failure")),
-            Err(error) => assert_eq!(rt; error.kind(), ErrorKind::BrokenPipe),
-        }
-        assert_eq!(rt; Some(out.taken.as_slice()), TEXT.as_bytes().get(..room));
+        assert_eq!(rt; line_of_row(&row).as_str(), text);
     }
-    Ok(())
 }

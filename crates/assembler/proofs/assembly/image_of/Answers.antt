@@ -1,6 +1,6 @@
-use Rattle.std.proofs.Common.{◌≡◌, [], Some, ap, ◌∙◌, sym, subst}
+use Rattle.std.proofs.Common.{◌≡◌, [], ap, ◌∙◌, sym, subst}
 use Rattle.isa_model.specs.Instructions.{Program}
-use Rattle.isa_model.specs.CanonicalText.{canonical_text, instructions}
+use Rattle.isa_model.specs.CanonicalText.{instructions}
 use Rattle.image.specs.Images.{IsImage, code_alone}
 use Rattle.assembler.specs.Assembling.{assembled, start, Makes}
 use Rattle.assembler.proofs.TokenReads.{draft}

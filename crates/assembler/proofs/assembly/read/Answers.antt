@@ -1,5 +1,5 @@
 use Rattle.std.proofs.Common.{◌≡◌, ◌<◌, ap, ◌∙◌, sym, length, rules, Some}
-use Rattle.assembler.specs.Lexing.{lexeme_at}
+use Rattle.lexer.specs.Lexing.{lexeme_at}
 use Rattle.assembler.specs.Assembling.{Progress, assembled}
 use Rattle.assembler.proofs.Turns.{turn-keeps, turn-failed, end-keeps, end-failed}
 use Rattle.assembler.proofs.assembly.read.Goals as goal
@@ -8,7 +8,7 @@ pub loop-rest-preserved : goal.loop-rest-preserved
 loop-rest-preserved c = λ final e.
     let before : Progress = record { tokens = c.loop-rest.draft.tokens.items; insns = c.loop-rest.draft.code.insns.items } in
     let next : Progress = record { tokens = c.accept.new.self.tokens.items; insns = c.accept.new.self.code.insns.items } in
-    let at : lexeme_at c.loop-rest.rest.now ≡ Some (c.in-Ok.found.0, c.in-Ok.found.1) = sym c.in-Ok.ensures in
+    let at : lexeme_at c.loop-rest.rest.now ≡ Some (c.in-Ok.found.0, c.in-Ok.found.1) = sym c.in-Ok.ensures.found in
     let more : 0 < length c.loop-rest.rest.now = search rules in
     let held = c.loop-rest.invariant final e in
     let went = turn-keeps c.loop-rest.rest.now before next c.accept.new.self.uses.items c.in-Ok.found.0 c.in-Ok.found.1 final more at (c.in-Ok-accept.ensures held.1) held.0 in
@@ -18,7 +18,7 @@ pub returns-in-Err-accept : goal.returns-in-Err-accept
 returns-in-Err-accept c = λ final e.
     let before : Progress = record { tokens = c.loop-rest.draft.tokens.items; insns = c.loop-rest.draft.code.insns.items } in
     let next : Progress = record { tokens = c.accept.new.self.tokens.items; insns = c.accept.new.self.code.insns.items } in
-    let at : lexeme_at c.loop-rest.rest.now ≡ Some (c.in-Ok.found.0, c.in-Ok.found.1) = sym c.in-Ok.ensures in
+    let at : lexeme_at c.loop-rest.rest.now ≡ Some (c.in-Ok.found.0, c.in-Ok.found.1) = sym c.in-Ok.ensures.found in
     let more : 0 < length c.loop-rest.rest.now = search rules in
     let held = c.loop-rest.invariant final e in
     turn-failed c.in-Err-accept.refusal c.loop-rest.rest.now before next c.accept.new.self.uses.items c.in-Ok.found.0 c.in-Ok.found.1 final more at (c.in-Err-accept.ensures held.1) held.0

@@ -1,10 +1,10 @@
 -- Signs, the longest that fits.
 use Rattle.std.specs.Prelude.{ℕ, ◌+◌, ◌==◌, ◌&&◌, if◌then◌else◌, Option, Some, None}
-use Rattle.assembler.specs.declared.tokens.Sign.{Sign}
-use Rattle.assembler.specs.declared.tokens.Sign.TheVariants as sign
-use Rattle.assembler.specs.declared.tokens.Token.TheVariants.{Signed}
-use Rattle.assembler.specs.declared.tokens.Lexeme.{Lexeme}
-use Rattle.assembler.specs.declared.tokens.Lexeme.TheVariants.{Solid}
+use Rattle.lexer.specs.declared.tokens.Sign.{Sign}
+use Rattle.lexer.specs.declared.tokens.Sign.TheVariants as sign
+use Rattle.lexer.specs.declared.tokens.Token.TheVariants.{Signed}
+use Rattle.lexer.specs.declared.tokens.Lexeme.{Lexeme}
+use Rattle.lexer.specs.declared.tokens.Lexeme.TheVariants.{Solid}
 
 abbrev pub found : Sign → ℕ → Option (Lexeme × ℕ)
 found s n = Some (Solid (Signed s), n)

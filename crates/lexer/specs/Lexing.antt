@@ -2,11 +2,11 @@
 use Rattle.std.specs.Prelude.{ℕ, ◌+◌, ◌*◌, ◌^◌, ◌==◌, nat_lt, ◌&&◌, ◌||◌, not, Bool, if◌then◌else◌, List, [], ◌∷◌, take, drop, slice_index, Option, Some, None}
 use Rattle.std.specs.List.{prefix_len}
 use Rattle.std.specs.Char.{digit_value, is_digit}
-use Rattle.assembler.specs.declared.tokens.Token.TheVariants.{Named, Number}
-use Rattle.assembler.specs.declared.tokens.Lexeme.{Lexeme}
-use Rattle.assembler.specs.declared.tokens.Lexeme.TheVariants.{Blank, End, Solid}
-use Rattle.assembler.specs.Words.{word_of}
-use Rattle.assembler.specs.Signs.{sign_of, signed_sign}
+use Rattle.lexer.specs.declared.tokens.Token.TheVariants.{Named, Number}
+use Rattle.lexer.specs.declared.tokens.Lexeme.{Lexeme}
+use Rattle.lexer.specs.declared.tokens.Lexeme.TheVariants.{Blank, End, Solid}
+use Rattle.lexer.specs.Words.{word_of}
+use Rattle.lexer.specs.Signs.{sign_of, signed_sign}
 
 -- letters, digits and _
 abbrev pub is_word_byte : ℕ → Bool
@@ -35,6 +35,16 @@ number_at base skip bs = number_after base skip bs (prefix_len (λ c. is_digit c
 -- hexadecimal digits behind 0x, or decimal ones
 abbrev pub number_from : List ℕ → Option (Lexeme × ℕ)
 number_from bs = if (slice_index bs 0 == 48) && (slice_index bs 1 == 120) then number_at 16 2 bs else number_at 10 0 bs
+
+-- where a number with n digits behind the skipped bytes is none; `0x` without a digit is the number 0 with an x behind it
+abbrev pub number_fault : ℕ → ℕ → ℕ
+number_fault skip n = if n == 0 then 1 else skip + n
+
+abbrev pub number_fault_at : ℕ → ℕ → List ℕ → ℕ
+number_fault_at base skip bs = number_fault skip (prefix_len (λ c. is_digit c base) (drop skip bs))
+
+abbrev pub number_fault_from : List ℕ → ℕ
+number_fault_from bs = if (slice_index bs 0 == 48) && (slice_index bs 1 == 120) then number_fault_at 16 2 bs else number_fault_at 10 0 bs
 
 -- ---- words, blanks and signs
 
@@ -65,3 +75,7 @@ word_or_sign bs b =
 
 abbrev pub lexeme_at : List ℕ → Option (Lexeme × ℕ)
 lexeme_at bs = let b = slice_index bs 0 in if is_digit b 10 then number_from bs else word_or_sign bs b
+
+-- where no lexeme stands, the first byte that begins no token
+abbrev pub fault_at : List ℕ → ℕ
+fault_at bs = if is_digit (slice_index bs 0) 10 then number_fault_from bs else 0

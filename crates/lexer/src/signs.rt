@@ -1,9 +1,9 @@
 //! Signs, the longest that fits.
 
 ghost use Rattle.std.specs.Prelude.{◌≡◌, ◌+◌, ◌<◌, Some};
-ghost use Rattle.assembler.specs.declared.tokens.Lexeme.TheVariants as Lexeme;
-ghost use Rattle.assembler.specs.declared.tokens.Token.TheVariants as Token;
-ghost use Rattle.assembler.specs.Signs.{sign_of, signed_sign, with_equals, only_equals};
+ghost use Rattle.lexer.specs.declared.tokens.Lexeme.TheVariants as Lexeme;
+ghost use Rattle.lexer.specs.declared.tokens.Token.TheVariants as Token;
+ghost use Rattle.lexer.specs.Signs.{sign_of, signed_sign, with_equals, only_equals};
 
 use super::tokens::{Lexeme, Sign, Token};
 

@@ -1,8 +1,8 @@
 //! What stands at a place of the text.
 
-ghost use Rattle.std.specs.Prelude.{◌≡◌};
+ghost use Rattle.std.specs.Prelude.{◌≡◌, IfErr};
 ghost use Rattle.std.specs.Result.{result_ok};
-ghost use Rattle.assembler.specs.Lexing.{word_at, blank_or_sign, word_or_sign, lexeme_at};
+ghost use Rattle.lexer.specs.Lexing.{word_at, blank_or_sign, word_or_sign, lexeme_at, fault_at};
 
 use super::numbers::{byte_at, is_digit, is_word_byte, line_len, number_from, word_len};
 use super::signs::{sign_of, signed_sign};
@@ -49,7 +49,8 @@ fn word_or_sign(text: &[u8], b: u8) -> Option<(Lexeme, usize)>
 /// What stands at the text's front and its length: the longest that fits, and a sign that begins with `s` before a word.
 /// Else the place of the first byte that begins no token.
 pub fn lexeme_at(text: &[u8]) -> Result<(Lexeme, usize), usize>
-    ensures { result_ok result ≡ lexeme_at text.now }
+    ensures found { result_ok result ≡ lexeme_at text.now }
+    ensures fault { IfErr result (λ at. at ≡ fault_at text.now) }
 {
     let b = byte_at(text, 0);
     if is_digit(b, 10) {

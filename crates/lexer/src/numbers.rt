@@ -1,10 +1,10 @@
 //! Numbers and other runs of bytes.
 
-ghost use Rattle.std.specs.Prelude.{◌≡◌, ◌+◌, ◌<◌, ◌≤◌, ◌^◌, length, slice_index};
+ghost use Rattle.std.specs.Prelude.{◌≡◌, ◌+◌, ◌<◌, ◌≤◌, ◌^◌, length, slice_index, IfErr};
 ghost use Rattle.std.specs.List.{prefix_len};
 ghost use Rattle.std.specs.Char.{digit_value, is_digit};
 ghost use Rattle.std.specs.Result.{result_ok};
-ghost use Rattle.assembler.specs.Lexing.{is_word_byte, is_line_byte, add_digit, digits_number, number_after, number_at, number_from};
+ghost use Rattle.lexer.specs.Lexing.{is_word_byte, is_line_byte, add_digit, digits_number, number_after, number_at, number_from, number_fault, number_fault_at, number_fault_from};
 
 use super::tokens::{Lexeme, Token};
 
@@ -109,7 +109,8 @@ fn digits_number(digits: &[u8], base: u8) -> u128
 fn number_after(base: u8, skip: usize, text: &[u8], n: usize) -> Result<(Lexeme, usize), usize>
     requires within { skip + n ≤ length text.now }
     requires base { base ≤ 16 }
-    ensures { result_ok result ≡ number_after base skip text.now n }
+    ensures found { result_ok result ≡ number_after base skip text.now n }
+    ensures fault { IfErr result (λ at. at ≡ number_fault skip n) }
 {
     if n == 0 {
         // `0x` without a digit is the number 0 with an `x` behind it
@@ -126,14 +127,16 @@ fn number_after(base: u8, skip: usize, text: &[u8], n: usize) -> Result<(Lexeme,
 fn number_at(text: &[u8], skip: usize, base: u8) -> Result<(Lexeme, usize), usize>
     requires within { skip ≤ length text.now }
     requires base { base ≤ 16 }
-    ensures { result_ok result ≡ number_at base skip text.now }
+    ensures found { result_ok result ≡ number_at base skip text.now }
+    ensures fault { IfErr result (λ at. at ≡ number_fault_at base skip text.now) }
 {
     number_after(base, skip, text, digits_len(&text[skip..], base))
 }
 
 /// The number at the text's front, which begins with a digit.
 pub fn number_from(text: &[u8]) -> Result<(Lexeme, usize), usize>
-    ensures { result_ok result ≡ number_from text.now }
+    ensures found { result_ok result ≡ number_from text.now }
+    ensures fault { IfErr result (λ at. at ≡ number_fault_from text.now) }
 {
     if byte_at(text, 0) == b'0' && byte_at(text, 1) == b'x' {
         number_at(text, 2, 16)

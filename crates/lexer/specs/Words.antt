@@ -10,8 +10,8 @@ use Rattle.isa_model.specs.declared.sizes.Narrow.TheVariants.{S8, S16, S32}
 use Rattle.isa_model.specs.declared.sizes.Span.TheVariants.{B16, B32, B64}
 use Rattle.isa_model.specs.declared.sizes.ByteOrder.TheVariants.{Little, Big, Swap}
 use Rattle.isa_model.specs.declared.instructions.AtomicOp.TheVariants as atomic
-use Rattle.assembler.specs.declared.tokens.Word.{Word}
-use Rattle.assembler.specs.declared.tokens.Word.TheVariants as word
+use Rattle.lexer.specs.declared.tokens.Word.{Word}
+use Rattle.lexer.specs.declared.tokens.Word.TheVariants as word
 
 -- a register's digits, without leading zeros
 abbrev pub reg_of : List ℕ → Option Reg

@@ -1,0 +1,20 @@
+-- The names that stand for slots, in the order of their definitions.
+use Rattle.std.specs.Prelude.{◌≡◌, ◌⊎◌, ℕ, if◌then◌else◌, List, [], ◌∷◌, ◌++◌, is_some, Result, Ok, Err}
+use denote.Ref.{Bor}
+use Rattle.std.specs.Map.{lookup}
+use Rattle.std.specs.Str.{bytes_eq}
+use Rattle.assembler.specs.declared.errors.AsmErrorKind.{AsmErrorKind}
+use Rattle.assembler.specs.declared.errors.AsmErrorKind.TheVariants.{DefinedTwice, Memory}
+
+-- a name's bytes and its slot
+abbrev pub label_of : Bor (List ℕ) × ℕ → List ℕ × ℕ
+label_of label = (label.0.now, label.1)
+
+-- one more name, which stood for nothing before; the others stay
+abbrev pub with_label : List (List ℕ × ℕ) → List ℕ → ℕ → Result (List (List ℕ × ℕ)) AsmErrorKind
+with_label labels name slot = if is_some (lookup (bytes_eq name) labels) then Err DefinedTwice else Ok (labels ++ (name, slot) ∷ [])
+
+-- what is wanted was made, or it is refused so, or memory was wanting
+abbrev pub Makes : {A B : Type 0} → (A → B) → Result A AsmErrorKind → Result B AsmErrorKind → Type 0
+Makes view (Ok x) wanted = wanted ≡ Ok (view x)
+Makes view (Err kind) wanted = (kind ≡ Memory) ⊎ (wanted ≡ Err kind)

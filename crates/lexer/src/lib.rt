@@ -1,0 +1,16 @@
+//! The tokens of program text, of which docs/TEXT.md tells.
+//!
+//! A text begins with a word, a number, a sign, a blank, a comment or the end of a statement. `specs/Lexing.antt`
+//! defines which, and how long it is.
+#![tactic(auto)]
+
+pub mod lexemes;
+mod numbers;
+mod signs;
+#[cfg(test)]
+mod tests;
+pub mod tokens;
+mod words;
+
+pub use lexemes::lexeme_at;
+pub use tokens::{Lexeme, Sign, Token, Word};
