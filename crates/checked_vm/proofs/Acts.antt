@@ -8,7 +8,7 @@ use Rattle.isa_model.specs.States.{State}
 use Rattle.isa_model.specs.Calls.{enter, leave}
 use Rattle.isa_model.specs.Steps.{Next, target, calls, exits}
 use Rattle.checked_vm.specs.declared.core_state.Core.{Core}
-use Rattle.checked_vm.specs.Machine.{Performs, PerformsApart, PerformsIn}
+use Rattle.checked_vm.specs.Machine.{KeepsFrames, IsRunning, StaysRunning, Performs, PerformsApart, PerformsIn}
 
 pub performs_in : {A : Type 0} (slots : ℕ) (i j : Insn) (r : Result A TrapReason) (old : Core) (before : List ℕ) (new : Core) (after : List ℕ) → j ≡ i → Performs i r old before new after → PerformsIn slots j r old before new after
 performs_in slots i j (Ok done) old before new after e h = λ p clock count. rw e (h p clock)
@@ -25,3 +25,11 @@ calls_enter s p by slots to count leads few = rw (leads, count) (grind (arith, n
 -- an exit of an inner frame leaves it
 pub exits_leave : (s : State) → (length s.frames ≡ 1 → ⊥) → exits s ≡ Next (leave s)
 exits_leave s inner = grind (arith, nat_tests)
+
+-- a form that keeps the frames leaves the machine running
+pub stays_running : (old new : Core) → KeepsFrames old new → IsRunning old → StaysRunning old new
+stays_running old new kept running = record {
+  running = record { some = omega arith; few = omega arith; room = omega arith };
+  next_serial = omega arith;
+  clock_calls = kept.clock_calls;
+}

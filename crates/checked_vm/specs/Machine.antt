@@ -1,5 +1,5 @@
 -- What the checked machine's fields stand for.
-use Rattle.std.specs.Prelude.{◌≡◌, ℕ, ◌≤◌, List, [], length, Result, MatchResult, vec_len, vec_capacity}
+use Rattle.std.specs.Prelude.{◌≡◌, ℕ, ◌+◌, ◌≤◌, List, [], length, Result, MatchResult, vec_len, vec_capacity}
 use Rattle.isa_model.specs.declared.instructions.Insn.{Insn}
 use Rattle.isa_model.specs.declared.ends.TrapReason.{TrapReason}
 use Rattle.isa_model.specs.Instructions.{Program}
@@ -35,6 +35,12 @@ pub record IsRunning (core : Core) : Type 0 where
   pub some : 1 ≤ vec_len core.frames
   pub few : vec_len core.frames ≤ most_frames
   pub room : most_frames ≤ vec_capacity core.frames
+
+-- after a step the machine is still running; it has used one serial at most, and has not asked the clock
+pub record StaysRunning (old new : Core) : Type 0 where
+  pub running : IsRunning new
+  pub next_serial : new.next_serial ≤ old.next_serial + 1
+  pub clock_calls : new.clock_calls ≡ old.clock_calls
 
 -- what a form did, its registers set: it went on to the next state, or it trapped and changed nothing
 abbrev pub Performs : {A : Type 0} → Insn → Result A TrapReason → Core → List ℕ → Core → List ℕ → Type 0

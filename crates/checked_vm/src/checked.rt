@@ -52,6 +52,7 @@ impl Checked {
         ensures { IfOk result (λ machine. machine
             ≡ record { program = image; contents = starting_contents image.maps }) }
     {
+        // its clause says that this is an image, so that it has no map rows
         let _slots = image.slots();
         let core = Core::new(alloc)?;
         Ok(Checked { image, core })

@@ -1,21 +1,10 @@
 //! Comparisons of values, pointers included.
 
 ghost use Rattle.std.specs.Prelude.{◌≡◌, ◌<◌, ◌^◌};
-ghost use Rattle.isa_model.specs.Numbers.{unsigned};
 ghost use Rattle.isa_model.specs.Pointers.{packet_order, pointer_order, compared, null_test, compared_constant};
 
-use isa_model::numbers::compare;
+use isa_model::numbers::{compare, unsigned};
 use isa_model::{Comparison, Region, TrapReason, Value, Width};
-
-/// A constant as the number of the width that it stands for.
-pub fn constant(width: Width, k: i32) -> u64
-    ensures { result ≡ unsigned width k }
-{
-    match width {
-        Width::Low32 => u64::from(k.cast_unsigned()),
-        Width::Full64 => i64::from(k).cast_unsigned(),
-    }
-}
 
 /// A packet offset against the packet's length, in the order of the operands.
 fn packet_order(comparison: Comparison, a: i64, b: i64) -> Result<bool, TrapReason>
@@ -78,7 +67,7 @@ pub fn compared_constant(
     ensures { result ≡ compared_constant comparison width value k }
 {
     match value {
-        Value::Num(n) => Ok(compare(comparison, width, n, constant(width, k))),
+        Value::Num(n) => Ok(compare(comparison, width, n, unsigned(width, k))),
         Value::Ptr(region, _) => {
             if k == 0 {
                 null_test(comparison, width, region)

@@ -17,6 +17,7 @@ pub const MOST_FRAMES: usize = 8;
 /// A run's state, the packet and the maps aside.
 #[derive(Drop)]
 pub struct Core {
+    /// Where the next instruction begins.
     pub slot: usize,
     /// r0 to r10.
     pub regs: [Value; 11],
@@ -25,7 +26,9 @@ pub struct Core {
     /// The interface and the queue that the packet came in by.
     pub interface: u32,
     pub queue: u32,
+    /// The serial of the next call frame. None is used twice in a run.
     pub next_serial: u64,
+    /// How often the run asked the clock.
     pub clock_calls: u64,
 }
 
@@ -91,12 +94,14 @@ impl Core {
         self.clock_calls = 0;
     }
 
+    /// What a register holds.
     pub fn value(&self, r: Reg) -> Value
         ensures { result ≡ value_at self.now.regs (reg_number r) }
     {
         self.regs[r.number()]
     }
 
+    /// Sets a register, r10 too: whether it may be written is tested before.
     pub fn set(&mut self, r: Reg, value: Value)
         ensures { self.new ≡ record self.old { regs = slice_set self.old.regs (reg_number r) value } }
     {

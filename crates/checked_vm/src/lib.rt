@@ -1,6 +1,9 @@
 //! A machine with tagged values: it runs any program, and stops at the first undefined use with its reason.
 //!
-//! `checked` has the machine; the other modules have one function for each definition of the meaning.
+//! `checked` is the machine that callers see. Under it stand whole runs (`runs`), single steps with the tests before
+//! them (`steps`), one function for each form of instruction (`forms`), what these do to memory (`memory`,
+//! `atomics`), and the machine's registers and call frames (`core_state`). `values`, `comparisons`, `cells` and
+//! `places` compute on values alone. Each function answers what the definition of its name in `isa_model` says.
 #![tactic(auto)]
 
 mod atomics;
@@ -13,6 +16,9 @@ mod memory;
 mod places;
 mod runs;
 mod steps;
+mod values;
+
+pub use checked::{Checked, VmError};
+
 #[cfg(test)]
 mod tests;
-mod values;

@@ -5,7 +5,7 @@ ghost use Rattle.isa_model.specs.Instructions.{Program};
 ghost use Rattle.isa_model.specs.Calls.{most_frames};
 ghost use Rattle.isa_model.specs.Steps.{step};
 ghost use Rattle.isa_model.specs.Runs.{progress, turn_of, left, turn};
-ghost use Rattle.checked_vm.specs.Machine.{state_of, IsRunning};
+ghost use Rattle.checked_vm.specs.Machine.{state_of, IsRunning, StaysRunning};
 ghost use Rattle.checked_vm.specs.Outcomes.{IsStep};
 
 use crate::core_state::Core;
@@ -18,9 +18,7 @@ impl Core {
     fn step(&mut self, insns: &[Option<Insn>], packet: &mut [u8]) -> Stepped
         requires running { IsRunning self.old }
         requires serial { self.old.next_serial < 2 ^ 63 }
-        ensures running { IsRunning self.new }
-        ensures serial { self.new.next_serial ≤ self.old.next_serial + 1 }
-        ensures clock { self.new.clock_calls ≡ self.old.clock_calls }
+        ensures stays { StaysRunning self.old self.new }
         ensures step { (p : Program) (clock : ℕ → ℕ) → p.insns ≡ insns.now →
             IsStep (step p clock (state_of self.old packet.old [])) result (state_of self.old packet.old []) (state_of self.new packet.new []) }
     {

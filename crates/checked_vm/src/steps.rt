@@ -4,15 +4,14 @@ ghost use Rattle.std.specs.Prelude.{◌≡◌, ◌≢◌, ◌+◌, ◌<◌, ◌�
 ghost use Rattle.std.specs.List.{list_any};
 ghost use Rattle.isa_model.specs.declared.instructions.Insn.{Insn};
 ghost use Rattle.isa_model.specs.Registers.{reg_number};
-ghost use Rattle.isa_model.specs.Instructions.{Program, operand_reads, reads, writes, is_frame_pointer};
+ghost use Rattle.isa_model.specs.Instructions.{Program, operand_reads, reads};
 ghost use Rattle.isa_model.specs.States.{value_at};
 ghost use Rattle.isa_model.specs.Steps.{is_unset, act, performed};
-ghost use Rattle.checked_vm.specs.Machine.{state_of, IsRunning, PerformsIn};
+ghost use Rattle.checked_vm.specs.Machine.{state_of, IsRunning, StaysRunning, PerformsIn};
 ghost use Rattle.checked_vm.specs.Outcomes.{IsStep};
 
 use crate::core_state::{Core, MOST_FRAMES};
-use crate::forms::jumps::destination;
-use isa_model::{AluOp, Insn, Operand, Reg, TrapReason, Value};
+use isa_model::{AluOp, Insn, Operand, Reg, TrapReason, Value, destination};
 
 /// What a step came to.
 #[derive(Clone, Copy, PartialEq, Eq, Debug)]
@@ -21,24 +20,6 @@ pub enum Stepped {
     /// The last exit, with r0.
     Ended(u64),
     Stopped(TrapReason),
-}
-
-/// Whether an instruction writes r10.
-fn writes_frame_pointer(insn: &Insn) -> bool
-    ensures { result ≡ is_frame_pointer (writes insn.now) }
-{
-    matches!(
-        insn,
-        Insn::Alu(_, _, Reg::R10, _)
-            | Insn::Neg(_, Reg::R10)
-            | Insn::MovSx(_, Reg::R10, _)
-            | Insn::ByteSwap(_, _, Reg::R10)
-            | Insn::LoadNumber(Reg::R10, _)
-            | Insn::Load(_, Reg::R10, _)
-            | Insn::LoadSx(_, Reg::R10, _)
-            | Insn::Atomic(_, _, true, _, Reg::R10)
-            | Insn::Exchange(_, _, Reg::R10)
-    )
 }
 
 impl Core {
@@ -92,9 +73,7 @@ impl Core {
         requires other { insn.now ≢ Insn.Exit }
         requires slot { self.old.slot + 2 < 2 ^ 63 }
         requires serial { self.old.next_serial < 2 ^ 63 }
-        ensures running { IsRunning self.new }
-        ensures serial { self.new.next_serial ≤ self.old.next_serial + 1 }
-        ensures clock { self.new.clock_calls ≡ self.old.clock_calls }
+        ensures stays { StaysRunning self.old self.new }
         ensures done { PerformsIn slots insn.now result self.old packet.old self.new packet.new }
     {
         match *insn {
@@ -141,9 +120,7 @@ impl Core {
     #[tactic(auto, unfolding(isa_model::specs::Steps::act))]
     fn exit(&mut self) -> Stepped
         requires { IsRunning self.old }
-        ensures running { IsRunning self.new }
-        ensures serial { self.new.next_serial ≡ self.old.next_serial }
-        ensures clock { self.new.clock_calls ≡ self.old.clock_calls }
+        ensures stays { StaysRunning self.old self.new }
         ensures step { (packet : List ℕ) (p : Program) (clock : ℕ → ℕ) → IsStep (act p clock (state_of self.old packet []) Insn.Exit) result (state_of self.old packet []) (state_of self.new packet []) }
     {
         if self.depth() == 1 {
@@ -162,16 +139,14 @@ impl Core {
         requires running { IsRunning self.old }
         requires slot { self.old.slot + 2 < 2 ^ 63 }
         requires serial { self.old.next_serial < 2 ^ 63 }
-        ensures running { IsRunning self.new }
-        ensures serial { self.new.next_serial ≤ self.old.next_serial + 1 }
-        ensures clock { self.new.clock_calls ≡ self.old.clock_calls }
+        ensures stays { StaysRunning self.old self.new }
         ensures step { (p : Program) (clock : ℕ → ℕ) → length p.insns ≡ slots →
             IsStep (performed p clock (state_of self.old packet.old []) insn.now) result (state_of self.old packet.old []) (state_of self.new packet.new []) }
     {
         if self.reads_unset(insn) {
             return Stepped::Stopped(TrapReason::UnsetRead);
         }
-        if writes_frame_pointer(insn) {
+        if insn.writes_frame_pointer() {
             return Stepped::Stopped(TrapReason::ReadOnly);
         }
         match insn {

@@ -15,7 +15,7 @@ use Rattle.isa_model.specs.MachineStates.{AreBytes, FitRows}
 use Rattle.isa_model.specs.Reports.{Piece, turn_by, report_of, checked_rule, checked_report, starting_contents}
 use Rattle.isa_model.specs.ReportLaws.{IsReport-checked}
 use Rattle.image.specs.Images.{IsImage}
-use Rattle.image.specs.Programs.{IsProgram-IsImage}
+use Rattle.image.specs.Programs.{IsProgram-IsImage, FitRows-starting_contents}
 use Rattle.explorer.specs.Bounds.{Bounded, IsVerified}
 use Rattle.machine.specs.declared.machines.Exit.{Exit as TheExit}
 use Rattle.machine.specs.Running.{Running, Answers}
@@ -25,14 +25,6 @@ use Rattle.host.specs.declared.tallies.Tally.{Tally}
 use Rattle.host.specs.Writing.{Outputs}
 use Rattle.host.specs.Reported.{Reports}
 use Rattle.host.specs.Accepted.{ReportsRun}
-
--- images have no maps yet
-pub no_maps : (p : Program) → IsImage p → p.maps ≡ []
-no_maps p h = empty p.maps h.few_maps
-  where
-    empty : (rows : List MapDef) → length rows ≤ 0 → rows ≡ []
-    empty [] h = refl
-    empty (row ∷ rows) h = absurd (omega arith)
 
 -- a machine's answer is the turn of its program
 pub turn-Answers : (r : Running) (head : FrameHead) (packet : List ℕ) (clock : ℕ → ℕ) (exit : TheExit) (after : List ℕ) (left : List Entries) (coming : ℕ → ℕ)
@@ -59,7 +51,7 @@ pub ReportsRun-Reports : (a : Bounded) (bytes : List ℕ) (old new : Outputs) (r
     → Reports bytes (checked_report a.program a.bound) old new result → AreBytes bytes → ReportsRun a bytes old new result
 ReportsRun-Reports a bytes old new result h r are =
     let p = a.program in
-    let fits : FitRows p.maps (starting_contents p.maps) = subst (λ rows. FitRows rows (starting_contents rows)) (sym (no_maps p h.image)) tt in
+    let fits = FitRows-starting_contents p h.image in
     let (is_report, exits) = IsReport-checked p a.bound r.input (IsProgram-IsImage p h.image) h.ends fits (heard_bytes bytes r.input.bytes r.hears.unheard r.hears.split are) in
     record {
       input = r.input;

@@ -60,6 +60,7 @@ pub fn run_checked<R: Read + Drop, W1: Write, W2: Write>(
         record { report = W1.contents report.old; frames = W2.contents out.old }
         record { report = W1.contents report.new; frames = W2.contents out.new } result) }
 {
+    // What this call says of the image: it is one, so it has no maps.
     let _slots = image.slots();
     let Ok(machine) = Checked::new(alloc, image) else {
         return Err(HostError::Memory);

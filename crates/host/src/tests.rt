@@ -1,5 +1,6 @@
-// Streams run on machines that need no program, into writers that stumble once and would then take more.
-ghost use Rattle.std.specs.Prelude.{◌≡◌, ◌≤◌, Some, IfOk};
+//! Streams run on machines that need no program, into writers that stumble at each place.
+
+ghost use Rattle.std.specs.Prelude.{◌≤◌};
 
 use super::engine::run_frames;
 use super::runners::Runner;
@@ -8,9 +9,9 @@ use explorer::verify;
 use image::Image;
 use isa_model::{End, Fault, FrameHead, TrapReason};
 use std::alloc::Global;
-use std::io;
-use std::io::{ErrorKind, Read, Write};
+use std::io::ErrorKind;
 use std::test::Fail;
+use stumbling_io::{Reader, STUMBLES, Stumble, Writer};
 
 // Ends each run the same way, and leaves the frames as they are.
 #[derive(Clone, Copy)]
@@ -57,80 +58,18 @@ impl Runner for Marking {
     }
 }
 
-// What comes once in place of bytes: an error, or the answer that no byte was moved.
-#[derive(Clone, Copy)]
-enum Stumble {
-    Error(ErrorKind),
-    Nothing,
-}
-
-const STUMBLES: [Stumble; 3] = [
-    Stumble::Error(ErrorKind::BrokenPipe),
-    Stumble::Error(ErrorKind::Interrupted),
-    Stumble::Nothing,
-];
-
-fn answer_of(stumble: Stumble) -> io::Result<usize>
-    ensures { IfOk result (λ count. count ≡ 0) }
-{
-    match stumble {
-        Stumble::Error(kind) => Err(io::Error::from(kind)),
-        Stumble::Nothing => Ok(0),
-    }
-}
-
-// Takes at most 5 bytes at a call, stumbles once after `room` bytes, and would then take more.
-#[derive(Drop)]
-struct Writer {
-    taken: Vec<u8>,
-    room: usize,
-    stumble: Option<Stumble>,
-}
-
-impl Write for Writer {
-    ghost contents = { λ w. Some w.taken.items };
-
-    fn write(&mut self, buf: &[u8]) -> io::Result<usize> {
-        let mut count = buf.len().min(5);
-        if let Some(stumble) = self.stumble {
-            if self.room == 0 {
-                self.stumble = None;
-                return answer_of(stumble);
-            }
-            count = count.min(self.room);
-            self.room -= count;
-        }
-        self.taken.extend_from_slice(&buf[..count])?;
-        Ok(count)
-    }
-
-    fn flush(&mut self) -> io::Result<()> {
-        Ok(())
-    }
-}
-
+// A writer that takes at most 5 bytes at a call.
 fn make_writer(alloc: Global, room: usize, stumble: Option<Stumble>) -> Writer {
-    Writer {
-        taken: Vec::new(alloc),
-        room,
-        stumble,
-    }
+    Writer::new(alloc, 5, room, stumble)
 }
 
-// Gives at most 3 bytes at a call, and then an error.
-#[derive(Drop)]
-struct Broken<'a>(&'a [u8]);
-
-impl Read for Broken<'_> {
-    fn read(&mut self, buf: &mut [u8]) -> io::Result<usize> {
-        if self.0.is_empty() {
-            return Err(io::Error::from(ErrorKind::BrokenPipe));
-        }
-        let count = buf.len().min(self.0.len()).min(3);
-        let (front, rest) = self.0.split_at(count);
-        buf[..count].copy_from_slice(front);
-        self.0 = rest;
-        Ok(count)
+// Gives at most 3 bytes at a call, and an error behind the last.
+fn broken(left: &[u8]) -> Reader<'_> {
+    Reader {
+        left,
+        step: 3,
+        room: left.len(),
+        stumble: Some(Stumble::Error(ErrorKind::BrokenPipe)),
     }
 }
 
@@ -269,7 +208,7 @@ fn faults(rt: HostRuntime) -> Result<(), Fail> {
         };
         let mut report = make_writer(rt.alloc(), 0, None);
         let mut out = make_writer(rt.alloc(), 0, None);
-        let result = run_frames(&mut machine, 100, Broken(&TWO[..n]), &mut report, &mut out);
+        let result = run_frames(&mut machine, 100, broken(&TWO[..n]), &mut report, &mut out);
         let fault = Some((Fault::F5, place));
         assert_eq!(rt; result, Ok(Tally { frames, fault }), "{n} bytes");
     }
@@ -287,7 +226,7 @@ fn last_lines(rt: HostRuntime) -> Result<(), Fail> {
         b"0 PASS 0 2\nfault F2 at 24\n".as_slice()
     );
     let mut report = make_writer(rt.alloc(), 0, None);
-    run_frames(&mut machine, 100, Broken(&TWO), &mut report, &mut out)?;
+    run_frames(&mut machine, 100, broken(&TWO), &mut report, &mut out)?;
     assert_eq!(rt;
         report.taken.as_slice(),
         b"0 PASS 0 2\n1 PASS 0 2\nfault F5 at 44\n".as_slice()

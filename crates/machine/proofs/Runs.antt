@@ -1,7 +1,6 @@
 -- What the checked machine's turns are, where every run exits within the bound.
-use Rattle.std.proofs.Common.{◌≡◌, ℕ, ◌+◌, ◌<◌, ◌≤◌, ◌^◌, List, [], ◌∷◌, length, refl, sym, ap, ◌∙◌, subst, arith}
+use Rattle.std.proofs.Common.{◌≡◌, ℕ, ◌+◌, ◌<◌, ◌≤◌, ◌^◌, List, length, ap, ◌∙◌}
 use Rattle.isa_model.specs.declared.frames.FrameHead.{FrameHead}
-use Rattle.isa_model.specs.declared.map_defs.MapDef.{MapDef}
 use Rattle.isa_model.specs.declared.ends.End.{End}
 use Rattle.isa_model.specs.declared.ends.End.TheVariants.{Exit}
 use Rattle.isa_model.specs.Instructions.{Program}
@@ -12,9 +11,8 @@ use Rattle.isa_model.specs.RunLaws.{turn-outcome}
 use Rattle.isa_model.specs.MachineStates.{AreBytes, FitRows, IsGiven}
 use Rattle.isa_model.specs.Outcomes.{ExitsWithin, ExitsWithin-StartsEnd, FitRows-HasOutcome}
 use Rattle.isa_model.specs.Reports.{turn_by, starting_contents}
-use Rattle.image.specs.Programs.{IsProgram-IsImage}
+use Rattle.image.specs.Programs.{IsProgram-IsImage, FitRows-starting_contents}
 use Rattle.explorer.specs.Bounds.{Bounded, IsVerified}
-use Rattle.machine.specs.declared.machines.Exit.{Exit as TheExit}
 use Rattle.machine.specs.Running.{Running, IsRunning, Answers}
 
 -- what a run is given, and the outcome that it has
@@ -67,11 +65,6 @@ answers r head packet clock a n after left coming g ends packet_left contents_le
       clock_is = λ k. asked k ∙ ap (λ (t : Turn). clock (t.clock_calls + k)) g.same;
     }
 
--- images have no maps yet, so there is nothing to fit
-no_rows : (rows : List MapDef) → length rows ≤ 0 → FitRows rows (starting_contents rows)
-no_rows [] h = tt
-no_rows (row ∷ rows) h = absurd (omega arith)
-
 -- the machine of an accepted program
 pub starts_running : (a : Bounded) → IsVerified a → IsRunning (record { program = a.program; bound = a.bound; contents = starting_contents a.program.maps })
 starts_running a h = record {
@@ -79,5 +72,5 @@ starts_running a h = record {
   ends = h.ends;
   some = h.some;
   most = h.most;
-  fits = no_rows a.program.maps h.image.few_maps;
+  fits = FitRows-starting_contents a.program h.image;
 }

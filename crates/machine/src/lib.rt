@@ -2,5 +2,7 @@
 #![tactic(auto)]
 
 pub mod machines;
+#[cfg(test)]
+mod tests;
 
 pub use machines::{Exit, Machine, VmError};

@@ -6,7 +6,7 @@ ghost use Rattle.isa_model.specs.MachineStates.{AreBytes};
 ghost use Rattle.isa_model.specs.Reports.{starting_contents};
 ghost use Rattle.machine.specs.Running.{Answers, IsRunning};
 
-use checked_vm::checked::Checked;
+use checked_vm::Checked;
 use explorer::Verified;
 use isa_model::{Clock, End, FrameHead};
 use std::alloc::Global;

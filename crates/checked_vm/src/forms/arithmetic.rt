@@ -5,9 +5,9 @@ ghost use Rattle.isa_model.specs.Registers.{reg_number};
 ghost use Rattle.isa_model.specs.Steps.{operand_value};
 ghost use Rattle.checked_vm.specs.Machine.{state_of, KeepsFrames, PerformsApart};
 
-use crate::comparisons::constant;
 use crate::core_state::Core;
 use crate::values::{arithmetic, negated, reordered, sign_extended};
+use isa_model::numbers::unsigned;
 use isa_model::{AluOp, ByteOrder, Extension, Insn, Operand, Reg, Span, TrapReason, Value, Width};
 
 impl Core {
@@ -24,11 +24,12 @@ impl Core {
         ensures { (packet : List ℕ) → result ≡ operand_value (state_of self.now packet []) width source }
     {
         match source {
-            Operand::Constant(k) => Value::Num(constant(width, k)),
+            Operand::Constant(k) => Value::Num(unsigned(width, k)),
             Operand::Register(r) => self.value(r),
         }
     }
 
+    /// Every operation with two operands, MOV included.
     #[tactic(auto, unfolding(isa_model::specs::Steps::act))]
     pub fn do_alu(
         &mut self,
@@ -46,6 +47,7 @@ impl Core {
         Ok(())
     }
 
+    /// NEG.
     #[tactic(auto, unfolding(isa_model::specs::Steps::act))]
     pub fn do_neg(&mut self, width: Width, d: Reg) -> Result<(), TrapReason>
         requires { self.old.slot + 1 < 2 ^ 64 }
@@ -57,6 +59,7 @@ impl Core {
         Ok(())
     }
 
+    /// MOVSX.
     #[tactic(auto, unfolding(isa_model::specs::Steps::act))]
     pub fn do_mov_sx(&mut self, extension: Extension, d: Reg, source: Reg) -> Result<(), TrapReason>
         requires { self.old.slot + 1 < 2 ^ 64 }
@@ -68,6 +71,7 @@ impl Core {
         Ok(())
     }
 
+    /// END.
     #[tactic(auto, unfolding(isa_model::specs::Steps::act))]
     pub fn do_byte_swap(&mut self, order: ByteOrder, span: Span, d: Reg) -> Result<(), TrapReason>
         requires { self.old.slot + 1 < 2 ^ 64 }

@@ -6,16 +6,7 @@ ghost use Rattle.checked_vm.specs.Machine.{state_of, KeepsFrames, PerformsIn};
 
 use crate::comparisons::{compared, compared_constant};
 use crate::core_state::Core;
-use isa_model::{Cond, Insn, Operand, TrapReason};
-
-/// Where a jump at a slot leads in a program of so many slots: past its end where that is before slot 0.
-pub fn destination(slot: usize, by: i32, slots: usize) -> usize
-    requires { slot < 2 ^ 63 }
-    ensures { result ≡ unwrap_or (target slot by) slots }
-{
-    let to = slot as i128 + 1 + i128::from(by);
-    if to < 0 { slots } else { to as usize }
-}
+use isa_model::{Cond, Insn, Operand, TrapReason, destination};
 
 impl Core {
     /// Goes on at the slot that a distance leads to.
@@ -44,6 +35,7 @@ impl Core {
         }
     }
 
+    /// A conditional jump.
     #[tactic(auto, unfolding(isa_model::specs::Steps::act))]
     pub fn do_jump_if(
         &mut self,

@@ -3,11 +3,12 @@
 ghost use Rattle.std.specs.Prelude.{◌≡◌, ◌+◌, ◌<◌, ◌^◌};
 ghost use Rattle.checked_vm.specs.Machine.{KeepsFrames, Performs};
 
-use crate::comparisons::constant;
 use crate::core_state::Core;
+use isa_model::numbers::unsigned;
 use isa_model::{AtomicOp, Insn, Narrow, Place, Reg, Size, TrapReason, Value, Width};
 
 impl Core {
+    /// LDX MEM.
     #[tactic(auto, unfolding(isa_model::specs::Steps::act))]
     pub fn do_load(
         &mut self,
@@ -25,6 +26,7 @@ impl Core {
         Ok(())
     }
 
+    /// LDX MEMSX.
     #[tactic(auto, unfolding(isa_model::specs::Steps::act))]
     pub fn do_load_sx(
         &mut self,
@@ -42,6 +44,7 @@ impl Core {
         Ok(())
     }
 
+    /// ST: the constant is sign-extended to 64 bits, of which the low bytes are stored.
     #[tactic(auto, unfolding(isa_model::specs::Steps::act))]
     pub fn do_store_constant(
         &mut self,
@@ -54,12 +57,13 @@ impl Core {
         ensures kept { KeepsFrames self.old self.new }
         ensures done { Performs (Insn.StoreConstant size place k) result self.old packet.old self.new packet.new }
     {
-        let value = Value::Num(constant(Width::Full64, k));
+        let value = Value::Num(unsigned(Width::Full64, k));
         self.store(packet, size, self.value(place.base), place, value)?;
         self.slot += 1;
         Ok(())
     }
 
+    /// STX.
     #[tactic(auto, unfolding(isa_model::specs::Steps::act))]
     pub fn do_store(
         &mut self,
@@ -78,6 +82,7 @@ impl Core {
         Ok(())
     }
 
+    /// ADD, OR, AND and XOR on memory, with FETCH (`fetched`) or without.
     #[tactic(auto, unfolding(isa_model::specs::Steps::act))]
     pub fn do_atomic(
         &mut self,
@@ -97,6 +102,7 @@ impl Core {
         Ok(())
     }
 
+    /// XCHG.
     #[tactic(auto, unfolding(isa_model::specs::Steps::act))]
     pub fn do_exchange(
         &mut self,
@@ -114,6 +120,7 @@ impl Core {
         Ok(())
     }
 
+    /// CMPXCHG.
     #[tactic(auto, unfolding(isa_model::specs::Steps::act))]
     pub fn do_compare_exchange(
         &mut self,

@@ -2,7 +2,7 @@ use Rattle.std.proofs.Common.{◌≡◌, [], length, sym, ap, ◌∙◌, FitsSig
 use Rattle.std.proofs.lemmas.Int.{to_z-of_z}
 use Rattle.isa_model.specs.Steps.{Next, act}
 use Rattle.checked_vm.specs.Machine.{state_of}
-use Rattle.checked_vm.proofs.Acts.{performs_in, performs_apart, calls_enter}
+use Rattle.checked_vm.proofs.Acts.{stays_running, performs_in, performs_apart, calls_enter}
 use Rattle.checked_vm.proofs.core_state.Core.act.Goals as goal
 
 pub returns-in-Alu-clause-done : goal.returns-in-Alu-clause-done
@@ -58,3 +58,39 @@ returns-else-depth-eq-MOST_FRAMES-clause-done c = λ p clock count.
     let leads = simp to_z-of_z at c.destination.ensures in
     let few : length c.args.self.now.frames.items ≡ 8 → ⊥ = λ full. c.if-depth-eq-MOST_FRAMES.false (c.depth.ensures.frames ∙ full) in
     rw c.in-CallLocal.is (calls_enter (state_of c.args.self.now c.args.packet.now []) p c.in-CallLocal.by c.args.slots c.destination.result count leads few ∙ ap Next (sym (c.enter.ensures.state c.args.packet.now)))
+
+pub returns-in-Alu-clause-stays : goal.returns-in-Alu-clause-stays
+returns-in-Alu-clause-stays c = stays_running c.args.self.now c.do_alu.new.self c.do_alu.ensures.kept c.requires.running
+
+pub returns-in-Neg-clause-stays : goal.returns-in-Neg-clause-stays
+returns-in-Neg-clause-stays c = stays_running c.args.self.now c.do_neg.new.self c.do_neg.ensures.kept c.requires.running
+
+pub returns-in-MovSx-clause-stays : goal.returns-in-MovSx-clause-stays
+returns-in-MovSx-clause-stays c = stays_running c.args.self.now c.do_mov_sx.new.self c.do_mov_sx.ensures.kept c.requires.running
+
+pub returns-in-ByteSwap-clause-stays : goal.returns-in-ByteSwap-clause-stays
+returns-in-ByteSwap-clause-stays c = stays_running c.args.self.now c.do_byte_swap.new.self c.do_byte_swap.ensures.kept c.requires.running
+
+pub returns-in-Load-clause-stays : goal.returns-in-Load-clause-stays
+returns-in-Load-clause-stays c = stays_running c.args.self.now c.do_load.new.self c.do_load.ensures.kept c.requires.running
+
+pub returns-in-LoadSx-clause-stays : goal.returns-in-LoadSx-clause-stays
+returns-in-LoadSx-clause-stays c = stays_running c.args.self.now c.do_load_sx.new.self c.do_load_sx.ensures.kept c.requires.running
+
+pub returns-in-StoreConstant-clause-stays : goal.returns-in-StoreConstant-clause-stays
+returns-in-StoreConstant-clause-stays c = stays_running c.args.self.now c.do_store_constant.new.self c.do_store_constant.ensures.kept c.requires.running
+
+pub returns-in-Store-clause-stays : goal.returns-in-Store-clause-stays
+returns-in-Store-clause-stays c = stays_running c.args.self.now c.do_store.new.self c.do_store.ensures.kept c.requires.running
+
+pub returns-in-Atomic-clause-stays : goal.returns-in-Atomic-clause-stays
+returns-in-Atomic-clause-stays c = stays_running c.args.self.now c.do_atomic.new.self c.do_atomic.ensures.kept c.requires.running
+
+pub returns-in-Exchange-clause-stays : goal.returns-in-Exchange-clause-stays
+returns-in-Exchange-clause-stays c = stays_running c.args.self.now c.do_exchange.new.self c.do_exchange.ensures.kept c.requires.running
+
+pub returns-in-CompareExchange-clause-stays : goal.returns-in-CompareExchange-clause-stays
+returns-in-CompareExchange-clause-stays c = stays_running c.args.self.now c.do_compare_exchange.new.self c.do_compare_exchange.ensures.kept c.requires.running
+
+pub returns-in-JumpIf-clause-stays : goal.returns-in-JumpIf-clause-stays
+returns-in-JumpIf-clause-stays c = stays_running c.args.self.now c.do_jump_if.new.self c.do_jump_if.ensures.kept c.requires.running

@@ -16,9 +16,9 @@ loop-done-init c = record {
 pub loop-done-preserved : goal.loop-done-preserved
 loop-done-preserved c = record {
   so_far = λ p clock code. progress-next p clock c.loop-done.done _ _ _ (c.loop-done.invariant.so_far p clock code) (c.in-Went.ensures.step p clock code);
-  running = c.in-Went.ensures.running;
-  serial = omega (arith, c.in-Went.ensures.serial, c.loop-done.invariant.serial);
-  calls = c.in-Went.ensures.clock ∙ c.loop-done.invariant.calls;
+  running = c.in-Went.ensures.stays.running;
+  serial = omega (arith, c.in-Went.ensures.stays.next_serial, c.loop-done.invariant.serial);
+  calls = c.in-Went.ensures.stays.clock_calls ∙ c.loop-done.invariant.calls;
 }
 
 pub returns-in-Ended-clause-turn : goal.returns-in-Ended-clause-turn

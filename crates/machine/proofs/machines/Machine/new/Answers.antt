@@ -1,4 +1,3 @@
-use Rattle.std.proofs.Common.{rules}
 use Rattle.machine.proofs.Runs.{starts_running}
 use Rattle.machine.proofs.machines.Machine.new.Goals as goal
 

@@ -1,5 +1,4 @@
-use Rattle.std.proofs.Common.{rules, subst}
-use Rattle.isa_model.specs.declared.frames.FrameHead.{FrameHead}
+use Rattle.std.proofs.Common.{subst}
 use Rattle.machine.specs.Running.{Running, Answers}
 use Rattle.machine.proofs.Runs.{goes, always_exits, still_running, answers}
 use Rattle.machine.proofs.machines.Machine.run.Goals as goal
