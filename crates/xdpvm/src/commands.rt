@@ -5,9 +5,11 @@ ghost use Rattle.std.specs.Prelude.{◌≤◌};
 use clap::error::ErrorKind;
 use clap::{Arg, ArgAction, ArgMatches, Command};
 use std::alloc::{AllocError, Global};
+use std::env::Env;
+use std::io;
 
 /// What is to be done, and on which files.
-#[derive(Clone, Copy, Debug)]
+#[derive(Clone, Copy)]
 pub enum Task<'a> {
     /// Run a program with checks.
     Trace(Paths<'a>, StepLimit),
@@ -24,7 +26,7 @@ pub enum Task<'a> {
 }
 
 /// The most steps of a run on one frame: from 1 to 1,000,000.
-#[derive(Clone, Copy, Debug)]
+#[derive(Clone, Copy)]
 pub struct StepLimit {
     pub steps: u32,
     ghost some: { 1 ≤ steps },
@@ -32,7 +34,7 @@ pub struct StepLimit {
 }
 
 /// The files of a run: the image and the frames that are read, and the frames out.
-#[derive(Clone, Copy, PartialEq, Eq, Debug)]
+#[derive(Clone, Copy)]
 pub struct Paths<'a> {
     pub image: &'a str,
     pub frames: &'a str,
@@ -40,16 +42,16 @@ pub struct Paths<'a> {
 }
 
 /// The files of an assembly: the text, and the image that is made.
-#[derive(Clone, Copy, PartialEq, Eq, Debug)]
+#[derive(Clone, Copy)]
 pub struct Assembly<'a> {
     pub text: &'a str,
     pub image: &'a str,
 }
 
 /// Why the words ask for nothing.
-#[derive(Clone, Copy, PartialEq, Eq, Debug)]
+#[derive(Clone, Copy)]
 pub enum WordsError {
-    /// They are words of no command, or they ask for help or the version.
+    /// They are words of no command, or no text, or they ask for help or the version.
     Wrong,
     Memory,
 }
@@ -161,6 +163,17 @@ fn task_of<'a>(name: &str, matches: &ArgMatches<'a>) -> Option<Task<'a>> {
         "asm" => Some(Task::Assemble(assembly_of(matches)?)),
         "dis" => Some(Task::Disassemble(matches.get_str("image")?)),
         _ => not_built(name),
+    }
+}
+
+/// The words that the program was given. The first one is its name.
+pub fn given_words<R: Env + AllocGlobal>(rt: &R) -> Result<Vec<String>, WordsError> {
+    match std::env::args(rt) {
+        Ok(words) => Ok(words.collect(rt.alloc())?),
+        Err(error) => Err(match error.kind() {
+            io::ErrorKind::OutOfMemory => WordsError::Memory,
+            _ => WordsError::Wrong,
+        }),
     }
 }
 

@@ -1,30 +1,29 @@
 //! The program, on any runtime and any outputs.
 
-use super::commands::{Task, WordsError, read_words};
+ghost use Rattle.std.specs.Prelude.{◌≡◌, ◌≤◌};
+
+use super::commands::{Task, read_words};
 use super::files::{assemble_file, disassemble_file, run_verified, trace, verify_file};
-use super::outcomes::{Outcome, say};
+use super::outcomes::Outcome;
 use std::io::Write;
 use std::rt::Files;
-
-const USAGE: &str = "usage: xdpvm asm|dis|verify|run|trace|prove|recheck\n";
-
-/// The status of words that ask for nothing.
-const WRONG_WORDS: u8 = 1;
-
-/// The status where memory is wanting.
-pub const NO_MEMORY: u8 = 5;
 
 /// Does what the words ask for, and answers the program's status: 0 done, 1 words of no command, 2 refused, 3 the
 /// report ended in a fault, 4 a file or output failed, 5 want of memory.
 ///
 /// The first word is the program's name. `out` stands for standard output and `err` for standard error; files are
-/// opened by their paths.
+/// opened by their paths. Where the words ask for nothing and where memory is wanting, standard output gets no byte.
+#[tactic(auto, using(crate::proofs::Endings::silent_words, crate::proofs::Endings::silent_memory, crate::proofs::Endings::status_fits))]
 pub fn execute<R: Files + AllocGlobal, W1: Write, W2: Write>(
     rt: &R,
     words: &[String],
     out: &mut W1,
     err: &mut W2,
-) -> u8 {
+) -> u8
+    ensures statuses { result ≤ 5 }
+    ensures wrong_words { result ≡ 1 → W1.contents out.new ≡ W1.contents out.old }
+    ensures no_memory { result ≡ 5 → W1.contents out.new ≡ W1.contents out.old }
+{
     let alloc = rt.alloc();
     let outcome = match read_words(alloc, words) {
         Ok(Task::Trace(paths, limit)) => trace(rt, alloc, paths, limit, out),
@@ -32,16 +31,8 @@ pub fn execute<R: Files + AllocGlobal, W1: Write, W2: Write>(
         Ok(Task::Verify(path)) => verify_file(rt, alloc, path, out),
         Ok(Task::Assemble(paths)) => assemble_file(rt, alloc, paths, out),
         Ok(Task::Disassemble(path)) => disassemble_file(rt, alloc, path, out),
-        Ok(Task::NotBuilt(name)) => {
-            say(err, &[USAGE, "this build has no command ", name, "\n"]);
-            return WRONG_WORDS;
-        }
-        Err(WordsError::Wrong) => {
-            say(err, &[USAGE]);
-            return WRONG_WORDS;
-        }
-        Err(WordsError::Memory) => Outcome::NoMemory,
+        Ok(Task::NotBuilt(name)) => return Outcome::NotBuilt(name).tell(err),
+        Err(error) => return Outcome::from(error).tell(err),
     };
-    outcome.tell(err);
-    outcome.status()
+    outcome.tell(err)
 }

@@ -1,23 +1,54 @@
 //! The files that the commands read and write.
 
+ghost use Rattle.std.specs.Prelude.{◌≡◌, true, OnOk, IfErr};
+ghost use Rattle.xdpvm.specs.Statuses.{is_silent};
+
 use super::commands::{Assembly, Paths, StepLimit};
 use super::outcomes::{Outcome, STANDARD_OUTPUT};
-use super::verdicts::{accepted, assembled, judge, refused};
+use super::verdicts::{accepted, judge, refused, say_line, size_line};
 use assembler::{AsmError, AsmErrorKind, assemble};
 use disassembler::disassemble;
 use host::{HostError, Tally, run, run_checked};
 use image::{Image, ImageError};
 use std::alloc::Global;
 use std::io::{Read, Write};
+use std::os::unix::fs::MetadataExt;
 use std::rt::Files;
 use std::{fs, io};
 
-// All bytes of a file.
-fn read_file<R: Files>(rt: &R, alloc: Global, path: &str) -> io::Result<Vec<u8>> {
-    let mut file = fs::open(rt, path)?;
+// One byte more than the longest image has: its head, 16 rows of maps and 4,096 slots. Of a longer file the rest
+// changes nothing.
+const PAST_ANY_IMAGE: u64 = 8 + 16 * 12 + 4096 * 8 + 1;
+
+// The first bytes of a file, at most so many.
+fn read_file<R: Files>(rt: &R, alloc: Global, path: &str, most: u64) -> io::Result<Vec<u8>> {
+    let mut file = fs::open(rt, path)?.take(most);
     let mut bytes = Vec::new(alloc);
     file.read_to_end(&mut bytes)?;
     Ok(bytes)
+}
+
+// Whether two paths lead to one file on a disk.
+fn is_same_file<R: Files>(rt: &R, one: &str, other: &str) -> bool {
+    match (fs::metadata(rt, one), fs::metadata(rt, other)) {
+        (Ok(one), Ok(other)) => {
+            one.is_file() && one.ino() != 0 && one.ino() == other.ino() && one.dev() == other.dev()
+        }
+        _ => false,
+    }
+}
+
+// Makes a file to write to, unless it is one of those that are read.
+fn create_file<'a, R: Files>(rt: &R, path: &'a str, read: &[&str]) -> Result<R::File, Outcome<'a>> {
+    for other in read {
+        if is_same_file(rt, path, *other) {
+            return Err(Outcome::CannotReplace(path));
+        }
+    }
+    match fs::create(rt, path) {
+        Ok(file) => Ok(file),
+        Err(error) => Err(Outcome::of_write(path, &error)),
+    }
 }
 
 // The image in a file, or how the task ends without it.
@@ -26,8 +57,11 @@ fn load_image<'a, R: Files, W: Write>(
     alloc: Global,
     path: &'a str,
     out: &mut W,
-) -> Result<Image, Outcome<'a>> {
-    let bytes = match read_file(rt, alloc, path) {
+) -> Result<Image, Outcome<'a>>
+    ensures ok { OnOk result (W.contents out.new ≡ W.contents out.old) }
+    ensures silent { IfErr result (λ ended. is_silent ended ≡ true → W.contents out.new ≡ W.contents out.old) }
+{
+    let bytes = match read_file(rt, alloc, path, PAST_ANY_IMAGE) {
         Ok(bytes) => bytes,
         Err(error) => return Err(Outcome::of_read(path, &error)),
     };
@@ -38,6 +72,16 @@ fn load_image<'a, R: Files, W: Write>(
     }
 }
 
+// Opens the frames, and then the frames out.
+fn open_streams<'a, R: Files>(rt: &R, paths: Paths<'a>) -> Result<(R::File, R::File), Outcome<'a>> {
+    let source = match fs::open(rt, paths.frames) {
+        Ok(source) => source,
+        Err(error) => return Err(Outcome::of_read(paths.frames, &error)),
+    };
+    let target = create_file(rt, paths.out, &[paths.image, paths.frames])?;
+    Ok((source, target))
+}
+
 /// Runs a program on a frame stream with checks: the image is read and judged, then the frames are opened, then the
 /// frames out. The report goes to standard output as it comes.
 pub fn trace<'a, R: Files, W: Write>(
@@ -46,21 +90,20 @@ pub fn trace<'a, R: Files, W: Write>(
     paths: Paths<'a>,
     limit: StepLimit,
     out: &mut W,
-) -> Outcome<'a> {
+) -> Outcome<'a>
+    ensures silent { is_silent result ≡ true → W.contents out.new ≡ W.contents out.old }
+{
     let image = match load_image(rt, alloc, paths.image, out) {
         Ok(image) => image,
         Err(outcome) => return outcome,
     };
-    let source = match fs::open(rt, paths.frames) {
-        Ok(source) => source,
-        Err(error) => return Outcome::of_read(paths.frames, &error),
-    };
-    let mut target = match fs::create(rt, paths.out) {
-        Ok(target) => target,
-        Err(error) => return Outcome::of_write(paths.out, &error),
-    };
-    let ended = run_checked(alloc, image, limit.steps, source, out, &mut target);
-    outcome_of(paths, ended)
+    match open_streams(rt, paths) {
+        Ok((source, mut target)) => outcome_of(
+            paths,
+            run_checked(alloc, image, limit.steps, source, out, &mut target),
+        ),
+        Err(outcome) => outcome,
+    }
 }
 
 /// Verifies a program and runs it on a frame stream: the image is read and judged, then the frames are opened, then
@@ -70,7 +113,9 @@ pub fn run_verified<'a, R: Files, W: Write>(
     alloc: Global,
     paths: Paths<'a>,
     out: &mut W,
-) -> Outcome<'a> {
+) -> Outcome<'a>
+    ensures silent { is_silent result ≡ true → W.contents out.new ≡ W.contents out.old }
+{
     let image = match load_image(rt, alloc, paths.image, out) {
         Ok(image) => image,
         Err(outcome) => return outcome,
@@ -79,20 +124,18 @@ pub fn run_verified<'a, R: Files, W: Write>(
         Ok(verified) => verified,
         Err(outcome) => return outcome,
     };
-    let source = match fs::open(rt, paths.frames) {
-        Ok(source) => source,
-        Err(error) => return Outcome::of_read(paths.frames, &error),
-    };
-    let mut target = match fs::create(rt, paths.out) {
-        Ok(target) => target,
-        Err(error) => return Outcome::of_write(paths.out, &error),
-    };
-    let ended = run(alloc, verified, source, out, &mut target);
-    outcome_of(paths, ended)
+    match open_streams(rt, paths) {
+        Ok((source, mut target)) => {
+            outcome_of(paths, run(alloc, verified, source, out, &mut target))
+        }
+        Err(outcome) => outcome,
+    }
 }
 
 // How a run over a stream ended.
-fn outcome_of<'a>(paths: Paths<'a>, ended: Result<Tally, HostError>) -> Outcome<'a> {
+fn outcome_of<'a>(paths: Paths<'a>, ended: Result<Tally, HostError>) -> Outcome<'a>
+    ensures silent { is_silent result ≡ true → ended ≡ Err HostError.Memory }
+{
     match ended {
         Ok(tally) => match tally.fault {
             None => Outcome::Done,
@@ -110,7 +153,9 @@ pub fn verify_file<'a, R: Files, W: Write>(
     alloc: Global,
     path: &'a str,
     out: &mut W,
-) -> Outcome<'a> {
+) -> Outcome<'a>
+    ensures silent { is_silent result ≡ true → W.contents out.new ≡ W.contents out.old }
+{
     let image = match load_image(rt, alloc, path, out) {
         Ok(image) => image,
         Err(outcome) => return outcome,
@@ -127,7 +172,9 @@ pub fn disassemble_file<'a, R: Files, W: Write>(
     alloc: Global,
     path: &'a str,
     out: &mut W,
-) -> Outcome<'a> {
+) -> Outcome<'a>
+    ensures silent { is_silent result ≡ true → W.contents out.new ≡ W.contents out.old }
+{
     let image = match load_image(rt, alloc, path, out) {
         Ok(image) => image,
         Err(outcome) => return outcome,
@@ -139,14 +186,16 @@ pub fn disassemble_file<'a, R: Files, W: Write>(
 }
 
 /// Makes the image of a text: the text is read and judged, then the image is written, and then standard output says
-/// how large it is.
+/// how large it is. Where memory is wanting no file is opened for the image.
 pub fn assemble_file<'a, R: Files, W: Write>(
     rt: &R,
     alloc: Global,
     paths: Assembly<'a>,
     out: &mut W,
-) -> Outcome<'a> {
-    let text = match read_file(rt, alloc, paths.text) {
+) -> Outcome<'a>
+    ensures silent { is_silent result ≡ true → W.contents out.new ≡ W.contents out.old }
+{
+    let text = match read_file(rt, alloc, paths.text, u64::MAX) {
         Ok(text) => text,
         Err(error) => return Outcome::of_read(paths.text, &error),
     };
@@ -160,12 +209,15 @@ pub fn assemble_file<'a, R: Files, W: Write>(
         ) => return Outcome::NoMemory,
         Err(error) => return refused(alloc, &error, out),
     };
-    let mut target = match fs::create(rt, paths.image) {
+    let Ok(line) = size_line(alloc, &image) else {
+        return Outcome::NoMemory;
+    };
+    let mut target = match create_file(rt, paths.image, &[paths.text]) {
         Ok(target) => target,
-        Err(error) => return Outcome::of_write(paths.image, &error),
+        Err(outcome) => return outcome,
     };
     match image.write(&mut target) {
-        Ok(()) => assembled(alloc, &image, out),
+        Ok(()) => say_line(line.as_str(), Outcome::Done, out),
         Err(error) => Outcome::of_write(paths.image, &error),
     }
 }

@@ -9,20 +9,18 @@ mod files;
 mod outcomes;
 mod verdicts;
 
+use commands::given_words;
 use execute::execute;
+use outcomes::Outcome;
 use std::process::ExitCode;
 
 fn main(rt: HostRuntime) -> ExitCode {
-    let Ok(given) = std::env::args(&rt) else {
-        return ExitCode::from(execute::NO_MEMORY);
-    };
-    let words: Vec<String> = match given.collect(rt.alloc()) {
-        Ok(words) => words,
-        Err(_) => return ExitCode::from(execute::NO_MEMORY),
-    };
     let mut out = rt.stdout();
     let mut err = rt.stderr();
-    ExitCode::from(execute(&rt, words.as_slice(), &mut out, &mut err))
+    ExitCode::from(match given_words(&rt) {
+        Ok(words) => execute(&rt, words.as_slice(), &mut out, &mut err),
+        Err(error) => Outcome::from(error).tell(&mut err),
+    })
 }
 
 #[cfg(test)]

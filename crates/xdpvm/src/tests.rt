@@ -1,51 +1,26 @@
 //! The program on files that the tests write.
 
-ghost use Rattle.std.specs.Prelude.{Some};
-
+mod files;
 mod programs;
 mod texts;
 mod verdicts;
 
 use super::execute;
 use std::alloc::Global;
-use std::io::{ErrorKind, Write};
+use std::fs;
+use std::io::ErrorKind;
+use std::process::Abort;
+use std::rt::Files;
 use std::test::Fail;
-use std::{fs, io};
+use stumbling_io::{Stumble, Writer};
 
 const USAGE: &str = "usage: xdpvm asm|dis|verify|run|trace|prove|recheck\n";
 
+// What an output says once in place of taking a byte.
+const BROKEN: Stumble = Stumble::Error(ErrorKind::BrokenPipe);
+
 // r0 = 2; exit
 const PASSES: &str = "5842503100000200b7000000020000009500000000000000";
-
-// Takes one byte at a call, fails once after `room` bytes, and would then take more.
-#[derive(Drop)]
-struct Writer {
-    taken: Vec<u8>,
-    room: usize,
-    fails: bool,
-}
-
-impl Write for Writer {
-    ghost contents = { λ w. Some w.taken.items };
-
-    fn write(&mut self, buf: &[u8]) -> io::Result<usize> {
-        let mut count = buf.len().min(1);
-        if self.fails {
-            if self.room == 0 {
-                self.fails = false;
-                return Err(io::Error::from(ErrorKind::BrokenPipe));
-            }
-            count = count.min(self.room);
-            self.room -= count;
-        }
-        self.taken.extend_from_slice(&buf[..count])?;
-        Ok(count)
-    }
-
-    fn flush(&mut self) -> io::Result<()> {
-        Ok(())
-    }
-}
 
 fn words_of(alloc: Global, texts: &[&str]) -> Result<Vec<String>, Fail> {
     let mut words = Vec::new(alloc);
@@ -56,16 +31,41 @@ fn words_of(alloc: Global, texts: &[&str]) -> Result<Vec<String>, Fail> {
     Ok(words)
 }
 
-// What a command answers: its status, and what it wrote to both outputs.
-fn answer(rt: &HostRuntime, texts: &[&str]) -> Result<(u8, Vec<u8>, Vec<u8>), Fail> {
+// The files that tests write.
+const FILES: [&str; 12] = [
+    "image", "short", "frames", "sent", "other", "cut", "text", "made", "wrong", "right", "long",
+    "largest",
+];
+
+// Removes what a test has written. Of a test that fails the files stay.
+fn remove_files<R: Files>(rt: &R) -> Result<(), Fail> {
+    for name in FILES {
+        if fs::exists(rt, name)? {
+            fs::remove_file(rt, name)?;
+        }
+    }
+    Ok(())
+}
+
+// A command answers this status, and writes this to standard output and to standard error.
+fn answers<R: Files + AllocGlobal + Abort>(
+    rt: &R,
+    texts: &[&str],
+    status: u8,
+    report: &str,
+    said: &str,
+) -> Result<(), Fail> {
     let words = words_of(rt.alloc(), texts)?;
     let mut out = Vec::new(rt.alloc());
     let mut err = Vec::new(rt.alloc());
-    let status = execute(rt, words.as_slice(), &mut out, &mut err);
-    Ok((status, out, err))
+    let found = execute(rt, words.as_slice(), &mut out, &mut err);
+    assert_eq!(rt; found, status, "{texts:?}");
+    assert_eq!(rt; out.as_slice(), report.as_bytes(), "{texts:?}");
+    assert_eq!(rt; err.as_slice(), said.as_bytes(), "{texts:?}");
+    Ok(())
 }
 
-fn write_hex(rt: &HostRuntime, path: &str, text: &str) -> Result<(), Fail> {
+fn write_hex<R: Files + AllocGlobal>(rt: &R, path: &str, text: &str) -> Result<(), Fail> {
     let bytes = hex::decode(rt.alloc(), text)?;
     fs::write(rt, path, bytes.as_slice())?;
     Ok(())
@@ -81,7 +81,7 @@ fn stream(alloc: Global, zeros: usize) -> Result<Vec<u8>, Fail> {
 }
 
 // The files that most tests use.
-fn write_files(rt: &HostRuntime) -> Result<(), Fail> {
+fn write_files<R: Files + AllocGlobal>(rt: &R) -> Result<(), Fail> {
     write_hex(rt, "image", PASSES)?;
     write_hex(rt, "short", "5842")?;
     let one = stream(rt.alloc(), 20)?;
@@ -140,16 +140,18 @@ fn statuses_of_words(rt: HostRuntime) -> Result<(), Fail> {
         ),
     ];
     for (texts, status, report) in rows {
-        let (found, out, err) = answer(&rt, texts)?;
-        assert_eq!(rt; found, status, "{texts:?}");
-        assert_eq!(rt; out.as_slice(), report.as_bytes(), "{texts:?}");
-        let said = if status == 1 { USAGE } else { "" };
-        assert_eq!(rt; err.as_slice(), said.as_bytes(), "{texts:?}");
+        answers(
+            &rt,
+            texts,
+            status,
+            report,
+            if status == 1 { USAGE } else { "" },
+        )?;
     }
     let sent = fs::read(&rt, "sent")?;
     let frames = fs::read(&rt, "frames")?;
     assert_eq!(rt; sent.as_slice(), frames.as_slice());
-    Ok(())
+    remove_files(&rt)
 }
 
 #[test]
@@ -159,71 +161,8 @@ fn commands_that_are_not_built(rt: HostRuntime) -> Result<(), Fail> {
         (&["recheck", "a", "b"], "recheck"),
     ];
     for (texts, name) in rows {
-        let (status, out, err) = answer(&rt, texts)?;
         let said = format!(in rt.alloc(); "{USAGE}this build has no command {name}\n")?;
-        assert_eq!(rt; status, 1);
-        assert_eq!(rt; out.len(), 0);
-        assert_eq!(rt; err.as_slice(), said.as_bytes());
-    }
-    Ok(())
-}
-
-#[test]
-fn files_that_fail(rt: HostRuntime) -> Result<(), Fail> {
-    write_files(&rt)?;
-    fs::create_dir(&rt, "folder")?;
-    let rows: [(&[&str], u8, &str, &str); 10] = [
-        (&["dis", "lost"], 4, "", "cannot read lost\n"),
-        (&["dis", "short"], 2, "refused I2\n", ""),
-        (
-            &["trace", "lost", "frames", "sent"],
-            4,
-            "",
-            "cannot read lost\n",
-        ),
-        (
-            &["trace", "image", "lost", "sent"],
-            4,
-            "",
-            "cannot read lost\n",
-        ),
-        (
-            &["trace", "image", "lost", "lost/sent"],
-            4,
-            "",
-            "cannot read lost\n",
-        ),
-        (
-            &["trace", "image", "frames", "lost/sent"],
-            4,
-            "",
-            "cannot write lost/sent\n",
-        ),
-        (
-            &["trace", "folder", "frames", "sent"],
-            4,
-            "",
-            "cannot read folder\n",
-        ),
-        (
-            &["trace", "image", "folder", "sent"],
-            3,
-            "fault F5 at 0\n",
-            "",
-        ),
-        (
-            &["trace", "image", "frames", "/dev/full"],
-            4,
-            "",
-            "cannot write /dev/full\n",
-        ),
-        (&["trace", "short", "lost", "sent"], 2, "refused I2\n", ""),
-    ];
-    for (texts, status, report, said) in rows {
-        let (found, out, err) = answer(&rt, texts)?;
-        assert_eq!(rt; found, status, "{texts:?}");
-        assert_eq!(rt; out.as_slice(), report.as_bytes(), "{texts:?}");
-        assert_eq!(rt; err.as_slice(), said.as_bytes(), "{texts:?}");
+        answers(&rt, texts, 1, "", said.as_str())?;
     }
     Ok(())
 }
@@ -308,12 +247,15 @@ fn images(rt: HostRuntime) -> Result<(), Fail> {
     write_files(&rt)?;
     for (text, status, report) in IMAGES {
         write_hex(&rt, "other", text)?;
-        let (found, out, err) = answer(&rt, &["trace", "other", "frames", "sent"])?;
-        assert_eq!(rt; found, status, "{text}");
-        assert_eq!(rt; out.as_slice(), report.as_bytes(), "{text}");
-        assert_eq!(rt; err.len(), 0, "{text}");
+        answers(
+            &rt,
+            &["trace", "other", "frames", "sent"],
+            status,
+            report,
+            "",
+        )?;
     }
-    Ok(())
+    remove_files(&rt)
 }
 
 // What the stream of two empty records reports where it is cut after so many bytes.
@@ -336,23 +278,21 @@ fn cuts(rt: HostRuntime) -> Result<(), Fail> {
         let front = two.get(..count).ok_or("too long a cut")?;
         fs::write(&rt, "cut", front)?;
         let (wanted, report) = report_cut_at(count);
-        let (status, out, _err) = answer(&rt, &["run", "image", "cut", "sent"])?;
-        assert_eq!(rt; status, wanted, "cut at {count}");
-        assert_eq!(rt; out.as_slice(), report.as_bytes(), "cut at {count}");
+        answers(&rt, &["run", "image", "cut", "sent"], wanted, report, "")?;
     }
     let image = fs::read(&rt, "image")?;
     for count in 0..24usize {
         let front = image.get(..count).ok_or("too long a cut")?;
         fs::write(&rt, "cut", front)?;
-        let (status, out, _err) = answer(&rt, &["run", "cut", "frames", "sent"])?;
-        assert_eq!(rt; status, 2, "cut at {count}");
-        assert_eq!(rt;
-            out.as_slice(),
-            b"refused I2\n".as_slice(),
-            "cut at {count}"
-        );
+        answers(
+            &rt,
+            &["run", "cut", "frames", "sent"],
+            2,
+            "refused I2\n",
+            "",
+        )?;
     }
-    Ok(())
+    remove_files(&rt)
 }
 
 // Standard output fails after each byte: the report is what came before, and the frames out follow it.
@@ -362,11 +302,7 @@ fn standard_output_fails(rt: HostRuntime) -> Result<(), Fail> {
     let report = b"0 PASS 0 2\nend 1\n";
     for room in 0..17usize {
         let words = words_of(rt.alloc(), &["run", "image", "frames", "sent"])?;
-        let mut out = Writer {
-            taken: Vec::new(rt.alloc()),
-            room,
-            fails: true,
-        };
+        let mut out = Writer::new(rt.alloc(), 1, room, Some(BROKEN));
         let mut err = Vec::new(rt.alloc());
         let status = execute(&rt, words.as_slice(), &mut out, &mut err);
         assert_eq!(rt; status, 4);
@@ -379,13 +315,9 @@ fn standard_output_fails(rt: HostRuntime) -> Result<(), Fail> {
         assert_eq!(rt; sent.len(), if room < 11 { 4 } else { 24 }, "after {room}");
     }
     let words = words_of(rt.alloc(), &["run", "short", "frames", "sent"])?;
-    let mut out = Writer {
-        taken: Vec::new(rt.alloc()),
-        room: 3,
-        fails: true,
-    };
+    let mut out = Writer::new(rt.alloc(), 1, 3, Some(BROKEN));
     let mut err = Vec::new(rt.alloc());
     assert_eq!(rt; execute(&rt, words.as_slice(), &mut out, &mut err), 4);
     assert_eq!(rt; out.taken.as_slice(), b"ref".as_slice());
-    Ok(())
+    remove_files(&rt)
 }

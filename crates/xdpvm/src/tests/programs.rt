@@ -1,7 +1,9 @@
 //! Worked programs, each run on frames of zero bytes: how every frame ends, with its steps.
 
-use super::{answer, write_hex};
+use super::{answers, remove_files, write_hex};
 use std::fs;
+use std::process::Abort;
+use std::rt::Files;
 use std::test::Fail;
 
 /// A program in hexadecimal, the interface and the length of each frame, the limit, and the report.
@@ -27,7 +29,7 @@ const ON_5_AND_7: &[(u8, u8)] = &[(5, 0), (7, 0)];
 const OF_6_AND_5: &[(u8, u8)] = &[(0, 6), (0, 5)];
 
 /// A stream of frames of zero bytes, at time 0 and on queue 0.
-pub fn write_frames(rt: &HostRuntime, frames: &[(u8, u8)]) -> Result<(), Fail> {
+pub fn write_frames<R: Files + AllocGlobal>(rt: &R, frames: &[(u8, u8)]) -> Result<(), Fail> {
     let mut bytes = b"XPF1".to_vec(rt.alloc())?;
     for (interface, length) in frames {
         bytes.extend_from_slice(&[0, 0, 0, 0, 0, 0, 0, 0, *interface, 0, 0, 0, 0, 0, 0, 0])?;
@@ -40,18 +42,15 @@ pub fn write_frames(rt: &HostRuntime, frames: &[(u8, u8)]) -> Result<(), Fail> {
     Ok(())
 }
 
-/// What `trace` answers: its status and the report.
-fn traced(
-    rt: &HostRuntime,
-    image: &str,
-    frames: &[(u8, u8)],
-    limit: &str,
-) -> Result<(u8, Vec<u8>), Fail> {
-    write_hex(rt, "image", image)?;
-    write_frames(rt, frames)?;
-    let words = ["trace", "image", "frames", "sent", "--limit", limit];
-    let (status, report, _) = answer(rt, &words)?;
-    Ok((status, report))
+/// What `trace` writes of each, always with status 0.
+fn traces<R: Files + AllocGlobal + Abort>(rt: &R, examples: &[Example]) -> Result<(), Fail> {
+    for (image, frames, limit, report) in examples {
+        write_hex(rt, "image", *image)?;
+        write_frames(rt, *frames)?;
+        let words = ["trace", "image", "frames", "sent", "--limit", *limit];
+        answers(rt, &words, 0, *report, "")?;
+    }
+    remove_files(rt)
 }
 
 /// Arithmetic at both widths, and registers that may not be read or written.
@@ -101,12 +100,7 @@ fn traces_arithmetic(rt: HostRuntime) -> Result<(), Fail> {
             "0 TRAP readonly 0 0\nend 1\n",
         ),
     ];
-    for (image, frames, limit, report) in examples {
-        let (status, found) = traced(&rt, image, frames, limit)?;
-        assert_eq!(rt; status, 0, "{image}");
-        assert_eq!(rt; found.as_slice(), report.as_bytes(), "{image}");
-    }
-    Ok(())
+    traces(&rt, &examples)
 }
 
 /// Jumps, counted loops, the limit, and slots where no instruction begins.
@@ -150,12 +144,7 @@ fn traces_jumps_and_loops(rt: HostRuntime) -> Result<(), Fail> {
             "0 PASS 0 405\nend 1\n",
         ),
     ];
-    for (image, frames, limit, report) in examples {
-        let (status, found) = traced(&rt, image, frames, limit)?;
-        assert_eq!(rt; status, 0, "{image}");
-        assert_eq!(rt; found.as_slice(), report.as_bytes(), "{image}");
-    }
-    Ok(())
+    traces(&rt, &examples)
 }
 
 /// Packet reads and writes behind a test of the length, and the limit of a pointer's offset.
@@ -207,12 +196,7 @@ fn traces_packets(rt: HostRuntime) -> Result<(), Fail> {
             "0 TX 6 8\n1 DROP 5 7\nend 2\n",
         ),
     ];
-    for (image, frames, limit, report) in examples {
-        let (status, found) = traced(&rt, image, frames, limit)?;
-        assert_eq!(rt; status, 0, "{image}");
-        assert_eq!(rt; found.as_slice(), report.as_bytes(), "{image}");
-    }
-    Ok(())
+    traces(&rt, &examples)
 }
 
 /// Numbers and pointers on the stack, whole and overwritten.
@@ -257,12 +241,7 @@ fn traces_stack_frames(rt: HostRuntime) -> Result<(), Fail> {
             "0 PASS 0 19\nend 1\n",
         ),
     ];
-    for (image, frames, limit, report) in examples {
-        let (status, found) = traced(&rt, image, frames, limit)?;
-        assert_eq!(rt; status, 0, "{image}");
-        assert_eq!(rt; found.as_slice(), report.as_bytes(), "{image}");
-    }
-    Ok(())
+    traces(&rt, &examples)
 }
 
 /// Local calls, to the ninth frame.
@@ -291,10 +270,5 @@ fn traces_local_calls(rt: HostRuntime) -> Result<(), Fail> {
             "0 PASS 0 7\nend 1\n",
         ),
     ];
-    for (image, frames, limit, report) in examples {
-        let (status, found) = traced(&rt, image, frames, limit)?;
-        assert_eq!(rt; status, 0, "{image}");
-        assert_eq!(rt; found.as_slice(), report.as_bytes(), "{image}");
-    }
-    Ok(())
+    traces(&rt, &examples)
 }

@@ -1,7 +1,7 @@
 //! Programs that are verified and run.
 
 use super::programs::{EMPTY, write_frames};
-use super::{answer, write_hex};
+use super::{answers, remove_files, write_hex};
 use std::alloc::Global;
 use std::fs;
 use std::test::Fail;
@@ -56,19 +56,14 @@ fn verifies_and_runs(rt: HostRuntime) -> Result<(), Fail> {
     write_frames(&rt, EMPTY)?;
     for (image, bound, report) in examples {
         write_hex(&rt, "image", image)?;
-        let (status, found, _) = answer(&rt, &["verify", "image"])?;
-        assert_eq!(rt; status, 0, "{image}");
-        assert_eq!(rt; found.as_slice(), bound.as_bytes(), "{image}");
-        let (status, found, _) = answer(&rt, &["run", "image", "frames", "sent"])?;
-        assert_eq!(rt; status, 0, "{image}");
-        assert_eq!(rt; found.as_slice(), report.as_bytes(), "{image}");
+        answers(&rt, &["verify", "image"], 0, bound, "")?;
+        answers(&rt, &["run", "image", "frames", "sent"], 0, report, "")?;
         let sent = fs::read(&rt, "sent")?;
-        let (_, traced, _) = answer(&rt, &["trace", "image", "frames", "sent"])?;
-        assert_eq!(rt; found.as_slice(), traced.as_slice(), "{image}");
+        answers(&rt, &["trace", "image", "frames", "sent"], 0, report, "")?;
         let again = fs::read(&rt, "sent")?;
         assert_eq!(rt; sent.as_slice(), again.as_slice(), "{image}");
     }
-    Ok(())
+    remove_files(&rt)
 }
 
 /// What is refused, by what and where. No instruction is run, and the frames and the frames out are not opened.
@@ -115,16 +110,10 @@ fn refuses_and_runs_nothing(rt: HostRuntime) -> Result<(), Fail> {
     ];
     for (image, refusal) in examples {
         write_hex(&rt, "image", image)?;
-        for words in [
-            ["verify", "image"].as_slice(),
-            ["run", "image", "lost", "lost/sent"].as_slice(),
-        ] {
-            let (status, found, _) = answer(&rt, words)?;
-            assert_eq!(rt; status, 2, "{image}");
-            assert_eq!(rt; found.as_slice(), refusal.as_bytes(), "{image}");
-        }
+        answers(&rt, &["verify", "image"], 2, refusal, "")?;
+        answers(&rt, &["run", "image", "lost", "lost/sent"], 2, refusal, "")?;
     }
-    Ok(())
+    remove_files(&rt)
 }
 
 /// `r0 = 2`, then 20 times `r7 = *(u32 *)(r1 + 12); if r7 == 0 goto +0`, then `exit`.
@@ -143,11 +132,13 @@ fn verifies_where_paths_join(rt: HostRuntime) -> Result<(), Fail> {
     let bytes = joins(rt.alloc())?;
     fs::write(&rt, "image", bytes.as_slice())?;
     write_frames(&rt, EMPTY)?;
-    let (status, found, _) = answer(&rt, &["verify", "image"])?;
-    assert_eq!(rt; status, 0);
-    assert_eq!(rt; found.as_slice(), b"ok bound 42\n".as_slice());
-    let (status, found, _) = answer(&rt, &["run", "image", "frames", "sent"])?;
-    assert_eq!(rt; status, 0);
-    assert_eq!(rt; found.as_slice(), b"0 PASS 0 42\nend 1\n".as_slice());
-    Ok(())
+    answers(&rt, &["verify", "image"], 0, "ok bound 42\n", "")?;
+    answers(
+        &rt,
+        &["run", "image", "frames", "sent"],
+        0,
+        "0 PASS 0 42\nend 1\n",
+        "",
+    )?;
+    remove_files(&rt)
 }

@@ -1,0 +1,116 @@
+//! Files that fail, that are read and written at once, and that are large.
+
+use super::{answers, remove_files, write_files};
+use std::fs;
+use std::test::Fail;
+
+#[test]
+fn files_that_fail(rt: HostRuntime) -> Result<(), Fail> {
+    write_files(&rt)?;
+    fs::create_dir(&rt, "folder")?;
+    let rows: [(&[&str], u8, &str, &str); 10] = [
+        (&["dis", "lost"], 4, "", "cannot read lost\n"),
+        (&["dis", "short"], 2, "refused I2\n", ""),
+        (
+            &["trace", "lost", "frames", "sent"],
+            4,
+            "",
+            "cannot read lost\n",
+        ),
+        (
+            &["trace", "image", "lost", "sent"],
+            4,
+            "",
+            "cannot read lost\n",
+        ),
+        (
+            &["trace", "image", "lost", "lost/sent"],
+            4,
+            "",
+            "cannot read lost\n",
+        ),
+        (
+            &["trace", "image", "frames", "lost/sent"],
+            4,
+            "",
+            "cannot write lost/sent\n",
+        ),
+        (
+            &["trace", "folder", "frames", "sent"],
+            4,
+            "",
+            "cannot read folder\n",
+        ),
+        (
+            &["trace", "image", "folder", "sent"],
+            3,
+            "fault F5 at 0\n",
+            "",
+        ),
+        (
+            &["trace", "image", "frames", "/dev/full"],
+            4,
+            "",
+            "cannot write /dev/full\n",
+        ),
+        (&["trace", "short", "lost", "sent"], 2, "refused I2\n", ""),
+    ];
+    for (texts, status, report, said) in rows {
+        answers(&rt, texts, status, report, said)?;
+    }
+    fs::remove_dir(&rt, "folder")?;
+    remove_files(&rt)
+}
+
+/// Files that are read are not written over, whatever they are called.
+#[test]
+fn files_that_are_read_too(rt: HostRuntime) -> Result<(), Fail> {
+    write_files(&rt)?;
+    fs::write(&rt, "text", b"exit")?;
+    let rows: [(&[&str], &str); 6] = [
+        (&["trace", "image", "frames", "frames"], "frames"),
+        (&["run", "image", "frames", "frames"], "frames"),
+        (&["run", "image", "frames", "./frames"], "./frames"),
+        (&["trace", "image", "frames", "image"], "image"),
+        (&["run", "image", "frames", "image"], "image"),
+        (&["asm", "text", "text"], "text"),
+    ];
+    for (texts, path) in rows {
+        let said = format!(in rt.alloc();
+            "cannot write {path}\nit is one of the files that are read\n"
+        )?;
+        answers(&rt, texts, 4, "", said.as_str())?;
+    }
+    answers(
+        &rt,
+        &["run", "image", "frames", "sent"],
+        0,
+        "0 PASS 0 2\nend 1\n",
+        "",
+    )?;
+    let text = fs::read(&rt, "text")?;
+    assert_eq!(rt; text.as_slice(), b"exit".as_slice());
+    remove_files(&rt)
+}
+
+/// The largest image is read whole; of a longer file no more is read than shows that it is too long, and a device that
+/// never ends is refused by its first bytes.
+#[test]
+fn large_images(rt: HostRuntime) -> Result<(), Fail> {
+    let mut bytes = hex::decode(rt.alloc(), "5842503100000010")?;
+    for _ in 0..4095u32 {
+        bytes.extend_from_slice(&[0xb7, 0, 0, 0, 2, 0, 0, 0])?;
+    }
+    bytes.extend_from_slice(&[0x95, 0, 0, 0, 0, 0, 0, 0])?;
+    fs::write(&rt, "largest", bytes.as_slice())?;
+    bytes.push(0)?;
+    fs::write(&rt, "long", bytes.as_slice())?;
+    for (path, status, line) in [
+        ("largest", 0, "ok bound 4096\n"),
+        ("long", 2, "refused I3\n"),
+        ("/dev/zero", 2, "refused I1\n"),
+    ] {
+        answers(&rt, &["verify", path], status, line, "")?;
+    }
+    remove_files(&rt)
+}
