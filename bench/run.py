@@ -1,0 +1,153 @@
+#!/usr/bin/env python3
+"""Measures xdpvm: steps a second of `trace` and `run`, explored instructions a second and peak memory of `verify`,
+and, for scale, a plain interpreter in C (bench/switch.c, gcc -O2) on the same programs.
+
+usage: python3 bench/run.py [PROGRAM]
+
+PROGRAM is the program that `rt run` leaves in crates/xdpvm (the default: crates/xdpvm/out/xdpvm). Each figure is the
+best of three runs. Files are made in a folder of its own, which goes at the end.
+"""
+import os
+import struct
+import subprocess
+import sys
+import tempfile
+import time
+
+HERE = os.path.dirname(os.path.abspath(__file__))
+PROGRAM = os.path.abspath(sys.argv[1] if len(sys.argv) > 1 else os.path.join(HERE, "../crates/xdpvm/out/xdpvm"))
+TIMES = 3
+
+
+def counted_loop(turns):
+    """3 + 2 * turns steps on one path."""
+    return f"r1 = 0\nloop: r1 += 1\nif r1 < {turns} goto loop\nr0 = 2\nexit\n"
+
+
+def straight(slots):
+    """Each slot once: a body of additions, exclusive ors and products."""
+    body = ["r1 = 1", "r2 = 3"]
+    forms = ["r1 += r2", "r2 ^= r1", "r1 *= 5", "r2 += 7", "r1 &= 1048575"]
+    while len(body) < slots - 2:
+        body.append(forms[len(body) % len(forms)])
+    return "\n".join(body + ["r0 = 2", "exit"]) + "\n"
+
+
+def branches(count):
+    """count tests of the unknown bits of one number, one after the other. Each way through leaves another number in
+    r0, so that no state covers another: 3 * 2^count instructions are to be explored in all."""
+    lines = ["r2 = *(u32 *)(r1 + 12)", "r0 = 0"]
+    for bit in range(count):
+        lines += [f"if r2 & {1 << bit} goto +1", f"r0 += {1 << bit}"]
+    return "\n".join(lines + ["exit"]) + "\n"
+
+
+def frames(count, size):
+    record = struct.pack("<QIII", 0, 1, 0, size) + bytes(range(size))
+    return b"XPF1" + record * count
+
+
+def measured(words):
+    """Runs a command: its status, its output's last line, its seconds and its peak memory in megabytes."""
+    out = tempfile.TemporaryFile()
+    begin = time.monotonic()
+    child = subprocess.Popen(words, stdout=out, stderr=subprocess.STDOUT)
+    _, status, usage = os.wait4(child.pid, 0)
+    seconds = time.monotonic() - begin
+    child.returncode = os.waitstatus_to_exitcode(status)
+    out.seek(0, os.SEEK_END)
+    out.seek(max(0, out.tell() - 200))
+    last = out.read().decode().strip().splitlines()[-1]
+    return child.returncode, last, seconds, usage.ru_maxrss / 1024
+
+
+def best(words, status, last):
+    """The best of some runs, each of which must end with this status and this last line."""
+    runs = []
+    for _ in range(TIMES):
+        run = measured(words)
+        if run[0] != status or run[1] != last:
+            sys.exit(f"{' '.join(words)}: status {run[0]}, {run[1]!r}, in place of {status}, {last!r}")
+        runs.append(run)
+    return min(run[2] for run in runs), max(run[3] for run in runs)
+
+
+def assembled(name, text):
+    with open(name + ".text", "w") as file:
+        file.write(text)
+    ended = subprocess.run([PROGRAM, "asm", name + ".text", name + ".image"], stdout=subprocess.PIPE, text=True)
+    if ended.returncode != 0:
+        sys.exit(f"{name}: {ended.stdout.strip()}")
+    return name + ".image"
+
+
+def streamed(name, count, size):
+    with open(name + ".frames", "wb") as file:
+        file.write(frames(count, size))
+    return name + ".frames"
+
+
+def plain_c(image, count):
+    """The steps and the seconds of the interpreter in C."""
+    ended = [subprocess.run(["./switch", image, str(count)], stdout=subprocess.PIPE, text=True, check=True).stdout for _ in range(TIMES)]
+    rows = [row.split() for row in ended]
+    return int(rows[0][0]), min(float(row[1]) for row in rows)
+
+
+def execution():
+    """`trace` and `run`, less the time that they take on a stream without frames. The interpreter in C reads no frames
+    and writes no report, so it is compared only where the steps outweigh those."""
+    empty = streamed("none", 0, 0)
+    print(f"{'program and frames':<46}{'by':<7}{'seconds':>9}{'steps/s':>11}{'frames/s':>11}{'times C':>9}")
+    rows = [
+        ("loop of 499,998 turns, 40 frames", counted_loop(499_998), 999_999, 40, True),
+        ("straight code of 3,000 slots, 10,000 frames", straight(3_000), 3_000, 10_000, True),
+        ("two instructions, 100,000 frames of 60 bytes", "r0 = 1\nexit\n", 2, 100_000, False),
+    ]
+    for name, text, steps, count, compared in rows:
+        image, stream = assembled("p", text), streamed("f", count, 60)
+        c_steps, c_seconds = plain_c(image, count)
+        if c_steps != steps * count:
+            sys.exit(f"{name}: {c_steps} steps in C, in place of {steps * count}")
+        timed = []
+        for command in ["trace", "run"]:
+            ready, _ = best([PROGRAM, command, image, empty, "sent"], 0, "end 0")
+            seconds, _ = best([PROGRAM, command, image, stream, "sent"], 0, f"end {count}")
+            timed.append((command, seconds - ready))
+        if compared:
+            timed.append(("C", c_seconds))
+        for by, seconds in timed:
+            times = f"{seconds / c_seconds:.1f}" if compared else "-"
+            print(f"{name:<46}{by:<7}{seconds:>9.3f}{steps * count / seconds:>11.3g}{count / seconds:>11.3g}{times:>9}")
+
+
+def verification():
+    print()
+    print(f"{'program':<46}{'answer':<24}{'seconds':>9}{'explored':>10}{'explored/s':>12}{'MB':>6}")
+    rows = [
+        ("straight code of 3,000 slots", straight(3_000), "ok bound 3000", 3_000),
+        ("loop of 300,000 turns", counted_loop(300_000), "ok bound 600003", 600_003),
+        ("18 branches on unknown bits in a row", branches(18), "ok bound 39", 3 * 2**18),
+        ("20 branches on unknown bits in a row", branches(20), None, 1_000_000),
+    ]
+    for name, text, answer, explored in rows:
+        image = assembled("p", text)
+        if answer is None:
+            _, answer, _, _ = measured([PROGRAM, "verify", image])
+            if not answer.startswith("refused V19 "):
+                sys.exit(f"{name}: {answer}")
+        seconds, memory = best([PROGRAM, "verify", image], 0 if answer.startswith("ok") else 2, answer)
+        print(f"{name:<46}{answer:<24}{seconds:>9.3f}{explored:>10}{explored / seconds:>12.3g}{memory:>6.0f}")
+
+
+def main():
+    with tempfile.TemporaryDirectory() as folder:
+        os.chdir(folder)
+        subprocess.run(["gcc", "-O2", "-o", "switch", os.path.join(HERE, "switch.c")], check=True)
+        print(f"{os.cpu_count()} cores; each figure is the best of {TIMES} runs; `trace` and `run` without their start")
+        execution()
+        verification()
+        os.chdir("/")
+
+
+main()

@@ -1,0 +1,51 @@
+/* Stands between the program and the C library, for break.py. BREAK names what is to happen, WHEN at which call of its
+   kind, counted from 1, and MARK a file that is made when it happens. A program that is told nothing behaves as always. */
+#define _GNU_SOURCE
+#include <errno.h>
+#include <fcntl.h>
+#include <stdlib.h>
+#include <string.h>
+#include <sys/syscall.h>
+#include <unistd.h>
+
+extern void *__libc_malloc(size_t size);
+extern void *__libc_realloc(void *old, size_t size);
+
+static long calls;
+
+/* whether this is the call, and calls of this kind are to break */
+static int breaks(const char *kind) {
+    const char *what = getenv("BREAK"), *when = getenv("WHEN"), *mark = getenv("MARK");
+    if (!what || !when || !mark || strcmp(what, kind) || ++calls != atol(when)) {
+        return 0;
+    }
+    syscall(SYS_close, syscall(SYS_openat, AT_FDCWD, mark, O_WRONLY | O_CREAT, 0600));
+    return 1;
+}
+
+void *malloc(size_t size) {
+    return breaks("alloc") ? NULL : __libc_malloc(size);
+}
+
+void *realloc(void *old, size_t size) {
+    return breaks("alloc") ? NULL : __libc_realloc(old, size);
+}
+
+ssize_t read(int file, void *bytes, size_t count) {
+    if (breaks("read")) {
+        errno = EIO;
+        return -1;
+    }
+    return syscall(SYS_read, file, bytes, count > 1 && breaks("short-read") ? 1 : count);
+}
+
+ssize_t write(int file, const void *bytes, size_t count) {
+    if (breaks("write")) {
+        errno = ENOSPC;
+        return -1;
+    }
+    if (breaks("no-write")) {
+        return 0;
+    }
+    return syscall(SYS_write, file, bytes, count > 1 && breaks("short-write") ? 1 : count);
+}
