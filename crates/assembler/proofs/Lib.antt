@@ -6,3 +6,5 @@ pub mod LineReads
 pub mod TextReads
 pub mod ColumnCounts
 pub mod LabelLookups
+pub mod NearDistances
+pub mod NameUses

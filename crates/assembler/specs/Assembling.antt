@@ -1,15 +1,17 @@
 -- Programs from texts without names: lexeme by lexeme, a statement at a time.
-use Rattle.std.specs.Prelude.{◌≡◌, ℕ, zero, suc, ◌-◌, ◌==◌, nat_lt, not, Bool, true, false, if◌then◌else◌, List, [], ◌∷◌, ◌++◌, length, Option, Some, None, Result, Ok, Err, ⊤, ◌⊎◌}
+use Rattle.std.specs.Prelude.{◌≡◌, ℕ, zero, suc, ◌-◌, ◌==◌, nat_lt, not, Bool, true, false, if◌then◌else◌, List, [], ◌∷◌, ◌++◌, length, slice_get, Option, Some, None, Result, Ok, Err, ⊤, ◌⊎◌}
 use Rattle.isa_model.specs.declared.instructions.Insn.{Insn}
 use Rattle.isa_model.specs.Instructions.{Program, slots}
 use Rattle.assembler.specs.declared.errors.AsmErrorKind.{AsmErrorKind}
 use Rattle.assembler.specs.declared.errors.AsmErrorKind.TheVariants.{Memory, SlotCount}
 use Rattle.assembler.specs.declared.refusals.Refusal.{Refusal}
+use Rattle.lexer.specs.declared.tokens.Sign.TheVariants as sign
 use Rattle.lexer.specs.declared.tokens.Token.{Token}
+use Rattle.lexer.specs.declared.tokens.Token.TheVariants.{Named, Signed}
 use Rattle.lexer.specs.declared.tokens.Lexeme.{Lexeme}
 use Rattle.lexer.specs.declared.tokens.Lexeme.TheVariants.{Blank, End, Solid}
 use Rattle.lexer.specs.Lexing.{lexeme_at}
-use Rattle.assembler.specs.Statements.{◌>>=◌, keep, plain_statement}
+use Rattle.assembler.specs.Statements.{◌>>=◌, keep, is_name, plain_statement}
 
 -- the tokens of the statement so far, and the instructions before it
 pub record Progress : Type 0 where
@@ -41,6 +43,16 @@ assembled (b ∷ bs) zero s = lexeme_at (b ∷ bs) >>= λ (p : Lexeme × ℕ). a
 
 abbrev pub start : Progress
 start = record { tokens = []; insns = [] }
+
+-- ---- labels
+
+-- a name, and a colon behind it
+abbrev pub is_label : Option Token → Option Token → Bool
+is_label (Some (Named x)) (Some (Signed sign.Colon)) = is_name x
+is_label t u = false
+
+abbrev pub has_label : List Token → Bool
+has_label ts = is_label (slice_get ts 0) (slice_get ts 1)
 
 -- ---- what calls answer, where the reading of a text without names goes on
 

@@ -1,7 +1,12 @@
 -- Jumps to names.
-use Rattle.std.specs.Prelude.{◌≡◌, ℕ, ◌+◌, ℤ, pos, ◌-ℤ◌, Option, Some, None}
+use Rattle.std.specs.Prelude.{◌≡◌, ℕ, ◌+◌, ◌^◌, ℤ, pos, negsuc, ◌-ℤ◌, nat_lt, Bool, List, [], ◌∷◌, slice_get, slice_set, Option, Some, None, Result, Ok, Err}
 use Rattle.isa_model.specs.declared.instructions.Insn.{Insn}
 use Rattle.isa_model.specs.declared.instructions.Insn.TheVariants.{Jump, JumpLong, JumpIf, CallLocal}
+use Rattle.assembler.specs.declared.errors.AsmErrorKind.{AsmErrorKind}
+use Rattle.assembler.specs.declared.errors.AsmErrorKind.TheVariants.{NotDefined, TooFar}
+use Rattle.assembler.specs.declared.refusals.Refusal.{Refusal}
+use Rattle.assembler.specs.declared.names.Use.{Use}
+use Rattle.assembler.specs.Statements.{keep}
 
 -- the jump over another distance; other instructions as they are
 abbrev pub with_distance : Insn → ℤ → Insn
@@ -19,3 +24,46 @@ distance from to = pos to -ℤ pos (from + 1)
 abbrev pub Jumps : Option ℕ → ℕ → Insn → Insn → Type 0
 Jumps None from old new = ⊥
 Jumps (Some to) from old new = new ≡ with_distance old (distance from to)
+
+-- ---- which jumps to names are refused
+
+-- from -2^15 up to below 2^15
+abbrev pub is_near : ℤ → Bool
+is_near (pos n) = nat_lt n (2 ^ 15)
+is_near (negsuc n) = nat_lt n (2 ^ 15)
+
+-- the jump over that distance, unless it has 16 bits for it and that is too far
+abbrev pub aimed : Insn → ℤ → Option Insn
+aimed (Jump old) by = keep (is_near by) (Jump by)
+aimed (JumpIf c old) by = keep (is_near by) (JumpIf c by)
+aimed (JumpLong old) by = Some (JumpLong by)
+aimed (CallLocal old) by = Some (CallLocal by)
+aimed i by = Some i
+
+abbrev pub or_too_far : Option Insn → Result Insn AsmErrorKind
+or_too_far None = Err TooFar
+or_too_far (Some i) = Ok i
+
+-- an instruction at a slot, over the distance to where its name stands
+abbrev pub aim : Option ℕ → ℕ → Insn → Result Insn AsmErrorKind
+aim None from i = Err NotDefined
+aim (Some to) from i = or_too_far (aimed i (distance from to))
+
+-- ---- all jumps to names
+
+abbrev pub aim_used : (List ℕ → Option ℕ) → Use → Option Insn → Result Insn AsmErrorKind
+aim_used slot_of u None = Err NotDefined
+aim_used slot_of u (Some i) = aim (slot_of u.name.now) u.slot i
+
+abbrev pub put : Use → List Insn → Result Insn AsmErrorKind → Result (List Insn) Refusal
+put u is (Ok i) = Ok (slice_set is u.index i)
+put u is (Err kind) = Err (record { kind = kind; offset = u.offset })
+
+abbrev pub on : Result (List Insn) Refusal → (List Insn → Result (List Insn) Refusal) → Result (List Insn) Refusal
+on (Ok is) next = next is
+on (Err e) next = Err e
+
+-- the instructions with the distances of the names that they use; the first use that is wrong is refused, at its place
+abbrev pub resolved : (List ℕ → Option ℕ) → List Use → List Insn → Result (List Insn) Refusal
+resolved slot_of [] is = Ok is
+resolved slot_of (u ∷ us) is = on (put u is (aim_used slot_of u (slice_get is u.index))) (λ next. resolved slot_of us next)

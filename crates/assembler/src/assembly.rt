@@ -1,12 +1,15 @@
 //! Images from texts.
 
-ghost use Rattle.std.specs.Prelude.{◌≡◌, ◌-◌, ◌<◌, [], length, drop, Some, MatchResult};
+ghost use Rattle.std.specs.Prelude.{◌≡◌, ◌-◌, ◌<◌, List, [], length, drop, Some, Ok, Err, MatchResult, bytes_eq};
+ghost use Rattle.indexmap.specs.IndexMap.{get_by};
+ghost use Rattle.isa_model.specs.declared.instructions.Insn.{Insn};
 ghost use Rattle.isa_model.specs.Instructions.{Program};
 ghost use Rattle.isa_model.specs.CanonicalText.{canonical_text};
 ghost use Rattle.image.specs.Images.{IsImage, code_alone};
 ghost use Rattle.assembler.specs.declared.errors.AsmErrorKind.TheVariants as AsmErrorKind;
 ghost use Rattle.assembler.specs.Assembling.{Progress, assembled, start, Makes};
 ghost use Rattle.assembler.specs.Drafts.{Finishes};
+ghost use Rattle.assembler.specs.Naming.{resolved};
 
 use super::code::Code;
 use super::draft::{Draft, Span};
@@ -64,7 +67,9 @@ fn read<'a>(alloc: Global, text: &'a [u8]) -> Result<Draft<'a>, Refusal>
 
 // The image of a text that was read.
 fn finish(alloc: Global, draft: Draft<'_>) -> Result<Image, Refusal>
-    ensures { draft.entry.uses.items ≡ [] → IsImage (code_alone draft.entry.code.insns.items) → Makes (λ image. image) result (code_alone draft.entry.code.insns.items) }
+    ensures made { (insns : List Insn) → resolved (λ name. get_by (λ k. bytes_eq name k.now) draft.entry.labels) draft.entry.uses.items draft.entry.code.insns.items ≡ Ok insns → IsImage (code_alone insns) → Makes (λ image. image) result (code_alone insns) }
+    ensures refused { (refusal : Refusal) → resolved (λ name. get_by (λ k. bytes_eq name k.now) draft.entry.labels) draft.entry.uses.items draft.entry.code.insns.items ≡ Err refusal → result ≡ Err refusal }
+    ensures unused { draft.entry.uses.items ≡ [] → IsImage (code_alone draft.entry.code.insns.items) → Makes (λ image. image) result (code_alone draft.entry.code.insns.items) }
 {
     let Draft {
         tokens: _,

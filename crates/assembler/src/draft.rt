@@ -5,7 +5,7 @@ ghost use Rattle.indexmap.specs.IndexMap.{get_by};
 ghost use Rattle.isa_model.specs.Instructions.{slots};
 ghost use Rattle.lexer.specs.declared.tokens.Lexeme.TheVariants as Lexeme;
 ghost use Rattle.assembler.specs.Statements.{unnamed};
-ghost use Rattle.assembler.specs.Assembling.{Progress, added, closed, accept, start, Keeps};
+ghost use Rattle.assembler.specs.Assembling.{Progress, added, closed, accept, start, Keeps, has_label};
 
 use super::code::Code;
 use super::errors::AsmErrorKind;
@@ -150,7 +150,8 @@ impl<'a> Draft<'a> {
     }
 
     fn has_label(&self) -> bool
-        ensures { result ≡ true → 2 ≤ length self.now.tokens.items }
+        ensures exact { result ≡ has_label self.now.tokens.items }
+        ensures long { result ≡ true → 2 ≤ length self.now.tokens.items }
     {
         match (self.tokens.get(0).copied(), self.tokens.get(1).copied()) {
             (Some(Token::Named(word)), Some(Token::Signed(Sign::Colon))) => is_name(word),

@@ -1,9 +1,9 @@
 //! Names of places of the code: where they are defined, and where they are used.
 
-ghost use Rattle.std.specs.Prelude.{◌≡◌, ◌+◌, ◌-◌, ◌≤◌, [], length, map, Some, Ok, IfOk, IfSome, OnOk, bytes_eq, pos};
+ghost use Rattle.std.specs.Prelude.{◌≡◌, ◌+◌, ◌-◌, ◌≤◌, [], length, map, Some, Ok, Err, IfOk, IfSome, OnOk, MatchResult, bytes_eq, pos};
 ghost use Rattle.indexmap.specs.IndexMap.{get_by};
 ghost use Rattle.std.specs.Map.{lookup};
-ghost use Rattle.assembler.specs.Naming.{with_distance, distance, Jumps};
+ghost use Rattle.assembler.specs.Naming.{with_distance, distance, Jumps, aimed, aim, resolved};
 ghost use Rattle.assembler.specs.Labels.{label_of, with_label, Makes};
 
 use super::errors::AsmErrorKind;
@@ -52,9 +52,11 @@ fn distance(from: u16, to: u16) -> i32
     i32::from(to) - (i32::from(from) + 1)
 }
 
-// The jump, over that distance.
+// The jump, over that distance, unless that is too far.
+#[tactic(auto, using(crate::proofs::NearDistances::fits_near, crate::proofs::NearDistances::fits_not))]
 fn aimed(insn: Insn, by: i32) -> Option<Insn>
-    ensures { IfSome result (λ i. i ≡ with_distance insn by) }
+    ensures exact { result ≡ aimed insn by }
+    ensures jumps { IfSome result (λ i. i ≡ with_distance insn by) }
 {
     match insn {
         Insn::Jump(_) => match i16::try_from(by) {
@@ -73,7 +75,8 @@ fn aimed(insn: Insn, by: i32) -> Option<Insn>
 
 // What the instruction at a use becomes.
 fn aim(labels: &Labels<'_>, used: &Use<'_>, insn: Insn) -> Result<Insn, AsmErrorKind>
-    ensures { IfOk result (λ i. Jumps (get_by (λ k. bytes_eq used.now.name.now k.now) labels.now) used.now.slot insn i) }
+    ensures exact { result ≡ aim (get_by (λ k. bytes_eq used.now.name.now k.now) labels.now) used.now.slot insn }
+    ensures jumps { IfOk result (λ i. Jumps (get_by (λ k. bytes_eq used.now.name.now k.now) labels.now) used.now.slot insn i) }
 {
     let Some(to) = labels.get(used.name) else {
         return Err(AsmErrorKind::NotDefined);
@@ -84,9 +87,12 @@ fn aim(labels: &Labels<'_>, used: &Use<'_>, insn: Insn) -> Result<Insn, AsmError
     }
 }
 
-/// Puts the distances of names into the instructions that use them.
+/// Puts the distances of names into the instructions that use them. The first use that is wrong is refused, at its place.
 pub fn resolve(insns: &mut Vec<Insn>, labels: &Labels<'_>, uses: &[Use<'_>]) -> Result<(), Refusal>
-    ensures { uses.now ≡ [] → (result ≡ Ok tt) × (insns.new.items ≡ insns.old.items) }
+    ensures exact { MatchResult result
+        (λ _. resolved (λ name. get_by (λ k. bytes_eq name k.now) labels.now) uses.now insns.old.items ≡ Ok insns.new.items)
+        (λ e. resolved (λ name. get_by (λ k. bytes_eq name k.now) labels.now) uses.now insns.old.items ≡ Err e) }
+    ensures unused { uses.now ≡ [] → (result ≡ Ok tt) × (insns.new.items ≡ insns.old.items) }
 {
     for used in uses {
         let Some(insn) = insns.get_mut(used.index) else {

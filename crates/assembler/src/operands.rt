@@ -1,7 +1,8 @@
 //! Numbers in their ranges, registers, operands, places and targets.
 
-ghost use Rattle.std.specs.Prelude.{◌≡◌, ◌+◌, ◌-◌, ◌<◌, ◌≤◌, ◌^◌, ◌==◌, if◌then◌else◌, IfOk};
+ghost use Rattle.std.specs.Prelude.{◌≡◌, ◌+◌, ◌-◌, ◌<◌, ◌≤◌, ◌^◌, ◌==◌, if◌then◌else◌, IfOk, IfErr};
 ghost use Rattle.std.specs.Result.{result_ok};
+ghost use Rattle.assembler.specs.declared.wrong.Wrong.TheVariants as Wrong;
 ghost use Rattle.assembler.specs.Statements.{signed_within, wide_within, signed_at, number_index, constant_at, same_width, same_register, as_register, register_at, again_at, operand_token, operand_at, place_at, memory_at, argument_at, is_name, target_token, target_at};
 
 use super::parts::{expect_at, is_minus, number_at, sign_at, token_at, word_at};
@@ -11,7 +12,8 @@ use lexer::{Sign, Token, Word};
 
 // A number for `imm`; `at` is the token at which it begins.
 fn imm_within(minus: bool, n: u128, at: usize) -> Result<i32, Wrong>
-    ensures { result_ok result ≡ signed_within (2 ^ 31) minus n }
+    ensures value { result_ok result ≡ signed_within (2 ^ 31) minus n }
+    ensures fault { IfErr result (λ wrong. wrong ≡ Wrong.Range at) }
 {
     if minus {
         if n <= 1 << 31 {
@@ -30,7 +32,8 @@ fn imm_within(minus: bool, n: u128, at: usize) -> Result<i32, Wrong>
 
 // A number for `offset`.
 fn offset_within(minus: bool, n: u128, at: usize) -> Result<i16, Wrong>
-    ensures { result_ok result ≡ signed_within (2 ^ 15) minus n }
+    ensures value { result_ok result ≡ signed_within (2 ^ 15) minus n }
+    ensures fault { IfErr result (λ wrong. wrong ≡ Wrong.Range at) }
 {
     if minus {
         if n <= 1 << 15 {
@@ -57,7 +60,8 @@ fn negative_wide(n: u128) -> u64
 
 /// The number of a wide load.
 pub fn wide_within(minus: bool, n: u128, at: usize) -> Result<u64, Wrong>
-    ensures { result_ok result ≡ wide_within minus n }
+    ensures value { result_ok result ≡ wide_within minus n }
+    ensures fault { IfErr result (λ wrong. wrong ≡ Wrong.Range at) }
 {
     if minus {
         if n <= 1 << 63 {

@@ -77,6 +77,43 @@ fn refuses_the_first_statement_that_is_wrong(rt: HostRuntime) {
     );
 }
 
+/// Within a statement the first kind counts, and unknown names only once the whole text was read.
+#[test]
+fn refuses_in_order(rt: HostRuntime) {
+    are_refused(
+        &rt,
+        &[
+            (b"foo ?", UnknownByte, 1, 5),
+            (b"a: exit; a: foo", NoForm, 1, 10),
+            (b"a: exit; a: r0 = 2147483648", OutOfRange, 1, 18),
+            (b"a: exit; a:", DefinedTwice, 1, 10),
+            (b"goto b\nfoo", NoForm, 2, 1),
+            (b"goto b; a: exit; a: exit", DefinedTwice, 1, 18),
+            (b"exit\n\tgoto b; goto c", NotDefined, 2, 7),
+        ],
+    );
+}
+
+/// A name is known by all its letters, and by their case.
+#[test]
+fn names_differ(rt: HostRuntime) -> Result<(), Fail> {
+    is_code(
+        &rt,
+        "goto a_long_name_2\na_long_name_1: exit\na_long_name_2: exit",
+        &[
+            5, 0, 1, 0, 0, 0, 0, 0, 0x95, 0, 0, 0, 0, 0, 0, 0, 0x95, 0, 0, 0, 0, 0, 0, 0,
+        ],
+    )?;
+    are_refused(
+        &rt,
+        &[
+            (b"goto a_long_name_2; a_long_name_1: exit", NotDefined, 1, 6),
+            (b"goto A; a: exit", NotDefined, 1, 6),
+        ],
+    );
+    Ok(())
+}
+
 #[test]
 fn refuses_bytes_that_begin_no_token(rt: HostRuntime) {
     are_refused(
@@ -175,5 +212,9 @@ fn refuses_a_slot_too_many(rt: HostRuntime) -> Result<(), Fail> {
     assert_eq!(rt; full.slots(), 4096);
     text.extend_from_slice(b";a:; exit")?;
     are_refused(&rt, &[(text.as_slice(), SlotCount, 4096, 10)]);
+    // a name that is defined already goes first
+    text.truncate(text.len() - 4);
+    text.extend_from_slice(b"a: exit")?;
+    are_refused(&rt, &[(text.as_slice(), DefinedTwice, 4096, 10)]);
     Ok(())
 }
