@@ -1,10 +1,14 @@
 //! A program while its text is read.
 
-ghost use Rattle.std.specs.Prelude.{◌≡◌, ◌≤◌, ◌++◌, ◌∷◌, [], length, Some, OnOk, bytes_eq, true, slice_get};
+ghost use Rattle.std.specs.Prelude.{◌≡◌, ◌≤◌, ◌++◌, ◌∷◌, [], length, map, Some, IfErr, OnOk, bytes_eq, true, slice_get};
 ghost use Rattle.indexmap.specs.IndexMap.{get_by};
 ghost use Rattle.isa_model.specs.Instructions.{slots};
 ghost use Rattle.lexer.specs.declared.tokens.Lexeme.TheVariants as Lexeme;
+ghost use Rattle.assembler.specs.declared.errors.AsmErrorKind.TheVariants as AsmErrorKind;
+ghost use Rattle.assembler.specs.declared.wrong.Wrong.TheVariants as Wrong;
 ghost use Rattle.assembler.specs.Statements.{unnamed};
+ghost use Rattle.assembler.specs.Labels.{label_of, with_label};
+ghost use Rattle.assembler.specs.Drafts.{offset_or, Defines};
 ghost use Rattle.assembler.specs.Assembling.{Progress, added, closed, accept, start, Keeps, has_label};
 
 use super::code::Code;
@@ -63,7 +67,8 @@ impl<'a> Draft<'a> {
     }
 
     fn take(&mut self, token: Token, span: Span<'a>) -> Result<(), Refusal>
-        ensures { self.old.uses.items ≡ [] → Keeps result (accept (record { tokens = self.old.tokens.items; insns = self.old.code.insns.items }) (Lexeme.Solid token)) (record { tokens = self.new.tokens.items; insns = self.new.code.insns.items }) self.new.uses.items }
+        ensures place { IfErr result (λ e. (e.kind ≡ AsmErrorKind.Memory) × (e.offset ≡ offset_or (slice_get self.old.spans.items 0) span.entry.offset)) }
+        ensures reads { self.old.uses.items ≡ [] → Keeps result (accept (record { tokens = self.old.tokens.items; insns = self.old.code.insns.items }) (Lexeme.Solid token)) (record { tokens = self.new.tokens.items; insns = self.new.code.insns.items }) self.new.uses.items }
     {
         let offset = self.offset_of(0, span.offset);
         match (self.spans.push(span), self.tokens.push(token)) {
@@ -90,7 +95,8 @@ impl<'a> Draft<'a> {
 
     // Adds the instruction of the statement, whose tokens were read behind so many others.
     fn add(&mut self, reading: Reading, skipped: usize) -> Result<(), Refusal>
-        ensures { self.old.uses.items ≡ [] → Keeps result (added (record { tokens = self.old.tokens.items; insns = self.old.code.insns.items }) (unnamed reading.insn reading.name)) (record { tokens = self.new.tokens.items; insns = self.new.code.insns.items }) self.new.uses.items }
+        ensures place { IfErr result (λ e. e.offset ≡ offset_or (slice_get self.old.spans.items 0) 0) }
+        ensures reads { self.old.uses.items ≡ [] → Keeps result (added (record { tokens = self.old.tokens.items; insns = self.old.code.insns.items }) (unnamed reading.insn reading.name)) (record { tokens = self.new.tokens.items; insns = self.new.code.insns.items }) self.new.uses.items }
     {
         let offset = self.offset_of(0, 0);
         if let Some(index) = reading.name {
@@ -108,7 +114,8 @@ impl<'a> Draft<'a> {
 
     // Notes that the next instruction uses the name at that token.
     fn note_use(&mut self, index: usize) -> Result<(), Refusal>
-        ensures { (label : Span) → slice_get self.old.spans.items index ≡ Some label → OnOk result (self.new.uses.items ≡ self.old.uses.items ++ record { index = length self.old.code.insns.items; slot = length (slots self.old.code.insns.items); name = label.bytes; offset = label.offset } ∷ []) }
+        ensures place { IfErr result (λ e. (e.kind ≡ AsmErrorKind.Memory) × (e.offset ≡ offset_or (slice_get self.old.spans.items 0) 0)) }
+        ensures noted { (label : Span) → slice_get self.old.spans.items index ≡ Some label → OnOk result (self.new.uses.items ≡ self.old.uses.items ++ record { index = length self.old.code.insns.items; slot = length (slots self.old.code.insns.items); name = label.bytes; offset = label.offset } ∷ []) }
     {
         let offset = self.offset_of(0, 0);
         let Some(span) = self.spans.get(index).copied() else {
@@ -161,7 +168,8 @@ impl<'a> Draft<'a> {
 
     // The statement's first token is a name for the slot of the next instruction.
     fn define_label(&mut self) -> Result<(), Refusal>
-        ensures { (label : Span) → slice_get self.old.spans.items 0 ≡ Some label → OnOk result (get_by (λ k. bytes_eq label.bytes.now k.now) self.new.labels ≡ Some (length (slots self.old.code.insns.items))) }
+        ensures exact { (label : Span) → slice_get self.old.spans.items 0 ≡ Some label → Defines result label.offset (map label_of self.new.labels.entries) (with_label (map label_of self.old.labels.entries) label.bytes.now (length (slots self.old.code.insns.items))) }
+        ensures stands { (label : Span) → slice_get self.old.spans.items 0 ≡ Some label → OnOk result (get_by (λ k. bytes_eq label.bytes.now k.now) self.new.labels ≡ Some (length (slots self.old.code.insns.items))) }
     {
         let Some(span) = self.spans.get(0).copied() else {
             return Ok(());
@@ -176,7 +184,9 @@ impl<'a> Draft<'a> {
     }
 
     // Why the tokens behind so many others are no instruction.
-    fn refusal(&mut self, wrong: Wrong, skipped: usize) -> Refusal {
+    fn refusal(&mut self, wrong: Wrong, skipped: usize) -> Refusal
+        ensures { wrong ≡ Wrong.Form → result ≡ record { kind = AsmErrorKind.NoForm; offset = offset_or (slice_get self.old.spans.items 0) 0 } }
+    {
         let first = Refusal {
             kind: AsmErrorKind::NoForm,
             offset: self.offset_of(0, 0),
@@ -209,7 +219,9 @@ impl<'a> Draft<'a> {
     }
 
     // Where the token at the index begins; else that offset.
-    fn offset_of(&self, index: usize, otherwise: usize) -> usize {
+    fn offset_of(&self, index: usize, otherwise: usize) -> usize
+        ensures { result ≡ offset_or (slice_get self.now.spans.items index) otherwise }
+    {
         match self.spans.get(index) {
             Some(span) => span.offset,
             None => otherwise,
