@@ -45,6 +45,8 @@ impl<'a> Draft<'a> {
         ensures tokens { result.tokens.items ≡ [] }
         ensures insns { result.code.insns.items ≡ [] }
         ensures uses { result.uses.items ≡ [] }
+        ensures spans { result.spans.items ≡ [] }
+        ensures labels { result.labels.entries ≡ [] }
     {
         Draft {
             tokens: Vec::new(alloc),
@@ -68,6 +70,8 @@ impl<'a> Draft<'a> {
 
     fn take(&mut self, token: Token, span: Span<'a>) -> Result<(), Refusal>
         ensures place { IfErr result (λ e. (e.kind ≡ AsmErrorKind.Memory) × (e.offset ≡ offset_or (slice_get self.old.spans.items 0) span.entry.offset)) }
+        ensures spans { OnOk result (self.new.spans.items ≡ self.old.spans.items ++ span.entry ∷ []) }
+        ensures names { (self.new.labels ≡ self.old.labels) × (self.new.uses.items ≡ self.old.uses.items) }
         ensures reads { self.old.uses.items ≡ [] → Keeps result (accept (record { tokens = self.old.tokens.items; insns = self.old.code.insns.items }) (Lexeme.Solid token)) (record { tokens = self.new.tokens.items; insns = self.new.code.insns.items }) self.new.uses.items }
     {
         let offset = self.offset_of(0, span.offset);
@@ -96,6 +100,9 @@ impl<'a> Draft<'a> {
     // Adds the instruction of the statement, whose tokens were read behind so many others.
     fn add(&mut self, reading: Reading, skipped: usize) -> Result<(), Refusal>
         ensures place { IfErr result (λ e. e.offset ≡ offset_or (slice_get self.old.spans.items 0) 0) }
+        ensures added { OnOk result (self.new.code.insns.items ≡ self.old.code.insns.items ++ reading.insn ∷ []) }
+        ensures cleared { OnOk result ((self.new.tokens.items ≡ []) × (self.new.spans.items ≡ [])) }
+        ensures labels { self.new.labels ≡ self.old.labels }
         ensures reads { self.old.uses.items ≡ [] → Keeps result (added (record { tokens = self.old.tokens.items; insns = self.old.code.insns.items }) (unnamed reading.insn reading.name)) (record { tokens = self.new.tokens.items; insns = self.new.code.insns.items }) self.new.uses.items }
     {
         let offset = self.offset_of(0, 0);
@@ -115,6 +122,7 @@ impl<'a> Draft<'a> {
     // Notes that the next instruction uses the name at that token.
     fn note_use(&mut self, index: usize) -> Result<(), Refusal>
         ensures place { IfErr result (λ e. (e.kind ≡ AsmErrorKind.Memory) × (e.offset ≡ offset_or (slice_get self.old.spans.items 0) 0)) }
+        ensures rest { (self.new.tokens.items ≡ self.old.tokens.items) × (self.new.spans.items ≡ self.old.spans.items) × (self.new.code ≡ self.old.code) × (self.new.labels ≡ self.old.labels) }
         ensures noted { (label : Span) → slice_get self.old.spans.items index ≡ Some label → OnOk result (self.new.uses.items ≡ self.old.uses.items ++ record { index = length self.old.code.insns.items; slot = length (slots self.old.code.insns.items); name = label.bytes; offset = label.offset } ∷ []) }
     {
         let offset = self.offset_of(0, 0);
@@ -137,7 +145,9 @@ impl<'a> Draft<'a> {
     }
 
     // A statement that is no instruction: a label, and what stands behind it.
-    fn close_labelled(&mut self, wrong: Wrong) -> Result<(), Refusal> {
+    fn close_labelled(&mut self, wrong: Wrong) -> Result<(), Refusal>
+        ensures { OnOk result ((self.new.tokens.items ≡ []) × (self.new.spans.items ≡ [])) }
+    {
         if !self.has_label() {
             return Err(self.refusal(wrong, 0));
         }
@@ -169,6 +179,7 @@ impl<'a> Draft<'a> {
     // The statement's first token is a name for the slot of the next instruction.
     fn define_label(&mut self) -> Result<(), Refusal>
         ensures exact { (label : Span) → slice_get self.old.spans.items 0 ≡ Some label → Defines result label.offset (map label_of self.new.labels.entries) (with_label (map label_of self.old.labels.entries) label.bytes.now (length (slots self.old.code.insns.items))) }
+        ensures rest { (self.new.tokens.items ≡ self.old.tokens.items) × (self.new.spans.items ≡ self.old.spans.items) × (self.new.code ≡ self.old.code) × (self.new.uses.items ≡ self.old.uses.items) }
         ensures stands { (label : Span) → slice_get self.old.spans.items 0 ≡ Some label → OnOk result (get_by (λ k. bytes_eq label.bytes.now k.now) self.new.labels ≡ Some (length (slots self.old.code.insns.items))) }
     {
         let Some(span) = self.spans.get(0).copied() else {
