@@ -1,12 +1,12 @@
 //! A program while its text is read.
 
-ghost use Rattle.std.specs.Prelude.{◌≡◌, ◌≤◌, ◌++◌, ◌∷◌, [], length, map, Some, IfErr, OnOk, bytes_eq, true, slice_get};
+ghost use Rattle.std.specs.Prelude.{◌≡◌, ◌≤◌, ◌++◌, ◌∷◌, [], length, map, Some, None, IfErr, OnOk, bytes_eq, true, slice_get};
 ghost use Rattle.indexmap.specs.IndexMap.{get_by};
 ghost use Rattle.isa_model.specs.Instructions.{slots};
 ghost use Rattle.lexer.specs.declared.tokens.Lexeme.TheVariants as Lexeme;
 ghost use Rattle.assembler.specs.declared.errors.AsmErrorKind.TheVariants as AsmErrorKind;
 ghost use Rattle.assembler.specs.declared.wrong.Wrong.TheVariants as Wrong;
-ghost use Rattle.assembler.specs.Statements.{unnamed};
+ghost use Rattle.assembler.specs.Statements.{unnamed, statement_of};
 ghost use Rattle.assembler.specs.Labels.{label_of, with_label};
 ghost use Rattle.assembler.specs.Drafts.{offset_or, Defines};
 ghost use Rattle.assembler.specs.Assembling.{Progress, added, closed, accept, start, Keeps, has_label};
@@ -86,7 +86,9 @@ impl<'a> Draft<'a> {
 
     /// Ends the statement.
     pub fn close(&mut self) -> Result<(), Refusal>
-        ensures { self.old.uses.items ≡ [] → Keeps result (closed (record { tokens = self.old.tokens.items; insns = self.old.code.insns.items })) (record { tokens = self.new.tokens.items; insns = self.new.code.insns.items }) self.new.uses.items }
+        ensures cleared { OnOk result (self.new.tokens.items ≡ []) }
+        ensures instruction { (reading : Reading) → statement_of self.old.tokens.items ≡ Some reading → OnOk result (self.new.code.insns.items ≡ self.old.code.insns.items ++ reading.insn ∷ []) }
+        ensures reads { self.old.uses.items ≡ [] → Keeps result (closed (record { tokens = self.old.tokens.items; insns = self.old.code.insns.items })) (record { tokens = self.new.tokens.items; insns = self.new.code.insns.items }) self.new.uses.items }
     {
         if self.tokens.is_empty() {
             return Ok(());
@@ -103,6 +105,7 @@ impl<'a> Draft<'a> {
         ensures added { OnOk result (self.new.code.insns.items ≡ self.old.code.insns.items ++ reading.insn ∷ []) }
         ensures cleared { OnOk result ((self.new.tokens.items ≡ []) × (self.new.spans.items ≡ [])) }
         ensures labels { self.new.labels ≡ self.old.labels }
+        ensures unnamed { reading.name ≡ None → self.new.uses.items ≡ self.old.uses.items }
         ensures reads { self.old.uses.items ≡ [] → Keeps result (added (record { tokens = self.old.tokens.items; insns = self.old.code.insns.items }) (unnamed reading.insn reading.name)) (record { tokens = self.new.tokens.items; insns = self.new.code.insns.items }) self.new.uses.items }
     {
         let offset = self.offset_of(0, 0);

@@ -29,7 +29,7 @@ returns-in-Ok-close c = λ final e.
     let next : Progress = record { tokens = c.close.new.self.tokens.items; insns = c.close.new.self.code.insns.items } in
     let none : length c.loop-rest.rest.now ≡ 0 = search rules in
     let held = c.loop-rest.invariant final e in
-    end-keeps c.loop-rest.rest.now before next c.close.new.self.uses.items final none (c.in-Ok-close.ensures held.1) held.0
+    end-keeps c.loop-rest.rest.now before next c.close.new.self.uses.items final none (c.in-Ok-close.ensures.reads held.1) held.0
 
 pub returns : goal.returns
 returns c = λ final e.
@@ -37,4 +37,4 @@ returns c = λ final e.
     let next : Progress = record { tokens = c.close.new.self.tokens.items; insns = c.close.new.self.code.insns.items } in
     let none : length c.loop-rest.rest.now ≡ 0 = search rules in
     let held = c.loop-rest.invariant final e in
-    end-failed c.in-Err-close.refusal c.loop-rest.rest.now before next c.close.new.self.uses.items final none (c.in-Err-close.ensures held.1) held.0
+    end-failed c.in-Err-close.refusal c.loop-rest.rest.now before next c.close.new.self.uses.items final none (c.in-Err-close.ensures.reads held.1) held.0
