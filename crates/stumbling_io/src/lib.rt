@@ -2,11 +2,11 @@
 //! take what comes, and must not try again.
 #![tactic(auto)]
 
-ghost use Rattle.std.specs.Prelude.{◌≡◌, [], ◌++◌, length, take, drop, min, None, Some, IfOk, IsErr, OnErr, IfErr, MatchResult};
+ghost use Rattle.std.specs.Prelude.{◌≡◌, ◌≤◌, [], ◌++◌, length, take, drop, min, None, Some, IfOk, IsErr, OnErr, IfErr, MatchResult};
 ghost use Rattle.std.specs.IoError.{error_kind};
 ghost use Rattle.std.specs.Io.{ReadsAtMost, WritesAtMost};
 ghost use Rattle.std.specs.Io.KnownBytes.{ReadConsumes, WriteAppends};
-ghost use Rattle.stumbling_io.specs.Stumbles.{count_of};
+ghost use Rattle.stumbling_io.specs.Stumbles.{count_of, room_after};
 
 use std::alloc::Global;
 use std::io;
@@ -70,6 +70,8 @@ impl Write for Writer {
         ensures bytes { WriteAppends (Some self.old.taken.items) (Some self.new.taken.items) result buf.now }
         ensures count { IfOk result (λ n. n ≡ count_of (length buf.now) self.old.step self.old.room self.old.stumble) }
         ensures due { (kind : ErrorKind) → self.old.stumble ≡ Some (Stumble.Error kind) → self.old.room ≡ 0 → IsErr result }
+        ensures room { IfOk result (λ n. self.new.room ≡ room_after n self.old.room self.old.stumble) }
+        ensures waits { 1 ≤ self.old.room → self.new.stumble ≡ self.old.stumble }
         ensures once { (stumble : Stumble) → self.old.stumble ≡ Some stumble → self.old.room ≡ 0 → self.new.stumble ≡ None }
         ensures step { self.new.step ≡ self.old.step }
     {
@@ -115,6 +117,8 @@ impl Read for Reader<'_> {
         ensures error { IfErr result (λ e. (self.old.stumble ≡ Some (Stumble.Error (error_kind e))) × (self.old.room ≡ 0)) }
         ensures kept { OnErr result (self.new.left.now ≡ self.old.left.now) }
         ensures due { (kind : ErrorKind) → self.old.stumble ≡ Some (Stumble.Error kind) → self.old.room ≡ 0 → IsErr result }
+        ensures room { IfOk result (λ n. self.new.room ≡ room_after n self.old.room self.old.stumble) }
+        ensures waits { 1 ≤ self.old.room → self.new.stumble ≡ self.old.stumble }
         ensures once { (stumble : Stumble) → self.old.stumble ≡ Some stumble → self.old.room ≡ 0 → self.new.stumble ≡ None }
         ensures step { self.new.step ≡ self.old.step }
     {
