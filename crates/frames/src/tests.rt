@@ -156,6 +156,28 @@ fn round_trip(rt: HostRuntime) -> Result<(), Fail> {
     Ok(())
 }
 
+// The bodies of 300 records have 0 to 5 bytes, 750 together, and behind them stand 19 bytes of a head.
+#[test]
+fn many_records(rt: HostRuntime) -> Result<(), Fail> {
+    let mut bytes = Vec::new(rt.alloc());
+    bytes.extend_from_slice(b"XPF1")?;
+    for time in 0..300u64 {
+        let head = FrameHead { time, ..HEAD };
+        write_frame(&mut bytes, &head, &[7; 6][..time as usize % 6])?;
+    }
+    bytes.extend_from_slice(&[0; 19])?;
+    let mut reader = FrameReader::new(bytes.as_slice());
+    let mut buffer = [0; 4096];
+    for time in 0..300u64 {
+        let head = FrameHead { time, ..HEAD };
+        let want = Next::Frame(head, time as usize % 6);
+        assert_eq!(rt; reader.next(&mut buffer), want, "record {time}");
+    }
+    let stop = Next::Fault(Fault::F2, 4 + 300 * 20 + 750);
+    assert_eq!(rt; reader.next(&mut buffer), stop);
+    Ok(())
+}
+
 #[test]
 fn failing_writes(rt: HostRuntime) -> Result<(), Fail> {
     let record = &RECORD[4..];

@@ -2,7 +2,11 @@
 //! take what comes, and must not try again.
 #![tactic(auto)]
 
-ghost use Rattle.std.specs.Prelude.{◌≡◌, [], Some, IfOk};
+ghost use Rattle.std.specs.Prelude.{◌≡◌, ◌≤◌, [], ◌++◌, length, take, drop, min, None, Some, IfOk, IsErr, OnErr, IfErr, MatchResult};
+ghost use Rattle.std.specs.IoError.{error_kind};
+ghost use Rattle.std.specs.Io.{ReadsAtMost, WritesAtMost};
+ghost use Rattle.std.specs.Io.KnownBytes.{ReadConsumes, WriteAppends};
+ghost use Rattle.stumbling_io.specs.Stumbles.{count_of, room_after};
 
 use std::alloc::Global;
 use std::io;
@@ -23,7 +27,7 @@ pub const STUMBLES: [Stumble; 3] = [
 ];
 
 fn answer_of(stumble: Stumble) -> io::Result<usize>
-    ensures { IfOk result (λ count. count ≡ 0) }
+    ensures { MatchResult result (λ count. (stumble ≡ Stumble.Nothing) × (count ≡ 0)) (λ e. stumble ≡ Stumble.Error (error_kind e)) }
 {
     match stumble {
         Stumble::Error(kind) => Err(io::Error::from(kind)),
@@ -61,7 +65,16 @@ impl Writer {
 impl Write for Writer {
     ghost contents = { λ w. Some w.taken.items };
 
-    fn write(&mut self, buf: &[u8]) -> io::Result<usize> {
+    fn write(&mut self, buf: &[u8]) -> io::Result<usize>
+        ensures bound { WritesAtMost result buf.now }
+        ensures bytes { WriteAppends (Some self.old.taken.items) (Some self.new.taken.items) result buf.now }
+        ensures count { IfOk result (λ n. n ≡ count_of (length buf.now) self.old.step self.old.room self.old.stumble) }
+        ensures due { (kind : ErrorKind) → self.old.stumble ≡ Some (Stumble.Error kind) → self.old.room ≡ 0 → IsErr result }
+        ensures room { IfOk result (λ n. self.new.room ≡ room_after n self.old.room self.old.stumble) }
+        ensures waits { 1 ≤ self.old.room → self.new.stumble ≡ self.old.stumble }
+        ensures once { (stumble : Stumble) → self.old.stumble ≡ Some stumble → self.old.room ≡ 0 → self.new.stumble ≡ None }
+        ensures step { self.new.step ≡ self.old.step }
+    {
         let mut count = buf.len().min(self.step);
         if let Some(stumble) = self.stumble {
             if self.room == 0 {
@@ -91,7 +104,24 @@ pub struct Reader<'a> {
 }
 
 impl Read for Reader<'_> {
-    fn read(&mut self, buf: &mut [u8]) -> io::Result<usize> {
+    fn read(&mut self, buf: &mut [u8]) -> io::Result<usize>
+        ensures bound { ReadsAtMost result buf.new }
+        ensures bytes { ReadConsumes None None result buf.new }
+
+        // The bytes come from the front of what is left, and are gone from it.
+        ensures given { IfOk result (λ n. buf.new ≡ take n self.old.left.now ++ drop n buf.old) }
+        ensures left { IfOk result (λ n. self.new.left.now ≡ drop n self.old.left.now) }
+        ensures count { IfOk result (λ n. n ≡ count_of (min (length buf.old) (length self.old.left.now)) self.old.step self.old.room self.old.stumble) }
+
+        // The stumble is answered, and nothing is lost by it.
+        ensures error { IfErr result (λ e. (self.old.stumble ≡ Some (Stumble.Error (error_kind e))) × (self.old.room ≡ 0)) }
+        ensures kept { OnErr result (self.new.left.now ≡ self.old.left.now) }
+        ensures due { (kind : ErrorKind) → self.old.stumble ≡ Some (Stumble.Error kind) → self.old.room ≡ 0 → IsErr result }
+        ensures room { IfOk result (λ n. self.new.room ≡ room_after n self.old.room self.old.stumble) }
+        ensures waits { 1 ≤ self.old.room → self.new.stumble ≡ self.old.stumble }
+        ensures once { (stumble : Stumble) → self.old.stumble ≡ Some stumble → self.old.room ≡ 0 → self.new.stumble ≡ None }
+        ensures step { self.new.step ≡ self.old.step }
+    {
         let mut count = buf.len().min(self.left.len()).min(self.step);
         if let Some(stumble) = self.stumble {
             if self.room == 0 {

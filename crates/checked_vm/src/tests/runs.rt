@@ -126,3 +126,21 @@ fn frames_are_called_left_and_written(rt: HostRuntime) -> Result<(), Fail> {
     }
     Ok(())
 }
+
+/// Room is made for the longest program too, and its run counts each of its steps.
+#[test]
+fn the_longest_program_runs(rt: HostRuntime) -> Result<(), Fail> {
+    let mut insns = Vec::new(rt.alloc());
+    insns.push(alu(Mov, Reg::R0, 0))?;
+    for _ in 0..4094 {
+        insns.push(alu(Add, Reg::R0, 1))?;
+    }
+    insns.push(Insn::Exit)?;
+    let image = Image::of(rt.alloc(), &insns)?;
+    let mut checked = Checked::new(rt.alloc(), image)?;
+    for (limit, want) in [(4095, End::Limit), (4096, End::Exit(4094, 4096))] {
+        let end = checked.run(HEAD, &mut [], &mut Stopped, limit);
+        assert_eq!(rt; end, want, "at most {limit} steps");
+    }
+    Ok(())
+}
