@@ -69,6 +69,17 @@ fn below_a_register(rt: HostRuntime) -> Result<(), Fail> {
 }
 
 #[test]
+fn both_registers_narrow(rt: HostRuntime) -> Result<(), Fail> {
+    // Of 7 to 100 below 5 to 10, what is below 10 is left of the one, and what is above 7 of the other.
+    let state = start_with(Scalar::between(7, 100), Scalar::between(5, 10));
+    let below = cond(Comparison::Less, FULL, Operand::Register(Reg::R3));
+    let taken = refine(below, true, &state);
+    assert_eq!(rt; limits(&taken, Reg::R2), Some((7, 9)));
+    assert_eq!(rt; limits(&taken, Reg::R3), Some((8, 10)));
+    Ok(())
+}
+
+#[test]
 fn low_halves(rt: HostRuntime) -> Result<(), Fail> {
     let below_ten = cond(Comparison::Less, LOW, Operand::Constant(10));
     let any = start_with(Scalar::any(FULL), Scalar::any(FULL));

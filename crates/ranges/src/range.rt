@@ -1,7 +1,7 @@
 //! Ranges: the type, common numbers and inclusion.
 
 ghost use Rattle.std.specs.Prelude.{◌≡◌, ℕ, ◌+◌, ◌^◌, ◌<◌, ◌≤◌, ◌≤ℤ◌, ◌↔◌, Some, IsSomeAnd, IfSome, IsTrue};
-ghost use Rattle.std.specs.Int.{w64, cast_signed};
+ghost use Rattle.std.specs.Int.{w64, cast_signed, cast_unsigned};
 ghost use Rattle.isa_model.specs.Sizes.{width_bits};
 
 use isa_model::Width;
@@ -61,6 +61,8 @@ impl Range {
         requires { least ≤ greatest }
         ensures members { (x : ℕ) → (Has result x ↔ ((least ≤ x) × (x ≤ greatest))) }
         ensures limits { (result.least ≡ least) × (result.greatest ≡ greatest) }
+        ensures signed { cast_signed w64 least ≤ℤ cast_signed w64 greatest
+            → (result.signed_least ≡ cast_signed w64 least) × (result.signed_greatest ≡ cast_signed w64 greatest) }
     {
         if greatest < SIGN || least >= SIGN {
             Range {
@@ -82,8 +84,11 @@ impl Range {
     /// The numbers between two signed limits.
     pub fn signed_between(least: i64, greatest: i64) -> Self
         requires { least ≤ℤ greatest }
-        ensures { (x : ℕ) → (Has result x
+        ensures members { (x : ℕ) → (Has result x
             ↔ ((x < 2 ^ 64) × (least ≤ℤ cast_signed w64 x) × (cast_signed w64 x ≤ℤ greatest))) }
+        ensures limits { (result.signed_least ≡ least) × (result.signed_greatest ≡ greatest) }
+        ensures unsigned { cast_unsigned w64 least ≤ cast_unsigned w64 greatest
+            → (result.least ≡ cast_unsigned w64 least) × (result.greatest ≡ cast_unsigned w64 greatest) }
     {
         if least >= 0 || greatest < 0 {
             Range {

@@ -5,7 +5,7 @@ use Rattle.std.proofs.lemmas.Int.{ints}
 use Rattle.isa_model.specs.declared.values.Value.{Value}
 use Rattle.reg_state.specs.declared.kinds.Kind.{Kind}
 use Rattle.reg_state.specs.declared.kinds.Kind.TheVariants.{Unset, Number, Context, Stack, Packet, PacketEnd, Map, MapValue, MapValueOrNull}
-use Rattle.reg_state.specs.Scalars.{Has}
+use Rattle.reg_state.specs.Scalars.{Has, Encloses}
 use Rattle.reg_state.specs.Kinds.{Assigned, Allows, AllowsPacket, AllowsMapValue}
 
 -- the packet identity that a kind names
@@ -37,6 +37,11 @@ KindCovers packet null (Map m) (Map m') = m ≡ m'
 KindCovers packet null (MapValue m l g) (MapValue m' l' g') = (m ≡ m') × (l ≤ℤ l') × (g' ≤ℤ g)
 KindCovers packet null (MapValueOrNull m i) (MapValueOrNull m' i') = (m ≡ m') × (null i ≡ i')
 KindCovers packet null a b = ⊥
+
+-- a covers b, and of numbers what is written of them shows it: their bits and their limits
+abbrev pub KindEncloses : (ℕ → ℕ) → (ℕ → ℕ) → Kind → Kind → Type 0
+KindEncloses packet null (Number a) (Number b) = Encloses a b
+KindEncloses packet null a b = KindCovers packet null a b
 
 abbrev pub IsNoNumber : Kind → Type 0
 IsNoNumber (Number numbers) = ⊥

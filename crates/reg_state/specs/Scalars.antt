@@ -8,6 +8,10 @@ use Rattle.reg_state.specs.declared.scalars.Scalar.{Scalar}
 abbrev pub Has : Scalar → ℕ → Type 0
 Has s x = B.Has s.bits x × R.Has s.range x
 
+-- each number that b's bits allow a's do too, and no limit of b is outside those of a
+abbrev pub Encloses : Scalar → Scalar → Type 0
+Encloses a b = ((x : ℕ) → B.Has b.bits x → B.Has a.bits x) × R.Encloses a.range b.range
+
 -- both parts are x alone
 abbrev pub IsConstant : Scalar → ℕ → Type 0
 IsConstant s x = B.IsConstant s.bits x × R.IsConstant s.range x

@@ -16,6 +16,8 @@ impl Domain for Bits {
 
     ghost is_constant = { IsConstant };
 
+    ghost encloses = { λ a b. (x : ℕ) → Has b x → Has a x };
+
     fn any(width: Width) -> Bits {
         Bits::any(width)
     }

@@ -9,11 +9,14 @@ ghost use Rattle.isa_model.specs.ExtensionLemmas.{extension_width};
 use isa_model::{AluOp, ByteOrder, Extension, Span, Width};
 
 /// Sets of numbers below 2^64, each of which a register may hold. `has` says which numbers are members; `is_constant`
-/// that a set is written as the one of a single number.
+/// that a set is written as the one of a single number, and `encloses` that what is written of one set shows that it
+/// contains the other.
 pub trait Domain: Copy {
     ghost has: { Self → ℕ → Type 0 };
 
     ghost is_constant: { Self → ℕ → Type 0 };
+
+    ghost encloses: { Self → Self → Type 0 };
 
     /// All numbers of the width.
     fn any(width: Width) -> Self
@@ -69,6 +72,7 @@ pub trait Domain: Copy {
 
     /// Whether each member of `other` is seen to be a member of this.
     fn covers(self, other: Self) -> bool
+        ensures exact { IsTrue result ↔ encloses self other }
         ensures yes { IsTrue result → (x : ℕ) → has other x → has self x }
         ensures equal { self ≡ other → IsTrue result };
 

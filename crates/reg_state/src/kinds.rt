@@ -49,7 +49,7 @@ pub enum Kind {
 }
 
 impl Kind {
-    ghost use Rattle.reg_state.specs.KindCover.{packet_identity_of, null_identity_of, IsCalled, KindCovers, IsNoNumber};
+    ghost use Rattle.reg_state.specs.KindCover.{packet_identity_of, null_identity_of, IsCalled, KindCovers, KindEncloses, IsNoNumber};
 
     /// The packet identity that it names, 0 included, if it names one.
     pub fn packet_identity(self) -> Option<u32>
@@ -75,6 +75,8 @@ impl Kind {
     pub fn covers(self, other: Kind, identity: u32) -> bool
         ensures yes { IsTrue result → (packet null : ℕ → ℕ) → IsCalled packet null self identity
             → KindCovers packet null self other }
+        ensures encloses { (packet null : ℕ → ℕ) → IsCalled packet null self identity
+            → KindEncloses packet null self other → IsTrue result }
         ensures no { IsNoNumber self → (packet null : ℕ → ℕ) → IsCalled packet null self identity
             → KindCovers packet null self other → IsTrue result }
         ensures equal { self ≡ other → IsCalled (λ i. i) (λ i. i) self identity → IsTrue result }

@@ -7,12 +7,14 @@ use isa_model::{AluOp, ByteOrder, Extension, Span, Width};
 use ranges::Range;
 
 impl Domain for Range {
-    ghost use Rattle.ranges.specs.Ranges.{Has, IsConstant};
+    ghost use Rattle.ranges.specs.Ranges.{Has, IsConstant, Encloses};
     ghost use Rattle.reg_state.specs.Constants.{range_constant_has, range_constant_only};
 
     ghost has = { Has };
 
     ghost is_constant = { IsConstant };
+
+    ghost encloses = { Encloses };
 
     fn any(width: Width) -> Range {
         Range::any(width)

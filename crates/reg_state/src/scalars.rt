@@ -120,12 +120,14 @@ impl Scalar {
 impl Domain for Scalar {
     ghost use Rattle.isa_model.specs.Numbers.{alu};
     ghost use Rattle.ranges.specs.Ranges.{KeepsLimits};
-    ghost use Rattle.reg_state.specs.Scalars.{Has, IsConstant};
+    ghost use Rattle.reg_state.specs.Scalars.{Has, IsConstant, Encloses};
     ghost use Rattle.reg_state.specs.Constants.{bits_constant_has, bits_constant_only, range_constant_has};
 
     ghost has = { Has };
 
     ghost is_constant = { IsConstant };
+
+    ghost encloses = { Encloses };
 
     fn any(width: Width) -> Scalar {
         Scalar {

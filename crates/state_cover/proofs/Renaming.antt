@@ -9,14 +9,14 @@ use Rattle.std.proofs.lemmas.Bool.Decides.{nat_tests}
 use Rattle.std.proofs.lemmas.Int.{ints}
 use Rattle.reg_state.specs.declared.kinds.Kind.{Kind}
 use Rattle.reg_state.specs.declared.kinds.Kind.TheVariants.{Unset, Number, Context, Stack, Packet, PacketEnd, Map, MapValue, MapValueOrNull}
-use Rattle.reg_state.specs.KindCover.{packet_identity_of, null_identity_of}
+use Rattle.reg_state.specs.KindCover.{packet_identity_of, null_identity_of, KindEncloses}
 use Rattle.stack_state.specs.declared.states.AbstractFrame.{AbstractFrame}
 use Rattle.stack_state.specs.declared.states.State.{State}
 use Rattle.stack_state.specs.Meaning.{kind_at, kinds_of}
 use Rattle.state_cover.specs.declared.names.Sort.{Sort}
 use Rattle.state_cover.specs.declared.names.Sort.TheVariants as sort
 use Rattle.state_cover.specs.Names.{identity_of, is_number, is_named, places, first_named, name_at, name_of, packet_name, null_name}
-use Rattle.state_cover.specs.FrameCover.{KindCoversPlainly, KindsCoverPlainly, CoversPlainly}
+use Rattle.state_cover.specs.FrameCover.{KindCoversPlainly, CoversPlainly, KindsEnclose, Encloses}
 
 -- ---- one place
 
@@ -24,12 +24,12 @@ use Rattle.state_cover.specs.FrameCover.{KindCoversPlainly, KindsCoverPlainly, C
 abbrev IsOpposite : Sort → (ℕ → ℕ) → Kind → Kind → Type 0
 IsOpposite s m x y = IfSome (identity_of s x) (λ i. identity_of s y ≡ Some (m i))
 
-opposite_packet : (packet null : ℕ → ℕ) (x y : Kind) → KindCoversPlainly packet null x y → IsOpposite sort.Packet packet x y
+opposite_packet : (packet null : ℕ → ℕ) (x y : Kind) → KindEncloses packet null x y → IsOpposite sort.Packet packet x y
 opposite_packet packet null (Packet f i l g p) (Packet f' i' l' g' p') c = ap Some (sym c.1)
 opposite_packet packet null (Packet f i l g p) y c = absurd c
 opposite_packet packet null x y c = tt
 
-opposite_null : (packet null : ℕ → ℕ) (x y : Kind) → KindCoversPlainly packet null x y → IsOpposite sort.Null null x y
+opposite_null : (packet null : ℕ → ℕ) (x y : Kind) → KindEncloses packet null x y → IsOpposite sort.Null null x y
 opposite_null packet null (MapValueOrNull m i) (MapValueOrNull m' i') c = ap Some (sym c.1)
 opposite_null packet null (MapValueOrNull m i) y c = absurd c
 opposite_null packet null x y c = tt
@@ -163,9 +163,9 @@ if_named None P h = tt
 if_named (Some i) P h = h i refl
 
 renamed_kind : (packet null names nulls : ℕ → ℕ) (x y : Kind) → IfSome (packet_identity_of x) (λ i. names i ≡ packet i)
-    → IfSome (null_identity_of x) (λ i. nulls i ≡ null i) → KindCoversPlainly packet null x y → KindCoversPlainly names nulls x y
+    → IfSome (null_identity_of x) (λ i. nulls i ≡ null i) → KindEncloses packet null x y → KindEncloses names nulls x y
 renamed_kind packet null names nulls Unset y packets values c = tt
-renamed_kind packet null names nulls (Number numbers) y packets values c = c
+renamed_kind packet null names nulls (Number numbers) (Number others) packets values c = c
 renamed_kind packet null names nulls Context Context packets values c = tt
 renamed_kind packet null names nulls (Stack f o) (Stack f' o') packets values c = c
 renamed_kind packet null names nulls (Packet f i l g p) (Packet f' i' l' g' p') packets values c = (c.0, packets ∙ c.1, c.2, c.3, c.4)
@@ -176,9 +176,9 @@ renamed_kind packet null names nulls (MapValueOrNull m i) (MapValueOrNull m' i')
 renamed_kind packet null names nulls x y packets values c = absurd c
 
 -- the names at the first places serve where other maps do
-pub CoversPlainly-names : (packet null : ℕ → ℕ) (a b : State) → CoversPlainly packet null a b
-    → CoversPlainly (packet_name a.frames.items b.frames.items) (null_name a.frames.items b.frames.items) a b
-CoversPlainly-names packet null a b c =
+pub Encloses-names : (packet null : ℕ → ℕ) (a b : State) → Encloses packet null a b
+    → Encloses (packet_name a.frames.items b.frames.items) (null_name a.frames.items b.frames.items) a b
+Encloses-names packet null a b c =
     let fs : List AbstractFrame = a.frames.items in
     let gs : List AbstractFrame = b.frames.items in
     record {
@@ -196,9 +196,9 @@ CoversPlainly-names packet null a b c =
 
 -- ---- equal states
 
-own_kind : (x : Kind) → KindCoversPlainly (λ i. i) (λ i. i) x x
+own_kind : (x : Kind) → KindEncloses (λ i. i) (λ i. i) x x
 own_kind Unset = tt
-own_kind (Number numbers) = refl
+own_kind (Number numbers) = (λ x h. h, (omega arith, omega arith, omega (arith, ints), omega (arith, ints)))
 own_kind Context = tt
 own_kind (Stack f o) = (refl, refl)
 own_kind (Packet f i l g p) = (refl, refl, omega (arith, ints), omega (arith, ints), omega arith)
@@ -207,8 +207,23 @@ own_kind (Map m) = refl
 own_kind (MapValue m l g) = (refl, omega (arith, ints), omega (arith, ints))
 own_kind (MapValueOrNull m i) = (refl, refl)
 
-pub CoversPlainly-own : (a : State) → CoversPlainly (λ i. i) (λ i. i) a a
-CoversPlainly-own a = record { none = refl; slot = refl; returns = refl; registers = λ j k. own_kind (kind_at (kinds_of a j) k) }
+pub Encloses-own : (a : State) → Encloses (λ i. i) (λ i. i) a a
+Encloses-own a = record { none = refl; slot = refl; returns = refl; registers = λ j k. own_kind (kind_at (kinds_of a j) k) }
+
+-- ---- where numbers are the same
+
+same_kind : (packet null : ℕ → ℕ) (x y : Kind) → KindCoversPlainly packet null x y → KindEncloses packet null x y
+same_kind packet null (Number numbers) y c = subst (λ y. KindEncloses packet null (Number numbers) y) c (own_kind (Number numbers))
+same_kind packet null x y c = c
+
+pub Encloses-plainly : (packet null : ℕ → ℕ) (a b : State) → CoversPlainly packet null a b → Encloses packet null a b
+Encloses-plainly packet null a b c =
+    record {
+      none = c.none;
+      slot = c.slot;
+      returns = c.returns;
+      registers = λ j k. same_kind packet null (kind_at (kinds_of a j) k) (kind_at (kinds_of b j) k) (c.registers j k);
+    }
 
 -- ---- a frame
 
@@ -228,30 +243,30 @@ registers_at [] n f inside at = absurd (omega arith)
 registers_at (x ∷ fs) zero f inside at = ap (λ f. f.registers) (sym at)
 registers_at (x ∷ fs) (suc n) f inside at = registers_at fs n f (omega arith) at
 
-pub depth-same : (a b : State) (packet null : ℕ → ℕ) → CoversPlainly packet null a b → length a.frames.items ≡ length b.frames.items
+pub depth-same : (a b : State) (packet null : ℕ → ℕ) → Encloses packet null a b → length a.frames.items ≡ length b.frames.items
 depth-same a b packet null c =
     sym (length-map a.frames.items (λ f. f.return_slot)) ∙ ap length c.returns ∙ length-map b.frames.items (λ f. f.return_slot)
 
 -- what the test of a frame has to find
 abbrev pub AreFound : List AbstractFrame → List AbstractFrame → AbstractFrame → AbstractFrame → Type 0
 AreFound fs gs f g =
-    (f.return_slot ≡ g.return_slot) × KindsCoverPlainly (packet_name fs gs) (null_name fs gs) f.registers g.registers
+    (f.return_slot ≡ g.return_slot) × KindsEnclose (packet_name fs gs) (null_name fs gs) f.registers g.registers
 
-frame_at : (a b : State) (packet null : ℕ → ℕ) (n : ℕ) (f g : AbstractFrame) → CoversPlainly packet null a b
+frame_at : (a b : State) (packet null : ℕ → ℕ) (n : ℕ) (f g : AbstractFrame) → Encloses packet null a b
     → n < length a.frames.items → n < length b.frames.items → f ≡ get_or a.frames.items n f → g ≡ get_or b.frames.items n g
     → AreFound a.frames.items b.frames.items f g
 frame_at a b packet null n f g c in_a in_b at_f at_g =
     let fs : List AbstractFrame = a.frames.items in
     let gs : List AbstractFrame = b.frames.items in
-    let named = (CoversPlainly-names packet null a b c).registers n in
-    let left : KindsCoverPlainly (packet_name fs gs) (null_name fs gs) f.registers (kinds_of b n) =
-    subst (λ ks. KindsCoverPlainly (packet_name fs gs) (null_name fs gs) ks (kinds_of b n)) (registers_at fs n f in_a at_f) named in (
+    let named = (Encloses-names packet null a b c).registers n in
+    let left : KindsEnclose (packet_name fs gs) (null_name fs gs) f.registers (kinds_of b n) =
+    subst (λ ks. KindsEnclose (packet_name fs gs) (null_name fs gs) ks (kinds_of b n)) (registers_at fs n f in_a at_f) named in (
       return_slot_at fs gs n f g c.returns in_a in_b at_f at_g,
-      subst (λ ks. KindsCoverPlainly (packet_name fs gs) (null_name fs gs) f.registers ks) (registers_at gs n g in_b at_g) left,
+      subst (λ ks. KindsEnclose (packet_name fs gs) (null_name fs gs) f.registers ks) (registers_at gs n g in_b at_g) left,
     )
 
 pub frame_found : (a b : State) (fs gs : List AbstractFrame) (packet null : ℕ → ℕ) (n : ℕ) (f g : AbstractFrame) → fs ≡ a.frames.items
-    → gs ≡ b.frames.items → CoversPlainly packet null a b → n < length fs → n < length gs → f ≡ get_or fs n f → g ≡ get_or gs n g
+    → gs ≡ b.frames.items → Encloses packet null a b → n < length fs → n < length gs → f ≡ get_or fs n f → g ≡ get_or gs n g
     → AreFound fs gs f g
 frame_found a b fs gs packet null n f g is_a is_b c in_a in_b at_f at_g =
     let found : AreFound a.frames.items b.frames.items f g =
@@ -260,6 +275,6 @@ frame_found a b fs gs packet null n f g is_a is_b c in_a in_b at_f at_g =
     subst (λ gs. AreFound fs gs f g) (sym is_b) left
 
 -- an equal state is found where all is that can be
-pub own_found : (a b : State) (P : Type 0) → ((packet null : ℕ → ℕ) → CoversPlainly packet null a b → P) → a ≡ b → P
+pub own_found : (a b : State) (P : Type 0) → ((packet null : ℕ → ℕ) → Encloses packet null a b → P) → a ≡ b → P
 own_found a b P found same =
-    found (λ i. i) (λ i. i) (subst (λ b. CoversPlainly (λ i. i) (λ i. i) a b) same (CoversPlainly-own a))
+    found (λ i. i) (λ i. i) (subst (λ b. Encloses (λ i. i) (λ i. i) a b) same (Encloses-own a))

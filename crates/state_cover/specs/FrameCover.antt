@@ -2,7 +2,7 @@
 use Rattle.std.specs.Prelude.{◌≡◌, ℕ, List, map}
 use Rattle.reg_state.specs.declared.kinds.Kind.{Kind}
 use Rattle.reg_state.specs.declared.kinds.Kind.TheVariants.{Number}
-use Rattle.reg_state.specs.KindCover.{KindCovers}
+use Rattle.reg_state.specs.KindCover.{KindCovers, KindEncloses}
 use Rattle.stack_state.specs.Meaning.{kind_at, kinds_of}
 use Rattle.stack_state.specs.declared.states.AbstractFrame.{AbstractFrame}
 use Rattle.stack_state.specs.declared.states.State.{State}
@@ -30,3 +30,14 @@ pub record CoversPlainly (packet null : ℕ → ℕ) (a b : State) : Type 0 wher
   pub slot : a.slot ≡ b.slot
   pub returns : map (λ f. f.return_slot) a.frames.items ≡ map (λ f. f.return_slot) b.frames.items
   pub registers : (j : ℕ) → KindsCoverPlainly packet null (kinds_of a j) (kinds_of b j)
+
+-- of each register
+abbrev pub KindsEnclose : (ℕ → ℕ) → (ℕ → ℕ) → List Kind → List Kind → Type 0
+KindsEnclose packet null xs ys = (k : ℕ) → KindEncloses packet null (kind_at xs k) (kind_at ys k)
+
+-- the two differ in names of identities, and in kinds that cover what stands opposite, numbers by their bits and limits
+pub record Encloses (packet null : ℕ → ℕ) (a b : State) : Type 0 where
+  pub none : packet 0 ≡ 0
+  pub slot : a.slot ≡ b.slot
+  pub returns : map (λ f. f.return_slot) a.frames.items ≡ map (λ f. f.return_slot) b.frames.items
+  pub registers : (j : ℕ) → KindsEnclose packet null (kinds_of a j) (kinds_of b j)

@@ -3,10 +3,10 @@
 
 ghost use Rattle.std.specs.Prelude.{◌≡◌, ℕ, IsTrue, length};
 ghost use Rattle.isa_model.specs.Instructions.{Program};
-ghost use Rattle.reg_state.specs.KindCover.{KindCovers};
+ghost use Rattle.reg_state.specs.KindCover.{KindCovers, KindEncloses};
 ghost use Rattle.stack_state.specs.Meaning.{Covers};
 ghost use Rattle.state_cover.specs.Names.{packet_name, null_name};
-ghost use Rattle.state_cover.specs.FrameCover.{FrameCovers, KindsCover, KindCoversPlainly, KindsCoverPlainly, CoversPlainly};
+ghost use Rattle.state_cover.specs.FrameCover.{FrameCovers, KindsCover, KindsEnclose, CoversPlainly, Encloses};
 
 mod names;
 
@@ -19,8 +19,9 @@ pub fn covers(a: &State, b: &State) -> bool
     ensures yes { IsTrue result → (p : Program) → Covers p a.now b.now }
     ensures slot { IsTrue result → a.now.slot ≡ b.now.slot }
 
-    // It finds what can be found by registers, whatever b calls the identities of a; of numbers it is sure where
-    // they are the same.
+    // It finds what can be found by registers, whatever b calls the identities of a, and by bits and limits of
+    // numbers.
+    ensures encloses { (packet null : ℕ → ℕ) → Encloses packet null a.now b.now → IsTrue result }
     ensures plain { (packet null : ℕ → ℕ) → CoversPlainly packet null a.now b.now → IsTrue result }
     ensures equal { a.now ≡ b.now → IsTrue result }
 {
@@ -51,7 +52,7 @@ fn frame_covers(
     ensures yes { IsTrue result
         → FrameCovers (packet_name a.now b.now) (null_name a.now b.now) left.now right.now }
     ensures no { left.now.return_slot ≡ right.now.return_slot
-        → KindsCoverPlainly (packet_name a.now b.now) (null_name a.now b.now) left.now.registers right.now.registers
+        → KindsEnclose (packet_name a.now b.now) (null_name a.now b.now) left.now.registers right.now.registers
         → IsTrue result }
 {
     if left.return_slot != right.return_slot {
@@ -69,7 +70,7 @@ fn registers_cover(
 ) -> bool
     requires { length a.now ≡ length b.now }
     ensures yes { IsTrue result → KindsCover (packet_name a.now b.now) (null_name a.now b.now) left.now right.now }
-    ensures no { KindsCoverPlainly (packet_name a.now b.now) (null_name a.now b.now) left.now right.now → IsTrue result }
+    ensures no { KindsEnclose (packet_name a.now b.now) (null_name a.now b.now) left.now right.now → IsTrue result }
 {
     for index in 0..10 {
         if !kind_covers(left[index], right[index], a, b) {
@@ -82,7 +83,7 @@ fn registers_cover(
 fn kind_covers(left: Kind, right: Kind, a: &[AbstractFrame], b: &[AbstractFrame]) -> bool
     requires { length a.now ≡ length b.now }
     ensures yes { IsTrue result → KindCovers (packet_name a.now b.now) (null_name a.now b.now) left right }
-    ensures no { KindCoversPlainly (packet_name a.now b.now) (null_name a.now b.now) left right → IsTrue result }
+    ensures no { KindEncloses (packet_name a.now b.now) (null_name a.now b.now) left right → IsTrue result }
 {
     left.covers(right, name_in(left, a, b))
 }

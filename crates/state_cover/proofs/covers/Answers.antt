@@ -2,20 +2,20 @@ use Rattle.std.proofs.Common.{◌≡◌, ◌<◌, length, false, refl, arith}
 use Rattle.std.specs.Prelude.{IsTrue}
 use Rattle.state_cover.specs.Names.{packet_name, null_name}
 use Rattle.state_cover.proofs.Inclusion.{AllCover-from, Covers-from}
-use Rattle.state_cover.proofs.Renaming.{depth-same, frame_found, own_found}
+use Rattle.state_cover.proofs.Renaming.{depth-same, frame_found, own_found, Encloses-plainly}
 use Rattle.state_cover.proofs.covers.Goals as goal
 
-pub returns-then-a-b-clause-plain : goal.returns-then-a-b-clause-plain
-returns-then-a-b-clause-plain c = λ packet null h. absurd (omega (arith, h.slot))
+pub returns-then-a-b-clause-encloses : goal.returns-then-a-b-clause-encloses
+returns-then-a-b-clause-encloses c = λ packet null h. absurd (omega (arith, h.slot))
 
-pub returns-then-left-right-clause-plain : goal.returns-then-left-right-clause-plain
-returns-then-left-right-clause-plain c = λ packet null h.
+pub returns-then-left-right-clause-encloses : goal.returns-then-left-right-clause-encloses
+returns-then-left-right-clause-encloses c = λ packet null h.
     let depth : length c.as_slice-left.result.now ≡ length c.as_slice-right.result.now =
     rw (c.as_slice-left.ensures.value, c.as_slice-right.ensures.value) (depth-same c.args.a.now c.args.b.now packet null h) in
     absurd (omega arith)
 
-pub returns-then-not-frame_covers-clause-plain : goal.returns-then-not-frame_covers-clause-plain
-returns-then-not-frame_covers-clause-plain c = λ packet null h.
+pub returns-then-not-frame_covers-clause-encloses : goal.returns-then-not-frame_covers-clause-encloses
+returns-then-not-frame_covers-clause-encloses c = λ packet null h.
     let left = c.as_slice-left.result.now in
     let right = c.as_slice-right.result.now in
     let in_left : c.loop-index.index < length left = omega arith in
@@ -25,9 +25,21 @@ returns-then-not-frame_covers-clause-plain c = λ packet null h.
     let yes = c.frame_covers.ensures.no found.0 found.1 in
     absurd (cc (yes, c.if-not-frame_covers.true))
 
+pub returns-then-a-b-clause-plain : goal.returns-then-a-b-clause-plain
+returns-then-a-b-clause-plain c = λ packet null h.
+    returns-then-a-b-clause-encloses c packet null (Encloses-plainly packet null c.args.a.now c.args.b.now h)
+
+pub returns-then-left-right-clause-plain : goal.returns-then-left-right-clause-plain
+returns-then-left-right-clause-plain c = λ packet null h.
+    returns-then-left-right-clause-encloses c packet null (Encloses-plainly packet null c.args.a.now c.args.b.now h)
+
+pub returns-then-not-frame_covers-clause-plain : goal.returns-then-not-frame_covers-clause-plain
+returns-then-not-frame_covers-clause-plain c = λ packet null h.
+    returns-then-not-frame_covers-clause-encloses c packet null (Encloses-plainly packet null c.args.a.now c.args.b.now h)
+
 pub returns-then-not-frame_covers-clause-equal : goal.returns-then-not-frame_covers-clause-equal
 returns-then-not-frame_covers-clause-equal c =
-    own_found c.args.a.now c.args.b.now (IsTrue false) (returns-then-not-frame_covers-clause-plain c)
+    own_found c.args.a.now c.args.b.now (IsTrue false) (returns-then-not-frame_covers-clause-encloses c)
 
 pub returns-clause-yes : goal.returns-clause-yes
 returns-clause-yes c = λ _ p.

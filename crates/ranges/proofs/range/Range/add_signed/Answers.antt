@@ -17,7 +17,7 @@ returns c = λ x y hx hy.
     let in_width : (x + y) % 2 ^ 64 < 2 ^ 64 = omega arith in
     let low = sum_from x y a.signed_least b.signed_least a.signed_greatest b.signed_greatest hx.below hy.below hx.signed_from hx.signed_to hy.signed_from hy.signed_to l.0 g.0 in
     let high = sum_to x y a.signed_least b.signed_least a.signed_greatest b.signed_greatest hx.below hy.below hx.signed_from hx.signed_to hy.signed_from hy.signed_to l.0 g.0 in
-    (c.signed_between.ensures _).1 (in_width, rw l.1 (rw (to_z-of_z w64 _ l.0) low), rw g.1 (rw (to_z-of_z w64 _ g.0) high))
+    (c.signed_between.ensures.members _).1 (in_width, rw l.1 (rw (to_z-of_z w64 _ l.0) low), rw g.1 (rw (to_z-of_z w64 _ g.0) high))
 
 pub returns-in_default : goal.returns-in_default
 returns-in_default c = λ x y hx hy. let in_width : (x + y) % 2 ^ 64 < 2 ^ 64 = omega arith in (c.any.ensures.members _).1 in_width

@@ -12,13 +12,13 @@ pub returns-in_err-signed-clause-common : goal.returns-in_err-signed-clause-comm
 returns-in_err-signed-clause-common c = λ x hx hy.
     let a = c.in_ok-both.ensures.common x hx hy in
     let b = c.in_ok-unsigned.ensures.common x a ((c.between.ensures.members x).1 (a.from, a.to)) in
-    absurd (c.in_err-signed.ensures.common x b ((c.signed_between.ensures x).1 (b.below, omega (arith, ints), omega (arith, ints))))
+    absurd (c.in_err-signed.ensures.common x b ((c.signed_between.ensures.members x).1 (b.below, omega (arith, ints), omega (arith, ints))))
 
 pub returns-clause-common : goal.returns-clause-common
 returns-clause-common c = λ x hx hy.
     let a = c.in_ok-both.ensures.common x hx hy in
     let b = c.in_ok-unsigned.ensures.common x a ((c.between.ensures.members x).1 (a.from, a.to)) in
-    c.in_ok-signed.ensures.common x b ((c.signed_between.ensures x).1 (b.below, omega (arith, ints), omega (arith, ints)))
+    c.in_ok-signed.ensures.common x b ((c.signed_between.ensures.members x).1 (b.below, omega (arith, ints), omega (arith, ints)))
 
 pub returns-clause-left : goal.returns-clause-left
 returns-clause-left c = λ x h. c.in_ok-both.ensures.left x (c.in_ok-unsigned.ensures.left x (c.in_ok-signed.ensures.left x h))

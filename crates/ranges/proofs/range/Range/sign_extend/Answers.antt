@@ -12,17 +12,17 @@ returns-then-a-half_read-clause-contains c = λ x hx.
 pub returns-in-Full8-clause-contains : goal.returns-in-Full8-clause-contains
 returns-in-Full8-clause-contains c = λ x hx.
     let l = extended_8 x in
-    rw c.in-Full8.is ((c.signed_between.ensures _).1 (sign_extended_fits Full8 x, l.0, l.1))
+    rw c.in-Full8.is ((c.signed_between.ensures.members _).1 (sign_extended_fits Full8 x, l.0, l.1))
 
 pub returns-in-Full16-clause-contains : goal.returns-in-Full16-clause-contains
 returns-in-Full16-clause-contains c = λ x hx.
     let l = extended_16 x in
-    rw c.in-Full16.is ((c.signed_between-in-Full16.ensures _).1 (sign_extended_fits Full16 x, l.0, l.1))
+    rw c.in-Full16.is ((c.signed_between-in-Full16.ensures.members _).1 (sign_extended_fits Full16 x, l.0, l.1))
 
 pub returns-in-Full32-clause-contains : goal.returns-in-Full32-clause-contains
 returns-in-Full32-clause-contains c = λ x hx.
     let l = extended_32 x in
-    rw c.in-Full32.is ((c.signed_between-in-Full32.ensures _).1 (sign_extended_fits Full32 x, l.0, l.1))
+    rw c.in-Full32.is ((c.signed_between-in-Full32.ensures.members _).1 (sign_extended_fits Full32 x, l.0, l.1))
 
 pub returns-in-Low8-clause-contains : goal.returns-in-Low8-clause-contains
 returns-in-Low8-clause-contains c = λ x hx. rw c.in-Low8.is ((c.any.ensures.members _).1 (sign_extended_below Low8 x))

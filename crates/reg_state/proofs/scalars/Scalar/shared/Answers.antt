@@ -20,7 +20,7 @@ returns-in_err-range-clause-common c = λ x h.
     let u = c.in_ok-unsigned.ensures.common x h.1 ((c.between-2.ensures.members x).1 (c.least.ensures.bound x b, c.greatest.ensures.bound x b)) in
     let from = c.signed_least.ensures.bound x b in
     let to = c.signed_greatest.ensures.bound x b in
-    absurd (c.in_err-range.ensures.common x u ((c.signed_between.ensures x).1 (b.below, omega (arith, ints), omega (arith, ints))))
+    absurd (c.in_err-range.ensures.common x u ((c.signed_between.ensures.members x).1 (b.below, omega (arith, ints), omega (arith, ints))))
 
 pub returns-in-Some-clause-common : goal.returns-in-Some-clause-common
 returns-in-Some-clause-common c = λ x h.
@@ -28,7 +28,7 @@ returns-in-Some-clause-common c = λ x h.
     let u = c.in_ok-unsigned.ensures.common x h.1 ((c.between-2.ensures.members x).1 (c.least.ensures.bound x b, c.greatest.ensures.bound x b)) in
     let from = c.signed_least.ensures.bound x b in
     let to = c.signed_greatest.ensures.bound x b in
-    let r = c.in_ok-range.ensures.common x u ((c.signed_between.ensures x).1 (b.below, omega (arith, ints), omega (arith, ints))) in
+    let r = c.in_ok-range.ensures.common x u ((c.signed_between.ensures.members x).1 (b.below, omega (arith, ints), omega (arith, ints))) in
     c.alone.ensures.found x (b, r) (c.in-Some.ensures.only x r)
 
 pub returns-in-Some-clause-narrower : goal.returns-in-Some-clause-narrower
@@ -42,7 +42,7 @@ returns-in-None-clause-common c = λ x h.
     let u = c.in_ok-unsigned.ensures.common x h.1 ((c.between-2.ensures.members x).1 (c.least.ensures.bound x b, c.greatest.ensures.bound x b)) in
     let from = c.signed_least.ensures.bound x b in
     let to = c.signed_greatest.ensures.bound x b in
-    (b, c.in_ok-range.ensures.common x u ((c.signed_between.ensures x).1 (b.below, omega (arith, ints), omega (arith, ints))))
+    (b, c.in_ok-range.ensures.common x u ((c.signed_between.ensures.members x).1 (b.below, omega (arith, ints), omega (arith, ints))))
 
 pub returns-in-None-clause-narrower : goal.returns-in-None-clause-narrower
 returns-in-None-clause-narrower c = λ x h. (c.in_ok-bits.ensures.left x h.0, c.in_ok-unsigned.ensures.left x (c.in_ok-range.ensures.left x h.1))
