@@ -1,6 +1,7 @@
 //! Small programs, spelled by hand, with their bounds or refusals. A slot is written as its eight bytes in order.
 
 mod advice;
+mod covered;
 mod verdicts;
 
 use crate::Refusal::{Repeats, TooLong};

@@ -2,7 +2,7 @@
 use Rattle.std.proofs.Common.{◌≡◌, ◌≤◌, true, refl, arith}
 use Rattle.xdpvm.specs.declared.outcomes.Outcome.{Outcome}
 use Rattle.xdpvm.specs.declared.outcomes.Outcome.TheVariants.{Done, WrongWords, NotBuilt, Refused, Faulted, CannotRead, CannotWrite, CannotReplace, NoMemory}
-use Rattle.xdpvm.specs.Statuses.{status_of, is_silent}
+use Rattle.xdpvm.specs.Statuses.{status_of, is_silent, is_unsaid}
 
 pub silent_words : (o : Outcome) → status_of o ≡ 1 → is_silent o ≡ true
 silent_words Done e = absurd (omega arith)
@@ -36,3 +36,36 @@ status_fits (CannotRead path) = omega arith
 status_fits (CannotWrite path) = omega arith
 status_fits (CannotReplace path) = omega arith
 status_fits NoMemory = omega arith
+
+pub unsaid_done : (o : Outcome) → status_of o ≡ 0 → is_unsaid o ≡ true
+unsaid_done Done e = refl
+unsaid_done WrongWords e = absurd (omega arith)
+unsaid_done (NotBuilt name) e = absurd (omega arith)
+unsaid_done Refused e = refl
+unsaid_done Faulted e = refl
+unsaid_done (CannotRead path) e = absurd (omega arith)
+unsaid_done (CannotWrite path) e = absurd (omega arith)
+unsaid_done (CannotReplace path) e = absurd (omega arith)
+unsaid_done NoMemory e = absurd (omega arith)
+
+pub unsaid_refused : (o : Outcome) → status_of o ≡ 2 → is_unsaid o ≡ true
+unsaid_refused Done e = refl
+unsaid_refused WrongWords e = absurd (omega arith)
+unsaid_refused (NotBuilt name) e = absurd (omega arith)
+unsaid_refused Refused e = refl
+unsaid_refused Faulted e = refl
+unsaid_refused (CannotRead path) e = absurd (omega arith)
+unsaid_refused (CannotWrite path) e = absurd (omega arith)
+unsaid_refused (CannotReplace path) e = absurd (omega arith)
+unsaid_refused NoMemory e = absurd (omega arith)
+
+pub unsaid_faulted : (o : Outcome) → status_of o ≡ 3 → is_unsaid o ≡ true
+unsaid_faulted Done e = refl
+unsaid_faulted WrongWords e = absurd (omega arith)
+unsaid_faulted (NotBuilt name) e = absurd (omega arith)
+unsaid_faulted Refused e = refl
+unsaid_faulted Faulted e = refl
+unsaid_faulted (CannotRead path) e = absurd (omega arith)
+unsaid_faulted (CannotWrite path) e = absurd (omega arith)
+unsaid_faulted (CannotReplace path) e = absurd (omega arith)
+unsaid_faulted NoMemory e = absurd (omega arith)

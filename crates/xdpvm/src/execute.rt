@@ -12,8 +12,9 @@ use std::rt::Files;
 /// report ended in a fault, 4 a file or output failed, 5 want of memory.
 ///
 /// The first word is the program's name. `out` stands for standard output and `err` for standard error; files are
-/// opened by their paths. Where the words ask for nothing and where memory is wanting, standard output gets no byte.
-#[tactic(auto, using(crate::proofs::Endings::silent_words, crate::proofs::Endings::silent_memory, crate::proofs::Endings::status_fits))]
+/// opened by their paths. Where the words ask for nothing and where memory is wanting, standard output gets no byte;
+/// where all is done, where something is refused and where the report ends in a fault, standard error gets none.
+#[tactic(auto, using(crate::proofs::Endings::silent_words, crate::proofs::Endings::silent_memory, crate::proofs::Endings::status_fits, crate::proofs::Endings::unsaid_done, crate::proofs::Endings::unsaid_refused, crate::proofs::Endings::unsaid_faulted))]
 pub fn execute<R: Files + AllocGlobal, W1: Write, W2: Write>(
     rt: &R,
     words: &[String],
@@ -23,6 +24,9 @@ pub fn execute<R: Files + AllocGlobal, W1: Write, W2: Write>(
     ensures statuses { result ≤ 5 }
     ensures wrong_words { result ≡ 1 → W1.contents out.new ≡ W1.contents out.old }
     ensures no_memory { result ≡ 5 → W1.contents out.new ≡ W1.contents out.old }
+    ensures done { result ≡ 0 → W2.contents err.new ≡ W2.contents err.old }
+    ensures refused { result ≡ 2 → W2.contents err.new ≡ W2.contents err.old }
+    ensures faulted { result ≡ 3 → W2.contents err.new ≡ W2.contents err.old }
 {
     let alloc = rt.alloc();
     let outcome = match read_words(alloc, words) {

@@ -114,3 +114,17 @@ fn large_images(rt: HostRuntime) -> Result<(), Fail> {
     }
     remove_files(&rt)
 }
+
+/// A device is read and written at once: it holds nothing that could be lost.
+#[test]
+fn devices_that_are_read_too(rt: HostRuntime) -> Result<(), Fail> {
+    write_files(&rt)?;
+    answers(
+        &rt,
+        &["trace", "image", "/dev/null", "/dev/null"],
+        3,
+        "fault F1 at 0\n",
+        "",
+    )?;
+    remove_files(&rt)
+}

@@ -272,3 +272,18 @@ fn traces_local_calls(rt: HostRuntime) -> Result<(), Fail> {
     ];
     traces(&rt, &examples)
 }
+
+/// Where no limit is given it is 1,000,000 steps.
+#[test]
+fn the_limit_where_none_is_given(rt: HostRuntime) -> Result<(), Fail> {
+    // r0 = 0; goto -1
+    write_hex(
+        &rt,
+        "image",
+        "5842503100000200b7000000000000000500ffff00000000",
+    )?;
+    write_frames(&rt, EMPTY)?;
+    let words = ["trace", "image", "frames", "sent"];
+    answers(&rt, &words, 0, "0 LIMIT 0 1000000\nend 1\n", "")?;
+    remove_files(&rt)
+}

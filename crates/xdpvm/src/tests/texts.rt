@@ -71,3 +71,16 @@ fn files_of_an_assembly_that_fail(rt: HostRuntime) -> Result<(), Fail> {
     )?;
     remove_files(&rt)
 }
+
+/// A text of any length is read to its end.
+#[test]
+fn a_long_text(rt: HostRuntime) -> Result<(), Fail> {
+    let mut text = b"r0 = 2".to_vec(rt.alloc())?;
+    for _ in 0..70_000u32 {
+        text.extend_from_slice(b"\n")?;
+    }
+    text.extend_from_slice(b"exit")?;
+    fs::write(&rt, "text", text.as_slice())?;
+    answers(&rt, &["asm", "text", "made"], 0, "ok maps 0 slots 2\n", "")?;
+    remove_files(&rt)
+}
