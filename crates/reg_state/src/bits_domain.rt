@@ -1,6 +1,7 @@
 //! Known bits as a domain.
 
-ghost use Rattle.std.specs.Prelude.{ℕ, ◌^◌, ◌<◌};
+ghost use Rattle.std.specs.Prelude.{◌≡◌, ◌≢◌, ℕ, ◌/◌, ◌^◌, ◌<◌, ◌≤◌};
+ghost use Rattle.std.specs.Int.{bit_at};
 ghost use Rattle.isa_model.specs.Sizes.{width_bits};
 
 use crate::domains::Domain;
@@ -26,7 +27,11 @@ impl Domain for Bits {
         Bits::constant(number)
     }
 
-    fn between(least: u64, greatest: u64) -> Bits {
+    fn between(least: u64, greatest: u64) -> Bits
+        requires { least ≤ greatest }
+        ensures contains { (x : ℕ) → least ≤ x → x ≤ greatest → Has result x }
+        ensures sharp { (i : ℕ) → bit_at result.mask i ≡ 1 → least / 2 ^ i ≢ greatest / 2 ^ i }
+    {
         Bits::between(least, greatest)
     }
 

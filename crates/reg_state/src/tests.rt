@@ -186,3 +186,47 @@ fn domains(rt: HostRuntime) -> Result<(), Fail> {
     assert_eq!(rt; at_most_nine::<Scalar>(), Some(Scalar::between(0, 9)));
     Ok(())
 }
+
+/// What a comparison with a number leaves of 0 and 1.
+fn left_of_a_bit<D: Domain>(comparison: Comparison, goes: bool, number: u64) -> Option<D> {
+    let (left, _) = refine(
+        comparison,
+        FULL,
+        goes,
+        D::between(0, 1),
+        D::constant(number),
+    )?;
+    Some(left)
+}
+
+#[test]
+fn relations_narrow_bits(rt: HostRuntime) -> Result<(), Fail> {
+    for (comparison, goes, number, left) in [
+        (Comparison::Less, true, 1, Some(0)),
+        (Comparison::LessEqual, true, 0, Some(0)),
+        (Comparison::AnyBit, true, 1, Some(1)),
+        (Comparison::AnyBit, false, 1, Some(0)),
+        (Comparison::SignedLess, true, 0, None),
+        (Comparison::SignedLessEqual, false, 1, None),
+    ] {
+        let expected = left.map(Bits::constant);
+        assert_eq!(rt; left_of_a_bit::<Bits>(comparison, goes, number), expected);
+    }
+    Ok(())
+}
+
+#[test]
+fn relations_narrow_limits(rt: HostRuntime) -> Result<(), Fail> {
+    for (comparison, number, left) in [
+        (Comparison::Less, 1, 0),
+        (Comparison::LessEqual, 0, 0),
+        (Comparison::SignedLess, 1, 0),
+        (Comparison::SignedLessEqual, 0, 0),
+        (Comparison::NotEqual, 0, 1),
+        (Comparison::AnyBit, 1, 1),
+    ] {
+        let expected = Some(Range::constant(left));
+        assert_eq!(rt; left_of_a_bit::<Range>(comparison, true, number), expected);
+    }
+    Ok(())
+}
