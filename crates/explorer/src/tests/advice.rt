@@ -36,7 +36,7 @@ fn proposed(index: &Index, state: &State) -> usize {
     for shape in index.shapes_at(state.slot) {
         if let Some(list) = index.list_for(shape, state) {
             let found = digits(index.finished_in(list));
-            number = number.wrapping_mul(10_000).wrapping_add(found);
+            number = number.wrapping_mul(100_000).wrapping_add(found);
         }
     }
     number
@@ -75,10 +75,14 @@ fn entries_come_in_order(rt: HostRuntime) -> Result<(), Fail> {
     index.finish(0);
     assert_eq!(rt; proposed(&index, &five), 1356);
     assert_eq!(rt; digits(index.unfinished_like(like_five)), 0);
+    // one more goes behind the last
+    index.add(&five)?;
+    index.finish(6);
+    assert_eq!(rt; proposed(&index, &five), 13_567);
     // a state that knows nothing of r6 is proposed, too
     index.add(&state_at(1, Kind::Number(Scalar::any(Width::Full64))))?;
-    index.finish(6);
-    assert_eq!(rt; proposed(&index, &five), 71_356);
+    index.finish(7);
+    assert_eq!(rt; proposed(&index, &five), 813_567);
     assert_eq!(rt; proposed(&index, &State::start()), 0);
     Ok(())
 }
