@@ -108,10 +108,15 @@ fn refuses_and_runs_nothing(rt: HostRuntime) -> Result<(), Fail> {
             "refused V18 slot 0\n",
         ),
     ];
+    write_frames(&rt, EMPTY)?;
     for (image, refusal) in examples {
         write_hex(&rt, "image", image)?;
         answers(&rt, &["verify", "image"], 2, refusal, "")?;
         answers(&rt, &["run", "image", "lost", "lost/sent"], 2, refusal, "")?;
+        write_hex(&rt, "sent", "0102")?;
+        answers(&rt, &["run", "image", "frames", "sent"], 2, refusal, "")?;
+        let sent = fs::read(&rt, "sent")?;
+        assert_eq!(rt; sent.as_slice(), [1, 2].as_slice(), "{image}");
     }
     remove_files(&rt)
 }
