@@ -13,7 +13,7 @@ use Rattle.std.proofs.lemmas.Str.Parse.{digit_from_value}
 use Rattle.lexer.specs.declared.tokens.Token.TheVariants.{Number}
 use Rattle.lexer.specs.declared.tokens.Lexeme.TheVariants.{Solid}
 use Rattle.lexer.specs.Lexing.{is_word_byte, number_at, number_after, number_from, digits_number, lexeme_at}
-use Rattle.assembler.specs.Assembling.{Progress, assembled}
+use Rattle.assembler.proofs.PlainTexts.{Progress, assembled}
 use Rattle.assembler.proofs.Turns.{token}
 
 -- digits up to the first byte that is none

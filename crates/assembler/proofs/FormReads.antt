@@ -1,6 +1,6 @@
 -- The tokens of each form are read as its instruction.
 use Rattle.std.proofs.Common.{◌≡◌, ℕ, suc, ◌<◌, ◌^◌, List, [], ◌∷◌, ◌++◌, refl, ap, arith, lt-ltb, le-leb, eq-eqb}
-use Rattle.std.specs.Prelude.{Option, Some, None, true, false, ◌==◌, nat_lt, nat_le, ℤ, pos, negsuc}
+use Rattle.std.specs.Prelude.{Some, None, Result, Ok, true, false, ◌==◌, nat_lt, nat_le, ℤ, pos, negsuc}
 use Rattle.std.specs.Int.{w16, w32}
 use Rattle.std.specs.Int.RustNames.{FitsSigned}
 use Rattle.isa_model.specs.declared.registers.Reg.{Reg}
@@ -34,7 +34,9 @@ use Rattle.lexer.specs.declared.tokens.Sign.TheVariants as sign
 use Rattle.lexer.specs.declared.tokens.Token.{Token}
 use Rattle.lexer.specs.declared.tokens.Token.TheVariants.{Named, Number, Signed}
 use Rattle.assembler.specs.declared.readings.Reading.{Reading}
-use Rattle.assembler.specs.Statements.{◌>>=◌, unnamed, arithmetic, atomic_op_of, comparison_of, width_of, statement_of, plain_statement}
+use Rattle.assembler.specs.declared.wrong.Wrong.{Wrong}
+use Rattle.assembler.specs.Statements.{arithmetic, atomic_op_of, comparison_of, width_of, statement_of}
+use Rattle.assembler.proofs.PlainTexts.{unnamed_reading, plain_statement}
 use Rattle.assembler.proofs.TokenReads.{op_sign, atomic_sign, comparison_sign, extended_from, signed_tokens, constant_tokens, operand_tokens}
 
 -- ---- single tokens and numbers
@@ -60,11 +62,8 @@ offset-neg n h = le-leb (suc n) (2 ^ 15) (omega (arith, h))
 abbrev reg : Width → Reg → Token
 reg w r = Named (word.Register w r)
 
-abbrev read : Insn → Option Reading
-read i = Some (record { insn = i; name = None })
-
-abbrev to_insn : Option Reading → Option Insn
-to_insn o = o >>= λ r. unnamed r.insn r.name
+abbrev read : Insn → Result Reading Wrong
+read i = Ok (record { insn = i; name = None })
 
 -- ---- arithmetic
 
@@ -98,7 +97,7 @@ alu-statement op.Xor w d x h = arithmetic-read op.Xor w d x sign.XorAssign h
 alu-statement op.Arsh w d x h = arithmetic-read op.Arsh w d x sign.ArshAssign h
 
 pub alu-form : (o : AluOp) (w : Width) (d : Reg) (x : Operand) → OperandFits x → plain_statement (reg w d ∷ Signed (op_sign o) ∷ operand_tokens w x) ≡ Some (Alu w o d x)
-alu-form o w d x h = ap to_insn (alu-statement o w d x h)
+alu-form o w d x h = ap unnamed_reading (alu-statement o w d x h)
 
 pub neg-form : (w : Width) (d : Reg) → plain_statement (reg w d ∷ Signed sign.Assign ∷ Signed sign.Minus ∷ reg w d ∷ []) ≡ Some (Neg w d)
 unfolding statement_of
@@ -151,13 +150,13 @@ constant-form size b (negsuc n) (negsuc m) h g = rw (offset-neg n h, imm-neg m g
 
 -- ---- atomic instructions
 
-atomic-back : (o : AtomicOp) → atomic_op_of (atomic_sign o) ≡ Some o
+atomic-back : (o : AtomicOp) → atomic_op_of (atomic_sign o) ≡ Ok o
 atomic-back atomic.Add = refl
 atomic-back atomic.Or = refl
 atomic-back atomic.And = refl
 atomic-back atomic.Xor = refl
 
-width-back : (w : Width) → width_of (width_size w) ≡ Some w
+width-back : (w : Width) → width_of (width_size w) ≡ Ok w
 width-back Low32 = refl
 width-back Full64 = refl
 
@@ -207,7 +206,7 @@ pub exit-form : plain_statement (Named word.Exit ∷ []) ≡ Some Exit
 unfolding statement_of
 exit-form = refl
 
-comparison-back : (c : Comparison) → comparison_of (comparison_sign c) ≡ Some c
+comparison-back : (c : Comparison) → comparison_of (comparison_sign c) ≡ Ok c
 comparison-back comparison.Equal = refl
 comparison-back comparison.NotEqual = refl
 comparison-back comparison.Greater = refl

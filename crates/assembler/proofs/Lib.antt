@@ -1,3 +1,4 @@
+pub mod PlainTexts
 pub mod Turns
 pub mod DigitRuns
 pub mod TokenReads
@@ -8,3 +9,6 @@ pub mod ColumnCounts
 pub mod LabelLookups
 pub mod NearDistances
 pub mod NameUses
+pub mod ZeroedTokens
+pub mod TextTurns
+pub mod PlainReads

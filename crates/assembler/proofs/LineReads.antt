@@ -28,8 +28,7 @@ use Rattle.lexer.specs.declared.tokens.Word.TheVariants as word
 use Rattle.lexer.specs.declared.tokens.Sign.TheVariants as sign
 use Rattle.lexer.specs.declared.tokens.Token.{Token}
 use Rattle.lexer.specs.declared.tokens.Token.TheVariants.{Named, Number, Signed}
-use Rattle.assembler.specs.Statements.{◌>>=◌, keep, plain_statement}
-use Rattle.assembler.specs.Assembling.{has_room, added, assembled}
+use Rattle.assembler.proofs.PlainTexts.{◌>>=◌, keep, plain_statement, has_room, added, assembled}
 use Rattle.assembler.proofs.DigitRuns.{hexadecimal-read}
 use Rattle.assembler.proofs.TokenReads.{draft, reg-read, size-read, narrow-read, extension-read, extended_from, swap-read, fetch-read, exchange-read, compare-read, op-read, op_sign, atomic-read, atomic_sign, comparison-read, comparison_sign, negative-read, signed_tokens, constant_tokens, operand_tokens, place_tokens, distance-read, near-read, constant-read, operand-read, place-read}
 use Rattle.assembler.proofs.FormReads.{alu-form, neg-form, extension-form, swap-form, wide-form, memory_tokens, load-form, extending-form, store-form, constant-form, lock-form, exchange_tokens, fetch-form, exchange-form, compare-form, jump-form, long-form, call-form, exit-form, condition-form}

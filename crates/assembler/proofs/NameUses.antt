@@ -1,41 +1,38 @@
 -- Uses of names, one after another.
-use Rattle.std.proofs.Common.{◌≡◌, ℕ, ◌+◌, ◌<◌, List, length, drop, get_or, slice_get, slice_set, ap, ◌∙◌, Option, Some, None, Result, Ok, Err}
-use Rattle.std.proofs.lemmas.List.{drop_more}
+use Rattle.std.proofs.Common.{◌≡◌, ℕ, ◌+◌, ◌<◌, List, map, length, drop, get_or, slice_get, slice_set, ap, ◌∙◌, sym, subst, Option, Some, None, Result, Ok, Err}
+use Rattle.std.proofs.lemmas.List.{drop_more, get_or-map, length-map}
 use Rattle.isa_model.specs.declared.instructions.Insn.{Insn}
 use Rattle.assembler.specs.declared.errors.AsmErrorKind.{AsmErrorKind}
 use Rattle.assembler.specs.declared.errors.AsmErrorKind.TheVariants.{NotDefined}
 use Rattle.assembler.specs.declared.refusals.Refusal.{Refusal}
 use Rattle.assembler.specs.declared.names.Use.{Use}
-use Rattle.assembler.specs.Naming.{aim, aim_used, put, on, resolved}
+use Rattle.assembler.specs.Naming.{NameUse, use_of, aim, aim_used, put, resolved}
+use Rattle.assembler.specs.Statements.{◌>>=◌}
 
 -- what the use makes of the instruction that stands at its index, and the uses behind it of that
-abbrev turn : (List ℕ → Option ℕ) → List Use → List Insn → ℕ → Use → Option Insn → Result (List Insn) Refusal
-turn f us is k u found = on (put u is (aim_used f u found)) (λ next. resolved f (drop (k + 1) us) next)
+abbrev turn : (List ℕ → Option ℕ) → List Use → List Insn → ℕ → NameUse → Option Insn → Result (List Insn) Refusal
+turn f us is k u found = put u is (aim_used f u found) >>= λ next. resolved f (drop (k + 1) (map use_of us)) next
 
-turned : (f : List ℕ → Option ℕ) (us : List Use) (is : List Insn) (k : ℕ) (d : Use) → k < length us → resolved f (drop k us) is ≡ turn f us is k (get_or us k d) (slice_get is (get_or us k d).index)
-turned f us is k d h = ap (λ l. resolved f l is) (drop_more us k d h)
+turned : (f : List ℕ → Option ℕ) (us : List Use) (is : List Insn) (k : ℕ) (d : Use) → k < length us → resolved f (drop k (map use_of us)) is ≡ turn f us is k (use_of (get_or us k d)) (slice_get is (get_or us k d).index)
+turned f us is k d h =
+    let within : k < length (map use_of us) = subst (λ n. k < n) (sym (length-map us use_of)) h in
+    ap (λ l. resolved f l is) (drop_more (map use_of us) k (use_of d) within)
+    ∙ ap (λ (u : NameUse). turn f us is k u (slice_get is u.index)) (get_or-map use_of us k d (use_of d) h)
 
 -- no instruction stands there
-pub use_missing : (f : List ℕ → Option ℕ) (us : List Use) (is : List Insn) (k : ℕ) (d : Use) → k < length us → slice_get is (get_or us k d).index ≡ None → resolved f (drop k us) is ≡ Err (record { kind = NotDefined; offset = (get_or us k d).offset })
-use_missing f us is k d h none = turned f us is k d h ∙ ap (λ found. turn f us is k (get_or us k d) found) none
+pub use_missing : (f : List ℕ → Option ℕ) (us : List Use) (is : List Insn) (k : ℕ) (d : Use) → k < length us → slice_get is (get_or us k d).index ≡ None → resolved f (drop k (map use_of us)) is ≡ Err (record { kind = NotDefined; offset = (get_or us k d).offset })
+use_missing f us is k d h none = turned f us is k d h ∙ ap (λ found. turn f us is k (use_of (get_or us k d)) found) none
 
-aimed-turn : (f : List ℕ → Option ℕ) (us : List Use) (is : List Insn) (k : ℕ) (d : Use) (i : Insn) (r : Result Insn AsmErrorKind) → k < length us → slice_get is (get_or us k d).index ≡ Some i → aim (f (get_or us k d).name.now) (get_or us k d).slot i ≡ r → resolved f (drop k us) is ≡ on (put (get_or us k d) is r) (λ next. resolved f (drop (k + 1) us) next)
+aimed-turn : (f : List ℕ → Option ℕ) (us : List Use) (is : List Insn) (k : ℕ) (d : Use) (i : Insn) (r : Result Insn AsmErrorKind) → k < length us → slice_get is (get_or us k d).index ≡ Some i → aim (f (get_or us k d).name.now) (get_or us k d).slot i ≡ r → resolved f (drop k (map use_of us)) is ≡ (put (use_of (get_or us k d)) is r >>= λ next. resolved f (drop (k + 1) (map use_of us)) next)
 aimed-turn f us is k d i r h there e =
     turned f us is k d h
-    ∙ ap (λ found. turn f us is k (get_or us k d) found) there
-    ∙ ap (λ made. on (put (get_or us k d) is made) (λ next. resolved f (drop (k + 1) us) next)) e
+    ∙ ap (λ found. turn f us is k (use_of (get_or us k d)) found) there
+    ∙ ap (λ made. put (use_of (get_or us k d)) is made >>= λ next. resolved f (drop (k + 1) (map use_of us)) next) e
 
 -- it is refused
-pub use_refused : (f : List ℕ → Option ℕ) (us : List Use) (is : List Insn) (k : ℕ) (d : Use) (i : Insn) (kind : AsmErrorKind) → k < length us → slice_get is (get_or us k d).index ≡ Some i → aim (f (get_or us k d).name.now) (get_or us k d).slot i ≡ Err kind → resolved f (drop k us) is ≡ Err (record { kind = kind; offset = (get_or us k d).offset })
+pub use_refused : (f : List ℕ → Option ℕ) (us : List Use) (is : List Insn) (k : ℕ) (d : Use) (i : Insn) (kind : AsmErrorKind) → k < length us → slice_get is (get_or us k d).index ≡ Some i → aim (f (get_or us k d).name.now) (get_or us k d).slot i ≡ Err kind → resolved f (drop k (map use_of us)) is ≡ Err (record { kind = kind; offset = (get_or us k d).offset })
 use_refused f us is k d i kind h there e = aimed-turn f us is k d i (Err kind) h there e
 
 -- it gets its distance
-pub use_aimed : (f : List ℕ → Option ℕ) (us : List Use) (is : List Insn) (k : ℕ) (d : Use) (i j : Insn) → k < length us → slice_get is (get_or us k d).index ≡ Some i → aim (f (get_or us k d).name.now) (get_or us k d).slot i ≡ Ok j → resolved f (drop k us) is ≡ resolved f (drop (k + 1) us) (slice_set is (get_or us k d).index j)
+pub use_aimed : (f : List ℕ → Option ℕ) (us : List Use) (is : List Insn) (k : ℕ) (d : Use) (i j : Insn) → k < length us → slice_get is (get_or us k d).index ≡ Some i → aim (f (get_or us k d).name.now) (get_or us k d).slot i ≡ Ok j → resolved f (drop k (map use_of us)) is ≡ resolved f (drop (k + 1) (map use_of us)) (slice_set is (get_or us k d).index j)
 use_aimed f us is k d i j h there e = aimed-turn f us is k d i (Ok j) h there e
-
-abbrev made : List Insn → Result (List Insn) Refusal
-made is = Ok is
-
--- what is made is one program
-pub same_made : (is js : List Insn) → made is ≡ made js → is ≡ js
-same_made is js h = cc

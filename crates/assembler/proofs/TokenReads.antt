@@ -36,7 +36,7 @@ use Rattle.lexer.specs.declared.tokens.Token.{Token}
 use Rattle.lexer.specs.declared.tokens.Token.TheVariants.{Named, Number, Signed}
 use Rattle.lexer.specs.declared.tokens.Lexeme.TheVariants.{Solid}
 use Rattle.lexer.specs.Lexing.{is_word_byte, lexeme_at}
-use Rattle.assembler.specs.Assembling.{Progress, assembled}
+use Rattle.assembler.proofs.PlainTexts.{Progress, assembled}
 use Rattle.assembler.proofs.Turns.{token}
 use Rattle.assembler.proofs.DigitRuns.{decimal-read, no-equals}
 

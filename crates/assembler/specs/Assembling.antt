@@ -1,73 +1,170 @@
--- Programs from texts without names: lexeme by lexeme, a statement at a time.
-use Rattle.std.specs.Prelude.{◌≡◌, ℕ, zero, suc, ◌-◌, ◌==◌, nat_lt, not, Bool, true, false, if◌then◌else◌, List, [], ◌∷◌, ◌++◌, length, slice_get, Option, Some, None, Result, Ok, Err, ⊤, ◌⊎◌}
+-- Programs from texts: lexeme by lexeme, a statement at a time.
+use Rattle.std.specs.Prelude.{◌≡◌, ℕ, zero, suc, ◌+◌, ◌-◌, ◌==◌, nat_lt, not, Bool, if◌then◌else◌, is_none, List, [], ◌∷◌, ◌++◌, length, take, drop, slice_get, Option, Some, None, ok_or, Result, Ok, Err, ◌⊎◌}
 use Rattle.isa_model.specs.declared.instructions.Insn.{Insn}
 use Rattle.isa_model.specs.Instructions.{Program, slots}
+use Rattle.image.specs.Images.{code_alone}
+use Rattle.image.specs.Refusals.{count_refusal}
 use Rattle.assembler.specs.declared.errors.AsmErrorKind.{AsmErrorKind}
-use Rattle.assembler.specs.declared.errors.AsmErrorKind.TheVariants.{Memory, SlotCount}
+use Rattle.assembler.specs.declared.errors.AsmErrorKind.TheVariants.{UnknownByte, NoForm, OutOfRange, Memory, SlotCount}
+use Rattle.assembler.specs.declared.errors.AsmError.{AsmError}
 use Rattle.assembler.specs.declared.refusals.Refusal.{Refusal}
-use Rattle.lexer.specs.declared.tokens.Sign.TheVariants as sign
+use Rattle.assembler.specs.declared.readings.Reading.{Reading}
+use Rattle.assembler.specs.declared.wrong.Wrong.{Wrong}
+use Rattle.assembler.specs.declared.wrong.Wrong.TheVariants.{Form, Range}
 use Rattle.lexer.specs.declared.tokens.Token.{Token}
-use Rattle.lexer.specs.declared.tokens.Token.TheVariants.{Named, Signed}
 use Rattle.lexer.specs.declared.tokens.Lexeme.{Lexeme}
 use Rattle.lexer.specs.declared.tokens.Lexeme.TheVariants.{Blank, End, Solid}
-use Rattle.lexer.specs.Lexing.{lexeme_at}
-use Rattle.assembler.specs.Statements.{◌>>=◌, keep, is_name, plain_statement}
+use Rattle.lexer.specs.Lexing.{lexeme_at, fault_at}
+use Rattle.assembler.specs.Statements.{◌>>=◌}
+use Rattle.assembler.specs.Labelled.{spelled, has_form, label_length}
+use Rattle.assembler.specs.Labels.{with_label, slot_in}
+use Rattle.assembler.specs.Naming.{NameUse, resolved}
+use Rattle.assembler.specs.Positions.{error_at}
 
--- the tokens of the statement so far, and the instructions before it
+-- where a token begins in the text, and its bytes
+abbrev pub TokenPlace : Type 0
+TokenPlace = ℕ × List ℕ
+
+-- what was read so far
 pub record Progress : Type 0 where
+  -- the tokens of the statement, and where they stand
   pub tokens : List Token
+  pub places : List TokenPlace
+  -- the instructions before it
   pub insns : List Insn
+  -- the names and their slots, and where names are used
+  pub labels : List (List ℕ × ℕ)
+  pub uses : List NameUse
+
+abbrev pub start : Progress
+start = record { tokens = []; places = []; insns = []; labels = []; uses = [] }
+
+-- ---- refusals
+
+abbrev pub offset_or : Option TokenPlace → ℕ → ℕ
+offset_or (Some place) otherwise = place.0
+offset_or None otherwise = otherwise
+
+-- where the statement begins
+abbrev pub begins_at : Progress → ℕ
+begins_at s = offset_or (slice_get s.places 0) 0
+
+abbrev pub refused_at : {A : Type 0} → ℕ → Result A AsmErrorKind → Result A Refusal
+refused_at at (Ok x) = Ok x
+refused_at at (Err kind) = Err (record { kind = kind; offset = at })
+
+-- why the tokens behind so many others are no instruction: a number out of range counts where all else fits
+abbrev pub refusal_of : Progress → ℕ → Wrong → Refusal
+refusal_of s k Form = record { kind = NoForm; offset = begins_at s }
+refusal_of s k (Range at) =
+    if has_form (drop k s.tokens)
+    then (record { kind = OutOfRange; offset = offset_or (slice_get s.places (at + k)) 0 })
+    else record { kind = NoForm; offset = begins_at s }
+
+abbrev pub unless_wrong : {A : Type 0} → Progress → ℕ → Result A Wrong → Result A Refusal
+unless_wrong s k (Ok x) = Ok x
+unless_wrong s k (Err wrong) = Err (refusal_of s k wrong)
+
+-- ---- instructions
 
 -- whether the instructions fill no more slots than an image has
 abbrev pub has_room : List Insn → Bool
 has_room insns = not (nat_lt 4096 (length (slots insns)))
 
-abbrev pub added : Progress → Option Insn → Option Progress
-added s None = None
-added s (Some i) = keep (has_room (s.insns ++ i ∷ [])) (record { tokens = []; insns = s.insns ++ i ∷ [] })
+-- one more instruction, unless its slots are too many
+abbrev pub with_insn : List Insn → Insn → Result (List Insn) AsmErrorKind
+with_insn insns i = if has_room (insns ++ i ∷ []) then Ok (insns ++ i ∷ []) else Err SlotCount
 
--- at the end of a statement
-abbrev pub closed : Progress → Option Progress
-closed s = if length s.tokens == 0 then Some s else added s (plain_statement s.tokens)
+-- the next instruction uses the name that stands there
+abbrev pub with_use : Progress → Option TokenPlace → List NameUse
+with_use s None = s.uses
+with_use s (Some place) =
+    s.uses ++ (record { index = length s.insns; slot = length (slots s.insns); name = place.1; offset = place.0 }) ∷ []
 
-abbrev pub accept : Progress → Lexeme → Option Progress
-accept s Blank = Some s
-accept s End = closed s
-accept s (Solid t) = Some (record { tokens = s.tokens ++ t ∷ []; insns = s.insns })
+-- the name of the instruction's target, if it has one, behind so many tokens
+abbrev pub name_place : Progress → ℕ → Option ℕ → Option TokenPlace
+name_place s k None = None
+name_place s k (Some i) = slice_get s.places (i + k)
 
--- what a text makes, the first bytes of which are passed over
-abbrev pub assembled : List ℕ → ℕ → Progress → Option Progress
-assembled [] k s = closed s
-assembled (b ∷ bs) (suc k) s = assembled bs k s
-assembled (b ∷ bs) zero s = lexeme_at (b ∷ bs) >>= λ (p : Lexeme × ℕ). accept s p.0 >>= λ t. assembled bs (p.1 - 1) t
-
-abbrev pub start : Progress
-start = record { tokens = []; insns = [] }
+-- the statement's instruction, which was read behind so many tokens
+abbrev pub added : Progress → ℕ → Reading → Result Progress Refusal
+added s k r =
+    refused_at (begins_at s) (with_insn s.insns r.insn)
+    >>= λ insns. Ok (record { tokens = []; places = []; insns = insns; labels = s.labels; uses = with_use s (name_place s k r.name) })
 
 -- ---- labels
 
--- a name, and a colon behind it
-abbrev pub is_label : Option Token → Option Token → Bool
-is_label (Some (Named x)) (Some (Signed sign.Colon)) = is_name x
-is_label t u = false
+-- that name stands for the next slot
+abbrev pub named_by : Progress → Option TokenPlace → Result Progress Refusal
+named_by s None = Ok s
+named_by s (Some place) =
+    refused_at place.0 (with_label s.labels place.1 (length (slots s.insns)))
+    >>= λ labels. Ok (record { tokens = s.tokens; places = s.places; insns = s.insns; labels = labels; uses = s.uses })
 
-abbrev pub has_label : List Token → Bool
-has_label ts = is_label (slice_get ts 0) (slice_get ts 1)
+-- the statement's first token is the name
+abbrev pub named : Progress → Result Progress Refusal
+named s = named_by s (slice_get s.places 0)
 
--- ---- what calls answer, where the reading of a text without names goes on
+-- ---- statements
 
--- the next progress and no use of a name, or want of memory; where that reading does not go on, nothing is said
-abbrev pub Keeps : {A U : Type 0} → Result A Refusal → Option Progress → Progress → List U → Type 0
-Keeps r None s us = ⊤
-Keeps (Ok x) (Some t) s us = (t ≡ s) × (us ≡ [])
-Keeps (Err e) (Some t) s us = e.kind ≡ Memory
+-- behind a label of so many tokens: nothing, or an instruction
+abbrev pub ended : Progress → ℕ → Option Reading → Result Progress Refusal
+ended s k None = Ok (record { tokens = []; places = []; insns = s.insns; labels = s.labels; uses = s.uses })
+ended s k (Some r) = added s k r
 
--- one more instruction, or a refusal because the slots are too many, or want of memory
-abbrev pub Pushed : {A : Type 0} → Result A AsmErrorKind → List Insn → Insn → List Insn → Type 0
-Pushed (Ok x) old i new = (has_room (old ++ i ∷ []) ≡ true) × (new ≡ old ++ i ∷ [])
-Pushed (Err e) old i new = (e ≡ Memory) ⊎ ((e ≡ SlotCount) × (has_room (old ++ i ∷ []) ≡ false))
+-- at the end of a statement with a label of so many tokens
+abbrev pub closed_behind : Progress → ℕ → Result Progress Refusal
+closed_behind s k =
+    unless_wrong s k (spelled (drop k s.tokens)) >>= λ said. (if k == 0 then Ok s else named s) >>= λ t. ended t k said
 
--- that program, or want of memory
-abbrev pub Makes : {I : Type 0} → (I → Program) → Result I Refusal → Program → Type 0
-Makes view (Ok x) p = view x ≡ p
-Makes view (Err e) p = e.kind ≡ Memory
+-- at the end of a statement: what its tokens spell counts first, then its name, then its slots
+abbrev pub closed : Progress → Result Progress Refusal
+closed s = closed_behind s (label_length s.tokens)
+
+-- what stands next in the text, at that place
+abbrev pub accept : Progress → Lexeme → TokenPlace → Result Progress Refusal
+accept s Blank place = Ok s
+accept s End place = closed s
+accept s (Solid t) place =
+    Ok (record { tokens = s.tokens ++ t ∷ []; places = s.places ++ place ∷ []; insns = s.insns; labels = s.labels; uses = s.uses })
+
+-- ---- texts
+
+-- what stands at the front of the text behind so many bytes
+abbrev pub next_lexeme : ℕ → List ℕ → Result (Lexeme × ℕ) Refusal
+next_lexeme at bs = ok_or (lexeme_at bs) (record { kind = UnknownByte; offset = at + fault_at bs })
+
+-- what the bytes at that offset of a text make, the first k of which are passed over
+abbrev pub read_on : List ℕ → ℕ → ℕ → Progress → Result Progress Refusal
+read_on [] k at s = closed s
+read_on (b ∷ bs) (suc k) at s = read_on bs k (at + 1) s
+read_on (b ∷ bs) zero at s =
+    next_lexeme at (b ∷ bs)
+    >>= λ (p : Lexeme × ℕ). accept s p.0 (at, take p.1 (b ∷ bs)) >>= λ t. read_on bs (p.1 - 1) (at + 1) t
+
+-- the program of these instructions: no instruction is refused where the text begins
+abbrev pub program_of : List Insn → Result Program Refusal
+program_of insns = if is_none (count_refusal (length (slots insns))) then Ok (code_alone insns) else Err (record { kind = SlotCount; offset = 0 })
+
+-- the program once names have become distances
+abbrev pub finished : Progress → Result Program Refusal
+finished s = resolved (slot_in s.labels) s.uses s.insns >>= program_of
+
+abbrev pub error_in : {A : Type 0} → List ℕ → Result A Refusal → Result A AsmError
+error_in text (Ok x) = Ok x
+error_in text (Err refusal) = Err (error_at text refusal)
+
+-- the program that a text spells, or what is refused and at which byte
+abbrev pub program_in : List ℕ → Result Program Refusal
+program_in text = read_on text 0 0 start >>= finished
+
+-- the program that a text spells, or why it spells none, and where
+unfoldable pub assembled : List ℕ → Result Program AsmError
+assembled text = error_in text (program_in text)
+
+-- ---- what calls answer
+
+-- that, or refused so, or want of memory
+abbrev pub Answers : {A B : Type 0} → (A → B) → Result A Refusal → Result B Refusal → Type 0
+Answers view (Ok x) wanted = wanted ≡ Ok (view x)
+Answers view (Err e) wanted = (e.kind ≡ Memory) ⊎ (wanted ≡ Err e)

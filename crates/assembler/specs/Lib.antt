@@ -1,4 +1,5 @@
 pub mod Statements
+pub mod Labelled
 pub mod Positions
 pub mod Naming
 pub mod Labels

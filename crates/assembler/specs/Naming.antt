@@ -1,29 +1,26 @@
 -- Jumps to names.
-use Rattle.std.specs.Prelude.{◌≡◌, ℕ, ◌+◌, ◌^◌, ℤ, pos, negsuc, ◌-ℤ◌, nat_lt, Bool, List, [], ◌∷◌, slice_get, slice_set, Option, Some, None, Result, Ok, Err}
+use Rattle.std.specs.Prelude.{ℕ, ◌+◌, ◌^◌, ℤ, pos, negsuc, ◌-ℤ◌, nat_lt, Bool, if◌then◌else◌, List, [], ◌∷◌, slice_get, slice_set, Option, Some, None, Result, Ok, Err}
 use Rattle.isa_model.specs.declared.instructions.Insn.{Insn}
 use Rattle.isa_model.specs.declared.instructions.Insn.TheVariants.{Jump, JumpLong, JumpIf, CallLocal}
 use Rattle.assembler.specs.declared.errors.AsmErrorKind.{AsmErrorKind}
 use Rattle.assembler.specs.declared.errors.AsmErrorKind.TheVariants.{NotDefined, TooFar}
 use Rattle.assembler.specs.declared.refusals.Refusal.{Refusal}
 use Rattle.assembler.specs.declared.names.Use.{Use}
-use Rattle.assembler.specs.Statements.{keep}
+use Rattle.assembler.specs.Statements.{◌>>=◌}
 
--- the jump over another distance; other instructions as they are
-abbrev pub with_distance : Insn → ℤ → Insn
-with_distance (Jump old) by = Jump by
-with_distance (JumpLong old) by = JumpLong by
-with_distance (JumpIf c old) by = JumpIf c by
-with_distance (CallLocal old) by = CallLocal by
-with_distance i by = i
+-- an instruction that jumps to a name: its place among the instructions, its slot, the name, and where it stands in the text
+pub record NameUse : Type 0 where
+  pub index : ℕ
+  pub slot : ℕ
+  pub name : List ℕ
+  pub offset : ℕ
+
+abbrev pub use_of : Use → NameUse
+use_of used = record { index = used.index; slot = used.slot; name = used.name.now; offset = used.offset }
 
 -- how far it is to a slot from behind another
 abbrev pub distance : ℕ → ℕ → ℤ
 distance from to = pos to -ℤ pos (from + 1)
-
--- an instruction at a slot that jumps to where a name stands
-abbrev pub Jumps : Option ℕ → ℕ → Insn → Insn → Type 0
-Jumps None from old new = ⊥
-Jumps (Some to) from old new = new ≡ with_distance old (distance from to)
 
 -- ---- which jumps to names are refused
 
@@ -34,8 +31,8 @@ is_near (negsuc n) = nat_lt n (2 ^ 15)
 
 -- the jump over that distance, unless it has 16 bits for it and that is too far
 abbrev pub aimed : Insn → ℤ → Option Insn
-aimed (Jump old) by = keep (is_near by) (Jump by)
-aimed (JumpIf c old) by = keep (is_near by) (JumpIf c by)
+aimed (Jump old) by = if is_near by then Some (Jump by) else None
+aimed (JumpIf c old) by = if is_near by then Some (JumpIf c by) else None
 aimed (JumpLong old) by = Some (JumpLong by)
 aimed (CallLocal old) by = Some (CallLocal by)
 aimed i by = Some i
@@ -51,19 +48,15 @@ aim (Some to) from i = or_too_far (aimed i (distance from to))
 
 -- ---- all jumps to names
 
-abbrev pub aim_used : (List ℕ → Option ℕ) → Use → Option Insn → Result Insn AsmErrorKind
+abbrev pub aim_used : (List ℕ → Option ℕ) → NameUse → Option Insn → Result Insn AsmErrorKind
 aim_used slot_of u None = Err NotDefined
-aim_used slot_of u (Some i) = aim (slot_of u.name.now) u.slot i
+aim_used slot_of u (Some i) = aim (slot_of u.name) u.slot i
 
-abbrev pub put : Use → List Insn → Result Insn AsmErrorKind → Result (List Insn) Refusal
+abbrev pub put : NameUse → List Insn → Result Insn AsmErrorKind → Result (List Insn) Refusal
 put u is (Ok i) = Ok (slice_set is u.index i)
 put u is (Err kind) = Err (record { kind = kind; offset = u.offset })
 
-abbrev pub on : Result (List Insn) Refusal → (List Insn → Result (List Insn) Refusal) → Result (List Insn) Refusal
-on (Ok is) next = next is
-on (Err e) next = Err e
-
 -- the instructions with the distances of the names that they use; the first use that is wrong is refused, at its place
-abbrev pub resolved : (List ℕ → Option ℕ) → List Use → List Insn → Result (List Insn) Refusal
+abbrev pub resolved : (List ℕ → Option ℕ) → List NameUse → List Insn → Result (List Insn) Refusal
 resolved slot_of [] is = Ok is
-resolved slot_of (u ∷ us) is = on (put u is (aim_used slot_of u (slice_get is u.index))) (λ next. resolved slot_of us next)
+resolved slot_of (u ∷ us) is = put u is (aim_used slot_of u (slice_get is u.index)) >>= λ next. resolved slot_of us next

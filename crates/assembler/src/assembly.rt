@@ -1,15 +1,12 @@
 //! Images from texts.
 
-ghost use Rattle.std.specs.Prelude.{◌≡◌, ◌-◌, ◌<◌, List, [], length, drop, Some, Ok, Err, MatchResult, bytes_eq};
-ghost use Rattle.indexmap.specs.IndexMap.{get_by};
-ghost use Rattle.isa_model.specs.declared.instructions.Insn.{Insn};
+ghost use Rattle.std.specs.Prelude.{◌≡◌, ◌⊎◌, ◌-◌, ◌<◌, length, drop, Ok, Err, MatchResult};
 ghost use Rattle.isa_model.specs.Instructions.{Program};
 ghost use Rattle.isa_model.specs.CanonicalText.{canonical_text};
-ghost use Rattle.image.specs.Images.{IsImage, code_alone};
+ghost use Rattle.image.specs.Images.{IsImage};
 ghost use Rattle.assembler.specs.declared.errors.AsmErrorKind.TheVariants as AsmErrorKind;
-ghost use Rattle.assembler.specs.Assembling.{Progress, assembled, start, Makes};
-ghost use Rattle.assembler.specs.Drafts.{Finishes};
-ghost use Rattle.assembler.specs.Naming.{resolved};
+ghost use Rattle.assembler.specs.Assembling.{start, read_on, finished, program_in, assembled, Answers};
+ghost use Rattle.assembler.specs.Drafts.{progress_of};
 
 use super::code::Code;
 use super::draft::{Draft, Span};
@@ -37,7 +34,7 @@ fn after(bytes: &[u8], count: usize) -> &[u8]
 
 // Reads the whole text.
 fn read<'a>(alloc: Global, text: &'a [u8]) -> Result<Draft<'a>, Refusal>
-    ensures { (final : Progress) → assembled text.now 0 start ≡ Some final → Finishes result final.insns }
+    ensures { Answers (λ draft. progress_of draft) result (read_on text.now 0 0 start) }
 {
     let mut draft = Draft::new(alloc);
     let mut rest = text;
@@ -67,9 +64,7 @@ fn read<'a>(alloc: Global, text: &'a [u8]) -> Result<Draft<'a>, Refusal>
 
 // The image of a text that was read.
 fn finish(alloc: Global, draft: Draft<'_>) -> Result<Image, Refusal>
-    ensures made { (insns : List Insn) → resolved (λ name. get_by (λ k. bytes_eq name k.now) draft.entry.labels) draft.entry.uses.items draft.entry.code.insns.items ≡ Ok insns → IsImage (code_alone insns) → Makes (λ image. image) result (code_alone insns) }
-    ensures refused { (refusal : Refusal) → resolved (λ name. get_by (λ k. bytes_eq name k.now) draft.entry.labels) draft.entry.uses.items draft.entry.code.insns.items ≡ Err refusal → result ≡ Err refusal }
-    ensures unused { draft.entry.uses.items ≡ [] → IsImage (code_alone draft.entry.code.insns.items) → Makes (λ image. image) result (code_alone draft.entry.code.insns.items) }
+    ensures { Answers (λ image. image) result (finished (progress_of draft.entry)) }
 {
     let Draft {
         tokens: _,
@@ -94,7 +89,7 @@ fn finish(alloc: Global, draft: Draft<'_>) -> Result<Image, Refusal>
 }
 
 fn image_of(alloc: Global, text: &[u8]) -> Result<Image, Refusal>
-    ensures { (p : Program) → IsImage p → text.now ≡ canonical_text p → Makes (λ image. image) result p }
+    ensures { Answers (λ image. image) result (program_in text.now) }
 {
     match read(alloc, text) {
         Ok(draft) => finish(alloc, draft),
@@ -106,6 +101,9 @@ fn image_of(alloc: Global, text: &[u8]) -> Result<Image, Refusal>
 ///
 /// Jump targets are not tested, those of names aside.
 pub fn assemble(alloc: Global, text: &[u8]) -> Result<Image, AsmError>
+    // The image is the program that the text spells, and the error says why it spells none, or memory is wanting.
+    ensures exact { MatchResult result (λ image. assembled text.now ≡ Ok image) (λ e. (e.kind ≡ AsmErrorKind.Memory) ⊎ (assembled text.now ≡ Err e)) }
+
     // The canonical text of an image gives that image, or memory is wanting.
     ensures round_trip { (p : Program) → IsImage p → text.now ≡ canonical_text p → MatchResult result (λ image. image ≡ p) (λ e. e.kind ≡ AsmErrorKind.Memory) }
 {

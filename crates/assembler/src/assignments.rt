@@ -1,7 +1,6 @@
 //! Statements that begin with a register.
 
 ghost use Rattle.std.specs.Prelude.{◌≡◌, ◌+◌, ◌<◌};
-ghost use Rattle.std.specs.Result.{result_ok};
 ghost use Rattle.std.specs.Option.{option_copied};
 ghost use Rattle.assembler.specs.Statements.{plain, arithmetic, is_wide, wide, number_or_wide, negated, extended, load_of, loaded, swapped, exchanged_place, fetched, exchanged, compared, moved_word, moved, assigned_by, assigned, wide_at};
 
@@ -18,7 +17,7 @@ use lexer::{Sign, Token, Word};
 
 /// The instruction of a statement without a name that ends before the index.
 pub fn plain(insn: Insn, tokens: &[Token], end: usize) -> Result<Reading, Wrong>
-    ensures { result_ok result ≡ plain insn tokens.now end }
+    ensures { result ≡ plain insn tokens.now end }
 {
     if tokens.len() == end {
         Ok(Reading { insn, name: None })
@@ -28,7 +27,7 @@ pub fn plain(insn: Insn, tokens: &[Token], end: usize) -> Result<Reading, Wrong>
 }
 
 fn arithmetic(op: AluOp, width: Width, register: Reg, tokens: &[Token]) -> Result<Reading, Wrong>
-    ensures { result_ok result ≡ arithmetic op width register tokens.now }
+    ensures { result ≡ arithmetic op width register tokens.now }
 {
     let (operand, end) = operand_at(width, tokens, 2)?;
     plain(Insn::Alu(width, op, register, operand), tokens, end)
@@ -53,7 +52,7 @@ fn wide(
     i: usize,
 ) -> Result<Reading, Wrong>
     requires { i < 8 }
-    ensures { result_ok result ≡ wide width register tokens.now minus i }
+    ensures { result ≡ wide width register tokens.now minus i }
 {
     if is_full(width) {
         let number = wide_within(minus, number_at(tokens, i)?, 2)?;
@@ -71,7 +70,7 @@ fn number_or_wide(
     i: usize,
 ) -> Result<Reading, Wrong>
     requires { i < 8 }
-    ensures { result_ok result ≡ number_or_wide width register tokens.now minus i }
+    ensures { result ≡ number_or_wide width register tokens.now minus i }
 {
     if wide_at(tokens, i + 1) {
         wide(width, register, tokens, minus, i)
@@ -82,7 +81,7 @@ fn number_or_wide(
 
 // What stands behind `R = -`.
 fn negated(width: Width, register: Reg, tokens: &[Token], token: Token) -> Result<Reading, Wrong>
-    ensures { result_ok result ≡ negated width register tokens.now token }
+    ensures { result ≡ negated width register tokens.now token }
 {
     match token {
         Token::Named(_) => {
@@ -95,7 +94,7 @@ fn negated(width: Width, register: Reg, tokens: &[Token], token: Token) -> Resul
 
 // `(size)R` behind `R =`.
 fn extended(width: Width, register: Reg, tokens: &[Token]) -> Result<Reading, Wrong>
-    ensures { result_ok result ≡ extended width register tokens.now }
+    ensures { result ≡ extended width register tokens.now }
 {
     let extension = extension_of(width, as_narrow(word_at(tokens, 3)?)?)?;
     expect_at(tokens, 4, Sign::Close)?;
@@ -104,7 +103,7 @@ fn extended(width: Width, register: Reg, tokens: &[Token]) -> Result<Reading, Wr
 }
 
 fn load_of(register: Reg, place: Place, word: Word) -> Result<Insn, Wrong>
-    ensures { result_ok result ≡ load_of register place word }
+    ensures { result ≡ load_of register place word }
 {
     match word {
         Word::Unsigned(size) => Ok(Insn::Load(size, register, place)),
@@ -115,7 +114,7 @@ fn load_of(register: Reg, place: Place, word: Word) -> Result<Insn, Wrong>
 
 // `*(size *)(place)` behind `R =`.
 fn loaded(width: Width, register: Reg, tokens: &[Token]) -> Result<Reading, Wrong>
-    ensures { result_ok result ≡ loaded width register tokens.now }
+    ensures { result ≡ loaded width register tokens.now }
 {
     if is_full(width) {
         let (size, place) = memory_at(tokens, 2)?;
@@ -127,7 +126,7 @@ fn loaded(width: Width, register: Reg, tokens: &[Token]) -> Result<Reading, Wron
 }
 
 fn swapped(order: ByteOrder, span: Span, register: Reg, tokens: &[Token]) -> Result<Reading, Wrong>
-    ensures { result_ok result ≡ swapped order span register tokens.now }
+    ensures { result ≡ swapped order span register tokens.now }
 {
     again_at(Width::Full64, register, tokens, 3)?;
     plain(Insn::ByteSwap(order, span, register), tokens, 4)
@@ -135,7 +134,7 @@ fn swapped(order: ByteOrder, span: Span, register: Reg, tokens: &[Token]) -> Res
 
 // `(place, R)` behind a word, the register being the destination.
 fn exchanged_place(register: Reg, tokens: &[Token]) -> Result<Place, Wrong>
-    ensures { result_ok result ≡ exchanged_place register tokens.now }
+    ensures { result ≡ exchanged_place register tokens.now }
 {
     let place = argument_at(tokens, 3)?;
     again_at(Width::Full64, register, tokens, 8)?;
@@ -144,14 +143,14 @@ fn exchanged_place(register: Reg, tokens: &[Token]) -> Result<Place, Wrong>
 }
 
 fn fetched(op: AtomicOp, width: Width, register: Reg, tokens: &[Token]) -> Result<Reading, Wrong>
-    ensures { result_ok result ≡ fetched op width register tokens.now }
+    ensures { result ≡ fetched op width register tokens.now }
 {
     let place = exchanged_place(register, tokens)?;
     plain(Insn::Atomic(width, op, true, place, register), tokens, 10)
 }
 
 fn exchanged(width: Width, register: Reg, tokens: &[Token]) -> Result<Reading, Wrong>
-    ensures { result_ok result ≡ exchanged width register tokens.now }
+    ensures { result ≡ exchanged width register tokens.now }
 {
     let place = exchanged_place(register, tokens)?;
     plain(Insn::Exchange(width, place, register), tokens, 10)
@@ -159,7 +158,7 @@ fn exchanged(width: Width, register: Reg, tokens: &[Token]) -> Result<Reading, W
 
 // `(place, r0, R)` behind a word, the destination being r0.
 fn compared(width: Width, register: Reg, tokens: &[Token]) -> Result<Reading, Wrong>
-    ensures { result_ok result ≡ compared width register tokens.now }
+    ensures { result ≡ compared width register tokens.now }
 {
     if same_register(register, Reg::R0) {
         let place = argument_at(tokens, 3)?;
@@ -175,7 +174,7 @@ fn compared(width: Width, register: Reg, tokens: &[Token]) -> Result<Reading, Wr
 
 // What begins with a word behind `R =`.
 fn moved_word(width: Width, register: Reg, tokens: &[Token], word: Word) -> Result<Reading, Wrong>
-    ensures { result_ok result ≡ moved_word width register tokens.now word }
+    ensures { result ≡ moved_word width register tokens.now word }
 {
     match (width, word) {
         (Width::Full64, Word::Swapped(order, span)) => swapped(order, span, register, tokens),
@@ -188,7 +187,7 @@ fn moved_word(width: Width, register: Reg, tokens: &[Token], word: Word) -> Resu
 
 // What stands behind `R =`.
 fn moved(width: Width, register: Reg, tokens: &[Token], token: Token) -> Result<Reading, Wrong>
-    ensures { result_ok result ≡ moved width register tokens.now token }
+    ensures { result ≡ moved width register tokens.now token }
 {
     match token {
         Token::Number(_) => number_or_wide(width, register, tokens, false, 2),
@@ -201,7 +200,7 @@ fn moved(width: Width, register: Reg, tokens: &[Token], token: Token) -> Result<
 }
 
 fn assigned_by(op: AluOp, width: Width, register: Reg, tokens: &[Token]) -> Result<Reading, Wrong>
-    ensures { result_ok result ≡ assigned_by op width register tokens.now }
+    ensures { result ≡ assigned_by op width register tokens.now }
 {
     match op {
         AluOp::Mov => moved(width, register, tokens, token_at(tokens, 2)?),
@@ -211,7 +210,7 @@ fn assigned_by(op: AluOp, width: Width, register: Reg, tokens: &[Token]) -> Resu
 
 /// The instruction of a statement that begins with that register.
 pub fn assigned(width: Width, register: Reg, tokens: &[Token]) -> Result<Reading, Wrong>
-    ensures { result_ok result ≡ assigned width register tokens.now }
+    ensures { result ≡ assigned width register tokens.now }
 {
     let op = op_of(sign_at(tokens, 1)?)?;
     assigned_by(op, width, register, tokens)

@@ -18,7 +18,8 @@ pub struct Code {
 }
 
 impl Code {
-    ghost use Rattle.assembler.specs.Assembling.{Pushed};
+    ghost use Rattle.assembler.specs.Assembling.{with_insn};
+    ghost use Rattle.assembler.specs.Labels.{Makes};
 
     pub fn new(alloc: Global) -> Self
         ensures { result.insns.items ≡ [] }
@@ -38,7 +39,7 @@ impl Code {
 
     /// Adds an instruction, unless its slots are too many.
     pub fn push(&mut self, insn: Insn) -> Result<(), AsmErrorKind>
-        ensures { Pushed result self.old.insns.items insn self.new.insns.items }
+        ensures { Makes (λ _. self.new.insns.items) result (with_insn self.old.insns.items insn) }
     {
         let count = self.count + insn.slots() as u16;
         if count > MAX_SLOTS {

@@ -1,23 +1,21 @@
 //! A program while its text is read.
 
-ghost use Rattle.std.specs.Prelude.{◌≡◌, ◌≤◌, ◌++◌, ◌∷◌, [], length, map, Some, None, IfErr, OnOk, bytes_eq, true, slice_get};
-ghost use Rattle.indexmap.specs.IndexMap.{get_by};
-ghost use Rattle.isa_model.specs.Instructions.{slots};
+ghost use Rattle.std.specs.Prelude.{◌≡◌, ◌≤◌, ◌++◌, ◌∷◌, [], length, map, drop, Some, IfErr, OnOk, is_ok, slice_get};
 ghost use Rattle.lexer.specs.declared.tokens.Lexeme.TheVariants as Lexeme;
 ghost use Rattle.assembler.specs.declared.errors.AsmErrorKind.TheVariants as AsmErrorKind;
-ghost use Rattle.assembler.specs.declared.wrong.Wrong.TheVariants as Wrong;
-ghost use Rattle.assembler.specs.Statements.{unnamed, statement_of};
-ghost use Rattle.assembler.specs.Labels.{label_of, with_label};
-ghost use Rattle.assembler.specs.Drafts.{offset_or, Defines};
-ghost use Rattle.assembler.specs.Assembling.{Progress, added, closed, accept, start, Keeps, has_label};
+ghost use Rattle.assembler.specs.Labelled.{label_length, has_form};
+ghost use Rattle.assembler.specs.Assembling.{start, accept, closed, added, named, with_use, refusal_of, offset_or, Answers};
+ghost use Rattle.assembler.specs.Drafts.{place_of, progress_of};
+ghost use Rattle.assembler.specs.Naming.{use_of};
 
 use super::code::Code;
 use super::errors::AsmErrorKind;
 use super::names::{Labels, Use, define};
 use super::operands::is_name;
+use super::parts::zeroed;
 use super::readings::Reading;
 use super::refusals::Refusal;
-use super::statements::statement_of;
+use super::statements::{spelled, statement_of};
 use super::wrong::Wrong;
 use indexmap::IndexMap;
 use lexer::{Lexeme, Sign, Token};
@@ -42,11 +40,7 @@ pub struct Draft<'a> {
 
 impl<'a> Draft<'a> {
     pub fn new(alloc: Global) -> Self
-        ensures tokens { result.tokens.items ≡ [] }
-        ensures insns { result.code.insns.items ≡ [] }
-        ensures uses { result.uses.items ≡ [] }
-        ensures spans { result.spans.items ≡ [] }
-        ensures labels { result.labels.entries ≡ [] }
+        ensures { progress_of result ≡ start }
     {
         Draft {
             tokens: Vec::new(alloc),
@@ -59,7 +53,7 @@ impl<'a> Draft<'a> {
 
     /// Takes what stands next in the text.
     pub fn accept(&mut self, lexeme: Lexeme, span: Span<'a>) -> Result<(), Refusal>
-        ensures { self.old.uses.items ≡ [] → Keeps result (accept (record { tokens = self.old.tokens.items; insns = self.old.code.insns.items }) lexeme) (record { tokens = self.new.tokens.items; insns = self.new.code.insns.items }) self.new.uses.items }
+        ensures { Answers (λ _. progress_of self.new) result (accept (progress_of self.old) lexeme (place_of span.entry)) }
     {
         match lexeme {
             Lexeme::Blank => Ok(()),
@@ -69,10 +63,8 @@ impl<'a> Draft<'a> {
     }
 
     fn take(&mut self, token: Token, span: Span<'a>) -> Result<(), Refusal>
-        ensures place { IfErr result (λ e. (e.kind ≡ AsmErrorKind.Memory) × (e.offset ≡ offset_or (slice_get self.old.spans.items 0) span.entry.offset)) }
-        ensures spans { OnOk result (self.new.spans.items ≡ self.old.spans.items ++ span.entry ∷ []) }
-        ensures names { (self.new.labels ≡ self.old.labels) × (self.new.uses.items ≡ self.old.uses.items) }
-        ensures reads { self.old.uses.items ≡ [] → Keeps result (accept (record { tokens = self.old.tokens.items; insns = self.old.code.insns.items }) (Lexeme.Solid token)) (record { tokens = self.new.tokens.items; insns = self.new.code.insns.items }) self.new.uses.items }
+        ensures exact { Answers (λ _. progress_of self.new) result (accept (progress_of self.old) (Lexeme.Solid token) (place_of span.entry)) }
+        ensures place { IfErr result (λ e. e.offset ≡ offset_or (slice_get (map place_of self.old.spans.items) 0) span.entry.offset) }
     {
         let offset = self.offset_of(0, span.offset);
         match (self.spans.push(span), self.tokens.push(token)) {
@@ -84,29 +76,32 @@ impl<'a> Draft<'a> {
         }
     }
 
-    /// Ends the statement.
+    /// Ends the statement: nothing, a label, an instruction, or both.
     pub fn close(&mut self) -> Result<(), Refusal>
-        ensures cleared { OnOk result (self.new.tokens.items ≡ []) }
-        ensures instruction { (reading : Reading) → statement_of self.old.tokens.items ≡ Some reading → OnOk result (self.new.code.insns.items ≡ self.old.code.insns.items ++ reading.insn ∷ []) }
-        ensures reads { self.old.uses.items ≡ [] → Keeps result (closed (record { tokens = self.old.tokens.items; insns = self.old.code.insns.items })) (record { tokens = self.new.tokens.items; insns = self.new.code.insns.items }) self.new.uses.items }
+        ensures { Answers (λ _. progress_of self.new) result (closed (progress_of self.old)) }
     {
-        if self.tokens.is_empty() {
-            return Ok(());
+        let label = self.label_length();
+        let said = match spelled(&self.tokens[label..]) {
+            Ok(said) => said,
+            Err(wrong) => return Err(self.refusal(wrong, label)),
+        };
+        if label > 0 {
+            self.define_label()?;
         }
-        match statement_of(&self.tokens) {
-            Ok(reading) => self.add(reading, 0),
-            Err(wrong) => self.close_labelled(wrong),
+        match said {
+            Some(reading) => self.add(reading, label),
+            None => {
+                self.tokens.clear();
+                self.spans.clear();
+                Ok(())
+            }
         }
     }
 
     // Adds the instruction of the statement, whose tokens were read behind so many others.
     fn add(&mut self, reading: Reading, skipped: usize) -> Result<(), Refusal>
-        ensures place { IfErr result (λ e. e.offset ≡ offset_or (slice_get self.old.spans.items 0) 0) }
-        ensures added { OnOk result (self.new.code.insns.items ≡ self.old.code.insns.items ++ reading.insn ∷ []) }
-        ensures cleared { OnOk result ((self.new.tokens.items ≡ []) × (self.new.spans.items ≡ [])) }
-        ensures labels { self.new.labels ≡ self.old.labels }
-        ensures unnamed { reading.name ≡ None → self.new.uses.items ≡ self.old.uses.items }
-        ensures reads { self.old.uses.items ≡ [] → Keeps result (added (record { tokens = self.old.tokens.items; insns = self.old.code.insns.items }) (unnamed reading.insn reading.name)) (record { tokens = self.new.tokens.items; insns = self.new.code.insns.items }) self.new.uses.items }
+        ensures exact { Answers (λ _. progress_of self.new) result (added (progress_of self.old) skipped reading) }
+        ensures place { IfErr result (λ e. e.offset ≡ offset_or (slice_get (map place_of self.old.spans.items) 0) 0) }
     {
         let offset = self.offset_of(0, 0);
         if let Some(index) = reading.name {
@@ -124,9 +119,9 @@ impl<'a> Draft<'a> {
 
     // Notes that the next instruction uses the name at that token.
     fn note_use(&mut self, index: usize) -> Result<(), Refusal>
-        ensures place { IfErr result (λ e. (e.kind ≡ AsmErrorKind.Memory) × (e.offset ≡ offset_or (slice_get self.old.spans.items 0) 0)) }
+        ensures place { IfErr result (λ e. (e.kind ≡ AsmErrorKind.Memory) × (e.offset ≡ offset_or (slice_get (map place_of self.old.spans.items) 0) 0)) }
         ensures rest { (self.new.tokens.items ≡ self.old.tokens.items) × (self.new.spans.items ≡ self.old.spans.items) × (self.new.code ≡ self.old.code) × (self.new.labels ≡ self.old.labels) }
-        ensures noted { (label : Span) → slice_get self.old.spans.items index ≡ Some label → OnOk result (self.new.uses.items ≡ self.old.uses.items ++ record { index = length self.old.code.insns.items; slot = length (slots self.old.code.insns.items); name = label.bytes; offset = label.offset } ∷ []) }
+        ensures noted { OnOk result (map use_of self.new.uses.items ≡ with_use (progress_of self.old) (slice_get (map place_of self.old.spans.items) index)) }
     {
         let offset = self.offset_of(0, 0);
         let Some(span) = self.spans.get(index).copied() else {
@@ -147,43 +142,20 @@ impl<'a> Draft<'a> {
         }
     }
 
-    // A statement that is no instruction: a label, and what stands behind it.
-    fn close_labelled(&mut self, wrong: Wrong) -> Result<(), Refusal>
-        ensures { OnOk result ((self.new.tokens.items ≡ []) × (self.new.spans.items ≡ [])) }
-    {
-        if !self.has_label() {
-            return Err(self.refusal(wrong, 0));
-        }
-        if self.tokens.len() == 2 {
-            self.define_label()?;
-            self.tokens.clear();
-            self.spans.clear();
-            return Ok(());
-        }
-        match statement_of(&self.tokens[2..]) {
-            Ok(reading) => {
-                self.define_label()?;
-                self.add(reading, 2)
-            }
-            Err(wrong) => Err(self.refusal(wrong, 2)),
-        }
-    }
-
-    fn has_label(&self) -> bool
-        ensures exact { result ≡ has_label self.now.tokens.items }
-        ensures long { result ≡ true → 2 ≤ length self.now.tokens.items }
+    // How many tokens the statement's label is.
+    fn label_length(&self) -> usize
+        ensures exact { result ≡ label_length self.now.tokens.items }
+        ensures within { result ≤ length self.now.tokens.items }
     {
         match (self.tokens.get(0).copied(), self.tokens.get(1).copied()) {
-            (Some(Token::Named(word)), Some(Token::Signed(Sign::Colon))) => is_name(word),
-            _ => false,
+            (Some(Token::Named(word)), Some(Token::Signed(Sign::Colon))) if is_name(word) => 2,
+            _ => 0,
         }
     }
 
     // The statement's first token is a name for the slot of the next instruction.
     fn define_label(&mut self) -> Result<(), Refusal>
-        ensures exact { (label : Span) → slice_get self.old.spans.items 0 ≡ Some label → Defines result label.offset (map label_of self.new.labels.entries) (with_label (map label_of self.old.labels.entries) label.bytes.now (length (slots self.old.code.insns.items))) }
-        ensures rest { (self.new.tokens.items ≡ self.old.tokens.items) × (self.new.spans.items ≡ self.old.spans.items) × (self.new.code ≡ self.old.code) × (self.new.uses.items ≡ self.old.uses.items) }
-        ensures stands { (label : Span) → slice_get self.old.spans.items 0 ≡ Some label → OnOk result (get_by (λ k. bytes_eq label.bytes.now k.now) self.new.labels ≡ Some (length (slots self.old.code.insns.items))) }
+        ensures { Answers (λ _. progress_of self.new) result (named (progress_of self.old)) }
     {
         let Some(span) = self.spans.get(0).copied() else {
             return Ok(());
@@ -199,7 +171,7 @@ impl<'a> Draft<'a> {
 
     // Why the tokens behind so many others are no instruction.
     fn refusal(&mut self, wrong: Wrong, skipped: usize) -> Refusal
-        ensures { wrong ≡ Wrong.Form → result ≡ record { kind = AsmErrorKind.NoForm; offset = offset_or (slice_get self.old.spans.items 0) 0 } }
+        ensures { result ≡ refusal_of (progress_of self.old) skipped wrong }
     {
         let first = Refusal {
             kind: AsmErrorKind::NoForm,
@@ -220,11 +192,11 @@ impl<'a> Draft<'a> {
     }
 
     // Whether a form fits once all numbers are 0, which is in all ranges.
-    fn fits_without_numbers(&mut self, skipped: usize) -> bool {
+    fn fits_without_numbers(&mut self, skipped: usize) -> bool
+        ensures { result ≡ has_form (drop skipped self.old.tokens.items) }
+    {
         for token in self.tokens.iter_mut() {
-            if let Token::Number(_) = *token {
-                *token = Token::Number(0);
-            }
+            *token = zeroed(*token);
         }
         match self.tokens.get(skipped..) {
             Some(tokens) => statement_of(tokens).is_ok(),
@@ -234,7 +206,7 @@ impl<'a> Draft<'a> {
 
     // Where the token at the index begins; else that offset.
     fn offset_of(&self, index: usize, otherwise: usize) -> usize
-        ensures { result ≡ offset_or (slice_get self.now.spans.items index) otherwise }
+        ensures { result ≡ offset_or (slice_get (map place_of self.now.spans.items) index) otherwise }
     {
         match self.spans.get(index) {
             Some(span) => span.offset,

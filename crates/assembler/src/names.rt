@@ -1,10 +1,8 @@
 //! Names of places of the code: where they are defined, and where they are used.
 
-ghost use Rattle.std.specs.Prelude.{◌≡◌, ◌+◌, ◌-◌, ◌≤◌, [], length, map, Some, Ok, Err, IfOk, IfSome, OnOk, MatchResult, bytes_eq, pos};
-ghost use Rattle.indexmap.specs.IndexMap.{get_by};
-ghost use Rattle.std.specs.Map.{lookup};
-ghost use Rattle.assembler.specs.Naming.{with_distance, distance, Jumps, aimed, aim, resolved};
-ghost use Rattle.assembler.specs.Labels.{label_of, with_label, Makes};
+ghost use Rattle.std.specs.Prelude.{◌≡◌, ◌+◌, ◌-◌, ◌≤◌, map, Ok, Err, MatchResult};
+ghost use Rattle.assembler.specs.Naming.{distance, aimed, aim, resolved, use_of};
+ghost use Rattle.assembler.specs.Labels.{label_of, slot_in, with_label, Makes};
 
 use super::errors::AsmErrorKind;
 use super::refusals::Refusal;
@@ -26,15 +24,14 @@ pub struct Use<'a> {
 // The slot that the name stands for.
 #[tactic(auto, using(crate::proofs::LabelLookups::lookup_label))]
 fn slot_of(labels: &Labels<'_>, name: &[u8]) -> Option<u16>
-    ensures { result ≡ lookup (bytes_eq name.now) (map label_of labels.now.entries) }
+    ensures { result ≡ slot_in (map label_of labels.now.entries) name.now }
 {
     labels.get(name).copied()
 }
 
 /// Defines a name, unless it is defined.
 pub fn define<'a>(labels: &mut Labels<'a>, name: &'a [u8], slot: u16) -> Result<(), AsmErrorKind>
-    ensures exact { Makes (λ _. map label_of labels.new.entries) result (with_label (map label_of labels.old.entries) name.now slot) }
-    ensures stands { OnOk result (get_by (λ k. bytes_eq name.now k.now) labels.new ≡ Some slot) }
+    ensures { Makes (λ _. map label_of labels.new.entries) result (with_label (map label_of labels.old.entries) name.now slot) }
 {
     match slot_of(labels, name) {
         Some(_) => Err(AsmErrorKind::DefinedTwice),
@@ -55,8 +52,7 @@ fn distance(from: u16, to: u16) -> i32
 // The jump, over that distance, unless that is too far.
 #[tactic(auto, using(crate::proofs::NearDistances::fits_near, crate::proofs::NearDistances::fits_not))]
 fn aimed(insn: Insn, by: i32) -> Option<Insn>
-    ensures exact { result ≡ aimed insn by }
-    ensures jumps { IfSome result (λ i. i ≡ with_distance insn by) }
+    ensures { result ≡ aimed insn by }
 {
     match insn {
         Insn::Jump(_) => match i16::try_from(by) {
@@ -75,13 +71,12 @@ fn aimed(insn: Insn, by: i32) -> Option<Insn>
 
 // What the instruction at a use becomes.
 fn aim(labels: &Labels<'_>, used: &Use<'_>, insn: Insn) -> Result<Insn, AsmErrorKind>
-    ensures exact { result ≡ aim (get_by (λ k. bytes_eq used.now.name.now k.now) labels.now) used.now.slot insn }
-    ensures jumps { IfOk result (λ i. Jumps (get_by (λ k. bytes_eq used.now.name.now k.now) labels.now) used.now.slot insn i) }
+    ensures { result ≡ aim (slot_in (map label_of labels.now.entries) used.now.name.now) used.now.slot insn }
 {
-    let Some(to) = labels.get(used.name) else {
+    let Some(to) = slot_of(labels, used.name) else {
         return Err(AsmErrorKind::NotDefined);
     };
-    match aimed(insn, distance(used.slot, *to)) {
+    match aimed(insn, distance(used.slot, to)) {
         Some(insn) => Ok(insn),
         None => Err(AsmErrorKind::TooFar),
     }
@@ -89,10 +84,9 @@ fn aim(labels: &Labels<'_>, used: &Use<'_>, insn: Insn) -> Result<Insn, AsmError
 
 /// Puts the distances of names into the instructions that use them. The first use that is wrong is refused, at its place.
 pub fn resolve(insns: &mut Vec<Insn>, labels: &Labels<'_>, uses: &[Use<'_>]) -> Result<(), Refusal>
-    ensures exact { MatchResult result
-        (λ _. resolved (λ name. get_by (λ k. bytes_eq name k.now) labels.now) uses.now insns.old.items ≡ Ok insns.new.items)
-        (λ e. resolved (λ name. get_by (λ k. bytes_eq name k.now) labels.now) uses.now insns.old.items ≡ Err e) }
-    ensures unused { uses.now ≡ [] → (result ≡ Ok tt) × (insns.new.items ≡ insns.old.items) }
+    ensures { MatchResult result
+        (λ _. resolved (slot_in (map label_of labels.now.entries)) (map use_of uses.now) insns.old.items ≡ Ok insns.new.items)
+        (λ e. resolved (slot_in (map label_of labels.now.entries)) (map use_of uses.now) insns.old.items ≡ Err e) }
 {
     for used in uses {
         let Some(insn) = insns.get_mut(used.index) else {

@@ -1,8 +1,6 @@
 //! Numbers in their ranges, registers, operands, places and targets.
 
-ghost use Rattle.std.specs.Prelude.{◌≡◌, ◌+◌, ◌-◌, ◌<◌, ◌≤◌, ◌^◌, ◌==◌, if◌then◌else◌, IfOk, IfErr};
-ghost use Rattle.std.specs.Result.{result_ok};
-ghost use Rattle.assembler.specs.declared.wrong.Wrong.TheVariants as Wrong;
+ghost use Rattle.std.specs.Prelude.{◌≡◌, ◌+◌, ◌-◌, ◌<◌, ◌≤◌, ◌^◌, ◌==◌, if◌then◌else◌, IfOk};
 ghost use Rattle.assembler.specs.Statements.{signed_within, wide_within, signed_at, number_index, constant_at, same_width, same_register, as_register, register_at, again_at, operand_token, operand_at, place_at, memory_at, argument_at, is_name, target_token, target_at};
 
 use super::parts::{expect_at, is_minus, number_at, sign_at, token_at, word_at};
@@ -12,8 +10,7 @@ use lexer::{Sign, Token, Word};
 
 // A number for `imm`; `at` is the token at which it begins.
 fn imm_within(minus: bool, n: u128, at: usize) -> Result<i32, Wrong>
-    ensures value { result_ok result ≡ signed_within (2 ^ 31) minus n }
-    ensures fault { IfErr result (λ wrong. wrong ≡ Wrong.Range at) }
+    ensures { result ≡ signed_within (2 ^ 31) at minus n }
 {
     if minus {
         if n <= 1 << 31 {
@@ -32,8 +29,7 @@ fn imm_within(minus: bool, n: u128, at: usize) -> Result<i32, Wrong>
 
 // A number for `offset`.
 fn offset_within(minus: bool, n: u128, at: usize) -> Result<i16, Wrong>
-    ensures value { result_ok result ≡ signed_within (2 ^ 15) minus n }
-    ensures fault { IfErr result (λ wrong. wrong ≡ Wrong.Range at) }
+    ensures { result ≡ signed_within (2 ^ 15) at minus n }
 {
     if minus {
         if n <= 1 << 15 {
@@ -60,8 +56,7 @@ fn negative_wide(n: u128) -> u64
 
 /// The number of a wide load.
 pub fn wide_within(minus: bool, n: u128, at: usize) -> Result<u64, Wrong>
-    ensures value { result_ok result ≡ wide_within minus n }
-    ensures fault { IfErr result (λ wrong. wrong ≡ Wrong.Range at) }
+    ensures { result ≡ wide_within at minus n }
 {
     if minus {
         if n <= 1 << 63 {
@@ -81,7 +76,7 @@ pub fn wide_within(minus: bool, n: u128, at: usize) -> Result<u64, Wrong>
 /// A sign and a number for `imm`.
 pub fn signed_imm(tokens: &[Token], i: usize) -> Result<i32, Wrong>
     requires { i < 16 }
-    ensures { result_ok result ≡ signed_at (2 ^ 31) tokens.now i }
+    ensures { result ≡ signed_at (2 ^ 31) tokens.now i }
 {
     let minus = is_minus(sign_at(tokens, i)?)?;
     imm_within(minus, number_at(tokens, i + 1)?, i)
@@ -90,7 +85,7 @@ pub fn signed_imm(tokens: &[Token], i: usize) -> Result<i32, Wrong>
 /// A sign and a number for `offset`.
 pub fn signed_offset(tokens: &[Token], i: usize) -> Result<i16, Wrong>
     requires { i < 16 }
-    ensures { result_ok result ≡ signed_at (2 ^ 15) tokens.now i }
+    ensures { result ≡ signed_at (2 ^ 15) tokens.now i }
 {
     let minus = is_minus(sign_at(tokens, i)?)?;
     offset_within(minus, number_at(tokens, i + 1)?, i)
@@ -99,7 +94,7 @@ pub fn signed_offset(tokens: &[Token], i: usize) -> Result<i16, Wrong>
 // Whether a minus stands at this token, and where the number then stands.
 fn number_index(i: usize, token: Token) -> Result<(bool, usize), Wrong>
     requires { i < 16 }
-    ensures index { result_ok result ≡ number_index i token }
+    ensures index { result ≡ number_index i token }
     ensures near { IfOk result (λ at. at.1 ≤ i + 1) }
 {
     match token {
@@ -112,7 +107,7 @@ fn number_index(i: usize, token: Token) -> Result<(bool, usize), Wrong>
 /// A number for `imm` with a minus or without one, and the index behind it.
 pub fn constant_at(tokens: &[Token], i: usize) -> Result<(i32, usize), Wrong>
     requires { i < 16 }
-    ensures value { result_ok result ≡ constant_at tokens.now i }
+    ensures value { result ≡ constant_at tokens.now i }
     ensures near { IfOk result (λ k. k.1 ≤ i + 2) }
 {
     let (minus, at) = number_index(i, token_at(tokens, i)?)?;
@@ -135,7 +130,7 @@ pub fn same_register(a: Reg, b: Reg) -> bool
 
 /// The register of that width that the word is.
 pub fn as_register(width: Width, word: Word) -> Result<Reg, Wrong>
-    ensures { result_ok result ≡ as_register width word }
+    ensures { result ≡ as_register width word }
 {
     match word {
         Word::Register(other, register) => {
@@ -151,14 +146,14 @@ pub fn as_register(width: Width, word: Word) -> Result<Reg, Wrong>
 
 /// A register of that width.
 pub fn register_at(width: Width, tokens: &[Token], i: usize) -> Result<Reg, Wrong>
-    ensures { result_ok result ≡ register_at width tokens.now i }
+    ensures { result ≡ register_at width tokens.now i }
 {
     as_register(width, word_at(tokens, i)?)
 }
 
 /// That register, at that width.
 pub fn again_at(width: Width, register: Reg, tokens: &[Token], i: usize) -> Result<(), Wrong>
-    ensures { result_ok result ≡ again_at width register tokens.now i }
+    ensures { result ≡ again_at width register tokens.now i }
 {
     if same_register(register_at(width, tokens, i)?, register) {
         Ok(())
@@ -174,7 +169,7 @@ fn operand_token(
     token: Token,
 ) -> Result<(Operand, usize), Wrong>
     requires { i < 8 }
-    ensures value { result_ok result ≡ operand_token width tokens.now i token }
+    ensures value { result ≡ operand_token width tokens.now i token }
     ensures near { IfOk result (λ x. x.1 ≤ i + 2) }
 {
     match token {
@@ -189,7 +184,7 @@ fn operand_token(
 /// A register of that width or a number, and the index behind it.
 pub fn operand_at(width: Width, tokens: &[Token], i: usize) -> Result<(Operand, usize), Wrong>
     requires { i < 8 }
-    ensures value { result_ok result ≡ operand_at width tokens.now i }
+    ensures value { result ≡ operand_at width tokens.now i }
     ensures near { IfOk result (λ x. x.1 ≤ i + 2) }
 {
     operand_token(width, tokens, i, token_at(tokens, i)?)
@@ -198,7 +193,7 @@ pub fn operand_at(width: Width, tokens: &[Token], i: usize) -> Result<(Operand, 
 // A base, and an offset behind its sign.
 fn place_at(tokens: &[Token], i: usize) -> Result<Place, Wrong>
     requires { i < 12 }
-    ensures { result_ok result ≡ place_at tokens.now i }
+    ensures { result ≡ place_at tokens.now i }
 {
     let base = register_at(Width::Full64, tokens, i)?;
     let offset = signed_offset(tokens, i + 1)?;
@@ -208,7 +203,7 @@ fn place_at(tokens: &[Token], i: usize) -> Result<Place, Wrong>
 /// `*(size *)(place)`: ten tokens from that index on.
 pub fn memory_at(tokens: &[Token], i: usize) -> Result<(Word, Place), Wrong>
     requires { i < 3 }
-    ensures { result_ok result ≡ memory_at tokens.now i }
+    ensures { result ≡ memory_at tokens.now i }
 {
     expect_at(tokens, i, Sign::Star)?;
     expect_at(tokens, i + 1, Sign::Open)?;
@@ -224,7 +219,7 @@ pub fn memory_at(tokens: &[Token], i: usize) -> Result<(Word, Place), Wrong>
 /// `(place,`: five tokens from that index on.
 pub fn argument_at(tokens: &[Token], i: usize) -> Result<Place, Wrong>
     requires { i < 4 }
-    ensures { result_ok result ≡ argument_at tokens.now i }
+    ensures { result ≡ argument_at tokens.now i }
 {
     expect_at(tokens, i, Sign::Open)?;
     let place = place_at(tokens, i + 1)?;
@@ -248,7 +243,7 @@ fn near_target_token(
     token: Token,
 ) -> Result<(i16, Option<usize>), Wrong>
     requires { i < 8 }
-    ensures { result_ok result ≡ target_token (2 ^ 15) tokens.now i token }
+    ensures { result ≡ target_token (2 ^ 15) tokens.now i token }
 {
     match token {
         Token::Signed(_) => {
@@ -273,14 +268,14 @@ fn near_target_token(
 /// The target of `goto` and `if`, up to the end: a distance, or 0 and where a name stands.
 pub fn near_target_at(tokens: &[Token], i: usize) -> Result<(i16, Option<usize>), Wrong>
     requires { i < 8 }
-    ensures { result_ok result ≡ target_at (2 ^ 15) tokens.now i }
+    ensures { result ≡ target_at (2 ^ 15) tokens.now i }
 {
     near_target_token(tokens, i, token_at(tokens, i)?)
 }
 
 fn far_target_token(tokens: &[Token], i: usize, token: Token) -> Result<(i32, Option<usize>), Wrong>
     requires { i < 8 }
-    ensures { result_ok result ≡ target_token (2 ^ 31) tokens.now i token }
+    ensures { result ≡ target_token (2 ^ 31) tokens.now i token }
 {
     match token {
         Token::Signed(_) => {
@@ -305,7 +300,7 @@ fn far_target_token(tokens: &[Token], i: usize, token: Token) -> Result<(i32, Op
 /// The target of `gotol`, up to the end: a distance, or 0 and where a name stands.
 pub fn far_target_at(tokens: &[Token], i: usize) -> Result<(i32, Option<usize>), Wrong>
     requires { i < 8 }
-    ensures { result_ok result ≡ target_at (2 ^ 31) tokens.now i }
+    ensures { result ≡ target_at (2 ^ 31) tokens.now i }
 {
     far_target_token(tokens, i, token_at(tokens, i)?)
 }

@@ -1,8 +1,8 @@
 //! Single tokens of a statement.
 
-ghost use Rattle.std.specs.Prelude.{◌≡◌, slice_get};
-ghost use Rattle.std.specs.Result.{result_ok};
-ghost use Rattle.assembler.specs.Statements.{sign_at, number_at, word_at, is_sign, expect_at, is_minus, op_of, atomic_op_of, comparison_of, width_of, extension_of, as_size, as_narrow, is_full};
+ghost use Rattle.std.specs.Prelude.{◌≡◌};
+ghost use Rattle.assembler.specs.Statements.{token_at, sign_at, number_at, word_at, is_sign, expect_at, is_minus, op_of, atomic_op_of, comparison_of, width_of, extension_of, as_size, as_narrow, is_full};
+ghost use Rattle.assembler.specs.Labelled.{zeroed};
 
 use super::wrong::Wrong;
 use isa_model::{AluOp, AtomicOp, Comparison, Extension, Narrow, Size, Width};
@@ -10,7 +10,7 @@ use lexer::{Sign, Token, Word};
 
 /// The token at the index.
 pub fn token_at(tokens: &[Token], i: usize) -> Result<Token, Wrong>
-    ensures { result_ok result ≡ slice_get tokens.now i }
+    ensures { result ≡ token_at tokens.now i }
 {
     match tokens.get(i).copied() {
         Some(token) => Ok(token),
@@ -19,7 +19,7 @@ pub fn token_at(tokens: &[Token], i: usize) -> Result<Token, Wrong>
 }
 
 pub fn sign_at(tokens: &[Token], i: usize) -> Result<Sign, Wrong>
-    ensures { result_ok result ≡ sign_at tokens.now i }
+    ensures { result ≡ sign_at tokens.now i }
 {
     match tokens.get(i).copied() {
         Some(Token::Signed(sign)) => Ok(sign),
@@ -30,7 +30,7 @@ pub fn sign_at(tokens: &[Token], i: usize) -> Result<Sign, Wrong>
 }
 
 pub fn number_at(tokens: &[Token], i: usize) -> Result<u128, Wrong>
-    ensures { result_ok result ≡ number_at tokens.now i }
+    ensures { result ≡ number_at tokens.now i }
 {
     match tokens.get(i).copied() {
         Some(Token::Number(n)) => Ok(n),
@@ -41,7 +41,7 @@ pub fn number_at(tokens: &[Token], i: usize) -> Result<u128, Wrong>
 }
 
 pub fn word_at(tokens: &[Token], i: usize) -> Result<Word, Wrong>
-    ensures { result_ok result ≡ word_at tokens.now i }
+    ensures { result ≡ word_at tokens.now i }
 {
     match tokens.get(i).copied() {
         Some(Token::Named(word)) => Ok(word),
@@ -66,7 +66,7 @@ fn is_sign(sign: Sign, wanted: Sign) -> bool
 
 /// The wanted sign stands at the index: one of `(`, `)`, `*`, `,` and `=`.
 pub fn expect_at(tokens: &[Token], i: usize, wanted: Sign) -> Result<(), Wrong>
-    ensures { result_ok result ≡ expect_at tokens.now i wanted }
+    ensures { result ≡ expect_at tokens.now i wanted }
 {
     if is_sign(sign_at(tokens, i)?, wanted) {
         Ok(())
@@ -77,7 +77,7 @@ pub fn expect_at(tokens: &[Token], i: usize, wanted: Sign) -> Result<(), Wrong>
 
 /// Whether the sign of a number is a minus; it has to be `+` or `-`.
 pub fn is_minus(sign: Sign) -> Result<bool, Wrong>
-    ensures { result_ok result ≡ is_minus sign }
+    ensures { result ≡ is_minus sign }
 {
     match sign {
         Sign::Minus => Ok(true),
@@ -88,7 +88,7 @@ pub fn is_minus(sign: Sign) -> Result<bool, Wrong>
 
 /// The operation of an assigning sign.
 pub fn op_of(sign: Sign) -> Result<AluOp, Wrong>
-    ensures { result_ok result ≡ op_of sign }
+    ensures { result ≡ op_of sign }
 {
     match sign {
         Sign::Assign => Ok(AluOp::Mov),
@@ -111,7 +111,7 @@ pub fn op_of(sign: Sign) -> Result<AluOp, Wrong>
 
 /// The operation of an atomic instruction without fetch.
 pub fn atomic_op_of(sign: Sign) -> Result<AtomicOp, Wrong>
-    ensures { result_ok result ≡ atomic_op_of sign }
+    ensures { result ≡ atomic_op_of sign }
 {
     match sign {
         Sign::AddAssign => Ok(AtomicOp::Add),
@@ -124,7 +124,7 @@ pub fn atomic_op_of(sign: Sign) -> Result<AtomicOp, Wrong>
 
 /// The comparison of a conditional jump.
 pub fn comparison_of(sign: Sign) -> Result<Comparison, Wrong>
-    ensures { result_ok result ≡ comparison_of sign }
+    ensures { result ≡ comparison_of sign }
 {
     match sign {
         Sign::Equal => Ok(Comparison::Equal),
@@ -144,7 +144,7 @@ pub fn comparison_of(sign: Sign) -> Result<Comparison, Wrong>
 
 /// The width of an atomic instruction.
 pub fn width_of(size: Size) -> Result<Width, Wrong>
-    ensures { result_ok result ≡ width_of size }
+    ensures { result ≡ width_of size }
 {
     match size {
         Size::U32 => Ok(Width::Low32),
@@ -155,7 +155,7 @@ pub fn width_of(size: Size) -> Result<Width, Wrong>
 
 /// The extension from a size to a width.
 pub fn extension_of(width: Width, size: Narrow) -> Result<Extension, Wrong>
-    ensures { result_ok result ≡ extension_of width size }
+    ensures { result ≡ extension_of width size }
 {
     match (width, size) {
         (Width::Low32, Narrow::S8) => Ok(Extension::Low8),
@@ -168,7 +168,7 @@ pub fn extension_of(width: Width, size: Narrow) -> Result<Extension, Wrong>
 }
 
 pub fn as_size(word: Word) -> Result<Size, Wrong>
-    ensures { result_ok result ≡ as_size word }
+    ensures { result ≡ as_size word }
 {
     match word {
         Word::Unsigned(size) => Ok(size),
@@ -177,7 +177,7 @@ pub fn as_size(word: Word) -> Result<Size, Wrong>
 }
 
 pub fn as_narrow(word: Word) -> Result<Narrow, Wrong>
-    ensures { result_ok result ≡ as_narrow word }
+    ensures { result ≡ as_narrow word }
 {
     match word {
         Word::SignExtended(size) => Ok(size),
@@ -192,5 +192,15 @@ pub fn is_full(width: Width) -> bool
     match width {
         Width::Full64 => true,
         Width::Low32 => false,
+    }
+}
+
+/// The token with 0 for its number, if it is one: 0 is in all ranges.
+pub fn zeroed(token: Token) -> Token
+    ensures { result ≡ zeroed token }
+{
+    match token {
+        Token::Number(_) => Token::Number(0),
+        Token::Named(_) | Token::Signed(_) => token,
     }
 }

@@ -1,7 +1,7 @@
 //! Refusals, and the lines and columns that they stand at.
 
 ghost use Rattle.std.specs.Prelude.{◌≡◌, take};
-ghost use Rattle.assembler.specs.Positions.{line_behind, column_behind};
+ghost use Rattle.assembler.specs.Positions.{line_behind, column_behind, error_at};
 
 use super::errors::{AsmError, AsmErrorKind};
 
@@ -41,9 +41,7 @@ fn column_behind(front: &[u8]) -> usize
 
 /// The refusal with its line and column.
 pub fn located(text: &[u8], refusal: Refusal) -> AsmError
-    ensures kind { result.kind ≡ refusal.kind }
-    ensures line { result.line ≡ line_behind (take refusal.offset text.now) }
-    ensures column { result.column ≡ column_behind (take refusal.offset text.now) }
+    ensures { result ≡ error_at text.now refusal }
 {
     let front = match text.get(..refusal.offset) {
         Some(front) => front,

@@ -1,8 +1,8 @@
 //! The instruction that a statement's tokens spell.
 
 ghost use Rattle.std.specs.Prelude.{◌≡◌, ◌+◌, ◌≤◌, ◌<◌};
-ghost use Rattle.std.specs.Result.{result_ok};
 ghost use Rattle.assembler.specs.Statements.{stored_token, stored, locked, jump, long_jump, is_goto, goto_at, condition, tested, called_word, by_word, by_token, statement_of};
+ghost use Rattle.assembler.specs.Labelled.{spelled};
 
 use super::assignments::{assigned, plain};
 use super::operands::{
@@ -19,7 +19,7 @@ use lexer::{Sign, Token, Word};
 
 // What is stored behind `*(size *)(place) =`.
 fn stored_token(size: Size, place: Place, tokens: &[Token], token: Token) -> Result<Reading, Wrong>
-    ensures { result_ok result ≡ stored_token size place tokens.now token }
+    ensures { result ≡ stored_token size place tokens.now token }
 {
     match token {
         Token::Named(word) => {
@@ -34,7 +34,7 @@ fn stored_token(size: Size, place: Place, tokens: &[Token], token: Token) -> Res
 }
 
 fn stored(tokens: &[Token]) -> Result<Reading, Wrong>
-    ensures { result_ok result ≡ stored tokens.now }
+    ensures { result ≡ stored tokens.now }
 {
     let (word, place) = memory_at(tokens, 0)?;
     let size = as_size(word)?;
@@ -43,7 +43,7 @@ fn stored(tokens: &[Token]) -> Result<Reading, Wrong>
 }
 
 fn locked(tokens: &[Token]) -> Result<Reading, Wrong>
-    ensures { result_ok result ≡ locked tokens.now }
+    ensures { result ≡ locked tokens.now }
 {
     let (word, place) = memory_at(tokens, 1)?;
     let width = width_of(as_size(word)?)?;
@@ -53,7 +53,7 @@ fn locked(tokens: &[Token]) -> Result<Reading, Wrong>
 }
 
 fn jump(tokens: &[Token]) -> Result<Reading, Wrong>
-    ensures { result_ok result ≡ jump tokens.now }
+    ensures { result ≡ jump tokens.now }
 {
     let (by, name) = near_target_at(tokens, 1)?;
     Ok(Reading {
@@ -63,7 +63,7 @@ fn jump(tokens: &[Token]) -> Result<Reading, Wrong>
 }
 
 fn long_jump(tokens: &[Token]) -> Result<Reading, Wrong>
-    ensures { result_ok result ≡ long_jump tokens.now }
+    ensures { result ≡ long_jump tokens.now }
 {
     let (by, name) = far_target_at(tokens, 1)?;
     Ok(Reading {
@@ -83,7 +83,7 @@ fn is_goto(word: Word) -> bool
 
 fn goto_at(tokens: &[Token], i: usize) -> Result<(i16, Option<usize>), Wrong>
     requires { i < 7 }
-    ensures { result_ok result ≡ goto_at tokens.now i }
+    ensures { result ≡ goto_at tokens.now i }
 {
     if is_goto(word_at(tokens, i)?) {
         near_target_at(tokens, i + 1)
@@ -94,7 +94,7 @@ fn goto_at(tokens: &[Token], i: usize) -> Result<(i16, Option<usize>), Wrong>
 
 // What stands behind `if R`.
 fn condition(width: Width, register: Reg, tokens: &[Token]) -> Result<Reading, Wrong>
-    ensures { result_ok result ≡ condition width register tokens.now }
+    ensures { result ≡ condition width register tokens.now }
 {
     let comparison = comparison_of(sign_at(tokens, 2)?)?;
     let (operand, end) = operand_at(width, tokens, 3)?;
@@ -112,7 +112,7 @@ fn condition(width: Width, register: Reg, tokens: &[Token]) -> Result<Reading, W
 }
 
 fn tested(tokens: &[Token], word: Word) -> Result<Reading, Wrong>
-    ensures { result_ok result ≡ tested tokens.now word }
+    ensures { result ≡ tested tokens.now word }
 {
     match word {
         Word::Register(width, register) => condition(width, register, tokens),
@@ -122,7 +122,7 @@ fn tested(tokens: &[Token], word: Word) -> Result<Reading, Wrong>
 
 // What stands behind `call`: `pc` and a distance, or a name.
 fn called_word(tokens: &[Token], word: Word) -> Result<Reading, Wrong>
-    ensures { result_ok result ≡ called_word tokens.now word }
+    ensures { result ≡ called_word tokens.now word }
 {
     match word {
         Word::Pc => {
@@ -143,7 +143,7 @@ fn called_word(tokens: &[Token], word: Word) -> Result<Reading, Wrong>
 }
 
 fn by_word(tokens: &[Token], word: Word) -> Result<Reading, Wrong>
-    ensures { result_ok result ≡ by_word tokens.now word }
+    ensures { result ≡ by_word tokens.now word }
 {
     match word {
         Word::Register(width, register) => assigned(width, register, tokens),
@@ -158,7 +158,7 @@ fn by_word(tokens: &[Token], word: Word) -> Result<Reading, Wrong>
 }
 
 fn by_token(tokens: &[Token], token: Token) -> Result<Reading, Wrong>
-    ensures { result_ok result ≡ by_token tokens.now token }
+    ensures { result ≡ by_token tokens.now token }
 {
     match token {
         Token::Named(word) => by_word(tokens, word),
@@ -173,7 +173,17 @@ fn by_token(tokens: &[Token], token: Token) -> Result<Reading, Wrong>
 /// Forms are tried from left to right. `Wrong::Range` may come of tokens that no form fits whatever their numbers are.
 #[tactic(auto, unfolding(crate::specs::Statements::statement_of))]
 pub fn statement_of(tokens: &[Token]) -> Result<Reading, Wrong>
-    ensures { result_ok result ≡ statement_of tokens.now }
+    ensures { result ≡ statement_of tokens.now }
 {
     by_token(tokens, token_at(tokens, 0)?)
+}
+
+/// What the tokens of a statement without a label spell: nothing, or an instruction.
+pub fn spelled(tokens: &[Token]) -> Result<Option<Reading>, Wrong>
+    ensures { result ≡ spelled tokens.now }
+{
+    if tokens.is_empty() {
+        return Ok(None);
+    }
+    Ok(Some(statement_of(tokens)?))
 }

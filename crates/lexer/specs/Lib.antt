@@ -1,3 +1,4 @@
 pub mod Words
 pub mod Signs
 pub mod Lexing
+pub mod LexingLaws

@@ -1,40 +1,49 @@
-use Rattle.std.proofs.Common.{◌≡◌, ◌<◌, ap, ◌∙◌, sym, length, rules, Some}
-use Rattle.lexer.specs.Lexing.{lexeme_at}
-use Rattle.assembler.specs.Assembling.{Progress, assembled}
-use Rattle.assembler.proofs.Turns.{turn-keeps, turn-failed, end-keeps, end-failed}
+use Rattle.std.proofs.Common.{◌≡◌, ◌+◌, ◌<◌, ◌≤◌, ◌-◌, ◌^◌, ℕ, List, ap, ap₂, ◌∙◌, sym, length, take, rules, Some, None, Ok, Err, arith, inl, inr}
+use Rattle.std.proofs.lemmas.List.{take_min}
+use Rattle.lexer.specs.Lexing.{lexeme_at, fault_at}
+use Rattle.lexer.specs.LexingLaws.{fault_at-within}
+use Rattle.assembler.specs.declared.errors.AsmErrorKind.TheVariants.{UnknownByte}
+use Rattle.assembler.specs.declared.refusals.Refusal.{Refusal}
+use Rattle.assembler.specs.Assembling.{accept, read_on}
+use Rattle.assembler.specs.Drafts.{progress_of}
+use Rattle.assembler.proofs.TextTurns.{turn-none, turn-taken, turn-end}
 use Rattle.assembler.proofs.assembly.read.Goals as goal
 
 pub loop-rest-preserved : goal.loop-rest-preserved
-loop-rest-preserved c = λ final e.
-    let before : Progress = record { tokens = c.loop-rest.draft.tokens.items; insns = c.loop-rest.draft.code.insns.items } in
-    let next : Progress = record { tokens = c.accept.new.self.tokens.items; insns = c.accept.new.self.code.insns.items } in
+loop-rest-preserved c =
     let at : lexeme_at c.loop-rest.rest.now ≡ Some (c.in-Ok.found.0, c.in-Ok.found.1) = sym c.in-Ok.ensures.found in
     let more : 0 < length c.loop-rest.rest.now = search rules in
-    let held = c.loop-rest.invariant final e in
-    let went = turn-keeps c.loop-rest.rest.now before next c.accept.new.self.uses.items c.in-Ok.found.0 c.in-Ok.found.1 final more at (c.in-Ok-accept.ensures held.1) held.0 in
-    (ap (λ bs. assembled bs 0 next) c.after-rest.ensures.value ∙ went.0, went.1)
+    let few : length c.loop-rest.rest.now ≤ length c.args.text.now = c.loop-rest.invariant.1 in
+    let bytes : take c.min.result c.loop-rest.rest.now ≡ take c.in-Ok.found.1 c.loop-rest.rest.now = ap (λ n. take n c.loop-rest.rest.now) c.min.ensures ∙ take_min c.in-Ok.found.1 c.loop-rest.rest.now in
+    let taken : accept (progress_of c.loop-rest.draft) c.in-Ok.found.0 (length c.args.text.now - length c.loop-rest.rest.now, take c.in-Ok.found.1 c.loop-rest.rest.now) ≡ Ok (progress_of c.accept.new.self) =
+    ap₂ (λ (o : ℕ) (bs : List ℕ). accept (progress_of c.loop-rest.draft) c.in-Ok.found.0 (o, bs)) (sym c.saturating_sub-offset.ensures) (sym bytes) ∙ c.in-Ok-accept.ensures
+    in
+    let less = c.after-rest.ensures.less in (
+      c.loop-rest.invariant.0
+          ∙ turn-taken c.loop-rest.rest.now (length c.args.text.now) (progress_of c.loop-rest.draft) c.in-Ok.found.0 c.in-Ok.found.1 (progress_of c.accept.new.self) more few at taken
+          ∙ ap (λ bs. read_on bs 0 (length c.args.text.now - length bs) (progress_of c.accept.new.self)) (sym c.after-rest.ensures.value),
+      omega (arith, few, less),
+    )
 
-pub returns-in-Err-accept : goal.returns-in-Err-accept
-returns-in-Err-accept c = λ final e.
-    let before : Progress = record { tokens = c.loop-rest.draft.tokens.items; insns = c.loop-rest.draft.code.insns.items } in
-    let next : Progress = record { tokens = c.accept.new.self.tokens.items; insns = c.accept.new.self.code.insns.items } in
-    let at : lexeme_at c.loop-rest.rest.now ≡ Some (c.in-Ok.found.0, c.in-Ok.found.1) = sym c.in-Ok.ensures.found in
+pub returns-in-Err : goal.returns-in-Err
+returns-in-Err c =
+    let at : lexeme_at c.loop-rest.rest.now ≡ None = sym c.in-Err.ensures.found in
     let more : 0 < length c.loop-rest.rest.now = search rules in
-    let held = c.loop-rest.invariant final e in
-    turn-failed c.in-Err-accept.refusal c.loop-rest.rest.now before next c.accept.new.self.uses.items c.in-Ok.found.0 c.in-Ok.found.1 final more at (c.in-Err-accept.ensures held.1) held.0
-
-pub returns-in-Ok-close : goal.returns-in-Ok-close
-returns-in-Ok-close c = λ final e.
-    let before : Progress = record { tokens = c.loop-rest.draft.tokens.items; insns = c.loop-rest.draft.code.insns.items } in
-    let next : Progress = record { tokens = c.close.new.self.tokens.items; insns = c.close.new.self.code.insns.items } in
-    let none : length c.loop-rest.rest.now ≡ 0 = search rules in
-    let held = c.loop-rest.invariant final e in
-    end-keeps c.loop-rest.rest.now before next c.close.new.self.uses.items final none (c.in-Ok-close.ensures.reads held.1) held.0
+    let few : length c.loop-rest.rest.now ≤ length c.args.text.now = c.loop-rest.invariant.1 in
+    let fault : c.in-Err.at ≡ fault_at c.loop-rest.rest.now = c.in-Err.ensures.fault in
+    let within : fault_at c.loop-rest.rest.now ≤ length c.loop-rest.rest.now = fault_at-within c.loop-rest.rest.now more in
+    let small : length c.args.text.now < 2 ^ 63 = search rules in
+    let offset = c.saturating_sub-offset.ensures in
+    let sum = c.saturating_add.ensures in
+    let place : (length c.args.text.now - length c.loop-rest.rest.now) + fault_at c.loop-rest.rest.now ≡ c.saturating_add.result = omega (arith, offset, sum, fault, within, small, few) in
+    inr (c.loop-rest.invariant.0
+    ∙ turn-none c.loop-rest.rest.now (length c.args.text.now - length c.loop-rest.rest.now) (progress_of c.loop-rest.draft) more at
+    ∙ ap (λ o. let r : Refusal = record { kind = UnknownByte; offset = o } in Err r) place)
 
 pub returns : goal.returns
-returns c = λ final e.
-    let before : Progress = record { tokens = c.loop-rest.draft.tokens.items; insns = c.loop-rest.draft.code.insns.items } in
-    let next : Progress = record { tokens = c.close.new.self.tokens.items; insns = c.close.new.self.code.insns.items } in
+returns c =
     let none : length c.loop-rest.rest.now ≡ 0 = search rules in
-    let held = c.loop-rest.invariant final e in
-    end-failed c.in-Err-close.refusal c.loop-rest.rest.now before next c.close.new.self.uses.items final none (c.in-Err-close.ensures.reads held.1) held.0
+    elim c.in-Err-close.ensures [
+      | inl memory ↦ inl memory
+      | inr e ↦ inr (c.loop-rest.invariant.0 ∙ turn-end c.loop-rest.rest.now (length c.args.text.now - length c.loop-rest.rest.now) (progress_of c.loop-rest.draft) none ∙ e)
+    ]

@@ -1,9 +1,10 @@
-use Rattle.std.proofs.Common.{◌≡◌, length, Some, []}
-use Rattle.assembler.specs.Assembling.{Progress, assembled, start}
+use Rattle.std.proofs.Common.{◌≡◌, ◌≤◌, ◌-◌, length}
+use Rattle.assembler.specs.Assembling.{start, read_on}
+use Rattle.assembler.specs.Drafts.{progress_of}
 use Rattle.assembler.proofs.assembly.read.Given as goal
 
 abbrev pub invariant-loop-rest : goal.invariant-loop-rest
-invariant-loop-rest l = (final : Progress) → assembled l.text 0 start ≡ Some final → (assembled l.rest 0 (record { tokens = l.draft.tokens.items; insns = l.draft.code.insns.items }) ≡ Some final) × (l.draft.uses.items ≡ [])
+invariant-loop-rest l = (read_on l.text 0 0 start ≡ read_on l.rest 0 (length l.text - length l.rest) (progress_of l.draft)) × (length l.rest ≤ length l.text)
 
 abbrev pub decreases-loop-rest : goal.decreases-loop-rest
 decreases-loop-rest l = length l.rest

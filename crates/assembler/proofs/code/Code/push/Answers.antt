@@ -15,7 +15,7 @@ too_many is i count h more =
     ap not (lt-ltb 4096 (length (slots (is ++ i ∷ []))) (omega (arith, e, more)))
 
 pub returns-then-count-gt-MAX_SLOTS : goal.returns-then-count-gt-MAX_SLOTS
-returns-then-count-gt-MAX_SLOTS c = let h = c.if-count-gt-MAX_SLOTS.true in let k = c.slots.ensures in inr (refl, too_many c.args.self.now.insns.items c.args.insn c.args.self.now.count c.args.self.now.counted (omega (arith, h, k)))
+returns-then-count-gt-MAX_SLOTS c = let h = c.if-count-gt-MAX_SLOTS.true in let k = c.slots.ensures in inr (rw (too_many c.args.self.now.insns.items c.args.insn c.args.self.now.count c.args.self.now.counted (omega (arith, h, k))) refl)
 
 pub invariant_of-self : goal.invariant_of-self
 invariant_of-self c =

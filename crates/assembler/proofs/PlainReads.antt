@@ -1,0 +1,146 @@
+-- A text without labels and names is read as it is in the simpler way.
+use Rattle.std.proofs.Common.{◌≡◌, ℕ, zero, suc, ◌+◌, ◌-◌, ◌==◌, Bool, true, false, if◌then◌else◌, List, [], ◌∷◌, ◌++◌, length, take, refl, ap, ◌∙◌, sym, subst, arith, ne_eqb, Option, Some, None, ok_or, Result, Ok, Err}
+use Rattle.isa_model.specs.declared.instructions.Insn.{Insn}
+use Rattle.isa_model.specs.declared.instructions.Insn.TheVariants.{Exit}
+use Rattle.lexer.specs.declared.tokens.Word.{Word}
+use Rattle.lexer.specs.declared.tokens.Word.TheVariants as word
+use Rattle.lexer.specs.declared.tokens.Sign.TheVariants as sign
+use Rattle.lexer.specs.declared.tokens.Token.{Token}
+use Rattle.lexer.specs.declared.tokens.Token.TheVariants.{Named, Signed}
+use Rattle.lexer.specs.declared.tokens.Lexeme.{Lexeme}
+use Rattle.lexer.specs.declared.tokens.Lexeme.TheVariants.{Blank, End, Solid}
+use Rattle.lexer.specs.Lexing.{lexeme_at, fault_at}
+use Rattle.assembler.specs.declared.errors.AsmErrorKind.TheVariants.{UnknownByte, SlotCount}
+use Rattle.assembler.specs.declared.readings.Reading.{Reading}
+use Rattle.assembler.specs.declared.refusals.Refusal.{Refusal}
+use Rattle.assembler.specs.declared.wrong.Wrong.{Wrong}
+use Rattle.assembler.specs.Statements.{◌>>=◌, keep, statement_of}
+use Rattle.assembler.specs.Labelled.{label_length}
+use Rattle.assembler.specs.Naming.{NameUse}
+use Rattle.assembler.specs.Assembling.{Progress, TokenPlace, has_room, refused_at, begins_at, unless_wrong, ended, closed_behind, closed, accept, read_on}
+use Rattle.assembler.proofs.PlainTexts.{unnamed, unnamed_reading, plain_statement, added}
+use Rattle.assembler.proofs.PlainTexts as plain
+
+-- what the simpler reading knows of it
+abbrev pub shadow : Progress → plain.Progress
+shadow s = record { tokens = s.tokens; insns = s.insns }
+
+-- it comes to what the simpler reading comes to, and uses no name
+abbrev pub Goes : Result Progress Refusal → plain.Progress → Type 0
+Goes r final = (s : Progress) × (r ≡ Ok s) × (shadow s ≡ final) × (s.uses ≡ [])
+
+abbrev some : plain.Progress → Option plain.Progress
+some s = Some s
+
+same_some : (s t : plain.Progress) → some s ≡ some t → s ≡ t
+same_some s t h = cc
+
+abbrev none : Option plain.Progress
+none = None
+
+never : (final : plain.Progress) → none ≡ Some final → ⊥
+never final h = cc
+
+-- ---- a label is no instruction
+
+abbrev no_insn : Option Insn
+no_insn = None
+
+no-insn : (i : Insn) → no_insn ≡ Some i → ⊥
+no-insn i h = cc
+
+labelled : (x : Word) (ts : List Token) (i : Insn) → plain_statement (Named x ∷ Signed sign.Colon ∷ ts) ≡ Some i → ⊥
+unfolding statement_of
+labelled word.Exit ts i h = let more : (length (Named word.Exit ∷ Signed sign.Colon ∷ ts) == 1) ≡ false = ne_eqb (length (Named word.Exit ∷ Signed sign.Colon ∷ ts)) 1 (λ e. omega (arith, e)) in
+    no-insn i (sym (ap (λ (b : Bool). unnamed_reading (keep b (record { insn = Exit; name = None }))) more) ∙ h)
+labelled x ts i h = no-insn i h
+
+not-labelled : (ts : List Token) (i : Insn) → plain_statement ts ≡ Some i → label_length ts ≡ 0
+not-labelled [] i h = refl
+not-labelled (Named x ∷ []) i h = refl
+not-labelled (Named x ∷ Signed sign.Colon ∷ ts) i h = absurd (labelled x ts i h)
+not-labelled (Named x ∷ t ∷ ts) i h = refl
+not-labelled (t ∷ ts) i h = refl
+
+-- ---- the end of a statement
+
+abbrev some_insn : Insn → Option Insn
+some_insn i = Some i
+
+same_insn : (i j : Insn) → some_insn i ≡ some_insn j → i ≡ j
+same_insn i j h = cc
+
+abbrev plainly : Insn → Result Reading Wrong
+plainly i = Ok (record { insn = i; name = None })
+
+named-not : (i : Insn) (name : Option ℕ) (j : Insn) → unnamed i name ≡ Some j → (let r : Result Reading Wrong = Ok (record { insn = i; name = name }) in r) ≡ plainly j
+named-not i None j h = ap plainly (same_insn i j h)
+named-not i (Some k) j h = absurd (no-insn j h)
+
+read-plainly : (r : Result Reading Wrong) (i : Insn) → unnamed_reading r ≡ Some i → r ≡ plainly i
+read-plainly (Ok r) i h = named-not r.insn r.name i h
+read-plainly (Err wrong) i h = absurd (no-insn i h)
+
+-- what a progress is once an instruction was added
+abbrev with_one : Progress → Insn → Progress
+with_one s i = record { tokens = []; places = []; insns = s.insns ++ i ∷ []; labels = s.labels; uses = s.uses }
+
+closed-behind : (s : Progress) (i : Insn) → (length s.tokens == 0) ≡ false → statement_of s.tokens ≡ plainly i → has_room (s.insns ++ i ∷ []) ≡ true → closed_behind s 0 ≡ Ok (with_one s i)
+closed-behind s i more e room =
+    let r : Reading = record { insn = i; name = None } in
+    ap (λ (b : Bool). unless_wrong s 0 (if b then Ok None else statement_of s.tokens >>= λ q. Ok (Some q)) >>= λ said. ended s 0 said) more
+    ∙ ap (λ (o : Result Reading Wrong). unless_wrong s 0 (o >>= λ q. Ok (Some q)) >>= λ said. ended s 0 said) e
+    ∙ ap (λ (b : Bool). refused_at (begins_at s) (if b then Ok (s.insns ++ i ∷ []) else Err SlotCount) >>= λ insns. Ok (record { tokens = []; places = []; insns = insns; labels = s.labels; uses = s.uses })) room
+
+added-goes : (s : Progress) (i : Insn) (room : Bool) (final : plain.Progress) → has_room (s.insns ++ i ∷ []) ≡ room → (length s.tokens == 0) ≡ false → plain_statement s.tokens ≡ Some i → s.uses ≡ [] → plain.keep room (shadow (with_one s i)) ≡ Some final → Goes (closed s) final
+added-goes s i false final room more e unused h = absurd (never final h)
+added-goes s i true final room more e unused h =
+    (with_one s i, ap (λ k. closed_behind s k) (not-labelled s.tokens i e) ∙ closed-behind s i more (read-plainly (statement_of s.tokens) i e) room, same_some (shadow (with_one s i)) final h, unused)
+
+statement-goes : (s : Progress) (o : Option Insn) (final : plain.Progress) → plain_statement s.tokens ≡ o → (length s.tokens == 0) ≡ false → s.uses ≡ [] → added (shadow s) o ≡ Some final → Goes (closed s) final
+statement-goes s None final e more unused h = absurd (never final h)
+statement-goes s (Some i) final e more unused h = added-goes s i (has_room (s.insns ++ i ∷ [])) final refl more e unused h
+
+closed-at : (ts : List Token) (ps : List TokenPlace) (is : List Insn) (ls : List (List ℕ × ℕ)) (us : List NameUse) (final : plain.Progress) → us ≡ [] → plain.closed (record { tokens = ts; insns = is }) ≡ Some final → Goes (closed (record { tokens = ts; places = ps; insns = is; labels = ls; uses = us })) final
+closed-at [] ps is ls us final unused h = (record { tokens = []; places = []; insns = is; labels = ls; uses = us }, refl, same_some (record { tokens = []; insns = is }) final h, unused)
+closed-at (t ∷ ts) ps is ls us final unused h =
+    let s : Progress = record { tokens = t ∷ ts; places = ps; insns = is; labels = ls; uses = us } in
+    let more : (length (t ∷ ts) == 0) ≡ false = ne_eqb (length (t ∷ ts)) 0 (λ e. omega (arith, e)) in
+    let taken : added (shadow s) (plain_statement (t ∷ ts)) ≡ Some final = sym (ap (λ (b : Bool). if b then Some (shadow s) else added (shadow s) (plain_statement (t ∷ ts))) more) ∙ h in
+    statement-goes s (plain_statement (t ∷ ts)) final refl more unused taken
+
+closed-goes : (s : Progress) (final : plain.Progress) → s.uses ≡ [] → plain.closed (shadow s) ≡ Some final → Goes (closed s) final
+closed-goes s final unused h = closed-at s.tokens s.places s.insns s.labels s.uses final unused h
+
+-- ---- the rest of a text
+
+abbrev GoesOn : List ℕ → plain.Progress → Type 0
+GoesOn bs final = (k at : ℕ) (s : Progress) → s.uses ≡ [] → plain.assembled bs k (shadow s) ≡ Some final → Goes (read_on bs k at s) final
+
+-- what is read on from a lexeme
+abbrev from_lexeme : List ℕ → ℕ → ℕ → Progress → Result (Lexeme × ℕ) Refusal → Result Progress Refusal
+from_lexeme bs b at s found = found >>= λ (p : Lexeme × ℕ). accept s p.0 (at, take p.1 (b ∷ bs)) >>= λ t. read_on bs (p.1 - 1) (at + 1) t
+
+end-goes : (bs : List ℕ) (n at : ℕ) (s : Progress) (mid : Option plain.Progress) (final : plain.Progress) → GoesOn bs final → s.uses ≡ [] → plain.closed (shadow s) ≡ mid → plain.◌>>=◌ mid (λ t. plain.assembled bs n t) ≡ Some final → Goes (closed s >>= λ t. read_on bs n at t) final
+end-goes bs n at s None final on unused e h = absurd (never final h)
+end-goes bs n at s (Some t) final on unused e h =
+    let went : Goes (closed s) t = closed-goes s t unused e in
+    let next : Goes (read_on bs n at went.0) final = on n at went.0 went.3 (ap (λ u. plain.assembled bs n u) went.2 ∙ h) in
+    subst (λ (r : Result Progress Refusal). Goes r final) (sym (ap (λ (r : Result Progress Refusal). r >>= λ t. read_on bs n at t) went.1)) next
+
+lexeme-goes : (b : ℕ) (bs : List ℕ) (x : Lexeme) (n at : ℕ) (s : Progress) (final : plain.Progress) → GoesOn bs final → s.uses ≡ [] → plain.◌>>=◌ (plain.accept (shadow s) x) (λ t. plain.assembled bs (n - 1) t) ≡ Some final → Goes (accept s x (at, take n (b ∷ bs)) >>= λ t. read_on bs (n - 1) (at + 1) t) final
+lexeme-goes b bs Blank n at s final on unused h = on (n - 1) (at + 1) s unused h
+lexeme-goes b bs End n at s final on unused h = end-goes bs (n - 1) (at + 1) s (plain.closed (shadow s)) final on unused refl h
+lexeme-goes b bs (Solid t) n at s final on unused h =
+    on (n - 1) (at + 1) (record { tokens = s.tokens ++ t ∷ []; places = s.places ++ (at, take n (b ∷ bs)) ∷ []; insns = s.insns; labels = s.labels; uses = s.uses }) unused h
+
+found-goes : (b : ℕ) (bs : List ℕ) (o : Option (Lexeme × ℕ)) (at : ℕ) (s : Progress) (final : plain.Progress) → GoesOn bs final → s.uses ≡ [] → plain.◌>>=◌ o (λ (p : Lexeme × ℕ). plain.◌>>=◌ (plain.accept (shadow s) p.0) (λ t. plain.assembled bs (p.1 - 1) t)) ≡ Some final → Goes (from_lexeme bs b at s (ok_or o (record { kind = UnknownByte; offset = at + fault_at (b ∷ bs) }))) final
+found-goes b bs None at s final on unused h = absurd (never final h)
+found-goes b bs (Some p) at s final on unused h = lexeme-goes b bs p.0 p.1 at s final on unused h
+
+-- where the simpler reading comes to an end, so does the other
+pub read-goes : (bs : List ℕ) (k at : ℕ) (s : Progress) (final : plain.Progress) → s.uses ≡ [] → plain.assembled bs k (shadow s) ≡ Some final → Goes (read_on bs k at s) final
+read-goes [] k at s final unused h = closed-goes s final unused h
+read-goes (b ∷ bs) (suc k) at s final unused h = read-goes bs k (at + 1) s final unused h
+read-goes (b ∷ bs) zero at s final unused h =
+    found-goes b bs (lexeme_at (b ∷ bs)) at s final (λ n place t none more. read-goes bs n place t final none more) unused h

@@ -1,0 +1,29 @@
+-- Laws of what stands at a place of the text.
+use Rattle.std.proofs.Common.{◌≡◌, ℕ, zero, suc, ◌-◌, ◌≤◌, ◌==◌, ◌&&◌, Bool, true, false, if◌then◌else◌, List, length, drop, arith, ne_eqb}
+use Rattle.std.specs.Prelude.{slice_index}
+use Rattle.std.specs.List.{prefix_len}
+use Rattle.std.specs.Char.{is_digit}
+use Rattle.std.proofs.lemmas.List.{length-drop}
+use Rattle.std.proofs.lemmas.List.Sums.{prefix_len-le-length}
+use Rattle.lexer.specs.Lexing.{number_fault, number_fault_at, number_fault_from, fault_at}
+
+either : (b : Bool) (m n all : ℕ) → m ≤ all → n ≤ all → (if b then m else n) ≤ all
+either true m n all h g = h
+either false m n all h g = g
+
+fault-within : (skip n all : ℕ) → 1 ≤ all → n ≤ all - skip → number_fault skip n ≤ all
+fault-within skip zero all some h = some
+fault-within skip (suc n) all some h = let t : (suc n == 0) ≡ false = ne_eqb (suc n) 0 (λ e. omega (arith, e)) in rw t (omega (arith, h))
+
+fault_at-digits : (base skip : ℕ) (bs : List ℕ) → 1 ≤ length bs → number_fault_at base skip bs ≤ length bs
+fault_at-digits base skip bs some =
+    let count : prefix_len (λ c. is_digit c base) (drop skip bs) ≤ length (drop skip bs) = prefix_len-le-length (λ c. is_digit c base) (drop skip bs) in
+    let long : length (drop skip bs) ≡ length bs - skip = length-drop skip bs in
+    fault-within skip (prefix_len (λ c. is_digit c base) (drop skip bs)) (length bs) some (omega (arith, count, long))
+
+-- a byte that begins no token is one of the text
+pub fault_at-within : (bs : List ℕ) → 1 ≤ length bs → fault_at bs ≤ length bs
+fault_at-within bs some =
+    either (is_digit (slice_index bs 0) 10) (number_fault_from bs) 0 (length bs)
+    (either ((slice_index bs 0 == 48) && (slice_index bs 1 == 120)) (number_fault_at 16 2 bs) (number_fault_at 10 0 bs) (length bs) (fault_at-digits 16 2 bs some) (fault_at-digits 10 0 bs some))
+    (omega arith)
