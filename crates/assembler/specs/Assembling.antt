@@ -142,7 +142,7 @@ read_on (b ∷ bs) zero at s =
     next_lexeme at (b ∷ bs)
     >>= λ (p : Lexeme × ℕ). accept s p.0 (at, take p.1 (b ∷ bs)) >>= λ t. read_on bs (p.1 - 1) (at + 1) t
 
--- the program of these instructions: no instruction is refused where the text begins
+-- the program of these instructions; that there is none is refused where the text begins
 abbrev pub program_of : List Insn → Result Program Refusal
 program_of insns = if is_none (count_refusal (length (slots insns))) then Ok (code_alone insns) else Err (record { kind = SlotCount; offset = 0 })
 
