@@ -1,12 +1,12 @@
 -- Limits of sums, shifts and products.
-use Rattle.std.proofs.Common.{◌≡◌, ℕ, ℤ, pos, negsuc, ◌+◌, ◌-◌, ◌*◌, ◌/◌, ◌%◌, ◌^◌, ◌<◌, ◌≤◌, w64, refl, inl, inr, ap, ◌∙◌, arith, Bool, true, false, cond}
+use Rattle.std.proofs.Common.{◌≡◌, ℕ, ℤ, pos, negsuc, zero, suc, ◌+◌, ◌-◌, ◌*◌, ◌/◌, ◌%◌, ◌^◌, ◌<◌, ◌≤◌, w64, refl, inl, inr, ap, ◌∙◌, arith, Bool, true, false, cond}
 use Rattle.std.specs.Prelude.{◌+ℤ◌, ◌-ℤ◌, ◌≤ℤ◌, FitsSigned, nat_eq}
-use Rattle.std.specs.Int.{cast_signed, cast_unsigned, int_shr}
-use lib.Signed.{shr_z, mag_shr}
+use Rattle.std.specs.Int.{w8, w16, w32, cast_signed, cast_unsigned, int_shr}
+use lib.Signed.{shr_z, mag_shr, le_z}
 use Rattle.std.proofs.Math.Facts.{sfits_to_z}
-use Rattle.std.proofs.lemmas.Int.{ints}
+use Rattle.std.proofs.lemmas.Int.{ints, to_z-of_z, of_z-to_z}
 use Rattle.isa_model.specs.declared.sizes.Width.{Width}
-use Rattle.isa_model.specs.declared.sizes.Width.TheVariants.{Low32}
+use Rattle.isa_model.specs.declared.sizes.Width.TheVariants.{Low32, Full64}
 use Rattle.isa_model.specs.declared.sizes.Extension.{Extension}
 use Rattle.isa_model.specs.declared.sizes.Extension.TheVariants.{Low8, Low16, Full8, Full16, Full32}
 use Rattle.isa_model.specs.declared.instructions.AluOp.{AluOp}
@@ -14,12 +14,13 @@ use Rattle.isa_model.specs.declared.instructions.AluOp.TheVariants.{Add, Sub, Mu
 use Rattle.isa_model.specs.Sizes.{width_bits}
 use Rattle.isa_model.specs.Numbers.{result_of, shift, sign_extended}
 use Rattle.isa_model.specs.NumberLemmas.{signed_equation}
-use Rattle.isa_model.specs.ExtensionLemmas.{extension_bits, sign_extended_cases, sign_extended_fits, sign_extended-small}
+use Rattle.isa_model.specs.ExtensionLemmas.{extension_bits, extension_width, sign_extended_cases, sign_extended_fits, sign_extended-small}
 use Rattle.std.proofs.lemmas.Bool.{cases_lt, lt-ltb, ne_eqb}
 use Rattle.std.proofs.lemmas.Nat.{le-div, pow_pos, mul-le, mod_below, and_le_l, and_le_r}
 use Rattle.std.proofs.Math.Nat.{div-mul-le_self, mod-eq_of_lt, div-le_self, mod-le, div-zero, add-mod_right}
 use Rattle.ranges.specs.declared.range.Range.{Range}
-use Rattle.ranges.specs.Ranges.{Encloses, IsBetween, KeepsLimits}
+use Rattle.ranges.specs.Within.{IsWithin}
+use Rattle.ranges.specs.Ranges.{Has, Encloses, IsBetween, IsSignedBetween, IsTight, ReadsAlike, KeepsLimits, KeepsSignedLimits, extension_signed}
 
 -- ---- sums and differences that fit
 
@@ -126,10 +127,55 @@ extended_32 x =
       | inr p ↦ let b : x % 2 ^ 32 < 2 ^ 32 = omega arith in (omega (arith, ints, p.0, p.1), omega (arith, ints, p.0, p.1))
     ]
 
--- ---- enclosure
+pub test_le : (a b : ℤ) → le_z a b ≡ true → a ≤ℤ b
+test_le a b h = grind (arith, ints)
 
-pub Encloses-trans : (a b d : Range) → Encloses a b → Encloses b d → Encloses a d
-Encloses-trans a b d p q = (omega arith, omega arith, omega (arith, ints), omega (arith, ints))
+-- ---- limits that are numbers
+
+-- limits within one half enclose the same numbers without and with a sign
+pub half_has : (a b x : ℕ) → b < 2 ^ 64 → a / 2 ^ 63 ≡ b / 2 ^ 63 → a ≤ x → x ≤ b
+    → IsWithin a b (cast_signed w64 a) (cast_signed w64 b) x
+half_has a b x b_in same from to =
+    let ea = signed_equation a (omega arith) in
+    let eb = signed_equation b b_in in
+    let ex = signed_equation x (omega arith) in
+    record { below = omega arith; from = from; to = to; signed_from = omega (arith, ints); signed_to = omega (arith, ints) }
+
+-- the numbers of both halves
+pub halves_have : (a b d e x : ℕ) → a ≤ b → b < 2 ^ 63 → 2 ^ 63 ≤ d → d ≤ e → e < 2 ^ 64 → a ≤ x → x ≤ e
+    → (x < 2 ^ 63 → x ≤ b) → (2 ^ 63 ≤ x → d ≤ x) → IsWithin a e (cast_signed w64 d) (cast_signed w64 b) x
+halves_have a b d e x ab b_in d_in de e_in from to low high =
+    let eb = signed_equation b (omega arith) in
+    let ed = signed_equation d (omega arith) in
+    let ex = signed_equation x (omega arith) in
+    elim (cases_lt x (2 ^ 63)) [
+      | inl lt ↦
+          let l = low lt in
+          record { below = omega arith; from = from; to = to; signed_from = omega (arith, ints); signed_to = omega (arith, ints) }
+      | inr ge ↦
+          let h = high ge in
+          record { below = omega arith; from = from; to = to; signed_from = omega (arith, ints); signed_to = omega (arith, ints) }
+    ]
+
+pub half_tight : (r : Range) → r.greatest < 2 ^ 64 → r.least ≤ r.greatest → r.least / 2 ^ 63 ≡ r.greatest / 2 ^ 63
+    → ReadsAlike r → IsTight r
+half_tight r r_in ordered half alike =
+    rw (alike.0, alike.1, of_z-to_z w64 r.least (omega arith), of_z-to_z w64 r.greatest r_in) (
+      half_has r.least r.greatest r.least r_in half (omega arith) ordered,
+      half_has r.least r.greatest r.greatest r_in half ordered (omega arith),
+      half_has r.least r.greatest r.least r_in half (omega arith) ordered,
+      half_has r.least r.greatest r.greatest r_in half ordered (omega arith),
+    )
+
+-- tight limits are enclosed by limits that have all their numbers
+pub tight_encloses : (a m : Range) → FitsSigned w64 m.signed_least → FitsSigned w64 m.signed_greatest → IsTight m
+    → ((x : ℕ) → Has m x → Has a x) → Encloses a m
+tight_encloses a m fl fg tight within =
+    let l = within m.least tight.0 in
+    let g = within m.greatest tight.1 in
+    let sl = rw (to_z-of_z w64 m.signed_least fl) at ((within (cast_unsigned w64 m.signed_least) tight.2).signed_from) in
+    let sg = rw (to_z-of_z w64 m.signed_greatest fg) at ((within (cast_unsigned w64 m.signed_greatest) tight.3).signed_to) in
+    (l.from, g.to, sl, sg)
 
 -- ---- what an operation keeps of the limits of two constants
 
@@ -185,3 +231,98 @@ extended_small Low16 x h = sign_extended-small Low16 x (2 ^ 15) refl (omega arit
 extended_small Full8 x h = sign_extended-small Full8 x (2 ^ 7) refl (omega arith)
 extended_small Full16 x h = sign_extended-small Full16 x (2 ^ 15) refl (omega arith)
 extended_small Full32 x h = sign_extended-small Full32 x (2 ^ 31) refl (omega arith)
+
+-- nor of a signed number of what is read
+pub extended_same : (e : Extension) (x : ℕ) (l g : ℤ) → extension_width e ≡ Full64 → x < 2 ^ 64
+    → FitsSigned (extension_signed e) l → FitsSigned (extension_signed e) g → l ≤ℤ cast_signed w64 x
+    → cast_signed w64 x ≤ℤ g → sign_extended e x ≡ x
+extended_same Low8 x l g full x_in fl fg from to = cc
+extended_same Low16 x l g full x_in fl fg from to = cc
+extended_same Full8 x l g full x_in fl fg from to =
+    let ex = signed_equation x x_in in
+    elim (sign_extended_cases Full8 x (2 ^ 7) refl) [
+      | inl p ↦ omega (arith, ints, p.0, p.1, fl.sfits, fg.sfits)
+      | inr p ↦ omega (arith, ints, p.0, p.1, fl.sfits, fg.sfits)
+    ]
+extended_same Full16 x l g full x_in fl fg from to =
+    let ex = signed_equation x x_in in
+    elim (sign_extended_cases Full16 x (2 ^ 15) refl) [
+      | inl p ↦ omega (arith, ints, p.0, p.1, fl.sfits, fg.sfits)
+      | inr p ↦ omega (arith, ints, p.0, p.1, fl.sfits, fg.sfits)
+    ]
+extended_same Full32 x l g full x_in fl fg from to =
+    let ex = signed_equation x x_in in
+    elim (sign_extended_cases Full32 x (2 ^ 31) refl) [
+      | inl p ↦ omega (arith, ints, p.0, p.1, fl.sfits, fg.sfits)
+      | inr p ↦ omega (arith, ints, p.0, p.1, fl.sfits, fg.sfits)
+    ]
+
+-- half of what is read fits the width that is made
+pub half_narrow : (e : Extension) (h : ℕ) → h + h ≡ 2 ^ extension_bits e → h ≤ 2 ^ width_bits (extension_width e)
+half_narrow Low8 h twice = omega arith
+half_narrow Low16 h twice = omega arith
+half_narrow Full8 h twice = omega arith
+half_narrow Full16 h twice = omega arith
+half_narrow Full32 h twice = omega arith
+
+fits_8 : (z : ℤ) → negsuc 127 ≤ℤ z → z ≤ℤ pos 127 → FitsSigned w8 z
+fits_8 (pos n) l g = record { sfits = omega (arith, ints) }
+fits_8 (negsuc n) l g = record { sfits = omega (arith, ints) }
+
+fits_16 : (z : ℤ) → negsuc 32767 ≤ℤ z → z ≤ℤ pos 32767 → FitsSigned w16 z
+fits_16 (pos n) l g = record { sfits = omega (arith, ints) }
+fits_16 (negsuc n) l g = record { sfits = omega (arith, ints) }
+
+fits_32 : (z : ℤ) → negsuc 2147483647 ≤ℤ z → z ≤ℤ pos 2147483647 → FitsSigned w32 z
+fits_32 (pos n) l g = record { sfits = omega (arith, ints) }
+fits_32 (negsuc n) l g = record { sfits = omega (arith, ints) }
+
+-- what is made is a signed number of what is read
+pub extended_signed : (e : Extension) (x : ℕ) → extension_width e ≡ Full64
+    → FitsSigned (extension_signed e) (cast_signed w64 (sign_extended e x))
+extended_signed Low8 x full = cc
+extended_signed Low16 x full = cc
+extended_signed Full8 x full = let l = extended_8 x in fits_8 _ l.0 l.1
+extended_signed Full16 x full = let l = extended_16 x in fits_16 _ l.0 l.1
+extended_signed Full32 x full = let l = extended_32 x in fits_32 _ l.0 l.1
+
+-- a greater number's negative fits where that of a smaller one does
+pub negative_fits : (l g : ℤ) → l ≤ℤ g → FitsSigned w64 g → FitsSigned w64 (pos 0 -ℤ l) → FitsSigned w64 (pos 0 -ℤ g)
+negative_fits l (pos zero) h f fl = record { sfits = omega arith }
+negative_fits l (pos (suc n)) h f fl =
+    let e : (pos 0 -ℤ pos (suc n)) ≡ negsuc n = omega (arith, ints) in
+    let s = f.sfits in
+    rw e (record { sfits = omega arith })
+negative_fits (pos m) (negsuc n) h f fl = absurd (omega (arith, ints))
+negative_fits (negsuc m) (negsuc n) h f fl = record { sfits = let s = fl.sfits in let le : n ≤ m = omega (arith, ints) in omega arith }
+
+-- ---- what an operation keeps of the signed limits at 64 bits, when it gives one number
+
+pub keeps_signed_constant : (op : AluOp) (a b r : Range) (x y : ℕ) → Has a x → Has b y → b.least ≡ b.greatest
+    → r.signed_least ≡ cast_signed w64 (result_of op Full64 x y) → r.signed_greatest ≡ cast_signed w64 (result_of op Full64 x y)
+    → KeepsSignedLimits op a b (IsSignedBetween r)
+keeps_signed_constant Add a b r x y hx hy one e f = λ fl fg.
+    rw (e, f) (
+      sum_from x y a.signed_least b.signed_least a.signed_greatest b.signed_greatest hx.below hy.below hx.signed_from hx.signed_to hy.signed_from hy.signed_to fl fg,
+      sum_to x y a.signed_least b.signed_least a.signed_greatest b.signed_greatest hx.below hy.below hx.signed_from hx.signed_to hy.signed_from hy.signed_to fl fg,
+    )
+keeps_signed_constant Sub a b r x y hx hy one e f = λ fl fg.
+    rw (e, f) (
+      difference_from x y a.signed_least b.signed_least a.signed_greatest b.signed_greatest hx.below hy.below hx.signed_from hx.signed_to hy.signed_from hy.signed_to fl fg,
+      difference_to x y a.signed_least b.signed_least a.signed_greatest b.signed_greatest hx.below hy.below hx.signed_from hx.signed_to hy.signed_from hy.signed_to fl fg,
+    )
+keeps_signed_constant Arsh a b r x y hx hy one e f = λ same.
+    let is : y ≡ b.least = omega arith in
+    let z = to_z-of_z w64 (int_shr (cast_signed w64 x) (b.least % 64)) (shr_fits (cast_signed w64 x) (b.least % 64) (cast_fits x hx.below)) in
+    rw (e, f, is, z) (shr_mono a.signed_least (cast_signed w64 x) (2 ^ (b.least % 64)) hx.signed_from, shr_mono (cast_signed w64 x) a.signed_greatest (2 ^ (b.least % 64)) hx.signed_to)
+keeps_signed_constant Mov a b r x y hx hy one e f = rw (e, f) (hy.signed_from, hy.signed_to)
+keeps_signed_constant Mul a b r x y hx hy one e f = tt
+keeps_signed_constant Div a b r x y hx hy one e f = tt
+keeps_signed_constant Mod a b r x y hx hy one e f = tt
+keeps_signed_constant And a b r x y hx hy one e f = tt
+keeps_signed_constant Lsh a b r x y hx hy one e f = tt
+keeps_signed_constant Rsh a b r x y hx hy one e f = tt
+keeps_signed_constant Or a b r x y hx hy one e f = tt
+keeps_signed_constant Xor a b r x y hx hy one e f = tt
+keeps_signed_constant SignedDiv a b r x y hx hy one e f = tt
+keeps_signed_constant SignedMod a b r x y hx hy one e f = tt

@@ -1,16 +1,16 @@
 //! What the arithmetic instructions give.
 
-ghost use Rattle.std.specs.Prelude.{◌≡◌, ℕ, ◌+◌, ◌^◌, ◌<◌};
+ghost use Rattle.std.specs.Prelude.{◌≡◌, ℕ, ◌+◌, ◌^◌, ◌<◌, ◌-ℤ◌, pos, FitsSigned};
+ghost use Rattle.std.specs.Int.{w64};
 ghost use Rattle.isa_model.specs.Sizes.{width_bits, span_bits};
-ghost use Rattle.isa_model.specs.Numbers.{negated, sign_extended, reordered};
-ghost use Rattle.isa_model.specs.ExtensionLemmas.{extension_bits, extension_width};
+ghost use Rattle.isa_model.specs.Numbers.{negated, reordered};
 
 use crate::range::Range;
-use isa_model::{AluOp, ByteOrder, Extension, Span, Width, numbers};
+use isa_model::{AluOp, ByteOrder, Span, Width, numbers};
 
 impl Range {
     ghost use Rattle.isa_model.specs.Numbers.{alu};
-    ghost use Rattle.ranges.specs.Ranges.{Has, IsConstant, IsBetween, KeepsLimits};
+    ghost use Rattle.ranges.specs.Ranges.{Has, IsConstant, IsBetween, IsSignedBetween, KeepsLimits, KeepsSignedLimits};
 
     /// What the operation gives on the numbers of both.
     pub fn alu(op: AluOp, width: Width, a: Self, b: Self) -> Self
@@ -19,6 +19,8 @@ impl Range {
         ensures fits { result.greatest < 2 ^ width_bits width }
         ensures limits { a.greatest < 2 ^ width_bits width → b.greatest < 2 ^ width_bits width
             → KeepsLimits op width a b (IsBetween result) }
+        ensures signed { (x y : ℕ) → Has a x → Has b y → width ≡ Width.Full64
+            → KeepsSignedLimits op a b (IsSignedBetween result) }
     {
         if a.least == a.greatest && b.least == b.greatest {
             return Range::constant(numbers::compute(op, width, a.least, b.least));
@@ -46,30 +48,10 @@ impl Range {
         ensures contains { (x : ℕ) → Has a x → Has result (negated width x) }
         ensures exact { (u : ℕ) → IsConstant a u → IsConstant result (negated width u) }
         ensures fits { result.greatest < 2 ^ width_bits width }
+        ensures signed { (x : ℕ) → Has a x → width ≡ Width.Full64 → FitsSigned w64 (pos 0 -ℤ a.signed_least)
+            → IsSignedBetween result (pos 0 -ℤ a.signed_greatest) (pos 0 -ℤ a.signed_least) }
     {
         Range::alu(AluOp::Sub, width, Range::constant(0), a)
-    }
-
-    /// The low bits of the numbers, sign-extended.
-    pub fn sign_extend(extension: Extension, a: Self) -> Self
-        ensures contains { (x : ℕ) → Has a x → Has result (sign_extended extension x) }
-        ensures exact { (u : ℕ) → IsConstant a u → IsConstant result (sign_extended extension u) }
-        ensures fits { result.greatest < 2 ^ width_bits (extension_width extension) }
-        ensures small { a.greatest + a.greatest < 2 ^ extension_bits extension → IsBetween result a.least a.greatest }
-    {
-        if a.least == a.greatest {
-            return Range::constant(numbers::sign_extend(extension, a.least));
-        }
-        if a.greatest < half_read(extension) {
-            return a;
-        }
-        match extension {
-            Extension::Full8 => Range::signed_between(-0x80, 0x7f),
-            Extension::Full16 => Range::signed_between(-0x8000, 0x7fff),
-            Extension::Full32 => Range::signed_between(-0x8000_0000, 0x7fff_ffff),
-            Extension::Low8 => Range::any(Width::Low32),
-            Extension::Low16 => Range::any(Width::Low32),
-        }
     }
 
     /// The low bytes of the numbers, in an order. What they are reversed is left open.
@@ -97,16 +79,5 @@ fn greatest_read(span: Span) -> u64
         Span::B16 => 0xffff,
         Span::B32 => 0xffff_ffff,
         Span::B64 => u64::MAX,
-    }
-}
-
-// Half of 2 to the number of bits read.
-fn half_read(extension: Extension) -> u64
-    ensures { result + result ≡ 2 ^ extension_bits extension }
-{
-    match extension {
-        Extension::Low8 | Extension::Full8 => 0x80,
-        Extension::Low16 | Extension::Full16 => 0x8000,
-        Extension::Full32 => 0x8000_0000,
     }
 }

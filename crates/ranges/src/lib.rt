@@ -3,6 +3,7 @@
 
 mod arithmetic;
 mod divisions;
+mod extensions;
 pub mod range;
 mod relations;
 mod shifts;

@@ -19,7 +19,7 @@ pub struct Range {
 }
 
 impl Range {
-    ghost use Rattle.ranges.specs.Ranges.{Has, IsConstant, IsBetween, Encloses};
+    ghost use Rattle.ranges.specs.Ranges.{Has, IsConstant, IsTight, ReadsAlike, Encloses};
 
     /// All numbers of the width.
     pub fn any(width: Width) -> Self
@@ -107,20 +107,73 @@ impl Range {
         }
     }
 
-    /// The numbers that both stand for. Each pair of limits takes up what the other shows.
+    /// The numbers that both stand for. Each limit is one of them.
     pub fn meet(self, other: Self) -> Option<Self>
         ensures common { (x : ℕ) → Has self x → Has other x → IsSomeAnd result (λ m. Has m x) }
         ensures left { IfSome result (λ m. (x : ℕ) → Has m x → Has self x) }
         ensures right { IfSome result (λ m. (x : ℕ) → Has m x → Has other x) }
         ensures enclosed { IfSome result (λ m. Encloses self m × Encloses other m) }
+        ensures tight { IfSome result IsTight }
     {
         let both = self.within(other)?;
-        let unsigned = both.within(Range::between(both.least, both.greatest))?;
-        let signed = unsigned.within(Range::signed_between(
-            unsigned.signed_least,
-            unsigned.signed_greatest,
-        ))?;
-        Some(signed)
+        both.tightened()
+    }
+
+    // The same numbers, by the narrowest limits: those of the two halves, in each of which both readings have one order.
+    fn tightened(self) -> Option<Self>
+        ensures common { (x : ℕ) → Has self x → IsSomeAnd result (λ m. Has m x) }
+        ensures left { IfSome result (λ m. (x : ℕ) → Has m x → Has self x) }
+        ensures enclosed { IfSome result (Encloses self) }
+        ensures tight { IfSome result IsTight }
+    {
+        match (self.lower_half(), self.upper_half()) {
+            (Some(low), Some(high)) => Some(Range {
+                least: low.least,
+                greatest: high.greatest,
+                signed_least: high.signed_least,
+                signed_greatest: low.signed_greatest,
+            }),
+            (Some(low), None) => Some(low),
+            (None, high) => high,
+        }
+    }
+
+    // The numbers below 2^63, without a sign bit.
+    fn lower_half(self) -> Option<Self>
+        ensures common { (x : ℕ) → Has self x → x < 2 ^ 63 → IsSomeAnd result (λ h. Has h x) }
+        ensures left { IfSome result (λ h. (x : ℕ) → Has h x → Has self x) }
+        ensures half { IfSome result (λ h. h.greatest < 2 ^ 63) }
+        ensures alike { IfSome result ReadsAlike }
+    {
+        if self.signed_greatest < 0 {
+            return None;
+        }
+        let least = self.least.max(self.signed_least.max(0).cast_unsigned());
+        let greatest = self.greatest.min(self.signed_greatest.cast_unsigned());
+        if least > greatest {
+            return None;
+        }
+        Some(Range::between(least, greatest))
+    }
+
+    // The numbers from 2^63 on, with the sign bit.
+    fn upper_half(self) -> Option<Self>
+        ensures common { (x : ℕ) → Has self x → 2 ^ 63 ≤ x → IsSomeAnd result (λ h. Has h x) }
+        ensures left { IfSome result (λ h. (x : ℕ) → Has h x → Has self x) }
+        ensures half { IfSome result (λ h. 2 ^ 63 ≤ h.least) }
+        ensures alike { IfSome result ReadsAlike }
+    {
+        if self.signed_least >= 0 {
+            return None;
+        }
+        let least = self.least.max(self.signed_least.cast_unsigned());
+        let greatest = self
+            .greatest
+            .min(self.signed_greatest.min(-1).cast_unsigned());
+        if least > greatest {
+            return None;
+        }
+        Some(Range::between(least, greatest))
     }
 
     // The narrower of each two limits.
@@ -148,7 +201,8 @@ impl Range {
     // The common numbers; where there are none, any answer will do.
     pub(crate) fn with(self, other: Self) -> Self
         ensures common { (x : ℕ) → Has self x → Has other x → Has result x }
-        ensures limits { IsBetween result self.least self.greatest }
+        ensures enclosed { Encloses self result }
+        ensures other { (x : ℕ) → Has self x → Has other x → Encloses other result }
     {
         match self.meet(other) {
             Some(both) => both,

@@ -9,7 +9,7 @@ use crate::range::Range;
 use isa_model::{AluOp, Span, Width};
 
 impl Range {
-    ghost use Rattle.ranges.specs.Ranges.{Has, IsBetween, KeepsLimits};
+    ghost use Rattle.ranges.specs.Ranges.{Has, IsBetween, IsSignedBetween, KeepsLimits, KeepsSignedLimits};
 
     pub(crate) fn truncate(self, width: Width) -> Self
         ensures contains { (x : ℕ) → Has self x → Has result (x % 2 ^ width_bits width) }
@@ -86,8 +86,10 @@ impl Range {
     // The shift that keeps the sign, at 64 bits.
     fn shift_signed(self, by: u64) -> Self
         requires { by < 64 }
-        ensures { (x : ℕ) → Has self x
+        ensures contains { (x : ℕ) → Has self x
             → Has result (cast_unsigned w64 (int_shr (cast_signed w64 x) by)) }
+        ensures limits { (result.signed_least ≡ int_shr self.signed_least by)
+            × (result.signed_greatest ≡ int_shr self.signed_greatest by) }
     {
         Range::signed_between(self.signed_least >> by, self.signed_greatest >> by)
     }
@@ -133,6 +135,7 @@ impl Range {
         ensures contains { (x y : ℕ) → x < 2 ^ width_bits width → Has self x → Has other y
             → Has result (result_of AluOp.Arsh width x y) }
         ensures fits { result.greatest < 2 ^ width_bits width }
+        ensures signed { width ≡ Width.Full64 → KeepsSignedLimits AluOp.Arsh self other (IsSignedBetween result) }
     {
         if other.least != other.greatest {
             return Range::any(width);

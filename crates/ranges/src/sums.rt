@@ -8,7 +8,7 @@ use crate::range::Range;
 use isa_model::{AluOp, Width};
 
 impl Range {
-    ghost use Rattle.ranges.specs.Ranges.{Has, IsBetween, KeepsLimits};
+    ghost use Rattle.ranges.specs.Ranges.{Has, IsBetween, IsSignedBetween, KeepsLimits, KeepsSignedLimits};
 
     fn add_unsigned(self, other: Self) -> Self
         ensures contains { (x y : ℕ) → Has self x → Has other y → Has result ((x + y) % 2 ^ 64) }
@@ -27,7 +27,8 @@ impl Range {
     }
 
     fn add_signed(self, other: Self) -> Self
-        ensures { (x y : ℕ) → Has self x → Has other y → Has result ((x + y) % 2 ^ 64) }
+        ensures contains { (x y : ℕ) → Has self x → Has other y → Has result ((x + y) % 2 ^ 64) }
+        ensures limits { KeepsSignedLimits AluOp.Add self other (IsSignedBetween result) }
     {
         let Some(least) = self.signed_least.checked_add(other.signed_least) else {
             return Range::any(Width::Full64);
@@ -53,7 +54,8 @@ impl Range {
     }
 
     fn sub_signed(self, other: Self) -> Self
-        ensures { (x y : ℕ) → Has self x → Has other y → Has result ((x + (2 ^ 64 - y)) % 2 ^ 64) }
+        ensures contains { (x y : ℕ) → Has self x → Has other y → Has result ((x + (2 ^ 64 - y)) % 2 ^ 64) }
+        ensures limits { KeepsSignedLimits AluOp.Sub self other (IsSignedBetween result) }
     {
         let Some(least) = self.signed_least.checked_sub(other.signed_greatest) else {
             return Range::any(Width::Full64);
@@ -78,6 +80,8 @@ impl Range {
         ensures contains { (x y : ℕ) → Has self x → Has other y → Has result (result_of AluOp.Add width x y) }
         ensures fits { result.greatest < 2 ^ width_bits width }
         ensures limits { KeepsLimits AluOp.Add width self other (IsBetween result) }
+        ensures signed { (x y : ℕ) → Has self x → Has other y → width ≡ Width.Full64
+            → KeepsSignedLimits AluOp.Add self other (IsSignedBetween result) }
     {
         let unsigned = self.add_unsigned(other);
         let signed = self.add_signed(other);
@@ -89,6 +93,8 @@ impl Range {
             → Has result (result_of AluOp.Sub width x y) }
         ensures fits { result.greatest < 2 ^ width_bits width }
         ensures limits { self.greatest < 2 ^ width_bits width → KeepsLimits AluOp.Sub width self other (IsBetween result) }
+        ensures signed { (x y : ℕ) → Has self x → Has other y → width ≡ Width.Full64
+            → KeepsSignedLimits AluOp.Sub self other (IsSignedBetween result) }
     {
         let unsigned = self.sub_unsigned(other);
         let signed = self.sub_signed(other);

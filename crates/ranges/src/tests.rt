@@ -146,6 +146,8 @@ fn parts_and_shifts(rt: HostRuntime) -> Result<(), Fail> {
             2147483647
         )
     );
+    let around = Range::signed_between(-5, 3);
+    assert_eq!(rt; Range::sign_extend(Extension::Full8, around), around);
     // Numbers with the same upper half keep their distances.
     let near = Range::between(0x5_0000_0003, 0x5_0000_0009);
     assert!(rt; is(Range::alu(AluOp::Mov, LOW, near, near), 3, 9));
@@ -162,6 +164,12 @@ fn common_numbers(rt: HostRuntime) -> Result<(), Fail> {
     assert_eq!(rt;
         byte.meet(Range::signed_between(-5, 10)),
         Some(Range::between(0, 10))
+    );
+    // Of the numbers with the sign bit none is left, and then not of those below 5.
+    let split = Range::between(5, 0x8000_0000_0000_0003);
+    assert_eq!(rt;
+        split.meet(Range::signed_between(-0x7fff_ffff_ffff_0000, 10)),
+        Some(Range::between(5, 10))
     );
     assert!(rt; Range::any(LOW).covers(byte) && !byte.covers(above) && byte.covers(byte));
     assert_eq!(rt; Range::constant(7).number(), Some(7));

@@ -1,8 +1,11 @@
-use Rattle.std.proofs.Common.{arith, ◌<◌, ◌^◌, ◌∙◌}
+use Rattle.std.proofs.Common.{arith, ◌≡◌, ◌<◌, ◌^◌, ◌∙◌, ap, w64}
+use Rattle.std.specs.Int.{cast_signed}
+use Rattle.std.proofs.lemmas.Int.{ints}
+use Rattle.isa_model.specs.declared.sizes.Width.TheVariants.{Full64}
 use Rattle.isa_model.specs.Numbers.{alu}
 use Rattle.isa_model.specs.NumberLemmas.{alu_below, low_below, low_same}
 use Rattle.isa_model.specs.Sizes.{width_bits}
-use Rattle.ranges.proofs.Limits.{keeps_constant}
+use Rattle.ranges.proofs.Limits.{keeps_constant, keeps_signed_constant}
 use Rattle.ranges.proofs.range.Range.alu.Goals as goal
 use Rattle.ranges.proofs.range.Range.alu.Goals.{else-a-via-then-a+else-b, else-a-via-else-a}
 
@@ -112,3 +115,26 @@ returns-in-Sub-clause-exact c = λ u v hu hv.
 pub returns-in-Rsh-clause-exact : goal.returns-in-Rsh-clause-exact
 returns-in-Rsh-clause-exact c = λ u v hu hv.
     absurd (elim c.else-a.branch [ else-a-via-then-a+else-b w ↦ w.if-b.false (omega (arith, hv)) | else-a-via-else-a w ↦ w.if-a.false (omega (arith, hu)) ])
+
+pub returns-then-b-clause-signed : goal.returns-then-b-clause-signed
+unfolding alu
+returns-then-b-clause-signed c = λ x y hx hy full.
+    let a = c.args.a in
+    let b = c.args.b in
+    let one : x ≡ a.least = omega arith in
+    let other : y ≡ b.least = omega arith in
+    let is = rw (full, low_same Full64 a.least (omega arith), low_same Full64 b.least (omega arith)) at c.compute.ensures in
+    keeps_signed_constant c.args.op a b c.constant.result a.least b.least (rw one at hx) (rw other at hy) (omega arith)
+    (c.constant.ensures.constant.2 ∙ ap (cast_signed w64) is) (c.constant.ensures.constant.3 ∙ ap (cast_signed w64) is)
+
+pub returns-in-Sub-clause-signed : goal.returns-in-Sub-clause-signed
+returns-in-Sub-clause-signed c = λ x y hx hy full.
+    let fa : c.args.a.greatest < 2 ^ width_bits c.args.width = rw full (omega arith) in
+    let fb : c.args.b.greatest < 2 ^ width_bits c.args.width = rw full (omega arith) in
+    rw c.in-Sub.is (rw (c.truncate-x.ensures.same fa, c.truncate-y.ensures.same fb)
+    at (c.sub_at.ensures.signed _ _ (c.truncate-x.ensures.contains x hx) (c.truncate-y.ensures.contains y hy) full))
+
+pub returns-in-Mov-clause-signed : goal.returns-in-Mov-clause-signed
+returns-in-Mov-clause-signed c = λ x y hx hy full.
+    let fb : c.args.b.greatest < 2 ^ width_bits c.args.width = rw full (omega arith) in
+    rw (c.in-Mov.is, c.truncate-y.ensures.same fb) (omega (arith, ints), omega (arith, ints))

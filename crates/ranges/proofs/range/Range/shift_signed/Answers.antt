@@ -14,8 +14,8 @@ signed_between-requires c =
     let g2 = shr_fits a.signed_greatest c.args.by f2 in
     simp to_z-of_z (shr_mono a.signed_least a.signed_greatest (2 ^ c.args.by) a.signed_ordered)
 
-pub returns : goal.returns
-returns c = λ x hx.
+pub returns-clause-contains : goal.returns-clause-contains
+returns-clause-contains c = λ x hx.
     let a = c.args.self in
     let f1 : FitsSigned w64 a.signed_least = search rules in
     let f2 : FitsSigned w64 a.signed_greatest = search rules in
@@ -28,3 +28,12 @@ returns c = λ x hx.
       simp to_z-of_z (shr_mono _ _ (2 ^ c.args.by) hx.signed_from),
       simp to_z-of_z (shr_mono _ _ (2 ^ c.args.by) hx.signed_to),
     )
+
+pub returns-clause-limits : goal.returns-clause-limits
+returns-clause-limits c =
+    let a = c.args.self in
+    let f1 : FitsSigned w64 a.signed_least = search rules in
+    let f2 : FitsSigned w64 a.signed_greatest = search rules in
+    let g1 = shr_fits a.signed_least c.args.by f1 in
+    let g2 = shr_fits a.signed_greatest c.args.by f2 in
+    simp to_z-of_z at c.signed_between.ensures.limits

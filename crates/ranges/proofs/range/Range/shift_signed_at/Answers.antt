@@ -23,4 +23,4 @@ returns-in-Full64-clause-contains c = λ x y x_in hx hy.
     let w = c.args.width in
     let one : y ≡ c.args.other.least = omega arith in
     let e : shift w y ≡ c.distance-by.result = ap (shift w) one ∙ sym c.distance-by.ensures.value in
-    rw (e, c.in-Full64.is) (c.shift_signed.ensures x hx)
+    rw (e, c.in-Full64.is) (c.shift_signed.ensures.contains x hx)

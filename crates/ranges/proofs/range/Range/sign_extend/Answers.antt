@@ -1,34 +1,7 @@
-use Rattle.std.proofs.Common.{arith}
-use Rattle.isa_model.specs.declared.sizes.Extension.TheVariants.{Low8, Low16, Full8, Full16, Full32}
-use Rattle.isa_model.specs.ExtensionLemmas.{sign_extended-small, sign_extended_fits, sign_extended_below}
-use Rattle.ranges.proofs.Limits.{extended_8, extended_16, extended_32, extended_small}
+use Rattle.std.proofs.Common.{arith, ◌≡◌, ◌∙◌}
+use Rattle.isa_model.specs.ExtensionLemmas.{sign_extended_below}
+use Rattle.ranges.proofs.Limits.{extended_same, extended_signed, extended_small}
 use Rattle.ranges.proofs.range.Range.sign_extend.Goals as goal
-
-pub returns-then-a-half_read-clause-contains : goal.returns-then-a-half_read-clause-contains
-returns-then-a-half_read-clause-contains c = λ x hx.
-    let same = sign_extended-small c.args.extension x c.half_read.result c.half_read.ensures (omega arith) in
-    rw same hx
-
-pub returns-in-Full8-clause-contains : goal.returns-in-Full8-clause-contains
-returns-in-Full8-clause-contains c = λ x hx.
-    let l = extended_8 x in
-    rw c.in-Full8.is ((c.signed_between.ensures.members _).1 (sign_extended_fits Full8 x, l.0, l.1))
-
-pub returns-in-Full16-clause-contains : goal.returns-in-Full16-clause-contains
-returns-in-Full16-clause-contains c = λ x hx.
-    let l = extended_16 x in
-    rw c.in-Full16.is ((c.signed_between-in-Full16.ensures.members _).1 (sign_extended_fits Full16 x, l.0, l.1))
-
-pub returns-in-Full32-clause-contains : goal.returns-in-Full32-clause-contains
-returns-in-Full32-clause-contains c = λ x hx.
-    let l = extended_32 x in
-    rw c.in-Full32.is ((c.signed_between-in-Full32.ensures.members _).1 (sign_extended_fits Full32 x, l.0, l.1))
-
-pub returns-in-Low8-clause-contains : goal.returns-in-Low8-clause-contains
-returns-in-Low8-clause-contains c = λ x hx. rw c.in-Low8.is ((c.any.ensures.members _).1 (sign_extended_below Low8 x))
-
-pub returns-in-Low16-clause-contains : goal.returns-in-Low16-clause-contains
-returns-in-Low16-clause-contains c = λ x hx. rw c.in-Low16.is ((c.any-in-Low16.ensures.members _).1 (sign_extended_below Low16 x))
 
 pub returns-then-a-clause-fits : goal.returns-then-a-clause-fits
 returns-then-a-clause-fits c =
@@ -44,3 +17,21 @@ returns-then-a-clause-small c = λ small.
     let least = c.constant.ensures.constant.0 in
     let greatest = c.constant.ensures.constant.1 in
     (omega arith, omega arith)
+
+pub returns-then-a-clause-signed : goal.returns-then-a-clause-signed
+returns-then-a-clause-signed c = λ x hx full.
+    let f = extended_signed c.args.extension c.args.a.least full in
+    let is = c.constant.ensures.constant in
+    (rw (is.2, c.sign_extend.ensures) f, rw (is.3, c.sign_extend.ensures) f)
+
+pub returns-then-a-clause-kept : goal.returns-then-a-clause-kept
+returns-then-a-clause-kept c = λ x hx full is.
+    let a = c.args.a in
+    let one : x ≡ a.least = omega arith in
+    let h = rw one at hx in
+    let same = extended_same c.args.extension a.least a.signed_least a.signed_greatest full h.below is.0 is.1 h.signed_from h.signed_to in
+    let u : c.sign_extend.result ≡ a.least = c.sign_extend.ensures ∙ same in
+    let k = c.constant.ensures.constant in
+    let l = k.0 in
+    let g = k.1 in
+    (omega arith, omega arith, rw (k.2, u) h.signed_from, rw (k.3, u) h.signed_to)

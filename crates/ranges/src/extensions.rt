@@ -1,0 +1,92 @@
+//! Sign extensions of low bits.
+
+ghost use Rattle.std.specs.Prelude.{◌≡◌, ℕ, ℤ, ◌+◌, ◌^◌, ◌<◌, ◌≤ℤ◌, ◌↔◌, FitsSigned, IsTrue};
+ghost use Rattle.isa_model.specs.Sizes.{width_bits};
+ghost use Rattle.isa_model.specs.Numbers.{sign_extended};
+ghost use Rattle.isa_model.specs.ExtensionLemmas.{extension_bits, extension_width};
+ghost use Rattle.ranges.specs.Ranges.{Has, extension_signed};
+
+use crate::range::Range;
+use isa_model::{Extension, Width, numbers};
+
+impl Range {
+    ghost use Rattle.ranges.specs.Ranges.{IsConstant, IsBetween, IsSignedOf, Encloses};
+
+    /// The low bits of the numbers, sign-extended.
+    pub fn sign_extend(extension: Extension, a: Self) -> Self
+        ensures contains { (x : ℕ) → Has a x → Has result (sign_extended extension x) }
+        ensures exact { (u : ℕ) → IsConstant a u → IsConstant result (sign_extended extension u) }
+        ensures fits { result.greatest < 2 ^ width_bits (extension_width extension) }
+        ensures small { a.greatest + a.greatest < 2 ^ extension_bits extension → IsBetween result a.least a.greatest }
+        ensures signed { (x : ℕ) → Has a x → extension_width extension ≡ Width.Full64
+            → IsSignedOf (extension_signed extension) result }
+        ensures kept { (x : ℕ) → Has a x → extension_width extension ≡ Width.Full64
+            → IsSignedOf (extension_signed extension) a → Encloses a result }
+    {
+        if a.least == a.greatest {
+            return Range::constant(numbers::sign_extend(extension, a.least));
+        }
+        let extended = all_extended(extension);
+        if a.is_extended(extension) {
+            a.with(extended)
+        } else {
+            extended
+        }
+    }
+
+    // Whether the limits show that the extension changes none of the numbers.
+    fn is_extended(self, extension: Extension) -> bool
+        ensures sound { IsTrue result → (x : ℕ) → Has self x → sign_extended extension x ≡ x }
+        ensures fits { IsTrue result → self.greatest < 2 ^ width_bits (extension_width extension) }
+        ensures small { self.greatest + self.greatest < 2 ^ extension_bits extension → IsTrue result }
+        ensures signed { extension_width extension ≡ Width.Full64 → IsSignedOf (extension_signed extension) self
+            → IsTrue result }
+    {
+        if self.greatest < half_read(extension) {
+            return true;
+        }
+        match width_made(extension) {
+            Width::Low32 => false,
+            Width::Full64 => {
+                let all = all_extended(extension);
+                all.signed_least <= self.signed_least && self.signed_greatest <= all.signed_greatest
+            }
+        }
+    }
+}
+
+// All that the extension may give.
+fn all_extended(extension: Extension) -> Range
+    ensures contains { (x : ℕ) → Has result (sign_extended extension x) }
+    ensures fits { result.greatest < 2 ^ width_bits (extension_width extension) }
+    ensures signed { extension_width extension ≡ Width.Full64 → (z : ℤ)
+        → ((result.signed_least ≤ℤ z) × (z ≤ℤ result.signed_greatest) ↔ FitsSigned (extension_signed extension) z) }
+{
+    match extension {
+        Extension::Full8 => Range::signed_between(-0x80, 0x7f),
+        Extension::Full16 => Range::signed_between(-0x8000, 0x7fff),
+        Extension::Full32 => Range::signed_between(-0x8000_0000, 0x7fff_ffff),
+        Extension::Low8 => Range::any(Width::Low32),
+        Extension::Low16 => Range::any(Width::Low32),
+    }
+}
+
+fn width_made(extension: Extension) -> Width
+    ensures { result ≡ extension_width extension }
+{
+    match extension {
+        Extension::Low8 | Extension::Low16 => Width::Low32,
+        _ => Width::Full64,
+    }
+}
+
+// Half of 2 to the number of bits read.
+fn half_read(extension: Extension) -> u64
+    ensures { result + result ≡ 2 ^ extension_bits extension }
+{
+    match extension {
+        Extension::Low8 | Extension::Full8 => 0x80,
+        Extension::Low16 | Extension::Full16 => 0x8000,
+        Extension::Full32 => 0x8000_0000,
+    }
+}
