@@ -11,3 +11,4 @@ pub mod Prefix
 pub mod Widths
 pub mod Signs
 pub mod Overlaps
+pub mod Copies

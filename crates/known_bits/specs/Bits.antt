@@ -2,7 +2,7 @@
 use Rattle.std.specs.Prelude.{ℕ, ◌≡◌, ⊤}
 use Rattle.std.specs.Int.{bit_at}
 use Rattle.isa_model.specs.declared.instructions.AluOp.{AluOp}
-use Rattle.isa_model.specs.declared.instructions.AluOp.TheVariants.{Add, Sub, Or, And, Xor, Lsh, Rsh, Mov}
+use Rattle.isa_model.specs.declared.instructions.AluOp.TheVariants.{Add, Sub, Or, And, Xor, Lsh, Rsh, Mov, Arsh}
 use Rattle.known_bits.specs.Member.{IsMember, Occurs}
 use Rattle.known_bits.specs.declared.bits.Bits.{Bits}
 
@@ -30,6 +30,7 @@ IsPrecise Xor b = ⊤
 IsPrecise Mov b = ⊤
 IsPrecise Lsh b = b.mask ≡ 0
 IsPrecise Rsh b = b.mask ≡ 0
+IsPrecise Arsh b = b.mask ≡ 0
 IsPrecise _ b = ⊥
 
 -- some number of a and some number of b have the relation

@@ -1,9 +1,9 @@
 //! What the arithmetic instructions give.
 
-ghost use Rattle.std.specs.Prelude.{◌≡◌, ℕ, ◌+◌, ◌%◌, ◌^◌, ◌<◌};
+ghost use Rattle.std.specs.Prelude.{◌≡◌, ℕ, ◌%◌, ◌^◌, ◌<◌};
 ghost use Rattle.isa_model.specs.Sizes.{width_bits, span_bits};
 ghost use Rattle.isa_model.specs.Numbers.{negated, sign_extended, reordered};
-ghost use Rattle.isa_model.specs.ExtensionLemmas.{extension_bits, extension_width};
+ghost use Rattle.isa_model.specs.ExtensionLemmas.{extension_width};
 
 use crate::bits::Bits;
 use isa_model::{AluOp, ByteOrder, Extension, Span, Width, numbers};
@@ -33,7 +33,7 @@ impl Bits {
             AluOp::Xor => a.xor(b).truncate(width),
             AluOp::Lsh => x.shift_left_at(width, y),
             AluOp::Rsh => x.shift_right_at(width, y),
-            AluOp::Arsh => x.shift_signed_at(width, y),
+            AluOp::Arsh => a.shift_signed_at(width, b),
             AluOp::Mov => y,
             // Quotients and remainders are left open.
             AluOp::Div | AluOp::SignedDiv | AluOp::Mod | AluOp::SignedMod => Bits::any(width),
@@ -43,25 +43,24 @@ impl Bits {
     /// The numbers with their signs changed.
     pub fn negate(width: Width, a: Self) -> Self
         ensures contains { (x : ℕ) → Has a x → Has result (negated width x) }
+        ensures sharp { IsSharp a a (λ x y. negated width x) result.mask }
         ensures exact { (u : ℕ) → IsConstant a u → IsConstant result (negated width u) }
         ensures fits { (x : ℕ) → Has result x → x < 2 ^ width_bits width }
     {
         Bits::alu(AluOp::Sub, width, Bits::constant(0), a)
     }
 
-    /// The low bits of the numbers, sign-extended.
+    /// The low bits of the numbers, sign-extended. The bits above them are known where the sign is.
     pub fn sign_extend(extension: Extension, a: Self) -> Self
         ensures contains { (x : ℕ) → Has a x → Has result (sign_extended extension x) }
+        ensures sharp { IsSharp a a (λ x y. sign_extended extension x) result.mask }
         ensures exact { (u : ℕ) → IsConstant a u → IsConstant result (sign_extended extension u) }
         ensures fits { (x : ℕ) → Has result x → x < 2 ^ width_bits (extension_width extension) }
     {
-        if a.mask == 0 {
-            return Bits::constant(numbers::sign_extend(extension, a.value));
+        Bits {
+            value: numbers::sign_extend(extension, a.value),
+            mask: numbers::sign_extend(extension, a.mask),
         }
-        let count = bits_read(extension);
-        let half = Bits::constant(half_read(extension));
-        let lifted = a.low(count).add(half).low(count);
-        lifted.sub(half).truncate(width_made(extension))
     }
 
     /// The low bytes of the numbers, in an order. What they are reversed is left open.
@@ -78,36 +77,6 @@ impl Bits {
             ByteOrder::Little => a.low(span_size(span)),
             _ => Bits::any(Width::Full64).low(span_size(span)),
         }
-    }
-}
-
-fn bits_read(extension: Extension) -> u32
-    ensures { result ≡ extension_bits extension }
-{
-    match extension {
-        Extension::Low8 | Extension::Full8 => 8,
-        Extension::Low16 | Extension::Full16 => 16,
-        Extension::Full32 => 32,
-    }
-}
-
-// Half of 2 to the number of bits read.
-fn half_read(extension: Extension) -> u64
-    ensures { result + result ≡ 2 ^ extension_bits extension }
-{
-    match extension {
-        Extension::Low8 | Extension::Full8 => 0x80,
-        Extension::Low16 | Extension::Full16 => 0x8000,
-        Extension::Full32 => 0x8000_0000,
-    }
-}
-
-fn width_made(extension: Extension) -> Width
-    ensures { result ≡ extension_width extension }
-{
-    match extension {
-        Extension::Low8 | Extension::Low16 => Width::Low32,
-        _ => Width::Full64,
     }
 }
 

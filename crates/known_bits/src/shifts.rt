@@ -1,13 +1,14 @@
 //! Low parts of numbers, and shifts by a known distance.
 
-ghost use Rattle.std.specs.Prelude.{◌≡◌, ℕ, ◌+◌, ◌*◌, ◌/◌, ◌%◌, ◌^◌, ◌<◌, ◌≤◌};
+ghost use Rattle.std.specs.Prelude.{◌≡◌, ℕ, ◌*◌, ◌/◌, ◌%◌, ◌^◌, ◌<◌, ◌≤◌};
 ghost use Rattle.isa_model.specs.Sizes.{width_bits};
 ghost use Rattle.isa_model.specs.Numbers.{result_of, shift};
 
 use crate::bits::{Bits, ones};
-use isa_model::{AluOp, Width};
+use isa_model::{AluOp, Width, numbers};
 
 impl Bits {
+    ghost use Rattle.isa_model.specs.Numbers.{alu};
     ghost use Rattle.known_bits.specs.Bits.{Has, IsSharp};
 
     // The low bits, so many of them.
@@ -56,19 +57,6 @@ impl Bits {
         }
     }
 
-    // The shift that keeps the sign: half the size is added before a shift to the right, and taken away after it.
-    fn shift_signed(self, width: Width, by: u64) -> Self
-        requires { by < width_bits width }
-        ensures contains { (x : ℕ) → x < 2 ^ width_bits width → Has self x
-            → Has result (result_of AluOp.Arsh width x by) }
-        ensures fits { (x : ℕ) → Has result x → x < 2 ^ width_bits width }
-    {
-        let half = half_of(width);
-        let lifted = self.add(Bits::constant(half)).truncate(width);
-        let moved = lifted.shift_right(by);
-        moved.sub(Bits::constant(half >> by)).truncate(width)
-    }
-
     pub(crate) fn shift_left_at(self, width: Width, other: Self) -> Self
         ensures contains { (x y : ℕ) → Has self x → Has other y → Has result (result_of AluOp.Lsh width x y) }
         ensures sharp { other.mask ≡ 0 → IsSharp self other (result_of AluOp.Lsh width) result.mask }
@@ -95,25 +83,19 @@ impl Bits {
             .truncate(width)
     }
 
+    // The shift that keeps the sign moves the bits of the value and of the mask alike.
     pub(crate) fn shift_signed_at(self, width: Width, other: Self) -> Self
-        ensures contains { (x y : ℕ) → x < 2 ^ width_bits width → Has self x → Has other y
-            → Has result (result_of AluOp.Arsh width x y) }
+        ensures contains { (x y : ℕ) → Has self x → Has other y → Has result (alu AluOp.Arsh width x y) }
+        ensures sharp { other.mask ≡ 0 → IsSharp self other (alu AluOp.Arsh width) result.mask }
         ensures fits { (x : ℕ) → Has result x → x < 2 ^ width_bits width }
     {
         if other.mask != 0 {
             return Bits::any(width);
         }
-        self.shift_signed(width, distance(width, other.value))
-    }
-}
-
-// Half of 2 to the width.
-fn half_of(width: Width) -> u64
-    ensures { result + result ≡ 2 ^ width_bits width }
-{
-    match width {
-        Width::Low32 => 0x8000_0000,
-        Width::Full64 => 0x8000_0000_0000_0000,
+        Bits {
+            value: numbers::compute(AluOp::Arsh, width, self.value, other.value),
+            mask: numbers::compute(AluOp::Arsh, width, self.mask, other.value),
+        }
     }
 }
 

@@ -1,4 +1,4 @@
-use Rattle.std.proofs.Common.{◌+◌, ℕ, ◌%◌, ◌^◌}
+use Rattle.std.proofs.Common.{◌+◌, ◌%◌, ◌^◌}
 use Rattle.isa_model.specs.NumberLemmas.{low_wrapped}
 use Rattle.isa_model.specs.declared.instructions.AluOp.TheVariants.{Add}
 use Rattle.isa_model.specs.Sizes.{width_bits}

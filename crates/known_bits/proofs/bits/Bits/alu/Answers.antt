@@ -1,4 +1,4 @@
-use Rattle.std.proofs.Common.{arith, ℕ, ◌≡◌, ◌<◌, ◌^◌, ◌%◌, refl, ap, ◌∙◌, bit_and, bit_or, bit_xor}
+use Rattle.std.proofs.Common.{arith, ℕ, ◌≡◌, ◌^◌, ◌%◌, refl, ap, ◌∙◌, bit_and, bit_or, bit_xor}
 use Rattle.std.proofs.lemmas.Nat.{and_mod, or_mod, xor_mod, pow_pos}
 use Rattle.isa_model.specs.Sizes.{width_bits}
 use Rattle.isa_model.specs.declared.instructions.AluOp.TheVariants.{Add, Sub, Lsh, Rsh}
@@ -87,9 +87,7 @@ returns-in-Rsh-clause-contains c = λ x y hx hy.
     rw c.in-Rsh.is (c.shift_right_at.ensures.contains _ _ (low_below c.args.width x) (c.truncate-x.ensures.contains x hx) (c.truncate-y.ensures.contains y hy))
 
 pub returns-in-Arsh-clause-contains : goal.returns-in-Arsh-clause-contains
-unfolding alu
-returns-in-Arsh-clause-contains c = λ x y hx hy.
-    rw c.in-Arsh.is (c.shift_signed_at.ensures.contains _ _ (low_below c.args.width x) (c.truncate-x.ensures.contains x hx) (c.truncate-y.ensures.contains y hy))
+returns-in-Arsh-clause-contains c = λ x y hx hy. rw c.in-Arsh.is (c.shift_signed_at.ensures.contains x y hx hy)
 
 pub returns-in-Mov-clause-contains : goal.returns-in-Mov-clause-contains
 unfolding alu

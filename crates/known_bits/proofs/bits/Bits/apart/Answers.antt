@@ -1,4 +1,4 @@
-use Rattle.std.proofs.Common.{◌≡◌, ◌≢◌, ◌+◌, inl, inr, arith, bit_or}
+use Rattle.std.proofs.Common.{◌≢◌, ◌+◌, inl, inr, arith, bit_or}
 use Rattle.std.proofs.lemmas.Nat.{or_disjoint}
 use Rattle.std.proofs.lemmas.Bool.{cases_lt}
 use Rattle.known_bits.specs.declared.bits.Bits.{Bits}

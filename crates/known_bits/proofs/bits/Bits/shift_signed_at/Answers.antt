@@ -1,18 +1,35 @@
-use Rattle.std.proofs.Common.{◌≡◌, ◌%◌, ap, sym, ◌∙◌}
-use Rattle.std.proofs.Math.Nat.{mod-eq_of_lt}
-use Rattle.isa_model.specs.Sizes.{width_bits}
-use Rattle.isa_model.specs.Numbers.{shift}
-use Rattle.isa_model.specs.NumberLemmas.{arithmetic_shift_below}
+use Rattle.std.proofs.Common.{arith, ◌≡◌, ℕ, ap, sym}
+use Rattle.isa_model.specs.declared.instructions.AluOp.TheVariants.{Arsh}
+use Rattle.isa_model.specs.Numbers.{alu}
+use Rattle.isa_model.specs.NumberLemmas.{alu_below}
+use Rattle.known_bits.specs.Member.{IsMember}
+use Rattle.known_bits.proofs.Members.{Known}
 use Rattle.known_bits.proofs.Widths.{only_member}
+use Rattle.known_bits.proofs.Copies.{shift_copies, copied_known, copied_contains, copied_fits, copied_sharp, occurs_same}
 use Rattle.known_bits.proofs.bits.Bits.shift_signed_at.Goals as goal
 
 pub returns-then-other-ne0-clause-contains : goal.returns-then-other-ne0-clause-contains
-returns-then-other-ne0-clause-contains c = λ x y x_in hx hy. (c.any.ensures _).1 (arithmetic_shift_below c.args.width x y x_in)
+returns-then-other-ne0-clause-contains c = λ x y hx hy. (c.any.ensures _).1 (alu_below Arsh c.args.width x y)
+
+pub invariant_of-result : goal.invariant_of-result
+invariant_of-result c =
+    let k : Known c.args.self.value c.args.self.mask = record { value_in = omega arith; mask_in = omega arith; apart = c.args.self.apart } in
+    record { apart = rw (c.compute.ensures, c.compute-2.ensures) ((copied_known (shift_copies c.args.width c.args.other.value) k).apart) }
 
 pub returns-clause-contains : goal.returns-clause-contains
-returns-clause-contains c = λ x y x_in hx hy.
-    let w = c.args.width in
-    let k = c.distance.result in
-    let e : shift w y ≡ k = ap (shift w) (only_member c.if-other-ne0.false hy) ∙ sym c.distance.ensures.value in
-    let same : k % width_bits w ≡ k = mod-eq_of_lt c.distance.ensures.below in
-    rw e (rw same at (c.shift_signed.ensures.contains x x_in hx))
+returns-clause-contains c = λ x y hx hy.
+    let k : Known c.args.self.value c.args.self.mask = record { value_in = omega arith; mask_in = omega arith; apart = c.args.self.apart } in
+    rw (only_member c.if-other-ne0.false hy, c.compute.ensures, c.compute-2.ensures) (copied_contains (shift_copies c.args.width c.args.other.value) k x hx)
+
+pub returns-clause-sharp : goal.returns-clause-sharp
+returns-clause-sharp c = λ known i h.
+    let k : Known c.args.self.value c.args.self.mask = record { value_in = omega arith; mask_in = omega arith; apart = c.args.self.apart } in
+    let other : Known c.args.other.value c.args.other.mask = record { value_in = omega arith; mask_in = omega arith; apart = c.args.other.apart } in
+    let o = copied_sharp (shift_copies c.args.width c.args.other.value) k other i (rw c.compute-2.ensures at h) in
+    let same = λ (x y : ℕ) (hy : IsMember c.args.other.value c.args.other.mask y). (let e : alu Arsh c.args.width x c.args.other.value ≡ alu Arsh c.args.width x y = ap (alu Arsh c.args.width x) (sym (only_member known hy)) in e) in
+    (occurs_same same o.0, occurs_same same o.1)
+
+pub returns-clause-fits : goal.returns-clause-fits
+returns-clause-fits c = λ x h.
+    let k : Known c.args.self.value c.args.self.mask = record { value_in = omega arith; mask_in = omega arith; apart = c.args.self.apart } in
+    copied_fits (shift_copies c.args.width c.args.other.value) k (rw (c.compute.ensures, c.compute-2.ensures) at h)

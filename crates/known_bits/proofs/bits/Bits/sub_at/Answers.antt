@@ -1,5 +1,5 @@
 use Rattle.isa_model.specs.NumberLemmas.{low_difference}
-use Rattle.std.proofs.Common.{ℕ, ◌+◌, ◌-◌, ◌%◌, ◌^◌}
+use Rattle.std.proofs.Common.{◌+◌, ◌-◌, ◌%◌, ◌^◌}
 use Rattle.isa_model.specs.declared.instructions.AluOp.TheVariants.{Sub}
 use Rattle.isa_model.specs.Sizes.{width_bits}
 use Rattle.isa_model.specs.Numbers.{result_of}

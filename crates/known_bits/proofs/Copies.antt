@@ -1,0 +1,240 @@
+-- Numbers whose bits are bits of another: sign extensions, and the shift that keeps the sign.
+use Rattle.std.proofs.Common.{◌≡◌, ◌⊎◌, ℕ, zero, suc, ◌+◌, ◌-◌, ◌*◌, ◌/◌, ◌%◌, ◌^◌, ◌<◌, ◌≤◌, min, w32, w64, refl, sym, ap, ◌∙◌, inl, inr, arith, bit_or}
+use Rattle.std.specs.Int.{bit_at, bit_not, int_shr, cast_signed, cast_unsigned}
+use Rattle.std.proofs.Math.Nat.{div-le_self, mod-eq_of_lt}
+use Rattle.std.proofs.lemmas.Nat.{pow-add, pow_pos, mod_below}
+use Rattle.std.proofs.lemmas.Nat.Bits.{bit_at_or, bit_at_not, bit_at-lt, bit_at_above, bit_at_ones, bit_at_cat_low, bit_at_cat_high}
+use Rattle.std.proofs.lemmas.Bool.{cases_lt, lt-ltb, le-ltb}
+use Rattle.isa_model.specs.declared.sizes.Width.{Width}
+use Rattle.isa_model.specs.declared.sizes.Width.TheVariants.{Low32, Full64}
+use Rattle.isa_model.specs.declared.sizes.Extension.{Extension}
+use Rattle.isa_model.specs.declared.sizes.Extension.TheVariants.{Low8, Low16, Full8, Full16, Full32}
+use Rattle.isa_model.specs.declared.instructions.AluOp.TheVariants.{Arsh}
+use Rattle.isa_model.specs.Sizes.{width_bits}
+use Rattle.isa_model.specs.Numbers.{alu, low, shift, sign_extended}
+use Rattle.isa_model.specs.NumberLemmas.{alu_below, low_below, shift_below, width_fits, width_most}
+use Rattle.isa_model.specs.ExtensionLemmas.{extension_bits, extension_width, sign_extended_below, sign_extended_cases, sign_extended-small}
+use Rattle.known_bits.specs.Member.{IsMember, Occurs}
+use Rattle.known_bits.proofs.Members.{Known, bits_between, bits_apart, known_from_bits, member_from_bits}
+use Rattle.known_bits.proofs.Carry.{low_bit}
+use Rattle.known_bits.proofs.Order.{low_fits}
+use Rattle.known_bits.proofs.Sharp.{both_values, least_member, most_member}
+use Rattle.known_bits.proofs.Shift.{right_bit}
+
+-- f gives n bits, each of which is its argument's at a place
+pub record Copies (n : ℕ) (place : ℕ → ℕ) (f : ℕ → ℕ) : Type 0 where
+  pub fits : 2 ^ n ≤ 2 ^ 64
+  pub below : (x : ℕ) → f x < 2 ^ n
+  pub inside : (i : ℕ) → i < n → place i < 64
+  pub bit : (x i : ℕ) → i < n → bit_at (f x) i ≡ bit_at x (place i)
+
+module _ {n : ℕ} {place : ℕ → ℕ} {f : ℕ → ℕ} (c : Copies n place f) where
+  copy_fits : (x : ℕ) → f x < 2 ^ 64
+  copy_fits x = let b = c.below x in let s = c.fits in omega arith
+
+  pub copied_known : {v m : ℕ} → Known v m → Known (f v) (f m)
+  copied_known {v} {m} k =
+      known_from_bits (copy_fits v) (copy_fits m)
+      (λ i i_in. elim (cases_lt i n) [
+        | inl lt ↦ let ev = c.bit v i lt in let em = c.bit m i lt in let a = bits_apart k (place i) in omega arith
+        | inr ge ↦ let zv = bit_at_above (f v) n i (c.below v) ge in let zm = bit_at_above (f m) n i (c.below m) ge in omega arith
+      ])
+
+  pub copied_contains : {v m : ℕ} → Known v m → (x : ℕ) → IsMember v m x → IsMember (f v) (f m) (f x)
+  copied_contains {v} {m} k x h =
+      member_from_bits (copy_fits v) (copy_fits m) (copy_fits x)
+      (λ i i_in. elim (cases_lt i n) [
+        | inl lt ↦
+            let ev = c.bit v i lt in let em = c.bit m i lt in let ex = c.bit x i lt in
+            let b = bits_between k h (place i) (c.inside i lt) in
+            record { apart = omega arith; least = omega arith; most = omega arith }
+        | inr ge ↦
+            let zv = bit_at_above (f v) n i (c.below v) ge in
+            let zm = bit_at_above (f m) n i (c.below m) ge in
+            let zx = bit_at_above (f x) n i (c.below x) ge in
+            record { apart = omega arith; least = omega arith; most = omega arith }
+      ])
+
+  pub copied_fits : {v m x : ℕ} → Known v m → IsMember (f v) (f m) x → x < 2 ^ n
+  copied_fits {v} {m} {x} k h =
+      let ev = mod-eq_of_lt {n = f v} {m = 2 ^ n} (c.below v) in
+      let em = mod-eq_of_lt {n = f m} {m = 2 ^ n} (c.below m) in
+      low_fits (copied_known k) n (rw (ev, em) h)
+
+  -- an unknown bit has both values, those of the bit that it copies
+  pub copied_sharp : {av am bv bm : ℕ} → Known av am → Known bv bm → (i : ℕ) → bit_at (f am) i ≡ 1
+      → Occurs av am bv bm (λ x y. f x) i 0 × Occurs av am bv bm (λ x y. f x) i 1
+  copied_sharp {av} {am} {bv} {bm} ka kb i h =
+      elim (cases_lt i n) [
+        | inl lt ↦
+            let em = c.bit am i lt in
+            let ev = c.bit av i lt in
+            let eo = c.bit (bit_or av am) i lt in
+            let o = bit_at_or av am (place i) in
+            let a = bits_apart ka (place i) in
+            both_values (λ x y. f x) i av bv (bit_or av am) bv (least_member ka) (least_member kb) (most_member ka) (least_member kb)
+            (λ same. omega arith)
+        | inr ge ↦ absurd (let z = bit_at_above (f am) n i (c.below am) ge in omega arith)
+      ]
+
+-- what occurs by one function occurs by another that gives the same on the members of the second set
+pub occurs_same : {av am bv bm : ℕ} {f g : ℕ → ℕ → ℕ} {i b : ℕ} → ((x y : ℕ) → IsMember bv bm y → f x y ≡ g x y)
+    → Occurs av am bv bm f i b → Occurs av am bv bm g i b
+occurs_same {i = i} same o = record {
+  x = o.x;
+  y = o.y;
+  first = o.first;
+  second = o.second;
+  is = ap (λ n. bit_at n i) (sym (same o.x o.y o.second)) ∙ o.is;
+}
+
+-- ---- the shift that keeps the sign
+
+shifted_bit_64 : (a k i : ℕ) → a < 2 ^ 64 → k < 64 → i < 64
+    → bit_at (cast_unsigned w64 (int_shr (cast_signed w64 a) k)) i ≡ bit_at a (min (k + i) 63)
+shifted_bit_64 a k i a_in k_in i_in =
+    elim (cases_lt a (2 ^ 63)) [
+      | inl lt ↦
+          rw (lt-ltb a (2 ^ 63) lt)
+          (right_bit a k i ∙ elim (cases_lt (k + i) 64) [
+            | inl l ↦ ap (bit_at a) (let e : k + i ≡ min (k + i) 63 = omega arith in e)
+            | inr g ↦ bit_at_above a 63 (k + i) lt (omega arith) ∙ sym (bit_at_above a 63 (min (k + i) 63) lt (omega arith))
+          ])
+      | inr ge ↦
+          let m = 2 ^ 64 - suc a in
+          let q = m / 2 ^ k in
+          let q_in = div-le_self m (2 ^ k) in
+          let outer : bit_at (2 ^ 64 - suc q) i ≡ 1 - bit_at q i =
+          ap (λ t. bit_at t i) (let e : 2 ^ 64 - suc q ≡ bit_not w64 q = omega arith in e) ∙ bit_at_not w64 q i (omega arith) i_in in
+          let inner = right_bit m k i in
+          let top : bit_at a 63 ≡ 1 = omega arith in
+          rw (le-ltb a (2 ^ 63) ge) (outer ∙ elim (cases_lt (k + i) 64) [
+            | inl l ↦
+                let e : bit_at m (k + i) ≡ 1 - bit_at a (k + i) =
+                ap (λ t. bit_at t (k + i)) (let e : m ≡ bit_not w64 a = omega arith in e) ∙ bit_at_not w64 a (k + i) a_in l in
+                let b = bit_at-lt a (k + i) in
+                let place : k + i ≡ min (k + i) 63 = omega arith in
+                (let back : 1 - bit_at q i ≡ bit_at a (k + i) = omega arith in back) ∙ ap (bit_at a) place
+            | inr g ↦
+                let z = bit_at_above m 64 (k + i) (omega arith) g in
+                let place : 63 ≡ min (k + i) 63 = omega arith in
+                (let one : 1 - bit_at q i ≡ bit_at a 63 = omega arith in one) ∙ ap (bit_at a) place
+          ])
+    ]
+
+shifted_bit_32 : (a k i : ℕ) → a < 2 ^ 32 → k < 32 → i < 32
+    → bit_at (cast_unsigned w32 (int_shr (cast_signed w32 a) k)) i ≡ bit_at a (min (k + i) 31)
+shifted_bit_32 a k i a_in k_in i_in =
+    elim (cases_lt a (2 ^ 31)) [
+      | inl lt ↦
+          rw (lt-ltb a (2 ^ 31) lt)
+          (right_bit a k i ∙ elim (cases_lt (k + i) 32) [
+            | inl l ↦ ap (bit_at a) (let e : k + i ≡ min (k + i) 31 = omega arith in e)
+            | inr g ↦ bit_at_above a 31 (k + i) lt (omega arith) ∙ sym (bit_at_above a 31 (min (k + i) 31) lt (omega arith))
+          ])
+      | inr ge ↦
+          let m = 2 ^ 32 - suc a in
+          let q = m / 2 ^ k in
+          let q_in = div-le_self m (2 ^ k) in
+          let outer : bit_at (2 ^ 32 - suc q) i ≡ 1 - bit_at q i =
+          ap (λ t. bit_at t i) (let e : 2 ^ 32 - suc q ≡ bit_not w32 q = omega arith in e) ∙ bit_at_not w32 q i (omega arith) i_in in
+          let inner = right_bit m k i in
+          let top : bit_at a 31 ≡ 1 = omega arith in
+          rw (le-ltb a (2 ^ 31) ge) (outer ∙ elim (cases_lt (k + i) 32) [
+            | inl l ↦
+                let e : bit_at m (k + i) ≡ 1 - bit_at a (k + i) =
+                ap (λ t. bit_at t (k + i)) (let e : m ≡ bit_not w32 a = omega arith in e) ∙ bit_at_not w32 a (k + i) a_in l in
+                let b = bit_at-lt a (k + i) in
+                let place : k + i ≡ min (k + i) 31 = omega arith in
+                (let back : 1 - bit_at q i ≡ bit_at a (k + i) = omega arith in back) ∙ ap (bit_at a) place
+            | inr g ↦
+                let z = bit_at_above m 32 (k + i) (omega arith) g in
+                let place : 31 ≡ min (k + i) 31 = omega arith in
+                (let one : 1 - bit_at q i ≡ bit_at a 31 = omega arith in one) ∙ ap (bit_at a) place
+          ])
+    ]
+
+-- the bit at a place comes from further up, from the sign at most
+pub shift_copies : (w : Width) (y : ℕ) → Copies (width_bits w) (λ i. min (shift w (low w y) + i) (width_bits w - 1)) (λ x. alu Arsh w x y)
+unfolding alu
+shift_copies w y = record {
+  fits = width_fits w;
+  below = λ x. alu_below Arsh w x y;
+  inside = λ i i_in. let m = width_most w in let s = shift_below w (low w y) in omega arith;
+  bit = bits w;
+}
+  where
+    bits : (w : Width) (x i : ℕ) → i < width_bits w → bit_at (alu Arsh w x y) i ≡ bit_at x (min (shift w (low w y) + i) (width_bits w - 1))
+    bits Low32 x i i_in =
+        let k = shift Low32 (low Low32 y) in
+        shifted_bit_32 (x % 2 ^ 32) k i (low_below Low32 x) (shift_below Low32 (low Low32 y)) i_in ∙ low_bit x 32 (min (k + i) 31) (omega arith)
+    bits Full64 x i i_in =
+        let k = shift Full64 (low Full64 y) in
+        shifted_bit_64 (x % 2 ^ 64) k i (low_below Full64 x) (shift_below Full64 (low Full64 y)) i_in ∙ low_bit x 64 (min (k + i) 63) (omega arith)
+
+-- ---- sign extensions
+
+-- a number of j + 1 bits with ones before it where its highest bit is set
+extended_bit : (j n x i r : ℕ) → j < n → i < n → (2 ^ j ≤ x % 2 ^ suc j → bit_at (x % 2 ^ suc j) j ≡ 1)
+    → ((x % 2 ^ suc j < 2 ^ j) × (r ≡ x % 2 ^ suc j)) ⊎ ((2 ^ j ≤ x % 2 ^ suc j) × (r ≡ x % 2 ^ suc j + (2 ^ n - 2 ^ suc j)))
+    → bit_at r i ≡ bit_at x (min i j)
+extended_bit j n x i r j_in i_in top cases =
+    let y = x % 2 ^ suc j in
+    let y_in = mod_below x (2 ^ suc j) (pow_pos (suc j)) in
+    let whole = low_bit x (suc j) (min i j) (omega arith) in
+    elim cases [
+      | inl p ↦
+          ap (λ t. bit_at t i) p.1 ∙ elim (cases_lt i j) [
+            | inl lt ↦ ap (bit_at y) (let e : i ≡ min i j = omega arith in e) ∙ whole
+            | inr ge ↦ bit_at_above y j i p.0 ge ∙ sym (bit_at_above y j (min i j) p.0 (omega arith)) ∙ whole
+          ]
+      | inr p ↦
+          let a = 2 ^ (n - suc j) - 1 in
+          let some = pow_pos (n - suc j) in
+          let parts : 2 ^ n ≡ 2 ^ (n - suc j) * 2 ^ suc j = ap (λ e. 2 ^ e) (let s : n ≡ n - suc j + suc j = omega arith in s) ∙ pow-add 2 (n - suc j) (suc j) in
+          let e : y + (2 ^ n - 2 ^ suc j) ≡ a * 2 ^ suc j + y = joined (2 ^ (n - suc j)) (2 ^ suc j) y (2 ^ n) some parts in
+          ap (λ t. bit_at t i) (p.1 ∙ e) ∙ elim (cases_lt i (suc j)) [
+            | inl lt ↦ bit_at_cat_low a (suc j) y i lt ∙ ap (bit_at y) (let e : i ≡ min i j = omega arith in e) ∙ whole
+            | inr ge ↦
+                bit_at_cat_high a (suc j) y i y_in ge ∙ bit_at_ones (n - suc j) (i - suc j) (omega arith)
+                ∙ sym (top p.0) ∙ ap (bit_at y) (let e : j ≡ min i j = omega arith in e) ∙ whole
+          ]
+    ]
+  where
+    joined : (P K y N : ℕ) → 0 < P → N ≡ P * K → y + (N - K) ≡ (P - 1) * K + y
+    joined zero K y N some e = elim some [ ]
+    joined (suc d) K y N some e =
+        let s : suc d * K ≡ d * K + K = omega arith in
+        let t : (suc d - 1) * K ≡ d * K = ap (λ p. p * K) (let u : suc d - 1 ≡ d = omega arith in u) in
+        omega arith
+
+extended_bits : (e : Extension) (x i : ℕ) → i < width_bits (extension_width e)
+    → bit_at (sign_extended e x) i ≡ bit_at x (min i (extension_bits e - 1))
+extended_bits Low8 x i i_in = extended_bit 7 32 x i (sign_extended Low8 x) (omega arith) i_in (λ g. omega arith) (sign_extended_cases Low8 x (2 ^ 7) refl)
+extended_bits Low16 x i i_in = extended_bit 15 32 x i (sign_extended Low16 x) (omega arith) i_in (λ g. omega arith) (sign_extended_cases Low16 x (2 ^ 15) refl)
+extended_bits Full8 x i i_in = extended_bit 7 64 x i (sign_extended Full8 x) (omega arith) i_in (λ g. omega arith) (sign_extended_cases Full8 x (2 ^ 7) refl)
+extended_bits Full16 x i i_in = extended_bit 15 64 x i (sign_extended Full16 x) (omega arith) i_in (λ g. omega arith) (sign_extended_cases Full16 x (2 ^ 15) refl)
+extended_bits Full32 x i i_in = extended_bit 31 64 x i (sign_extended Full32 x) (omega arith) i_in (λ g. omega arith) (sign_extended_cases Full32 x (2 ^ 31) refl)
+
+extension_most : (e : Extension) → extension_bits e ≤ 64
+extension_most Low8 = omega arith
+extension_most Low16 = omega arith
+extension_most Full8 = omega arith
+extension_most Full16 = omega arith
+extension_most Full32 = omega arith
+
+-- the bits above those read are all the sign
+pub extension_copies : (e : Extension) → Copies (width_bits (extension_width e)) (λ i. min i (extension_bits e - 1)) (sign_extended e)
+extension_copies e = record {
+  fits = width_fits (extension_width e);
+  below = sign_extended_below e;
+  inside = λ i i_in. let m = extension_most e in omega arith;
+  bit = extended_bits e;
+}
+
+pub extended_zero : (e : Extension) → sign_extended e 0 ≡ 0
+extended_zero Low8 = sign_extended-small Low8 0 (2 ^ 7) refl (omega arith)
+extended_zero Low16 = sign_extended-small Low16 0 (2 ^ 15) refl (omega arith)
+extended_zero Full8 = sign_extended-small Full8 0 (2 ^ 7) refl (omega arith)
+extended_zero Full16 = sign_extended-small Full16 0 (2 ^ 15) refl (omega arith)
+extended_zero Full32 = sign_extended-small Full32 0 (2 ^ 31) refl (omega arith)
