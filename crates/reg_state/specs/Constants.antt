@@ -1,4 +1,4 @@
--- The laws of constants, for known bits and for ranges.
+-- The laws of constants and of limits, for known bits and for ranges.
 use Rattle.std.proofs.Common.{ℕ, ◌≡◌, ◌^◌, ◌<◌, ◌∙◌, arith}
 use Rattle.std.proofs.lemmas.Int.{ints}
 use Rattle.std.proofs.lemmas.Nat.{and_mask}
@@ -7,6 +7,9 @@ use Rattle.known_bits.specs.declared.bits.Bits.{Bits}
 use Rattle.known_bits.specs.Bits as B
 use Rattle.ranges.specs.declared.range.Range.{Range}
 use Rattle.ranges.specs.Ranges as R
+use Rattle.isa_model.specs.NumberLemmas.{signed_equation}
+use Rattle.reg_state.specs.Limits.{range_limits, no_limits}
+use Rattle.reg_state.specs.Reach.{IsInside}
 
 one_has : (x : ℕ) → x < 2 ^ 64 → IsMember x 0 x
 one_has x h = record { below = h; known = and_mask x 64 ∙ omega arith }
@@ -26,3 +29,11 @@ range_constant_has d u h c =
 
 pub range_constant_only : (d : Range) (u x : ℕ) → R.IsConstant d u → R.Has d x → x ≡ u
 range_constant_only d u x c h = omega arith
+
+pub any_inside : (x : ℕ) → x < 2 ^ 64 → IsInside no_limits x
+any_inside x h =
+    let e = signed_equation x h in
+    record { from = omega (arith, ints); to = omega (arith, ints); signed_from = omega (arith, ints); signed_to = omega (arith, ints) }
+
+pub range_inside : (d : Range) (x : ℕ) → R.Has d x → IsInside (range_limits d) x
+range_inside d x h = record { from = omega (arith, ints); to = omega (arith, ints); signed_from = h.signed_from; signed_to = h.signed_to }

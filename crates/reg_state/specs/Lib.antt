@@ -4,3 +4,5 @@ pub mod Scalars
 pub mod Kinds
 pub mod KindCover
 pub mod KindLaws
+pub mod Limits
+pub mod Reach

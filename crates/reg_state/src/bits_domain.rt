@@ -11,13 +11,16 @@ use known_bits::Bits;
 impl Domain for Bits {
     ghost use Rattle.isa_model.specs.Numbers.{alu};
     ghost use Rattle.known_bits.specs.Bits.{Has, IsConstant, IsSharp, IsPrecise};
-    ghost use Rattle.reg_state.specs.Constants.{bits_constant_has, bits_constant_only};
+    ghost use Rattle.reg_state.specs.Limits.{no_limits};
+    ghost use Rattle.reg_state.specs.Constants.{any_inside, bits_constant_has, bits_constant_only};
 
     ghost has = { Has };
 
     ghost is_constant = { IsConstant };
 
     ghost encloses = { λ a b. (x : ℕ) → Has b x → Has a x };
+
+    ghost limits = { λ b. no_limits };
 
     fn any(width: Width) -> Bits {
         Bits::any(width)
@@ -101,6 +104,8 @@ impl Domain for Bits {
     }
 
     ghost bounded = { λ d x h. h.below };
+
+    ghost inside = { λ d x h. any_inside x h.below };
 
     ghost contains_constant = { λ d u h c. bits_constant_has d u h c };
 

@@ -3,6 +3,7 @@
 ghost use Rattle.std.specs.Prelude.{◌≡◌, ◌≢◌, ℕ, ◌^◌, ◌<◌, None, IsSomeAnd, IfSome, IsTrue};
 ghost use Rattle.isa_model.specs.Numbers.{holds};
 ghost use Rattle.reg_state.specs.Relations.{Goes, reads_signed, low_half};
+ghost use Rattle.reg_state.specs.Reach.{MayGo, exchanged};
 
 use crate::domains::Domain;
 use isa_model::{AluOp, Comparison, Extension, Width, numbers};
@@ -25,6 +26,10 @@ pub fn refine<D: Domain>(
         → holds comparison width u v ≡ taken → IsSomeAnd result (λ p. D.is_constant p.0 u × D.is_constant p.1 v) }
     ensures never { (u v : ℕ) → D.is_constant a u → D.is_constant b v → holds comparison width u v ≢ taken
         → result ≡ None }
+    ensures left_limits { width ≡ Width.Full64 → (u v : ℕ) → D.has a u → D.has a v → u ≢ v
+        → IfSome result (λ p. (x : ℕ) → D.has p.0 x → MayGo comparison taken (D.limits b) x) }
+    ensures right_limits { width ≡ Width.Full64 → (u v : ℕ) → D.has b u → D.has b v → u ≢ v
+        → IfSome result (λ p. (y : ℕ) → D.has p.1 y → MayGo (exchanged comparison) taken (D.limits a) y) }
 {
     if never_goes(comparison, width, taken, a, b) {
         return None;
@@ -53,6 +58,7 @@ fn kept<D: Domain>(old: D, new: D) -> D
     ensures contains { (x : ℕ) → D.has old x → D.has new x → D.has result x }
     ensures narrower { ((x : ℕ) → D.has new x → D.has old x) → (x : ℕ) → D.has result x → D.has old x }
     ensures constant { (u : ℕ) → D.is_constant old u → D.is_constant result u }
+    ensures changed { (u v : ℕ) → D.has old u → D.has old v → u ≢ v → result ≡ new }
 {
     match old.number() {
         Some(_) => old,
@@ -71,6 +77,10 @@ fn narrowed<D: Domain>(
         → IsSomeAnd result (λ p. D.has p.0 x × D.has p.1 y) }
     ensures left { IfSome result (λ p. (x : ℕ) → D.has p.0 x → D.has a x) }
     ensures right { IfSome result (λ p. (y : ℕ) → D.has p.1 y → D.has b y) }
+    ensures left_limits { width ≡ Width.Full64
+        → IfSome result (λ p. (x : ℕ) → D.has p.0 x → MayGo comparison taken (D.limits b) x) }
+    ensures right_limits { width ≡ Width.Full64
+        → IfSome result (λ p. (y : ℕ) → D.has p.1 y → MayGo (exchanged comparison) taken (D.limits a) y) }
 {
     match width {
         Width::Full64 => related(comparison, taken, a, b),
@@ -84,6 +94,8 @@ fn related<D: Domain>(comparison: Comparison, taken: bool, a: D, b: D) -> Option
         → IsSomeAnd result (λ p. D.has p.0 x × D.has p.1 y) }
     ensures left { IfSome result (λ p. (x : ℕ) → D.has p.0 x → D.has a x) }
     ensures right { IfSome result (λ p. (y : ℕ) → D.has p.1 y → D.has b y) }
+    ensures left_limits { IfSome result (λ p. (x : ℕ) → D.has p.0 x → MayGo comparison taken (D.limits b) x) }
+    ensures right_limits { IfSome result (λ p. (y : ℕ) → D.has p.1 y → MayGo (exchanged comparison) taken (D.limits a) y) }
 {
     match (comparison, taken) {
         (Comparison::Equal, true) | (Comparison::NotEqual, false) => {

@@ -1,22 +1,26 @@
 //! What every domain of numbers offers.
 
-ghost use Rattle.std.specs.Prelude.{◌≡◌, ◌≢◌, ℕ, ◌^◌, ◌<◌, ◌≤◌, ◌<ℤ◌, ◌≤ℤ◌, ◌↔◌, Some, IsSomeAnd, IfSome, IsTrue, bit_and};
+ghost use Rattle.std.specs.Prelude.{◌≡◌, ◌≢◌, ℕ, ◌^◌, ◌<◌, ◌≤◌, ◌<ℤ◌, ◌≤ℤ◌, ◌↔◌, Some, IsSomeAnd, IfSome, IsTrue, bit_and, pos};
 ghost use Rattle.std.specs.Int.{w64, cast_signed};
 ghost use Rattle.isa_model.specs.Sizes.{width_bits, span_bits};
 ghost use Rattle.isa_model.specs.Numbers.{alu, negated, sign_extended, reordered};
 ghost use Rattle.isa_model.specs.ExtensionLemmas.{extension_width};
+ghost use Rattle.reg_state.specs.Limits.{Limits};
+ghost use Rattle.reg_state.specs.Reach.{IsInside};
 
 use isa_model::{AluOp, ByteOrder, Extension, Span, Width};
 
 /// Sets of numbers below 2^64, each of which a register may hold. `has` says which numbers are members; `is_constant`
-/// that a set is written as the one of a single number, and `encloses` that what is written of one set shows that it
-/// contains the other.
+/// that a set is written as the one of a single number, `encloses` that what is written of one set shows that it
+/// contains the other, and `limits` between which limits the members are known to be.
 pub trait Domain: Copy {
     ghost has: { Self → ℕ → Type 0 };
 
     ghost is_constant: { Self → ℕ → Type 0 };
 
     ghost encloses: { Self → Self → Type 0 };
+
+    ghost limits: { Self → Limits };
 
     /// All numbers of the width.
     fn any(width: Width) -> Self
@@ -81,28 +85,36 @@ pub trait Domain: Copy {
         ensures common { (x y : ℕ) → has self x → has other y → x < y
             → IsSomeAnd result (λ p. has p.0 x × has p.1 y) }
         ensures left { IfSome result (λ p. (x : ℕ) → has p.0 x → has self x) }
-        ensures right { IfSome result (λ p. (y : ℕ) → has p.1 y → has other y) };
+        ensures right { IfSome result (λ p. (y : ℕ) → has p.1 y → has other y) }
+        ensures left_limit { IfSome result (λ p. (x : ℕ) → has p.0 x → pos x <ℤ (limits other).greatest) }
+        ensures right_limit { IfSome result (λ p. (y : ℕ) → has p.1 y → (limits self).least <ℤ pos y) };
 
     /// Those at most some member of the other, and those at least one.
     fn at_most(self, other: Self) -> Option<(Self, Self)>
         ensures common { (x y : ℕ) → has self x → has other y → x ≤ y
             → IsSomeAnd result (λ p. has p.0 x × has p.1 y) }
         ensures left { IfSome result (λ p. (x : ℕ) → has p.0 x → has self x) }
-        ensures right { IfSome result (λ p. (y : ℕ) → has p.1 y → has other y) };
+        ensures right { IfSome result (λ p. (y : ℕ) → has p.1 y → has other y) }
+        ensures left_limit { IfSome result (λ p. (x : ℕ) → has p.0 x → pos x ≤ℤ (limits other).greatest) }
+        ensures right_limit { IfSome result (λ p. (y : ℕ) → has p.1 y → (limits self).least ≤ℤ pos y) };
 
     /// Those below some member of the other, and those above one, read as signed numbers.
     fn signed_below(self, other: Self) -> Option<(Self, Self)>
         ensures common { (x y : ℕ) → has self x → has other y → cast_signed w64 x <ℤ cast_signed w64 y
             → IsSomeAnd result (λ p. has p.0 x × has p.1 y) }
         ensures left { IfSome result (λ p. (x : ℕ) → has p.0 x → has self x) }
-        ensures right { IfSome result (λ p. (y : ℕ) → has p.1 y → has other y) };
+        ensures right { IfSome result (λ p. (y : ℕ) → has p.1 y → has other y) }
+        ensures left_limit { IfSome result (λ p. (x : ℕ) → has p.0 x → cast_signed w64 x <ℤ (limits other).signed_greatest) }
+        ensures right_limit { IfSome result (λ p. (y : ℕ) → has p.1 y → (limits self).signed_least <ℤ cast_signed w64 y) };
 
     /// Those at most some member of the other, and those at least one, read as signed numbers.
     fn signed_at_most(self, other: Self) -> Option<(Self, Self)>
         ensures common { (x y : ℕ) → has self x → has other y → cast_signed w64 x ≤ℤ cast_signed w64 y
             → IsSomeAnd result (λ p. has p.0 x × has p.1 y) }
         ensures left { IfSome result (λ p. (x : ℕ) → has p.0 x → has self x) }
-        ensures right { IfSome result (λ p. (y : ℕ) → has p.1 y → has other y) };
+        ensures right { IfSome result (λ p. (y : ℕ) → has p.1 y → has other y) }
+        ensures left_limit { IfSome result (λ p. (x : ℕ) → has p.0 x → cast_signed w64 x ≤ℤ (limits other).signed_greatest) }
+        ensures right_limit { IfSome result (λ p. (y : ℕ) → has p.1 y → (limits self).signed_least ≤ℤ cast_signed w64 y) };
 
     /// Those that differ from some member of the other, and the other way round.
     fn apart(self, other: Self) -> Option<(Self, Self)>
@@ -127,6 +139,9 @@ pub trait Domain: Copy {
 
     // every member is a number of a register
     ghost bounded: { (d : Self) (x : ℕ) → has d x → x < 2 ^ 64 };
+
+    // and is between the limits
+    ghost inside: { (d : Self) (x : ℕ) → has d x → IsInside (limits d) x };
 
     // a constant has its number, and no other
     ghost contains_constant: { (d : Self) (u : ℕ) → u < 2 ^ 64 → is_constant d u → has d u };

@@ -8,13 +8,16 @@ use ranges::Range;
 
 impl Domain for Range {
     ghost use Rattle.ranges.specs.Ranges.{Has, IsConstant, Encloses};
-    ghost use Rattle.reg_state.specs.Constants.{range_constant_has, range_constant_only};
+    ghost use Rattle.reg_state.specs.Limits.{range_limits};
+    ghost use Rattle.reg_state.specs.Constants.{range_inside, range_constant_has, range_constant_only};
 
     ghost has = { Has };
 
     ghost is_constant = { IsConstant };
 
     ghost encloses = { Encloses };
+
+    ghost limits = { range_limits };
 
     fn any(width: Width) -> Range {
         Range::any(width)
@@ -93,6 +96,8 @@ impl Domain for Range {
     }
 
     ghost bounded = { λ d x h. h.below };
+
+    ghost inside = { λ d x h. range_inside d x h };
 
     ghost contains_constant = { λ d u h c. range_constant_has d u h c };
 

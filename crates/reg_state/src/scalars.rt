@@ -121,13 +121,16 @@ impl Domain for Scalar {
     ghost use Rattle.isa_model.specs.Numbers.{alu};
     ghost use Rattle.ranges.specs.Ranges.{KeepsLimits};
     ghost use Rattle.reg_state.specs.Scalars.{Has, IsConstant, Encloses};
-    ghost use Rattle.reg_state.specs.Constants.{bits_constant_has, bits_constant_only, range_constant_has};
+    ghost use Rattle.reg_state.specs.Limits.{range_limits};
+    ghost use Rattle.reg_state.specs.Constants.{range_inside, bits_constant_has, bits_constant_only, range_constant_has};
 
     ghost has = { Has };
 
     ghost is_constant = { IsConstant };
 
     ghost encloses = { Encloses };
+
+    ghost limits = { λ s. range_limits s.range };
 
     fn any(width: Width) -> Scalar {
         Scalar {
@@ -257,6 +260,8 @@ impl Domain for Scalar {
     }
 
     ghost bounded = { λ d x h. h.0.below };
+
+    ghost inside = { λ d x h. range_inside d.range x h.1 };
 
     ghost contains_constant = { λ d u h c. (bits_constant_has d.bits u h c.0, range_constant_has d.range u h c.1) };
 
