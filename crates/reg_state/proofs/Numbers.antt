@@ -1,11 +1,11 @@
 -- What an optional number is known to be, and what limits are kept.
-use Rattle.std.proofs.Common.{ℕ, ◌≡◌, Option, Some, None, refl}
+use Rattle.std.proofs.Common.{ℕ, ℤ, ◌≡◌, Option, Some, None, refl}
 use Rattle.std.specs.Prelude.{IfSome}
 use Rattle.isa_model.specs.declared.sizes.Width.{Width}
 use Rattle.isa_model.specs.declared.instructions.AluOp.{AluOp}
 use Rattle.isa_model.specs.declared.instructions.AluOp.TheVariants.{Add, Sub, Mul, Div, SignedDiv, Or, And, Lsh, Rsh, Mod, SignedMod, Xor, Mov, Arsh}
 use Rattle.ranges.specs.declared.range.Range.{Range}
-use Rattle.ranges.specs.Ranges.{KeepsLimits}
+use Rattle.ranges.specs.Ranges.{KeepsLimits, KeepsSignedLimits}
 
 pub if_some : (o : Option ℕ) (P : ℕ → Type 0) → ((n : ℕ) → o ≡ Some n → P n) → IfSome o P
 if_some None P h = tt
@@ -28,3 +28,21 @@ keeps_map Xor w a b P Q f h = tt
 keeps_map SignedDiv w a b P Q f h = tt
 keeps_map SignedMod w a b P Q f h = tt
 keeps_map Arsh w a b P Q f h = tt
+
+-- and the same of its signed limits
+pub keeps_signed_map : (op : AluOp) (a b : Range) (P Q : ℤ → ℤ → Type 0) → ((l g : ℤ) → P l g → Q l g)
+    → KeepsSignedLimits op a b P → KeepsSignedLimits op a b Q
+keeps_signed_map Add a b P Q f h = λ fl fg. f _ _ (h fl fg)
+keeps_signed_map Sub a b P Q f h = λ fl fg. f _ _ (h fl fg)
+keeps_signed_map Arsh a b P Q f h = λ one. f _ _ (h one)
+keeps_signed_map Mov a b P Q f h = f _ _ h
+keeps_signed_map Mul a b P Q f h = tt
+keeps_signed_map Div a b P Q f h = tt
+keeps_signed_map Mod a b P Q f h = tt
+keeps_signed_map And a b P Q f h = tt
+keeps_signed_map Lsh a b P Q f h = tt
+keeps_signed_map Rsh a b P Q f h = tt
+keeps_signed_map Or a b P Q f h = tt
+keeps_signed_map Xor a b P Q f h = tt
+keeps_signed_map SignedDiv a b P Q f h = tt
+keeps_signed_map SignedMod a b P Q f h = tt

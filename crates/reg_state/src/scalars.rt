@@ -1,6 +1,7 @@
 //! Known bits and limits at once.
 
-ghost use Rattle.std.specs.Prelude.{◌≡◌, ℕ, ◌^◌, ◌<◌, ◌≤◌, ◌↔◌, IsSomeAnd, IfSome, IsTrue};
+ghost use Rattle.std.specs.Prelude.{◌≡◌, ℕ, ◌^◌, ◌<◌, ◌≤◌, ◌≤ℤ◌, ◌↔◌, IsSomeAnd, IfSome, IsTrue};
+ghost use Rattle.std.specs.Int.{w64, cast_signed};
 ghost use Rattle.isa_model.specs.Sizes.{width_bits};
 
 use crate::domains::Domain;
@@ -119,7 +120,7 @@ impl Scalar {
 
 impl Domain for Scalar {
     ghost use Rattle.isa_model.specs.Numbers.{alu};
-    ghost use Rattle.ranges.specs.Ranges.{KeepsLimits};
+    ghost use Rattle.ranges.specs.Ranges.{KeepsLimits, KeepsSignedLimits};
     ghost use Rattle.reg_state.specs.Scalars.{Has, IsConstant, Encloses};
     ghost use Rattle.reg_state.specs.Limits.{range_limits};
     ghost use Rattle.reg_state.specs.Constants.{range_inside, bits_constant_has, bits_constant_only, range_constant_has};
@@ -174,6 +175,9 @@ impl Domain for Scalar {
         ensures fits { (x : ℕ) → Has result x → x < 2 ^ width_bits width }
         ensures limits { a.range.greatest < 2 ^ width_bits width → b.range.greatest < 2 ^ width_bits width
             → KeepsLimits op width a.range b.range (λ l g. (x : ℕ) → Has result x → (l ≤ x) × (x ≤ g)) }
+        ensures signed { (x y : ℕ) → Has a x → Has b y → width ≡ Width.Full64
+            → KeepsSignedLimits op a.range b.range
+            (λ l g. (z : ℕ) → Has result z → (l ≤ℤ cast_signed w64 z) × (cast_signed w64 z ≤ℤ g)) }
     {
         let both = Scalar {
             bits: Bits::alu(op, width, a.bits, b.bits),

@@ -1,5 +1,6 @@
 use Rattle.std.proofs.Common.{arith}
-use Rattle.reg_state.proofs.Numbers.{keeps_map}
+use Rattle.std.proofs.lemmas.Int.{ints}
+use Rattle.reg_state.proofs.Numbers.{keeps_map, keeps_signed_map}
 use Rattle.reg_state.proofs.scalars.ScalarDomain.alu.Goals as goal
 
 pub returns-clause-exact : goal.returns-clause-exact
@@ -13,3 +14,9 @@ returns-clause-limits c = λ fa fb.
     keeps_map c.args.op c.args.width c.args.a.range c.args.b.range _ _
     (λ least greatest kept x h. let r = (c.settled.ensures.narrower x h).1 in (omega arith, omega arith))
     (c.alu-2.ensures.limits fa fb)
+
+pub returns-clause-signed : goal.returns-clause-signed
+returns-clause-signed c = λ x y hx hy full.
+    keeps_signed_map c.args.op c.args.a.range c.args.b.range _ _
+    (λ least greatest kept z h. let r = (c.settled.ensures.narrower z h).1 in (omega (arith, ints, kept.0), omega (arith, ints, kept.1)))
+    (c.alu-2.ensures.signed x y hx.1 hy.1 full)
