@@ -4,7 +4,7 @@ use Rattle.std.specs.Prelude.{◌+ℤ◌, ◌-ℤ◌, ◌≤ℤ◌, FitsSigned, 
 use Rattle.std.specs.Int.{w8, w16, w32, cast_signed, cast_unsigned, int_shr}
 use lib.Signed.{shr_z, mag_shr, le_z}
 use Rattle.std.proofs.Math.Facts.{sfits_to_z}
-use Rattle.std.proofs.lemmas.Int.{ints, to_z-of_z, of_z-to_z}
+use Rattle.std.proofs.lemmas.Int.{ints, to_z-of_z}
 use Rattle.isa_model.specs.declared.sizes.Width.{Width}
 use Rattle.isa_model.specs.declared.sizes.Width.TheVariants.{Low32, Full64}
 use Rattle.isa_model.specs.declared.sizes.Extension.{Extension}
@@ -19,8 +19,7 @@ use Rattle.std.proofs.lemmas.Bool.{cases_lt, lt-ltb, ne_eqb}
 use Rattle.std.proofs.lemmas.Nat.{le-div, pow_pos, mul-le, mod_below, and_le_l, and_le_r}
 use Rattle.std.proofs.Math.Nat.{div-mul-le_self, mod-eq_of_lt, div-le_self, mod-le, div-zero, add-mod_right}
 use Rattle.ranges.specs.declared.range.Range.{Range}
-use Rattle.ranges.specs.Within.{IsWithin}
-use Rattle.ranges.specs.Ranges.{Has, Encloses, IsBetween, IsSignedBetween, IsTight, ReadsAlike, KeepsLimits, KeepsSignedLimits, extension_signed}
+use Rattle.ranges.specs.Ranges.{Has, IsBetween, IsSignedBetween, KeepsLimits, KeepsSignedLimits, extension_signed}
 
 -- ---- sums and differences that fit
 
@@ -129,53 +128,6 @@ extended_32 x =
 
 pub test_le : (a b : ℤ) → le_z a b ≡ true → a ≤ℤ b
 test_le a b h = grind (arith, ints)
-
--- ---- limits that are numbers
-
--- limits within one half enclose the same numbers without and with a sign
-pub half_has : (a b x : ℕ) → b < 2 ^ 64 → a / 2 ^ 63 ≡ b / 2 ^ 63 → a ≤ x → x ≤ b
-    → IsWithin a b (cast_signed w64 a) (cast_signed w64 b) x
-half_has a b x b_in same from to =
-    let ea = signed_equation a (omega arith) in
-    let eb = signed_equation b b_in in
-    let ex = signed_equation x (omega arith) in
-    record { below = omega arith; from = from; to = to; signed_from = omega (arith, ints); signed_to = omega (arith, ints) }
-
--- the numbers of both halves
-pub halves_have : (a b d e x : ℕ) → a ≤ b → b < 2 ^ 63 → 2 ^ 63 ≤ d → d ≤ e → e < 2 ^ 64 → a ≤ x → x ≤ e
-    → (x < 2 ^ 63 → x ≤ b) → (2 ^ 63 ≤ x → d ≤ x) → IsWithin a e (cast_signed w64 d) (cast_signed w64 b) x
-halves_have a b d e x ab b_in d_in de e_in from to low high =
-    let eb = signed_equation b (omega arith) in
-    let ed = signed_equation d (omega arith) in
-    let ex = signed_equation x (omega arith) in
-    elim (cases_lt x (2 ^ 63)) [
-      | inl lt ↦
-          let l = low lt in
-          record { below = omega arith; from = from; to = to; signed_from = omega (arith, ints); signed_to = omega (arith, ints) }
-      | inr ge ↦
-          let h = high ge in
-          record { below = omega arith; from = from; to = to; signed_from = omega (arith, ints); signed_to = omega (arith, ints) }
-    ]
-
-pub half_tight : (r : Range) → r.greatest < 2 ^ 64 → r.least ≤ r.greatest → r.least / 2 ^ 63 ≡ r.greatest / 2 ^ 63
-    → ReadsAlike r → IsTight r
-half_tight r r_in ordered half alike =
-    rw (alike.0, alike.1, of_z-to_z w64 r.least (omega arith), of_z-to_z w64 r.greatest r_in) (
-      half_has r.least r.greatest r.least r_in half (omega arith) ordered,
-      half_has r.least r.greatest r.greatest r_in half ordered (omega arith),
-      half_has r.least r.greatest r.least r_in half (omega arith) ordered,
-      half_has r.least r.greatest r.greatest r_in half ordered (omega arith),
-    )
-
--- tight limits are enclosed by limits that have all their numbers
-pub tight_encloses : (a m : Range) → FitsSigned w64 m.signed_least → FitsSigned w64 m.signed_greatest → IsTight m
-    → ((x : ℕ) → Has m x → Has a x) → Encloses a m
-tight_encloses a m fl fg tight within =
-    let l = within m.least tight.0 in
-    let g = within m.greatest tight.1 in
-    let sl = rw (to_z-of_z w64 m.signed_least fl) at ((within (cast_unsigned w64 m.signed_least) tight.2).signed_from) in
-    let sg = rw (to_z-of_z w64 m.signed_greatest fg) at ((within (cast_unsigned w64 m.signed_greatest) tight.3).signed_to) in
-    (l.from, g.to, sl, sg)
 
 -- ---- what an operation keeps of the limits of two constants
 

@@ -1,6 +1,5 @@
-use Rattle.std.proofs.Common.{arith, rules, ◌≡◌, sym, ◌^◌, ◌<◌, w64, ℤ}
+use Rattle.std.proofs.Common.{arith, rules, ◌≡◌, sym, w64}
 use Rattle.std.specs.Prelude.{◌≤ℤ◌, FitsSigned}
-use Rattle.std.specs.Int.{cast_signed}
 use Rattle.std.proofs.lemmas.Int.{ints, to_z-of_z}
 use Rattle.isa_model.specs.declared.sizes.Width.TheVariants.{Full64}
 use Rattle.isa_model.specs.ExtensionLemmas.{sign_extended-small, extension_width}
