@@ -1,5 +1,5 @@
 -- The limits that a domain knows of its numbers, and those of a domain that knows none.
-use Rattle.std.specs.Prelude.{ℕ, ℤ, pos, negsuc, ◌^◌}
+use Rattle.std.specs.Prelude.{ℤ, pos, negsuc, ◌^◌}
 use Rattle.ranges.specs.declared.range.Range.{Range}
 
 -- no member is outside them; they may lie outside of all numbers of a register

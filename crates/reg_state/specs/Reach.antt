@@ -1,8 +1,8 @@
 -- What limits show of a comparison: the numbers that may go its way with some number between them.
-use Rattle.std.specs.Prelude.{ℕ, ℤ, pos, ◌<ℤ◌, ◌≤ℤ◌, Bool, true, false, ⊤}
+use Rattle.std.specs.Prelude.{ℕ, pos, ◌<ℤ◌, ◌≤ℤ◌, Bool, true, false, ⊤}
 use Rattle.std.specs.Int.{w64, cast_signed}
 use Rattle.isa_model.specs.declared.instructions.Comparison.{Comparison}
-use Rattle.isa_model.specs.declared.instructions.Comparison.TheVariants.{Equal, NotEqual, Greater, GreaterEqual, Less, LessEqual, AnyBit, SignedGreater, SignedGreaterEqual, SignedLess, SignedLessEqual}
+use Rattle.isa_model.specs.declared.instructions.Comparison.TheVariants.{Equal, NotEqual, Greater, GreaterEqual, Less, LessEqual, SignedGreater, SignedGreaterEqual, SignedLess, SignedLessEqual}
 use Rattle.reg_state.specs.Limits.{Limits}
 
 -- x is between the limits, read without and with a sign
