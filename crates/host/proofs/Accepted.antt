@@ -1,29 +1,25 @@
 -- What the runs of an accepted program write.
-use Rattle.std.proofs.Common.{◌≡◌, ◌≢◌, ℕ, ◌<◌, ◌≤◌, List, [], ◌∷◌, ◌++◌, length, Option, Some, None, Result, Err, refl, sym, ap, ◌∙◌, subst, arith}
+use Rattle.std.proofs.Common.{◌≡◌, ℕ, ◌<◌, List, ◌++◌, length, Option, Some, None, Result, refl, sym, ap, ◌∙◌, subst}
 use Rattle.std.specs.Prelude.{IfSome}
 use Rattle.std.proofs.lemmas.List.{take_at}
 use Rattle.std.proofs.lemmas.List.Elements.{All-take}
-use Rattle.isa_model.specs.declared.map_defs.MapDef.{MapDef}
 use Rattle.isa_model.specs.declared.frames.FrameHead.{FrameHead}
 use Rattle.isa_model.specs.declared.ends.End.TheVariants.{Exit}
-use Rattle.isa_model.specs.Instructions.{Program}
 use Rattle.isa_model.specs.States.{Entries}
 use Rattle.isa_model.specs.Streams.{stream_of}
 use Rattle.isa_model.specs.Runs.{Turn, turn}
 use Rattle.isa_model.specs.RunLaws.{turn-outcome}
-use Rattle.isa_model.specs.MachineStates.{AreBytes, FitRows}
-use Rattle.isa_model.specs.Reports.{Piece, turn_by, report_of, checked_rule, checked_report, starting_contents}
+use Rattle.isa_model.specs.MachineStates.{AreBytes}
+use Rattle.isa_model.specs.Reports.{report_of, checked_rule, checked_report, starting_contents}
 use Rattle.isa_model.specs.ReportLaws.{IsReport-checked}
-use Rattle.image.specs.Images.{IsImage}
 use Rattle.image.specs.Programs.{IsProgram-IsImage, FitRows-starting_contents}
 use Rattle.explorer.specs.Bounds.{Bounded, IsVerified}
 use Rattle.machine.specs.declared.machines.Exit.{Exit as TheExit}
 use Rattle.machine.specs.Running.{Running, Answers}
-use Rattle.frames.specs.Inputs.{Hears}
 use Rattle.host.specs.declared.errors.HostError.{HostError}
 use Rattle.host.specs.declared.tallies.Tally.{Tally}
 use Rattle.host.specs.Writing.{Outputs}
-use Rattle.host.specs.Reported.{Reports}
+use Rattle.host.specs.Reported.{Reports, ReportsSome}
 use Rattle.host.specs.Accepted.{ReportsRun}
 
 -- a machine's answer is the turn of its program
@@ -77,3 +73,12 @@ ReportsRun-machine a bytes old new result limit m h bound made r are =
     ReportsRun-Reports a bytes old new result h
     (subst (λ (q : Running). Reports bytes (λ input. report_of a.bound q.program.maps (checked_rule q.program q.bound) q.contents (stream_of input)) old new result) made bounded)
     are
+
+-- what was written of some frames, by the machine that was made of the program, with its bound as the limit
+pub ReportsSome-machine : (a : Bounded) (old new : Outputs) (result : Result Tally HostError) (limit : ℕ) (m : Running)
+    → limit ≡ a.bound → m ≡ record { program = a.program; bound = a.bound; contents = starting_contents a.program.maps }
+    → ReportsSome (λ found. report_of limit m.program.maps (checked_rule m.program m.bound) m.contents found) old new result
+    → ReportsSome (λ found. report_of a.bound a.program.maps (checked_rule a.program a.bound) (starting_contents a.program.maps) found) old new result
+ReportsSome-machine a old new result limit m bound made r =
+    let bounded = subst (λ n. ReportsSome (λ found. report_of n m.program.maps (checked_rule m.program m.bound) m.contents found) old new result) bound r in
+    subst (λ (q : Running). ReportsSome (λ found. report_of a.bound q.program.maps (checked_rule q.program q.bound) q.contents found) old new result) made bounded

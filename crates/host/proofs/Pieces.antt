@@ -1,5 +1,5 @@
 -- Pieces that were written, one behind another, and of which one may have failed.
-use Rattle.std.proofs.Common.{◌≡◌, ℕ, zero, suc, ◌<◌, true, false, List, [], ◌∷◌, ◌++◌, length, take, Option, refl, sym, ap, ◌∙◌, subst, append-nil, append_assoc}
+use Rattle.std.proofs.Common.{◌≡◌, ℕ, zero, suc, true, false, List, [], ◌∷◌, ◌++◌, length, take, Option, refl, sym, ap, ◌∙◌, subst, append-nil, append_assoc}
 use Rattle.std.specs.List.{flat_map}
 use Rattle.std.specs.Io.KnownBytes.{Appends}
 use Rattle.std.proofs.KnownBytes.{Appends-nil, Appends-trans}
@@ -7,10 +7,10 @@ use Rattle.exact_io.specs.Transfers.{AppendsBeginning}
 use Rattle.isa_model.specs.declared.ends.End.{End}
 use Rattle.isa_model.specs.Streams.{Frame, frame_bytes}
 use Rattle.isa_model.specs.Runs.{Turn}
-use Rattle.isa_model.specs.Reports.{Piece, ToReport, ToFrames, report_bytes, frames_out, frame_line, frame_pieces, record_pieces, is_sent}
+use Rattle.isa_model.specs.Reports.{Piece, ToReport, ToFrames, frame_line, frame_pieces, record_pieces, is_sent}
 use Rattle.host.specs.declared.errors.HostError.{HostError}
 use Rattle.host.specs.declared.errors.HostError.TheVariants as failure
-use Rattle.host.specs.Writing.{Outputs, Wrote, WroteBefore, piece_bytes, failure_of}
+use Rattle.host.specs.Writing.{Outputs, Wrote, WroteBefore}
 
 -- what is made of the pieces of two lists in a row
 flat_map-append : {X A : Type 0} (f : X → List A) (xs ys : List X) → flat_map f (xs ++ ys) ≡ flat_map f xs ++ flat_map f ys

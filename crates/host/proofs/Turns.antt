@@ -1,11 +1,12 @@
 -- One turn more, and the ends of a run over a stream.
-use Rattle.std.proofs.Common.{◌≡◌, ℕ, suc, ◌+◌, List, [], ◌∷◌, ◌++◌, length, Option, None, Some, IfSome, Result, Ok, Err, OnOk, OnErr, IfOk, IfErr, MatchResult, refl, sym, ap, ◌∙◌, subst, append_assoc, append-nil, length-append, add-zero, zero-add, arith}
+use Rattle.std.proofs.Common.{◌≡◌, ℕ, suc, ◌+◌, List, [], ◌∷◌, ◌++◌, length, Option, None, Some, IfSome, Result, Ok, Err, OnOk, OnErr, IfOk, IfErr, refl, sym, ap, ◌∙◌, subst, append_assoc, append-nil, length-append, add-zero, zero-add, arith}
 use Rattle.std.specs.Io.KnownBytes.{Appends}
 use Rattle.exact_io.specs.Transfers.{AppendsBeginning}
 use Rattle.isa_model.specs.declared.map_defs.MapDef.{MapDef}
 use Rattle.isa_model.specs.declared.streams.Finish.{Finish}
+use Rattle.isa_model.specs.declared.streams.Finish.TheVariants as finish
 use Rattle.isa_model.specs.States.{Entries}
-use Rattle.isa_model.specs.Streams.{Frame, magic, Input, ByEnd, Position, Fresh, number_of, IsOpen, stream_of}
+use Rattle.isa_model.specs.Streams.{Frame, magic, ByEnd, Position, Fresh, number_of, IsOpen, stream_of}
 use Rattle.isa_model.specs.Reports.{Piece, Rule, ToReport, ToFrames, turns_pieces, contents_after, frame_pieces, maps_pieces, last_line, report_of}
 use Rattle.frames.specs.Reading.{Found, Stopped, Reads, next_position}
 use Rattle.frames.specs.Inputs.{HasFound, HasFound-fresh, HasFound-next, HasFound-count, HasFound-begins, HasFound-stops, Hears-whole}
@@ -14,7 +15,7 @@ use Rattle.host.specs.declared.errors.HostError.TheVariants as failure
 use Rattle.host.specs.declared.tallies.Tally.{Tally}
 use Rattle.host.specs.Tallies.{tally_of}
 use Rattle.host.specs.Writing.{Outputs, Wrote, WroteBefore, Writes}
-use Rattle.host.specs.Reported.{Reports}
+use Rattle.host.specs.Reported.{Reports, ReportsSome}
 use Rattle.host.proofs.Pieces.{Wrote-append, WroteBefore-append, WroteBefore-more, wrote_report, wrote_frames, report_failed, frames_failed}
 use Rattle.host.proofs.SoFar.{SoFar}
 
@@ -151,4 +152,59 @@ run_ended frames (Some bytes) known new p number limit rows rule start contents 
           (last_written front before r s g number (length frames) stop result count so.wrote ok err kind));
       tells = subst (λ (x : List Frame × Finish). IfOk result (λ t. t ≡ tally_of (length x.0) x.1)) (sym same)
           (subst (λ (n : ℕ). IfOk result (λ t. t ≡ tally_of n stop)) count tally);
+    }
+
+-- ---- the same of any source
+
+-- the magic failed
+pub some_magic_failed : (limit : ℕ) (rows : List MapDef) (rule : Rule) (start : List Entries) (r f g : Option (List ℕ)) → AppendsBeginning f g magic
+    → ReportsSome (λ found. report_of limit rows rule start found) (record { report = r; frames = f }) (record { report = r; frames = g }) (Err failure.Frames)
+some_magic_failed limit rows rule start r f g p = record {
+  frames = [];
+  finish = finish.End;
+  are_open = tt;
+  writes = frames_failed r f g magic _ p;
+  tells = tt;
+}
+
+-- a turn's piece failed
+pub some_turn_failed : (frames : List Frame) (old known new : Option (List ℕ)) (p : Position) (number limit : ℕ) (rows : List MapDef) (rule : Rule) (start contents : List Entries) (before now after : Outputs) (f : Frame) (error : HostError)
+    → SoFar frames old known p number limit rule start contents before now → Reads p known new (Found f) → IsOpen p f
+    → WroteBefore now after (frame_pieces limit number f (rule f.head f.body contents)) error
+    → ReportsSome (λ found. report_of limit rows rule start found) before after (Err error)
+some_turn_failed frames old known new p number limit rows rule start contents before now after f error s r ok w =
+    let all = frames ++ f ∷ [] in
+    let count = count_of frames old known p number limit rule start contents before now s in
+    let front = ToFrames magic ∷ turns_pieces limit rule 0 start frames in
+    let turn = frame_pieces limit number f (rule f.head f.body contents) in
+    let last = maps_pieces 0 rows (contents_after rule start all) ++ ToReport (last_line (length all) finish.End) ∷ [] in
+    let whole : (front ++ turn) ++ last ≡ report_of limit rows rule start (all, finish.End) =
+    ap (λ l. l ++ last) (turn_pieces frames f number limit rule start contents count s.carried) in
+    record {
+      frames = all;
+      finish = finish.End;
+      are_open = (HasFound-next frames old known new p f s.found r ok).are_open;
+      writes = subst (λ (l : List Piece). WroteBefore before after l error) whole
+          (WroteBefore-more before after (front ++ turn) last error (WroteBefore-append before now after front turn error s.wrote w));
+      tells = tt;
+    }
+
+-- the stream stopped, and the last line was written, or failed
+pub some_run_ended : (frames : List Frame) (old known : Option (List ℕ)) (p : Position) (number limit : ℕ) (rows : List MapDef) (rule : Rule) (start contents : List Entries) (before : Outputs) (r s g : Option (List ℕ)) (stop : Finish) (result : Result Tally HostError)
+    → rows ≡ [] → SoFar frames old known p number limit rule start contents before (record { report = r; frames = g })
+    → OnOk result (Appends r s (last_line number stop)) → OnErr result (AppendsBeginning r s (last_line number stop)) → IfErr result (λ e. e ≡ failure.Report)
+    → IfOk result (λ tally. tally ≡ tally_of number stop)
+    → ReportsSome (λ found. report_of limit rows rule start found) before (record { report = s; frames = g }) result
+some_run_ended frames old known p number limit rows rule start contents before r s g stop result none so ok err kind tally =
+    let count = count_of frames old known p number limit rule start contents before (record { report = r; frames = g }) so in
+    let no_lines : [] ≡ maps_pieces 0 rows (contents_after rule start frames) = ap (λ (x : List MapDef). maps_pieces 0 x (contents_after rule start frames)) (sym none) in
+    let front = ToFrames magic ∷ turns_pieces limit rule 0 start frames in
+    let last = ToReport (last_line (length frames) stop) ∷ [] in
+    record {
+      frames = frames;
+      finish = stop;
+      are_open = so.found.are_open;
+      writes = subst (λ (l : List Piece). Writes before (record { report = s; frames = g }) result (front ++ (l ++ last))) no_lines
+          (last_written front before r s g number (length frames) stop result count so.wrote ok err kind);
+      tells = subst (λ (n : ℕ). IfOk result (λ t. t ≡ tally_of n stop)) count tally;
     }

@@ -1,7 +1,7 @@
 //! Runs on the checked machine.
 ghost use Rattle.std.specs.Prelude.{◌≡◌, ◌≢◌, ◌≤◌, IfSome};
-ghost use Rattle.isa_model.specs.Reports.{checked_report};
-ghost use Rattle.host.specs.Reported.{Reports};
+ghost use Rattle.isa_model.specs.Reports.{report_of, checked_rule, starting_contents, checked_report};
+ghost use Rattle.host.specs.Reported.{Reports, ReportsSome};
 
 use super::clocks::FrameClock;
 use super::engine::run_frames;
@@ -59,6 +59,11 @@ pub fn run_checked<R: Read + Drop, W1: Write, W2: Write>(
         Reports bytes (checked_report image limit)
         record { report = W1.contents report.old; frames = W2.contents out.old }
         record { report = W1.contents report.new; frames = W2.contents out.new } result) }
+    // Of any source it is the report of some frames, which came from it.
+    ensures some_frames { result ≢ Err HostError.Memory → ReportsSome
+        (λ found. report_of limit image.maps (checked_rule image limit) (starting_contents image.maps) found)
+        record { report = W1.contents report.old; frames = W2.contents out.old }
+        record { report = W1.contents report.new; frames = W2.contents out.new } result }
 {
     // What this call says of the image: it is one, so it has no maps.
     let _slots = image.slots();

@@ -6,7 +6,7 @@ ghost use Rattle.isa_model.specs.Streams.{max_body, stream_of};
 ghost use Rattle.isa_model.specs.Reports.{frame_pieces, last_line, is_sent, report_of};
 ghost use Rattle.host.specs.Tallies.{tally_of};
 ghost use Rattle.host.specs.Writing.{Writes};
-ghost use Rattle.host.specs.Reported.{Reports};
+ghost use Rattle.host.specs.Reported.{Reports, ReportsSome};
 
 use super::errors::HostError;
 use super::lines::{line_of_finish, line_of_frame};
@@ -103,6 +103,10 @@ pub fn run_frames<M: Runner, R: Read + Drop, W1: Write, W2: Write>(
         (λ input. report_of limit (M.rows machine.old) (M.rule machine.old) (M.contents machine.old) (stream_of input))
         record { report = W1.contents report.old; frames = W2.contents out.old }
         record { report = W1.contents report.new; frames = W2.contents out.new } result) }
+    ensures some_frames { ReportsSome
+        (λ found. report_of limit (M.rows machine.old) (M.rule machine.old) (M.contents machine.old) found)
+        record { report = W1.contents report.old; frames = W2.contents out.old }
+        record { report = W1.contents report.new; frames = W2.contents out.new } result }
     ensures memory { result ≢ Err HostError.Memory }
 {
     match write_bytes(out, b"XPF1") {

@@ -1,7 +1,9 @@
 //! Runs of accepted programs.
 ghost use Rattle.std.specs.Prelude.{◌≡◌, ◌≢◌, IfSome};
 ghost use Rattle.isa_model.specs.MachineStates.{AreBytes};
+ghost use Rattle.isa_model.specs.Reports.{report_of, checked_rule, starting_contents};
 ghost use Rattle.host.specs.Accepted.{ReportsRun};
+ghost use Rattle.host.specs.Reported.{ReportsSome};
 
 use super::clocks::FrameClock;
 use super::engine::run_frames;
@@ -58,6 +60,12 @@ pub fn run<R: Read + Drop, W1: Write, W2: Write>(
         → ReportsRun verified bytes
         record { report = W1.contents report.old; frames = W2.contents out.old }
         record { report = W1.contents report.new; frames = W2.contents out.new } result) }
+    // Of any source it is the checked report of some frames, which came from it, with the bound as the limit.
+    ensures some_frames { result ≢ Err HostError.Memory → ReportsSome
+        (λ found. report_of verified.bound verified.program.maps (checked_rule verified.program verified.bound)
+        (starting_contents verified.program.maps) found)
+        record { report = W1.contents report.old; frames = W2.contents out.old }
+        record { report = W1.contents report.new; frames = W2.contents out.new } result }
 {
     let bound = verified.bound();
     let Ok(machine) = Machine::new(alloc, verified) else {

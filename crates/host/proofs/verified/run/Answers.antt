@@ -1,5 +1,5 @@
 use Rattle.host.specs.Writing.{Outputs}
-use Rattle.host.proofs.Accepted.{ReportsRun-machine, IfSome-weaker}
+use Rattle.host.proofs.Accepted.{ReportsRun-machine, ReportsSome-machine, IfSome-weaker}
 use Rattle.host.proofs.verified.run.Goals as goal
 
 pub returns-clause-reports : goal.returns-clause-reports
@@ -11,3 +11,7 @@ returns-clause-reports g c = λ wrote.
     ReportsRun-machine c.args.verified bytes old new c.run_frames.result c.bound-bound.result c.in-Ok.machine
     c.bound-bound.ensures.verified c.bound-bound.ensures.bound c.in-Ok.ensures r are)
     c.run_frames.ensures.reports
+
+pub returns-clause-some_frames : goal.returns-clause-some_frames
+returns-clause-some_frames g c = λ wrote.
+    ReportsSome-machine c.args.verified _ _ _ c.bound-bound.result c.in-Ok.machine c.bound-bound.ensures.bound c.in-Ok.ensures c.run_frames.ensures.some_frames
