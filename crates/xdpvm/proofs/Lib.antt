@@ -1,1 +1,3 @@
 mod Endings
+mod Loading
+mod Written

@@ -1,5 +1,7 @@
 -- How the program ends, and what the outputs have got by then.
-use Rattle.std.specs.Prelude.{ℕ, Bool, true, false}
+use Rattle.std.specs.Prelude.{◌≡◌, ℕ, Bool, true, false, List, [], ◌++◌, codes}
+use Rattle.xdpvm.specs.declared.commands.WordsError.{WordsError}
+use Rattle.xdpvm.specs.declared.commands.WordsError.TheVariants.{Wrong, Memory}
 use Rattle.xdpvm.specs.declared.outcomes.Outcome.{Outcome}
 use Rattle.xdpvm.specs.declared.outcomes.Outcome.TheVariants.{Done, WrongWords, NotBuilt, Refused, Faulted, CannotRead, CannotWrite, CannotReplace, NoMemory}
 
@@ -38,3 +40,51 @@ is_unsaid (CannotRead path) = false
 is_unsaid (CannotWrite path) = false
 is_unsaid (CannotReplace path) = false
 is_unsaid NoMemory = false
+
+abbrev pub usage : List ℕ
+usage = codes "usage: xdpvm asm|dis|verify|run|trace|prove|recheck\n"
+
+-- what standard error is told
+abbrev pub message_of : Outcome → List ℕ
+message_of Done = []
+message_of WrongWords = usage
+message_of (NotBuilt name) = usage ++ (codes "this build has no command " ++ (name.now ++ codes "\n"))
+message_of Refused = []
+message_of Faulted = []
+message_of (CannotRead path) = codes "cannot read " ++ (path.now ++ codes "\n")
+message_of (CannotWrite path) = codes "cannot write " ++ (path.now ++ codes "\n")
+message_of (CannotReplace path) =
+    codes "cannot write " ++ (path.now ++ codes "\nit is one of the files that are read\n")
+message_of NoMemory = codes "out of memory\n"
+
+-- how the task ends where the words ask for nothing
+abbrev pub IsWordsEnd : WordsError → Outcome → Type 0
+IsWordsEnd Wrong outcome = outcome ≡ WrongWords
+IsWordsEnd Memory outcome = outcome ≡ NoMemory
+
+-- the output of this name cannot be written
+abbrev pub IsWriteFailure : List ℕ → Outcome → Type 0
+IsWriteFailure name Done = ⊥
+IsWriteFailure name WrongWords = ⊥
+IsWriteFailure name (NotBuilt command) = ⊥
+IsWriteFailure name Refused = ⊥
+IsWriteFailure name Faulted = ⊥
+IsWriteFailure name (CannotRead path) = ⊥
+IsWriteFailure name (CannotWrite path) = path.now ≡ name
+IsWriteFailure name (CannotReplace path) = ⊥
+IsWriteFailure name NoMemory = ⊥
+
+abbrev pub IsOutputFailure : Outcome → Type 0
+IsOutputFailure outcome = IsWriteFailure (codes "standard output") outcome
+
+-- a file cannot be read or written, or memory ran out
+abbrev pub IsFailure : Outcome → Type 0
+IsFailure Done = ⊥
+IsFailure WrongWords = ⊥
+IsFailure (NotBuilt command) = ⊥
+IsFailure Refused = ⊥
+IsFailure Faulted = ⊥
+IsFailure (CannotRead path) = Unit {0}
+IsFailure (CannotWrite path) = Unit {0}
+IsFailure (CannotReplace path) = Unit {0}
+IsFailure NoMemory = Unit {0}

@@ -57,6 +57,11 @@ pub enum WordsError {
 }
 
 impl From<AllocError> for WordsError {
+    ghost use Rattle.std.specs.Prelude.{◌≡◌};
+    ghost use Rattle.xdpvm.specs.declared.commands.WordsError.TheVariants.{Memory};
+
+    ghost from_gives = { λ _ e. e ≡ Memory };
+
     fn from(_error: AllocError) -> WordsError {
         WordsError::Memory
     }

@@ -1,6 +1,10 @@
 //! The program, on any runtime and any outputs.
 
 ghost use Rattle.std.specs.Prelude.{◌≡◌, ◌≤◌};
+ghost use Rattle.xdpvm.specs.declared.outcomes.Outcome.{Outcome};
+ghost use Rattle.xdpvm.specs.Statuses.{status_of, message_of};
+ghost use Rattle.xdpvm.specs.Saying.{AppendsPart};
+ghost use Rattle.xdpvm.specs.Commands.{Executes};
 
 use super::commands::{Task, read_words};
 use super::files::{assemble_file, disassemble_file, run_verified, trace, verify_file};
@@ -21,6 +25,8 @@ pub fn execute<R: Files + AllocGlobal, W1: Write, W2: Write>(
     out: &mut W1,
     err: &mut W2,
 ) -> u8
+    ensures executes { (o : Outcome) × (result ≡ status_of o) × Executes (W1.contents out.old) (W1.contents out.new) o
+        × AppendsPart (W2.contents err.old) (W2.contents err.new) (message_of o) }
     ensures statuses { result ≤ 5 }
     ensures wrong_words { result ≡ 1 → W1.contents out.new ≡ W1.contents out.old }
     ensures no_memory { result ≡ 5 → W1.contents out.new ≡ W1.contents out.old }

@@ -1,15 +1,15 @@
 //! The files that the commands read and write.
 
-ghost use Rattle.std.specs.Prelude.{◌≡◌, true, OnOk, IfErr};
-ghost use Rattle.xdpvm.specs.Statuses.{is_silent};
+ghost use Rattle.std.specs.Prelude.{◌≡◌, OnOk, IfOk, IfErr};
+ghost use Rattle.image.specs.Images.{IsImage};
+ghost use Rattle.xdpvm.specs.Statuses.{IsFailure};
+ghost use Rattle.xdpvm.specs.Commands.{LoadsNone, TracesFile, RunsFile, VerifiesFile, DisassemblesFile, AssemblesFile};
 
 use super::commands::{Assembly, Paths, StepLimit};
-use super::outcomes::{Outcome, STANDARD_OUTPUT};
-use super::verdicts::{accepted, judge, refused, say_line, size_line};
-use assembler::{AsmError, AsmErrorKind, assemble};
-use disassembler::disassemble;
-use host::{HostError, Tally, run, run_checked};
-use image::{Image, ImageError};
+use super::outcomes::Outcome;
+use super::streams::{run_stream, store_image, trace_stream};
+use super::verdicts::{assembled, image_of, judge, say_text, say_verdict, size_line};
+use image::Image;
 use std::alloc::Global;
 use std::io::{Read, Write};
 use std::os::unix::fs::MetadataExt;
@@ -39,7 +39,9 @@ fn is_same_file<R: Files>(rt: &R, one: &str, other: &str) -> bool {
 }
 
 // Makes a file to write to, unless it is one of those that are read.
-fn create_file<'a, R: Files>(rt: &R, path: &'a str, read: &[&str]) -> Result<R::File, Outcome<'a>> {
+fn create_file<'a, R: Files>(rt: &R, path: &'a str, read: &[&str]) -> Result<R::File, Outcome<'a>>
+    ensures { IfErr result IsFailure }
+{
     for other in read {
         if is_same_file(rt, path, *other) {
             return Err(Outcome::CannotReplace(path));
@@ -59,27 +61,26 @@ fn load_image<'a, R: Files, W: Write>(
     out: &mut W,
 ) -> Result<Image, Outcome<'a>>
     ensures ok { OnOk result (W.contents out.new ≡ W.contents out.old) }
-    ensures silent { IfErr result (λ ended. is_silent ended ≡ true → W.contents out.new ≡ W.contents out.old) }
+    ensures fits { IfOk result IsImage }
+    ensures none { IfErr result (λ ended. LoadsNone (W.contents out.old) (W.contents out.new) ended) }
 {
     let bytes = match read_file(rt, alloc, path, PAST_ANY_IMAGE) {
         Ok(bytes) => bytes,
         Err(error) => return Err(Outcome::of_read(path, &error)),
     };
-    match Image::parse(alloc, bytes.as_slice()) {
-        Ok(image) => Ok(image),
-        Err(ImageError::Memory) => Err(Outcome::NoMemory),
-        Err(error) => Err(refused(alloc, &error, out)),
-    }
+    image_of(alloc, bytes.as_slice(), out)
 }
 
 // Opens the frames, and then the frames out.
-fn open_streams<'a, R: Files>(rt: &R, paths: Paths<'a>) -> Result<(R::File, R::File), Outcome<'a>> {
+fn open_streams<'a, R: Files>(rt: &R, paths: Paths<'a>) -> Result<(R::File, R::File), Outcome<'a>>
+    ensures { IfErr result IsFailure }
+{
     let source = match fs::open(rt, paths.frames) {
         Ok(source) => source,
         Err(error) => return Err(Outcome::of_read(paths.frames, &error)),
     };
-    let target = create_file(rt, paths.out, &[paths.image, paths.frames])?;
-    Ok((source, target))
+    let file = create_file(rt, paths.out, &[paths.image, paths.frames])?;
+    Ok((source, file))
 }
 
 /// Runs a program on a frame stream with checks: the image is read and judged, then the frames are opened, then the
@@ -91,17 +92,16 @@ pub fn trace<'a, R: Files, W: Write>(
     limit: StepLimit,
     out: &mut W,
 ) -> Outcome<'a>
-    ensures silent { is_silent result ≡ true → W.contents out.new ≡ W.contents out.old }
+    ensures { TracesFile limit.steps (W.contents out.old) (W.contents out.new) result }
 {
     let image = match load_image(rt, alloc, paths.image, out) {
         Ok(image) => image,
         Err(outcome) => return outcome,
     };
     match open_streams(rt, paths) {
-        Ok((source, mut target)) => outcome_of(
-            paths,
-            run_checked(alloc, image, limit.steps, source, out, &mut target),
-        ),
+        Ok((source, mut file)) => {
+            trace_stream(alloc, image, limit, source, paths.out, out, &mut file)
+        }
         Err(outcome) => outcome,
     }
 }
@@ -114,7 +114,7 @@ pub fn run_verified<'a, R: Files, W: Write>(
     paths: Paths<'a>,
     out: &mut W,
 ) -> Outcome<'a>
-    ensures silent { is_silent result ≡ true → W.contents out.new ≡ W.contents out.old }
+    ensures { RunsFile (W.contents out.old) (W.contents out.new) result }
 {
     let image = match load_image(rt, alloc, paths.image, out) {
         Ok(image) => image,
@@ -125,25 +125,8 @@ pub fn run_verified<'a, R: Files, W: Write>(
         Err(outcome) => return outcome,
     };
     match open_streams(rt, paths) {
-        Ok((source, mut target)) => {
-            outcome_of(paths, run(alloc, verified, source, out, &mut target))
-        }
+        Ok((source, mut file)) => run_stream(alloc, verified, source, paths.out, out, &mut file),
         Err(outcome) => outcome,
-    }
-}
-
-// How a run over a stream ended.
-fn outcome_of<'a>(paths: Paths<'a>, ended: Result<Tally, HostError>) -> Outcome<'a>
-    ensures silent { is_silent result ≡ true → ended ≡ Err HostError.Memory }
-{
-    match ended {
-        Ok(tally) => match tally.fault {
-            None => Outcome::Done,
-            Some(_) => Outcome::Faulted,
-        },
-        Err(HostError::Memory) => Outcome::NoMemory,
-        Err(HostError::Report) => Outcome::CannotWrite(STANDARD_OUTPUT),
-        Err(HostError::Frames) => Outcome::CannotWrite(paths.out),
     }
 }
 
@@ -154,16 +137,13 @@ pub fn verify_file<'a, R: Files, W: Write>(
     path: &'a str,
     out: &mut W,
 ) -> Outcome<'a>
-    ensures silent { is_silent result ≡ true → W.contents out.new ≡ W.contents out.old }
+    ensures { VerifiesFile (W.contents out.old) (W.contents out.new) result }
 {
     let image = match load_image(rt, alloc, path, out) {
         Ok(image) => image,
         Err(outcome) => return outcome,
     };
-    match judge(alloc, image, out) {
-        Ok(verified) => accepted(alloc, &verified, out),
-        Err(outcome) => outcome,
-    }
+    say_verdict(alloc, image, out)
 }
 
 /// Writes the text of an image: it is read and judged, and then the text goes to standard output.
@@ -173,16 +153,13 @@ pub fn disassemble_file<'a, R: Files, W: Write>(
     path: &'a str,
     out: &mut W,
 ) -> Outcome<'a>
-    ensures silent { is_silent result ≡ true → W.contents out.new ≡ W.contents out.old }
+    ensures { DisassemblesFile (W.contents out.old) (W.contents out.new) result }
 {
     let image = match load_image(rt, alloc, path, out) {
         Ok(image) => image,
         Err(outcome) => return outcome,
     };
-    match disassemble(&image, out) {
-        Ok(()) => Outcome::Done,
-        Err(_) => Outcome::CannotWrite(STANDARD_OUTPUT),
-    }
+    say_text(&image, out)
 }
 
 /// Makes the image of a text: the text is read and judged, then the image is written, and then standard output says
@@ -193,31 +170,21 @@ pub fn assemble_file<'a, R: Files, W: Write>(
     paths: Assembly<'a>,
     out: &mut W,
 ) -> Outcome<'a>
-    ensures silent { is_silent result ≡ true → W.contents out.new ≡ W.contents out.old }
+    ensures { AssemblesFile (W.contents out.old) (W.contents out.new) result }
 {
     let text = match read_file(rt, alloc, paths.text, u64::MAX) {
         Ok(text) => text,
         Err(error) => return Outcome::of_read(paths.text, &error),
     };
-    let image = match assemble(alloc, text.as_slice()) {
+    let image = match assembled(alloc, text.as_slice(), out) {
         Ok(image) => image,
-        Err(
-            AsmError {
-                kind: AsmErrorKind::Memory,
-                ..
-            },
-        ) => return Outcome::NoMemory,
-        Err(error) => return refused(alloc, &error, out),
+        Err(outcome) => return outcome,
     };
     let Ok(line) = size_line(alloc, &image) else {
         return Outcome::NoMemory;
     };
-    let mut target = match create_file(rt, paths.image, &[paths.text]) {
-        Ok(target) => target,
-        Err(outcome) => return outcome,
-    };
-    match image.write(&mut target) {
-        Ok(()) => say_line(line.as_str(), Outcome::Done, out),
-        Err(error) => Outcome::of_write(paths.image, &error),
+    match create_file(rt, paths.image, &[paths.text]) {
+        Ok(mut file) => store_image(&image, line.as_str(), paths.image, out, &mut file),
+        Err(outcome) => outcome,
     }
 }

@@ -6,7 +6,9 @@
 mod commands;
 mod execute;
 mod files;
+mod names;
 mod outcomes;
+mod streams;
 mod verdicts;
 
 use commands::given_words;

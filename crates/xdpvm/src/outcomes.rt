@@ -1,7 +1,11 @@
 //! How a task ended, and what is said of it.
 
-ghost use Rattle.std.specs.Prelude.{◌≡◌, true};
-ghost use Rattle.xdpvm.specs.Statuses.{status_of, is_unsaid};
+ghost use Rattle.std.specs.Prelude.{◌≡◌, ◌≢◌, ◌++◌, true, OnOk, OnErr};
+ghost use Rattle.std.specs.Io.KnownBytes.{Appends};
+ghost use Rattle.std.specs.IoError.{error_kind};
+ghost use Rattle.exact_io.specs.Transfers.{AppendsBeginning};
+ghost use Rattle.xdpvm.specs.Statuses.{status_of, is_unsaid, message_of};
+ghost use Rattle.xdpvm.specs.Saying.{AppendsPart};
 
 use super::commands::WordsError;
 use exact_io::write_bytes;
@@ -33,6 +37,10 @@ pub enum Outcome<'a> {
 }
 
 impl From<WordsError> for Outcome<'_> {
+    ghost use Rattle.xdpvm.specs.Statuses.{IsWordsEnd};
+
+    ghost from_gives = { IsWordsEnd };
+
     fn from(error: WordsError) -> Self {
         match error {
             WordsError::Wrong => Outcome::WrongWords,
@@ -43,7 +51,10 @@ impl From<WordsError> for Outcome<'_> {
 
 impl<'a> Outcome<'a> {
     /// A read of the file failed.
-    pub fn of_read(path: &'a str, error: &io::Error) -> Self {
+    pub fn of_read(path: &'a str, error: &io::Error) -> Self
+        ensures memory { error_kind error.now ≡ ErrorKind.OutOfMemory → result ≡ Outcome.NoMemory }
+        ensures file { error_kind error.now ≢ ErrorKind.OutOfMemory → result ≡ Outcome.CannotRead path.entry }
+    {
         match error.kind() {
             ErrorKind::OutOfMemory => Outcome::NoMemory,
             _ => Outcome::CannotRead(path),
@@ -51,7 +62,10 @@ impl<'a> Outcome<'a> {
     }
 
     /// A write to the file failed, or it could not be made.
-    pub fn of_write(path: &'a str, error: &io::Error) -> Self {
+    pub fn of_write(path: &'a str, error: &io::Error) -> Self
+        ensures memory { error_kind error.now ≡ ErrorKind.OutOfMemory → result ≡ Outcome.NoMemory }
+        ensures file { error_kind error.now ≢ ErrorKind.OutOfMemory → result ≡ Outcome.CannotWrite path.entry }
+    {
         match error.kind() {
             ErrorKind::OutOfMemory => Outcome::NoMemory,
             _ => Outcome::CannotWrite(path),
@@ -72,39 +86,49 @@ impl<'a> Outcome<'a> {
         }
     }
 
-    /// Says on standard error what went wrong, and answers the program's status.
-    pub fn tell<W: Write>(self, err: &mut W) -> u8
-        ensures status { result ≡ status_of self.entry }
+    // Says what went wrong.
+    fn say<W: Write>(self, err: &mut W) -> io::Result<()>
+        ensures ok { OnOk result (Appends (W.contents err.old) (W.contents err.new) (message_of self.entry)) }
+        ensures err { OnErr result
+            (AppendsBeginning (W.contents err.old) (W.contents err.new) (message_of self.entry)) }
         ensures unsaid { is_unsaid self.entry ≡ true → W.contents err.new ≡ W.contents err.old }
     {
         match self {
-            Outcome::Done | Outcome::Refused | Outcome::Faulted => {}
-            Outcome::WrongWords => say(err, &[USAGE]),
-            Outcome::NotBuilt(name) => say(err, &[USAGE, "this build has no command ", name, "\n"]),
-            Outcome::CannotRead(path) => say(err, &["cannot read ", path, "\n"]),
-            Outcome::CannotWrite(path) => say(err, &["cannot write ", path, "\n"]),
-            Outcome::CannotReplace(path) => {
-                say(
-                    err,
-                    &[
-                        "cannot write ",
-                        path,
-                        "\nit is one of the files that are read\n",
-                    ],
-                );
+            Outcome::Done | Outcome::Refused | Outcome::Faulted => Ok(()),
+            Outcome::WrongWords => write_bytes(err, USAGE.as_bytes()),
+            Outcome::NotBuilt(name) => {
+                write_bytes(err, USAGE.as_bytes())?;
+                write_texts(err, "this build has no command ", name, "\n")
             }
-            Outcome::NoMemory => say(err, &["out of memory\n"]),
+            Outcome::CannotRead(path) => write_texts(err, "cannot read ", path, "\n"),
+            Outcome::CannotWrite(path) => write_texts(err, "cannot write ", path, "\n"),
+            Outcome::CannotReplace(path) => {
+                let why = "\nit is one of the files that are read\n";
+                write_texts(err, "cannot write ", path, why)
+            }
+            Outcome::NoMemory => write_bytes(err, b"out of memory\n"),
         }
+    }
+
+    /// Says on standard error what went wrong, and answers the program's status. Nothing can be said of a failure of
+    /// standard error.
+    pub fn tell<W: Write>(self, err: &mut W) -> u8
+        ensures status { result ≡ status_of self.entry }
+        ensures said { AppendsPart (W.contents err.old) (W.contents err.new) (message_of self.entry) }
+        ensures unsaid { is_unsaid self.entry ≡ true → W.contents err.new ≡ W.contents err.old }
+    {
+        let _ = self.say(err);
         self.status()
     }
 }
 
-// Writes the parts one after the other, up to the first that fails: nothing can be said of a failure of standard
-// error.
-fn say<W: Write>(err: &mut W, parts: &[&str]) {
-    for part in parts {
-        if write_bytes(err, part.as_bytes()).is_err() {
-            return;
-        }
-    }
+// Writes three texts, one behind another.
+fn write_texts<W: Write>(out: &mut W, front: &str, name: &str, back: &str) -> io::Result<()>
+    ensures ok { OnOk result (Appends (W.contents out.old) (W.contents out.new) (front.now ++ (name.now ++ back.now))) }
+    ensures err { OnErr result
+        (AppendsBeginning (W.contents out.old) (W.contents out.new) (front.now ++ (name.now ++ back.now))) }
+{
+    write_bytes(out, front.as_bytes())?;
+    write_bytes(out, name.as_bytes())?;
+    write_bytes(out, back.as_bytes())
 }
