@@ -4,3 +4,4 @@ pub mod Saying
 pub mod Judging
 pub mod Streams
 pub mod Commands
+pub mod Words

@@ -1,6 +1,7 @@
 //! What the words on the command line ask for.
 
-ghost use Rattle.std.specs.Prelude.{◌≤◌};
+ghost use Rattle.std.specs.Prelude.{◌≡◌, ◌≤◌, None, codes, IfSome, IsSomeAnd};
+ghost use Rattle.xdpvm.specs.Words.{value_of, HasPaths, HasAssembly};
 
 use clap::error::ErrorKind;
 use clap::{Arg, ArgAction, ArgMatches, Command};
@@ -127,7 +128,9 @@ fn limit_of(text: &str) -> Option<StepLimit> {
     }
 }
 
-fn paths_of<'a>(matches: &ArgMatches<'a>) -> Option<Paths<'a>> {
+fn paths_of<'a>(matches: &ArgMatches<'a>) -> Option<Paths<'a>>
+    ensures { IfSome result (HasPaths matches.now) }
+{
     Some(Paths {
         image: matches.get_str("image")?,
         frames: matches.get_str("frames")?,
@@ -135,7 +138,9 @@ fn paths_of<'a>(matches: &ArgMatches<'a>) -> Option<Paths<'a>> {
     })
 }
 
-fn assembly_of<'a>(matches: &ArgMatches<'a>) -> Option<Assembly<'a>> {
+fn assembly_of<'a>(matches: &ArgMatches<'a>) -> Option<Assembly<'a>>
+    ensures { IfSome result (HasAssembly matches.now) }
+{
     Some(Assembly {
         text: matches.get_str("text")?,
         image: matches.get_str("image")?,
@@ -143,7 +148,9 @@ fn assembly_of<'a>(matches: &ArgMatches<'a>) -> Option<Assembly<'a>> {
 }
 
 // The limit that the words give, or the most.
-fn limit_in(matches: &ArgMatches<'_>) -> Option<StepLimit> {
+fn limit_in(matches: &ArgMatches<'_>) -> Option<StepLimit>
+    ensures { value_of matches.now (codes "limit") ≡ None → IsSomeAnd result (λ limit. limit.steps ≡ 1000000) }
+{
     match matches.get_str("limit") {
         None => Some(StepLimit { steps: MAX_STEPS }),
         Some(text) => limit_of(text),

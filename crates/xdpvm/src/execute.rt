@@ -15,6 +15,10 @@ use std::rt::Files;
 /// Does what the words ask for, and answers the program's status: 0 done, 1 words of no command, 2 refused, 3 the
 /// report ended in a fault, 4 a file or output failed, 5 want of memory.
 ///
+/// What standard output gets is what one of the commands writes (`Executes`): the report of some frames by the program
+/// of some image, the verdict on it, its text, or its size; which words ask for which command, and what the files hold,
+/// no contract says.
+///
 /// The first word is the program's name. `out` stands for standard output and `err` for standard error; files are
 /// opened by their paths. Where the words ask for nothing and where memory is wanting, standard output gets no byte;
 /// where all is done, where something is refused and where the report ends in a fault, standard error gets none.

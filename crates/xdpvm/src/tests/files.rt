@@ -93,6 +93,25 @@ fn files_that_are_read_too(rt: HostRuntime) -> Result<(), Fail> {
     remove_files(&rt)
 }
 
+/// A file that is written keeps nothing of what it held.
+#[test]
+fn files_that_are_written_over(rt: HostRuntime) -> Result<(), Fail> {
+    write_files(&rt)?;
+    fs::write(&rt, "text", b"r0 = 2\nexit")?;
+    let before = [7u8; 100];
+    fs::write(&rt, "sent", before.as_slice())?;
+    fs::write(&rt, "made", before.as_slice())?;
+    let words = ["run", "image", "frames", "sent"];
+    answers(&rt, &words, 0, "0 PASS 0 2\nend 1\n", "")?;
+    answers(&rt, &["asm", "text", "made"], 0, "ok maps 0 slots 2\n", "")?;
+    for (written, wanted) in [("sent", "frames"), ("made", "image")] {
+        let written = fs::read(&rt, written)?;
+        let wanted = fs::read(&rt, wanted)?;
+        assert_eq!(rt; written.as_slice(), wanted.as_slice());
+    }
+    remove_files(&rt)
+}
+
 /// The largest image is read whole; of a longer file no more is read than shows that it is too long, and a device that
 /// never ends is refused by its first bytes.
 #[test]
