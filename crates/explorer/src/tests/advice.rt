@@ -2,7 +2,10 @@
 
 use crate::fingerprints::fingerprint_of;
 use crate::index::{Index, Places};
+use crate::table::Table;
 use isa_model::Width;
+use known_bits::Bits;
+use ranges::Range;
 use reg_state::{Domain, Kind, Scalar};
 use stack_state::State;
 use std::test::Fail;
@@ -16,14 +19,21 @@ fn digits(places: Places<'_>) -> usize {
     number
 }
 
-/// The start at a slot, with a kind in r6.
-fn state_at(slot: usize, kind: Kind) -> State {
+/// The start at a slot, with a kind in a register.
+fn state_with(slot: usize, register: usize, kind: Kind) -> State {
     let mut state = State::start();
     state.slot = slot;
     for frame in state.frames.as_mut_slice() {
-        frame.registers[6] = kind;
+        if let Some(place) = frame.registers.get_mut(register) {
+            *place = kind;
+        }
     }
     state
+}
+
+/// The start at a slot, with a kind in r6.
+fn state_at(slot: usize, kind: Kind) -> State {
+    state_with(slot, 6, kind)
 }
 
 fn number(number: u64) -> Kind {
@@ -103,4 +113,58 @@ fn names_of_identities_do_not_count(rt: HostRuntime) {
     let one = fingerprint_of(&state_at(1, value(0, 1)));
     assert_eq!(rt; fingerprint_of(&state_at(1, value(0, 2))), one);
     assert_ne!(rt; fingerprint_of(&state_at(1, value(1, 1))), one);
+}
+
+/// A state whose number is another one in one register alone, in its low or its high half, is not looked at.
+#[test]
+fn each_register_counts(rt: HostRuntime) -> Result<(), Fail> {
+    for register in 0..10usize {
+        for unit in [1u64, 1 << 40] {
+            let mut index = Index::new(rt.alloc(), 2)?;
+            let five = state_with(1, register, number(5 * unit));
+            let six = state_with(1, register, number(6 * unit));
+            index.add(&five)?;
+            index.add(&six)?;
+            let like_six = fingerprint_of(&six);
+            assert_eq!(rt; digits(index.unfinished_like(like_six)), 2, "r{register}");
+            assert_ne!(rt; fingerprint_of(&five), like_six, "r{register}");
+            index.finish(1);
+            index.finish(0);
+            let found = (proposed(&index, &five), proposed(&index, &six));
+            assert_eq!(rt; found, (1, 2), "r{register}");
+        }
+    }
+    Ok(())
+}
+
+/// An equal state is found behind a newer one that differs in its signed limits alone, which have no part in
+/// fingerprints.
+#[test]
+fn each_unfinished_state_is_compared(rt: HostRuntime) -> Result<(), Fail> {
+    let alloc = rt.alloc();
+    let within = |least, greatest| {
+        let range = Range::signed_between(least, greatest);
+        let bits = Bits::any(Width::Full64);
+        state_at(1, Kind::Number(Scalar { bits, range }))
+    };
+    let mut table = Table::new(alloc, 2)?;
+    let mut scratch = State::start();
+    table.store(alloc, &within(-5, 5))?;
+    table.store(alloc, &within(-6, 6))?;
+    assert!(rt; table.repeats(&within(-5, 5), &mut scratch));
+    assert!(rt; table.repeats(&within(-6, 6), &mut scratch));
+    assert!(rt; !table.repeats(&within(-5, 6), &mut scratch));
+    Ok(())
+}
+
+/// Unfinished states of which other bits or other limits are known are not looked at.
+#[test]
+fn bits_and_limits_count(rt: HostRuntime) {
+    let any = Scalar::any(Width::Full64);
+    let bits = Bits::between(0, 1023);
+    let range = Range::between(0, 900);
+    let print = |bits, range| fingerprint_of(&state_at(1, Kind::Number(Scalar { bits, range })));
+    assert_ne!(rt; print(bits, range), print(any.bits, range));
+    assert_ne!(rt; print(bits, range), print(bits, Range::between(0, 901)));
+    assert_ne!(rt; print(bits, range), print(bits, Range::between(1, 900)));
 }
