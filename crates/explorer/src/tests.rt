@@ -123,6 +123,9 @@ fn loops(rt: HostRuntime) -> Result<(), Fail> {
     // r0 = 0; goto -1
     let endless = [0xb700_0000_0000_0000, 0x0500_ffff_0000_0000];
     assert_eq!(rt; verdict(alloc, &endless)?, Err((Repeats, 1)));
+    // the same at the last slot that code can have
+    let far = repeated(alloc, &[], &[TWO], 4095, &[0x0500_ffff_0000_0000])?;
+    assert_eq!(rt; verdict(alloc, &far)?, Err((Repeats, 4095)));
     Ok(())
 }
 
