@@ -1,5 +1,5 @@
 -- Statements with their labels.
-use Rattle.std.specs.Prelude.{ℕ, ◌==◌, Bool, true, false, if◌then◌else◌, List, map, length, slice_get, Option, Some, None, is_ok, Result, Ok, Err}
+use Rattle.std.specs.Prelude.{ℕ, ◌==◌, Bool, false, if◌then◌else◌, List, map, length, slice_get, Option, Some, None, is_ok, Result, Ok}
 use Rattle.lexer.specs.declared.tokens.Sign.TheVariants as sign
 use Rattle.lexer.specs.declared.tokens.Token.{Token}
 use Rattle.lexer.specs.declared.tokens.Token.TheVariants.{Named, Number, Signed}

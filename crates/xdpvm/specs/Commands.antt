@@ -1,8 +1,9 @@
 -- What each command does to standard output, on files of which no contract can say what they give.
-use Rattle.std.specs.Prelude.{◌≡◌, ℕ, ◌≤◌, List, Option, ◌⊎◌}
+use Rattle.std.specs.Prelude.{◌≡◌, ℕ, ◌≤◌, List, Option, Ok, ◌⊎◌}
 use Rattle.isa_model.specs.Instructions.{Program}
 use Rattle.isa_model.specs.CanonicalText.{canonical_text}
 use Rattle.image.specs.Images.{IsImage}
+use Rattle.assembler.specs.Assembling.{assembled}
 use Rattle.explorer.specs.Bounds.{Bounded, IsVerified}
 use Rattle.host.specs.Writing.{Outputs}
 use Rattle.xdpvm.specs.declared.outcomes.Outcome.{Outcome}
@@ -55,9 +56,14 @@ VerifiesFile old new result = LoadsNone old new result ⊎ Loads (λ p. Verifies
 abbrev pub DisassemblesFile : Option (List ℕ) → Option (List ℕ) → Outcome → Type 0
 DisassemblesFile old new result = LoadsNone old new result ⊎ Loads (λ p. Says old new (canonical_text p) Done result)
 
+-- a text was read, and it spells a program
+abbrev pub Spells : List ℕ → (Program → Type 0) → Type 0
+Spells source P = (p : Program) × (assembled source ≡ Ok p) × P p
+
 abbrev pub AssemblesFile : Option (List ℕ) → Option (List ℕ) → Outcome → Type 0
 AssemblesFile old new result =
-    Fails old new result ⊎ (RefusesText old new result ⊎ Loads (λ p. Says old new (size_line p) Done result))
+    Fails old new result
+    ⊎ ((source : List ℕ) × (RefusesText source old new result ⊎ Spells source (λ p. Says old new (size_line p) Done result)))
 
 -- the words ask for nothing
 abbrev pub IsIdle : Outcome → Type 0

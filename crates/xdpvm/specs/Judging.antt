@@ -1,5 +1,5 @@
 -- What is said of images, programs and texts that are judged.
-use Rattle.std.specs.Prelude.{◌≡◌, ◌≢◌, ℕ, false, List, Option, Some, ◌⊎◌}
+use Rattle.std.specs.Prelude.{◌≡◌, ◌≢◌, ℕ, false, List, Option, Some, Err, ◌⊎◌}
 use Rattle.std.specs.Io.KnownBytes.{Appends}
 use Rattle.exact_io.specs.Transfers.{AppendsBeginning}
 use Rattle.isa_model.specs.Instructions.{Program}
@@ -11,6 +11,7 @@ use Rattle.explorer.specs.Bounds.{IsVerified}
 use Rattle.explorer.specs.Refused.{IsRefused}
 use Rattle.assembler.specs.declared.errors.AsmErrorKind.TheVariants as text
 use Rattle.assembler.specs.declared.errors.AsmError.{AsmError}
+use Rattle.assembler.specs.Assembling.{assembled}
 use Rattle.xdpvm.specs.declared.outcomes.Outcome.{Outcome}
 use Rattle.xdpvm.specs.declared.outcomes.Outcome.TheVariants.{Done, Refused, NoMemory}
 use Rattle.xdpvm.specs.Statuses.{IsWriteFailure}
@@ -39,11 +40,12 @@ Accepts p old new result =
 abbrev pub Verifies : Program → Option (List ℕ) → Option (List ℕ) → Outcome → Type 0
 Verifies p old new result = Accepts p old new result ⊎ RefusesProgram p old new result
 
--- a text is refused, and standard output says why and where; or memory ran out
-abbrev pub RefusesText : Option (List ℕ) → Option (List ℕ) → Outcome → Type 0
-RefusesText old new result =
+-- a text spells no program, and standard output says why and where; or memory ran out
+abbrev pub RefusesText : List ℕ → Option (List ℕ) → Option (List ℕ) → Outcome → Type 0
+RefusesText source old new result =
     LacksMemory old new result
-    ⊎ ((error : AsmError) × (error.kind ≢ text.Memory) × Says old new (text_line error) Refused result)
+    ⊎ ((error : AsmError) × (assembled source ≡ Err error) × (error.kind ≢ text.Memory)
+    × Says old new (text_line error) Refused result)
 
 -- the file with this name cannot be written, or memory ran out
 abbrev pub IsStoreFailure : List ℕ → Outcome → Type 0

@@ -1,11 +1,12 @@
 //! What standard output says of an image, a program or a text that was judged.
 
-ghost use Rattle.std.specs.Prelude.{◌≡◌, false, true, IfOk, IfErr, OnOk, MatchResult};
+ghost use Rattle.std.specs.Prelude.{◌≡◌, false, true, Ok, IfOk, IfErr, OnOk, MatchResult};
 ghost use Rattle.std.specs.String.{string_bytes};
 ghost use Rattle.isa_model.specs.Instructions.{Program};
 ghost use Rattle.isa_model.specs.CanonicalText.{canonical_text};
 ghost use Rattle.image.specs.Images.{IsImage, image_bytes};
 ghost use Rattle.explorer.specs.Bounds.{IsVerified};
+ghost use Rattle.assembler.specs.Assembling as spells;
 ghost use Rattle.xdpvm.specs.Statuses.{is_silent};
 ghost use Rattle.xdpvm.specs.Lines.{bound_line, size_line};
 ghost use Rattle.xdpvm.specs.Saying.{Says, LacksMemory};
@@ -127,7 +128,8 @@ pub fn assembled<'a, W: Write>(
 ) -> Result<Image, Outcome<'a>>
     ensures ok { OnOk result (W.contents out.new ≡ W.contents out.old) }
     ensures round_trip { (p : Program) → IsImage p → text.now ≡ canonical_text p → MatchResult result (λ image. image ≡ p) (λ ended. ended ≡ Outcome.NoMemory) }
-    ensures refused { IfErr result (λ ended. RefusesText (W.contents out.old) (W.contents out.new) ended) }
+    ensures found { IfOk result (λ image. spells.assembled text.now ≡ Ok image) }
+    ensures refused { IfErr result (λ ended. RefusesText text.now (W.contents out.old) (W.contents out.new) ended) }
 {
     match assemble(alloc, text) {
         Ok(image) => Ok(image),
