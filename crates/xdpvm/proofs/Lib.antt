@@ -1,3 +1,5 @@
 mod Endings
 mod Loading
 mod Written
+mod Words
+mod Parsed

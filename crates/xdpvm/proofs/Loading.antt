@@ -1,51 +1,74 @@
 -- What is done with an image that was read, of which standard output got nothing.
-use Rattle.std.proofs.Common.{◌≡◌, ℕ, List, Option, Ok, subst, sym, inl, inr, ◌∙◌}
+use Rattle.std.proofs.Common.{◌≡◌, ℕ, List, Option, Some, Ok, Err, refl, subst, sym, inl, inr, ◌⊎◌, ◌∙◌}
 use Rattle.assembler.specs.Assembling.{assembled}
 use Rattle.isa_model.specs.Instructions.{Program}
 use Rattle.image.specs.Images.{IsImage}
 use Rattle.explorer.specs.Bounds.{Bounded, IsVerified}
 use Rattle.xdpvm.specs.declared.outcomes.Outcome.{Outcome}
-use Rattle.xdpvm.specs.declared.outcomes.Outcome.TheVariants.{Done, CannotRead, CannotWrite, CannotReplace, NoMemory}
-use Rattle.xdpvm.specs.Statuses.{IsFailure}
+use Rattle.xdpvm.specs.declared.outcomes.Outcome.TheVariants.{Done}
+use Rattle.xdpvm.specs.Statuses.{IsReadFailure, IsMakeFailure, IsWordsEnd}
+use Rattle.xdpvm.specs.declared.tasks.WordsError.{WordsError}
+use Rattle.xdpvm.specs.declared.tasks.WordsError.TheVariants.{Wrong, Memory}
 use Rattle.xdpvm.specs.Lines.{size_line}
-use Rattle.xdpvm.specs.Saying.{Says}
-use Rattle.xdpvm.specs.Judging.{RefusesProgram, Verifies, IsStoreFailure, Stores}
+use Rattle.xdpvm.specs.Judging.{RefusesProgram, Verifies, Stores}
 use Rattle.xdpvm.specs.Streams.{RunsAccepted}
-use Rattle.xdpvm.specs.Commands.{VerifiesFile, RunsFile, RunsSome, AssemblesFile, Executes}
+use Rattle.xdpvm.specs.Asked.{Reads, Request, RunFiles, asked}
+use Rattle.xdpvm.specs.Commands.{VerifiesFile, RunsFile, RunsSome, OpensNone, AssemblesFile, StoresSome, Executes, Serves}
 
-pub image_verified : (old mid new : Option (List ℕ)) (p : Program) (r : Outcome) → mid ≡ old → IsImage p → Verifies p mid new r → VerifiesFile old new r
-image_verified old mid new p r e h v = inr (p, h, subst (λ (o : Option (List ℕ)). Verifies p o new r) e v)
+-- the streams were not opened
+opens-none : (files : RunFiles) (old new : Option (List ℕ)) (r : Outcome) → new ≡ old → IsReadFailure files.frames r ⊎ IsMakeFailure files.out r → OpensNone files old new r
+opens-none files old new r e (inl h) = inl (h, e)
+opens-none files old new r e (inr h) = inr (h, e)
 
-pub image_refused : (old mid new : Option (List ℕ)) (p : Program) (r : Outcome) → mid ≡ old → IsImage p → RefusesProgram p mid new r → RunsFile old new r
-image_refused old mid new p r e h v = inr (p, h, inl (subst (λ (o : Option (List ℕ)). RefusesProgram p o new r) e v))
+pub image_verified : (path : List ℕ) (old mid new : Option (List ℕ)) (p : Program) (r : Outcome) → mid ≡ old → IsImage p → Verifies p mid new r → VerifiesFile path old new r
+image_verified path old mid new p r e h v = inr (p, h, subst (λ (o : Option (List ℕ)). Verifies p o new r) e v)
 
-pub image_run : (old mid now new before after source : Option (List ℕ)) (v : Bounded) (name : List ℕ) (r : Outcome) → mid ≡ old → now ≡ mid → IsVerified v
-    → RunsAccepted v source name (record { report = now; frames = before }) (record { report = new; frames = after }) r → RunsFile old new r
-image_run old mid now new before after source v name r e f h runs =
-    let some : RunsSome v old new r = record {
+-- ---- runs of accepted programs
+
+pub image_refused : (files : RunFiles) (old mid new : Option (List ℕ)) (p : Program) (r : Outcome) → mid ≡ old → IsImage p → RefusesProgram p mid new r → RunsFile files old new r
+image_refused files old mid new p r e h v = inr (p, h, inl (subst (λ (o : Option (List ℕ)). RefusesProgram p o new r) e v))
+
+pub image_run : (files : RunFiles) (old mid now new before after source : Option (List ℕ)) (v : Bounded) (r : Outcome) → mid ≡ old → now ≡ mid → IsVerified v
+    → RunsAccepted v source files.out (record { report = now; frames = before }) (record { report = new; frames = after }) r → RunsFile files old new r
+image_run files old mid now new before after source v r e f h runs =
+    let some : RunsSome v files.out old new r = record {
       source = source;
-      name = name;
       before = before;
       after = after;
-      runs = subst (λ (o : Option (List ℕ)). RunsAccepted v source name (record { report = o; frames = before }) (record { report = new; frames = after }) r) (f ∙ e) runs;
+      runs = subst (λ (o : Option (List ℕ)). RunsAccepted v source files.out (record { report = o; frames = before }) (record { report = new; frames = after }) r) (f ∙ e) runs;
     } in
-    inr (v.program, h.image, inr (v.bound, h, some))
+    inr (v.program, h.image, inr (v.bound, h, inr some))
 
-store-failure : (name : List ℕ) (r : Outcome) → IsStoreFailure name r → IsFailure r
-store-failure name NoMemory h = tt
-store-failure name (CannotWrite path) h = tt
-store-failure name (CannotRead path) h = tt
-store-failure name (CannotReplace path) h = tt
-store-failure name r (inr h) = absurd h
-store-failure name r (inl e) = subst IsFailure (sym e) tt
+pub run_unopened : (files : RunFiles) (old mid new : Option (List ℕ)) (v : Bounded) (r : Outcome) → mid ≡ old → new ≡ mid → IsVerified v
+    → IsReadFailure files.frames r ⊎ IsMakeFailure files.out r → RunsFile files old new r
+run_unopened files old mid new v r e f h failed =
+    inr (v.program, h.image, inr (v.bound, h, inl (opens-none files old new r (f ∙ e) failed)))
+
+-- ---- texts
 
 -- the image of a text that was read is written, and its size is said
-pub text_stored : (old mid new before after : Option (List ℕ)) (source line name : List ℕ) (p : Program) (r : Outcome) → mid ≡ old → assembled source ≡ Ok p → line ≡ size_line p → Stores p line name before after mid new r → AssemblesFile old new r
-text_stored old mid new before after source line name p r e found same (inl s) =
-    let said : Says mid new (size_line p) Done r = subst (λ (l : List ℕ). Says mid new l Done r) same s.1 in
-    inr (source, inr (p, found, subst (λ (o : Option (List ℕ)). Says o new (size_line p) Done r) e said))
-text_stored old mid new before after source line name p r e found same (inr f) = inl (store-failure name r f.1, f.2 ∙ e)
+pub text_stored : (old mid new before after : Option (List ℕ)) (source line text path : List ℕ) (p : Program) (r : Outcome) → mid ≡ old → assembled source ≡ Ok p → line ≡ size_line p → Stores p line path before after mid new r → AssemblesFile text path old new r
+text_stored old mid new before after source line text path p r e found same s =
+    let some : StoresSome p path old new r = record {
+      before = before;
+      after = after;
+      stores = subst (λ (o : Option (List ℕ)). Stores p (size_line p) path before after o new r) e (subst (λ (l : List ℕ). Stores p l path before after mid new r) same s);
+    } in
+    inr (source, inr (p, found, inr some))
 
--- the same at equal values
-pub Executes-same : (old new now : Option (List ℕ)) (r o : Outcome) → now ≡ new → o ≡ r → Executes old new r → Executes old now o
-Executes-same old new now r o e f h = rw (e, f) h
+pub text_unmade : (old new : Option (List ℕ)) (source text path : List ℕ) (p : Program) (r : Outcome) → new ≡ old → assembled source ≡ Ok p → IsMakeFailure path r → AssemblesFile text path old new r
+text_unmade old new source text path p r e found h = inr (source, inr (p, found, inl (h, e)))
+
+-- ---- the program
+
+-- what is asked for is done
+pub asked-served : (words : List (List ℕ)) (request : Request) (old new now : Option (List ℕ)) (r o : Outcome) → asked words ≡ Some request → now ≡ new → o ≡ r
+    → Serves (Some request) old new r → Executes words old now o
+asked-served words request old new now r o is e f h =
+    inr (subst (λ (x : Option Request). Serves x old now o) (sym is) (rw (e, f) h))
+
+-- words that ask for nothing
+pub unasked : (words : List (List ℕ)) (error : WordsError) (old now : Option (List ℕ)) (r o : Outcome) → Reads words (Err error) → IsWordsEnd error r → now ≡ old → o ≡ r
+    → Executes words old now o
+unasked words Wrong old now r o none is e f = inr (subst (λ (x : Option Request). Serves x old now o) (sym none) (f ∙ is, e))
+unasked words Memory old now r o none is e f = inl (f ∙ is, e)

@@ -1,5 +1,5 @@
--- What each command does to standard output, on files of which no contract can say what they give.
-use Rattle.std.specs.Prelude.{◌≡◌, ℕ, ◌≤◌, List, Option, Ok, ◌⊎◌}
+-- What each command does to standard output, on files of which no contract can say what they hold.
+use Rattle.std.specs.Prelude.{◌≡◌, ℕ, List, Option, Some, None, Ok, ◌⊎◌}
 use Rattle.isa_model.specs.Instructions.{Program}
 use Rattle.isa_model.specs.CanonicalText.{canonical_text}
 use Rattle.image.specs.Images.{IsImage}
@@ -7,76 +7,99 @@ use Rattle.assembler.specs.Assembling.{assembled}
 use Rattle.explorer.specs.Bounds.{Bounded, IsVerified}
 use Rattle.host.specs.Writing.{Outputs}
 use Rattle.xdpvm.specs.declared.outcomes.Outcome.{Outcome}
-use Rattle.xdpvm.specs.declared.outcomes.Outcome.TheVariants.{Done, WrongWords, NotBuilt, NoMemory}
+use Rattle.xdpvm.specs.declared.outcomes.Outcome.TheVariants as outcome
 use Rattle.xdpvm.specs.Lines.{size_line}
-use Rattle.xdpvm.specs.Saying.{Says, Fails}
-use Rattle.xdpvm.specs.Judging.{RefusesImage, RefusesProgram, RefusesText, Verifies}
-use Rattle.xdpvm.specs.Streams.{Traces, RunsAccepted}
+use Rattle.xdpvm.specs.Statuses.{IsMakeFailure, IsNotBuilt, IsReadFailure}
+use Rattle.xdpvm.specs.Saying.{LacksMemory, Says}
+use Rattle.xdpvm.specs.Judging.{RefusesImage, RefusesProgram, RefusesText, Stores, Verifies}
+use Rattle.xdpvm.specs.Streams.{RunsAccepted, Traces}
+use Rattle.xdpvm.specs.Asked.{Request, RunFiles, asked, Trace, Run, Verify, Assemble, Disassemble, NotBuilt}
 
--- a file failed, or the bytes of the image's file are refused
-abbrev pub LoadsNone : Option (List ℕ) → Option (List ℕ) → Outcome → Type 0
-LoadsNone old new result = Fails old new result ⊎ ((bytes : List ℕ) × RefusesImage bytes old new result)
+-- ---- files
 
--- a run over some source, the frames out going to some file
-pub record TracesSome (p : Program) (limit : ℕ) (old new : Option (List ℕ)) (result : Outcome) : Type 0 where
-  pub source : Option (List ℕ)
-  pub name : List ℕ
-  pub before : Option (List ℕ)
-  pub after : Option (List ℕ)
-  pub traces : Traces p limit source name (record { report = old; frames = before }) (record { report = new; frames = after }) result
+-- the file at the path could not be read, or memory ran out, and standard output got nothing
+abbrev pub ReadsNone : List ℕ → Option (List ℕ) → Option (List ℕ) → Outcome → Type 0
+ReadsNone path old new result = IsReadFailure path result × (new ≡ old)
 
-pub record RunsSome (v : Bounded) (old new : Option (List ℕ)) (result : Outcome) : Type 0 where
-  pub source : Option (List ℕ)
-  pub name : List ℕ
-  pub before : Option (List ℕ)
-  pub after : Option (List ℕ)
-  pub runs : RunsAccepted v source name (record { report = old; frames = before }) (record { report = new; frames = after }) result
+-- the file at the path could not be made, or memory ran out, and standard output got nothing
+abbrev pub MakesNone : List ℕ → Option (List ℕ) → Option (List ℕ) → Outcome → Type 0
+MakesNone path old new result = IsMakeFailure path result × (new ≡ old)
+
+-- the image could not be read, or its bytes are refused
+abbrev pub LoadsNone : List ℕ → Option (List ℕ) → Option (List ℕ) → Outcome → Type 0
+LoadsNone path old new result = ReadsNone path old new result ⊎ ((bytes : List ℕ) × RefusesImage bytes old new result)
 
 -- an image was read, and P holds of its program
 abbrev pub Loads : (Program → Type 0) → Type 0
 Loads P = (p : Program) × IsImage p × P p
 
+-- the frames could not be opened, or the frames out not be made
+abbrev pub OpensNone : RunFiles → Option (List ℕ) → Option (List ℕ) → Outcome → Type 0
+OpensNone files old new result = ReadsNone files.frames old new result ⊎ MakesNone files.out old new result
+
+-- a run over some source, the frames out going to the file at the path
+pub record TracesSome (p : Program) (limit : ℕ) (out : List ℕ) (old new : Option (List ℕ)) (result : Outcome) : Type 0 where
+  pub source : Option (List ℕ)
+  pub before : Option (List ℕ)
+  pub after : Option (List ℕ)
+  pub traces : Traces p limit source out (record { report = old; frames = before }) (record { report = new; frames = after }) result
+
+pub record RunsSome (v : Bounded) (out : List ℕ) (old new : Option (List ℕ)) (result : Outcome) : Type 0 where
+  pub source : Option (List ℕ)
+  pub before : Option (List ℕ)
+  pub after : Option (List ℕ)
+  pub runs : RunsAccepted v source out (record { report = old; frames = before }) (record { report = new; frames = after }) result
+
+-- the image of a program was written to the file at the path, and its size was said
+pub record StoresSome (p : Program) (path : List ℕ) (old new : Option (List ℕ)) (result : Outcome) : Type 0 where
+  pub before : Option (List ℕ)
+  pub after : Option (List ℕ)
+  pub stores : Stores p (size_line p) path before after old new result
+
 -- ---- the commands
 
-abbrev pub TracesFile : ℕ → Option (List ℕ) → Option (List ℕ) → Outcome → Type 0
-TracesFile limit old new result = LoadsNone old new result ⊎ Loads (λ p. TracesSome p limit old new result)
+abbrev pub TracesFile : RunFiles → ℕ → Option (List ℕ) → Option (List ℕ) → Outcome → Type 0
+TracesFile files limit old new result =
+    LoadsNone files.image old new result ⊎ Loads (λ p. OpensNone files old new result ⊎ TracesSome p limit files.out old new result)
 
 -- a program is accepted, with some bound, and run
-abbrev pub AcceptsAndRuns : Program → Option (List ℕ) → Option (List ℕ) → Outcome → Type 0
-AcceptsAndRuns p old new result =
-    (bound : ℕ) × IsVerified (record { program = p; bound = bound }) × RunsSome (record { program = p; bound = bound }) old new result
+abbrev pub AcceptsAndRuns : RunFiles → Program → Option (List ℕ) → Option (List ℕ) → Outcome → Type 0
+AcceptsAndRuns files p old new result =
+    (bound : ℕ) × IsVerified (record { program = p; bound = bound })
+    × (OpensNone files old new result ⊎ RunsSome (record { program = p; bound = bound }) files.out old new result)
 
-abbrev pub RunsFile : Option (List ℕ) → Option (List ℕ) → Outcome → Type 0
-RunsFile old new result =
-    LoadsNone old new result ⊎ Loads (λ p. RefusesProgram p old new result ⊎ AcceptsAndRuns p old new result)
+abbrev pub RunsFile : RunFiles → Option (List ℕ) → Option (List ℕ) → Outcome → Type 0
+RunsFile files old new result =
+    LoadsNone files.image old new result ⊎ Loads (λ p. RefusesProgram p old new result ⊎ AcceptsAndRuns files p old new result)
 
-abbrev pub VerifiesFile : Option (List ℕ) → Option (List ℕ) → Outcome → Type 0
-VerifiesFile old new result = LoadsNone old new result ⊎ Loads (λ p. Verifies p old new result)
+abbrev pub VerifiesFile : List ℕ → Option (List ℕ) → Option (List ℕ) → Outcome → Type 0
+VerifiesFile path old new result = LoadsNone path old new result ⊎ Loads (λ p. Verifies p old new result)
 
-abbrev pub DisassemblesFile : Option (List ℕ) → Option (List ℕ) → Outcome → Type 0
-DisassemblesFile old new result = LoadsNone old new result ⊎ Loads (λ p. Says old new (canonical_text p) Done result)
+abbrev pub DisassemblesFile : List ℕ → Option (List ℕ) → Option (List ℕ) → Outcome → Type 0
+DisassemblesFile path old new result = LoadsNone path old new result ⊎ Loads (λ p. Says old new (canonical_text p) outcome.Done result)
 
--- a text was read, and it spells a program
+-- a text was read, and it spells a program, of which P holds
 abbrev pub Spells : List ℕ → (Program → Type 0) → Type 0
 Spells source P = (p : Program) × (assembled source ≡ Ok p) × P p
 
-abbrev pub AssemblesFile : Option (List ℕ) → Option (List ℕ) → Outcome → Type 0
-AssemblesFile old new result =
-    Fails old new result
-    ⊎ ((source : List ℕ) × (RefusesText source old new result ⊎ Spells source (λ p. Says old new (size_line p) Done result)))
+abbrev pub AssemblesFile : List ℕ → List ℕ → Option (List ℕ) → Option (List ℕ) → Outcome → Type 0
+AssemblesFile text image old new result =
+    ReadsNone text old new result
+    ⊎ ((source : List ℕ) × (RefusesText source old new result
+    ⊎ Spells source (λ p. MakesNone image old new result ⊎ StoresSome p image old new result)))
 
--- the words ask for nothing
-abbrev pub IsIdle : Outcome → Type 0
-IsIdle WrongWords = Unit {0}
-IsIdle (NotBuilt name) = Unit {0}
-IsIdle NoMemory = Unit {0}
-IsIdle other = ⊥
+-- ---- the program
 
--- what the program does to standard output: what one of the commands does, or nothing
-pub data Executes (old new : Option (List ℕ)) (result : Outcome) : Type 0 where
-  Idle : IsIdle result → new ≡ old → Executes old new result
-  ByTrace : (limit : ℕ) → 1 ≤ limit → limit ≤ 1000000 → TracesFile limit old new result → Executes old new result
-  ByRun : RunsFile old new result → Executes old new result
-  ByVerify : VerifiesFile old new result → Executes old new result
-  ByAsm : AssemblesFile old new result → Executes old new result
-  ByDis : DisassemblesFile old new result → Executes old new result
+-- what is done where this is asked for
+abbrev pub Serves : Option Request → Option (List ℕ) → Option (List ℕ) → Outcome → Type 0
+Serves None old new result = (result ≡ outcome.WrongWords) × (new ≡ old)
+Serves (Some (Trace files limit)) old new result = TracesFile files limit old new result
+Serves (Some (Run files)) old new result = RunsFile files old new result
+Serves (Some (Verify path)) old new result = VerifiesFile path old new result
+Serves (Some (Assemble text image)) old new result = AssemblesFile text image old new result
+Serves (Some (Disassemble path)) old new result = DisassemblesFile path old new result
+Serves (Some (NotBuilt name)) old new result = IsNotBuilt name result × (new ≡ old)
+
+-- the program does what the words ask for; or memory ran out before that was known
+abbrev pub Executes : List (List ℕ) → Option (List ℕ) → Option (List ℕ) → Outcome → Type 0
+Executes words old new result = LacksMemory old new result ⊎ Serves (asked words) old new result

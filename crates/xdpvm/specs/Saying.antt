@@ -4,7 +4,7 @@ use Rattle.std.specs.Io.KnownBytes.{Appends}
 use Rattle.exact_io.specs.Transfers.{AppendsBeginning}
 use Rattle.xdpvm.specs.declared.outcomes.Outcome.{Outcome}
 use Rattle.xdpvm.specs.declared.outcomes.Outcome.TheVariants.{NoMemory}
-use Rattle.xdpvm.specs.Statuses.{IsOutputFailure, IsFailure}
+use Rattle.xdpvm.specs.Statuses.{IsOutputFailure}
 
 -- an output got all of a text, or a beginning that is shorter
 abbrev pub AppendsPart : Option (List ℕ) → Option (List ℕ) → List ℕ → Type 0
@@ -18,7 +18,3 @@ Says old new text ended result =
 -- memory ran out, and standard output got nothing
 abbrev pub LacksMemory : Option (List ℕ) → Option (List ℕ) → Outcome → Type 0
 LacksMemory old new result = (result ≡ NoMemory) × (new ≡ old)
-
--- a file failed, or memory ran out, and standard output got nothing
-abbrev pub Fails : Option (List ℕ) → Option (List ℕ) → Outcome → Type 0
-Fails old new result = IsFailure result × (new ≡ old)

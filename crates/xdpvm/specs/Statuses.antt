@@ -1,7 +1,7 @@
 -- How the program ends, and what the outputs have got by then.
 use Rattle.std.specs.Prelude.{◌≡◌, ℕ, Bool, true, false, List, [], ◌++◌, codes}
-use Rattle.xdpvm.specs.declared.commands.WordsError.{WordsError}
-use Rattle.xdpvm.specs.declared.commands.WordsError.TheVariants.{Wrong, Memory}
+use Rattle.xdpvm.specs.declared.tasks.WordsError.{WordsError}
+use Rattle.xdpvm.specs.declared.tasks.WordsError.TheVariants.{Wrong, Memory}
 use Rattle.xdpvm.specs.declared.outcomes.Outcome.{Outcome}
 use Rattle.xdpvm.specs.declared.outcomes.Outcome.TheVariants.{Done, WrongWords, NotBuilt, Refused, Faulted, CannotRead, CannotWrite, CannotReplace, NoMemory}
 
@@ -77,14 +77,38 @@ IsWriteFailure name NoMemory = ⊥
 abbrev pub IsOutputFailure : Outcome → Type 0
 IsOutputFailure outcome = IsWriteFailure (codes "standard output") outcome
 
--- a file cannot be read or written, or memory ran out
-abbrev pub IsFailure : Outcome → Type 0
-IsFailure Done = ⊥
-IsFailure WrongWords = ⊥
-IsFailure (NotBuilt command) = ⊥
-IsFailure Refused = ⊥
-IsFailure Faulted = ⊥
-IsFailure (CannotRead path) = Unit {0}
-IsFailure (CannotWrite path) = Unit {0}
-IsFailure (CannotReplace path) = Unit {0}
-IsFailure NoMemory = Unit {0}
+-- the file at the path cannot be read, or memory ran out
+abbrev pub IsReadFailure : List ℕ → Outcome → Type 0
+IsReadFailure path Done = ⊥
+IsReadFailure path WrongWords = ⊥
+IsReadFailure path (NotBuilt command) = ⊥
+IsReadFailure path Refused = ⊥
+IsReadFailure path Faulted = ⊥
+IsReadFailure path (CannotRead file) = file.now ≡ path
+IsReadFailure path (CannotWrite file) = ⊥
+IsReadFailure path (CannotReplace file) = ⊥
+IsReadFailure path NoMemory = Unit {0}
+
+-- the file at the path cannot be made, or is not to be written over, or memory ran out
+abbrev pub IsMakeFailure : List ℕ → Outcome → Type 0
+IsMakeFailure path Done = ⊥
+IsMakeFailure path WrongWords = ⊥
+IsMakeFailure path (NotBuilt command) = ⊥
+IsMakeFailure path Refused = ⊥
+IsMakeFailure path Faulted = ⊥
+IsMakeFailure path (CannotRead file) = ⊥
+IsMakeFailure path (CannotWrite file) = file.now ≡ path
+IsMakeFailure path (CannotReplace file) = file.now ≡ path
+IsMakeFailure path NoMemory = Unit {0}
+
+-- the command of this name is not built
+abbrev pub IsNotBuilt : List ℕ → Outcome → Type 0
+IsNotBuilt name Done = ⊥
+IsNotBuilt name WrongWords = ⊥
+IsNotBuilt name (NotBuilt command) = command.now ≡ name
+IsNotBuilt name Refused = ⊥
+IsNotBuilt name Faulted = ⊥
+IsNotBuilt name (CannotRead file) = ⊥
+IsNotBuilt name (CannotWrite file) = ⊥
+IsNotBuilt name (CannotReplace file) = ⊥
+IsNotBuilt name NoMemory = ⊥

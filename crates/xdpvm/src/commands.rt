@@ -1,125 +1,33 @@
 //! What the words on the command line ask for.
 
-ghost use Rattle.std.specs.Prelude.{◌≡◌, ◌≤◌, None, codes, IfSome, IsSomeAnd};
-ghost use Rattle.xdpvm.specs.Words.{value_of, HasPaths, HasAssembly};
+ghost use Rattle.std.specs.Prelude.{◌≡◌, map, option_map};
+ghost use Rattle.std.specs.List.{list_all};
+ghost use Rattle.std.specs.Char.{is_ascii_digit};
+ghost use Rattle.std.specs.String.{string_bytes};
+ghost use Rattle.clap.specs.Words.{first_of, found_of, kind_of, rows_of};
+ghost use Rattle.xdpvm.specs.Asked.{Reads, assembly_of, files_in, files_of, limit_in, limit_of, request_by, request_of, trace_of};
 
+use super::command_line::program;
+use super::tasks::{Assembly, Paths, StepLimit, Task, WordsError};
+use clap::ArgMatches;
 use clap::error::ErrorKind;
-use clap::{Arg, ArgAction, ArgMatches, Command};
-use std::alloc::{AllocError, Global};
+use std::alloc::Global;
 use std::env::Env;
 use std::io;
 
-/// What is to be done, and on which files.
-#[derive(Clone, Copy)]
-pub enum Task<'a> {
-    /// Run a program with checks.
-    Trace(Paths<'a>, StepLimit),
-    /// Verify a program and run it.
-    Run(Paths<'a>),
-    /// Verify a program.
-    Verify(&'a str),
-    /// Make an image of the text in a file.
-    Assemble(Assembly<'a>),
-    /// Write the text of the image in a file.
-    Disassemble(&'a str),
-    /// A command of this program that this build does not have.
-    NotBuilt(&'static str),
-}
-
-/// The most steps of a run on one frame: from 1 to 1,000,000.
-#[derive(Clone, Copy)]
-pub struct StepLimit {
-    pub steps: u32,
-    ghost some: { 1 ≤ steps },
-    ghost most: { steps ≤ 1000000 },
-}
-
-/// The files of a run: the image and the frames that are read, and the frames out.
-#[derive(Clone, Copy)]
-pub struct Paths<'a> {
-    pub image: &'a str,
-    pub frames: &'a str,
-    pub out: &'a str,
-}
-
-/// The files of an assembly: the text, and the image that is made.
-#[derive(Clone, Copy)]
-pub struct Assembly<'a> {
-    pub text: &'a str,
-    pub image: &'a str,
-}
-
-/// Why the words ask for nothing.
-#[derive(Clone, Copy)]
-pub enum WordsError {
-    /// They are words of no command, or no text, or they ask for help or the version.
-    Wrong,
-    Memory,
-}
-
-impl From<AllocError> for WordsError {
-    ghost use Rattle.std.specs.Prelude.{◌≡◌};
-    ghost use Rattle.xdpvm.specs.declared.commands.WordsError.TheVariants.{Memory};
-
-    ghost from_gives = { λ _ e. e ≡ Memory };
-
-    fn from(_error: AllocError) -> WordsError {
-        WordsError::Memory
-    }
-}
-
 const MAX_STEPS: u32 = 1_000_000;
 
-// The commands and their arguments, all of which they want.
-static COMMANDS: [(&str, &[&str]); 7] = [
-    ("asm", &["text", "image"]),
-    ("dis", &["image"]),
-    ("verify", &["image"]),
-    ("run", &["image", "frames", "out"]),
-    ("trace", &["image", "frames", "out"]),
-    ("prove", &["image", "table"]),
-    ("recheck", &["image", "table"]),
-];
-
-// A command with these arguments.
-fn command<'a>(
-    alloc: Global,
-    name: &'static str,
-    arguments: &'static [&'static str],
-) -> Result<Command<'a>, AllocError> {
-    let mut command = Command::new(alloc, name);
-    for argument in arguments {
-        command = command.arg(
-            Arg::new(alloc, *argument)
-                .required(true)
-                .action(ArgAction::Set),
-        )?;
-    }
-    Ok(command)
-}
-
-fn with_limit<'a>(alloc: Global, command: Command<'a>) -> Result<Command<'a>, AllocError> {
-    let limit = Arg::new(alloc, "limit")
-        .long("limit")
-        .action(ArgAction::Set);
-    command.arg(limit)
-}
-
-fn program<'a>(alloc: Global) -> Result<Command<'a>, AllocError> {
-    let mut program = Command::new(alloc, "xdpvm").subcommand_required(true);
-    for (name, arguments) in &COMMANDS {
-        let mut subcommand = command(alloc, *name, *arguments)?;
-        if *name == "trace" {
-            subcommand = with_limit(alloc, subcommand)?;
-        }
-        program = program.subcommand(subcommand)?;
-    }
-    Ok(program)
+fn has_digits_alone(text: &[u8]) -> bool
+    ensures { result ≡ list_all is_ascii_digit text.now }
+{
+    text.iter().all(|b| b.is_ascii_digit())
 }
 
 // A limit: decimal digits, from 1 to 1,000,000.
-fn limit_of(text: &str) -> Option<StepLimit> {
-    if text.is_empty() || !text.bytes().all(|b| b.is_ascii_digit()) {
+fn limit_of(text: &str) -> Option<StepLimit>
+    ensures { option_map (λ limit. limit.steps) result ≡ limit_of text.now }
+{
+    if text.is_empty() || !has_digits_alone(text.as_bytes()) {
         return None;
     }
     match text.parse::<u32>() {
@@ -128,53 +36,61 @@ fn limit_of(text: &str) -> Option<StepLimit> {
     }
 }
 
-fn paths_of<'a>(matches: &ArgMatches<'a>) -> Option<Paths<'a>>
-    ensures { IfSome result (HasPaths matches.now) }
+// The value of an argument.
+fn value_in<'a>(matches: &ArgMatches<'a>, name: &str) -> Option<&'a str>
+    ensures { option_map (λ value. value.now) result ≡ first_of name.now (rows_of (found_of matches.now)) }
 {
-    Some(Paths {
-        image: matches.get_str("image")?,
-        frames: matches.get_str("frames")?,
-        out: matches.get_str("out")?,
-    })
+    matches.get_str(name)
 }
 
-fn assembly_of<'a>(matches: &ArgMatches<'a>) -> Option<Assembly<'a>>
-    ensures { IfSome result (HasAssembly matches.now) }
+fn paths_in<'a>(matches: &ArgMatches<'a>) -> Option<Paths<'a>>
+    ensures { option_map files_of result ≡ files_in (rows_of (found_of matches.now)) }
 {
-    Some(Assembly {
-        text: matches.get_str("text")?,
-        image: matches.get_str("image")?,
+    Some(Paths {
+        image: value_in(matches, "image")?,
+        frames: value_in(matches, "frames")?,
+        out: value_in(matches, "out")?,
     })
 }
 
 // The limit that the words give, or the most.
 fn limit_in(matches: &ArgMatches<'_>) -> Option<StepLimit>
-    ensures { value_of matches.now (codes "limit") ≡ None → IsSomeAnd result (λ limit. limit.steps ≡ 1000000) }
+    ensures { option_map (λ limit. limit.steps) result ≡ limit_in (rows_of (found_of matches.now)) }
 {
-    match matches.get_str("limit") {
+    match value_in(matches, "limit") {
         None => Some(StepLimit { steps: MAX_STEPS }),
         Some(text) => limit_of(text),
     }
 }
 
-// A command that this build does not have.
-fn not_built<'a>(name: &str) -> Option<Task<'a>> {
-    for (known, _) in &COMMANDS {
-        if *known == name {
-            return Some(Task::NotBuilt(*known));
-        }
-    }
-    None
+fn trace_in<'a>(matches: &ArgMatches<'a>) -> Option<Task<'a>>
+    ensures { option_map request_of result ≡ trace_of (rows_of (found_of matches.now)) }
+{
+    Some(Task::Trace(paths_in(matches)?, limit_in(matches)?))
 }
 
-fn task_of<'a>(name: &str, matches: &ArgMatches<'a>) -> Option<Task<'a>> {
+fn assembly_in<'a>(matches: &ArgMatches<'a>) -> Option<Task<'a>>
+    ensures { option_map request_of result ≡ assembly_of (rows_of (found_of matches.now)) }
+{
+    Some(Task::Assemble(Assembly {
+        text: value_in(matches, "text")?,
+        image: value_in(matches, "image")?,
+    }))
+}
+
+// What the command of this name asks for with these arguments.
+fn task_of<'a>(name: &str, matches: &ArgMatches<'a>) -> Option<Task<'a>>
+    ensures { option_map request_of result ≡ request_by name.now (rows_of (found_of matches.now)) }
+{
     match name {
-        "run" => Some(Task::Run(paths_of(matches)?)),
-        "verify" => Some(Task::Verify(matches.get_str("image")?)),
-        "trace" => Some(Task::Trace(paths_of(matches)?, limit_in(matches)?)),
-        "asm" => Some(Task::Assemble(assembly_of(matches)?)),
-        "dis" => Some(Task::Disassemble(matches.get_str("image")?)),
-        _ => not_built(name),
+        "run" => Some(Task::Run(paths_in(matches)?)),
+        "verify" => Some(Task::Verify(value_in(matches, "image")?)),
+        "trace" => trace_in(matches),
+        "asm" => assembly_in(matches),
+        "dis" => Some(Task::Disassemble(value_in(matches, "image")?)),
+        "prove" => Some(Task::NotBuilt("prove")),
+        "recheck" => Some(Task::NotBuilt("recheck")),
+        _ => None,
     }
 }
 
@@ -189,16 +105,23 @@ pub fn given_words<R: Env + AllocGlobal>(rt: &R) -> Result<Vec<String>, WordsErr
     }
 }
 
+// Why a command line was refused.
+fn refusal_of(error: &clap::Error) -> WordsError
+    ensures { kind_of error.now ≡ ErrorKind.OutOfMemory → result ≡ WordsError.Memory }
+{
+    match error.kind() {
+        ErrorKind::OutOfMemory => WordsError::Memory,
+        _ => WordsError::Wrong,
+    }
+}
+
 /// What the words ask for. The first one is the program's name.
-pub fn read_words<'a>(alloc: Global, words: &'a [String]) -> Result<Task<'a>, WordsError> {
+pub fn read_words<'a>(alloc: Global, words: &'a [String]) -> Result<Task<'a>, WordsError>
+    ensures { Reads (map string_bytes words.now) result }
+{
     let matches = match program(alloc)?.try_get_matches_from(words) {
         Ok(matches) => matches,
-        Err(error) => {
-            return Err(match error.kind() {
-                ErrorKind::OutOfMemory => WordsError::Memory,
-                _ => WordsError::Wrong,
-            });
-        }
+        Err(error) => return Err(refusal_of(&error)),
     };
     match matches.subcommand() {
         Some((name, given)) => task_of(name, given).ok_or(WordsError::Wrong),

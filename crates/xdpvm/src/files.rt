@@ -1,13 +1,14 @@
 //! The files that the commands read and write.
 
-ghost use Rattle.std.specs.Prelude.{◌≡◌, OnOk, IfOk, IfErr};
+ghost use Rattle.std.specs.Prelude.{◌≡◌, ◌⊎◌, OnOk, IfOk, IfErr};
 ghost use Rattle.image.specs.Images.{IsImage};
-ghost use Rattle.xdpvm.specs.Statuses.{IsFailure};
+ghost use Rattle.xdpvm.specs.Statuses.{IsReadFailure, IsMakeFailure};
+ghost use Rattle.xdpvm.specs.Asked.{files_of};
 ghost use Rattle.xdpvm.specs.Commands.{LoadsNone, TracesFile, RunsFile, VerifiesFile, DisassemblesFile, AssemblesFile};
 
-use super::commands::{Assembly, Paths, StepLimit};
 use super::outcomes::Outcome;
 use super::streams::{run_stream, store_image, trace_stream};
+use super::tasks::{Assembly, Paths, StepLimit};
 use super::verdicts::{assembled, image_of, judge, say_text, say_verdict, size_line};
 use image::Image;
 use std::alloc::Global;
@@ -40,7 +41,7 @@ fn is_same_file<R: Files>(rt: &R, one: &str, other: &str) -> bool {
 
 // Makes a file to write to, unless it is one of those that are read.
 fn create_file<'a, R: Files>(rt: &R, path: &'a str, read: &[&str]) -> Result<R::File, Outcome<'a>>
-    ensures { IfErr result IsFailure }
+    ensures { IfErr result (IsMakeFailure path.now) }
 {
     for other in read {
         if is_same_file(rt, path, *other) {
@@ -62,7 +63,7 @@ fn load_image<'a, R: Files, W: Write>(
 ) -> Result<Image, Outcome<'a>>
     ensures ok { OnOk result (W.contents out.new ≡ W.contents out.old) }
     ensures fits { IfOk result IsImage }
-    ensures none { IfErr result (λ ended. LoadsNone (W.contents out.old) (W.contents out.new) ended) }
+    ensures none { IfErr result (λ ended. LoadsNone path.now (W.contents out.old) (W.contents out.new) ended) }
 {
     let bytes = match read_file(rt, alloc, path, PAST_ANY_IMAGE) {
         Ok(bytes) => bytes,
@@ -73,7 +74,7 @@ fn load_image<'a, R: Files, W: Write>(
 
 // Opens the frames, and then the frames out.
 fn open_streams<'a, R: Files>(rt: &R, paths: Paths<'a>) -> Result<(R::File, R::File), Outcome<'a>>
-    ensures { IfErr result IsFailure }
+    ensures { IfErr result (λ ended. IsReadFailure paths.entry.frames.now ended ⊎ IsMakeFailure paths.entry.out.now ended) }
 {
     let source = match fs::open(rt, paths.frames) {
         Ok(source) => source,
@@ -92,7 +93,7 @@ pub fn trace<'a, R: Files, W: Write>(
     limit: StepLimit,
     out: &mut W,
 ) -> Outcome<'a>
-    ensures { TracesFile limit.steps (W.contents out.old) (W.contents out.new) result }
+    ensures { TracesFile (files_of paths.entry) limit.steps (W.contents out.old) (W.contents out.new) result }
 {
     let image = match load_image(rt, alloc, paths.image, out) {
         Ok(image) => image,
@@ -114,7 +115,7 @@ pub fn run_verified<'a, R: Files, W: Write>(
     paths: Paths<'a>,
     out: &mut W,
 ) -> Outcome<'a>
-    ensures { RunsFile (W.contents out.old) (W.contents out.new) result }
+    ensures { RunsFile (files_of paths.entry) (W.contents out.old) (W.contents out.new) result }
 {
     let image = match load_image(rt, alloc, paths.image, out) {
         Ok(image) => image,
@@ -137,7 +138,7 @@ pub fn verify_file<'a, R: Files, W: Write>(
     path: &'a str,
     out: &mut W,
 ) -> Outcome<'a>
-    ensures { VerifiesFile (W.contents out.old) (W.contents out.new) result }
+    ensures { VerifiesFile path.now (W.contents out.old) (W.contents out.new) result }
 {
     let image = match load_image(rt, alloc, path, out) {
         Ok(image) => image,
@@ -153,7 +154,7 @@ pub fn disassemble_file<'a, R: Files, W: Write>(
     path: &'a str,
     out: &mut W,
 ) -> Outcome<'a>
-    ensures { DisassemblesFile (W.contents out.old) (W.contents out.new) result }
+    ensures { DisassemblesFile path.now (W.contents out.old) (W.contents out.new) result }
 {
     let image = match load_image(rt, alloc, path, out) {
         Ok(image) => image,
@@ -170,7 +171,7 @@ pub fn assemble_file<'a, R: Files, W: Write>(
     paths: Assembly<'a>,
     out: &mut W,
 ) -> Outcome<'a>
-    ensures { AssemblesFile (W.contents out.old) (W.contents out.new) result }
+    ensures { AssemblesFile paths.entry.text.now paths.entry.image.now (W.contents out.old) (W.contents out.new) result }
 {
     let text = match read_file(rt, alloc, paths.text, u64::MAX) {
         Ok(text) => text,

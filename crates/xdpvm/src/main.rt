@@ -3,12 +3,14 @@
 //! The program calls one function, `execute`, which says what is done by each command and with which status.
 #![tactic(auto)]
 
+mod command_line;
 mod commands;
 mod execute;
 mod files;
 mod names;
 mod outcomes;
 mod streams;
+mod tasks;
 mod verdicts;
 
 use commands::given_words;

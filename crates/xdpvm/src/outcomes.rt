@@ -7,7 +7,7 @@ ghost use Rattle.exact_io.specs.Transfers.{AppendsBeginning};
 ghost use Rattle.xdpvm.specs.Statuses.{status_of, is_unsaid, message_of};
 ghost use Rattle.xdpvm.specs.Saying.{AppendsPart};
 
-use super::commands::WordsError;
+use super::tasks::WordsError;
 use exact_io::write_bytes;
 use std::io;
 use std::io::{ErrorKind, Write};

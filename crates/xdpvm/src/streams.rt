@@ -3,8 +3,8 @@
 ghost use Rattle.xdpvm.specs.Judging.{Stores};
 ghost use Rattle.xdpvm.specs.Streams.{EndsBy, Traces, RunsAccepted};
 
-use super::commands::StepLimit;
 use super::outcomes::{Outcome, STANDARD_OUTPUT};
+use super::tasks::StepLimit;
 use super::verdicts::say_line;
 use explorer::Verified;
 use host::{HostError, Tally, run, run_checked};

@@ -1,0 +1,53 @@
+-- The command line of the program, in clap's terms.
+use Rattle.std.specs.Prelude.{ℕ, true, List, [], ◌∷◌, Some, codes, fold}
+use Rattle.clap.specs.Walk.{Rule}
+use Rattle.clap.specs.Simple.{App, new_app, new_rule, on_top, with_rule, with_subcommand}
+use Rattle.clap.specs.declared.builder.action.ArgAction.TheVariants.{Set}
+
+-- an argument that is wanted, and takes one value
+abbrev pub wanted : List ℕ → Rule
+wanted name = record (new_rule name) { required = true; action = Some Set }
+
+-- --limit, which takes one value and may be left out
+abbrev pub limit : Rule
+limit = record (new_rule (codes "limit")) { long = Some (codes "limit"); action = Some Set }
+
+-- a command with one wanted argument more
+abbrev pub with_wanted : App → List ℕ → App
+with_wanted command name = with_rule command (wanted name)
+
+-- the command of this name that wants these arguments
+abbrev pub command : List ℕ → List (List ℕ) → App
+command name arguments = fold with_wanted (new_app name) arguments
+
+unfoldable pub asm : App
+asm = command (codes "asm") (codes "text" ∷ codes "image" ∷ [])
+
+unfoldable pub dis : App
+dis = command (codes "dis") (codes "image" ∷ [])
+
+unfoldable pub verify : App
+verify = command (codes "verify") (codes "image" ∷ [])
+
+unfoldable pub run : App
+run = command (codes "run") (codes "image" ∷ codes "frames" ∷ codes "out" ∷ [])
+
+unfoldable pub trace : App
+trace = with_rule (command (codes "trace") (codes "image" ∷ codes "frames" ∷ codes "out" ∷ [])) limit
+
+unfoldable pub prove : App
+prove = command (codes "prove") (codes "image" ∷ codes "table" ∷ [])
+
+unfoldable pub recheck : App
+recheck = command (codes "recheck") (codes "image" ∷ codes "table" ∷ [])
+
+-- a program with one command more
+abbrev pub with_command : App → App → App
+with_command program command = with_subcommand program command.top
+
+-- the program wants one of its commands
+abbrev pub empty_program : App
+empty_program = on_top (λ s. record s { subcommand_required = true }) (new_app (codes "xdpvm"))
+
+unfoldable pub program : App
+program = fold with_command empty_program (asm ∷ dis ∷ verify ∷ run ∷ trace ∷ prove ∷ recheck ∷ [])
