@@ -1,11 +1,10 @@
 -- What is done with an image that was read, of which standard output got nothing.
-use Rattle.std.proofs.Common.{◌≡◌, ℕ, List, Option, Some, Ok, Err, refl, subst, sym, inl, inr, ◌⊎◌, ◌∙◌}
+use Rattle.std.proofs.Common.{◌≡◌, ℕ, List, Option, Some, Ok, Err, subst, sym, inl, inr, ◌⊎◌, ◌∙◌}
 use Rattle.assembler.specs.Assembling.{assembled}
 use Rattle.isa_model.specs.Instructions.{Program}
 use Rattle.image.specs.Images.{IsImage}
 use Rattle.explorer.specs.Bounds.{Bounded, IsVerified}
 use Rattle.xdpvm.specs.declared.outcomes.Outcome.{Outcome}
-use Rattle.xdpvm.specs.declared.outcomes.Outcome.TheVariants.{Done}
 use Rattle.xdpvm.specs.Statuses.{IsReadFailure, IsMakeFailure, IsWordsEnd}
 use Rattle.xdpvm.specs.declared.tasks.WordsError.{WordsError}
 use Rattle.xdpvm.specs.declared.tasks.WordsError.TheVariants.{Wrong, Memory}

@@ -1,15 +1,15 @@
 -- What was read of the words on the command line.
-use Rattle.std.proofs.Common.{◌≡◌, ◌≢◌, ◌∙◌, ◌<◌, ◌≤◌, ℕ, Bool, true, false, List, [], ◌∷◌, Option, Some, None, length, take, get_or, ◌+◌, map, refl, ap, ap₂, sym, arith, cond, ◌^◌, lt-ltb}
+use Rattle.std.proofs.Common.{◌≡◌, ◌∙◌, ◌<◌, ◌≤◌, ℕ, Bool, true, false, List, [], ◌∷◌, Option, Some, None, length, take, get_or, ◌+◌, map, refl, ap, ap₂, sym, arith, cond, ◌^◌, lt-ltb}
 use Rattle.std.specs.Prelude.{◌&&◌, not, option_map, option_and_then, slice_get, nat_le}
 use Rattle.std.specs.List.{list_all, fold}
 use Rattle.std.specs.Int.{IsInRange}
-use Rattle.std.specs.Char.{is_ascii_digit, digit_value}
+use Rattle.std.specs.Char.{is_ascii_digit}
 use Rattle.std.specs.Str.Parse.{AllDigits, IsNumeral, digits_value, without_leading_plus}
 use Rattle.std.proofs.lemmas.Str.Parse.{without_leading_plus_none}
 use Rattle.std.proofs.lemmas.Str.{digit_value_digit}
 use Rattle.std.proofs.lemmas.Bool.{leb-true, le-leb, lt-leb}
 use Rattle.std.proofs.Math.Bool.{and-false}
-use Rattle.xdpvm.specs.Asked.{limit_of, is_limit}
+use Rattle.xdpvm.specs.Asked.{limit_of}
 use Rattle.std.specs.Borrow.{Bor}
 use Rattle.std.proofs.lemmas.List.Folds.{fold-map}
 use Rattle.std.proofs.lemmas.List.Sums.{fold_more}

@@ -5,7 +5,6 @@ use Rattle.isa_model.specs.CanonicalText.{canonical_text}
 use Rattle.image.specs.Images.{IsImage}
 use Rattle.assembler.specs.Assembling.{assembled}
 use Rattle.explorer.specs.Bounds.{Bounded, IsVerified}
-use Rattle.host.specs.Writing.{Outputs}
 use Rattle.xdpvm.specs.declared.outcomes.Outcome.{Outcome}
 use Rattle.xdpvm.specs.declared.outcomes.Outcome.TheVariants as outcome
 use Rattle.xdpvm.specs.Lines.{size_line}

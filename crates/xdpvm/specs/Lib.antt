@@ -1,6 +1,8 @@
 pub mod Statuses
 pub mod CommandLine
 pub mod Asked
+pub mod AskedLaws
+pub mod AskedExamples
 pub mod Lines
 pub mod Saying
 pub mod Judging

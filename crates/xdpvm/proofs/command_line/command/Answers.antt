@@ -1,4 +1,4 @@
-use Rattle.std.proofs.Common.{◌≡◌, ◌∙◌, ◌<◌, length, arith, sym, ap₂}
+use Rattle.std.proofs.Common.{◌∙◌, ◌<◌, length, arith, sym, ap₂}
 use Rattle.clap.specs.Words.{with_rule}
 use Rattle.xdpvm.proofs.Words.{wanted-more}
 use Rattle.xdpvm.proofs.command_line.command.Goals as goal
