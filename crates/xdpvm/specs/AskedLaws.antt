@@ -1,9 +1,38 @@
 -- What the usual words ask for, of any paths.
-use Rattle.std.specs.Prelude.{◌≡◌, ℕ, ◌==◌, Bool, true, false, not, List, [], ◌∷◌, Some, codes}
-use Rattle.std.proofs.Common.{refl}
+use Rattle.std.specs.Prelude.{◌≡◌, ℕ, ◌==◌, Bool, true, false, not, List, [], ◌∷◌, Some, codes, find}
+use Rattle.std.specs.Str.{bytes_eq}
+use Rattle.std.proofs.Common.{refl, ap, ap₂, ◌∙◌}
+use Rattle.clap.specs.Walk.{Text, answers_to, finished, idle, nothing_held, rows_after, settled, stop_after, subcommand_met}
+use Rattle.clap.specs.Simple.{Shape, argument_words, built, built_leaf, entered, label_of, names_of}
+use Rattle.clap.specs.Kinds.{or_else}
+use Rattle.clap.specs.Faults.{built_fault, check_fault, defaults_fault, level_fault, settle_fault}
 use Rattle.clap.proofs.OnLiterals.{clap_on_literals}
 use Rattle.xdpvm.specs.CommandLine.{program, asm, dis, verify, run, trace, prove, recheck}
-use Rattle.xdpvm.specs.Asked.{asked, Verify, Assemble, Disassemble}
+use Rattle.xdpvm.specs.Asked.{Assemble, Disassemble, Run, Trace, Verify, asked, request_by, request_met, unless_faulty}
+use Rattle.xdpvm.specs.WalkLaws.{fault-command, met-command, walk_fault-none, walk_fault-plain, walked-plain}
+
+words-program : (name : Text) (rest : List Text) → argument_words program (name ∷ rest) ≡ rest
+unfolding program
+words-program name rest = refl
+
+quiet-program : or_else (settle_fault (built program).top.rules (built program).top.args_override_self nothing_held)
+    (or_else (defaults_fault (settled (built program).top.rules nothing_held).rows (built program).top.rules) (check_fault (built program).top (finished (built program).top.rules nothing_held) true)) ≡ []
+unfolding clap_on_literals program asm dis verify run trace prove recheck
+quiet-program = refl
+
+-- what a command asks for with the words behind it
+pub asked-command : (name command : Text) (rest : List Text) (s : Shape) → subcommand_met (names_of (built program)) idle command ≡ Some command → bytes_eq command (codes "help") ≡ false
+    → find (λ t. answers_to command (label_of t)) (built program).subs ≡ Some s
+    → asked (name ∷ command ∷ rest) ≡ unless_faulty (level_fault s [] nothing_held rest false []) (request_by s.name (rows_after s.rules [] rest))
+unfolding asked
+asked-command name command rest s met apart found =
+    ap₂ unless_faulty
+    (ap (built_fault (built program) nothing_held) (words-program name (command ∷ rest)) ∙ fault-command (built program) command rest s met apart found quiet-program)
+    (ap request_met
+    (ap (λ (ws : List Text). entered (built program) (stop_after (built program).top.rules (names_of (built program)) ws)) (words-program name (command ∷ rest))
+    ∙ met-command (built program) command rest s met found))
+
+-- ---- the commands, on plain paths
 
 -- the word is no option: it has a first byte, which is no hyphen
 abbrev pub is_plain : List ℕ → Bool
@@ -39,3 +68,51 @@ asked-asm name (c ∷ cs) (d ∷ ds) h i =
     let first : (c == 45) ≡ false = no-hyphen _ h in
     let second : (d == 45) ≡ false = no-hyphen _ i in
     simp (first, second)
+
+run-faults : (c d e : ℕ) (cs ds es : List ℕ) → (c == 45) ≡ false → (d == 45) ≡ false → (e == 45) ≡ false
+    → level_fault (built_leaf run.top) [] nothing_held ((c ∷ cs) ∷ (d ∷ ds) ∷ (e ∷ es) ∷ []) false [] ≡ []
+unfolding run defaults_fault
+run-faults c d e cs ds es first second third = simp (walked-plain, walk_fault-plain, walk_fault-none)
+
+run-request : (c d e : ℕ) (cs ds es : List ℕ) → (c == 45) ≡ false → (d == 45) ≡ false → (e == 45) ≡ false
+    → request_by (codes "run") (rows_after (built_leaf run.top).rules [] ((c ∷ cs) ∷ (d ∷ ds) ∷ (e ∷ es) ∷ [])) ≡ Some (Run (record { image = c ∷ cs; frames = d ∷ ds; out = e ∷ es }))
+unfolding run
+run-request c d e cs ds es first second third = simp walked-plain
+
+-- `xdpvm run IMAGE FRAMES OUT` asks for a run of the accepted program
+pub asked-run : (name image frames out : List ℕ) → is_plain image ≡ true → is_plain frames ≡ true → is_plain out ≡ true
+    → asked (name ∷ codes "run" ∷ image ∷ frames ∷ out ∷ []) ≡ Some (Run (record { image = image; frames = frames; out = out }))
+unfolding program asm dis verify run trace prove recheck
+asked-run name [] frames out h i j = cc
+asked-run name (c ∷ cs) [] out h i j = cc
+asked-run name (c ∷ cs) (d ∷ ds) [] h i j = cc
+asked-run name (c ∷ cs) (d ∷ ds) (e ∷ es) h i j =
+    let first : (c == 45) ≡ false = no-hyphen _ h in
+    let second : (d == 45) ≡ false = no-hyphen _ i in
+    let third : (e == 45) ≡ false = no-hyphen _ j in
+    asked-command name (codes "run") ((c ∷ cs) ∷ (d ∷ ds) ∷ (e ∷ es) ∷ []) (built_leaf run.top) refl refl refl
+    ∙ ap₂ unless_faulty (run-faults c d e cs ds es first second third) (run-request c d e cs ds es first second third)
+
+trace-faults : (c d e : ℕ) (cs ds es : List ℕ) → (c == 45) ≡ false → (d == 45) ≡ false → (e == 45) ≡ false
+    → level_fault (built_leaf trace.top) [] nothing_held ((c ∷ cs) ∷ (d ∷ ds) ∷ (e ∷ es) ∷ []) false [] ≡ []
+unfolding trace defaults_fault
+trace-faults c d e cs ds es first second third = simp (walked-plain, walk_fault-plain, walk_fault-none)
+
+trace-request : (c d e : ℕ) (cs ds es : List ℕ) → (c == 45) ≡ false → (d == 45) ≡ false → (e == 45) ≡ false
+    → request_by (codes "trace") (rows_after (built_leaf trace.top).rules [] ((c ∷ cs) ∷ (d ∷ ds) ∷ (e ∷ es) ∷ [])) ≡ Some (Trace (record { image = c ∷ cs; frames = d ∷ ds; out = e ∷ es }) 1000000)
+unfolding trace
+trace-request c d e cs ds es first second third = simp walked-plain
+
+-- `xdpvm trace IMAGE FRAMES OUT` asks for a run with checks, of at most 1,000,000 steps a frame
+pub asked-trace : (name image frames out : List ℕ) → is_plain image ≡ true → is_plain frames ≡ true → is_plain out ≡ true
+    → asked (name ∷ codes "trace" ∷ image ∷ frames ∷ out ∷ []) ≡ Some (Trace (record { image = image; frames = frames; out = out }) 1000000)
+unfolding program asm dis verify run trace prove recheck
+asked-trace name [] frames out h i j = cc
+asked-trace name (c ∷ cs) [] out h i j = cc
+asked-trace name (c ∷ cs) (d ∷ ds) [] h i j = cc
+asked-trace name (c ∷ cs) (d ∷ ds) (e ∷ es) h i j =
+    let first : (c == 45) ≡ false = no-hyphen _ h in
+    let second : (d == 45) ≡ false = no-hyphen _ i in
+    let third : (e == 45) ≡ false = no-hyphen _ j in
+    asked-command name (codes "trace") ((c ∷ cs) ∷ (d ∷ ds) ∷ (e ∷ es) ∷ []) (built_leaf trace.top) refl refl refl
+    ∙ ap₂ unless_faulty (trace-faults c d e cs ds es first second third) (trace-request c d e cs ds es first second third)

@@ -1,6 +1,7 @@
 pub mod Statuses
 pub mod CommandLine
 pub mod Asked
+pub mod WalkLaws
 pub mod AskedLaws
 pub mod AskedExamples
 pub mod Lines
