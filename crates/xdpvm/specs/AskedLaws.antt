@@ -1,15 +1,15 @@
 -- What the usual words ask for, of any paths.
-use Rattle.std.specs.Prelude.{◌≡◌, ℕ, ◌==◌, Bool, true, false, not, List, [], ◌∷◌, Some, codes, find}
+use Rattle.std.specs.Prelude.{◌≡◌, ℕ, ◌==◌, Bool, true, false, not, List, [], ◌∷◌, Some, None, codes, find, option_map}
 use Rattle.std.specs.Str.{bytes_eq}
 use Rattle.std.proofs.Common.{refl, ap, ap₂, ◌∙◌}
-use Rattle.clap.specs.Walk.{Text, answers_to, finished, idle, nothing_held, rows_after, settled, stop_after, subcommand_met}
+use Rattle.clap.specs.Walk.{Held, Text, Walk, answers_to, finished, idle, nothing_held, option, rows_after, settled, stop_after, subcommand_met, walked}
 use Rattle.clap.specs.Simple.{Shape, argument_words, built, built_leaf, entered, label_of, names_of}
 use Rattle.clap.specs.Kinds.{or_else}
-use Rattle.clap.specs.Faults.{built_fault, check_fault, defaults_fault, level_fault, settle_fault}
+use Rattle.clap.specs.Faults.{built_fault, check_fault, defaults_fault, level_fault, settle_fault, walk_fault}
 use Rattle.clap.proofs.OnLiterals.{clap_on_literals}
 use Rattle.xdpvm.specs.CommandLine.{program, asm, dis, verify, run, trace, prove, recheck}
-use Rattle.xdpvm.specs.Asked.{Assemble, Disassemble, Run, Trace, Verify, asked, request_by, request_met, unless_faulty}
-use Rattle.xdpvm.specs.WalkLaws.{fault-command, met-command, walk_fault-none, walk_fault-plain, walked-plain}
+use Rattle.xdpvm.specs.Asked.{Assemble, Disassemble, Run, Trace, Verify, asked, limit_of, request_by, request_met, unless_faulty}
+use Rattle.xdpvm.specs.WalkLaws.{walk_at, fault-command, met-command, walk_fault-none, walk_fault-plain, walked-plain}
 
 words-program : (name : Text) (rest : List Text) → argument_words program (name ∷ rest) ≡ rest
 unfolding program
@@ -116,3 +116,64 @@ asked-trace name (c ∷ cs) (d ∷ ds) (e ∷ es) h i j =
     let third : (e == 45) ≡ false = no-hyphen _ j in
     asked-command name (codes "trace") ((c ∷ cs) ∷ (d ∷ ds) ∷ (e ∷ es) ∷ []) (built_leaf trace.top) refl refl refl
     ∙ ap₂ unless_faulty (trace-faults c d e cs ds es first second third) (trace-request c d e cs ds es first second third)
+
+-- ---- a limit behind the files
+
+-- the walk stands at a positional, behind --limit
+abbrev limit_at : Held → ℕ → Walk
+limit_at h p = record {
+  held = record (settled (built_leaf trace.top).rules h) { pending = Some (codes "limit", []) };
+  waiting = option (codes "limit");
+  position = p;
+  is_trailing = false;
+  stopped = None;
+}
+
+-- --limit waits for its value
+walked-limit : (h : Held) (p : ℕ) → walked (built_leaf trace.top).rules [] (walk_at h p) (codes "--limit") ≡ limit_at h p
+unfolding walked trace
+walked-limit h p = refl
+
+walk_fault-limit : (h : Held) (p : ℕ) (rest : List Text) → walk_fault (built_leaf trace.top) [] (walk_at h p) (codes "--limit" ∷ rest)
+    ≡ or_else (or_else (settle_fault (built_leaf trace.top).rules false h) []) (walk_fault (built_leaf trace.top) [] (limit_at h p) rest)
+unfolding walk_fault walked trace
+walk_fault-limit h p rest = refl
+
+-- and a plain word is it
+walked-value : (h : Held) (p c : ℕ) (cs : List ℕ) → (c == 45) ≡ false → walked (built_leaf trace.top).rules [] (limit_at h p) (c ∷ cs)
+    ≡ walk_at (record (settled (built_leaf trace.top).rules h) { pending = Some (codes "limit", (c ∷ cs) ∷ []) }) p
+unfolding walked trace
+walked-value h p c cs apart = simp apart
+
+walk_fault-value : (h : Held) (p c : ℕ) (cs : List ℕ) (rest : List Text) → (c == 45) ≡ false → walk_fault (built_leaf trace.top) [] (limit_at h p) ((c ∷ cs) ∷ rest)
+    ≡ walk_fault (built_leaf trace.top) [] (walk_at (record (settled (built_leaf trace.top).rules h) { pending = Some (codes "limit", (c ∷ cs) ∷ []) }) p) rest
+unfolding walk_fault walked trace
+walk_fault-value h p c cs rest apart = simp apart
+
+limit-faults : (c d e f : ℕ) (cs ds es fs : List ℕ) → (c == 45) ≡ false → (d == 45) ≡ false → (e == 45) ≡ false → (f == 45) ≡ false
+    → level_fault (built_leaf trace.top) [] nothing_held ((c ∷ cs) ∷ (d ∷ ds) ∷ (e ∷ es) ∷ codes "--limit" ∷ (f ∷ fs) ∷ []) false [] ≡ []
+unfolding trace defaults_fault
+limit-faults c d e f cs ds es fs first second third fourth = simp (walked-plain, walked-limit, walked-value, walk_fault-plain, walk_fault-limit, walk_fault-value, walk_fault-none)
+
+limit-request : (c d e f : ℕ) (cs ds es fs : List ℕ) → (c == 45) ≡ false → (d == 45) ≡ false → (e == 45) ≡ false → (f == 45) ≡ false
+    → request_by (codes "trace") (rows_after (built_leaf trace.top).rules [] ((c ∷ cs) ∷ (d ∷ ds) ∷ (e ∷ es) ∷ codes "--limit" ∷ (f ∷ fs) ∷ []))
+    ≡ option_map (Trace (record { image = c ∷ cs; frames = d ∷ ds; out = e ∷ es })) (limit_of (f ∷ fs))
+unfolding trace
+limit-request c d e f cs ds es fs first second third fourth = simp (walked-plain, walked-limit, walked-value)
+
+-- and `--limit N` behind it for at most so many, where N is a limit, and else for nothing
+pub asked-trace-limit : (name image frames out text : List ℕ) → is_plain image ≡ true → is_plain frames ≡ true → is_plain out ≡ true → is_plain text ≡ true
+    → asked (name ∷ codes "trace" ∷ image ∷ frames ∷ out ∷ codes "--limit" ∷ text ∷ [])
+    ≡ option_map (Trace (record { image = image; frames = frames; out = out })) (limit_of text)
+unfolding program asm dis verify run trace prove recheck
+asked-trace-limit name [] frames out text h i j k = cc
+asked-trace-limit name (c ∷ cs) [] out text h i j k = cc
+asked-trace-limit name (c ∷ cs) (d ∷ ds) [] text h i j k = cc
+asked-trace-limit name (c ∷ cs) (d ∷ ds) (e ∷ es) [] h i j k = cc
+asked-trace-limit name (c ∷ cs) (d ∷ ds) (e ∷ es) (f ∷ fs) h i j k =
+    let first : (c == 45) ≡ false = no-hyphen _ h in
+    let second : (d == 45) ≡ false = no-hyphen _ i in
+    let third : (e == 45) ≡ false = no-hyphen _ j in
+    let fourth : (f == 45) ≡ false = no-hyphen _ k in
+    asked-command name (codes "trace") ((c ∷ cs) ∷ (d ∷ ds) ∷ (e ∷ es) ∷ codes "--limit" ∷ (f ∷ fs) ∷ []) (built_leaf trace.top) refl refl refl
+    ∙ ap₂ unless_faulty (limit-faults c d e f cs ds es fs first second third fourth) (limit-request c d e f cs ds es fs first second third fourth)
