@@ -11,10 +11,12 @@ use Rattle.xdpvm.specs.CommandLine.{program, asm, dis, verify, run, trace, prove
 use Rattle.xdpvm.specs.Asked.{Assemble, Disassemble, Run, Trace, Verify, asked, limit_of, request_by, request_met, unless_faulty}
 use Rattle.xdpvm.specs.WalkLaws.{walk_at, fault-command, met-command, walk_fault-none, walk_fault-plain, walked-plain}
 
+-- the words behind the program's name
 words-program : (name : Text) (rest : List Text) → argument_words program (name ∷ rest) ≡ rest
 unfolding program
 words-program name rest = refl
 
+-- no argument of the program itself is missing
 quiet-program : or_else (settle_fault (built program).top.rules (built program).top.args_override_self nothing_held)
     (or_else (defaults_fault (settled (built program).top.rules nothing_held).rows (built program).top.rules) (check_fault (built program).top (finished (built program).top.rules nothing_held) true)) ≡ []
 unfolding clap_on_literals program asm dis verify run trace prove recheck
@@ -39,6 +41,7 @@ abbrev pub is_plain : List ℕ → Bool
 is_plain [] = false
 is_plain (c ∷ cs) = not (c == 45)
 
+-- what a test says that does not hold
 no-hyphen : (b : Bool) → not b ≡ true → b ≡ false
 no-hyphen false h = refl
 no-hyphen true h = cc
@@ -69,11 +72,13 @@ asked-asm name (c ∷ cs) (d ∷ ds) h i =
     let second : (d == 45) ≡ false = no-hyphen _ i in
     simp (first, second)
 
+-- three plain words behind `run` have no fault
 run-faults : (c d e : ℕ) (cs ds es : List ℕ) → (c == 45) ≡ false → (d == 45) ≡ false → (e == 45) ≡ false
     → level_fault (built_leaf run.top) [] nothing_held ((c ∷ cs) ∷ (d ∷ ds) ∷ (e ∷ es) ∷ []) false [] ≡ []
 unfolding run defaults_fault
 run-faults c d e cs ds es first second third = simp (walked-plain, walk_fault-plain, walk_fault-none)
 
+-- and are its files
 run-request : (c d e : ℕ) (cs ds es : List ℕ) → (c == 45) ≡ false → (d == 45) ≡ false → (e == 45) ≡ false
     → request_by (codes "run") (rows_after (built_leaf run.top).rules [] ((c ∷ cs) ∷ (d ∷ ds) ∷ (e ∷ es) ∷ [])) ≡ Some (Run (record { image = c ∷ cs; frames = d ∷ ds; out = e ∷ es }))
 unfolding run
@@ -93,6 +98,7 @@ asked-run name (c ∷ cs) (d ∷ ds) (e ∷ es) h i j =
     asked-command name (codes "run") ((c ∷ cs) ∷ (d ∷ ds) ∷ (e ∷ es) ∷ []) (built_leaf run.top) refl refl refl
     ∙ ap₂ unless_faulty (run-faults c d e cs ds es first second third) (run-request c d e cs ds es first second third)
 
+-- the same behind `trace`
 trace-faults : (c d e : ℕ) (cs ds es : List ℕ) → (c == 45) ≡ false → (d == 45) ≡ false → (e == 45) ≡ false
     → level_fault (built_leaf trace.top) [] nothing_held ((c ∷ cs) ∷ (d ∷ ds) ∷ (e ∷ es) ∷ []) false [] ≡ []
 unfolding trace defaults_fault
@@ -139,7 +145,7 @@ walk_fault-limit : (h : Held) (p : ℕ) (rest : List Text) → walk_fault (built
 unfolding walk_fault walked trace
 walk_fault-limit h p rest = refl
 
--- and a plain word is it
+-- a plain word behind it is that value
 walked-value : (h : Held) (p c : ℕ) (cs : List ℕ) → (c == 45) ≡ false → walked (built_leaf trace.top).rules [] (limit_at h p) (c ∷ cs)
     ≡ walk_at (record (settled (built_leaf trace.top).rules h) { pending = Some (codes "limit", (c ∷ cs) ∷ []) }) p
 unfolding walked trace
@@ -150,18 +156,20 @@ walk_fault-value : (h : Held) (p c : ℕ) (cs : List ℕ) (rest : List Text) →
 unfolding walk_fault walked trace
 walk_fault-value h p c cs rest apart = simp apart
 
+-- three plain words behind `trace`, and --limit with a fourth, have no fault
 limit-faults : (c d e f : ℕ) (cs ds es fs : List ℕ) → (c == 45) ≡ false → (d == 45) ≡ false → (e == 45) ≡ false → (f == 45) ≡ false
     → level_fault (built_leaf trace.top) [] nothing_held ((c ∷ cs) ∷ (d ∷ ds) ∷ (e ∷ es) ∷ codes "--limit" ∷ (f ∷ fs) ∷ []) false [] ≡ []
 unfolding trace defaults_fault
 limit-faults c d e f cs ds es fs first second third fourth = simp (walked-plain, walked-limit, walked-value, walk_fault-plain, walk_fault-limit, walk_fault-value, walk_fault-none)
 
+-- and are its files and its limit
 limit-request : (c d e f : ℕ) (cs ds es fs : List ℕ) → (c == 45) ≡ false → (d == 45) ≡ false → (e == 45) ≡ false → (f == 45) ≡ false
     → request_by (codes "trace") (rows_after (built_leaf trace.top).rules [] ((c ∷ cs) ∷ (d ∷ ds) ∷ (e ∷ es) ∷ codes "--limit" ∷ (f ∷ fs) ∷ []))
     ≡ option_map (Trace (record { image = c ∷ cs; frames = d ∷ ds; out = e ∷ es })) (limit_of (f ∷ fs))
 unfolding trace
 limit-request c d e f cs ds es fs first second third fourth = simp (walked-plain, walked-limit, walked-value)
 
--- and `--limit N` behind it for at most so many, where N is a limit, and else for nothing
+-- `xdpvm trace IMAGE FRAMES OUT --limit N` asks for a run of at most N steps a frame, where N is a limit, and else for nothing
 pub asked-trace-limit : (name image frames out text : List ℕ) → is_plain image ≡ true → is_plain frames ≡ true → is_plain out ≡ true → is_plain text ≡ true
     → asked (name ∷ codes "trace" ∷ image ∷ frames ∷ out ∷ codes "--limit" ∷ text ∷ [])
     ≡ option_map (Trace (record { image = image; frames = frames; out = out })) (limit_of text)

@@ -42,11 +42,13 @@ pub walk-command : (rules : List Rule) (names : Names) (command : Text) (rest : 
 walk-command rules names command rest met =
     ap (λ (w : Walk). fold (walked rules names) w rest) (walked-command rules names command met) ∙ walked-stopped rules names nothing_held 1 command [] rest
 
+-- and is no fault, nor are the words behind it one of the program
 walk_fault-command : (s : Shape) (names : Names) (command : Text) (rest : List Text) → subcommand_met names idle command ≡ Some command → bytes_eq command (codes "help") ≡ false
     → walk_fault s names (walk_from nothing_held) (command ∷ rest) ≡ []
 unfolding walk_fault walked
 walk_fault-command s names command rest met apart = simp (met, apart) (walk_fault-stopped s names nothing_held 1 command [] rest)
 
+-- no other fault
 or_else-none : (k : Kinds) → or_else k [] ≡ k
 or_else-none [] = refl
 or_else-none (x ∷ xs) = refl
@@ -60,6 +62,7 @@ pub fault-command : (a : App) (command : Text) (rest : List Text) (s : Shape) �
 fault-command a command rest s met apart found quiet =
     rw (walk-command a.top.rules (names_of a) command rest met, found, walk_fault-command a.top (names_of a) command rest met apart, quiet) (or_else-none _)
 
+-- the command that is met is the one of that name, with the words behind it
 pub met-command : (a : App) (command : Text) (rest : List Text) (s : Shape) → subcommand_met (names_of a) idle command ≡ Some command
     → find (λ t. answers_to command (label_of t)) a.subs ≡ Some s → entered a (stop_after a.top.rules (names_of a) (command ∷ rest)) ≡ Some (s.name, rows_after s.rules [] rest)
 met-command a command rest s met found =
@@ -67,12 +70,14 @@ met-command a command rest s met found =
 
 -- ---- plain words behind a command
 
+-- a plain word is at fault where no positional is left, or what was pending is
 pub walk_fault-plain : (s : Shape) (h : Held) (p c : ℕ) (cs : List ℕ) (rest : List Text) → (c == 45) ≡ false
     → walk_fault s [] (walk_at h p) ((c ∷ cs) ∷ rest) ≡ or_else (option_map_or (λ a. positional_fault s.rules s.args_override_self a h) (arg_by_index s.rules p) (stray_fault s))
     (walk_fault s [] (to_positional s.rules (arg_by_index s.rules p) (c ∷ cs) (walk_at h p) h) rest)
 unfolding walk_fault walked
 walk_fault-plain s h p c cs rest apart = simp apart
 
+-- where no word is left there is no fault
 pub walk_fault-none : (s : Shape) (names : Names) (w : Walk) → walk_fault s names w [] ≡ []
 unfolding walk_fault
 walk_fault-none s names w = refl
