@@ -60,55 +60,55 @@ Path-here p m table path a b none e = subst (λ x. Path p m table a x b) (sym no
 -- the child ends within its number, and nothing is pending
 pub Waits-ends : (p : Program) (visit : Visit) (s child : State) (n best : ℕ) → Waits p visit s child → visit.pending ≡ None → Within p child n → best ≡ max visit.best n → Within p s (best + 1)
 unfolding Waits Within Ends
-Waits-ends p visit s child n best waits none within is = rw add-one (λ clock w means.
+Waits-ends p visit s child n best waits none within is = rw add-one (λ clock fits w means.
     After-weaker (λ v. Means p child v ⊎ (MeantBy p visit.pending v ⊎ Ends p clock v visit.best)) (λ v. Ends p clock v best) (step p clock w)
     (λ v h. elim h [
-      | inl a ↦ Ends-more p clock v n best (omega arith) (within clock v a)
+      | inl a ↦ Ends-more p clock v n best (omega arith) (within clock fits v a)
       | inr b ↦ elim b [ inl q ↦ absurd (subst (λ o. MeantBy p o v) none q) | inr e ↦ Ends-more p clock v visit.best best (omega arith) e ]
     ])
-    (waits clock w means))
+    (waits clock fits w means))
 
 -- the pending state ends within a number too
 pub Waits-both : (p : Program) (visit : Visit) (s child other : State) (n k best : ℕ) → Waits p visit s child → visit.pending ≡ Some other → Within p child n → Within p other k
     → best ≡ max (max visit.best n) k → Within p s (best + 1)
 unfolding Waits Within Ends
-Waits-both p visit s child other n k best waits some within known is = rw add-one (λ clock w means.
+Waits-both p visit s child other n k best waits some within known is = rw add-one (λ clock fits w means.
     After-weaker (λ v. Means p child v ⊎ (MeantBy p visit.pending v ⊎ Ends p clock v visit.best)) (λ v. Ends p clock v best) (step p clock w)
     (λ v h. elim h [
-      | inl a ↦ Ends-more p clock v n best (omega arith) (within clock v a)
+      | inl a ↦ Ends-more p clock v n best (omega arith) (within clock fits v a)
       | inr b ↦ elim b [
-        | inl q ↦ Ends-more p clock v k best (omega arith) (known clock v (subst (λ o. MeantBy p o v) some q))
+        | inl q ↦ Ends-more p clock v k best (omega arith) (known clock fits v (subst (λ o. MeantBy p o v) some q))
         | inr e ↦ Ends-more p clock v visit.best best (omega arith) e
       ]
     ])
-    (waits clock w means))
+    (waits clock fits w means))
 
 -- the pending state is explored next
 pub Waits-next : (p : Program) (visit : Visit) (s child other : State) (n : ℕ) → Waits p visit s child → visit.pending ≡ Some other → Within p child n
     → Waits p (record { pending = None; best = max visit.best n; stored = visit.stored }) s other
 unfolding Waits Within Ends
-Waits-next p visit s child other n waits some within = λ clock w means.
+Waits-next p visit s child other n waits some within = λ clock fits w means.
     After-weaker (λ v. Means p child v ⊎ (MeantBy p visit.pending v ⊎ Ends p clock v visit.best)) (λ v. Means p other v ⊎ (⊥ ⊎ Ends p clock v (max visit.best n))) (step p clock w)
     (λ v h. elim h [
-      | inl a ↦ inr (inr (Ends-more p clock v n (max visit.best n) (omega arith) (within clock v a)))
+      | inl a ↦ inr (inr (Ends-more p clock v n (max visit.best n) (omega arith) (within clock fits v a)))
       | inr b ↦ elim b [ inl q ↦ inl (subst (λ o. MeantBy p o v) some q) | inr e ↦ inr (inr (Ends-more p clock v visit.best (max visit.best n) (omega arith) e)) ]
     ])
-    (waits clock w means)
+    (waits clock fits w means)
 
 -- ---- where a step leads
 
 -- nothing goes on
 pub LeadsTo-ends : (p : Program) (s a b : State) → LeadsTo p s ways.None a b → Within p s 1
 unfolding LeadsTo Within Ends
-LeadsTo-ends p s a b leads = λ clock w means. After-weaker (λ v. ⊥) (λ v. Ends p clock v 0) (step p clock w) (λ v h. h) (leads clock w means)
+LeadsTo-ends p s a b leads = λ clock fits w means. After-weaker (λ v. ⊥) (λ v. Ends p clock v 0) (step p clock w) (λ v h. h) (leads clock fits w means)
 
 pub Waits-one : (p : Program) (s a b : State) (stored : Option ℕ) → LeadsTo p s ways.One a b → Waits p (record { pending = None; best = 0; stored = stored }) s a
 unfolding LeadsTo Waits
-Waits-one p s a b stored leads = λ clock w means.
-    After-weaker (λ v. Means p a v) (λ v. Means p a v ⊎ (⊥ ⊎ Ends p clock v 0)) (step p clock w) (λ v h. inl h) (leads clock w means)
+Waits-one p s a b stored leads = λ clock fits w means.
+    After-weaker (λ v. Means p a v) (λ v. Means p a v ⊎ (⊥ ⊎ Ends p clock v 0)) (step p clock w) (λ v h. inl h) (leads clock fits w means)
 
 pub Waits-two : (p : Program) (s a b : State) (stored : Option ℕ) → LeadsTo p s ways.Two a b → Waits p (record { pending = Some b; best = 0; stored = stored }) s a
 unfolding LeadsTo Waits
-Waits-two p s a b stored leads = λ clock w means.
+Waits-two p s a b stored leads = λ clock fits w means.
     After-weaker (λ v. Means p a v ⊎ Means p b v) (λ v. Means p a v ⊎ (Means p b v ⊎ Ends p clock v 0)) (step p clock w)
-    (λ v h. elim h [ inl x ↦ inl x | inr y ↦ inr (inl y) ]) (leads clock w means)
+    (λ v h. elim h [ inl x ↦ inl x | inr y ↦ inr (inl y) ]) (leads clock fits w means)

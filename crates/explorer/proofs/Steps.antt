@@ -214,5 +214,5 @@ starts_ready p q s same image e = subst (IsReady p) (sym e) (start_ready p (subs
 
 pub starts_end : (p q : Program) (n : ℕ) → p ≡ q → IsImage q → Within p start n → StartsEnd q n
 unfolding Within StartsEnd
-starts_end p q n same image within = λ clock head packet contents given.
-    subst (λ x. Within x start n) same within clock (start_state head packet contents) (Means-start q head packet contents (IsProgram-IsImage q image) given)
+starts_end p q n same image within = λ clock head packet contents fits given.
+    subst (λ x. Within x start n) same within clock fits (start_state head packet contents) (Means-start q head packet contents (IsProgram-IsImage q image) given)

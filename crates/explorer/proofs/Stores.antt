@@ -16,7 +16,7 @@ use Rattle.explorer.specs.Search.{stored_too, Arrives, IsFine, AllFine}
 
 pub Within-covered : (p : Program) (a b : State) (n : ℕ) → Covers p a b → Within p a n → Within p b n
 unfolding Within Covers
-Within-covered p a b n covered h = λ clock w means. h clock w (covered w means)
+Within-covered p a b n covered h = λ clock fits w means. h clock fits w (covered w means)
 
 IsFine-more : (p : Program) (m n : ℕ) (e : Stored) → m ≤ n → IsFine p m e → IsFine p n e
 IsFine-more p m n e le h = λ above. ((h above).0, omega (arith, (h above).1))

@@ -5,6 +5,7 @@ use Rattle.isa_model.specs.Instructions.{Program, fetch}
 use Rattle.isa_model.specs.States as Machine
 use Rattle.isa_model.specs.Steps.{step}
 use Rattle.isa_model.specs.Ends.{Ends, After}
+use Rattle.isa_model.specs.MachineStates.{IsClock}
 use Rattle.stack_state.specs.declared.states.State.{State}
 use Rattle.stack_state.specs.Meaning.{Means, Within, depth}
 use Rattle.stack_state.specs.Starts.{start}
@@ -95,7 +96,7 @@ MeantBy p (Some s) w = Means p s w
 
 -- the step of each machine state that s stands for ends the run, or leads to the child, to what is pending, or to what ends in time
 unfoldable pub Waits : Program → Visit → State → State → Type 0
-Waits p visit s child = (clock : ℕ → ℕ) (w : Machine.State) → Means p s w
+Waits p visit s child = (clock : ℕ → ℕ) → IsClock clock → (w : Machine.State) → Means p s w
     → After (λ v. Means p child v ⊎ (MeantBy p visit.pending v ⊎ Ends p clock v visit.best)) (step p clock w)
 
 -- a visit of a state that waits for another one
