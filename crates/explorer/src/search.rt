@@ -3,6 +3,7 @@
 ghost use Rattle.std.specs.Prelude.{◌≡◌, ◌≢◌, ◌≤◌, ◌+◌, ◌<◌, Some, vec_len, IfOk, IfErr, OnOk, OnErr};
 ghost use Rattle.stack_state.specs.Starts.{start};
 ghost use Rattle.stack_state.specs.Meaning.{Within};
+ghost use Rattle.explorer.specs.Counts.{HasNumber};
 ghost use Rattle.image.specs.Images.{IsImage};
 ghost use Rattle.control_flow.specs.Flows.{IsFlow};
 ghost use Rattle.explorer.specs.Refused.{StopsAt};
@@ -270,6 +271,7 @@ impl Search {
         requires good { IsFlow flow.now }
         requires new { IsNew self.old }
         ensures within { IfOk result (λ n. Within flow.now start n) }
+        ensures number { IfOk result (λ n. HasNumber flow.now start n) }
         ensures some { IfOk result (λ n. 0 < n) }
         ensures most { IfOk result (λ n. n ≤ 1000000) }
         ensures stops { IfErr result (λ r. StopsAt flow.now r.0 r.1) }

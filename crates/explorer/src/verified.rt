@@ -4,6 +4,8 @@ ghost use Rattle.std.specs.Prelude.{◌≡◌, ◌≤◌, IfOk, IfErr};
 ghost use Rattle.isa_model.specs.Outcomes.{StartsEnd};
 ghost use Rattle.explorer.specs.Bounds.{IsVerified};
 ghost use Rattle.explorer.specs.Refused.{IsRefused};
+ghost use Rattle.explorer.specs.Counts.{HasNumber};
+ghost use Rattle.stack_state.specs.Starts.{start};
 
 use crate::refusals::Refusal;
 use crate::search::Search;
@@ -62,6 +64,7 @@ impl Verified {
 /// The bound of a program's runs.
 fn bound_of(alloc: Global, image: &Image) -> Result<u32, (Refusal, usize)>
     ensures ends { IfOk result (StartsEnd image.now) }
+    ensures number { IfOk result (λ n. HasNumber image.now start n) }
     ensures some { IfOk result (λ n. 1 ≤ n) }
     ensures most { IfOk result (λ n. n ≤ 1000000) }
     ensures refused { IfErr result (λ r. IsRefused image.now r.0 r.1) }
@@ -86,8 +89,9 @@ pub fn verify(alloc: Global, image: Image) -> Result<Verified, (Refusal, usize)>
     ensures program { IfOk result (λ verified. verified.program ≡ image) }
     ensures verified { IfOk result IsVerified }
     ensures refused { IfErr result (λ r. IsRefused image r.0 r.1) }
+    ensures number { IfOk result (λ verified. HasNumber image start verified.bound) }
 {
-    let bound = bound_of(alloc, &image)?;
     let _slots = image.slots();
+    let bound = bound_of(alloc, &image)?;
     Ok(Verified { image, bound })
 }
