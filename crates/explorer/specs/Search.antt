@@ -9,6 +9,7 @@ use Rattle.stack_state.specs.declared.states.State.{State}
 use Rattle.stack_state.specs.Meaning.{Means, Within, depth}
 use Rattle.stack_state.specs.Starts.{start}
 use Rattle.control_flow.specs.Flows.{IsJoin}
+use Rattle.explorer.specs.declared.verified.TheConstants.{MAX_EXPLORED}
 use Rattle.explorer.specs.declared.refusals.Refusal.{Refusal}
 use Rattle.explorer.specs.declared.refusals.Refusal.TheVariants.{Flow, Step, Repeats, TooLong, Memory}
 use Rattle.explorer.specs.declared.table.Stored.{Stored}
@@ -230,7 +231,7 @@ pub record HasEntered (p : Program) (search : Search) (stored : Option ℕ) (pen
 
 -- as many instructions were explored as may be, and the next one is at this slot
 pub record IsFull (search : Search) (slot : ℕ) : Type 0 where
-  pub explored : search.finished + vec_len search.path ≡ 1000000
+  pub explored : search.finished + vec_len search.path ≡ MAX_EXPLORED
   pub next : slot ≡ search.current.slot
 
 abbrev pub Goes : Program → Search → Turn → Type 0
