@@ -1,5 +1,6 @@
 //! Reads records one by one.
 ghost use Rattle.std.specs.Prelude.{◌≡◌, ◌+◌, ◌*◌, ◌≤◌, Option};
+ghost use Rattle.isa_model.specs.MachineStates.{AreBytes};
 ghost use Rattle.isa_model.specs.Streams.{Position, Fresh, At};
 ghost use Rattle.frames.specs.Reading.{finding_of, next_position, Reads, HasRoom, FitsBuffer, StaysDone};
 ghost use Rattle.frames.specs.Stages.{ReadsMagic, HasRoomFor, IsStageAfter};
@@ -129,6 +130,13 @@ fn read_magic<R: Read>(source: &mut R) -> Option<Fault>
     }
 }
 
+// What its type says of a body.
+fn in_range(body: &[u8])
+    ensures { AreBytes body.now }
+{
+    let _size = body.len();
+}
+
 // Reads the record with this number, which begins at this offset.
 fn read_record<R: Read>(source: &mut R, number: u32, offset: u64, buffer: &mut [u8; 4096]) -> Next
     ensures bytes { Reads (At number offset) (R.remaining source.old) (R.remaining source.new)
@@ -155,8 +163,12 @@ fn read_record<R: Read>(source: &mut R, number: u32, offset: u64, buffer: &mut [
         return Next::Fault(Fault::F3, offset);
     }
     let length = length as usize;
-    match fill(source, &mut buffer[..length]) {
-        Filled::Whole => Next::Frame(frame_head, length),
+    let body = &mut buffer[..length];
+    match fill(source, body) {
+        Filled::Whole => {
+            in_range(body);
+            Next::Frame(frame_head, length)
+        }
         Filled::Ended(_) => Next::Fault(Fault::F4, offset),
         Filled::Failed(_) => Next::Fault(Fault::F5, offset),
     }

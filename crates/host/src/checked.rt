@@ -1,7 +1,7 @@
 //! Runs on the checked machine.
-ghost use Rattle.std.specs.Prelude.{◌≡◌, ◌≢◌, ◌≤◌, IfSome};
-ghost use Rattle.isa_model.specs.Reports.{report_of, checked_rule, starting_contents, checked_report};
-ghost use Rattle.host.specs.Reported.{Reports, ReportsSome};
+ghost use Rattle.std.specs.Prelude.{◌≡◌, ◌≢◌, ◌≤◌};
+ghost use Rattle.isa_model.specs.Reports.{checked_report};
+ghost use Rattle.host.specs.Reported.{Reports};
 
 use super::clocks::FrameClock;
 use super::engine::run_frames;
@@ -55,13 +55,7 @@ pub fn run_checked<R: Read + Drop, W1: Write, W2: Write>(
     requires most { limit ≤ 1000000 }
     ensures report_untouched { result ≡ Err HostError.Memory → W1.contents report.new ≡ W1.contents report.old }
     ensures out_untouched { result ≡ Err HostError.Memory → W2.contents out.new ≡ W2.contents out.old }
-    ensures reports { result ≢ Err HostError.Memory → IfSome (R.remaining source) (λ bytes.
-        Reports bytes (checked_report image limit)
-        record { report = W1.contents report.old; frames = W2.contents out.old }
-        record { report = W1.contents report.new; frames = W2.contents out.new } result) }
-    // Of any source it is the report of some frames, which came from it.
-    ensures some_frames { result ≢ Err HostError.Memory → ReportsSome
-        (λ found. report_of limit image.maps (checked_rule image limit) (starting_contents image.maps) found)
+    ensures reports { result ≢ Err HostError.Memory → Reports (R.remaining source) (checked_report image limit)
         record { report = W1.contents report.old; frames = W2.contents out.old }
         record { report = W1.contents report.new; frames = W2.contents out.new } result }
 {
