@@ -14,11 +14,11 @@ use Rattle.isa_model.specs.States.{Entries}
 use Rattle.isa_model.specs.Streams.{Frame, IsFrame, AreOpen, max_body, length_field, Ending, ByEnd, ByError, stop_at, stop_from, Position, Fresh, At, Done, magic, cut_by, opening, frame_of, after_frame, frames_from, Input, stream_of}
 use Rattle.isa_model.specs.StreamLaws.{frames_from-stops, frames_from-goes_on, frames_behind}
 use Rattle.isa_model.specs.Runs.{Outcome, HasOutcome, Turn}
-use Rattle.isa_model.specs.RunLaws.{turn-outcome}
+use Rattle.isa_model.specs.RunLaws.{turn-outcome, HasOutcome-same}
 use Rattle.isa_model.specs.MachineStates.{AreBytes, FitRows, IsProgram, IsGiven}
 use Rattle.isa_model.specs.ValueLaws.{slice_index_fits}
 use Rattle.isa_model.specs.Outcomes.{StartsEnd, ExitsWithin, ExitsWithin-StartsEnd, FitRows-HasOutcome}
-use Rattle.isa_model.specs.Reports.{frame_pieces, frame_line, turns_pieces, contents_after, checked_rule, checked_report, turn_by, starting_contents, ReportsFrames, IsReport}
+use Rattle.isa_model.specs.Reports.{Piece, ToReport, ToFrames, maps_pieces, last_line, frame_pieces, frame_line, turns_pieces, contents_after, checked_rule, checked_report, turn_by, starting_contents, ReportsFrames, IsReport}
 
 -- every run on frames that come one after the other exits within n steps, the maps' contents carried along
 abbrev pub AllExit : Program → ℕ → List Entries → List Frame → Type 0
@@ -141,3 +141,28 @@ IsReport-checked p n found program h fits each =
       },
       exits,
     )
+
+-- ---- there is one report
+
+ReportsFrames-same : (p : Program) (number : ℕ) (contents : List Entries) (frames : List Frame) (pieces others : List Piece) (last end : List Entries)
+    → ReportsFrames p number contents frames pieces last → ReportsFrames p number contents frames others end → (pieces ≡ others) × (last ≡ end)
+ReportsFrames-same p number contents [] pieces others last end h k = (h.0 ∙ sym k.0, h.1 ∙ sym k.1)
+ReportsFrames-same p number contents (f ∷ frames) pieces others last end h k =
+    let (o, rest, found, split, more) = h in
+    let (q, left, also, cut, next) = k in
+    let one : o ≡ q = HasOutcome-same p f.head f.body contents (λ k. f.head.time) o q found also in
+    let behind = subst (λ (x : Outcome). ReportsFrames p (number + 1) x.contents frames rest last) one more in
+    let (same, ends) = ReportsFrames-same p (number + 1) q.contents frames rest left last end behind next in
+    let front : frame_pieces o.steps number f (turn_by o) ++ rest ≡ frame_pieces q.steps number f (turn_by q) ++ left =
+    ap (λ (x : Outcome). frame_pieces x.steps number f (turn_by x) ++ rest) one ∙ ap (λ l. frame_pieces q.steps number f (turn_by q) ++ l) same in
+    (split ∙ front ∙ sym cut, ends)
+
+-- a program has at most one report of the same frames and the same end or fault
+pub IsReport-same : (p : Program) (found : List Frame × Finish) (pieces others : List Piece) → IsReport p found pieces → IsReport p found others → pieces ≡ others
+IsReport-same p found pieces others h k =
+    let (turns, last) = ReportsFrames-same p 0 (starting_contents p.maps) found.0 h.turns k.turns h.last k.last h.frames k.frames in
+    let ends = ToReport (last_line (length found.0) found.1) ∷ [] in
+    h.whole
+    ∙ ap (λ (l : List Piece). (ToFrames magic ∷ l) ++ (maps_pieces 0 p.maps h.last ++ ends)) turns
+    ∙ ap (λ (c : List Entries). (ToFrames magic ∷ k.turns) ++ (maps_pieces 0 p.maps c ++ ends)) last
+    ∙ sym k.whole
