@@ -1,5 +1,6 @@
 //! Runs on the checked machine.
 ghost use Rattle.std.specs.Prelude.{◌≡◌, ◌≢◌, ◌≤◌};
+ghost use Rattle.isa_model.specs.Runs.{max_steps};
 ghost use Rattle.isa_model.specs.Reports.{checked_report};
 ghost use Rattle.host.specs.Reported.{Reports};
 
@@ -20,7 +21,7 @@ struct CheckedRunner {
     machine: Checked,
     limit: u32,
     ghost some: { 1 ≤ limit },
-    ghost most: { limit ≤ 1000000 },
+    ghost most: { limit ≤ max_steps },
 }
 
 impl Runner for CheckedRunner {
@@ -52,7 +53,7 @@ pub fn run_checked<R: Read + Drop, W1: Write, W2: Write>(
     out: &mut W2,
 ) -> Result<Tally, HostError>
     requires some { 1 ≤ limit }
-    requires most { limit ≤ 1000000 }
+    requires most { limit ≤ max_steps }
     ensures report_untouched { result ≡ Err HostError.Memory → W1.contents report.new ≡ W1.contents report.old }
     ensures out_untouched { result ≡ Err HostError.Memory → W2.contents out.new ≡ W2.contents out.old }
     ensures reports { result ≢ Err HostError.Memory → Reports (R.remaining source) (checked_report image limit)
