@@ -7,7 +7,7 @@ use Rattle.isa_model.specs.declared.streams.Finish.{Finish}
 use Rattle.isa_model.specs.declared.streams.Finish.TheVariants as finish
 use Rattle.isa_model.specs.Streams.{Frame, Input, Ending, ByEnd, ByError, Position, Fresh, At, Done, opening, frame_bytes, stop_at, stop_from, after_frame, position_after, number_of, bytes_from, IsOpen, AreOpen, stream_of}
 use Rattle.isa_model.specs.StreamLaws.{number_of-position_after, position_after-append, bytes_from-append, AreOpen-append, stream_of-stops}
-use Rattle.frames.specs.Reading.{Found, Stopped, Stops, Reads, next_position}
+use Rattle.frames.specs.Reading.{Found, Stopped, Stops, Reads, CanStop, next_position}
 
 -- What was heard of a source with these bytes: all of them and then an end, or a front of them and then an error;
 -- an error only where the stream's fault is F5.
@@ -17,11 +17,11 @@ pub record Hears (bytes : List ℕ) (input : Input) : Type 0 where
   pub all : input.ending ≡ ByEnd → unheard ≡ []
   pub error : input.ending ≡ ByError → (offset : ℕ) × ((stream_of input).1 ≡ finish.Fault F5 offset)
 
--- A source with these bytes had these frames, and then this end or fault: they are the stream of an input that was
--- heard of it.
-pub record IsHeard (bytes : List ℕ) (found : List Frame × Finish) : Type 0 where
+-- A source had these frames, and then this end or fault: they are the stream of an input, which was heard of the
+-- source's bytes where it tells them.
+pub record IsHeard (source : Option (List ℕ)) (found : List Frame × Finish) : Type 0 where
   pub input : Input
-  pub hears : Hears bytes input
+  pub hears : IfSome source (λ bytes. Hears bytes input)
   pub stream : stream_of input ≡ found
 
 -- Frames were found, from a fresh reader on, of which the source had the bytes `old` at the start and has `known` now.
@@ -91,9 +91,14 @@ heard_stop p rest new (finish.Fault F6 o) h = whole_stop p rest (finish.Fault F6
 
 -- Where the reader stops, the frames that it found and that stop were heard.
 pub HasFound-stops : (frames : List Frame) (old known new : Option (List ℕ)) (p : Position) (stop : Finish) → HasFound frames old known p → Reads p known new (Stopped stop)
-    → IfSome old (λ bytes. IsHeard bytes (frames, stop))
-HasFound-stops frames None known new p stop s r = tt
-HasFound-stops frames (Some bytes) known new p stop s r =
+    → CanStop p stop → IsHeard old (frames, stop)
+HasFound-stops frames None known new p stop s r can =
+    record {
+      input = record { bytes = bytes_from Fresh frames ++ can.bytes; ending = can.ending };
+      hears = tt;
+      stream = stream_of-stops frames can.bytes can.ending stop s.are_open (subst (λ (x : Position). stop_from x can.bytes can.ending ≡ Some stop) s.stands can.stops);
+    }
+HasFound-stops frames (Some bytes) known new p stop s r can =
     let (rest, is_known, split) = left_of frames bytes known s.lost in
     let h = heard_stop p rest new stop (subst (λ (k : Option (List ℕ)). Reads p k new (Stopped stop)) is_known r) in
     let same : stream_of (record { bytes = bytes_from Fresh frames ++ h.heard; ending = h.ending }) ≡ (frames, stop) =
@@ -134,20 +139,20 @@ breaks [] = refl
 breaks (f ∷ frames) = breaks_behind 1 (4 + (20 + length f.body)) frames
 
 -- Where nothing more is read, the frames that were found were heard, as those of an input that breaks off behind them.
-pub HasFound-breaks : (frames : List Frame) (old known : Option (List ℕ)) (p : Position) → HasFound frames old known p
-    → IfSome old (λ bytes. IsHeard bytes (frames, broken_off frames))
-HasFound-breaks frames None known p s = tt
-HasFound-breaks frames (Some bytes) known p s =
-    let (rest, is_known, split) = left_of frames bytes known s.lost in
-    let same : stream_of (record { bytes = bytes_from Fresh frames ++ []; ending = ByError }) ≡ (frames, broken_off frames) =
-    stream_of-stops frames [] ByError (broken_off frames) s.are_open (breaks frames) in
-    record {
-      input = record { bytes = bytes_from Fresh frames ++ []; ending = ByError };
-      hears = record {
-        unheard = rest;
-        split = split ∙ ap (λ l. l ++ rest) (sym (append-nil (bytes_from Fresh frames)));
-        all = λ e. cc;
-        error = λ e. (offset_of (position_after Fresh frames), ap (λ (t : List Frame × Finish). t.1) same);
-      };
-      stream = same;
-    }
+pub HasFound-breaks : (frames : List Frame) (old known : Option (List ℕ)) (p : Position) → HasFound frames old known p → IsHeard old (frames, broken_off frames)
+HasFound-breaks frames old known p s =
+    let input : Input = record { bytes = bytes_from Fresh frames ++ []; ending = ByError } in
+    let same : stream_of input ≡ (frames, broken_off frames) = stream_of-stops frames [] ByError (broken_off frames) s.are_open (breaks frames) in
+    record { input = input; hears = heard old s.lost input refl refl same; stream = same }
+  where
+    heard : (old : Option (List ℕ)) → Consumes old known (bytes_from Fresh frames) → (input : Input) → input.bytes ≡ bytes_from Fresh frames ++ [] → input.ending ≡ ByError
+        → stream_of input ≡ (frames, broken_off frames) → IfSome old (λ bytes. Hears bytes input)
+    heard None lost input is ends same = tt
+    heard (Some bytes) lost input is ends same =
+        let (rest, is_known, split) = left_of frames bytes known lost in
+        record {
+          unheard = rest;
+          split = split ∙ ap (λ l. l ++ rest) (sym (is ∙ append-nil (bytes_from Fresh frames)));
+          all = λ e. cc;
+          error = λ e. (offset_of (position_after Fresh frames), ap (λ (t : List Frame × Finish). t.1) same);
+        }

@@ -3,7 +3,7 @@ ghost use Rattle.std.specs.Prelude.{◌≡◌, ◌+◌, ◌*◌, ◌≤◌, Opti
 ghost use Rattle.isa_model.specs.MachineStates.{AreBytes};
 ghost use Rattle.isa_model.specs.Streams.{Position, Fresh, At};
 ghost use Rattle.frames.specs.Reading.{finding_of, next_position, Reads, HasRoom, FitsBuffer, StaysDone};
-ghost use Rattle.frames.specs.Stages.{ReadsMagic, HasRoomFor, IsStageAfter};
+ghost use Rattle.frames.specs.Stages.{ReadsMagic, MayFail, HasRoomFor, IsStageAfter};
 
 use super::heads::decode_head;
 use exact_io::{Filled, fill};
@@ -114,7 +114,8 @@ fn stage_after(number: u32, offset: u64, next: &Next) -> Stage
 
 // Reads the magic, or says what stands in its place.
 fn read_magic<R: Read>(source: &mut R) -> Option<Fault>
-    ensures { ReadsMagic (R.remaining source.old) (R.remaining source.new) result }
+    ensures bytes { ReadsMagic (R.remaining source.old) (R.remaining source.new) result }
+    ensures room { MayFail result }
 {
     let mut magic = [0; 4];
     match fill(source, &mut magic) {

@@ -7,7 +7,7 @@ use Rattle.isa_model.specs.declared.streams.Finish.{Finish}
 use Rattle.isa_model.specs.States.{Entries}
 use Rattle.isa_model.specs.Streams.{Frame, magic, Position, Fresh, number_of, IsOpen}
 use Rattle.isa_model.specs.Reports.{Piece, Rule, ToReport, ToFrames, turns_pieces, contents_after, frame_pieces, maps_pieces, last_line, report_of}
-use Rattle.frames.specs.Reading.{Found, Stopped, Reads, next_position}
+use Rattle.frames.specs.Reading.{Found, Stopped, Reads, CanStop, next_position}
 use Rattle.frames.specs.Inputs.{HasFound, HasFound-fresh, HasFound-next, HasFound-count, HasFound-stops, HasFound-breaks, broken_off}
 use Rattle.host.specs.declared.errors.HostError.{HostError}
 use Rattle.host.specs.declared.errors.HostError.TheVariants as failure
@@ -129,11 +129,11 @@ last_written front before r s g number count stop (Err e) n w ok err kind =
 
 -- the stream stopped, and the last line was written, or failed
 pub run_ended : (frames : List Frame) (old known new : Option (List ℕ)) (p : Position) (number limit : ℕ) (rows : List MapDef) (rule : Rule) (start contents : List Entries) (before : Outputs) (r s g : Option (List ℕ)) (stop : Finish) (result : Result Tally HostError)
-    → rows ≡ [] → SoFar frames old known p number limit rule start contents before (record { report = r; frames = g }) → Reads p known new (Stopped stop)
+    → rows ≡ [] → SoFar frames old known p number limit rule start contents before (record { report = r; frames = g }) → Reads p known new (Stopped stop) → CanStop p stop
     → OnOk result (Appends r s (last_line number stop)) → OnErr result (AppendsBeginning r s (last_line number stop)) → IfErr result (λ e. e ≡ failure.Report)
     → IfOk result (λ tally. tally ≡ tally_of number stop)
     → Reports old (λ found. report_of limit rows rule start found) before (record { report = s; frames = g }) result
-run_ended frames old known new p number limit rows rule start contents before r s g stop result none so h ok err kind tally =
+run_ended frames old known new p number limit rows rule start contents before r s g stop result none so h can ok err kind tally =
     let count = count_of frames old known p number limit rule start contents before (record { report = r; frames = g }) so in
     let no_lines : [] ≡ maps_pieces 0 rows (contents_after rule start frames) = ap (λ (x : List MapDef). maps_pieces 0 x (contents_after rule start frames)) (sym none) in
     let front = ToFrames magic ∷ turns_pieces limit rule 0 start frames in
@@ -142,7 +142,7 @@ run_ended frames old known new p number limit rows rule start contents before r 
       frames = frames;
       finish = stop;
       are_open = so.found.are_open;
-      heard = HasFound-stops frames old known new p stop so.found h;
+      heard = HasFound-stops frames old known new p stop so.found h can;
       writes = subst (λ (l : List Piece). Writes before (record { report = s; frames = g }) result (front ++ (l ++ last))) no_lines
           (last_written front before r s g number (length frames) stop result count so.wrote ok err kind);
       tells = subst (λ (n : ℕ). IfOk result (λ t. t ≡ tally_of n stop)) count tally;

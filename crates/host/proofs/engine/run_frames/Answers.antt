@@ -25,9 +25,9 @@ returns-in-Err-run_frame-clause-reports g c =
 pub returns-in-End-clause-reports : goal.returns-in-End-clause-reports
 returns-in-End-clause-reports g c =
     let (frames, s, r) = c.turns.invariant in
-    run_ended frames _ _ _ _ _ _ _ _ _ _ _ _ _ _ _ _ c.requires s c.in-End.ensures.bytes c.end_run.ensures.ok c.end_run.ensures.err c.end_run.ensures.kind c.end_run.ensures.tally
+    run_ended frames _ _ _ _ _ _ _ _ _ _ _ _ _ _ _ _ c.requires s c.in-End.ensures.bytes c.in-End.ensures.room c.end_run.ensures.ok c.end_run.ensures.err c.end_run.ensures.kind c.end_run.ensures.tally
 
 pub returns-in-Fault-clause-reports : goal.returns-in-Fault-clause-reports
 returns-in-Fault-clause-reports g c =
     let (frames, s, r) = c.turns.invariant in
-    run_ended frames _ _ _ _ _ _ _ _ _ _ _ _ _ _ _ _ c.requires s c.in-Fault.ensures.bytes c.end_run-in-Fault.ensures.ok c.end_run-in-Fault.ensures.err c.end_run-in-Fault.ensures.kind c.end_run-in-Fault.ensures.tally
+    run_ended frames _ _ _ _ _ _ _ _ _ _ _ _ _ _ _ _ c.requires s c.in-Fault.ensures.bytes c.in-Fault.ensures.room c.end_run-in-Fault.ensures.ok c.end_run-in-Fault.ensures.err c.end_run-in-Fault.ensures.kind c.end_run-in-Fault.ensures.tally
