@@ -83,6 +83,11 @@ pub SlotMeans-spilled : (e f : Assigned) (k l : Kind) (cs : List Cell) → ((v :
     → SlotMeans e (Spilled k) cs → SlotMeans f (Spilled l) cs
 SlotMeans-spilled e f k l cs more h = (h.0, more h.0 h.1, h.2)
 
+-- marks of bytes that are marked in the slot, whatever it is
+pub SlotMeans-marks : (e f : Assigned) (s : Slot) (marks : ℕ) (cs : List Cell)
+    → ((i : ℕ) → i < 8 → bit_at marks i ≡ 1 → bit_at (marks_of s) i ≡ 1) → SlotMeans e s cs → SlotMeans f (Written marks) cs
+SlotMeans-marks e f s marks cs fewer h = λ i within bit. marked_slot e s cs h i within (fewer i within bit)
+
 -- of a new frame nothing is known
 pub StackMeans-new : (e : Assigned) (cells : List Cell) → length cells ≡ 512 → StackMeans e (replicate 64 (Written 0)) cells
 StackMeans-new e cells wide = record {
