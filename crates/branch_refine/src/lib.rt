@@ -78,6 +78,3 @@ pub fn refine_in_place(cond: Cond, taken: bool, state: &mut State) -> bool
     set_operand(state, cond.operand, new_right);
     true
 }
-
-#[cfg(test)]
-mod tests;

@@ -19,6 +19,3 @@ mod steps;
 mod values;
 
 pub use checked::{Checked, VmError};
-
-#[cfg(test)]
-mod tests;

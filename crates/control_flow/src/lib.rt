@@ -13,6 +13,3 @@ mod targets;
 
 pub use errors::FlowError;
 pub use flows::Flow;
-
-#[cfg(test)]
-mod tests;

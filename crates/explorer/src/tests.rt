@@ -1,155 +1,170 @@
-//! Small programs, spelled by hand, with their bounds or refusals. A slot is written as its eight bytes in order.
+//! What the index proposes, on which no contract rests.
 
-mod advice;
-mod covered;
-mod verdicts;
-
-use crate::Refusal::{Repeats, TooLong};
-use crate::{Refusal, verify};
-use image::Image;
-use std::alloc::{AllocError, Global};
+use crate::fingerprints::fingerprint_of;
+use crate::index::{Index, Places};
+use crate::table::Table;
+use isa_model::Width;
+use known_bits::Bits;
+use ranges::Range;
+use reg_state::{Domain, Kind, Scalar};
+use stack_state::State;
 use std::test::Fail;
 
-/// `r0 = 2`.
-const TWO: u64 = 0xb700_0000_0200_0000;
-
-/// `exit`.
-const EXIT: u64 = 0x9500_0000_0000_0000;
-
-/// `r1 = 0`.
-const CLEAR: u64 = 0xb701_0000_0000_0000;
-
-/// `r1 += 1`.
-const COUNT: u64 = 0x0701_0000_0100_0000;
-
-/// The image of some code.
-fn image(alloc: Global, code: &[u64]) -> Result<Image, Fail> {
-    let mut bytes = Vec::new(alloc);
-    bytes.extend_from_slice(b"XBP1\0\0")?;
-    bytes.push((code.len() % 256) as u8)?;
-    bytes.push((code.len() / 256 % 256) as u8)?;
-    for slot in code {
-        bytes.extend_from_slice(&slot.to_be_bytes())?;
+/// The places counted from 1, as decimal digits, so that a list is one number.
+fn digits(places: Places<'_>) -> usize {
+    let mut number = 0usize;
+    for place in places {
+        number = number.wrapping_mul(10).wrapping_add(place).wrapping_add(1);
     }
-    Ok(Image::parse(alloc, &bytes)?)
+    number
 }
 
-/// The bound of some code, or why it is refused.
-fn verdict(alloc: Global, code: &[u64]) -> Result<Result<u32, (Refusal, usize)>, Fail> {
-    let image = image(alloc, code)?;
-    match verify(alloc, image) {
-        Ok(verified) => Ok(Ok(verified.bound())),
-        Err(refusal) => Ok(Err(refusal)),
+/// The start at a slot, with a kind in a register.
+fn state_with(slot: usize, register: usize, kind: Kind) -> State {
+    let mut state = State::start();
+    state.slot = slot;
+    for frame in state.frames.as_mut_slice() {
+        if let Some(place) = frame.registers.get_mut(register) {
+            *place = kind;
+        }
     }
+    state
 }
 
-/// Some slots, others so many times, and the rest.
-fn repeated(
-    alloc: Global,
-    first: &[u64],
-    again: &[u64],
-    times: usize,
-    last: &[u64],
-) -> Result<Vec<u64>, AllocError> {
-    let mut code = Vec::from_slice(alloc, first)?;
-    for _ in 0..times {
-        code.extend_from_slice(again)?;
+/// The start at a slot, with a kind in r6.
+fn state_at(slot: usize, kind: Kind) -> State {
+    state_with(slot, 6, kind)
+}
+
+fn number(number: u64) -> Kind {
+    Kind::Number(Scalar::constant(number))
+}
+
+/// The finished entries that are proposed for a state, shape by shape.
+fn proposed(index: &Index, state: &State) -> usize {
+    let mut number = 0usize;
+    for shape in index.shapes_at(state.slot) {
+        if let Some(list) = index.list_for(shape, state) {
+            let found = digits(index.finished_in(list));
+            number = number.wrapping_mul(100_000).wrapping_add(found);
+        }
     }
-    code.extend_from_slice(last)?;
-    Ok(code)
+    number
 }
 
 #[test]
-fn straight_lines(rt: HostRuntime) -> Result<(), Fail> {
-    let alloc = rt.alloc();
-    assert_eq!(rt; verdict(alloc, &[TWO, EXIT])?, Ok(2));
-    // r0 = 0x102030405060708 ll; r0 = be16 r0; exit
-    let swap = [
-        0x1800_0000_0807_0605,
-        0x0000_0000_0403_0201,
-        0xdc00_0000_1000_0000,
-        EXIT,
-    ];
-    assert_eq!(rt; verdict(alloc, &swap)?, Ok(3));
-    let long = repeated(alloc, &[], &[TWO], 4095, &[EXIT])?;
-    assert_eq!(rt; verdict(alloc, &long)?, Ok(4096));
+fn entries_come_in_order(rt: HostRuntime) -> Result<(), Fail> {
+    let mut index = Index::new(rt.alloc(), 3)?;
+    let five = state_at(1, number(5));
+    let six = state_at(1, number(6));
+    let other = state_at(2, number(5));
+    let like_five = fingerprint_of(&five);
+    index.add(&five)?;
+    index.add(&six)?;
+    index.add(&five)?;
+    index.add(&other)?;
+    index.add(&five)?;
+    assert_eq!(rt; digits(index.unfinished_like(like_five)), 531);
+    assert_eq!(rt;
+        (index.is_like(2, like_five), index.is_like(1, like_five)),
+        (true, false)
+    );
+    // the last one that was stored is finished first
+    index.finish(4);
+    index.finish(3);
+    index.finish(2);
+    assert_eq!(rt;
+        (proposed(&index, &five), proposed(&index, &other)),
+        (35, 4)
+    );
+    assert_eq!(rt; digits(index.unfinished_like(like_five)), 1);
+    index.add(&five)?;
+    index.finish(5);
+    index.finish(1);
+    assert_eq!(rt; (proposed(&index, &five), proposed(&index, &six)), (356, 2));
+    index.finish(0);
+    assert_eq!(rt; proposed(&index, &five), 1356);
+    assert_eq!(rt; digits(index.unfinished_like(like_five)), 0);
+    // one more goes behind the last
+    index.add(&five)?;
+    index.finish(6);
+    assert_eq!(rt; proposed(&index, &five), 13_567);
+    // a state that knows nothing of r6 is proposed, too
+    index.add(&state_at(1, Kind::Number(Scalar::any(Width::Full64))))?;
+    index.finish(7);
+    assert_eq!(rt; proposed(&index, &five), 813_567);
+    assert_eq!(rt; proposed(&index, &State::start()), 0);
     Ok(())
 }
 
 #[test]
-fn divisions(rt: HostRuntime) -> Result<(), Fail> {
-    let alloc = rt.alloc();
-    // r0 = 0x100000002 ll; w1 = 0; w0 %= w1; exit
-    let modulo = [
-        0x1800_0000_0200_0000,
-        0x0000_0000_0100_0000,
-        0xb401_0000_0000_0000,
-        0x9c10_0000_0000_0000,
-        EXIT,
-    ];
-    assert_eq!(rt; verdict(alloc, &modulo)?, Ok(4));
-    // r0 = 0x8000000000000000 ll; r1 = -1; r0 s/= r1; r0 >>= 62; exit
-    let least = [
-        0x1800_0000_0000_0000,
-        0x0000_0000_0000_0080,
-        0xb701_0000_ffff_ffff,
-        0x3f10_0100_0000_0000,
-        0x7700_0000_3e00_0000,
-        EXIT,
-    ];
-    assert_eq!(rt; verdict(alloc, &least)?, Ok(5));
-    // r0 = -1; r1 = 0; w0 %= w1, or s%=; r0 >>= 31; exit
-    for modulo in [0x9c10_0000_0000_0000, 0x9c10_0100_0000_0000] {
-        let code = [
-            0xb700_0000_ffff_ffff,
-            CLEAR,
-            modulo,
-            0x7700_0000_1f00_0000,
-            EXIT,
-        ];
-        assert_eq!(rt; verdict(alloc, &code)?, Ok(5));
+fn names_of_identities_do_not_count(rt: HostRuntime) {
+    let packet = |identity, proved| Kind::Packet {
+        fixed: 0,
+        identity,
+        least: 0,
+        greatest: 60,
+        proved,
+    };
+    let one = fingerprint_of(&state_at(1, packet(1, 14)));
+    assert_eq!(rt; fingerprint_of(&state_at(1, packet(2, 14))), one);
+    assert_ne!(rt; fingerprint_of(&state_at(1, packet(1, 10))), one);
+    let value = |index, identity| Kind::MapValueOrNull { index, identity };
+    let one = fingerprint_of(&state_at(1, value(0, 1)));
+    assert_eq!(rt; fingerprint_of(&state_at(1, value(0, 2))), one);
+    assert_ne!(rt; fingerprint_of(&state_at(1, value(1, 1))), one);
+}
+
+/// A state whose number is another one in one register alone, in its low or its high half, is not looked at.
+#[test]
+fn each_register_counts(rt: HostRuntime) -> Result<(), Fail> {
+    for register in 0..10usize {
+        for unit in [1u64, 1 << 40] {
+            let mut index = Index::new(rt.alloc(), 2)?;
+            let five = state_with(1, register, number(5 * unit));
+            let six = state_with(1, register, number(6 * unit));
+            index.add(&five)?;
+            index.add(&six)?;
+            let like_six = fingerprint_of(&six);
+            assert_eq!(rt; digits(index.unfinished_like(like_six)), 2, "r{register}");
+            assert_ne!(rt; fingerprint_of(&five), like_six, "r{register}");
+            index.finish(1);
+            index.finish(0);
+            let found = (proposed(&index, &five), proposed(&index, &six));
+            assert_eq!(rt; found, (1, 2), "r{register}");
+        }
     }
     Ok(())
 }
 
+/// An equal state is found behind a newer one that differs in its signed limits alone, which have no part in
+/// fingerprints.
 #[test]
-fn loops(rt: HostRuntime) -> Result<(), Fail> {
+fn each_unfinished_state_is_compared(rt: HostRuntime) -> Result<(), Fail> {
     let alloc = rt.alloc();
-    // if r1 < 10 goto -2; if r1 < 300000 goto -2
-    let ten = [CLEAR, COUNT, 0xa501_feff_0a00_0000, TWO, EXIT];
-    assert_eq!(rt; verdict(alloc, &ten)?, Ok(23));
-    let many = [CLEAR, COUNT, 0xa501_feff_e093_0400, TWO, EXIT];
-    assert_eq!(rt; verdict(alloc, &many)?, Ok(600_003));
-    // r0 = 0; goto -1
-    let endless = [0xb700_0000_0000_0000, 0x0500_ffff_0000_0000];
-    assert_eq!(rt; verdict(alloc, &endless)?, Err((Repeats, 1)));
-    // the same at the last slot that code can have
-    let far = repeated(alloc, &[], &[TWO], 4095, &[0x0500_ffff_0000_0000])?;
-    assert_eq!(rt; verdict(alloc, &far)?, Err((Repeats, 4095)));
+    let within = |least, greatest| {
+        let range = Range::signed_between(least, greatest);
+        let bits = Bits::any(Width::Full64);
+        state_at(1, Kind::Number(Scalar { bits, range }))
+    };
+    let mut table = Table::new(alloc, 2)?;
+    let mut scratch = State::start();
+    table.store(alloc, &within(-5, 5))?;
+    table.store(alloc, &within(-6, 6))?;
+    assert!(rt; table.repeats(&within(-5, 5), &mut scratch));
+    assert!(rt; table.repeats(&within(-6, 6), &mut scratch));
+    assert!(rt; !table.repeats(&within(-5, 6), &mut scratch));
     Ok(())
 }
 
+/// Unfinished states of which other bits or other limits are known are not looked at.
 #[test]
-fn joins(rt: HostRuntime) -> Result<(), Fail> {
-    let alloc = rt.alloc();
-    // r7 = *(u32 *)(r1 + 12); if r7 == 0 goto +0
-    let pair = [0x6117_0c00_0000_0000, 0x1507_0000_0000_0000];
-    let branches = repeated(alloc, &[TWO], &pair, 20, &[EXIT])?;
-    assert_eq!(rt; verdict(alloc, &branches)?, Ok(42));
-    // r6 = *(u32 *)(r1 + 12); if r6 != 0 goto -2; r0 = 2; exit
-    let again = [0x6116_0c00_0000_0000, 0x5506_feff_0000_0000, TWO, EXIT];
-    assert_eq!(rt; verdict(alloc, &again)?, Err((Repeats, 0)));
-    Ok(())
-}
-
-#[test]
-fn limit(rt: HostRuntime) -> Result<(), Fail> {
-    let alloc = rt.alloc();
-    // if r1 < 254 goto -3937
-    let back = 0xa501_9ff0_fe00_0000;
-    let most = repeated(alloc, &[CLEAR, COUNT], &[TWO], 3935, &[back, EXIT])?;
-    assert_eq!(rt; verdict(alloc, &most)?, Ok(1_000_000));
-    let over = repeated(alloc, &[CLEAR, COUNT], &[TWO], 3935, &[back, TWO, EXIT])?;
-    assert_eq!(rt; verdict(alloc, &over)?, Err((TooLong, 3939)));
-    Ok(())
+fn bits_and_limits_count(rt: HostRuntime) {
+    let any = Scalar::any(Width::Full64);
+    let bits = Bits::between(0, 1023);
+    let range = Range::between(0, 900);
+    let print = |bits, range| fingerprint_of(&state_at(1, Kind::Number(Scalar { bits, range })));
+    assert_ne!(rt; print(bits, range), print(any.bits, range));
+    assert_ne!(rt; print(bits, range), print(bits, Range::between(0, 901)));
+    assert_ne!(rt; print(bits, range), print(bits, Range::between(1, 900)));
 }

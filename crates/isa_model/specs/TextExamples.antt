@@ -14,7 +14,7 @@ use Rattle.isa_model.specs.declared.instructions.AtomicOp.TheVariants as atomic
 use Rattle.isa_model.specs.declared.instructions.Comparison.TheVariants.{Equal, NotEqual, Greater, GreaterEqual, Less, LessEqual, AnyBit, SignedGreater, SignedGreaterEqual, SignedLess, SignedLessEqual}
 use Rattle.isa_model.specs.declared.instructions.Operand.TheVariants.{Constant, Register}
 use Rattle.isa_model.specs.declared.instructions.Insn.TheVariants as insn
-use Rattle.isa_model.specs.declared.map_defs.MapKind.TheVariants.{Array}
+use Rattle.isa_model.specs.declared.map_defs.MapKind.TheVariants.{Hash, Array}
 use Rattle.isa_model.specs.Instructions.{slots}
 use Rattle.isa_model.specs.CanonicalText.{line_of, row_line, canonical_text}
 
@@ -122,6 +122,11 @@ conditional_jump = refl
 pub calls : line_of (insn.CallLocal (pos 1)) ++ line_of (insn.CallLocal (negsuc 8)) ≡ codes "call pc+1\ncall pc-9\n"
 unfolding line_of digits
 calls = refl
+
+pub hash_row : row_line (record { kind = Hash; key_size = 64; value_size = 4096; entries = 65536 })
+    ≡ codes "map hash 64 4096 65536\n"
+unfolding row_line digits
+hash_row = refl
 
 -- a map row, then the instructions; a wide load has one line
 pub program : canonical_text (record {

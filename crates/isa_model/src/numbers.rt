@@ -175,6 +175,3 @@ pub fn compare(comparison: Comparison, width: Width, a: u64, b: u64) -> bool
         Comparison::SignedLessEqual => as_signed(width, a) <= as_signed(width, b),
     }
 }
-
-#[cfg(test)]
-mod tests;

@@ -10,6 +10,3 @@ mod shifts;
 mod sums;
 
 pub use bits::Bits;
-
-#[cfg(test)]
-mod tests;

@@ -2,7 +2,5 @@
 #![tactic(auto)]
 
 pub mod machines;
-#[cfg(test)]
-mod tests;
 
 pub use machines::{Exit, Machine, VmError};

@@ -10,6 +10,3 @@ mod shifts;
 mod sums;
 
 pub use range::Range;
-
-#[cfg(test)]
-mod tests;

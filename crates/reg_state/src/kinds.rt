@@ -161,6 +161,3 @@ impl Kind {
         }
     }
 }
-
-#[cfg(test)]
-mod tests;

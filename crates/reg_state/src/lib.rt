@@ -12,6 +12,3 @@ pub use comparisons::refine;
 pub use domains::Domain;
 pub use kinds::Kind;
 pub use scalars::Scalar;
-
-#[cfg(test)]
-mod tests;

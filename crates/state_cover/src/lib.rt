@@ -87,6 +87,3 @@ fn kind_covers(left: Kind, right: Kind, a: &[AbstractFrame], b: &[AbstractFrame]
 {
     left.covers(right, name_in(left, a, b))
 }
-
-#[cfg(test)]
-mod tests;

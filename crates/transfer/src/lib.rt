@@ -17,8 +17,6 @@ mod memory;
 mod pointers;
 pub mod refusals;
 mod steps;
-#[cfg(test)]
-mod tests;
 
 use crate::steps::{perform, reads_unset};
 use image::Image;

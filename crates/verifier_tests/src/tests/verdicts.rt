@@ -2,8 +2,8 @@
 //!
 //! Where memory runs out the test fails with the refusal's name, V0 or G6, and never with another verdict.
 
-use crate::{Refusal, verify};
 use control_flow::FlowError;
+use explorer::{Refusal, verify};
 use image::Image;
 use isa_model::{AluOp, Comparison, Cond, Insn, Operand, Place, Reg, Size, Width};
 use std::alloc::Global;

@@ -1,11 +1,12 @@
 //! Which states cover which, on examples.
 
-use super::*;
 use arrayvec::ArrayVec;
 use isa_model::Width;
 use known_bits::Bits;
 use ranges::Range;
-use reg_state::Scalar;
+use reg_state::{Kind, Scalar};
+use stack_state::{AbstractFrame, State};
+use state_cover::covers;
 use std::test::Fail;
 
 fn packet(identity: u32, proved: u32) -> Kind {

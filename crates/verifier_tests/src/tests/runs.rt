@@ -1,28 +1,27 @@
 //! Worked examples of whole runs.
 
-ghost use Rattle.std.proofs.Common.{lit<};
-
-use super::{BAD_ACCESS, HEAD, place};
-use crate::checked::Checked;
+use super::clocks::Stopped;
+use checked_vm::Checked;
 use image::Image;
 use isa_model::AluOp::{Add, Mov, Sub};
 use isa_model::Comparison::Less;
 use isa_model::Width::Full64;
-use isa_model::{AluOp, Clock, Cond, End, Insn, Operand, Place, Reg, Size, TrapReason};
+use isa_model::{AluOp, Cond, End, FrameHead, Insn, Operand, Place, Reg, Size, TrapReason};
 use std::alloc::Global;
 use std::test::Fail;
 
-/// A clock that stands still at 0.
-#[derive(Drop)]
-struct Stopped;
+const BAD_ACCESS: TrapReason = TrapReason::BadAccess;
 
-impl Clock for Stopped {
-    ghost at = { λ _ _. 0 };
+const HEAD: FrameHead = FrameHead {
+    time: 0,
+    interface: 5,
+    queue: 6,
+};
 
-    ghost within = { λ _ _. lit< tt };
-
-    fn now(&mut self) -> u64 {
-        0
+fn place(offset: i16) -> Place {
+    Place {
+        base: Reg::R10,
+        offset,
     }
 }
 

@@ -1,7 +1,9 @@
 //! Small programs, spelled by hand, with the verdicts on their control flow.
 
-use crate::FlowError::{FallsOff, Memory, OtherFunction, SecondHalf, TargetOutside, Unreachable};
-use crate::{Flow, FlowError};
+use control_flow::FlowError::{
+    FallsOff, Memory, OtherFunction, SecondHalf, TargetOutside, Unreachable,
+};
+use control_flow::{Flow, FlowError};
 use image::Image;
 use std::alloc::{AllocError, Global};
 use std::test::Fail;

@@ -1,11 +1,11 @@
 //! Worked examples: where small programs are refused, and what is known of registers on the way.
 
-use crate::{Refusal, Successors, step};
 use image::Image;
 use isa_model::Reg;
 use reg_state::{Domain, Kind};
 use stack_state::State;
 use std::test::Fail;
+use transfer::{Refusal, Successors, step};
 
 const EXIT: [u8; 8] = [0x95, 0, 0, 0, 0, 0, 0, 0];
 

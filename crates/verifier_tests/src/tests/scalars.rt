@@ -1,11 +1,9 @@
 //! How precise the answers are, worked out by hand, and each function over a domain at each domain.
 
-use crate::comparisons::refine;
-use crate::domains::Domain;
-use crate::scalars::Scalar;
 use isa_model::{AluOp, ByteOrder, Comparison, Extension, Span, Width};
 use known_bits::Bits;
 use ranges::Range;
+use reg_state::{Domain, Scalar, refine};
 use std::test::Fail;
 
 const FULL: Width = Width::Full64;

@@ -3,7 +3,7 @@
 ghost use Rattle.std.specs.Prelude.{◌<◌};
 ghost use Rattle.stack_state.specs.Meaning.{depth};
 
-use crate::{Branch, refine};
+use branch_refine::{Branch, refine};
 use isa_model::{Comparison, Cond, Operand, Reg, Width};
 use reg_state::{Domain, Kind, Scalar};
 use stack_state::State;

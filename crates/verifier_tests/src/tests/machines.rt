@@ -1,30 +1,15 @@
 //! Small programs, verified and run, with their bounds, numbers and steps.
 
-ghost use Rattle.std.proofs.Common.{lit<};
-
-use crate::{Exit, Machine};
+use super::clocks::Stopped;
 use explorer::verify;
 use image::Image;
 use isa_model::AluOp::Mov;
 use isa_model::Comparison::Equal;
 use isa_model::Width::Full64;
-use isa_model::{Clock, Cond, FrameHead, Insn, Operand, Place, Reg, Size};
+use isa_model::{Cond, FrameHead, Insn, Operand, Place, Reg, Size};
+use machine::{Exit, Machine};
 use std::alloc::Global;
 use std::test::Fail;
-
-/// A clock that stands still at 0.
-#[derive(Drop)]
-struct Stopped;
-
-impl Clock for Stopped {
-    ghost at = { λ _ _. 0 };
-
-    ghost within = { λ _ _. lit< tt };
-
-    fn now(&mut self) -> u64 {
-        0
-    }
-}
 
 /// The machine of some code.
 fn machine_of(alloc: Global, code: &[Insn]) -> Result<Machine, Fail> {

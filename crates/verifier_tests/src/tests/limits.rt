@@ -1,7 +1,7 @@
 //! How precise the answers are, worked out by hand: limits of real shapes.
 
-use crate::range::Range;
 use isa_model::{AluOp, ByteOrder, Extension, Span, Width};
+use ranges::Range;
 use std::test::Fail;
 
 const FULL: Width = Width::Full64;

@@ -2,7 +2,7 @@
 
 ghost use Rattle.std.specs.Prelude.{◌<◌};
 
-use super::{EXIT, TWO, repeated, verdict};
+use super::bounds::{EXIT, TWO, repeated, verdict};
 use std::test::Fail;
 
 /// `r6 = *(u32 *)(r1 + 12)`.

@@ -1,9 +1,9 @@
 //! Which kinds cover which, on examples.
 
-use super::*;
 use isa_model::Width;
 use known_bits::Bits;
 use ranges::Range;
+use reg_state::{Kind, Scalar};
 use std::test::Fail;
 
 const OWN: u32 = 7;

@@ -1,6 +1,7 @@
 //! Vectors at the edges, worked out from the rules of RFC 9669, sections 4.1 to 4.3.
 
-use super::*;
+use isa_model::numbers::{compare, compute, negate, reorder, sign_extend};
+use isa_model::{AluOp, ByteOrder, Comparison, Extension, Span, Width};
 use std::test::Fail;
 
 const MINUS_ONE: u64 = 0xffff_ffff_ffff_ffff;

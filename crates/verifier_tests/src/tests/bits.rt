@@ -1,7 +1,7 @@
 //! How precise the answers are, worked out by hand: values and masks of real shapes.
 
-use crate::bits::Bits;
 use isa_model::{AluOp, ByteOrder, Extension, Span, Width};
+use known_bits::Bits;
 use std::test::Fail;
 
 const FULL: Width = Width::Full64;
