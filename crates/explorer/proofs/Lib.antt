@@ -3,3 +3,4 @@ pub mod Paths
 pub mod Steps
 pub mod Unfinished
 pub mod Walking
+pub mod Counting

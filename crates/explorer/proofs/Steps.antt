@@ -23,26 +23,29 @@ use Rattle.explorer.specs.declared.search.Visit.{Visit}
 use Rattle.explorer.specs.declared.search.Arrival.{Arrival}
 use Rattle.explorer.specs.declared.search.Arrival.TheVariants.{Known, New}
 use Rattle.explorer.specs.Table.{StoredAt, IsNumbered}
-use Rattle.explorer.specs.Search.{Arrives, EndsAlone, EndsCovered, GoesOn, AllFine, IsReady, IfReady, IfStepsTo, Waiting, Path, OnPath}
-use Rattle.explorer.proofs.Walking.{steps_by}
+use Rattle.explorer.specs.Search.{Settles, Spends, Arrives, EndsAlone, EndsCovered, GoesOn, AllFine, IsReady, IfReady, IfStepsTo, Waiting, Path, OnPath}
+use Rattle.explorer.proofs.Walking.{steps_by, into_by, Path-leads}
+use Rattle.explorer.proofs.Counting.{Spends-one, Spends-two}
+use Rattle.explorer.specs.Walks.{Leads}
+use Rattle.explorer.specs.Counts.{StepsInto, LeadsNowhere}
 use Rattle.explorer.proofs.Stores.{Keeps, Keeps-at, Keeps-same, AllFine-more, IsCovered-known, Arrives-keeps, Arrives-fine, Arrives-stored, IsNumbered-fine, IsNumbered-keeps}
 use Rattle.explorer.proofs.Unfinished.{OnPath-same, OnPath-push, OnPath-arrives, OnPath-finish}
-use Rattle.explorer.proofs.Paths.{Last, Waiting-more, Path-more, Path-push, Path-pop, Waits-ends, Waits-both, Waits-next, LeadsTo-ends, Waits-one, Waits-two}
+use Rattle.explorer.proofs.Paths.{Last, Waiting-more, Path-more, Path-push, Path-pop, Waits-ends, Waits-both, Waits-next, LeadsTo-ends, Waits-one, Waits-two, Awaits-ends, Awaits-both, Awaits-next, Awaits-one, Awaits-two}
 
 -- ---- a visit that ends
 
 -- what is known when a visit has its number
-pub record HasNumber (p : Program) (m : ℕ) (old new : List Stored) (s : State) (best : ℕ) : Type 0 where
-  pub within : Within p s (best + 1)
+pub record GetsNumber (p : Program) (m : ℕ) (old new : List Stored) (s : State) (best : ℕ) : Type 0 where
+  pub within : Settles p s (best + 1)
   pub most : best ≤ m
   pub keeps : Keeps old new
   pub fine : AllFine p m new
 
-pub visit_ends : (p : Program) (m : ℕ) (old new : List Stored) (visit : Visit) (s child : State) (n best : ℕ) → AllFine p m old → Waiting p m old visit s child → Within p child n → n ≤ m
-    → EndsAlone old visit n best new ⊎ EndsCovered p old visit n best new → HasNumber p m old new s best
+pub visit_ends : (p : Program) (m : ℕ) (old new : List Stored) (visit : Visit) (s child : State) (n best : ℕ) → AllFine p m old → Waiting p m old visit s child → Settles p child n → n ≤ m
+    → EndsAlone old visit n best new ⊎ EndsCovered p old visit n best new → GetsNumber p m old new s best
 visit_ends p m old new visit s child n best fine waiting within le (inl h) =
     record {
-      within = Waits-ends p visit s child n best waiting.waits h.nothing within h.best_is;
+      within = record { within = Waits-ends p visit s child n best waiting.waits h.nothing within.within h.best_is; number = Awaits-ends p visit s child n best waiting.awaits h.nothing within.number h.best_is };
       most = omega (arith, waiting.best, h.best_is);
       keeps = Keeps-same old new h.same;
       fine = subst (λ x. AllFine p m x) (sym h.same) fine;
@@ -50,7 +53,10 @@ visit_ends p m old new visit s child n best fine waiting within le (inl h) =
 visit_ends p m old new visit s child n best fine waiting within le (inr h) =
     let known = IsCovered-known p m old h.other h.known fine h.arrives.1 in
     record {
-      within = Waits-both p visit s child h.other n h.known best waiting.waits h.is_pending within known.0 h.best_is;
+      within = record {
+        within = Waits-both p visit s child h.other n h.known best waiting.waits h.is_pending within.within known.0.within h.best_is;
+        number = Awaits-both p visit s child h.other n h.known best waiting.awaits h.is_pending within.number known.0.number h.best_is;
+      };
       most = omega (arith, waiting.best, h.best_is, known.1);
       keeps = Arrives-keeps p old h.other (Known h.known) new h.arrives;
       fine = Arrives-fine p m old h.other (Known h.known) new h.arrives fine;
@@ -62,7 +68,7 @@ pub record IsBack (p : Program) (m : ℕ) (table : List Stored) (a : State) (pat
   pub fine : AllFine p m table
   pub before : Path p m table a path state
   pub on_path : OnPath table path None
-  pub within : Within p state number
+  pub within : Settles p state number
   pub most : number ≤ m
 
 ends_same : (p : Program) (old new : List Stored) (visit : Visit) (n best : ℕ) → EndsAlone old visit n best new ⊎ EndsCovered p old visit n best new → new ≡ old
@@ -70,16 +76,17 @@ ends_same p old new visit n best (inl h) = h.same
 ends_same p old new visit n best (inr h) = h.arrives.2
 
 pub step_back : (p : Program) (m : ℕ) (old mid new : List Stored) (a : State) (path : List Visit) (visit : Visit) (child : State) (n best : ℕ)
-    → AllFine p m old → Last p m old a path visit child → OnPath old path visit.stored → Within p child n → n ≤ m → EndsAlone old visit n best mid ⊎ EndsCovered p old visit n best mid
+    → a ≡ start → AllFine p m old → Last p m old a path visit child → OnPath old path visit.stored → Settles p child n → n ≤ m → EndsAlone old visit n best mid ⊎ EndsCovered p old visit n best mid
     → IsNumbered mid visit.stored (best + 1) new → IsBack p (m + 1) new a path (best + 1)
-step_back p m old mid new a path visit child n best fine last on_path within le ends numbered =
+step_back p m old mid new a path visit child n best root fine last on_path within le ends numbered =
     let s = last.state in
     let h = visit_ends p m old mid visit s child n best fine last.waiting within le ends in
     let at : StoredAt mid visit.stored s = Keeps-at old mid visit.stored s h.keeps last.waiting.stored in
     let kept = IsNumbered-keeps mid visit.stored s (best + 1) new numbered at in
     record {
       state = s;
-      fine = IsNumbered-fine p (m + 1) mid visit.stored s (best + 1) new numbered at h.within (omega (arith, h.most)) (AllFine-more p m (m + 1) mid (omega arith) h.fine);
+      fine = IsNumbered-fine p (m + 1) mid visit.stored s (best + 1) new numbered at h.within (omega (arith, h.most))
+          (length path, subst (λ x. Leads p (length path) x s) root (Path-leads p m old path a s last.before)) (AllFine-more p m (m + 1) mid (omega arith) h.fine);
       before = Path-more p (m + 1) (m + 1) mid new (omega arith) kept path a s (Path-more p m (m + 1) old mid (omega arith) h.keeps path a s last.before);
       on_path = OnPath-finish mid new path visit.stored s (best + 1) numbered at (omega arith) (OnPath-same old mid path visit.stored (ends_same p old mid visit n best ends) on_path);
       within = h.within;
@@ -97,14 +104,15 @@ pub record IsOn (p : Program) (m : ℕ) (table : List Stored) (a : State) (path 
 
 -- the path to the pending state, once the child has its number
 pub step_aside : (p : Program) (m : ℕ) (table : List Stored) (a : State) (path : List Visit) (visit : Visit) (child : State) (n : ℕ) (current : State)
-    → Last p m table a path visit child → Within p child n → n ≤ m → visit.pending ≡ Some current
+    → Last p m table a path visit child → Settles p child n → n ≤ m → visit.pending ≡ Some current
     → Path p m table a (path ++ record { pending = None; best = max visit.best n; stored = visit.stored } ∷ []) current
 step_aside p m table a path visit child n current last within le is =
     let s = last.state in
     let next : Visit = record { pending = None; best = max visit.best n; stored = visit.stored } in
     let waiting : Waiting p m table next s current =
     record {
-      waits = Waits-next p visit s child current n last.waiting.waits is within;
+      waits = Waits-next p visit s child current n last.waiting.waits is within.within;
+      awaits = Awaits-next p visit s child current n last.waiting.awaits is within.number;
       steps = subst (IfStepsTo p s) is last.waiting.steps_aside;
       steps_aside = tt;
       best = omega (arith, last.waiting.best);
@@ -114,7 +122,7 @@ step_aside p m table a path visit child n current last within le is =
     Path-push p m table path next a s current last.before waiting
 
 pub step_on : (p : Program) (m : ℕ) (old new : List Stored) (a : State) (path : List Visit) (visit : Visit) (child : State) (n : ℕ) (rest : Visit) (at : Option ℕ) (current : State) (whole : List Visit)
-    → AllFine p m old → Last p m old a path visit child → OnPath old path visit.stored → Within p child n → n ≤ m → GoesOn p old visit n rest at new current → whole ≡ path ++ rest ∷ []
+    → AllFine p m old → Last p m old a path visit child → OnPath old path visit.stored → Settles p child n → n ≤ m → GoesOn p old visit n rest at new current → whole ≡ path ++ rest ∷ []
     → IsOn p m new a whole at current
 step_on p m old new a path visit child n rest at current whole fine last on_path within le on e =
     let kept = Arrives-keeps p old current (New at) new on.arrives in
@@ -146,6 +154,7 @@ fetched p s ready = some_there (fetch p s.slot) ready.begins
 pub record Begins (p : Program) (m : ℕ) (table : List Stored) (visit : Visit) (s next : State) : Type 0 where
   pub waiting : Waiting p m table visit s next
   pub ready : IsReady p next
+  pub spends : Spends p visit s next 1
 
 pub one_way : (p q : Program) (m : ℕ) (table : List Stored) (stored : Option ℕ) (s a b : State) (w : Ways) (pending : Option State) → p ≡ q → IsFlow p → IsReady p s → StoredAt table stored s
     → LeadsTo q s w a b → ((i : Insn) → fetch q s.slot ≡ Some i → Makes q s i w a b) → EachWay w a b (λ next. Follows q s.slot next.slot) → EachWay w a b (λ next. 0 < depth next) → w ≡ ways.One → pending ≡ None
@@ -154,10 +163,12 @@ one_way p q m table stored s a b w pending same flow ready at leads makes follow
     let (i, here) = fetched p s ready in
     let leads' = subst (λ x. LeadsTo x s ways.One a b) (sym same) (subst (λ x. LeadsTo q s x a b) is leads) in
     let follows' : Follows p s.slot a.slot = subst (λ x. Follows x s.slot a.slot) (sym same) (subst (λ x. EachWay x a b (λ next. Follows q s.slot next.slot)) is follows) in
+    let into = into_by p q s a b w ways.One same makes i here is in
     let called' : 0 < depth a = subst (λ x. EachWay x a b (λ next. 0 < depth next)) is called in
     subst (λ x. Begins p m table (record { pending = x; best = 0; stored = stored }) s a) (sym none) (record {
-      waiting = record { waits = Waits-one p s a b stored leads'; steps = steps_by p q s a b a w ways.One same makes i here is refl; steps_aside = tt; best = omega arith; stored = at; ready = tt };
+      waiting = record { waits = Waits-one p s a b stored leads'; awaits = Awaits-one p s a b stored into; steps = steps_by p q s a b a w ways.One same makes i here is refl; steps_aside = tt; best = omega arith; stored = at; ready = tt };
       ready = IsReady-next p s.slot a flow follows' called';
+      spends = Spends-one p s a b stored into;
     })
 
 pub two_ways : (p q : Program) (m : ℕ) (table : List Stored) (stored : Option ℕ) (s a b : State) (w : Ways) (pending : Option State) → p ≡ q → IsFlow p → IsReady p s → StoredAt table stored s
@@ -168,10 +179,12 @@ two_ways p q m table stored s a b w pending same flow ready at leads makes follo
     let leads' = subst (λ x. LeadsTo x s ways.Two a b) (sym same) (subst (λ x. LeadsTo q s x a b) is leads) in
     let follows' : Follows p s.slot a.slot × Follows p s.slot b.slot =
     subst (λ x. Follows x s.slot a.slot × Follows x s.slot b.slot) (sym same) (subst (λ x. EachWay x a b (λ next. Follows q s.slot next.slot)) is follows) in
+    let into = into_by p q s a b w ways.Two same makes i here is in
     let called' : 0 < depth a × 0 < depth b = subst (λ x. EachWay x a b (λ next. 0 < depth next)) is called in
     subst (λ x. Begins p m table (record { pending = x; best = 0; stored = stored }) s a) (sym some) (record {
-      waiting = record { waits = Waits-two p s a b stored leads'; steps = steps_by p q s a b a w ways.Two same makes i here is (inl refl); steps_aside = steps_by p q s a b b w ways.Two same makes i here is (inr refl); best = omega arith; stored = at; ready = IsReady-next p s.slot b flow follows'.1 called'.1 };
+      waiting = record { waits = Waits-two p s a b stored leads'; awaits = Awaits-two p s a b stored into; steps = steps_by p q s a b a w ways.Two same makes i here is (inl refl); steps_aside = steps_by p q s a b b w ways.Two same makes i here is (inr refl); best = omega arith; stored = at; ready = IsReady-next p s.slot b flow follows'.1 called'.1 };
       ready = IsReady-next p s.slot a flow follows'.0 called'.0;
+      spends = Spends-two p s a b stored into;
     })
 
 -- the search is at the state behind
@@ -184,13 +197,17 @@ step_into p m old new a path visit s child arrival whole fine before waiting arr
     )
 
 -- nothing goes on, and the number 1 is written
-pub step_ends : (p q : Program) (m : ℕ) (old new : List Stored) (a : State) (path : List Visit) (stored : Option ℕ) (s x y : State) (w : Ways) → p ≡ q → AllFine p m old → Path p m old a path s → StoredAt old stored s
-    → OnPath old path stored → LeadsTo q s w x y → w ≡ ways.None → IsNumbered old stored 1 new → IsBack p (m + 1) new a path 1
-step_ends p q m old new a path stored s x y w same fine before at on_path leads is numbered =
-    let within = LeadsTo-ends p s x y (subst (λ z. LeadsTo z s ways.None x y) (sym same) (subst (λ z. LeadsTo q s z x y) is leads)) in
+pub step_ends : (p q : Program) (m : ℕ) (old new : List Stored) (a : State) (path : List Visit) (stored : Option ℕ) (s x y : State) (w : Ways) → a ≡ start → p ≡ q → AllFine p m old → Path p m old a path s → StoredAt old stored s
+    → OnPath old path stored → LeadsTo q s w x y → StepsInto p s ways.None x y → w ≡ ways.None → IsNumbered old stored 1 new → IsBack p (m + 1) new a path 1
+step_ends p q m old new a path stored s x y w root same fine before at on_path leads into is numbered =
+    let within : Settles p s 1 = record {
+      within = LeadsTo-ends p s x y (subst (λ z. LeadsTo z s ways.None x y) (sym same) (subst (λ z. LeadsTo q s z x y) is leads));
+      number = LeadsNowhere s x y 1 into refl;
+    } in
     record {
       state = s;
-      fine = IsNumbered-fine p (m + 1) old stored s 1 new numbered at within (omega arith) (AllFine-more p m (m + 1) old (omega arith) fine);
+      fine = IsNumbered-fine p (m + 1) old stored s 1 new numbered at within (omega arith)
+          (length path, subst (λ x. Leads p (length path) x s) root (Path-leads p m old path a s before)) (AllFine-more p m (m + 1) old (omega arith) fine);
       before = Path-more p m (m + 1) old new (omega arith) (IsNumbered-keeps old stored s 1 new numbered at) path a s before;
       on_path = OnPath-finish old new path stored s 1 numbered at (omega arith) on_path;
       within = within;
@@ -214,5 +231,5 @@ starts_ready p q s same image e = subst (IsReady p) (sym e) (start_ready p (subs
 
 pub starts_end : (p q : Program) (n : ℕ) → p ≡ q → IsImage q → Within p start n → StartsEnd q n
 unfolding Within StartsEnd
-starts_end p q n same image within = λ clock head packet contents given.
-    subst (λ x. Within x start n) same within clock (start_state head packet contents) (Means-start q head packet contents (IsProgram-IsImage q image) given)
+starts_end p q n same image within = λ clock head packet contents fits given.
+    subst (λ x. Within x start n) same within clock fits (start_state head packet contents) (Means-start q head packet contents (IsProgram-IsImage q image) given)

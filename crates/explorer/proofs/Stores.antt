@@ -10,16 +10,19 @@ use Rattle.explorer.specs.declared.table.Stored.{Stored}
 use Rattle.explorer.specs.declared.search.Arrival.{Arrival}
 use Rattle.explorer.specs.declared.search.Arrival.TheVariants.{Known, New}
 use Rattle.explorer.specs.Table.{IsCovered, StoredAt, IsNumbered}
-use Rattle.explorer.specs.Search.{stored_too, Arrives, IsFine, AllFine}
+use Rattle.stack_state.specs.Starts.{start}
+use Rattle.explorer.specs.Walks.{Leads}
+use Rattle.explorer.specs.Counts.{HasNumber, IsCoveredBy}
+use Rattle.explorer.specs.Search.{stored_too, Arrives, Settles, IsFine, AllFine}
 
 -- ---- numbers
 
 pub Within-covered : (p : Program) (a b : State) (n : ℕ) → Covers p a b → Within p a n → Within p b n
 unfolding Within Covers
-Within-covered p a b n covered h = λ clock w means. h clock w (covered w means)
+Within-covered p a b n covered h = λ clock fits w means. h clock fits w (covered w means)
 
 IsFine-more : (p : Program) (m n : ℕ) (e : Stored) → m ≤ n → IsFine p m e → IsFine p n e
-IsFine-more p m n e le h = λ above. ((h above).0, omega (arith, (h above).1))
+IsFine-more p m n e le h = λ above. let fine = h above in (fine.0, omega (arith, fine.1), fine.2)
 
 pub AllFine-more : (p : Program) (m n : ℕ) (table : List Stored) → m ≤ n → AllFine p m table → AllFine p n table
 unfolding AllFine
@@ -29,20 +32,26 @@ AllFine-push : (p : Program) (m : ℕ) (table : List Stored) (s : State) → All
 unfolding AllFine
 AllFine-push p m table s h = All-push (IsFine p m) table _ h (λ above. absurd (omega arith))
 
-AllFine-set : (p : Program) (m : ℕ) (table : List Stored) (k : ℕ) (s : State) (n : ℕ) → AllFine p m table → Within p s n → n ≤ m
-    → AllFine p m (set table k (record { state = s; number = n }))
+AllFine-set : (p : Program) (m : ℕ) (table : List Stored) (k : ℕ) (s : State) (n : ℕ) → AllFine p m table → Settles p s n → n ≤ m
+    → (steps : ℕ) × Leads p steps start s → AllFine p m (set table k (record { state = s; number = n }))
 unfolding AllFine
-AllFine-set p m table k s n h within le = All-set (IsFine p m) table k _ (λ above. (within, le)) h
+AllFine-set p m table k s n h within le walk = All-set (IsFine p m) table k _ (λ above. (within, le, walk)) h
 
 -- a state that a finished entry covers ends within the entry's number
-pub IsCovered-known : (p : Program) (m : ℕ) (table : List Stored) (s : State) (n : ℕ) → AllFine p m table → IsCovered table s n → Within p s n × (n ≤ m)
+pub IsCovered-known : (p : Program) (m : ℕ) (table : List Stored) (s : State) (n : ℕ) → AllFine p m table → IsCovered table s n → Settles p s n × (n ≤ m)
 unfolding AllFine
 IsCovered-known p m table s n fine h =
     let e : Stored = record { state = h.entry; number = n } in
     let same = get_or_from_slice_get table h.index e e h.stored in
     let here : IsFine p m e = subst (IsFine p m) same (fine h.index e (slice_get_within table h.index e h.stored)) in
     let known = here h.finished in
-    (Within-covered p h.entry s n (h.covers p) known.0, known.1)
+    let walk = known.2 in (
+      record {
+        within = Within-covered p h.entry s n (h.covers p) known.0.within;
+        number = IsCoveredBy s h.entry walk.0 n walk.1 h.same_slot (h.covers p) known.0.number;
+      },
+      known.1,
+    )
 
 -- ---- places
 
@@ -113,9 +122,10 @@ Arrives-stored p old s (Some k) new h = (
 -- ---- a number
 
 pub IsNumbered-fine : (p : Program) (m : ℕ) (old : List Stored) (stored : Option ℕ) (s : State) (n : ℕ) (new : List Stored) → IsNumbered old stored n new
-    → StoredAt old stored s → Within p s n → n ≤ m → AllFine p m old → AllFine p m new
-IsNumbered-fine p m old None s n new h at within le fine = subst (λ x. AllFine p m x) (sym h) fine
-IsNumbered-fine p m old (Some k) s n new h at within le fine = subst (λ x. AllFine p m x) (sym (h s at)) (AllFine-set p m old k s n fine within le)
+    → StoredAt old stored s → Settles p s n → n ≤ m → (steps : ℕ) × Leads p steps start s → AllFine p m old → AllFine p m new
+IsNumbered-fine p m old None s n new h at within le walk fine = subst (λ x. AllFine p m x) (sym h) fine
+IsNumbered-fine p m old (Some k) s n new h at within le walk fine =
+    subst (λ x. AllFine p m x) (sym (h s at)) (AllFine-set p m old k s n fine within le walk)
 
 pub IsNumbered-keeps : (old : List Stored) (stored : Option ℕ) (s : State) (n : ℕ) (new : List Stored) → IsNumbered old stored n new → StoredAt old stored s → Keeps old new
 IsNumbered-keeps old None s n new h at = Keeps-same old new h

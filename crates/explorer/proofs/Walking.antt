@@ -15,6 +15,7 @@ use Rattle.explorer.specs.declared.refusals.Refusal.TheVariants.{Flow, Step, Rep
 use Rattle.explorer.specs.declared.table.Stored.{Stored}
 use Rattle.explorer.specs.declared.search.Visit.{Visit}
 use Rattle.explorer.specs.Walks.{IsAmong, StepsTo, Leads, ComesBack}
+use Rattle.explorer.specs.Counts.{StepsInto}
 use Rattle.explorer.specs.Refused.{StopsAt}
 use Rattle.explorer.specs.Table.{StoredAt, IsRepeated}
 use Rattle.explorer.specs.Search.{Waiting, Path, TurnsBack, zeros_from, with_first, places_of, OnPath}
@@ -34,6 +35,13 @@ steps_by p q s a b t w v same makes i here is among =
       makes = subst (λ x. Makes x s i w a b) (sym same) (makes i there);
       among = subst (λ x. IsAmong x a b t) (sym is) among;
     }
+
+pub into_by : (p q : Program) (s a b : State) (w v : Ways) → p ≡ q → ((i : Insn) → fetch q s.slot ≡ Some i → Makes q s i w a b) → (i : Insn) → fetch p s.slot ≡ Some i
+    → w ≡ v → StepsInto p s v a b
+into_by p q s a b w v same makes i here is =
+    let there : fetch q s.slot ≡ Some i = subst (λ x. fetch x s.slot ≡ Some i) same here in
+    let made = subst (λ x. Makes x s i w a b) (sym same) (makes i there) in
+    record { insn = i; here = here; makes = subst (λ x. Makes p s i x a b) is made }
 
 -- ---- the path is a walk
 

@@ -3,6 +3,7 @@ use Rattle.std.specs.Prelude.{◌≡◌, ℕ, ◌≤◌}
 use Rattle.isa_model.specs.Instructions.{Program}
 use Rattle.image.specs.Images.{IsImage}
 use Rattle.isa_model.specs.Outcomes.{StartsEnd}
+use Rattle.explorer.specs.declared.verified.TheConstants.{MAX_EXPLORED}
 
 -- a program, and the most steps of a run
 pub record Bounded : Type 0 where
@@ -14,4 +15,4 @@ pub record IsVerified (v : Bounded) : Type 0 where
   pub image : IsImage v.program
   pub ends : StartsEnd v.program v.bound
   pub some : 1 ≤ v.bound
-  pub most : v.bound ≤ 1000000
+  pub most : v.bound ≤ MAX_EXPLORED

@@ -1,18 +1,21 @@
 -- What a refusal says of a program.
-use Rattle.std.specs.Prelude.{◌≡◌, ℕ}
+use Rattle.std.specs.Prelude.{◌≡◌, ℕ, ◌+◌}
 use Rattle.isa_model.specs.Instructions.{Program}
+use Rattle.stack_state.specs.Starts.{start}
 use Rattle.control_flow.specs.Flows.{IsFlow}
 use Rattle.control_flow.specs.Flows as flow
 use Rattle.explorer.specs.Walks.{IsReached, IsStuck, ComesBack}
+use Rattle.explorer.specs.Counts.{Takes}
+use Rattle.explorer.specs.declared.verified.TheConstants.{MAX_EXPLORED}
 use Rattle.explorer.specs.declared.refusals.Refusal.{Refusal}
 use Rattle.explorer.specs.declared.refusals.Refusal.TheVariants.{Flow, Step, Repeats, TooLong, Memory}
 
--- where the search stops with a refusal
+-- where the search stops with a refusal; after the most instructions that are explored comes one more
 abbrev pub StopsAt : Program → Refusal → ℕ → Type 0
 StopsAt p (Flow e) slot = ⊥
 StopsAt p (Step e) slot = IsStuck p e slot
 StopsAt p Repeats slot = ComesBack p slot
-StopsAt p TooLong slot = IsReached p slot
+StopsAt p TooLong slot = IsReached p slot × Takes p start (MAX_EXPLORED + 1)
 StopsAt p Memory slot = slot ≡ 0
 
 -- control flow comes first, and all other refusals are of programs whose control flow is good

@@ -5,10 +5,12 @@ use Rattle.isa_model.specs.Instructions.{Program, fetch}
 use Rattle.isa_model.specs.States as Machine
 use Rattle.isa_model.specs.Steps.{step}
 use Rattle.isa_model.specs.Ends.{Ends, After}
+use Rattle.isa_model.specs.MachineStates.{IsClock}
 use Rattle.stack_state.specs.declared.states.State.{State}
 use Rattle.stack_state.specs.Meaning.{Means, Within, depth}
 use Rattle.stack_state.specs.Starts.{start}
 use Rattle.control_flow.specs.Flows.{IsJoin}
+use Rattle.explorer.specs.declared.verified.TheConstants.{MAX_EXPLORED}
 use Rattle.explorer.specs.declared.refusals.Refusal.{Refusal}
 use Rattle.explorer.specs.declared.refusals.Refusal.TheVariants.{Flow, Step, Repeats, TooLong, Memory}
 use Rattle.explorer.specs.declared.table.Stored.{Stored}
@@ -20,7 +22,8 @@ use Rattle.explorer.specs.declared.search.Turn.{Turn}
 use Rattle.explorer.specs.declared.search.Turn.TheVariants.{Explore, Done}
 use Rattle.explorer.specs.declared.search.Resumed.{Resumed}
 use Rattle.explorer.specs.declared.search.Resumed.TheVariants.{Next, Ended}
-use Rattle.explorer.specs.Walks.{StepsTo}
+use Rattle.explorer.specs.Walks.{StepsTo, Leads}
+use Rattle.explorer.specs.Counts.{HasNumber, Takes}
 use Rattle.explorer.specs.Table.{IsCovered, IsRepeated, StoredAt}
 
 -- ---- arriving at a state
@@ -69,9 +72,15 @@ IsResumed p old visit number (Ended best) new current = EndsAlone old visit numb
 
 -- ---- what is known of the stored states and of the path
 
--- the state of an entry with a number ends within it, and no number is above the count of finished instructions
+-- the state ends within the number that it has
+pub record Settles (p : Program) (s : State) (n : ℕ) : Type 0 where
+  pub within : Within p s n
+  pub number : HasNumber p s n
+
+-- the state of an entry with a number ends within it, no number is above the count of finished instructions, and a walk
+-- from the start comes to the state
 abbrev pub IsFine : Program → ℕ → Stored → Type 0
-IsFine p finished e = 0 < e.number → Within p e.state e.number × (e.number ≤ finished)
+IsFine p finished e = 0 < e.number → Settles p e.state e.number × (e.number ≤ finished) × ((steps : ℕ) × Leads p steps start e.state)
 
 unfoldable pub AllFine : Program → ℕ → List Stored → Type 0
 AllFine p finished table = All (IsFine p finished) table
@@ -95,12 +104,22 @@ MeantBy p (Some s) w = Means p s w
 
 -- the step of each machine state that s stands for ends the run, or leads to the child, to what is pending, or to what ends in time
 unfoldable pub Waits : Program → Visit → State → State → Type 0
-Waits p visit s child = (clock : ℕ → ℕ) (w : Machine.State) → Means p s w
+Waits p visit s child = (clock : ℕ → ℕ) → IsClock clock → (w : Machine.State) → Means p s w
     → After (λ v. Means p child v ⊎ (MeantBy p visit.pending v ⊎ Ends p clock v visit.best)) (step p clock w)
+
+-- the number that a state has once what is pending has one
+abbrev pub AwaitsBoth : Program → Option State → State → ℕ → Type 0
+AwaitsBoth p None s best = HasNumber p s (best + 1)
+AwaitsBoth p (Some other) s best = (k : ℕ) → HasNumber p other k → HasNumber p s (max best k + 1)
+
+-- and once the child has one
+unfoldable pub Awaits : Program → Visit → State → State → Type 0
+Awaits p visit s child = (n : ℕ) → HasNumber p child n → AwaitsBoth p visit.pending s (max visit.best n)
 
 -- a visit of a state that waits for another one
 pub record Waiting (p : Program) (finished : ℕ) (table : List Stored) (visit : Visit) (s child : State) : Type 0 where
   pub waits : Waits p visit s child
+  pub awaits : Awaits p visit s child
   pub steps : StepsTo p s child
   pub steps_aside : IfStepsTo p s visit.pending
   pub best : visit.best ≤ finished
@@ -112,6 +131,32 @@ unfoldable pub Path : Program → ℕ → List Stored → State → List Visit �
 Path p finished table from [] to = to ≡ from
 Path p finished table from (visit ∷ path) to =
     (child : State) × Waiting p finished table visit from child × Path p finished table child path to
+
+-- ---- how many instructions were explored
+
+-- so many are explored from the state once what is pending takes its own
+abbrev pub TakesBoth : Program → Option State → State → ℕ → Type 0
+TakesBoth p None s n = Takes p s n
+TakesBoth p (Some other) s n = (y : ℕ) → Takes p other y → Takes p s (n + y)
+
+-- and once the child takes its own; so many were explored already
+unfoldable pub Spends : Program → Visit → State → State → ℕ → Type 0
+Spends p visit s child own = (x : ℕ) → Takes p child x → TakesBoth p visit.pending s (own + x)
+
+-- the path leads from one state to another, and so many instructions were explored before the last one
+unfoldable pub CountsTo : Program → State → List Visit → State → ℕ → Type 0
+CountsTo p from [] to n = (to ≡ from) × (n ≡ 0)
+CountsTo p from (visit ∷ path) to n =
+    (child : State) × (own : ℕ) × (rest : ℕ) × Spends p visit from child own × CountsTo p child path to rest × (n ≡ own + rest)
+
+-- the path leads to a state all of which is explored, and so many instructions were explored in all
+pub record HasSpent (p : Program) (path : List Visit) (total : ℕ) : Type 0 where
+  pub state : State
+  pub before : ℕ
+  pub own : ℕ
+  pub counts : CountsTo p start path state before
+  pub takes : Takes p state own
+  pub total_is : before + own ≡ total
 
 -- ---- the entries without a number
 
@@ -162,7 +207,8 @@ pub record HasEnded (p : Program) (search : Search) (n : ℕ) : Type 0 where
   pub state : State
   pub at : IsAt p search state
   pub on_path : OnPath search.table.entries.items search.path.items None
-  pub within : Within p state n
+  pub within : Settles p state n
+  pub spent : HasSpent p search.path.items (search.finished + vec_len search.path)
   pub some : 0 < n
   pub most : n ≤ search.finished
 
@@ -171,6 +217,7 @@ pub record Explores (p : Program) (search : Search) (stored : Option ℕ) : Type
   pub at : IsAt p search search.current
   pub on_path : OnPath search.table.entries.items search.path.items stored
   pub stored_at : StoredAt search.table.entries.items stored search.current
+  pub spent : CountsTo p start search.path.items search.current (search.finished + vec_len search.path)
   pub ready : IsReady p search.current
 
 -- the state that the path leads to is stored there, and waits for the current one and for what is pending
@@ -179,13 +226,15 @@ pub record HasEntered (p : Program) (search : Search) (stored : Option ℕ) (pen
   pub at : IsAt p search state
   pub on_path : OnPath search.table.entries.items search.path.items stored
   pub waiting : Waiting p search.finished search.table.entries.items (record { pending = pending; best = 0; stored = stored }) state search.current
+  pub spent : CountsTo p start search.path.items state (search.finished + vec_len search.path)
+  pub spends : Spends p (record { pending = pending; best = 0; stored = stored }) state search.current 1
   pub ready : IsReady p search.current
 
 -- as many instructions were explored as may be, and the next one is at this slot
 pub record IsFull (search : Search) (slot : ℕ) : Type 0 where
-  pub explored : search.finished + vec_len search.path ≡ 1000000
+  pub explored : search.finished + vec_len search.path ≡ MAX_EXPLORED
   pub next : slot ≡ search.current.slot
 
 abbrev pub Goes : Program → Search → Turn → Type 0
 Goes p search (Explore stored) = Explores p search stored
-Goes p search (Done n) = Within p start n × (0 < n) × (n ≤ search.finished)
+Goes p search (Done n) = Settles p start n × (0 < n) × (n ≤ search.finished)

@@ -1,5 +1,5 @@
 -- Walks through abstract states, an instruction at a time.
-use Rattle.std.specs.Prelude.{◌≡◌, ℕ, zero, suc, ◌⊎◌, Some, Err}
+use Rattle.std.specs.Prelude.{◌≡◌, ℕ, zero, suc, ◌⊎◌, Some}
 use Rattle.isa_model.specs.declared.instructions.Insn.{Insn}
 use Rattle.isa_model.specs.Instructions.{Program, fetch}
 use Rattle.stack_state.specs.declared.states.State.{State}
@@ -11,7 +11,7 @@ use Rattle.transfer.specs.declared.Ways.{Ways}
 use Rattle.transfer.specs.declared.Ways.TheVariants as ways
 use Rattle.transfer.specs.declared.refusals.Refusal.{Refusal}
 use Rattle.transfer.specs.Exact.{Makes}
-use Rattle.transfer.specs.Refusing.{register_refusal, Decides}
+use Rattle.transfer.specs.Refusing.{Refuses}
 
 abbrev pub IsAmong : Ways → State → State → State → Type 0
 IsAmong ways.None a b s = ⊥
@@ -52,7 +52,7 @@ pub record IsStuck (p : Program) (e : Refusal) (slot : ℕ) : Type 0 where
   pub begins : BeginsInsn p slot
   pub insn : Insn
   pub here : fetch p state.slot ≡ Some insn
-  pub refused : Decides {A = Ways} state insn (register_refusal state insn) (Err e)
+  pub refused : Refuses state insn e
 
 -- some walk from the start comes twice to this join, in two states that cover one another
 pub record ComesBack (p : Program) (slot : ℕ) : Type 0 where

@@ -14,7 +14,7 @@ mod table;
 pub mod verified;
 
 pub use refusals::Refusal;
-pub use verified::{Verified, verify};
+pub use verified::{MAX_EXPLORED, Verified, verify};
 
 #[cfg(test)]
 mod tests;

@@ -3,7 +3,7 @@
 use control_flow::FlowError;
 use thiserror::Error;
 
-/// Why a program is refused; each comes with a slot, and want of memory with slot 0.
+/// Why a program is refused; each comes with a slot, and the refusal for memory with slot 0.
 #[derive(Clone, Copy, PartialEq, Eq, Debug, Error)]
 pub enum Refusal {
     /// Its control flow is not good.
@@ -15,10 +15,10 @@ pub enum Refusal {
     /// A path comes back to a state that it has been in.
     #[error("V18")]
     Repeats,
-    /// More instructions than `LIMIT` would have to be explored.
+    /// More instructions than `MAX_EXPLORED` would have to be explored.
     #[error("V19")]
     TooLong,
-    /// Want of memory.
+    /// Memory ran out.
     #[error("V0")]
     Memory,
 }

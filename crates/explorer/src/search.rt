@@ -3,6 +3,7 @@
 ghost use Rattle.std.specs.Prelude.{◌≡◌, ◌≢◌, ◌≤◌, ◌+◌, ◌<◌, Some, vec_len, IfOk, IfErr, OnOk, OnErr};
 ghost use Rattle.stack_state.specs.Starts.{start};
 ghost use Rattle.stack_state.specs.Meaning.{Within};
+ghost use Rattle.explorer.specs.Counts.{HasNumber};
 ghost use Rattle.image.specs.Images.{IsImage};
 ghost use Rattle.control_flow.specs.Flows.{IsFlow};
 ghost use Rattle.explorer.specs.Refused.{StopsAt};
@@ -11,19 +12,17 @@ ghost use Rattle.explorer.specs.Search.{Arrives, TurnsBack, IsResumed, IsNew, Ha
 use crate::kept::Kept;
 use crate::refusals::Refusal;
 use crate::table::Table;
+use crate::verified::MAX_EXPLORED;
 use control_flow::Flow;
 use image::Image;
 use stack_state::State;
 use std::alloc::{AllocError, Global};
 use transfer::{Ways, step_in_place};
 
-/// The most instructions that are explored.
-pub const LIMIT: u32 = 1_000_000;
-
 /// A refusal, and the slot at which it is given.
 pub type Refused = (Refusal, usize);
 
-/// The refusal for want of memory.
+/// The refusal where memory runs out.
 const NO_MEMORY: Refused = (Refusal::Memory, 0);
 
 /// An instruction on the path, and what is still to be explored after it.
@@ -157,7 +156,7 @@ impl Search {
     /// The search is at a state with this number: goes back along the path to what comes next.
     fn unwind(&mut self, alloc: Global, flow: &Flow<'_>, ended: u32) -> Result<Turn, Refused>
         requires at { HasEnded flow.now self.old ended }
-        requires room { self.old.finished + vec_len self.old.path ≤ 1000000 }
+        requires room { self.old.finished + vec_len self.old.path ≤ MAX_EXPLORED }
         ensures goes { IfOk result (λ turn. Goes flow.now self.new turn) }
         ensures stops { IfErr result (λ r. StopsAt flow.now r.0 r.1) }
         ensures not_long { IfErr result (λ r. r.0 ≢ Refusal.TooLong) }
@@ -202,7 +201,7 @@ impl Search {
         requires image { flow.now ≡ image.now }
         requires good { IsFlow flow.now }
         requires at { Goes flow.now self.old (Turn.Explore stored) }
-        requires room { self.old.finished + vec_len self.old.path < 1000000 }
+        requires room { self.old.finished + vec_len self.old.path < MAX_EXPLORED }
         ensures goes { IfOk result (λ turn. Goes flow.now self.new turn) }
         ensures stops { IfErr result (λ r. StopsAt flow.now r.0 r.1) }
         ensures not_long { IfErr result (λ r. r.0 ≢ Refusal.TooLong) }
@@ -237,7 +236,7 @@ impl Search {
         pending: Option<Kept>,
     ) -> Result<Turn, Refused>
         requires entered { HasEntered flow.now self.old stored pending }
-        requires room { self.old.finished + vec_len self.old.path < 1000000 }
+        requires room { self.old.finished + vec_len self.old.path < MAX_EXPLORED }
         ensures goes { IfOk result (λ turn. Goes flow.now self.new turn) }
         ensures stops { IfErr result (λ r. StopsAt flow.now r.0 r.1) }
         ensures not_long { IfErr result (λ r. r.0 ≢ Refusal.TooLong) }
@@ -270,8 +269,9 @@ impl Search {
         requires good { IsFlow flow.now }
         requires new { IsNew self.old }
         ensures within { IfOk result (λ n. Within flow.now start n) }
+        ensures number { IfOk result (λ n. HasNumber flow.now start n) }
         ensures some { IfOk result (λ n. 0 < n) }
-        ensures most { IfOk result (λ n. n ≤ 1000000) }
+        ensures most { IfOk result (λ n. n ≤ MAX_EXPLORED) }
         ensures stops { IfErr result (λ r. StopsAt flow.now r.0 r.1) }
         ensures too_long { IfErr result (λ r. r.0 ≡ Refusal.TooLong → IsFull self.new r.1) }
     {
@@ -285,7 +285,7 @@ impl Search {
             Arrival::Known(number) => Turn::Done(number),
             Arrival::New(stored) => Turn::Explore(stored),
         };
-        for _explored in 0..LIMIT {
+        for _explored in 0..MAX_EXPLORED {
             match turn {
                 Turn::Done(number) => return Ok(number),
                 Turn::Explore(stored) => turn = self.advance(alloc, image, flow, stored)?,

@@ -4,6 +4,8 @@ ghost use Rattle.std.specs.Prelude.{◌≡◌, ◌≤◌, IfOk, IfErr};
 ghost use Rattle.isa_model.specs.Outcomes.{StartsEnd};
 ghost use Rattle.explorer.specs.Bounds.{IsVerified};
 ghost use Rattle.explorer.specs.Refused.{IsRefused};
+ghost use Rattle.explorer.specs.Counts.{HasNumber};
+ghost use Rattle.stack_state.specs.Starts.{start};
 
 use crate::refusals::Refusal;
 use crate::search::Search;
@@ -11,6 +13,9 @@ use control_flow::Flow;
 use image::Image;
 use std::alloc::Global;
 use std::marker::Model;
+
+/// The most instructions that are explored.
+pub const MAX_EXPLORED: u32 = 1_000_000;
 
 /// A program each of whose runs meets no trap and exits within the bound, whatever packet, context, map contents and
 /// clock it is given.
@@ -62,8 +67,9 @@ impl Verified {
 /// The bound of a program's runs.
 fn bound_of(alloc: Global, image: &Image) -> Result<u32, (Refusal, usize)>
     ensures ends { IfOk result (StartsEnd image.now) }
+    ensures number { IfOk result (λ n. HasNumber image.now start n) }
     ensures some { IfOk result (λ n. 1 ≤ n) }
-    ensures most { IfOk result (λ n. n ≤ 1000000) }
+    ensures most { IfOk result (λ n. n ≤ MAX_EXPLORED) }
     ensures refused { IfErr result (λ r. IsRefused image.now r.0 r.1) }
 {
     let slots = image.slots();
@@ -81,13 +87,15 @@ fn bound_of(alloc: Global, image: &Image) -> Result<u32, (Refusal, usize)>
 /// Looks for a bound on the steps of each run, or refuses, with the slot at which it does.
 ///
 /// Control flow is tested first. Then states are explored from the start; a state's number is 1 more than the greatest
-/// of those behind it, and the bound is the number of the start. No more than 1,000,000 instructions are explored.
+/// of those behind it, and the bound is the number of the start. No more than `MAX_EXPLORED` instructions are explored.
 pub fn verify(alloc: Global, image: Image) -> Result<Verified, (Refusal, usize)>
     ensures program { IfOk result (λ verified. verified.program ≡ image) }
     ensures verified { IfOk result IsVerified }
     ensures refused { IfErr result (λ r. IsRefused image r.0 r.1) }
+    ensures number { IfOk result (λ verified. HasNumber image start verified.bound) }
 {
-    let bound = bound_of(alloc, &image)?;
+    // the proof takes from this call that the program is an image's, also where it is refused
     let _slots = image.slots();
+    let bound = bound_of(alloc, &image)?;
     Ok(Verified { image, bound })
 }

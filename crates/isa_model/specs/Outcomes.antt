@@ -6,14 +6,14 @@ use Rattle.isa_model.specs.Instructions.{Program}
 use Rattle.isa_model.specs.States.{Entries, entries_of}
 use Rattle.isa_model.specs.Runs.{start_state, Runs, Outcome, HasOutcome}
 use Rattle.isa_model.specs.Ends.{Ends, Runs-Ends}
-use Rattle.isa_model.specs.MachineStates.{FitRows, IsProgram, IsGiven}
+use Rattle.isa_model.specs.MachineStates.{FitRows, IsProgram, IsClock, IsGiven}
 use Rattle.isa_model.specs.StepLaws.{progress_keeps, start_is_state}
 
 -- every run of the program from a start exits within n steps, whatever packet, head and map contents it is given, and
 -- with every clock
 unfoldable pub StartsEnd : Program → ℕ → Type 0
 StartsEnd p n = (clock : ℕ → ℕ) (head : FrameHead) (packet : List ℕ) (contents : List Entries)
-    → IsGiven p head packet contents → Ends p clock (start_state head packet contents) n
+    → IsClock clock → IsGiven p head packet contents → Ends p clock (start_state head packet contents) n
 
 -- a run on a packet exits within n steps
 pub record ExitsWithin (p : Program) (n : ℕ) (head : FrameHead) (packet : List ℕ) (contents : List Entries) (clock : ℕ → ℕ) : Type 0 where
@@ -49,10 +49,10 @@ ExitsWithin-Ends p n head packet contents clock h =
 
 -- every run of such a program has an outcome
 pub ExitsWithin-StartsEnd : (p : Program) (n : ℕ) (head : FrameHead) (packet : List ℕ) (contents : List Entries) (clock : ℕ → ℕ)
-    → StartsEnd p n → IsGiven p head packet contents → ExitsWithin p n head packet contents clock
+    → StartsEnd p n → IsClock clock → IsGiven p head packet contents → ExitsWithin p n head packet contents clock
 unfolding StartsEnd
-ExitsWithin-StartsEnd p n head packet contents clock h given =
-    ExitsWithin-Ends p n head packet contents clock (h clock head packet contents given)
+ExitsWithin-StartsEnd p n head packet contents clock h fits given =
+    ExitsWithin-Ends p n head packet contents clock (h clock head packet contents fits given)
 
 -- the contents that an outcome leaves fit the rows
 pub FitRows-HasOutcome : (p : Program) (head : FrameHead) (packet : List ℕ) (contents : List Entries) (clock : ℕ → ℕ) (o : Outcome)

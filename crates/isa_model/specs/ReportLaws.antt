@@ -24,6 +24,7 @@ use Rattle.isa_model.specs.Reports.{frame_pieces, frame_line, turns_pieces, cont
 pub record Arrives (f : Frame) : Type 0 where
   pub short : length f.body ≤ max_body
   pub bytes : AreBytes f.body
+  pub time : f.head.time < 2 ^ 64
   pub interface : f.head.interface < 2 ^ 32
   pub queue : f.head.queue < 2 ^ 32
 
@@ -40,6 +41,7 @@ Arrives-frame_of : (bytes : List ℕ) → AreBytes bytes → length_field bytes 
 Arrives-frame_of bytes h short = record {
   short = let cut = length-take (length_field bytes) (drop 20 bytes) in omega arith;
   bytes = All-take (λ b. b < 256) (length_field bytes) (drop 20 bytes) (All-drop (λ b. b < 256) 20 bytes h);
+  time = little_from-lt 0 8 bytes (slice_index_fits bytes h);
   interface = little_from-lt 8 4 bytes (slice_index_fits bytes h);
   queue = little_from-lt 12 4 bytes (slice_index_fits bytes h);
 }
@@ -100,7 +102,7 @@ outcome_on : (p : Program) (n : ℕ) (contents : List Entries) (f : Frame) → S
     → ExitsWithin p n f.head f.body contents (λ k. f.head.time) × IsGiven p f.head f.body contents
 outcome_on p n contents f h fits here =
     let given : IsGiven p f.head f.body contents = record { short = here.short; bytes = here.bytes; interface = here.interface; queue = here.queue; maps = fits } in
-    (ExitsWithin-StartsEnd p n f.head f.body contents (λ k. f.head.time) h given, given)
+    (ExitsWithin-StartsEnd p n f.head f.body contents (λ k. f.head.time) h (λ k. here.time) given, given)
 
 abbrev RunsOn : Program → ℕ → ℕ → List Entries → List Frame → Type 0
 RunsOn p n number contents frames =

@@ -8,7 +8,7 @@ use Rattle.isa_model.specs.States.{Entries}
 use Rattle.isa_model.specs.Streams.{max_body}
 use Rattle.isa_model.specs.Runs.{Turn, turn}
 use Rattle.isa_model.specs.RunLaws.{turn-outcome}
-use Rattle.isa_model.specs.MachineStates.{AreBytes, FitRows, IsGiven}
+use Rattle.isa_model.specs.MachineStates.{AreBytes, FitRows, IsClock, IsGiven}
 use Rattle.isa_model.specs.Outcomes.{ExitsWithin, ExitsWithin-StartsEnd, FitRows-HasOutcome}
 use Rattle.isa_model.specs.Reports.{turn_by, starting_contents}
 use Rattle.image.specs.Programs.{IsProgram-IsImage, FitRows-starting_contents}
@@ -21,11 +21,11 @@ pub record Goes (r : Running) (head : FrameHead) (packet : List ℕ) (clock : �
   exit : ExitsWithin r.program r.bound head packet r.contents clock
   same : turn r.program r.bound clock head packet r.contents ≡ turn_by exit.outcome
 
-pub goes : (r : Running) (head : FrameHead) (packet : List ℕ) (clock : ℕ → ℕ) → IsRunning r → length packet ≤ max_body → AreBytes packet
+pub goes : (r : Running) (head : FrameHead) (packet : List ℕ) (clock : ℕ → ℕ) → IsClock clock → IsRunning r → length packet ≤ max_body → AreBytes packet
     → head.interface < 2 ^ 32 → head.queue < 2 ^ 32 → Goes r head packet clock
-goes r head packet clock h short bytes interface queue =
+goes r head packet clock fits h short bytes interface queue =
     let given : IsGiven r.program head packet r.contents = record { short = short; bytes = bytes; interface = interface; queue = queue; maps = h.fits } in
-    let exit = ExitsWithin-StartsEnd r.program r.bound head packet r.contents clock h.ends given in
+    let exit = ExitsWithin-StartsEnd r.program r.bound head packet r.contents clock h.ends fits given in
     record { given = given; exit = exit; same = turn-outcome r.program head packet r.contents clock exit.outcome r.bound exit.found exit.few }
 
 -- a run ends by an exit

@@ -4,3 +4,4 @@ pub mod Identities
 pub mod MeaningLaws
 pub mod PlaceLaws
 pub mod Starts
+pub mod Slots

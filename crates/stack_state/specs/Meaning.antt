@@ -6,7 +6,7 @@ use Rattle.isa_model.specs.States.{Entries, value_at, reg, frame_pointer, frame_
 use Rattle.isa_model.specs.States as Machine
 use Rattle.isa_model.specs.Calls.{innermost}
 use Rattle.isa_model.specs.Ends.{Ends}
-use Rattle.isa_model.specs.MachineStates.{IsState}
+use Rattle.isa_model.specs.MachineStates.{IsState, IsClock}
 use Rattle.reg_state.specs.declared.kinds.Kind.{Kind}
 use Rattle.reg_state.specs.declared.kinds.Kind.TheVariants.{Unset}
 use Rattle.reg_state.specs.Kinds.{Assigned, Allows}
@@ -52,7 +52,7 @@ Means p a s = (e : Assigned) × MeansBy p e a s
 
 -- every machine state that is meant exits within n steps, with every clock
 unfoldable pub Within : Program → State → ℕ → Type 0
-Within p a n = (clock : ℕ → ℕ) (s : Machine.State) → Means p a s → Ends p clock s n
+Within p a n = (clock : ℕ → ℕ) → IsClock clock → (s : Machine.State) → Means p a s → Ends p clock s n
 
 -- what b means a means too
 unfoldable pub Covers : Program → State → State → Type 0

@@ -295,7 +295,7 @@ makes_in p clock e a s i w b c fits inside m set is h = sets_in p clock e a s i 
 pub Makes-leads : (p : Program) (a : State) (i : Insn) (w : Ways) (b c : State) → IsProgram p → fetch p a.slot ≡ Some i
     → register_refusal a i ≡ None → Makes p a i w b c → LeadsTo p a w b c
 unfolding LeadsTo Means step
-Makes-leads p a i w b c program here pass h = λ clock s means.
+Makes-leads p a i w b c program here pass h = λ clock _ s means.
     let (e, m) = means in
     let (known, own) = tests_pass (reads_unset a i) (is_frame_pointer (writes i)) UnsetRegister ReadOnlyRegister pass in
     let set = none_unset p e a s m (reads i) known in

@@ -4,6 +4,7 @@ use Rattle.isa_model.specs.Instructions.{Program}
 use Rattle.isa_model.specs.States as Machine
 use Rattle.isa_model.specs.Steps.{step}
 use Rattle.isa_model.specs.Ends.{After}
+use Rattle.isa_model.specs.MachineStates.{IsClock}
 use Rattle.stack_state.specs.declared.states.State.{State}
 use Rattle.stack_state.specs.Meaning.{Means}
 use Rattle.transfer.specs.declared.Ways.{Ways}
@@ -23,10 +24,10 @@ InSome p None a b s = ⊥
 InSome p One a b s = Means p a s
 InSome p Two a b s = Means p a s ⊎ Means p b s
 
--- no machine state that is meant traps at its next step, and each that goes on goes into one of these
+-- with every clock, no machine state that is meant traps at its next step, and each that goes on goes into one of these
 unfoldable pub LeadsTo : Program → State → Ways → State → State → Type 0
 LeadsTo p from ways a b =
-    (clock : ℕ → ℕ) (s : Machine.State) → Means p from s → After (InSome p ways a b) (step p clock s)
+    (clock : ℕ → ℕ) → IsClock clock → (s : Machine.State) → Means p from s → After (InSome p ways a b) (step p clock s)
 
 -- what is said of the ways and the two states, said of the successors
 abbrev pub Given : Successors → (Ways → State → State → Type 0) → Type 0

@@ -16,7 +16,8 @@ use Rattle.reg_state.specs.declared.kinds.Kind.TheVariants as kind
 use Rattle.stack_state.specs.declared.states.State.{State}
 use Rattle.stack_state.specs.Meaning.{depth}
 use Rattle.stack_state.specs.Places.{kind_of}
-use Rattle.transfer.specs.Exact.{IsOperand}
+use Rattle.transfer.specs.declared.Ways.{Ways}
+use Rattle.transfer.specs.Exact.{IsOperand, IsAccepted}
 use Rattle.transfer.specs.declared.refusals.Refusal.{Refusal}
 use Rattle.transfer.specs.declared.refusals.Refusal.TheVariants.{UnsetRegister, ReadOnlyRegister, PointerOperand, PointerOffset, NotMemory, StackPlace, ContextAccess, NullNotTested, Comparison, TooManyFrames, ExitValue, PacketAtomic, NotBuilt}
 
@@ -141,3 +142,8 @@ pub Decides-Err : (A B : Type 0) (a : State) (i : Insn) (o : Option Refusal) (e 
     → Decides {A = A} a i o (Err e) → Decides {A = B} a i o (Err e)
 Decides-Err A B a i (Some r) e h = let same : e ≡ r = cc in ap Err same
 Decides-Err A B a i None e h = h
+
+-- the step of this state is refused so: the instruction is not accepted, and it is no other refusal
+pub record Refuses (a : State) (i : Insn) (e : Refusal) : Type 0 where
+  pub decides : Decides {A = Ways} a i (register_refusal a i) (Err e)
+  pub not_accepted : register_refusal a i ≡ None → IsAccepted a i → ⊥

@@ -1,13 +1,13 @@
 //! One abstract step: where the instruction at a state's slot leads.
 #![tactic(auto)]
 
-ghost use Rattle.std.specs.Prelude.{◌≡◌, ◌<◌, Some, IfOk, IsOk, IsSome};
+ghost use Rattle.std.specs.Prelude.{◌≡◌, ◌<◌, Some, IfOk, IfErr, IsOk, IsSome};
 ghost use Rattle.isa_model.specs.declared.instructions.Insn.{Insn};
 ghost use Rattle.isa_model.specs.Instructions.{fetch};
 ghost use Rattle.isa_model.specs.Successors.{Follows};
 ghost use Rattle.stack_state.specs.Meaning.{depth};
 ghost use Rattle.transfer.specs.Leading.{Given, LeadsTo, EachWay};
-ghost use Rattle.transfer.specs.Refusing.{register_refusal, Decides};
+ghost use Rattle.transfer.specs.Refusing.{register_refusal, Decides, Refuses};
 ghost use Rattle.transfer.specs.Exact.{Makes, IsAccepted};
 
 mod arithmetic;
@@ -56,6 +56,7 @@ pub fn step(image: &Image, state: &State) -> Result<Successors, Refusal>
     ensures accepts { (i : Insn) → fetch image.now state.now.slot ≡ Some i → register_refusal state.now i ≡ None
         → IsAccepted state.now i → IsOk result }
     ensures decides { (i : Insn) → fetch image.now state.now.slot ≡ Some i → Decides state.now i (register_refusal state.now i) result }
+    ensures refuses { (i : Insn) → fetch image.now state.now.slot ≡ Some i → IfErr result (Refuses state.now i) }
 {
     let mut first = state.copy();
     let mut second = state.copy();
@@ -81,6 +82,7 @@ pub fn step_in_place(image: &Image, state: &mut State, other: &mut State) -> Res
     ensures accepts { (i : Insn) → fetch image.now state.old.slot ≡ Some i → register_refusal state.old i ≡ None
         → IsAccepted state.old i → IsOk result }
     ensures decides { (i : Insn) → fetch image.now state.old.slot ≡ Some i → Decides state.old i (register_refusal state.old i) result }
+    ensures refuses { (i : Insn) → fetch image.now state.old.slot ≡ Some i → IfErr result (Refuses state.old i) }
 {
     let Some(insn) = image.at(state.slot) else {
         unreachable!()

@@ -3,20 +3,10 @@
 //! The program calls one function, `execute`, which says what is done by each command and with which status.
 #![tactic(auto)]
 
-mod command_line;
-mod commands;
-mod execute;
-mod files;
-mod names;
-mod outcomes;
-mod streams;
-mod tasks;
-mod verdicts;
-
-use commands::given_words;
-use execute::execute;
-use outcomes::Outcome;
+use commands::execute;
+use serving::Outcome;
 use std::process::ExitCode;
+use words::given_words;
 
 fn main(rt: HostRuntime) -> ExitCode {
     let mut out = rt.stdout();

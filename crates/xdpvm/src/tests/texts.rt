@@ -1,7 +1,7 @@
 //! Texts made into images, and images into texts.
 
 use super::{BROKEN, PASSES, answers, remove_files, words_of, write_hex};
-use crate::execute::execute;
+use commands::execute;
 use std::fs;
 use std::test::Fail;
 use stumbling_io::Writer;

@@ -1,10 +1,12 @@
 use Rattle.std.proofs.Common.{◌≡◌, ◌≤◌, ◌+◌, ◌<◌, ℕ, List, [], arith, refl, vec_len, length, ap, subst}
 use Rattle.std.proofs.lemmas.Result.{err_from_is_err_and}
 use Rattle.stack_state.specs.declared.states.State.{State}
-use Rattle.stack_state.specs.Meaning.{Within}
+use Rattle.stack_state.specs.Starts.{start}
 use Rattle.explorer.specs.declared.search.Visit.{Visit}
 use Rattle.explorer.specs.declared.search.Arrival.TheVariants.{New}
-use Rattle.explorer.specs.Search.{Goes, Explores}
+use Rattle.explorer.specs.Search.{Settles, Goes, Explores, CountsTo}
+use Rattle.explorer.specs.Counts.{Takes, ItsOwn}
+use Rattle.explorer.proofs.Counting.{CountsTo-here, CountsTo-takes}
 use Rattle.explorer.proofs.Stores.{IsCovered-known, Arrives-fine, Arrives-stored}
 use Rattle.explorer.proofs.Paths.{Path-here}
 use Rattle.explorer.proofs.Walking.{Path-leads, turned_back}
@@ -25,7 +27,7 @@ loop-explored-init c =
         | in-Known w ↦
             let arrives = rw w.in-Known.is at c.in_ok-number.ensures.arrives in
             let known = IsCovered-known p c.args.self.now.finished old s w.in-Known.number fine arrives.1 in
-            rw w.turn-is (subst (λ x. Within p x w.in-Known.number) c.requires.new.current known.0, arrives.1.finished, known.1)
+            rw w.turn-is (subst (λ x. Settles p x w.in-Known.number) c.requires.new.current known.0, arrives.1.finished, known.1)
         | in-New w ↦
             let arrives = rw w.in-New.is at c.in_ok-number.ensures.arrives in
             rw w.turn-is (record {
@@ -35,6 +37,7 @@ loop-explored-init c =
               };
               on_path = OnPath-arrives p old c.arrive.new.table.entries.items c.args.self.now.path.items s w.in-New.stored arrives on_path;
               stored_at = Arrives-stored p old s w.in-New.stored c.arrive.new.table.entries.items arrives;
+              spent = CountsTo-here p c.args.self.now.path.items _ s (c.args.self.now.finished + vec_len c.args.self.now.path) c.requires.new.path c.requires.new.current (omega (arith, c.requires.new.finished, ap (λ (x : List Visit). length x) c.requires.new.path));
               ready = starts_ready p c.args.image.now s c.requires.image c.requires.whole c.requires.new.current;
             })
       ];
@@ -58,11 +61,14 @@ pub returns-in-Explore-turn-clause-stops : goal.returns-in-Explore-turn-clause-s
 returns-in-Explore-turn-clause-stops c =
     let p = c.args.flow.now in
     let search = c.loop-explored.self in
-    let goes = rw c.in-Explore-turn.is at c.loop-explored.invariant.goes in
-    record {
-      state = search.current;
-      steps = length search.path.items;
-      leads = Path-leads p search.finished search.table.entries.items search.path.items _ search.current goes.at.path;
-      slot_is = refl;
-      begins = goes.ready.begins;
-    }
+    let goes = rw c.in-Explore-turn.is at c.loop-explored.invariant.goes in (
+      record {
+        state = search.current;
+        steps = length search.path.items;
+        leads = Path-leads p search.finished search.table.entries.items search.path.items _ search.current goes.at.path;
+        slot_is = refl;
+        begins = goes.ready.begins;
+      },
+      subst (λ n. Takes p start n) (omega (arith, c.loop-explored.invariant.explored))
+          (CountsTo-takes p search.path.items start search.current (search.finished + vec_len search.path) 1 goes.spent (ItsOwn search.current 1 goes.ready.begins refl)),
+    )

@@ -1,0 +1,74 @@
+#!/usr/bin/env python3
+"""Runs a command that proves, such as the gate, and says how many processor seconds each crate took.
+
+usage: python3 bench/gate.py [COMMAND ..]      (the default: bash .ci/run)
+
+The seconds are those of the provers (user and system), by crate: its code, its tests, and its must-fail edits, and the
+greatest memory of one of them. They are read from /proc twice a second, so a prover loses half a second at most. The
+command's output goes through. With `taskset -c 0,1` in front it all runs on two cores.
+"""
+import os
+import subprocess
+import sys
+import time
+
+TICKS = os.sysconf("SC_CLK_TCK")
+KINDS = ("code", "tests", "edits")
+
+
+def read(path):
+    try:
+        with open(path, "rb") as file:
+            return file.read()
+    except OSError:
+        return b""
+
+
+def prover(pid):
+    """The crate and the kind of work of a process that proves, or None."""
+    words = read(f"/proc/{pid}/cmdline").decode(errors="replace").split("\0")
+    if not words[0].endswith("/rattle") or "--crate-name" not in words:
+        return None
+    try:
+        folder = os.readlink(f"/proc/{pid}/cwd")
+    except OSError:
+        return None
+    kind = "edits" if "/rt-edit-" in folder else "tests" if "--test" in words else "code"
+    return words[words.index("--crate-name") + 1], kind
+
+
+def sample(seen, root):
+    """Notes the processor seconds and the peak memory (MB) of each prover that descends from the process."""
+    parents, times = {}, {}
+    for pid in filter(str.isdigit, os.listdir("/proc")):
+        fields = read(f"/proc/{pid}/stat").rpartition(b") ")[2].split()
+        if fields:
+            parents[int(pid)], times[int(pid)] = int(fields[1]), sum(map(int, fields[11:13])) / TICKS
+    for pid, seconds in times.items():
+        above = pid
+        while above in parents and above != root:
+            above = parents[above]
+        who = prover(pid) if above == root and pid != root else None
+        if who:
+            peak = [line.split()[1] for line in read(f"/proc/{pid}/status").splitlines() if line.startswith(b"VmHWM")]
+            seen[who + (pid,)] = seconds, int(peak[0]) // 1024 if peak else 0
+
+
+def main():
+    began, seen = time.time(), {}
+    running = subprocess.Popen(sys.argv[1:] or ["bash", ".ci/run"])
+    while running.poll() is None:
+        sample(seen, running.pid)
+        time.sleep(0.5)
+    crates, peaks = {}, {}
+    for (crate, kind, _), (seconds, peak) in seen.items():
+        crates.setdefault(crate, dict.fromkeys(KINDS, 0))[kind] += seconds
+        peaks[crate] = max(peaks.get(crate, 0), peak)
+    print(f"\n{time.time() - began:.0f} s on {len(os.sched_getaffinity(0))} cores\n\n| crate | code | tests | edits | GB |\n|---|---|---|---|---|")
+    for crate, row in sorted(crates.items(), key=lambda item: -sum(item[1].values())):
+        print(f"| {crate} | " + " | ".join(f"{row[kind]:.0f}" for kind in KINDS) + f" | {peaks[crate] / 1024:.1f} |")
+    print("| all | " + " | ".join(f"{sum(row[kind] for row in crates.values()):.0f}" for kind in KINDS) + " | |")
+    sys.exit(running.returncode)
+
+
+main()

@@ -1,0 +1,47 @@
+//! The program, on any runtime and any outputs.
+#![tactic(auto)]
+
+ghost use Rattle.std.specs.Prelude.{◌≡◌, ◌≤◌, map};
+ghost use Rattle.std.specs.String.{string_bytes};
+ghost use Rattle.serving.specs.declared.outcomes.Outcome.{Outcome};
+ghost use Rattle.serving.specs.Statuses.{status_of, message_of};
+ghost use Rattle.serving.specs.Saying.{AppendsPart};
+ghost use Rattle.commands.specs.Executing.{Executes};
+
+use serving::{Outcome, serve};
+use std::io::Write;
+use std::rt::Files;
+use words::read_words;
+
+/// Does what the words ask for, and answers the program's status: 0 done, 1 words of no command, 2 refused, 3 the
+/// report ended in a fault, 4 a file or output failed, 5 want of memory.
+///
+/// It does what the words ask for (`asked`): which command, on which files, with which limit. What standard output gets
+/// then is what that command writes (`Executes`): the report of some frames by the program of some image, the verdict on
+/// it, its text, or its size. What the files hold no contract says.
+///
+/// The first word is the program's name. `out` stands for standard output and `err` for standard error; files are
+/// opened by their paths. Where the words ask for nothing and where memory is wanting, standard output gets no byte;
+/// where all is done, where something is refused and where the report ends in a fault, standard error gets none.
+#[tactic(auto, using(crate::proofs::Endings::silent_words, crate::proofs::Endings::silent_memory, crate::proofs::Endings::status_fits, crate::proofs::Endings::unsaid_done, crate::proofs::Endings::unsaid_refused, crate::proofs::Endings::unsaid_faulted))]
+pub fn execute<R: Files + AllocGlobal, W1: Write, W2: Write>(
+    rt: &R,
+    words: &[String],
+    out: &mut W1,
+    err: &mut W2,
+) -> u8
+    ensures executes { (o : Outcome) × (result ≡ status_of o) × Executes (map string_bytes words.now) (W1.contents out.old) (W1.contents out.new) o
+        × AppendsPart (W2.contents err.old) (W2.contents err.new) (message_of o) }
+    ensures statuses { result ≤ 5 }
+    ensures wrong_words { result ≡ 1 → W1.contents out.new ≡ W1.contents out.old }
+    ensures no_memory { result ≡ 5 → W1.contents out.new ≡ W1.contents out.old }
+    ensures done { result ≡ 0 → W2.contents err.new ≡ W2.contents err.old }
+    ensures refused { result ≡ 2 → W2.contents err.new ≡ W2.contents err.old }
+    ensures faulted { result ≡ 3 → W2.contents err.new ≡ W2.contents err.old }
+{
+    let alloc = rt.alloc();
+    match read_words(alloc, words) {
+        Ok(task) => serve(rt, alloc, task, out).tell(err),
+        Err(error) => Outcome::from(error).tell(err),
+    }
+}

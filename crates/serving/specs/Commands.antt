@@ -1,0 +1,100 @@
+-- What each command does to standard output, on files of which no contract can say what they hold.
+use Rattle.std.specs.Prelude.{◌≡◌, ℕ, List, Option, Some, None, Ok, ◌⊎◌}
+use Rattle.isa_model.specs.Instructions.{Program}
+use Rattle.isa_model.specs.CanonicalText.{canonical_text}
+use Rattle.image.specs.Images.{IsImage}
+use Rattle.assembler.specs.Assembling.{assembled}
+use Rattle.explorer.specs.Bounds.{Bounded, IsVerified}
+use Rattle.serving.specs.declared.outcomes.Outcome.{Outcome}
+use Rattle.serving.specs.declared.outcomes.Outcome.TheVariants as outcome
+use Rattle.serving.specs.Lines.{size_line}
+use Rattle.serving.specs.Statuses.{IsMakeFailure, IsNotBuilt, IsReadFailure}
+use Rattle.serving.specs.Saying.{Says}
+use Rattle.serving.specs.Judging.{RefusesImage, RefusesProgram, RefusesText, Stores, Verifies}
+use Rattle.serving.specs.Streams.{RunsAccepted, Traces}
+use Rattle.tasks.specs.Requests.{Request, RunFiles, Trace, Run, Verify, Assemble, Disassemble, NotBuilt}
+
+-- ---- files
+
+-- the file at the path could not be read, or memory ran out, and standard output got nothing
+abbrev pub ReadsNone : List ℕ → Option (List ℕ) → Option (List ℕ) → Outcome → Type 0
+ReadsNone path old new result = IsReadFailure path result × (new ≡ old)
+
+-- the file at the path could not be made, or memory ran out, and standard output got nothing
+abbrev pub MakesNone : List ℕ → Option (List ℕ) → Option (List ℕ) → Outcome → Type 0
+MakesNone path old new result = IsMakeFailure path result × (new ≡ old)
+
+-- the image could not be read, or its bytes are refused
+abbrev pub LoadsNone : List ℕ → Option (List ℕ) → Option (List ℕ) → Outcome → Type 0
+LoadsNone path old new result = ReadsNone path old new result ⊎ ((bytes : List ℕ) × RefusesImage bytes old new result)
+
+-- an image was read, and P holds of its program
+abbrev pub Loads : (Program → Type 0) → Type 0
+Loads P = (p : Program) × IsImage p × P p
+
+-- the frames could not be opened, or the frames out not be made
+abbrev pub OpensNone : RunFiles → Option (List ℕ) → Option (List ℕ) → Outcome → Type 0
+OpensNone files old new result = ReadsNone files.frames old new result ⊎ MakesNone files.out old new result
+
+-- a run over some source, the frames out going to the file at the path
+pub record TracesSome (p : Program) (limit : ℕ) (out : List ℕ) (old new : Option (List ℕ)) (result : Outcome) : Type 0 where
+  pub source : Option (List ℕ)
+  pub before : Option (List ℕ)
+  pub after : Option (List ℕ)
+  pub traces : Traces p limit source out (record { report = old; frames = before }) (record { report = new; frames = after }) result
+
+pub record RunsSome (v : Bounded) (out : List ℕ) (old new : Option (List ℕ)) (result : Outcome) : Type 0 where
+  pub source : Option (List ℕ)
+  pub before : Option (List ℕ)
+  pub after : Option (List ℕ)
+  pub runs : RunsAccepted v source out (record { report = old; frames = before }) (record { report = new; frames = after }) result
+
+-- the image of a program was written to the file at the path, and its size was said
+pub record StoresSome (p : Program) (path : List ℕ) (old new : Option (List ℕ)) (result : Outcome) : Type 0 where
+  pub before : Option (List ℕ)
+  pub after : Option (List ℕ)
+  pub stores : Stores p (size_line p) path before after old new result
+
+-- ---- the commands
+
+abbrev pub TracesFile : RunFiles → ℕ → Option (List ℕ) → Option (List ℕ) → Outcome → Type 0
+TracesFile files limit old new result =
+    LoadsNone files.image old new result ⊎ Loads (λ p. OpensNone files old new result ⊎ TracesSome p limit files.out old new result)
+
+-- a program is accepted, with some bound, and run
+abbrev pub AcceptsAndRuns : RunFiles → Program → Option (List ℕ) → Option (List ℕ) → Outcome → Type 0
+AcceptsAndRuns files p old new result =
+    (bound : ℕ) × IsVerified (record { program = p; bound = bound })
+    × (OpensNone files old new result ⊎ RunsSome (record { program = p; bound = bound }) files.out old new result)
+
+abbrev pub RunsFile : RunFiles → Option (List ℕ) → Option (List ℕ) → Outcome → Type 0
+RunsFile files old new result =
+    LoadsNone files.image old new result ⊎ Loads (λ p. RefusesProgram p old new result ⊎ AcceptsAndRuns files p old new result)
+
+abbrev pub VerifiesFile : List ℕ → Option (List ℕ) → Option (List ℕ) → Outcome → Type 0
+VerifiesFile path old new result = LoadsNone path old new result ⊎ Loads (λ p. Verifies p old new result)
+
+abbrev pub DisassemblesFile : List ℕ → Option (List ℕ) → Option (List ℕ) → Outcome → Type 0
+DisassemblesFile path old new result = LoadsNone path old new result ⊎ Loads (λ p. Says old new (canonical_text p) outcome.Done result)
+
+-- a text was read, and it spells a program, of which P holds
+abbrev pub Spells : List ℕ → (Program → Type 0) → Type 0
+Spells source P = (p : Program) × (assembled source ≡ Ok p) × P p
+
+abbrev pub AssemblesFile : List ℕ → List ℕ → Option (List ℕ) → Option (List ℕ) → Outcome → Type 0
+AssemblesFile text image old new result =
+    ReadsNone text old new result
+    ⊎ ((source : List ℕ) × (RefusesText source old new result
+    ⊎ Spells source (λ p. MakesNone image old new result ⊎ StoresSome p image old new result)))
+
+-- ---- the program
+
+-- what is done where this is asked for
+abbrev pub Serves : Option Request → Option (List ℕ) → Option (List ℕ) → Outcome → Type 0
+Serves None old new result = (result ≡ outcome.WrongWords) × (new ≡ old)
+Serves (Some (Trace files limit)) old new result = TracesFile files limit old new result
+Serves (Some (Run files)) old new result = RunsFile files old new result
+Serves (Some (Verify path)) old new result = VerifiesFile path old new result
+Serves (Some (Assemble text image)) old new result = AssemblesFile text image old new result
+Serves (Some (Disassemble path)) old new result = DisassemblesFile path old new result
+Serves (Some (NotBuilt name)) old new result = IsNotBuilt name result × (new ≡ old)

@@ -1,0 +1,58 @@
+-- What is said of images, programs and texts that are judged.
+use Rattle.std.specs.Prelude.{◌≡◌, ◌≢◌, ℕ, false, List, Option, Some, Err, ◌⊎◌}
+use Rattle.std.specs.Io.KnownBytes.{Appends}
+use Rattle.exact_io.specs.Transfers.{AppendsBeginning}
+use Rattle.isa_model.specs.Instructions.{Program}
+use Rattle.image.specs.declared.errors.ImageError.{ImageError}
+use Rattle.image.specs.Images.{image_bytes}
+use Rattle.image.specs.Refusals.{refusal_of}
+use Rattle.explorer.specs.declared.refusals.Refusal.{Refusal}
+use Rattle.explorer.specs.Bounds.{IsVerified}
+use Rattle.explorer.specs.Refused.{IsRefused}
+use Rattle.assembler.specs.declared.errors.AsmErrorKind.TheVariants as text
+use Rattle.assembler.specs.declared.errors.AsmError.{AsmError}
+use Rattle.assembler.specs.Assembling.{assembled}
+use Rattle.serving.specs.declared.outcomes.Outcome.{Outcome}
+use Rattle.serving.specs.declared.outcomes.Outcome.TheVariants.{Done, Refused, NoMemory}
+use Rattle.serving.specs.Statuses.{IsWriteFailure}
+use Rattle.serving.specs.Lines.{image_line, verdict_line, text_line, bound_line, is_memory}
+use Rattle.serving.specs.Saying.{Says, LacksMemory}
+
+-- bytes are no image, and standard output says why; or memory ran out
+abbrev pub RefusesImage : List ℕ → Option (List ℕ) → Option (List ℕ) → Outcome → Type 0
+RefusesImage bytes old new result =
+    LacksMemory old new result
+    ⊎ ((error : ImageError) × (refusal_of bytes ≡ Some error) × Says old new (image_line error) Refused result)
+
+-- a program is refused, and standard output says why and where; or memory ran out
+abbrev pub RefusesProgram : Program → Option (List ℕ) → Option (List ℕ) → Outcome → Type 0
+RefusesProgram p old new result =
+    LacksMemory old new result
+    ⊎ ((refusal : Refusal) × (slot : ℕ) × IsRefused p refusal slot × (is_memory refusal ≡ false)
+    × Says old new (verdict_line refusal slot) Refused result)
+
+-- a program is accepted, and standard output says the bound; or memory ran out
+abbrev pub Accepts : Program → Option (List ℕ) → Option (List ℕ) → Outcome → Type 0
+Accepts p old new result =
+    LacksMemory old new result
+    ⊎ ((bound : ℕ) × IsVerified (record { program = p; bound = bound }) × Says old new (bound_line bound) Done result)
+
+abbrev pub Verifies : Program → Option (List ℕ) → Option (List ℕ) → Outcome → Type 0
+Verifies p old new result = Accepts p old new result ⊎ RefusesProgram p old new result
+
+-- a text spells no program, and standard output says why and where; or memory ran out
+abbrev pub RefusesText : List ℕ → Option (List ℕ) → Option (List ℕ) → Outcome → Type 0
+RefusesText source old new result =
+    LacksMemory old new result
+    ⊎ ((error : AsmError) × (assembled source ≡ Err error) × (error.kind ≢ text.Memory)
+    × Says old new (text_line error) Refused result)
+
+-- the file with this name cannot be written, or memory ran out
+abbrev pub IsStoreFailure : List ℕ → Outcome → Type 0
+IsStoreFailure name result = (result ≡ NoMemory) ⊎ IsWriteFailure name result
+
+-- an image was written, and then standard output says the line; or a beginning of it, and standard output got nothing
+abbrev pub Stores : Program → List ℕ → List ℕ → Option (List ℕ) → Option (List ℕ) → Option (List ℕ) → Option (List ℕ) → Outcome → Type 0
+Stores p line name before after old new result =
+    (Appends before after (image_bytes p) × Says old new line Done result)
+    ⊎ (AppendsBeginning before after (image_bytes p) × IsStoreFailure name result × (new ≡ old))

@@ -1,0 +1,6 @@
+pub mod Statuses
+pub mod Lines
+pub mod Saying
+pub mod Judging
+pub mod Streams
+pub mod Commands

@@ -1,0 +1,48 @@
+-- What a run over a stream writes, and how the task ends then.
+use Rattle.std.specs.Prelude.{◌≡◌, ◌≢◌, ℕ, List, Option, Some, None, Result, Ok, Err, IfSome}
+use Rattle.isa_model.specs.declared.streams.Fault.{Fault}
+use Rattle.isa_model.specs.Instructions.{Program}
+use Rattle.isa_model.specs.MachineStates.{AreBytes}
+use Rattle.isa_model.specs.Reports.{report_of, checked_rule, starting_contents, checked_report}
+use Rattle.explorer.specs.Bounds.{Bounded}
+use Rattle.host.specs.declared.errors.HostError.{HostError}
+use Rattle.host.specs.declared.errors.HostError.TheVariants as failure
+use Rattle.host.specs.declared.tallies.Tally.{Tally}
+use Rattle.host.specs.Writing.{Outputs}
+use Rattle.host.specs.Reported.{Reports, ReportsSome}
+use Rattle.host.specs.Accepted.{ReportsRun}
+use Rattle.serving.specs.declared.outcomes.Outcome.{Outcome}
+use Rattle.serving.specs.declared.outcomes.Outcome.TheVariants.{Done, Faulted, NoMemory}
+use Rattle.serving.specs.Statuses.{IsOutputFailure, IsWriteFailure}
+
+-- a stream came to its end, or had a fault
+abbrev pub outcome_at : Option (Fault × ℕ) → Outcome
+outcome_at None = Done
+outcome_at (Some fault) = Faulted
+
+-- how a task ends by how its run did, the frames out going to the file with this name
+abbrev pub EndsBy : List ℕ → Result Tally HostError → Outcome → Type 0
+EndsBy name (Ok tally) result = result ≡ outcome_at tally.fault
+EndsBy name (Err failure.Memory) result = result ≡ NoMemory
+EndsBy name (Err failure.Report) result = IsOutputFailure result
+EndsBy name (Err failure.Frames) result = IsWriteFailure name result
+
+-- A run with checks: where the source tells its bytes, what is written is exactly the checked report of the program and
+-- the input that was heard, and else that of some frames.
+pub record Traces (p : Program) (limit : ℕ) (source : Option (List ℕ)) (name : List ℕ) (old new : Outputs) (result : Outcome) : Type 0 where
+  pub ended : Result Tally HostError
+  pub ends : EndsBy name ended result
+  pub report_untouched : ended ≡ Err failure.Memory → new.report ≡ old.report
+  pub frames_untouched : ended ≡ Err failure.Memory → new.frames ≡ old.frames
+  pub reports : ended ≢ Err failure.Memory → IfSome source (λ bytes. Reports bytes (checked_report p limit) old new ended)
+  pub some_frames : ended ≢ Err failure.Memory → ReportsSome (λ found. report_of limit p.maps (checked_rule p limit) (starting_contents p.maps) found) old new ended
+
+-- A run of an accepted program: where the source tells its bytes, what is written is exactly the report of the program
+-- and the input that was heard, without a trap and within the bound, and else the checked report of some frames.
+pub record RunsAccepted (v : Bounded) (source : Option (List ℕ)) (name : List ℕ) (old new : Outputs) (result : Outcome) : Type 0 where
+  pub ended : Result Tally HostError
+  pub ends : EndsBy name ended result
+  pub report_untouched : ended ≡ Err failure.Memory → new.report ≡ old.report
+  pub frames_untouched : ended ≡ Err failure.Memory → new.frames ≡ old.frames
+  pub reports : ended ≢ Err failure.Memory → IfSome source (λ bytes. AreBytes bytes → ReportsRun v bytes old new ended)
+  pub some_frames : ended ≢ Err failure.Memory → ReportsSome (λ found. report_of v.bound v.program.maps (checked_rule v.program v.bound) (starting_contents v.program.maps) found) old new ended

@@ -1,0 +1,191 @@
+//! The files that the commands read and write.
+
+ghost use Rattle.std.specs.Prelude.{◌≡◌, ◌⊎◌, OnOk, IfOk, IfErr};
+ghost use Rattle.image.specs.Images.{IsImage};
+ghost use Rattle.serving.specs.Statuses.{IsReadFailure, IsMakeFailure};
+ghost use Rattle.tasks.specs.Requests.{files_of};
+ghost use Rattle.serving.specs.Commands.{LoadsNone, TracesFile, RunsFile, VerifiesFile, DisassemblesFile, AssemblesFile};
+
+use super::outcomes::Outcome;
+use super::streams::{run_stream, store_image, trace_stream};
+use super::verdicts::{assembled, image_of, judge, say_text, say_verdict, size_line};
+use image::Image;
+use std::alloc::Global;
+use std::io::{Read, Write};
+use std::os::unix::fs::MetadataExt;
+use std::rt::Files;
+use std::{fs, io};
+use tasks::{Assembly, Paths, StepLimit};
+
+// One byte more than the longest image has: its head, 16 rows of maps and 4,096 slots. Of a longer file the rest
+// changes nothing.
+const PAST_ANY_IMAGE: u64 = 8 + 16 * 12 + 4096 * 8 + 1;
+
+// The first bytes of a file, at most so many.
+fn read_file<R: Files>(rt: &R, alloc: Global, path: &str, most: u64) -> io::Result<Vec<u8>> {
+    let mut file = fs::open(rt, path)?.take(most);
+    let mut bytes = Vec::new(alloc);
+    file.read_to_end(&mut bytes)?;
+    Ok(bytes)
+}
+
+// Whether two paths lead to one file on a disk.
+fn is_same_file<R: Files>(rt: &R, one: &str, other: &str) -> bool {
+    match (fs::metadata(rt, one), fs::metadata(rt, other)) {
+        (Ok(one), Ok(other)) => {
+            one.is_file() && one.ino() != 0 && one.ino() == other.ino() && one.dev() == other.dev()
+        }
+        _ => false,
+    }
+}
+
+// Makes a file to write to, unless it is one of those that are read.
+fn create_file<'a, R: Files>(rt: &R, path: &'a str, read: &[&str]) -> Result<R::File, Outcome<'a>>
+    ensures { IfErr result (IsMakeFailure path.now) }
+{
+    for other in read {
+        if is_same_file(rt, path, *other) {
+            return Err(Outcome::CannotReplace(path));
+        }
+    }
+    match fs::create(rt, path) {
+        Ok(file) => Ok(file),
+        Err(error) => Err(Outcome::of_write(path, &error)),
+    }
+}
+
+// The image in a file, or how the task ends without it.
+fn load_image<'a, R: Files, W: Write>(
+    rt: &R,
+    alloc: Global,
+    path: &'a str,
+    out: &mut W,
+) -> Result<Image, Outcome<'a>>
+    ensures ok { OnOk result (W.contents out.new ≡ W.contents out.old) }
+    ensures fits { IfOk result IsImage }
+    ensures none { IfErr result (λ ended. LoadsNone path.now (W.contents out.old) (W.contents out.new) ended) }
+{
+    let bytes = match read_file(rt, alloc, path, PAST_ANY_IMAGE) {
+        Ok(bytes) => bytes,
+        Err(error) => return Err(Outcome::of_read(path, &error)),
+    };
+    image_of(alloc, bytes.as_slice(), out)
+}
+
+// Opens the frames, and then the frames out.
+fn open_streams<'a, R: Files>(rt: &R, paths: Paths<'a>) -> Result<(R::File, R::File), Outcome<'a>>
+    ensures { IfErr result (λ ended. IsReadFailure paths.entry.frames.now ended ⊎ IsMakeFailure paths.entry.out.now ended) }
+{
+    let source = match fs::open(rt, paths.frames) {
+        Ok(source) => source,
+        Err(error) => return Err(Outcome::of_read(paths.frames, &error)),
+    };
+    let file = create_file(rt, paths.out, &[paths.image, paths.frames])?;
+    Ok((source, file))
+}
+
+/// Runs a program on a frame stream with checks: the image is read and judged, then the frames are opened, then the
+/// frames out. The report goes to standard output as it comes.
+pub fn trace<'a, R: Files, W: Write>(
+    rt: &R,
+    alloc: Global,
+    paths: Paths<'a>,
+    limit: StepLimit,
+    out: &mut W,
+) -> Outcome<'a>
+    ensures { TracesFile (files_of paths.entry) limit.steps (W.contents out.old) (W.contents out.new) result }
+{
+    let image = match load_image(rt, alloc, paths.image, out) {
+        Ok(image) => image,
+        Err(outcome) => return outcome,
+    };
+    match open_streams(rt, paths) {
+        Ok((source, mut file)) => {
+            trace_stream(alloc, image, limit, source, paths.out, out, &mut file)
+        }
+        Err(outcome) => outcome,
+    }
+}
+
+/// Verifies a program and runs it on a frame stream: the image is read and judged, then the frames are opened, then
+/// the frames out. The report goes to standard output as it comes.
+pub fn run_verified<'a, R: Files, W: Write>(
+    rt: &R,
+    alloc: Global,
+    paths: Paths<'a>,
+    out: &mut W,
+) -> Outcome<'a>
+    ensures { RunsFile (files_of paths.entry) (W.contents out.old) (W.contents out.new) result }
+{
+    let image = match load_image(rt, alloc, paths.image, out) {
+        Ok(image) => image,
+        Err(outcome) => return outcome,
+    };
+    let verified = match judge(alloc, image, out) {
+        Ok(verified) => verified,
+        Err(outcome) => return outcome,
+    };
+    match open_streams(rt, paths) {
+        Ok((source, mut file)) => run_stream(alloc, verified, source, paths.out, out, &mut file),
+        Err(outcome) => outcome,
+    }
+}
+
+/// Verifies a program: its image is read and judged, and standard output says the most steps of a run.
+pub fn verify_file<'a, R: Files, W: Write>(
+    rt: &R,
+    alloc: Global,
+    path: &'a str,
+    out: &mut W,
+) -> Outcome<'a>
+    ensures { VerifiesFile path.now (W.contents out.old) (W.contents out.new) result }
+{
+    let image = match load_image(rt, alloc, path, out) {
+        Ok(image) => image,
+        Err(outcome) => return outcome,
+    };
+    say_verdict(alloc, image, out)
+}
+
+/// Writes the text of an image: it is read and judged, and then the text goes to standard output.
+pub fn disassemble_file<'a, R: Files, W: Write>(
+    rt: &R,
+    alloc: Global,
+    path: &'a str,
+    out: &mut W,
+) -> Outcome<'a>
+    ensures { DisassemblesFile path.now (W.contents out.old) (W.contents out.new) result }
+{
+    let image = match load_image(rt, alloc, path, out) {
+        Ok(image) => image,
+        Err(outcome) => return outcome,
+    };
+    say_text(&image, out)
+}
+
+/// Makes the image of a text: the text is read and judged, then the image is written, and then standard output says
+/// how large it is. Where memory is wanting no file is opened for the image.
+pub fn assemble_file<'a, R: Files, W: Write>(
+    rt: &R,
+    alloc: Global,
+    paths: Assembly<'a>,
+    out: &mut W,
+) -> Outcome<'a>
+    ensures { AssemblesFile paths.entry.text.now paths.entry.image.now (W.contents out.old) (W.contents out.new) result }
+{
+    let text = match read_file(rt, alloc, paths.text, u64::MAX) {
+        Ok(text) => text,
+        Err(error) => return Outcome::of_read(paths.text, &error),
+    };
+    let image = match assembled(alloc, text.as_slice(), out) {
+        Ok(image) => image,
+        Err(outcome) => return outcome,
+    };
+    let Ok(line) = size_line(alloc, &image) else {
+        return Outcome::NoMemory;
+    };
+    match create_file(rt, paths.image, &[paths.text]) {
+        Ok(mut file) => store_image(&image, line.as_str(), paths.image, out, &mut file),
+        Err(outcome) => outcome,
+    }
+}

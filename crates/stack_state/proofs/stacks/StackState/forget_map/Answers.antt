@@ -1,0 +1,25 @@
+use Rattle.std.proofs.Common.{arith, ◌≡◌, ◌≤◌, length, length-set, get_or, set, ap, ◌∙◌}
+use Rattle.std.proofs.lemmas.List.{get_or_default, take_all, drop_all, append-nil}
+use Rattle.std.proofs.lemmas.List.Edits.{map_over_more}
+use Rattle.stack_state.specs.Slots.{forgotten_slot}
+use Rattle.stack_state.proofs.stacks.StackState.forget_map.Goals as goal
+
+pub loop-slot-preserved : goal.loop-slot-preserved
+loop-slot-preserved c =
+    let xs = c.args.self.now.slots in
+    let ys = c.loop-slot.self.slots in
+    let i = c.loop-slot.slot in
+    let x = get_or ys i c.index-self-slot.result in
+    let count : length xs ≡ 64 = omega arith in
+    let wide : length ys ≡ 64 = c.loop-slot.invariant.length in
+    record {
+      length = length-set ys i c.forgotten.result ∙ wide;
+      done = ap (set ys i) c.forgotten.ensures ∙ map_over_more (forgotten_slot c.args.map) xs ys i x (omega arith) c.loop-slot.invariant.done (get_or_default ys i c.index-self-slot.result x (omega arith));
+    }
+
+pub returns : goal.returns
+returns c =
+    let xs = c.args.self.now.slots in
+    let count : length xs ≡ 64 = omega arith in
+    let over : length xs ≤ c.loop-slot.slot = omega arith in
+    record { exact = c.loop-slot.invariant.done ∙ (rw (take_all, drop_all, append-nil)) }

@@ -1,0 +1,122 @@
+-- The slots of a frame, and what the calls of `StackState` do with them.
+use Rattle.std.specs.Prelude.{◌≡◌, ◌≢◌, ℕ, ◌+◌, ◌-◌, ◌*◌, ◌/◌, ◌%◌, ◌^◌, ◌<◌, ◌≤◌, ◌==◌, ◌↔◌, List, map, slice_set, slice_index_or, Option, Some, None, bit_or, if◌then◌else◌}
+use Rattle.std.specs.Int.{bit_at}
+use Rattle.isa_model.specs.declared.sizes.Size.{Size}
+use Rattle.isa_model.specs.declared.sizes.Size.TheVariants.{U64}
+use Rattle.isa_model.specs.Sizes.{size_bytes}
+use Rattle.reg_state.specs.declared.scalars.Scalar.{Scalar}
+use Rattle.reg_state.specs.declared.kinds.Kind.{Kind}
+use Rattle.reg_state.specs.declared.kinds.Kind.TheVariants.{Unset, Number, MapValue, MapValueOrNull}
+use Rattle.reg_state.specs.Scalars.{Has}
+use Rattle.stack_state.specs.declared.slots.Slot.{Slot}
+use Rattle.stack_state.specs.declared.slots.Slot.TheVariants.{Written, Spilled}
+
+abbrev pub slot_at : List Slot → ℕ → Slot
+slot_at slots k = slice_index_or slots k (Written 0)
+
+-- ---- marks
+
+-- all bytes of a spilled number are number bytes; of what may be a pointer none is known to be one
+abbrev pub kind_marks : Kind → ℕ
+kind_marks (Number numbers) = 255
+kind_marks k = 0
+
+-- bit i: byte i of the slot is a written number byte
+abbrev pub marks_of : Slot → ℕ
+marks_of (Written marks) = marks
+marks_of (Spilled k) = kind_marks k
+
+-- the marks of the bytes of a slot from one up to another
+abbrev pub mask_of : ℕ → ℕ → ℕ
+mask_of from end = 2 ^ end - 2 ^ from
+
+-- byte i of the frame is a written number byte
+abbrev pub IsMarked : List Slot → ℕ → Type 0
+IsMarked slots i = bit_at (marks_of (slot_at slots (i / 8))) (i % 8) ≡ 1
+
+abbrev pub AreMarked : List Slot → ℕ → ℕ → Type 0
+AreMarked slots from end = (i : ℕ) → from ≤ i → i < end → IsMarked slots i
+
+-- n number bytes were written: a value that was spilled there is whole no longer, and of a number the other bytes stay
+abbrev pub after_store : List Slot → ℕ → ℕ → List Slot
+after_store slots at n =
+    slice_set slots (at / 8) (Written (bit_or (marks_of (slot_at slots (at / 8))) (mask_of (at % 8) (at % 8 + n))))
+
+-- ---- numbers
+
+-- every number of a register is one of them
+abbrev pub IsAny : Scalar → Type 0
+IsAny numbers = (x : ℕ) → x < 2 ^ 64 → Has numbers x
+
+abbrev pub IsAnyNumber : Kind → Type 0
+IsAnyNumber (Number numbers) = IsAny numbers
+IsAnyNumber k = ⊥
+
+-- every number that the bytes may spell, and no other
+abbrev pub AreAll : Size → Scalar → Type 0
+AreAll size answer = (x : ℕ) → (Has answer x ↔ (x < 2 ^ (8 * size_bytes size)))
+
+-- of a whole spilled number its own
+abbrev pub ArePart : Scalar → Size → Scalar → Type 0
+ArePart numbers U64 answer = answer ≡ numbers
+ArePart numbers size answer = AreAll size answer
+
+abbrev pub AreSpilled : Kind → Size → Scalar → Type 0
+AreSpilled (Number numbers) size answer = ArePart numbers size answer
+AreSpilled k size answer = AreAll size answer
+
+-- the numbers that marked bytes of a slot may spell
+abbrev pub AreNumbers : Slot → Size → Scalar → Type 0
+AreNumbers (Written marks) size answer = AreAll size answer
+AreNumbers (Spilled k) size answer = AreSpilled k size answer
+
+-- the bytes are loaded where all of them are marked
+abbrev pub IsLoad : List Slot → ℕ → Size → Option Scalar → Type 0
+IsLoad slots at size None = ¬ AreMarked slots at (at + size_bytes size)
+IsLoad slots at size (Some answer) =
+    AreMarked slots at (at + size_bytes size) × AreNumbers (slot_at slots (at / 8)) size answer
+
+-- ---- whole values
+
+-- a number of which nothing is known is eight written bytes
+abbrev pub IsNumberSpill : Scalar → Slot → Type 0
+IsNumberSpill numbers (Written marks) = (marks ≡ 255) × IsAny numbers
+IsNumberSpill numbers (Spilled k) = (k ≡ Number numbers) × (¬ IsAny numbers)
+
+-- what a spill of the kind leaves in its slot
+abbrev pub IsSpill : Kind → Slot → Type 0
+IsSpill Unset slot = slot ≡ Written 0
+IsSpill (Number numbers) slot = IsNumberSpill numbers slot
+IsSpill k slot = slot ≡ Spilled k
+
+-- eight bytes that are all marked are some number
+abbrev pub IsWrittenFill : ℕ → Option Kind → Type 0
+IsWrittenFill marks None = marks ≢ 255
+IsWrittenFill marks (Some k) = (marks ≡ 255) × IsAnyNumber k
+
+abbrev pub spilled_kind : Kind → Option Kind
+spilled_kind Unset = None
+spilled_kind k = Some k
+
+-- the kind of the value that is read back whole from a slot
+abbrev pub IsFill : Slot → Option Kind → Type 0
+IsFill (Written marks) answer = IsWrittenFill marks answer
+IsFill (Spilled k) answer = answer ≡ spilled_kind k
+
+-- ---- forgotten maps
+
+abbrev pub forgotten_if : ℕ → ℕ → Kind → Slot
+forgotten_if m index k = if index == m then Written 0 else Spilled k
+
+abbrev pub forgotten_kind : ℕ → Kind → Slot
+forgotten_kind m (MapValue index least greatest) = forgotten_if m index (MapValue index least greatest)
+forgotten_kind m (MapValueOrNull index identity) = forgotten_if m index (MapValueOrNull index identity)
+forgotten_kind m k = Spilled k
+
+-- pointers to values of the map are forgotten
+abbrev pub forgotten_slot : ℕ → Slot → Slot
+forgotten_slot m (Written marks) = Written marks
+forgotten_slot m (Spilled k) = forgotten_kind m k
+
+abbrev pub forgotten : ℕ → List Slot → List Slot
+forgotten m slots = map (forgotten_slot m) slots

@@ -1,0 +1,134 @@
+//! What is known of eight bytes of a call frame.
+
+ghost use Rattle.std.specs.Prelude.{◌≡◌, ℕ, ◌+◌, ◌-◌, ◌*◌, ◌^◌, ◌<◌, ◌≤◌, ◌↔◌, IsTrue};
+ghost use Rattle.isa_model.specs.Sizes.{size_bytes};
+ghost use Rattle.reg_state.specs.Scalars.{Has};
+ghost use Rattle.stack_state.specs.Slots.{marks_of, mask_of, IsAny, AreAll, ArePart, AreSpilled, AreNumbers, IsSpill, IsFill, forgotten_slot};
+
+use isa_model::{Size, Width};
+use reg_state::{Domain, Kind, Scalar};
+
+/// What is known of eight bytes of a call frame.
+#[derive(Clone, Copy, PartialEq, Eq, Debug)]
+pub enum Slot {
+    /// Bit i says that byte i is a written number byte. Of the other bytes nothing is known.
+    Written(u8),
+    /// They are what an 8-byte store of a value of this kind wrote.
+    Spilled(Kind),
+}
+
+/// The bytes of the slot that are written number bytes.
+pub(crate) fn marks(slot: Slot) -> u8
+    ensures { result ≡ marks_of slot }
+{
+    match slot {
+        Slot::Written(marks) => marks,
+        Slot::Spilled(Kind::Number(_)) => 255,
+        Slot::Spilled(_) => 0,
+    }
+}
+
+/// The marks of some bytes from one of the slot on.
+pub(crate) fn mask(from: usize, bytes: usize) -> u8
+    requires { from + bytes ≤ 8 }
+    ensures { result ≡ mask_of from (from + bytes) }
+{
+    ((1u32 << (from + bytes)) - (1u32 << from)) as u8
+}
+
+/// The greatest number that is spelled by so many bytes.
+fn greatest(size: Size) -> u64
+    ensures { result + 1 ≡ 2 ^ (8 * size_bytes size) }
+{
+    match size {
+        Size::U8 => 0xff,
+        Size::U16 => 0xffff,
+        Size::U32 => 0xffff_ffff,
+        Size::U64 => u64::MAX,
+    }
+}
+
+/// All numbers that so many bytes may spell.
+fn all(size: Size) -> Scalar
+    ensures { AreAll size result }
+{
+    Scalar::between(0, greatest(size))
+}
+
+/// What a part of a spilled number may be.
+fn part(numbers: Scalar, size: Size) -> Scalar
+    ensures { ArePart numbers size result }
+{
+    match size {
+        Size::U64 => numbers,
+        _ => all(size),
+    }
+}
+
+/// The numbers that bytes of a spilled value may spell.
+fn spilled_numbers(kind: Kind, size: Size) -> Scalar
+    ensures { AreSpilled kind size result }
+{
+    match kind {
+        Kind::Number(numbers) => part(numbers, size),
+        _ => all(size),
+    }
+}
+
+/// The numbers that marked bytes of the slot may spell.
+pub(crate) fn numbers(slot: Slot, size: Size) -> Scalar
+    ensures { AreNumbers slot size result }
+{
+    match slot {
+        Slot::Written(_) => all(size),
+        Slot::Spilled(kind) => spilled_numbers(kind, size),
+    }
+}
+
+/// Whether nothing is known of a number.
+fn is_any(numbers: Scalar) -> bool
+    ensures { IsTrue result ↔ IsAny numbers }
+{
+    numbers.covers(Scalar::any(Width::Full64))
+}
+
+/// What a spill of the kind leaves.
+pub(crate) fn spilled(kind: Kind) -> Slot
+    ensures { IsSpill kind result }
+{
+    match kind {
+        Kind::Unset => Slot::Written(0),
+        Kind::Number(numbers) => {
+            if is_any(numbers) {
+                Slot::Written(255)
+            } else {
+                Slot::Spilled(kind)
+            }
+        }
+        kind => Slot::Spilled(kind),
+    }
+}
+
+/// The kind of the value that is read back whole, if it can be.
+pub(crate) fn filled(slot: Slot) -> Option<Kind>
+    ensures { IsFill slot result }
+{
+    match slot {
+        Slot::Written(255) => Some(Kind::Number(Scalar::any(Width::Full64))),
+        Slot::Written(_) => None,
+        Slot::Spilled(Kind::Unset) => None,
+        Slot::Spilled(kind) => Some(kind),
+    }
+}
+
+/// The slot without what points to values of the map.
+pub(crate) fn forgotten(slot: Slot, map: u8) -> Slot
+    ensures { result ≡ forgotten_slot map slot }
+{
+    match slot {
+        Slot::Spilled(Kind::MapValue { index, .. } | Kind::MapValueOrNull { index, .. }) => {
+            if index == map { Slot::Written(0) } else { slot }
+        }
+        slot => slot,
+    }
+}

@@ -1,0 +1,98 @@
+//! What is known of the bytes of a call frame.
+
+ghost use Rattle.std.specs.Prelude.{◌≡◌, ◌≢◌, ◌+◌, ◌/◌, ◌%◌, ◌<◌, ◌≤◌, ◌↔◌, IsTrue, replicate, slice_set};
+ghost use Rattle.isa_model.specs.Sizes.{size_bytes};
+ghost use Rattle.stack_state.specs.Slots as slot_words;
+ghost use Rattle.stack_state.specs.Slots.{slot_at, IsMarked, AreMarked, after_store, IsLoad, IsSpill, IsFill};
+
+use crate::slots::{Slot, filled, forgotten, marks, mask, numbers, spilled};
+use isa_model::Size;
+use reg_state::{Kind, Scalar};
+
+/// What is known of the 512 bytes of a call frame: slot 0 is the one at offset -512 from the frame's end.
+#[derive(Clone, Copy, PartialEq, Eq, Debug)]
+pub struct StackState {
+    pub slots: [Slot; 64],
+}
+
+impl StackState {
+    /// A frame of which nothing is known.
+    pub fn new() -> StackState
+        ensures exact { result.slots ≡ replicate 64 (Slot.Written 0) }
+    {
+        StackState {
+            slots: [Slot::Written(0); 64],
+        }
+    }
+
+    /// Bytes of a number are written.
+    pub fn store(&mut self, at: usize, size: Size)
+        requires inside { at < 512 }
+        requires in_slot { at % 8 + size_bytes size ≤ 8 }
+        ensures exact { self.new.slots ≡ after_store self.old.slots at (size_bytes size) }
+    {
+        let slot = self.slots[at / 8];
+        let written = marks(slot) | mask(at % 8, size.bytes());
+        self.slots[at / 8] = Slot::Written(written);
+    }
+
+    /// The numbers that a load of the bytes may answer. None: not all of them are written number bytes.
+    pub fn load(&self, at: usize, size: Size) -> Option<Scalar>
+        requires inside { at < 512 }
+        requires in_slot { at % 8 + size_bytes size ≤ 8 }
+        ensures exact { IsLoad self.now.slots at size result }
+    {
+        if self.is_bytes(at, size.bytes()) {
+            Some(numbers(self.slots[at / 8], size))
+        } else {
+            None
+        }
+    }
+
+    /// A value of the kind is written into the whole slot.
+    pub fn spill(&mut self, slot: usize, kind: Kind)
+        requires { slot < 64 }
+        ensures exact { IsSpill kind (slot_at self.new.slots slot) }
+        ensures others { self.new.slots ≡ slice_set self.old.slots slot (slot_at self.new.slots slot) }
+    {
+        self.slots[slot] = spilled(kind);
+    }
+
+    /// The kind of the value that a load of the whole slot answers. None: some byte may be unset, or a pointer not whole.
+    pub fn fill(&self, slot: usize) -> Option<Kind>
+        requires { slot < 64 }
+        ensures exact { IsFill (slot_at self.now.slots slot) result }
+    {
+        filled(self.slots[slot])
+    }
+
+    /// Whether the byte is a written number byte.
+    fn is_byte(&self, at: usize) -> bool
+        requires { at < 512 }
+        ensures { IsTrue result ↔ IsMarked self.now.slots at }
+    {
+        (marks(self.slots[at / 8]) >> (at % 8)) & 1 == 1
+    }
+
+    /// Whether the bytes are all written number bytes.
+    pub fn is_bytes(&self, from: usize, length: usize) -> bool
+        requires { from + length ≤ 512 }
+        ensures exact { IsTrue result ↔ AreMarked self.now.slots from (from + length) }
+    {
+        for at in from..from + length {
+            if !self.is_byte(at) {
+                return false;
+            }
+        }
+        true
+    }
+
+    /// Pointers to values of the map are forgotten.
+    pub fn forget_map(&mut self, map: u8)
+        ensures exact { self.new.slots ≡ slot_words.forgotten map self.old.slots }
+    {
+        for slot in 0..64 {
+            self.slots[slot] = forgotten(self.slots[slot], map);
+        }
+    }
+}

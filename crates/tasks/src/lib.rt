@@ -1,0 +1,65 @@
+//! What the program is to do, and why words ask for nothing. Nothing here speaks of the command line's form.
+#![tactic(auto)]
+
+ghost use Rattle.std.specs.Prelude.{◌≤◌};
+
+use std::alloc::AllocError;
+
+/// What is to be done, and on which files.
+#[derive(Clone, Copy)]
+pub enum Task<'a> {
+    /// Run a program with checks.
+    Trace(Paths<'a>, StepLimit),
+    /// Verify a program and run it.
+    Run(Paths<'a>),
+    /// Verify a program.
+    Verify(&'a str),
+    /// Make an image of the text in a file.
+    Assemble(Assembly<'a>),
+    /// Write the text of the image in a file.
+    Disassemble(&'a str),
+    /// A command of this program that this build does not have.
+    NotBuilt(&'static str),
+}
+
+/// The most steps of a run on one frame: from 1 to 1,000,000.
+#[derive(Clone, Copy)]
+pub struct StepLimit {
+    pub steps: u32,
+    ghost some: { 1 ≤ steps },
+    ghost most: { steps ≤ 1000000 },
+}
+
+/// The files of a run: the image and the frames that are read, and the frames out.
+#[derive(Clone, Copy)]
+pub struct Paths<'a> {
+    pub image: &'a str,
+    pub frames: &'a str,
+    pub out: &'a str,
+}
+
+/// The files of an assembly: the text, and the image that is made.
+#[derive(Clone, Copy)]
+pub struct Assembly<'a> {
+    pub text: &'a str,
+    pub image: &'a str,
+}
+
+/// Why the words ask for nothing.
+#[derive(Clone, Copy)]
+pub enum WordsError {
+    /// They are words of no command, or no text, or they ask for help or the version.
+    Wrong,
+    Memory,
+}
+
+impl From<AllocError> for WordsError {
+    ghost use Rattle.std.specs.Prelude.{◌≡◌};
+    ghost use Rattle.tasks.specs.declared.WordsError.TheVariants.{Memory};
+
+    ghost from_gives = { λ _ e. e ≡ Memory };
+
+    fn from(_error: AllocError) -> WordsError {
+        WordsError::Memory
+    }
+}

@@ -1,0 +1,86 @@
+-- What a parse of the command line says of what the words ask for.
+use Rattle.std.proofs.Common.{◌≡◌, ◌∙◌, ℕ, true, List, [], ◌∷◌, Option, Some, None, refl, ap, ap₂, sym, subst, inl, inr}
+use Rattle.std.specs.Prelude.{option_map, Result, Err}
+use Rattle.std.specs.Option.{ok_or}
+use Rattle.clap.specs.Faults.{fault_of, is_simple_and_free}
+use Rattle.clap.specs.Simple.{is_simple, subcommand_of}
+use Rattle.clap.specs.Kinds.{HasKind, IsAmong, Kinds}
+use Rattle.clap.specs.Words.{App, HasMatchesOf, Row, kind_of, subcommand_name_of, subcommand_rows_of}
+use Rattle.clap.specs.declared.error.Error.{Error}
+use Rattle.clap.specs.declared.error.kind.ErrorKind.{ErrorKind}
+use Rattle.clap.specs.declared.error.kind.ErrorKind.TheVariants as kind
+use Rattle.clap.specs.declared.parser.matches.ArgMatches.{ArgMatches}
+use Rattle.tasks.specs.declared.Task.{Task}
+use Rattle.tasks.specs.declared.WordsError.{WordsError}
+use Rattle.tasks.specs.declared.WordsError.TheVariants.{Wrong, Memory}
+use Rattle.words.specs.CommandLine.{program, asm, dis, verify, run, trace, prove, recheck}
+use Rattle.tasks.specs.Requests.{Request, request_of}
+use Rattle.words.specs.Asked.{Reads, asked, request_by, request_met, unless_faulty}
+
+-- the command line is one of which clap says what a parse finds, and how it fails
+is_simple-program : is_simple program ≡ true
+unfolding program asm dis verify run trace prove recheck
+is_simple-program = refl
+
+is_simple_and_free-program : is_simple_and_free program ≡ true
+unfolding program asm dis verify run trace prove recheck
+is_simple_and_free-program = refl
+
+unless_faulty-among : (k : ErrorKind) (kinds : Kinds) (r : Option Request) → IsAmong k kinds → unless_faulty kinds r ≡ None
+unless_faulty-among k [] r among = absurd among
+unless_faulty-among k (x ∷ xs) r among = refl
+
+-- a parse failed
+pub failed-reads : (a : App) (words : List (List ℕ)) (e : Error) (w : WordsError) → a ≡ program
+    → (is_simple_and_free a ≡ true → HasKind (fault_of a words) e) → (kind_of e ≡ kind.OutOfMemory → w ≡ Memory) → Reads words (Err w)
+unfolding asked
+failed-reads a words e Memory is h memory = tt
+failed-reads a words e Wrong is h memory =
+    elim (h (ap is_simple_and_free is ∙ is_simple_and_free-program)) [
+      | inl out ↦ let same : Wrong ≡ Memory = memory out in cc
+      | inr among ↦ unless_faulty-among (kind_of e) (fault_of program words) _ (subst (λ (x : App). IsAmong (kind_of e) (fault_of x words)) is among)
+    ]
+
+-- a parse succeeded
+asked-parsed : (a : App) (words : List (List ℕ)) (m : ArgMatches) → a ≡ program → (is_simple_and_free a ≡ true → fault_of a words ≡ [])
+    → HasMatchesOf a words m → asked words ≡ request_met (subcommand_rows_of m)
+unfolding asked
+asked-parsed a words m is h found =
+    let none : fault_of program words ≡ [] = sym (ap (λ (x : App). fault_of x words) is) ∙ h (ap is_simple_and_free is ∙ is_simple_and_free-program) in
+    let met : subcommand_rows_of m ≡ subcommand_of program words = (found (ap is_simple is ∙ is_simple-program)).1 ∙ ap (λ (x : App). subcommand_of x words) is in
+    ap₂ unless_faulty none (ap request_met (sym met))
+
+maps : {A B C : Type 0} (g : B → C) (f : A → B) (o : Option A) → option_map (λ x. g (f x)) o ≡ option_map g (option_map f o)
+maps g f None = refl
+maps g f (Some x) = refl
+
+-- the name of the command that was met stands with its arguments
+name-met : (m : ArgMatches) → subcommand_name_of m ≡ option_map (λ p. p.0) (subcommand_rows_of m)
+name-met m = maps (λ (p : List ℕ × List Row). p.0) _ _
+
+met-some : (o : Option (List ℕ × List Row)) (name : List ℕ) (rows : List Row) → Some name ≡ option_map (λ p. p.0) o → Some rows ≡ option_map (λ p. p.1) o → o ≡ Some (name, rows)
+met-some None name rows e f = cc
+met-some (Some (n, r)) name rows e f = cc
+
+met-none : (o : Option (List ℕ × List Row)) → None ≡ option_map (λ p. p.0) o → o ≡ None
+met-none None e = refl
+met-none (Some p) e = cc
+
+reads-task : (words : List (List ℕ)) (o : Option Request) (t : Option Task) (r : Result Task WordsError) → asked words ≡ o → option_map request_of t ≡ o
+    → r ≡ ok_or t Wrong → Reads words r
+reads-task words o (Some x) r e f is = rw is (e ∙ sym f)
+reads-task words o None r e f is = rw is (e ∙ sym f)
+
+-- and met a command
+pub parsed-reads : (a : App) (words : List (List ℕ)) (m : ArgMatches) (name : List ℕ) (rows : List Row) (t : Option Task) (r : Result Task WordsError) → a ≡ program
+    → (is_simple_and_free a ≡ true → fault_of a words ≡ []) → HasMatchesOf a words m → Some name ≡ subcommand_name_of m → Some rows ≡ option_map (λ p. p.1) (subcommand_rows_of m)
+    → option_map request_of t ≡ request_by name rows → r ≡ ok_or t Wrong → Reads words r
+parsed-reads a words m name rows t r is h found e f task made =
+    let met : subcommand_rows_of m ≡ Some (name, rows) = met-some (subcommand_rows_of m) name rows (e ∙ name-met m) f in
+    reads-task words (request_by name rows) t r (asked-parsed a words m is h found ∙ ap request_met met) task made
+
+-- and met none
+pub parsed-none : (a : App) (words : List (List ℕ)) (m : ArgMatches) → a ≡ program
+    → (is_simple_and_free a ≡ true → fault_of a words ≡ []) → HasMatchesOf a words m → None ≡ subcommand_name_of m → asked words ≡ None
+parsed-none a words m is h found e =
+    asked-parsed a words m is h found ∙ ap request_met (met-none (subcommand_rows_of m) (e ∙ name-met m))

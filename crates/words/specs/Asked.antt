@@ -1,0 +1,79 @@
+-- What the words on the command line ask for.
+use Rattle.std.specs.Prelude.{◌≡◌, ℕ, Bool, ◌&&◌, List, [], ◌∷◌, Option, Some, None, Result, Ok, Err, codes, length, nat_le, nat_lt, if◌then◌else◌, option_map, option_and_then}
+use Rattle.std.specs.List.{list_all}
+use Rattle.std.specs.Char.{is_ascii_digit}
+use Rattle.std.specs.Str.{bytes_eq}
+use Rattle.std.specs.Str.Parse.{digits_value}
+use Rattle.clap.specs.Kinds.{Kinds}
+use Rattle.clap.specs.Walk.{Row, first_of}
+use Rattle.clap.specs.Simple.{subcommand_of}
+use Rattle.clap.specs.Faults.{fault_of}
+use Rattle.tasks.specs.declared.Task.{Task}
+use Rattle.tasks.specs.declared.WordsError.{WordsError}
+use Rattle.tasks.specs.declared.WordsError.TheVariants.{Wrong, Memory}
+use Rattle.tasks.specs.Requests.{Request, RunFiles, Trace, Run, Verify, Assemble, Disassemble, NotBuilt, request_of}
+use Rattle.words.specs.CommandLine.{program}
+
+-- ---- what the arguments of a command ask for
+
+-- the files of a run
+abbrev pub files_in : List Row → Option RunFiles
+files_in rows = option_and_then (λ image. option_and_then (λ frames. option_map (λ out. record { image = image; frames = frames; out = out })
+    (first_of (codes "out") rows)) (first_of (codes "frames") rows)) (first_of (codes "image") rows)
+
+abbrev pub is_limit : List ℕ → Bool
+is_limit text = nat_lt 0 (length text) && (list_all is_ascii_digit text
+    && (nat_le 1 (digits_value 10 text) && nat_le (digits_value 10 text) 1000000))
+
+-- a limit: decimal digits that write a number from 1 to 1,000,000
+abbrev pub limit_of : List ℕ → Option ℕ
+limit_of text = if is_limit text then Some (digits_value 10 text) else None
+
+-- the limit that is given, or the most
+abbrev pub limit_or_most : Option (List ℕ) → Option ℕ
+limit_or_most None = Some 1000000
+limit_or_most (Some text) = limit_of text
+
+abbrev pub limit_in : List Row → Option ℕ
+limit_in rows = limit_or_most (first_of (codes "limit") rows)
+
+abbrev pub trace_of : List Row → Option Request
+trace_of rows = option_and_then (λ files. option_map (Trace files) (limit_in rows)) (files_in rows)
+
+abbrev pub assembly_of : List Row → Option Request
+assembly_of rows = option_and_then (λ text. option_map (Assemble text) (first_of (codes "image") rows)) (first_of (codes "text") rows)
+
+-- what the command of this name asks for with these arguments
+abbrev pub request_by : List ℕ → List Row → Option Request
+request_by name rows =
+    if bytes_eq name (codes "run") then option_map Run (files_in rows)
+    else if bytes_eq name (codes "verify") then option_map Verify (first_of (codes "image") rows)
+    else if bytes_eq name (codes "trace") then trace_of rows
+    else if bytes_eq name (codes "asm") then assembly_of rows
+    else if bytes_eq name (codes "dis") then option_map Disassemble (first_of (codes "image") rows)
+    else if bytes_eq name (codes "prove") then Some (NotBuilt (codes "prove"))
+    else if bytes_eq name (codes "recheck") then Some (NotBuilt (codes "recheck"))
+    else None
+
+-- ---- what the words ask for
+
+-- the command that is met, with its arguments
+abbrev pub request_met : Option (List ℕ × List Row) → Option Request
+request_met = option_and_then (λ met. request_by met.0 met.1)
+
+-- words with a fault ask for nothing
+abbrev pub unless_faulty : Kinds → Option Request → Option Request
+unless_faulty [] request = request
+unless_faulty (fault ∷ faults) request = None
+
+-- what the words ask for: what their command asks for; the first word is the program's name
+unfoldable pub asked : List (List ℕ) → Option Request
+asked words = unless_faulty (fault_of program words) (request_met (subcommand_of program words))
+
+-- ---- what was read of them
+
+-- what was read of words: what they ask for, or that it is nothing; or memory ran out
+abbrev pub Reads : List (List ℕ) → Result Task WordsError → Type 0
+Reads words (Ok task) = asked words ≡ Some (request_of task)
+Reads words (Err Wrong) = asked words ≡ None
+Reads words (Err Memory) = Unit {0}

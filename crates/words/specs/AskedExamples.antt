@@ -1,0 +1,107 @@
+-- What some words ask for.
+use Rattle.std.specs.Prelude.{◌≡◌, [], ◌∷◌, Some, None, codes}
+use Rattle.std.proofs.Common.{refl}
+use Rattle.clap.proofs.OnLiterals.{clap_on_literals}
+use Rattle.words.specs.CommandLine.{program, asm, dis, verify, run, trace, prove, recheck}
+use Rattle.tasks.specs.Requests.{Trace, Run, Verify, NotBuilt}
+use Rattle.words.specs.Asked.{asked}
+
+-- ---- the commands
+
+runs : asked (codes "xdpvm" ∷ codes "run" ∷ codes "a" ∷ codes "b" ∷ codes "c" ∷ []) ≡ Some (Run (record { image = codes "a"; frames = codes "b"; out = codes "c" }))
+unfolding clap_on_literals asked program asm dis verify run trace prove recheck
+runs = refl
+
+traces : asked (codes "xdpvm" ∷ codes "trace" ∷ codes "a" ∷ codes "b" ∷ codes "c" ∷ []) ≡ Some (Trace (record { image = codes "a"; frames = codes "b"; out = codes "c" }) 1000000)
+unfolding clap_on_literals asked program asm dis verify run trace prove recheck
+traces = refl
+
+-- ---- a limit stands anywhere among the files, and has its value behind it or behind an equals sign
+
+traces-limit : asked (codes "xdpvm" ∷ codes "trace" ∷ codes "a" ∷ codes "b" ∷ codes "c" ∷ codes "--limit" ∷ codes "5" ∷ []) ≡ Some (Trace (record { image = codes "a"; frames = codes "b"; out = codes "c" }) 5)
+unfolding clap_on_literals asked program asm dis verify run trace prove recheck
+traces-limit = refl
+
+traces-limit-first : asked (codes "xdpvm" ∷ codes "trace" ∷ codes "--limit" ∷ codes "1000000" ∷ codes "a" ∷ codes "b" ∷ codes "c" ∷ []) ≡ Some (Trace (record { image = codes "a"; frames = codes "b"; out = codes "c" }) 1000000)
+unfolding clap_on_literals asked program asm dis verify run trace prove recheck
+traces-limit-first = refl
+
+traces-limit-equals : asked (codes "xdpvm" ∷ codes "trace" ∷ codes "a" ∷ codes "--limit=007" ∷ codes "b" ∷ codes "c" ∷ []) ≡ Some (Trace (record { image = codes "a"; frames = codes "b"; out = codes "c" }) 7)
+unfolding clap_on_literals asked program asm dis verify run trace prove recheck
+traces-limit-equals = refl
+
+-- ---- no limits
+
+traces-limit-zero : asked (codes "xdpvm" ∷ codes "trace" ∷ codes "a" ∷ codes "b" ∷ codes "c" ∷ codes "--limit" ∷ codes "0" ∷ []) ≡ None
+unfolding clap_on_literals asked program asm dis verify run trace prove recheck
+traces-limit-zero = refl
+
+traces-limit-over : asked (codes "xdpvm" ∷ codes "trace" ∷ codes "a" ∷ codes "b" ∷ codes "c" ∷ codes "--limit" ∷ codes "1000001" ∷ []) ≡ None
+unfolding clap_on_literals asked program asm dis verify run trace prove recheck
+traces-limit-over = refl
+
+traces-limit-sign : asked (codes "xdpvm" ∷ codes "trace" ∷ codes "a" ∷ codes "b" ∷ codes "c" ∷ codes "--limit" ∷ codes "+5" ∷ []) ≡ None
+unfolding clap_on_literals asked program asm dis verify run trace prove recheck
+traces-limit-sign = refl
+
+traces-limit-twice : asked (codes "xdpvm" ∷ codes "trace" ∷ codes "a" ∷ codes "b" ∷ codes "c" ∷ codes "--limit" ∷ codes "5" ∷ codes "--limit" ∷ codes "5" ∷ []) ≡ None
+unfolding clap_on_literals asked program asm dis verify run trace prove recheck
+traces-limit-twice = refl
+
+runs-limit : asked (codes "xdpvm" ∷ codes "run" ∷ codes "a" ∷ codes "b" ∷ codes "c" ∷ codes "--limit" ∷ codes "5" ∷ []) ≡ None
+unfolding clap_on_literals asked program asm dis verify run trace prove recheck
+runs-limit = refl
+
+-- ---- behind two hyphens all words are files
+
+verifies-hyphen : asked (codes "xdpvm" ∷ codes "verify" ∷ codes "--" ∷ codes "-a" ∷ []) ≡ Some (Verify (codes "-a"))
+unfolding clap_on_literals asked program asm dis verify run trace prove recheck
+verifies-hyphen = refl
+
+-- ---- commands that this build does not have
+
+proves : asked (codes "xdpvm" ∷ codes "prove" ∷ codes "a" ∷ codes "b" ∷ []) ≡ Some (NotBuilt (codes "prove"))
+unfolding clap_on_literals asked program asm dis verify run trace prove recheck
+proves = refl
+
+rechecks : asked (codes "xdpvm" ∷ codes "recheck" ∷ codes "a" ∷ codes "b" ∷ []) ≡ Some (NotBuilt (codes "recheck"))
+unfolding clap_on_literals asked program asm dis verify run trace prove recheck
+rechecks = refl
+
+-- ---- words that ask for nothing
+
+nothing : asked (codes "xdpvm" ∷ []) ≡ None
+unfolding clap_on_literals asked program asm dis verify run trace prove recheck
+nothing = refl
+
+walks : asked (codes "xdpvm" ∷ codes "walk" ∷ codes "a" ∷ []) ≡ None
+unfolding clap_on_literals asked program asm dis verify run trace prove recheck
+walks = refl
+
+helps : asked (codes "xdpvm" ∷ codes "--help" ∷ []) ≡ None
+unfolding clap_on_literals asked program asm dis verify run trace prove recheck
+helps = refl
+
+helps-too : asked (codes "xdpvm" ∷ codes "help" ∷ []) ≡ None
+unfolding clap_on_literals asked program asm dis verify run trace prove recheck
+helps-too = refl
+
+verifies-none : asked (codes "xdpvm" ∷ codes "verify" ∷ []) ≡ None
+unfolding clap_on_literals asked program asm dis verify run trace prove recheck
+verifies-none = refl
+
+verifies-two : asked (codes "xdpvm" ∷ codes "verify" ∷ codes "a" ∷ codes "b" ∷ []) ≡ None
+unfolding clap_on_literals asked program asm dis verify run trace prove recheck
+verifies-two = refl
+
+verifies-unknown : asked (codes "xdpvm" ∷ codes "verify" ∷ codes "-a" ∷ []) ≡ None
+unfolding clap_on_literals asked program asm dis verify run trace prove recheck
+verifies-unknown = refl
+
+runs-two : asked (codes "xdpvm" ∷ codes "run" ∷ codes "a" ∷ codes "b" ∷ []) ≡ None
+unfolding clap_on_literals asked program asm dis verify run trace prove recheck
+runs-two = refl
+
+runs-four : asked (codes "xdpvm" ∷ codes "run" ∷ codes "a" ∷ codes "b" ∷ codes "c" ∷ codes "d" ∷ []) ≡ None
+unfolding clap_on_literals asked program asm dis verify run trace prove recheck
+runs-four = refl

@@ -1,0 +1,131 @@
+//! What the words on the command line ask for.
+
+ghost use Rattle.std.specs.Prelude.{◌≡◌, map, option_map};
+ghost use Rattle.std.specs.List.{list_all};
+ghost use Rattle.std.specs.Char.{is_ascii_digit};
+ghost use Rattle.std.specs.String.{string_bytes};
+ghost use Rattle.clap.specs.Words.{first_of, found_of, kind_of, rows_of};
+ghost use Rattle.tasks.specs.Requests.{files_of, request_of};
+ghost use Rattle.words.specs.Asked.{Reads, assembly_of, files_in, limit_in, limit_of, request_by, trace_of};
+
+use super::command_line::program;
+use clap::ArgMatches;
+use clap::error::ErrorKind;
+use std::alloc::Global;
+use std::env::Env;
+use std::io;
+use tasks::{Assembly, Paths, StepLimit, Task, WordsError};
+
+const MAX_STEPS: u32 = 1_000_000;
+
+fn has_digits_alone(text: &[u8]) -> bool
+    ensures { result ≡ list_all is_ascii_digit text.now }
+{
+    text.iter().all(|b| b.is_ascii_digit())
+}
+
+// A limit: decimal digits, from 1 to 1,000,000.
+fn limit_of(text: &str) -> Option<StepLimit>
+    ensures { option_map (λ limit. limit.steps) result ≡ limit_of text.now }
+{
+    if text.is_empty() || !has_digits_alone(text.as_bytes()) {
+        return None;
+    }
+    match text.parse::<u32>() {
+        Ok(steps) if steps >= 1 && steps <= MAX_STEPS => Some(StepLimit { steps }),
+        _ => None,
+    }
+}
+
+// The value of an argument.
+fn value_in<'a>(matches: &ArgMatches<'a>, name: &str) -> Option<&'a str>
+    ensures { option_map (λ value. value.now) result ≡ first_of name.now (rows_of (found_of matches.now)) }
+{
+    matches.get_str(name)
+}
+
+fn paths_in<'a>(matches: &ArgMatches<'a>) -> Option<Paths<'a>>
+    ensures { option_map files_of result ≡ files_in (rows_of (found_of matches.now)) }
+{
+    Some(Paths {
+        image: value_in(matches, "image")?,
+        frames: value_in(matches, "frames")?,
+        out: value_in(matches, "out")?,
+    })
+}
+
+// The limit that the words give, or the most.
+fn limit_in(matches: &ArgMatches<'_>) -> Option<StepLimit>
+    ensures { option_map (λ limit. limit.steps) result ≡ limit_in (rows_of (found_of matches.now)) }
+{
+    match value_in(matches, "limit") {
+        None => Some(StepLimit { steps: MAX_STEPS }),
+        Some(text) => limit_of(text),
+    }
+}
+
+fn trace_in<'a>(matches: &ArgMatches<'a>) -> Option<Task<'a>>
+    ensures { option_map request_of result ≡ trace_of (rows_of (found_of matches.now)) }
+{
+    Some(Task::Trace(paths_in(matches)?, limit_in(matches)?))
+}
+
+fn assembly_in<'a>(matches: &ArgMatches<'a>) -> Option<Task<'a>>
+    ensures { option_map request_of result ≡ assembly_of (rows_of (found_of matches.now)) }
+{
+    Some(Task::Assemble(Assembly {
+        text: value_in(matches, "text")?,
+        image: value_in(matches, "image")?,
+    }))
+}
+
+// What the command of this name asks for with these arguments.
+fn task_of<'a>(name: &str, matches: &ArgMatches<'a>) -> Option<Task<'a>>
+    ensures { option_map request_of result ≡ request_by name.now (rows_of (found_of matches.now)) }
+{
+    match name {
+        "run" => Some(Task::Run(paths_in(matches)?)),
+        "verify" => Some(Task::Verify(value_in(matches, "image")?)),
+        "trace" => trace_in(matches),
+        "asm" => assembly_in(matches),
+        "dis" => Some(Task::Disassemble(value_in(matches, "image")?)),
+        "prove" => Some(Task::NotBuilt("prove")),
+        "recheck" => Some(Task::NotBuilt("recheck")),
+        _ => None,
+    }
+}
+
+/// The words that the program was given. The first one is its name.
+pub fn given_words<R: Env + AllocGlobal>(rt: &R) -> Result<Vec<String>, WordsError> {
+    match std::env::args(rt) {
+        Ok(words) => Ok(words.collect(rt.alloc())?),
+        Err(error) => Err(match error.kind() {
+            io::ErrorKind::OutOfMemory => WordsError::Memory,
+            _ => WordsError::Wrong,
+        }),
+    }
+}
+
+// Why a command line was refused.
+fn refusal_of(error: &clap::Error) -> WordsError
+    ensures { kind_of error.now ≡ ErrorKind.OutOfMemory → result ≡ WordsError.Memory }
+{
+    match error.kind() {
+        ErrorKind::OutOfMemory => WordsError::Memory,
+        _ => WordsError::Wrong,
+    }
+}
+
+/// What the words ask for. The first one is the program's name.
+pub fn read_words<'a>(alloc: Global, words: &'a [String]) -> Result<Task<'a>, WordsError>
+    ensures { Reads (map string_bytes words.now) result }
+{
+    let matches = match program(alloc)?.try_get_matches_from(words) {
+        Ok(matches) => matches,
+        Err(error) => return Err(refusal_of(&error)),
+    };
+    match matches.subcommand() {
+        Some((name, given)) => task_of(name, given).ok_or(WordsError::Wrong),
+        None => Err(WordsError::Wrong),
+    }
+}

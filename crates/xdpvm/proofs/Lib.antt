@@ -1,5 +1,0 @@
-mod Endings
-mod Loading
-mod Written
-mod Words
-mod Parsed

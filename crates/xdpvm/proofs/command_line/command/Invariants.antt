@@ -1,8 +1,0 @@
-use Rattle.std.proofs.Common.{◌≡◌, map, take}
-use Rattle.std.specs.List.{fold}
-use Rattle.clap.specs.Words.{app_of, new_app}
-use Rattle.xdpvm.specs.CommandLine.{with_wanted}
-use Rattle.xdpvm.proofs.command_line.command.Given as goal
-
-abbrev pub invariant-loop-argument : goal.invariant-loop-argument
-invariant-loop-argument l = app_of l.command ≡ fold with_wanted (new_app l.name) (map (λ argument. argument.now) (take l.argument-index l.arguments))

@@ -1,6 +1,0 @@
-use Rattle.std.proofs.Common.{◌∙◌}
-use Rattle.xdpvm.proofs.Words.{first_value-first_of}
-use Rattle.xdpvm.proofs.commands.value_in.Goals as goal
-
-pub returns : goal.returns
-returns c = c.get_str.ensures ∙ first_value-first_of c.args.matches.now c.args.name.now
