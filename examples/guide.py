@@ -43,6 +43,11 @@ def shell(command):
     return ran.stdout
 
 
+def line(text, place):
+    """One line of a text, if it has any."""
+    return "".join(text.splitlines(keepends=True)[place:][:1])
+
+
 def write(name, text):
     with open(name, "w") as file:
         file.write(text)
@@ -65,12 +70,12 @@ def answer_of(kind, body):
     if kind == "program":
         return assembled(body) or run("verify", "example.image")[1]
     if kind == "trace":
-        return assembled(body) or run("trace", "example.image", "examples/two.frames", "sent")[1].splitlines()[0] + "\n"
+        return assembled(body) or line(run("trace", "example.image", "examples/two.frames", "sent")[1], 0)
     if kind == "image":
         write_hex("example.image", body)
         return run("verify", "example.image")[1]
     write_hex("example.frames", body)
-    return run("run", "examples/pass.image", "example.frames", "sent")[1].splitlines()[-1] + "\n"
+    return line(run("run", "examples/pass.image", "example.frames", "sent")[1], -1)
 
 
 def tries(kind, body):
