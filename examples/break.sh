@@ -9,7 +9,7 @@ here=$(cd "$(dirname "$0")" && pwd)
 program=${1:-$here/../crates/xdpvm/out/xdpvm}
 if [ ! -x "$program" ]; then
     echo "proving and building the program first"
-    (cd "$here/../crates/xdpvm" && rt run > /dev/null)
+    (cd "$here/../crates/xdpvm" && rt run -- verify "$here/pass.image" > /dev/null)
 fi
 work=$(mktemp -d)
 trap 'rm -rf "$work"' EXIT
