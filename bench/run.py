@@ -34,8 +34,8 @@ def straight(slots):
 
 
 def branches(count):
-    """count tests of the unknown bits of one number, one after the other. Each way through leaves another number in
-    r0, so that no state covers another: 3 * 2^count instructions are to be explored in all."""
+    """count tests of the unknown bits of one number, one after the other. Each path leaves another number in r0, so
+    that no state covers another: 3 * 2^count instructions have to be explored in all."""
     lines = ["r2 = *(u32 *)(r1 + 12)", "r0 = 0"]
     for bit in range(count):
         lines += [f"if r2 & {1 << bit} goto +1", f"r0 += {1 << bit}"]

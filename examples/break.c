@@ -1,5 +1,5 @@
-/* Stands between the program and the C library, for break.py. BREAK names what is to happen, WHEN at which call of its
-   kind, counted from 1, and MARK a file that is made when it happens. A program that is told nothing behaves as always. */
+/* Stands between the program and the C library, for break.py. BREAK names what is to fail, WHEN which call of that kind,
+   counted from 1, and MARK a file that is made when it happens. Without these the program runs as always. */
 #define _GNU_SOURCE
 #include <errno.h>
 #include <fcntl.h>
@@ -13,7 +13,7 @@ extern void *__libc_realloc(void *old, size_t size);
 
 static long calls;
 
-/* whether this is the call, and calls of this kind are to break */
+/* whether this call is the one that is to fail */
 static int breaks(const char *kind) {
     const char *what = getenv("BREAK"), *when = getenv("WHEN"), *mark = getenv("MARK");
     if (!what || !when || !mark || strcmp(what, kind) || ++calls != atol(when)) {

@@ -40,7 +40,7 @@ RUNS = [
 
 
 class Answer:
-    """What a run wrote, its status, and whether the call that was to break was reached."""
+    """What a run wrote, its status, and whether the call that was to fail was reached."""
 
     def __init__(self, words, kind=None, call=0):
         for name in ("made", "mark"):
@@ -60,6 +60,10 @@ class Answer:
     def is_as(self, good):
         return (self.status, self.out, self.err, self.made) == (good.status, good.out, good.err, good.made)
 
+    def message(self):
+        """The first line of standard error; what follows it may say the cause."""
+        return self.err.partition(b"\n")[0]
+
     def is_quiet(self):
         """Neither standard output nor the file got a byte."""
         return not self.out and not self.made
@@ -76,7 +80,7 @@ def of_memory(words, found, good):
 
 
 def of_read(words, found, good):
-    if found.status == 4 and found.err == f"cannot read {words[1]}\n".encode() and found.is_quiet():
+    if found.status == 4 and found.message() == f"cannot read {words[1]}".encode() and found.is_quiet():
         return "status 4"
     lines, _, last = found.out[:-1].rpartition(b"\n")
     is_fault = found.status == 3 and last.startswith(b"fault F5 at ") and not found.err
@@ -88,7 +92,7 @@ def of_write(words, found, good):
     if good.err:
         same = (found.status, found.out, found.made) == (good.status, good.out, good.made)
         return "status unchanged, nothing said" if same else None
-    is_named = found.err in (b"cannot write standard output\n", b"cannot write made\n")
+    is_named = found.message() in (b"cannot write standard output", b"cannot write made")
     return "status 4" if found.status == 4 and is_named and found.begins(good) else None
 
 

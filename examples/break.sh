@@ -1,16 +1,15 @@
 #!/bin/bash
-# Tries to break the program from outside: each allocation is refused in turn, each read and write fails in turn, and
-# each comes short in turn, for every command on the examples here. Each answer has to be one of those that the README
-# allows; the last line says how many were tried. It takes a minute or two.
+# Tries to break the program from outside: makes each allocation, each read and each write fail in turn, and each read
+# and write move only one byte in turn, for every command on the examples here. README.md says which answers are allowed;
+# the last line says how many were tried. It takes about ten seconds.
 # usage: bash examples/break.sh [PROGRAM]
-# Without PROGRAM it takes the one that `rt run` keeps; where there is none it proves and builds it first, some ten
-# minutes.
+# Without PROGRAM it takes the one that `rt run` keeps, and proves and builds it first if there is none.
 set -eu
 here=$(cd "$(dirname "$0")" && pwd)
 program=${1:-$here/../crates/xdpvm/out/xdpvm}
 if [ ! -x "$program" ]; then
     echo "proving and building the program first"
-    (cd "$here/../crates/xdpvm" && rt run > /dev/null)
+    (cd "$here/../crates/xdpvm" && rt run -- verify "$here/pass.image" > /dev/null)
 fi
 work=$(mktemp -d)
 trap 'rm -rf "$work"' EXIT

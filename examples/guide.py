@@ -1,12 +1,24 @@
 #!/usr/bin/env python3
-"""Runs every example of docs/GUIDE.md, and says where it answers something else than the page does.
+"""Runs every example of README.md and docs/*.md, and prints each that answers something else than the page says.
 
 usage: python3 examples/guide.py [PROGRAM]
 
-PROGRAM is the program that `rt run` leaves in crates/xdpvm (the default: crates/xdpvm/out/xdpvm). A block that is
-named as a file is written to that file; a block `console` has commands behind `$`, each with what it prints; any
-other block is a program whose first line is a comment with the words that `verify` says of it.
+PROGRAM is the program that `rt run` leaves in crates/xdpvm (the default: crates/xdpvm/out/xdpvm).
+
+The first word after the backquotes of a code block says how the block is tried:
+
+    console     commands after `$`, each followed by its standard output
+    NAME.text   a program text; it is written to that file, for the commands that follow it on the page
+    program     a program text; `asm` assembles it, and `verify` answers what the first line says
+    trace       a program text; the first frame of examples/two.frames, traced, has the line that the first line says
+    image       an image in hexadecimal; `verify` answers what the first line says
+    stream      a frame stream in hexadecimal; the report of examples/pass.image ends in what the first line says
+
+The first line of the last four is a comment. A refusal of `asm` counts as the answer. In hexadecimal `#` begins a
+comment. Blocks with any other word, or with none, are not tried. Each examples/NAME.text has to make NAME.image.
+The exit status is 0 if every answer is the one wanted, else 1.
 """
+import glob
 import os
 import re
 import subprocess
@@ -15,40 +27,99 @@ import tempfile
 
 TOP = os.path.dirname(os.path.dirname(os.path.abspath(__file__)))
 PROGRAM = os.path.abspath(sys.argv[1] if len(sys.argv) > 1 else os.path.join(TOP, "crates/xdpvm/out/xdpvm"))
+BLOCK = re.compile(r"^```(\S+)\n(.*?)^```$", re.M | re.S)
+COMMAND = re.compile(r"^\$ (.*)\n((?:(?!\$ ).*\n)*)", re.M)
 
 
-def printed(words):
-    return subprocess.run([PROGRAM] + words, stdout=subprocess.PIPE, text=True, timeout=100).stdout
+def run(*words):
+    """The status and the standard output of the program."""
+    ran = subprocess.run([PROGRAM, *words], stdout=subprocess.PIPE, stderr=subprocess.DEVNULL, text=True, timeout=100)
+    return ran.returncode, ran.stdout
 
 
-def expectations(kind, body):
-    """The runs of a block: each a list of words and what is to be printed."""
+def shell(command):
+    """The standard output of a command line."""
+    ran = subprocess.run(["bash", "-c", command], stdout=subprocess.PIPE, stderr=subprocess.DEVNULL, text=True, timeout=100)
+    return ran.stdout
+
+
+def line(text, place):
+    """One line of a text, if it has any."""
+    return "".join(text.splitlines(keepends=True)[place:][:1])
+
+
+def write(name, text):
+    with open(name, "w") as file:
+        file.write(text)
+
+
+def write_hex(name, text):
+    with open(name, "wb") as file:
+        file.write(bytes.fromhex(re.sub(r"#.*", "", text)))
+
+
+def assembled(text):
+    """The refusal of `asm`, or None where it made example.image."""
+    write("example.text", text)
+    status, answer = run("asm", "example.text", "example.image")
+    return answer if status else None
+
+
+def answer_of(kind, body):
+    """What the program answers to a block whose first line says what is wanted."""
+    if kind == "program":
+        return assembled(body) or run("verify", "example.image")[1]
+    if kind == "trace":
+        return assembled(body) or line(run("trace", "example.image", "examples/two.frames", "sent")[1], 0)
+    if kind == "image":
+        write_hex("example.image", body)
+        return run("verify", "example.image")[1]
+    write_hex("example.frames", body)
+    return line(run("run", "examples/pass.image", "example.frames", "sent")[1], -1)
+
+
+def tries(kind, body):
+    """The examples of a block: what is tried, what is wanted, and what is answered."""
     if kind.endswith(".text"):
-        with open(kind, "w") as file:
-            file.write(body)
-        return []
-    if kind == "console":
-        return [(words.split()[1:], out) for words, out in re.findall(r"^\$ (.*)\n((?:(?!\$ ).*\n)*)", body, re.M)]
-    with open("example.text", "w") as file:
-        file.write(body)
-    subprocess.run([PROGRAM, "asm", "example.text", "example.image"], stdout=subprocess.DEVNULL, check=True)
-    return [(["verify", "example.image"], body.splitlines()[0].removeprefix("# ") + "\n")]
+        write(kind, body)
+    elif kind == "console":
+        for command, wanted in COMMAND.findall(body):
+            yield command, wanted, shell(command)
+    elif kind in ("program", "trace", "image", "stream"):
+        yield body, body.splitlines()[0].removeprefix("# ") + "\n", answer_of(kind, body)
+
+
+def stored():
+    """Each stored image is made by the text beside it."""
+    for text in sorted(glob.glob("examples/*.text")):
+        run("asm", text, "example.image")
+        with open("example.image", "rb") as made, open(text.removesuffix(".text") + ".image", "rb") as kept:
+            yield text, kept.read().hex() + "\n", made.read().hex() + "\n"
 
 
 def main():
-    with open(os.path.join(TOP, "docs/GUIDE.md")) as file:
-        blocks = re.findall(r"^```(\S*)\n(.*?)^```$", file.read(), re.M | re.S)
+    pages = [os.path.join(TOP, "README.md"), *sorted(glob.glob(os.path.join(TOP, "docs/*.md")))]
     runs = failures = 0
+
+    def count(where, examples):
+        nonlocal runs, failures
+        for what, wanted, answer in examples:
+            runs += 1
+            if answer != wanted:
+                failures += 1
+                print(f"{where}: {what}\nwanted:\n{wanted}answered:\n{answer}")
+
     with tempfile.TemporaryDirectory() as folder:
         os.chdir(folder)
         os.symlink(os.path.join(TOP, "examples"), "examples")
-        for kind, body in blocks:
-            for words, wanted in expectations(kind, body):
-                runs += 1
-                answer = printed(words)
-                if answer != wanted:
-                    failures += 1
-                    print(f"xdpvm {' '.join(words)}\nwanted:\n{wanted}answered:\n{answer}of:\n{body}")
+        os.mkdir("bin")
+        os.symlink(PROGRAM, "bin/xdpvm")
+        os.environ["PATH"] = os.path.join(folder, "bin") + os.pathsep + os.environ["PATH"]
+        for page in pages:
+            with open(page) as file:
+                for kind, body in BLOCK.findall(file.read()):
+                    count(os.path.relpath(page, TOP), tries(kind, body))
+        count("examples", stored())
         os.chdir("/")
     print(f"{runs} examples, {failures} differ")
     sys.exit(1 if failures else 0)
