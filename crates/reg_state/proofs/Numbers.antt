@@ -1,11 +1,12 @@
 -- What an optional number is known to be, and what limits are kept.
-use Rattle.std.proofs.Common.{ℕ, ℤ, ◌≡◌, Option, Some, None, refl}
+use Rattle.std.proofs.Common.{ℕ, ℤ, ◌≡◌, Option, Some, None, refl, arith}
+use Rattle.std.proofs.lemmas.Int.{ints}
 use Rattle.std.specs.Prelude.{IfSome}
 use Rattle.isa_model.specs.declared.sizes.Width.{Width}
 use Rattle.isa_model.specs.declared.instructions.AluOp.{AluOp}
 use Rattle.isa_model.specs.declared.instructions.AluOp.TheVariants.{Add, Sub, Mul, Div, SignedDiv, Or, And, Lsh, Rsh, Mod, SignedMod, Xor, Mov, Arsh}
 use Rattle.ranges.specs.declared.range.Range.{Range}
-use Rattle.ranges.specs.Ranges.{KeepsLimits, KeepsSignedLimits}
+use Rattle.ranges.specs.Ranges.{Has, Encloses, KeepsLimits, KeepsSignedLimits}
 
 pub if_some : (o : Option ℕ) (P : ℕ → Type 0) → ((n : ℕ) → o ≡ Some n → P n) → IfSome o P
 if_some None P h = tt
@@ -46,3 +47,13 @@ keeps_signed_map Or a b P Q f h = tt
 keeps_signed_map Xor a b P Q f h = tt
 keeps_signed_map SignedDiv a b P Q f h = tt
 keeps_signed_map SignedMod a b P Q f h = tt
+
+-- what is within limits is within wider ones
+pub enclosed_has : (a b : Range) (x : ℕ) → Encloses a b → Has b x → Has a x
+enclosed_has a b x h within = record {
+  below = within.below;
+  from = let lower = h.0 in let from = within.from in omega arith;
+  to = let upper = h.1 in let to = within.to in omega arith;
+  signed_from = let lower = h.2 in let from = within.signed_from in omega (arith, ints);
+  signed_to = let upper = h.3 in let to = within.signed_to in omega (arith, ints);
+}

@@ -6,3 +6,4 @@ pub mod KindCover
 pub mod KindLaws
 pub mod Limits
 pub mod Reach
+pub mod Arithmetic

@@ -1,7 +1,7 @@
 //! Known bits and limits at once.
 
-ghost use Rattle.std.specs.Prelude.{◌≡◌, ℕ, ◌^◌, ◌<◌, ◌≤◌, ◌≤ℤ◌, ◌↔◌, IsSomeAnd, IfSome, IsTrue};
-ghost use Rattle.std.specs.Int.{w64, cast_signed};
+ghost use Rattle.std.specs.Prelude.{◌≡◌, ℕ, ◌+◌, ◌%◌, ◌^◌, ◌<◌, ◌≤◌, pos, ◌-ℤ◌, FitsSigned, ◌↔◌, IsSomeAnd, IfSome, IsTrue};
+ghost use Rattle.std.specs.Int.{w64, bit_at};
 ghost use Rattle.isa_model.specs.Sizes.{width_bits};
 
 use crate::domains::Domain;
@@ -122,6 +122,13 @@ impl Domain for Scalar {
     ghost use Rattle.isa_model.specs.Numbers.{alu};
     ghost use Rattle.ranges.specs.Ranges.{KeepsLimits, KeepsSignedLimits};
     ghost use Rattle.reg_state.specs.Scalars.{Has, IsConstant, Encloses};
+    ghost use Rattle.reg_state.specs.Arithmetic.{IsFromTo, IsSignedFromTo, IsSharp};
+    ghost use Rattle.known_bits.specs.Bits.{IsPrecise};
+    ghost use Rattle.isa_model.specs.Numbers.{negated, sign_extended, reordered};
+    ghost use Rattle.isa_model.specs.Sizes.{span_bits};
+    ghost use Rattle.isa_model.specs.ExtensionLemmas.{extension_bits, extension_width};
+    ghost use Rattle.ranges.specs.Ranges as R;
+    ghost use Rattle.ranges.specs.Ranges.{IsSignedOf, extension_signed};
     ghost use Rattle.reg_state.specs.Limits.{range_limits};
     ghost use Rattle.reg_state.specs.Constants.{range_inside, bits_constant_has, bits_constant_only, range_constant_has};
 
@@ -173,11 +180,12 @@ impl Domain for Scalar {
         ensures contains { (x y : ℕ) → Has a x → Has b y → Has result (alu op width x y) }
         ensures exact { (u v : ℕ) → IsConstant a u → IsConstant b v → IsConstant result (alu op width u v) }
         ensures fits { (x : ℕ) → Has result x → x < 2 ^ width_bits width }
-        ensures limits { a.range.greatest < 2 ^ width_bits width → b.range.greatest < 2 ^ width_bits width
-            → KeepsLimits op width a.range b.range (λ l g. (x : ℕ) → Has result x → (l ≤ x) × (x ≤ g)) }
+        ensures limits { a.range.greatest < 2 ^ width_bits width
+            → b.range.greatest < 2 ^ width_bits width
+            → KeepsLimits op width a.range b.range (IsFromTo result) }
         ensures signed { (x y : ℕ) → Has a x → Has b y → width ≡ Width.Full64
-            → KeepsSignedLimits op a.range b.range
-            (λ l g. (z : ℕ) → Has result z → (l ≤ℤ cast_signed w64 z) × (cast_signed w64 z ≤ℤ g)) }
+            → KeepsSignedLimits op a.range b.range (IsSignedFromTo result) }
+        ensures sharp { IsPrecise op b.bits → IsSharp a b (alu op width) result }
     {
         let both = Scalar {
             bits: Bits::alu(op, width, a.bits, b.bits),
@@ -186,7 +194,15 @@ impl Domain for Scalar {
         both.settled()
     }
 
-    fn negate(width: Width, a: Scalar) -> Scalar {
+    fn negate(width: Width, a: Scalar) -> Scalar
+        ensures contains { (x : ℕ) → Has a x → Has result (negated width x) }
+        ensures exact { (u : ℕ) → IsConstant a u → IsConstant result (negated width u) }
+        ensures fits { (x : ℕ) → Has result x → x < 2 ^ width_bits width }
+        ensures signed { (x : ℕ) → Has a x → width ≡ Width.Full64
+            → FitsSigned w64 (pos 0 -ℤ a.range.signed_least)
+            → IsSignedFromTo result (pos 0 -ℤ a.range.signed_greatest) (pos 0 -ℤ a.range.signed_least) }
+        ensures sharp { IsSharp a a (λ x y. negated width x) result }
+    {
         let both = Scalar {
             bits: Bits::negate(width, a.bits),
             range: Range::negate(width, a.range),
@@ -194,7 +210,17 @@ impl Domain for Scalar {
         both.settled()
     }
 
-    fn sign_extend(extension: Extension, a: Scalar) -> Scalar {
+    fn sign_extend(extension: Extension, a: Scalar) -> Scalar
+        ensures contains { (x : ℕ) → Has a x → Has result (sign_extended extension x) }
+        ensures exact { (u : ℕ) → IsConstant a u → IsConstant result (sign_extended extension u) }
+        ensures fits { (x : ℕ) → Has result x → x < 2 ^ width_bits (extension_width extension) }
+        ensures small { a.range.greatest + a.range.greatest < 2 ^ extension_bits extension
+            → IsFromTo result a.range.least a.range.greatest }
+        ensures kept { (x : ℕ) → Has a x → extension_width extension ≡ Width.Full64
+            → IsSignedOf (extension_signed extension) a.range
+            → (z : ℕ) → Has result z → R.Has a.range z }
+        ensures sharp { IsSharp a a (λ x y. sign_extended extension x) result }
+    {
         let both = Scalar {
             bits: Bits::sign_extend(extension, a.bits),
             range: Range::sign_extend(extension, a.range),
@@ -202,7 +228,15 @@ impl Domain for Scalar {
         both.settled()
     }
 
-    fn reorder(order: ByteOrder, span: Span, a: Scalar) -> Scalar {
+    fn reorder(order: ByteOrder, span: Span, a: Scalar) -> Scalar
+        ensures contains { (x : ℕ) → Has a x → Has result (reordered order span x) }
+        ensures exact { (u : ℕ) → IsConstant a u → IsConstant result (reordered order span u) }
+        ensures fits { (x : ℕ) → Has result x → x < 2 ^ span_bits span }
+        ensures limits { order ≡ ByteOrder.Little → a.range.greatest < 2 ^ span_bits span
+            → IsFromTo result a.range.least a.range.greatest }
+        ensures bits { order ≡ ByteOrder.Little → (i x y : ℕ) → i < 64 → Has result x → Has result y
+            → bit_at x i ≡ 0 → bit_at y i ≡ 1 → bit_at (a.bits.mask % 2 ^ span_bits span) i ≡ 1 }
+    {
         let both = Scalar {
             bits: Bits::reorder(order, span, a.bits),
             range: Range::reorder(order, span, a.range),

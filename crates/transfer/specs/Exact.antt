@@ -8,10 +8,11 @@ use Rattle.isa_model.specs.declared.instructions.Operand.{Operand}
 use Rattle.isa_model.specs.declared.instructions.Operand.TheVariants.{Constant, Register}
 use Rattle.isa_model.specs.declared.instructions.Insn.{Insn}
 use Rattle.isa_model.specs.declared.instructions.Insn.TheVariants.{Alu, Neg, MovSx, ByteSwap, LoadNumber, Load, Jump, JumpLong, JumpIf, Exit}
-use Rattle.isa_model.specs.Numbers.{unsigned, negated, sign_extended, reordered, holds}
+use Rattle.isa_model.specs.Numbers.{unsigned, holds}
 use Rattle.isa_model.specs.Instructions.{Program, slots_of, writes}
 use Rattle.isa_model.specs.Steps.{destination}
 use Rattle.reg_state.specs.declared.kinds.Kind.{Kind}
+use Rattle.reg_state.specs.Arithmetic.{IsNegated, IsReordered, IsSignExtended}
 use Rattle.stack_state.specs.declared.states.State.{State}
 use Rattle.stack_state.specs.Meaning.{depth}
 use Rattle.stack_state.specs.Places.{kind_of, with_register, go_to}
@@ -30,9 +31,9 @@ IsOperand a w (Register r) b = b ≡ kind_of a r
 -- the kind that a form puts into its register
 abbrev pub Puts : State → Insn → Kind → Type 0
 Puts a (Alu w op d source) k = (b : Kind) × IsOperand a w source b × Arithmetic op w (kind_of a d) b k
-Puts a (Neg w d) k = OfNumber (negated w) (kind_of a d) k
-Puts a (MovSx e d r) k = OfNumber (sign_extended e) (kind_of a r) k
-Puts a (ByteSwap order span d) k = OfNumber (reordered order span) (kind_of a d) k
+Puts a (Neg w d) k = OfNumber (IsNegated w) (kind_of a d) k
+Puts a (MovSx e d r) k = OfNumber (IsSignExtended e) (kind_of a r) k
+Puts a (ByteSwap order span d) k = OfNumber (IsReordered order span) (kind_of a d) k
 Puts a (LoadNumber d n) k = IsJust k n
 Puts a (Load size d place) k = Loads size (kind_of a place.base) place.offset k
 Puts a i k = ⊥

@@ -36,6 +36,7 @@ use Rattle.isa_model.specs.StepLaws.{IfNext, act_keeps}
 use Rattle.reg_state.specs.declared.kinds.Kind.{Kind}
 use Rattle.reg_state.specs.declared.kinds.Kind.TheVariants as kind
 use Rattle.reg_state.specs.Kinds.{Assigned, Allows, AllowsOrNull}
+use Rattle.reg_state.specs.Arithmetic.{IsNegated, IsReordered, IsSignExtended}
 use Rattle.stack_state.specs.declared.states.State.{State}
 use Rattle.stack_state.specs.Meaning.{depth, MeansBy, Means}
 use Rattle.stack_state.specs.Places.{kind_of, with_register, go_to}
@@ -47,7 +48,7 @@ use Rattle.transfer.specs.declared.Ways.{Ways}
 use Rattle.transfer.specs.declared.Ways.TheVariants as ways
 use Rattle.transfer.specs.Leading.{EachWay, InSome, LeadsTo}
 use Rattle.transfer.specs.Refusing.{is_unset as is_unset_kind, is_unset_in, reads_unset, register_refusal}
-use Rattle.transfer.specs.Results.{OfNumber, Arithmetic, Loads}
+use Rattle.transfer.specs.Results.{Arithmetic, Loads}
 use Rattle.transfer.specs.ResultLaws.{Yields, on_number_yields, arithmetic_yields, load_yields}
 use Rattle.transfer.specs.Exact.{IsOperand, Puts, Sets, Sides, Branches, JumpsTo, Makes}
 
@@ -139,19 +140,22 @@ puts_yields p clock e a s (Neg w x) d k fits m set written h =
     let same : x ≡ d = cc in (
       on_number (negated w) (reg s x),
       ap (λ y. sets s (Neg w x) y (on_number (negated w) (reg s x))) same,
-      on_number_yields e (negated w) (kind_of a x) k (reg s x) h (reg_allowed p e a s m (depth_positive p e a s m) x),
+      on_number_yields e (negated w) (IsNegated w) (kind_of a x) k (reg s x) (λ b c is. is.contains) h
+          (reg_allowed p e a s m (depth_positive p e a s m) x),
     )
 puts_yields p clock e a s (MovSx by x r) d k fits m set written h =
     let same : x ≡ d = cc in (
       on_number (sign_extended by) (reg s r),
       ap (λ y. sets s (MovSx by x r) y (on_number (sign_extended by) (reg s r))) same,
-      on_number_yields e (sign_extended by) (kind_of a r) k (reg s r) h (reg_allowed p e a s m (depth_positive p e a s m) r),
+      on_number_yields e (sign_extended by) (IsSignExtended by) (kind_of a r) k (reg s r) (λ b c is. is.contains) h
+          (reg_allowed p e a s m (depth_positive p e a s m) r),
     )
 puts_yields p clock e a s (ByteSwap order span x) d k fits m set written h =
     let same : x ≡ d = cc in (
       on_number (reordered order span) (reg s x),
       ap (λ y. sets s (ByteSwap order span x) y (on_number (reordered order span) (reg s x))) same,
-      on_number_yields e (reordered order span) (kind_of a x) k (reg s x) h (reg_allowed p e a s m (depth_positive p e a s m) x),
+      on_number_yields e (reordered order span) (IsReordered order span) (kind_of a x) k (reg s x) (λ b c is. is.contains) h
+          (reg_allowed p e a s m (depth_positive p e a s m) x),
     )
 puts_yields p clock e a s (LoadNumber x n) d k fits m set written h =
     let same : x ≡ d = cc in

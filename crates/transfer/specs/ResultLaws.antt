@@ -24,9 +24,9 @@ use Rattle.isa_model.specs.Memory.{load}
 use Rattle.reg_state.specs.declared.scalars.Scalar.{Scalar}
 use Rattle.reg_state.specs.declared.kinds.Kind.{Kind}
 use Rattle.reg_state.specs.declared.kinds.Kind.TheVariants.{Unset, Number, Context, Stack, Packet, PacketEnd, Map, MapValue, MapValueOrNull}
-use Rattle.reg_state.specs.Scalars.{Has, IsConstant}
+use Rattle.reg_state.specs.Scalars.{Has}
 use Rattle.reg_state.specs.Kinds.{Assigned, Allows}
-use Rattle.transfer.specs.Results.{IsWord, Computes, Combines, OfNumber, moved_offset, MovesFrame, Moves, PointerAndNumber, NumberAndPointer, NumberAnd, PointerAnd, Combined, Copied, Arithmetic, Loads}
+use Rattle.transfer.specs.Results.{IsWord, IsLowWord, OfNumber, moved_offset, MovesFrame, Moves, PointerAndNumber, NumberAndPointer, NumberAnd, PointerAnd, Combined, Copied, Arithmetic, Loads}
 
 -- the value is there, and the kind allows it
 abbrev pub Yields : Assigned → Kind → Result Value TrapReason → Type 0
@@ -35,11 +35,16 @@ Yields e k (Err reason) = ⊥
 
 -- ---- numbers
 
-pub on_number_yields : (e : Assigned) (f : ℕ → ℕ) (a k : Kind) (v : Value) → OfNumber f a k → Allows e a v → Yields e k (on_number f v)
-on_number_yields e f (Number a) (Number c) v h allowed =
+-- where a number is known to be computed
+abbrev pub Computes : (ℕ → ℕ) → (Scalar → Scalar → Type 0) → Type 0
+Computes f says = (a c : Scalar) → says a c → (x : ℕ) → Has a x → Has c (f x)
+
+pub on_number_yields : (e : Assigned) (f : ℕ → ℕ) (says : Scalar → Scalar → Type 0) (a k : Kind) (v : Value)
+    → Computes f says → OfNumber says a k → Allows e a v → Yields e k (on_number f v)
+on_number_yields e f says (Number a) (Number c) v computes h allowed =
     let (x, is, member) = allowed in
-    rw is (f x, refl, h.0 x member)
-on_number_yields e f a k v h allowed = absurd h
+    rw is (f x, refl, computes a c h x member)
+on_number_yields e f says a k v computes h allowed = absurd h
 
 -- ---- pointers
 
@@ -83,7 +88,7 @@ number_and_yields : (e : Assigned) (op : AluOp) (w : Width) (a : Scalar) (b k : 
     → NumberAnd op w a b k → Has a x → Allows e b v → Yields e k (combined op w (value.Num x) v)
 number_and_yields e op w a (Number b) (Number c) x v h member allowed =
     let (y, is, other) = allowed in
-    rw is (alu op w x y, refl, h.0 x y member other)
+    rw is (alu op w x y, refl, h.contains x y member other)
 number_and_yields e op w a b k x v h member allowed = number_and_pointer_yields e op w a b k x v h member allowed
 
 pointer_and_yields : (e : Assigned) (op : AluOp) (w : Width) (a b k : Kind) (u v : Value)
@@ -105,10 +110,15 @@ copied_whole e rows next b value.Unset fits set allowed = absurd (cc)
 copied_whole e rows next b (value.Num n) fits set allowed = rw (low_same Full64 n fits) allowed
 copied_whole e rows next b (value.Ptr r z) fits set allowed = allowed
 
-low_copied : (e : Assigned) (b k : Kind) (v : Value) → OfNumber (low Low32) b k → Allows e b v → Yields e k (moved Low32 v)
+-- MOV at 32 bits computes the low word
+low_word_has : (a c : Scalar) (x : ℕ) → IsLowWord a c → Has a x → Has c (low Low32 x)
+unfolding alu
+low_word_has a c x h member = h.contains x x member member
+
+low_copied : (e : Assigned) (b k : Kind) (v : Value) → OfNumber IsLowWord b k → Allows e b v → Yields e k (moved Low32 v)
 low_copied e (Number a) (Number c) v h allowed =
     let (x, is, member) = allowed in
-    rw is (low Low32 x, refl, h.0 x member)
+    rw is (low Low32 x, refl, low_word_has a c x h member)
 low_copied e b k v h allowed = absurd h
 
 copied_yields : (e : Assigned) (rows next : ℕ) (w : Width) (b k : Kind) (v : Value) → Copied w b k

@@ -6,12 +6,13 @@ use Rattle.isa_model.specs.declared.sizes.Size.{Size}
 use Rattle.isa_model.specs.declared.sizes.Size.TheVariants.{U32}
 use Rattle.isa_model.specs.declared.instructions.AluOp.{AluOp}
 use Rattle.isa_model.specs.declared.instructions.AluOp.TheVariants.{Mov, Add, Sub}
-use Rattle.isa_model.specs.Numbers.{alu, low, signed}
+use Rattle.isa_model.specs.Numbers.{signed}
 use Rattle.isa_model.specs.Pointers.{offset_limit}
 use Rattle.reg_state.specs.declared.scalars.Scalar.{Scalar}
 use Rattle.reg_state.specs.declared.kinds.Kind.{Kind}
 use Rattle.reg_state.specs.declared.kinds.Kind.TheVariants.{Number, Context, Stack}
 use Rattle.reg_state.specs.Scalars.{Has, IsConstant}
+use Rattle.reg_state.specs.Arithmetic.{IsAlu}
 use Rattle.branch_refine.specs.Refining.{IsNumber}
 
 -- ---- numbers
@@ -21,19 +22,14 @@ abbrev pub IsWord : Kind → Type 0
 IsWord (Number c) = (x : ℕ) → (Has c x ↔ (x < 2 ^ 32))
 IsWord k = ⊥
 
--- the numbers that f gives, and of a constant the constant
-abbrev pub Computes : (ℕ → ℕ) → Scalar → Scalar → Type 0
-Computes f a c = ((x : ℕ) → Has a x → Has c (f x)) × ((u : ℕ) → IsConstant a u → IsConstant c (f u))
+-- of a number, a number of which the domain says so
+abbrev pub OfNumber : (Scalar → Scalar → Type 0) → Kind → Kind → Type 0
+OfNumber says (Number a) (Number c) = says a c
+OfNumber says a k = ⊥
 
-abbrev pub Combines : (ℕ → ℕ → ℕ) → Scalar → Scalar → Scalar → Type 0
-Combines f a b c =
-    ((x y : ℕ) → Has a x → Has b y → Has c (f x y))
-    × ((u v : ℕ) → IsConstant a u → IsConstant b v → IsConstant c (f u v))
-
--- of a number, a number
-abbrev pub OfNumber : (ℕ → ℕ) → Kind → Kind → Type 0
-OfNumber f (Number a) (Number c) = Computes f a c
-OfNumber f a k = ⊥
+-- the low 32 bits, as MOV at 32 bits gives them
+abbrev pub IsLowWord : Scalar → Scalar → Type 0
+IsLowWord a c = IsAlu Mov Low32 a a c
 
 -- ---- pointers
 
@@ -67,7 +63,7 @@ NumberAndPointer op w by pointer k = ⊥
 -- ---- arithmetic
 
 abbrev pub NumberAnd : AluOp → Width → Scalar → Kind → Kind → Type 0
-NumberAnd op w a (Number b) (Number c) = Combines (alu op w) a b c
+NumberAnd op w a (Number b) (Number c) = IsAlu op w a b c
 NumberAnd op w a b k = NumberAndPointer op w a b k
 
 abbrev pub PointerAnd : AluOp → Width → Kind → Kind → Kind → Type 0
@@ -82,7 +78,7 @@ Combined op w a b k = PointerAnd op w a b k
 -- MOV: at 64 bits the kind as it is, at 32 bits a number's low half
 abbrev pub Copied : Width → Kind → Kind → Type 0
 Copied Full64 b k = k ≡ b
-Copied Low32 b k = OfNumber (low Low32) b k
+Copied Low32 b k = OfNumber IsLowWord b k
 
 abbrev pub Arithmetic : AluOp → Width → Kind → Kind → Kind → Type 0
 Arithmetic Mov w a b k = Copied w b k

@@ -1,10 +1,10 @@
 //! Arithmetic on kinds.
 
 ghost use Rattle.std.specs.Prelude.{◌≡◌, IfOk, IfErr, IsOk};
-ghost use Rattle.isa_model.specs.Numbers.{low, negated, sign_extended, reordered};
+ghost use Rattle.reg_state.specs.Arithmetic.{IsNegated, IsSignExtended, IsReordered};
 ghost use Rattle.branch_refine.specs.Refining.{IsNumber, IsJust};
 ghost use Rattle.transfer.specs.Refusing.{number_refusal, pointer_and_refusal, combined_refusal, arithmetic_refusal};
-ghost use Rattle.transfer.specs.Results.{OfNumber, NumberAnd, PointerAnd, Combined, Copied, Arithmetic, IsNumberAnd, IsPointerAnd, IsCombined, IsCopied, IsArithmetic};
+ghost use Rattle.transfer.specs.Results.{OfNumber, IsLowWord, NumberAnd, PointerAnd, Combined, Copied, Arithmetic, IsNumberAnd, IsPointerAnd, IsCombined, IsCopied, IsArithmetic};
 
 use crate::pointers::{number_and_pointer, pointer_and_number};
 use crate::refusals::Refusal;
@@ -20,7 +20,7 @@ pub fn constant(number: u64) -> Kind
 
 /// NEG.
 pub fn negated(width: Width, kind: Kind) -> Result<Kind, Refusal>
-    ensures gives { IfOk result (OfNumber (negated width) kind) }
+    ensures gives { IfOk result (OfNumber (IsNegated width) kind) }
     ensures accepts { IsNumber kind → IsOk result }
     ensures refused { IfErr result (λ e. e ≡ Refusal.PointerOperand) }
 {
@@ -32,7 +32,7 @@ pub fn negated(width: Width, kind: Kind) -> Result<Kind, Refusal>
 
 /// MOVSX.
 pub fn sign_extended(extension: Extension, kind: Kind) -> Result<Kind, Refusal>
-    ensures gives { IfOk result (OfNumber (sign_extended extension) kind) }
+    ensures gives { IfOk result (OfNumber (IsSignExtended extension) kind) }
     ensures accepts { IsNumber kind → IsOk result }
     ensures refused { IfErr result (λ e. e ≡ Refusal.PointerOperand) }
 {
@@ -44,7 +44,7 @@ pub fn sign_extended(extension: Extension, kind: Kind) -> Result<Kind, Refusal>
 
 /// END.
 pub fn reordered(order: ByteOrder, span: Span, kind: Kind) -> Result<Kind, Refusal>
-    ensures gives { IfOk result (OfNumber (reordered order span) kind) }
+    ensures gives { IfOk result (OfNumber (IsReordered order span) kind) }
     ensures accepts { IsNumber kind → IsOk result }
     ensures refused { IfErr result (λ e. e ≡ Refusal.PointerOperand) }
 {
@@ -56,7 +56,7 @@ pub fn reordered(order: ByteOrder, span: Span, kind: Kind) -> Result<Kind, Refus
 
 /// The low 32 bits of a number.
 fn low_word(kind: Kind) -> Result<Kind, Refusal>
-    ensures gives { IfOk result (OfNumber (low Width.Low32) kind) }
+    ensures gives { IfOk result (OfNumber IsLowWord kind) }
     ensures accepts { IsNumber kind → IsOk result }
     ensures refused { IfErr result (λ e. e ≡ Refusal.PointerOperand) }
 {

@@ -2,4 +2,12 @@ use Rattle.std.proofs.Common.{◌≡◌}
 use Rattle.transfer.proofs.arithmetic.number_and.Goals as goal
 
 pub returns-in-Number-clause-gives : goal.returns-in-Number-clause-gives
-returns-in-Number-clause-gives c = rw c.in-Number.is (c.alu.ensures.contains, c.alu.ensures.exact)
+returns-in-Number-clause-gives c =
+    rw c.in-Number.is record {
+      contains = c.alu.ensures.contains;
+      exact = c.alu.ensures.exact;
+      fits = c.alu.ensures.fits;
+      limits = c.alu.ensures.limits;
+      signed = c.alu.ensures.signed;
+      sharp = c.alu.ensures.sharp;
+    }

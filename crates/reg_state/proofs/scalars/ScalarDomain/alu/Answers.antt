@@ -1,5 +1,6 @@
-use Rattle.std.proofs.Common.{arith}
+use Rattle.std.proofs.Common.{ℕ, ◌<◌, ◌^◌, arith}
 use Rattle.std.proofs.lemmas.Int.{ints}
+use Rattle.known_bits.specs.MemberLaws.{bit_at-differing}
 use Rattle.reg_state.proofs.Numbers.{keeps_map, keeps_signed_map}
 use Rattle.reg_state.proofs.scalars.ScalarDomain.alu.Goals as goal
 
@@ -20,3 +21,9 @@ returns-clause-signed c = λ x y hx hy full.
     keeps_signed_map c.args.op c.args.a.range c.args.b.range _ _
     (λ least greatest kept z h. let r = (c.settled.ensures.narrower z h).1 in (omega (arith, ints, kept.0), omega (arith, ints, kept.1)))
     (c.alu-2.ensures.signed x y hx.1 hy.1 full)
+
+pub returns-clause-sharp : goal.returns-clause-sharp
+returns-clause-sharp c = λ precise i x y inside hx hy zero one.
+    let fits : c.alu.result.mask < 2 ^ 64 = omega arith in
+    c.alu.ensures.sharp precise i (bit_at-differing c.alu.result.value c.alu.result.mask x y i fits
+    (c.settled.ensures.narrower x hx).0 (c.settled.ensures.narrower y hy).0 inside zero one)

@@ -1,4 +1,19 @@
+use Rattle.std.proofs.Common.{ℕ, ◌<◌, ◌^◌, arith}
+use Rattle.std.proofs.lemmas.Int.{ints}
+use Rattle.known_bits.specs.MemberLaws.{bit_at-differing}
 use Rattle.reg_state.proofs.scalars.ScalarDomain.negate.Goals as goal
 
 pub returns-clause-fits : goal.returns-clause-fits
 returns-clause-fits c = λ x h. c.negate.ensures.fits x (c.settled.ensures.narrower x h).0
+
+pub returns-clause-signed : goal.returns-clause-signed
+returns-clause-signed c = λ x hx full within z h.
+    let r = (c.settled.ensures.narrower z h).1 in
+    let kept = c.negate-2.ensures.signed x hx.1 full within in
+    (omega (arith, ints, kept.0), omega (arith, ints, kept.1))
+
+pub returns-clause-sharp : goal.returns-clause-sharp
+returns-clause-sharp c = λ i x y inside hx hy zero one.
+    let fits : c.negate.result.mask < 2 ^ 64 = omega arith in
+    c.negate.ensures.sharp i (bit_at-differing c.negate.result.value c.negate.result.mask x y i fits
+    (c.settled.ensures.narrower x hx).0 (c.settled.ensures.narrower y hy).0 inside zero one)

@@ -1,0 +1,12 @@
+use Rattle.std.proofs.Common.{◌≡◌}
+use Rattle.transfer.proofs.arithmetic.negated.Goals as goal
+
+pub returns-in-Number-clause-gives : goal.returns-in-Number-clause-gives
+returns-in-Number-clause-gives c =
+    rw c.in-Number.is record {
+      contains = c.negate.ensures.contains;
+      exact = c.negate.ensures.exact;
+      fits = c.negate.ensures.fits;
+      signed = c.negate.ensures.signed;
+      sharp = c.negate.ensures.sharp;
+    }

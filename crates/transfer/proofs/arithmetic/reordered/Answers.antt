@@ -1,0 +1,12 @@
+use Rattle.std.proofs.Common.{◌≡◌}
+use Rattle.transfer.proofs.arithmetic.reordered.Goals as goal
+
+pub returns-in-Number-clause-gives : goal.returns-in-Number-clause-gives
+returns-in-Number-clause-gives c =
+    rw c.in-Number.is record {
+      contains = c.reorder.ensures.contains;
+      exact = c.reorder.ensures.exact;
+      fits = c.reorder.ensures.fits;
+      limits = c.reorder.ensures.limits;
+      bits = c.reorder.ensures.bits;
+    }
