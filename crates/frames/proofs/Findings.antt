@@ -1,5 +1,5 @@
 -- What a call finds, by what it filled from its source.
-use Rattle.std.proofs.Common.{◌≡◌, ◌≢◌, ℕ, ◌<◌, ◌≤◌, List, [], ◌++◌, length, take, nat_eq, false, Option, None, Some, refl, arith, sym, ap, ◌∙◌, append-nil, append_assoc, length-append, subst, inl, inr}
+use Rattle.std.proofs.Common.{◌≡◌, ◌≢◌, ℕ, ◌<◌, ◌≤◌, List, [], ◌∷◌, ◌++◌, length, take, nat_eq, false, Option, None, Some, refl, arith, sym, ap, ◌∙◌, append-nil, append_assoc, length-append, subst, inl, inr}
 use Rattle.std.proofs.lemmas.List.{length-take-le, take_at}
 use Rattle.std.proofs.lemmas.Cmp.{nat_list_eq_equiv}
 use Rattle.std.proofs.lemmas.Bool.{cases_eq}
@@ -11,7 +11,7 @@ use Rattle.isa_model.specs.declared.streams.Fault.TheVariants.{F1, F2, F3, F4, F
 use Rattle.isa_model.specs.declared.streams.Finish.{Finish}
 use Rattle.isa_model.specs.declared.streams.Finish.TheVariants as finish
 use Rattle.isa_model.specs.Streams.{magic, max_body, max_frames, cut_by, length_field, Ending, ByEnd, ByError, head_bytes, stop_at, stop_from, Position, Fresh, At, Done}
-use Rattle.frames.specs.Reading.{Reads, Stops, Finding, Found, Stopped}
+use Rattle.frames.specs.Reading.{Reads, Stops, CanStop, HasRoom, Finding, Found, Stopped}
 use Rattle.frames.specs.Stages.{ReadsMagic}
 use Rattle.frames.proofs.Stopping.{stop_at-cut, stop_at-heard, stop_at-nothing_heard, stop_at-many, stop_at-long, stop_at-body, length_field-append, stop_from-short, stop_from-other, stop_from-magic}
 
@@ -129,6 +129,55 @@ record_whole number offset (Some all) (Some rest) None bytes body after head n s
 record_whole number offset (Some all) (Some rest) (Some left) bytes body after head n spelled size p q =
     let first : take n (body ++ after) ≡ body = take_at body after n size in
     rw first (rw (size, spelled) (p ∙ ap (λ l. bytes ++ l) q ∙ sym (append_assoc bytes body left)))
+
+-- ---- where a stream may stop
+
+pub can_stop_short : CanStop Fresh (finish.Fault F1 0)
+can_stop_short = record { bytes = []; ending = ByEnd; stops = stop_from-short [] ByEnd (omega arith) }
+
+pub can_fail_first : CanStop Fresh (finish.Fault F5 0)
+can_fail_first = record { bytes = []; ending = ByError; stops = stop_from-short [] ByError (omega arith) }
+
+pub can_end : (number offset : ℕ) → CanStop (At number offset) finish.End
+unfolding stop_from stop_at
+can_end number offset = record { bytes = []; ending = ByEnd; stops = refl }
+
+pub can_fail : (number offset : ℕ) → CanStop (At number offset) (finish.Fault F5 offset)
+unfolding stop_from
+can_fail number offset = record { bytes = []; ending = ByError; stops = stop_at-nothing_heard number offset }
+
+pub can_be_many : (number offset : ℕ) → number ≡ max_frames → CanStop (At number offset) (finish.Fault F6 offset)
+unfolding stop_from
+can_be_many number offset last = rw last record { bytes = 0 ∷ []; ending = ByEnd; stops = stop_at-many offset (0 ∷ []) ByEnd (omega arith) }
+
+pub can_be_cut : (number offset : ℕ) → number ≢ max_frames → CanStop (At number offset) (finish.Fault F2 offset)
+unfolding stop_from
+can_be_cut number offset early = record { bytes = 0 ∷ []; ending = ByEnd; stops = stop_at-cut number offset (0 ∷ []) ByEnd early (omega arith) (omega arith) }
+
+pub can_be_long : (number offset : ℕ) (head : List ℕ) → number ≢ max_frames → length head ≡ 20 → max_body < length_field head
+    → CanStop (At number offset) (finish.Fault F3 offset)
+unfolding stop_from
+can_be_long number offset head early size long = record { bytes = head; ending = ByEnd; stops = stop_at-long number offset head ByEnd early (omega arith) long }
+
+pub can_lack_body : (number offset : ℕ) (head : List ℕ) (n : ℕ) (buffer : List ℕ) → number ≢ max_frames → length head ≡ 20 → length_field head ≤ max_body
+    → length buffer ≡ length_field head → n < length buffer → CanStop (At number offset) (finish.Fault F4 offset)
+unfolding stop_from
+can_lack_body number offset head n buffer early size short room less = record {
+  bytes = head ++ [];
+  ending = ByEnd;
+  stops = part_of_record number offset head [] ByEnd early size short (omega arith);
+}
+
+-- behind the magic a stream may stop as at the first record
+pub fresh_room : (finding : Finding) → HasRoom (At 0 4) finding → HasRoom Fresh finding
+unfolding stop_from
+fresh_room (Found f) h = h
+fresh_room (Stopped stop) h = record { bytes = magic ++ h.bytes; ending = h.ending; stops = stop_from-magic h.bytes h.ending ∙ h.stops }
+
+-- a reader that is done stops as it did
+pub done_room : (position : Position) (stop : Finish) → position ≡ Done stop → CanStop position stop
+unfolding stop_from
+done_room position stop e = subst (λ (p : Position). CanStop p stop) (sym e) (record { bytes = []; ending = ByEnd; stops = refl })
 
 -- ---- a call
 

@@ -4,7 +4,7 @@ use Rattle.std.specs.Io.KnownBytes.{Consumes}
 use Rattle.isa_model.specs.declared.streams.Fault.TheVariants.{F5}
 use Rattle.isa_model.specs.declared.streams.Finish.{Finish}
 use Rattle.isa_model.specs.declared.streams.Finish.TheVariants as finish
-use Rattle.isa_model.specs.Streams.{Frame, max_body, frame_bytes, IsOpen, ByEnd, ByError, Position, Done, stop_from, opening, after_frame}
+use Rattle.isa_model.specs.Streams.{Frame, max_body, frame_bytes, IsOpen, Ending, ByEnd, ByError, Position, Done, stop_from, opening, after_frame}
 use Rattle.frames.specs.Readers.{Reading}
 use Rattle.frames.specs.declared.reader.Next.{Next}
 use Rattle.frames.specs.declared.reader.Next.TheVariants as next
@@ -40,10 +40,16 @@ Reads position (Some bytes) new (Stopped stop) = Stops position bytes new stop
 Reads position (Some bytes) None (Found f) = ⊥
 Reads position (Some bytes) (Some rest) (Found f) = bytes ≡ opening position ++ (frame_bytes f ++ rest)
 
--- a record that is found may stand at the position
+-- there are bytes, and an end of them, at which a stream stops so at the position
+pub record CanStop (position : Position) (stop : Finish) : Type 0 where
+  pub bytes : List ℕ
+  pub ending : Ending
+  pub stops : stop_from position bytes ending ≡ Some stop
+
+-- a record that is found may stand at the position, and a stream may stop there as it does
 abbrev pub HasRoom : Position → Finding → Type 0
 HasRoom position (Found f) = IsOpen position f
-HasRoom position (Stopped stop) = Unit {0}
+HasRoom position (Stopped stop) = CanStop position stop
 
 -- a body fits the buffer
 abbrev pub FitsBuffer : Next → Type 0

@@ -3,7 +3,7 @@ use Rattle.std.specs.Prelude.{◌≡◌, ℕ, ◌+◌, ◌*◌, ◌<◌, ◌≤�
 use Rattle.isa_model.specs.declared.streams.Fault.{Fault}
 use Rattle.isa_model.specs.declared.streams.Finish.TheVariants as finish
 use Rattle.isa_model.specs.Streams.{magic, max_body, max_frames, Position, Fresh, At, Done}
-use Rattle.frames.specs.Reading.{Stops}
+use Rattle.frames.specs.Reading.{Stops, CanStop}
 use Rattle.frames.specs.declared.reader.Next.{Next}
 use Rattle.frames.specs.declared.reader.Next.TheVariants as next
 use Rattle.frames.specs.declared.reader.Stage.{Stage}
@@ -31,6 +31,11 @@ abbrev pub IsStageAfter : ℕ → ℕ → Next → Stage → Type 0
 IsStageAfter number offset (next.Frame head n) after = after ≡ stage.At (number + 1) (offset + (20 + n))
 IsStageAfter number offset next.End after = after ≡ stage.Done finish.End
 IsStageAfter number offset (next.Fault f at) after = after ≡ stage.Done (finish.Fault f at)
+
+-- a fault may stand in the place of the magic
+abbrev pub MayFail : Option Fault → Type 0
+MayFail None = Unit {0}
+MayFail (Some fault) = CanStop Fresh (finish.Fault fault 0)
 
 -- the magic was read, or it is the fault that stands in its place
 abbrev pub ReadsMagic : Option (List ℕ) → Option (List ℕ) → Option Fault → Type 0

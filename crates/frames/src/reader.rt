@@ -1,8 +1,9 @@
 //! Reads records one by one.
 ghost use Rattle.std.specs.Prelude.{◌≡◌, ◌+◌, ◌*◌, ◌≤◌, Option};
+ghost use Rattle.isa_model.specs.MachineStates.{AreBytes};
 ghost use Rattle.isa_model.specs.Streams.{Position, Fresh, At};
 ghost use Rattle.frames.specs.Reading.{finding_of, next_position, Reads, HasRoom, FitsBuffer, StaysDone};
-ghost use Rattle.frames.specs.Stages.{ReadsMagic, HasRoomFor, IsStageAfter};
+ghost use Rattle.frames.specs.Stages.{ReadsMagic, MayFail, HasRoomFor, IsStageAfter};
 
 use super::heads::decode_head;
 use exact_io::{Filled, fill};
@@ -113,7 +114,8 @@ fn stage_after(number: u32, offset: u64, next: &Next) -> Stage
 
 // Reads the magic, or says what stands in its place.
 fn read_magic<R: Read>(source: &mut R) -> Option<Fault>
-    ensures { ReadsMagic (R.remaining source.old) (R.remaining source.new) result }
+    ensures bytes { ReadsMagic (R.remaining source.old) (R.remaining source.new) result }
+    ensures room { MayFail result }
 {
     let mut magic = [0; 4];
     match fill(source, &mut magic) {
@@ -127,6 +129,13 @@ fn read_magic<R: Read>(source: &mut R) -> Option<Fault>
         Filled::Ended(_) => Some(Fault::F1),
         Filled::Failed(_) => Some(Fault::F5),
     }
+}
+
+// What its type says of a body.
+fn in_range(body: &[u8])
+    ensures { AreBytes body.now }
+{
+    let _size = body.len();
 }
 
 // Reads the record with this number, which begins at this offset.
@@ -155,8 +164,12 @@ fn read_record<R: Read>(source: &mut R, number: u32, offset: u64, buffer: &mut [
         return Next::Fault(Fault::F3, offset);
     }
     let length = length as usize;
-    match fill(source, &mut buffer[..length]) {
-        Filled::Whole => Next::Frame(frame_head, length),
+    let body = &mut buffer[..length];
+    match fill(source, body) {
+        Filled::Whole => {
+            in_range(body);
+            Next::Frame(frame_head, length)
+        }
         Filled::Ended(_) => Next::Fault(Fault::F4, offset),
         Filled::Failed(_) => Next::Fault(Fault::F5, offset),
     }

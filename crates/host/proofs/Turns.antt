@@ -1,21 +1,20 @@
 -- One turn more, and the ends of a run over a stream.
-use Rattle.std.proofs.Common.{◌≡◌, ℕ, suc, ◌+◌, List, [], ◌∷◌, ◌++◌, length, Option, None, Some, IfSome, Result, Ok, Err, OnOk, OnErr, IfOk, IfErr, refl, sym, ap, ◌∙◌, subst, append_assoc, append-nil, length-append, add-zero, zero-add, arith}
+use Rattle.std.proofs.Common.{◌≡◌, ℕ, suc, ◌+◌, List, [], ◌∷◌, ◌++◌, length, Option, Result, Ok, Err, OnOk, OnErr, IfOk, IfErr, refl, sym, ap, ◌∙◌, subst, append_assoc, append-nil, length-append, add-zero, zero-add, arith}
 use Rattle.std.specs.Io.KnownBytes.{Appends}
 use Rattle.exact_io.specs.Transfers.{AppendsBeginning}
 use Rattle.isa_model.specs.declared.map_defs.MapDef.{MapDef}
 use Rattle.isa_model.specs.declared.streams.Finish.{Finish}
-use Rattle.isa_model.specs.declared.streams.Finish.TheVariants as finish
 use Rattle.isa_model.specs.States.{Entries}
-use Rattle.isa_model.specs.Streams.{Frame, magic, ByEnd, Position, Fresh, number_of, IsOpen, stream_of}
+use Rattle.isa_model.specs.Streams.{Frame, magic, Position, Fresh, number_of, IsOpen}
 use Rattle.isa_model.specs.Reports.{Piece, Rule, ToReport, ToFrames, turns_pieces, contents_after, frame_pieces, maps_pieces, last_line, report_of}
-use Rattle.frames.specs.Reading.{Found, Stopped, Reads, next_position}
-use Rattle.frames.specs.Inputs.{HasFound, HasFound-fresh, HasFound-next, HasFound-count, HasFound-begins, HasFound-stops, Hears-whole}
+use Rattle.frames.specs.Reading.{Found, Stopped, Reads, CanStop, next_position}
+use Rattle.frames.specs.Inputs.{HasFound, HasFound-fresh, HasFound-next, HasFound-count, HasFound-stops, HasFound-breaks, broken_off}
 use Rattle.host.specs.declared.errors.HostError.{HostError}
 use Rattle.host.specs.declared.errors.HostError.TheVariants as failure
 use Rattle.host.specs.declared.tallies.Tally.{Tally}
 use Rattle.host.specs.Tallies.{tally_of}
 use Rattle.host.specs.Writing.{Outputs, Wrote, WroteBefore, Writes}
-use Rattle.host.specs.Reported.{Reports, ReportsSome}
+use Rattle.host.specs.Reported.{Reports}
 use Rattle.host.proofs.Pieces.{Wrote-append, WroteBefore-append, WroteBefore-more, wrote_report, wrote_frames, report_failed, frames_failed}
 use Rattle.host.proofs.SoFar.{SoFar}
 
@@ -84,11 +83,12 @@ turn_more frames old known new p q number limit rule start contents contents' be
 
 -- the magic failed
 pub magic_failed : (known : Option (List ℕ)) (limit : ℕ) (rows : List MapDef) (rule : Rule) (start : List Entries) (r f g : Option (List ℕ)) → AppendsBeginning f g magic
-    → IfSome known (λ bytes. Reports bytes (λ input. report_of limit rows rule start (stream_of input)) (record { report = r; frames = f }) (record { report = r; frames = g }) (Err failure.Frames))
-magic_failed None limit rows rule start r f g p = tt
-magic_failed (Some bytes) limit rows rule start r f g p = record {
-  input = record { bytes = bytes; ending = ByEnd };
-  hears = Hears-whole bytes;
+    → Reports known (λ found. report_of limit rows rule start found) (record { report = r; frames = f }) (record { report = r; frames = g }) (Err failure.Frames)
+magic_failed known limit rows rule start r f g p = record {
+  frames = [];
+  finish = broken_off [];
+  are_open = tt;
+  heard = HasFound-breaks [] known known Fresh (HasFound-fresh known);
   writes = frames_failed r f g magic _ p;
   tells = tt;
 }
@@ -97,27 +97,23 @@ magic_failed (Some bytes) limit rows rule start r f g p = record {
 pub turn_failed : (frames : List Frame) (old known new : Option (List ℕ)) (p : Position) (number limit : ℕ) (rows : List MapDef) (rule : Rule) (start contents : List Entries) (before now after : Outputs) (f : Frame) (error : HostError)
     → SoFar frames old known p number limit rule start contents before now → Reads p known new (Found f) → IsOpen p f
     → WroteBefore now after (frame_pieces limit number f (rule f.head f.body contents)) error
-    → IfSome old (λ bytes. Reports bytes (λ input. report_of limit rows rule start (stream_of input)) before after (Err error))
-turn_failed frames None known new p number limit rows rule start contents before now after f error s r ok w = tt
-turn_failed frames (Some bytes) known new p number limit rows rule start contents before now after f error s r ok w =
+    → Reports old (λ found. report_of limit rows rule start found) before after (Err error)
+turn_failed frames old known new p number limit rows rule start contents before now after f error s r ok w =
     let all = frames ++ f ∷ [] in
-    let (more, stop, same) = HasFound-begins all bytes new _ (HasFound-next frames (Some bytes) known new p f s.found r ok) in
-    let count = count_of frames (Some bytes) known p number limit rule start contents before now s in
+    let found = HasFound-next frames old known new p f s.found r ok in
+    let count = count_of frames old known p number limit rule start contents before now s in
     let front = ToFrames magic ∷ turns_pieces limit rule 0 start frames in
     let turn = frame_pieces limit number f (rule f.head f.body contents) in
-    let done = turns_pieces limit rule 0 start all in
-    let next = turns_pieces limit rule (0 + length all) (contents_after rule start all) more in
-    let last = maps_pieces 0 rows (contents_after rule start (all ++ more)) ++ ToReport (last_line (length (all ++ more)) stop) ∷ [] in
-    let whole : (front ++ turn) ++ (next ++ last) ≡ report_of limit rows rule start (all ++ more, stop) =
-    ap (λ l. l ++ (next ++ last)) (turn_pieces frames f number limit rule start contents count s.carried)
-    ∙ sym (append_assoc (ToFrames magic ∷ done) next last)
-    ∙ ap (λ l. (ToFrames magic ∷ l) ++ last) (sym (turns_pieces-append limit rule 0 start all more)) in
+    let last = maps_pieces 0 rows (contents_after rule start all) ++ ToReport (last_line (length all) (broken_off all)) ∷ [] in
+    let whole : (front ++ turn) ++ last ≡ report_of limit rows rule start (all, broken_off all) =
+    ap (λ l. l ++ last) (turn_pieces frames f number limit rule start contents count s.carried) in
     record {
-      input = record { bytes = bytes; ending = ByEnd };
-      hears = Hears-whole bytes;
-      writes = subst (λ (x : List Frame × Finish). WroteBefore before after (report_of limit rows rule start x) error) (sym same)
-          (subst (λ (l : List Piece). WroteBefore before after l error) whole
-          (WroteBefore-more before after (front ++ turn) _ error (WroteBefore-append before now after front turn error s.wrote w)));
+      frames = all;
+      finish = broken_off all;
+      are_open = found.are_open;
+      heard = HasFound-breaks all old new (next_position p (Found f)) found;
+      writes = subst (λ (l : List Piece). WroteBefore before after l error) whole
+          (WroteBefore-more before after (front ++ turn) last error (WroteBefore-append before now after front turn error s.wrote w));
       tells = tt;
     }
 
@@ -133,69 +129,11 @@ last_written front before r s g number count stop (Err e) n w ok err kind =
 
 -- the stream stopped, and the last line was written, or failed
 pub run_ended : (frames : List Frame) (old known new : Option (List ℕ)) (p : Position) (number limit : ℕ) (rows : List MapDef) (rule : Rule) (start contents : List Entries) (before : Outputs) (r s g : Option (List ℕ)) (stop : Finish) (result : Result Tally HostError)
-    → rows ≡ [] → SoFar frames old known p number limit rule start contents before (record { report = r; frames = g }) → Reads p known new (Stopped stop)
+    → rows ≡ [] → SoFar frames old known p number limit rule start contents before (record { report = r; frames = g }) → Reads p known new (Stopped stop) → CanStop p stop
     → OnOk result (Appends r s (last_line number stop)) → OnErr result (AppendsBeginning r s (last_line number stop)) → IfErr result (λ e. e ≡ failure.Report)
     → IfOk result (λ tally. tally ≡ tally_of number stop)
-    → IfSome old (λ bytes. Reports bytes (λ input. report_of limit rows rule start (stream_of input)) before (record { report = s; frames = g }) result)
-run_ended frames None known new p number limit rows rule start contents before r s g stop result none so h ok err kind tally = tt
-run_ended frames (Some bytes) known new p number limit rows rule start contents before r s g stop result none so h ok err kind tally =
-    let (input, hears, same) = HasFound-stops frames bytes known new p stop so.found h in
-    let count = count_of frames (Some bytes) known p number limit rule start contents before (record { report = r; frames = g }) so in
-    let no_lines : [] ≡ maps_pieces 0 rows (contents_after rule start frames) = ap (λ (x : List MapDef). maps_pieces 0 x (contents_after rule start frames)) (sym none) in
-    let front = ToFrames magic ∷ turns_pieces limit rule 0 start frames in
-    let last = ToReport (last_line (length frames) stop) ∷ [] in
-    record {
-      input = input;
-      hears = hears;
-      writes = subst (λ (x : List Frame × Finish). Writes before (record { report = s; frames = g }) result (report_of limit rows rule start x)) (sym same)
-          (subst (λ (l : List Piece). Writes before (record { report = s; frames = g }) result (front ++ (l ++ last))) no_lines
-          (last_written front before r s g number (length frames) stop result count so.wrote ok err kind));
-      tells = subst (λ (x : List Frame × Finish). IfOk result (λ t. t ≡ tally_of (length x.0) x.1)) (sym same)
-          (subst (λ (n : ℕ). IfOk result (λ t. t ≡ tally_of n stop)) count tally);
-    }
-
--- ---- the same of any source
-
--- the magic failed
-pub some_magic_failed : (limit : ℕ) (rows : List MapDef) (rule : Rule) (start : List Entries) (r f g : Option (List ℕ)) → AppendsBeginning f g magic
-    → ReportsSome (λ found. report_of limit rows rule start found) (record { report = r; frames = f }) (record { report = r; frames = g }) (Err failure.Frames)
-some_magic_failed limit rows rule start r f g p = record {
-  frames = [];
-  finish = finish.End;
-  are_open = tt;
-  writes = frames_failed r f g magic _ p;
-  tells = tt;
-}
-
--- a turn's piece failed
-pub some_turn_failed : (frames : List Frame) (old known new : Option (List ℕ)) (p : Position) (number limit : ℕ) (rows : List MapDef) (rule : Rule) (start contents : List Entries) (before now after : Outputs) (f : Frame) (error : HostError)
-    → SoFar frames old known p number limit rule start contents before now → Reads p known new (Found f) → IsOpen p f
-    → WroteBefore now after (frame_pieces limit number f (rule f.head f.body contents)) error
-    → ReportsSome (λ found. report_of limit rows rule start found) before after (Err error)
-some_turn_failed frames old known new p number limit rows rule start contents before now after f error s r ok w =
-    let all = frames ++ f ∷ [] in
-    let count = count_of frames old known p number limit rule start contents before now s in
-    let front = ToFrames magic ∷ turns_pieces limit rule 0 start frames in
-    let turn = frame_pieces limit number f (rule f.head f.body contents) in
-    let last = maps_pieces 0 rows (contents_after rule start all) ++ ToReport (last_line (length all) finish.End) ∷ [] in
-    let whole : (front ++ turn) ++ last ≡ report_of limit rows rule start (all, finish.End) =
-    ap (λ l. l ++ last) (turn_pieces frames f number limit rule start contents count s.carried) in
-    record {
-      frames = all;
-      finish = finish.End;
-      are_open = (HasFound-next frames old known new p f s.found r ok).are_open;
-      writes = subst (λ (l : List Piece). WroteBefore before after l error) whole
-          (WroteBefore-more before after (front ++ turn) last error (WroteBefore-append before now after front turn error s.wrote w));
-      tells = tt;
-    }
-
--- the stream stopped, and the last line was written, or failed
-pub some_run_ended : (frames : List Frame) (old known : Option (List ℕ)) (p : Position) (number limit : ℕ) (rows : List MapDef) (rule : Rule) (start contents : List Entries) (before : Outputs) (r s g : Option (List ℕ)) (stop : Finish) (result : Result Tally HostError)
-    → rows ≡ [] → SoFar frames old known p number limit rule start contents before (record { report = r; frames = g })
-    → OnOk result (Appends r s (last_line number stop)) → OnErr result (AppendsBeginning r s (last_line number stop)) → IfErr result (λ e. e ≡ failure.Report)
-    → IfOk result (λ tally. tally ≡ tally_of number stop)
-    → ReportsSome (λ found. report_of limit rows rule start found) before (record { report = s; frames = g }) result
-some_run_ended frames old known p number limit rows rule start contents before r s g stop result none so ok err kind tally =
+    → Reports old (λ found. report_of limit rows rule start found) before (record { report = s; frames = g }) result
+run_ended frames old known new p number limit rows rule start contents before r s g stop result none so h can ok err kind tally =
     let count = count_of frames old known p number limit rule start contents before (record { report = r; frames = g }) so in
     let no_lines : [] ≡ maps_pieces 0 rows (contents_after rule start frames) = ap (λ (x : List MapDef). maps_pieces 0 x (contents_after rule start frames)) (sym none) in
     let front = ToFrames magic ∷ turns_pieces limit rule 0 start frames in
@@ -204,6 +142,7 @@ some_run_ended frames old known p number limit rows rule start contents before r
       frames = frames;
       finish = stop;
       are_open = so.found.are_open;
+      heard = HasFound-stops frames old known new p stop so.found h can;
       writes = subst (λ (l : List Piece). Writes before (record { report = s; frames = g }) result (front ++ (l ++ last))) no_lines
           (last_written front before r s g number (length frames) stop result count so.wrote ok err kind);
       tells = subst (λ (n : ℕ). IfOk result (λ t. t ≡ tally_of n stop)) count tally;

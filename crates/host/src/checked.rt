@@ -1,7 +1,8 @@
 //! Runs on the checked machine.
-ghost use Rattle.std.specs.Prelude.{◌≡◌, ◌≢◌, ◌≤◌, IfSome};
-ghost use Rattle.isa_model.specs.Reports.{report_of, checked_rule, starting_contents, checked_report};
-ghost use Rattle.host.specs.Reported.{Reports, ReportsSome};
+ghost use Rattle.std.specs.Prelude.{◌≡◌, ◌≢◌, ◌≤◌};
+ghost use Rattle.isa_model.specs.Runs.{max_steps};
+ghost use Rattle.isa_model.specs.Reports.{checked_report};
+ghost use Rattle.host.specs.Reported.{Reports};
 
 use super::clocks::FrameClock;
 use super::engine::run_frames;
@@ -20,7 +21,7 @@ struct CheckedRunner {
     machine: Checked,
     limit: u32,
     ghost some: { 1 ≤ limit },
-    ghost most: { limit ≤ 1000000 },
+    ghost most: { limit ≤ max_steps },
 }
 
 impl Runner for CheckedRunner {
@@ -52,16 +53,10 @@ pub fn run_checked<R: Read + Drop, W1: Write, W2: Write>(
     out: &mut W2,
 ) -> Result<Tally, HostError>
     requires some { 1 ≤ limit }
-    requires most { limit ≤ 1000000 }
+    requires most { limit ≤ max_steps }
     ensures report_untouched { result ≡ Err HostError.Memory → W1.contents report.new ≡ W1.contents report.old }
     ensures out_untouched { result ≡ Err HostError.Memory → W2.contents out.new ≡ W2.contents out.old }
-    ensures reports { result ≢ Err HostError.Memory → IfSome (R.remaining source) (λ bytes.
-        Reports bytes (checked_report image limit)
-        record { report = W1.contents report.old; frames = W2.contents out.old }
-        record { report = W1.contents report.new; frames = W2.contents out.new } result) }
-    // Of any source it is the report of some frames, which came from it.
-    ensures some_frames { result ≢ Err HostError.Memory → ReportsSome
-        (λ found. report_of limit image.maps (checked_rule image limit) (starting_contents image.maps) found)
+    ensures reports { result ≢ Err HostError.Memory → Reports (R.remaining source) (checked_report image limit)
         record { report = W1.contents report.old; frames = W2.contents out.old }
         record { report = W1.contents report.new; frames = W2.contents out.new } result }
 {

@@ -1,12 +1,12 @@
 //! The run over all frames of a stream, written once for every machine. It takes no memory.
-ghost use Rattle.std.specs.Prelude.{◌≡◌, ◌≢◌, ◌≤◌, [], length, OnOk, OnErr, IfOk, IfErr, IfSome};
+ghost use Rattle.std.specs.Prelude.{◌≡◌, ◌≢◌, ◌≤◌, [], length, OnOk, OnErr, IfOk, IfErr};
 ghost use Rattle.std.specs.Io.KnownBytes.{Appends};
 ghost use Rattle.exact_io.specs.Transfers.{AppendsBeginning};
-ghost use Rattle.isa_model.specs.Streams.{max_body, stream_of};
+ghost use Rattle.isa_model.specs.Streams.{max_body};
 ghost use Rattle.isa_model.specs.Reports.{frame_pieces, last_line, is_sent, report_of};
 ghost use Rattle.host.specs.Tallies.{tally_of};
 ghost use Rattle.host.specs.Writing.{Writes};
-ghost use Rattle.host.specs.Reported.{Reports, ReportsSome};
+ghost use Rattle.host.specs.Reported.{Reports};
 
 use super::errors::HostError;
 use super::lines::{line_of_finish, line_of_frame};
@@ -99,11 +99,7 @@ pub fn run_frames<M: Runner, R: Read + Drop, W1: Write, W2: Write>(
     out: &mut W2,
 ) -> Result<Tally, HostError>
     requires { M.rows machine.old ≡ [] }
-    ensures reports { IfSome (R.remaining source) (λ bytes. Reports bytes
-        (λ input. report_of limit (M.rows machine.old) (M.rule machine.old) (M.contents machine.old) (stream_of input))
-        record { report = W1.contents report.old; frames = W2.contents out.old }
-        record { report = W1.contents report.new; frames = W2.contents out.new } result) }
-    ensures some_frames { ReportsSome
+    ensures reports { Reports (R.remaining source)
         (λ found. report_of limit (M.rows machine.old) (M.rule machine.old) (M.contents machine.old) found)
         record { report = W1.contents report.old; frames = W2.contents out.old }
         record { report = W1.contents report.new; frames = W2.contents out.new } result }

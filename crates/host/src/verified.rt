@@ -1,9 +1,6 @@
 //! Runs of accepted programs.
-ghost use Rattle.std.specs.Prelude.{◌≡◌, ◌≢◌, IfSome};
-ghost use Rattle.isa_model.specs.MachineStates.{AreBytes};
-ghost use Rattle.isa_model.specs.Reports.{report_of, checked_rule, starting_contents};
+ghost use Rattle.std.specs.Prelude.{◌≡◌, ◌≢◌};
 ghost use Rattle.host.specs.Accepted.{ReportsRun};
-ghost use Rattle.host.specs.Reported.{ReportsSome};
 
 use super::clocks::FrameClock;
 use super::engine::run_frames;
@@ -42,8 +39,10 @@ impl Runner for MachineRunner {
 /// frames that are sent on to the other.
 ///
 /// What is written is exactly the report of the program and those frames; in every frame's run the step by step
-/// meaning of the program meets no trap, and it exits within the bound. That a source gives bytes, numbers below 256,
-/// is all that is asked of it: its stream may be damaged, cut, endless in length, or fail in the middle.
+/// meaning of the program meets no trap, and it exits within the bound. Nothing is asked of the source: its stream may
+/// be damaged, cut off, without an end, or fail in the middle; at most 4,294,967,295 frames are run. Where the source
+/// tells its bytes, the frames are those that they spell, from the first on; where it does not, as a file, they are
+/// those of some bytes.
 ///
 /// Every answer of a frame's clock is the frame's time. Memory is taken before the first byte is written, and none
 /// after that. Nothing is tried again, and after a failure nothing is written to either output.
@@ -56,14 +55,7 @@ pub fn run<R: Read + Drop, W1: Write, W2: Write>(
 ) -> Result<Tally, HostError>
     ensures report_untouched { result ≡ Err HostError.Memory → W1.contents report.new ≡ W1.contents report.old }
     ensures out_untouched { result ≡ Err HostError.Memory → W2.contents out.new ≡ W2.contents out.old }
-    ensures reports { result ≢ Err HostError.Memory → IfSome (R.remaining source) (λ bytes. AreBytes bytes
-        → ReportsRun verified bytes
-        record { report = W1.contents report.old; frames = W2.contents out.old }
-        record { report = W1.contents report.new; frames = W2.contents out.new } result) }
-    // Of any source it is the checked report of some frames, which came from it, with the bound as the limit.
-    ensures some_frames { result ≢ Err HostError.Memory → ReportsSome
-        (λ found. report_of verified.bound verified.program.maps (checked_rule verified.program verified.bound)
-        (starting_contents verified.program.maps) found)
+    ensures reports { result ≢ Err HostError.Memory → ReportsRun verified (R.remaining source)
         record { report = W1.contents report.old; frames = W2.contents out.old }
         record { report = W1.contents report.new; frames = W2.contents out.new } result }
 {

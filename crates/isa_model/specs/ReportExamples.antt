@@ -19,7 +19,7 @@ use Rattle.isa_model.specs.Instructions.{Program, slots}
 use Rattle.isa_model.specs.States.{new_frame}
 use Rattle.isa_model.specs.Steps.{act, step}
 use Rattle.isa_model.specs.Runs.{start_state, progress, turn}
-use Rattle.isa_model.specs.Streams.{magic, ByEnd, head_bytes, stop_at, stop_from, frames_from}
+use Rattle.isa_model.specs.Streams.{magic, ByEnd, head_bytes, stop_at, stop_from, frames_from, stream_of}
 use Rattle.isa_model.specs.Reports.{frame_line, map_line, last_line, report_bytes, frames_out, is_sent, frame_pieces, Rule, in_report_order, starting_contents, report_of, checked_report}
 use Rattle.isa_model.specs.StreamExamples.{head_of}
 use Rattle.isa_model.specs.Examples.{set, copy, above, zeros}
@@ -32,10 +32,10 @@ passes = record { insns = slots (set R0 (pos 2) ∷ insn.Exit ∷ []); maps = []
 
 -- the report, and the frames out, on bytes that end
 abbrev pub report_on : Program → List ℕ → List ℕ
-report_on p bytes = report_bytes (checked_report p 100 (record { bytes = bytes; ending = ByEnd }))
+report_on p bytes = report_bytes (checked_report p 100 (stream_of (record { bytes = bytes; ending = ByEnd })))
 
 abbrev pub out_on : Program → List ℕ → List ℕ
-out_on p bytes = frames_out (checked_report p 100 (record { bytes = bytes; ending = ByEnd }))
+out_on p bytes = frames_out (checked_report p 100 (stream_of (record { bytes = bytes; ending = ByEnd })))
 
 -- the magic and a record of no bytes
 abbrev pub one_empty_record : List ℕ

@@ -24,7 +24,7 @@ use Rattle.isa_model.specs.declared.ends.End.TheVariants.{Exit, Trap, Limit}
 use Rattle.isa_model.specs.Frames.{action_of}
 use Rattle.isa_model.specs.Instructions.{Program}
 use Rattle.isa_model.specs.States.{Entries}
-use Rattle.isa_model.specs.Streams.{Frame, magic, frame_bytes, Input, stream_of}
+use Rattle.isa_model.specs.Streams.{Frame, magic, frame_bytes}
 use Rattle.isa_model.specs.Runs.{Outcome, HasOutcome, Turn, turn}
 
 -- ---- names
@@ -175,9 +175,9 @@ report_of limit rows rule contents found =
 abbrev pub checked_rule : Program → ℕ → Rule
 checked_rule p limit head body contents = turn p limit (λ k. head.time) head body contents
 
--- the checked report of a program, a limit and an input
-abbrev pub checked_report : Program → ℕ → Input → List Piece
-checked_report p limit input = report_of limit p.maps (checked_rule p limit) (starting_contents p.maps) (stream_of input)
+-- the checked report of a program, a limit, and the frames and the end or fault of a stream
+abbrev pub checked_report : Program → ℕ → List Frame × Finish → List Piece
+checked_report p limit found = report_of limit p.maps (checked_rule p limit) (starting_contents p.maps) found
 
 -- the turn of a run that has this outcome
 abbrev pub turn_by : Outcome → Turn
@@ -190,10 +190,10 @@ ReportsFrames p number contents (f ∷ frames) pieces last =
     (o : Outcome) × (rest : List Piece) × HasOutcome p f.head f.body contents (λ k. f.head.time) o
     × (pieces ≡ frame_pieces o.steps number f (turn_by o) ++ rest) × ReportsFrames p (number + 1) o.contents frames rest last
 
--- the report of a program and an input: every run exits
-pub record IsReport (p : Program) (input : Input) (pieces : List Piece) : Type 0 where
+-- the report of a program, and the frames and the end or fault of a stream: every run exits
+pub record IsReport (p : Program) (found : List Frame × Finish) (pieces : List Piece) : Type 0 where
   pub turns : List Piece
   pub last : List Entries
-  pub frames : ReportsFrames p 0 (starting_contents p.maps) (stream_of input).0 turns last
+  pub frames : ReportsFrames p 0 (starting_contents p.maps) found.0 turns last
   pub whole : pieces ≡ (ToFrames magic ∷ turns)
-      ++ (maps_pieces 0 p.maps last ++ ToReport (last_line (length (stream_of input).0) (stream_of input).1) ∷ [])
+      ++ (maps_pieces 0 p.maps last ++ ToReport (last_line (length found.0) found.1) ∷ [])

@@ -7,7 +7,7 @@ use Rattle.isa_model.specs.declared.ends.End.TheVariants.{Exit}
 use Rattle.isa_model.specs.Instructions.{Program}
 use Rattle.isa_model.specs.States.{Entries, State}
 use Rattle.isa_model.specs.Steps.{Finished, step}
-use Rattle.isa_model.specs.Runs.{start_state, GoesOn, Ended, after_step, advanced, progress, Reaches, Runs, Outcome, HasOutcome, turn}
+use Rattle.isa_model.specs.Runs.{start_state, GoesOn, Ended, after_step, advanced, progress, Reaches, Runs, Outcome, HasOutcome, Turn, turn}
 
 -- no steps lead nowhere
 pub progress-zero : (p : Program) (clock : ℕ → ℕ) (s : State) → progress p clock 0 s ≡ GoesOn s
@@ -45,6 +45,25 @@ turn-outcome p head packet contents clock o limit h within =
     let ended = progress-exit p clock (start_state head packet contents) h.last h.before limit o.number h.reached h.exits (omega arith) in
     let steps : h.before + 1 ≡ o.steps = omega arith in
     rw (ended, steps, h.packet_is, h.contents_are, h.clock_calls_are) refl
+
+abbrev outcome_of : ℕ → List ℕ → List Entries → ℕ → ℕ → Outcome
+outcome_of n packet contents steps calls = record { number = n; packet = packet; contents = contents; steps = steps; clock_calls = calls }
+
+-- a run from the start state has one outcome at most
+pub HasOutcome-same : (p : Program) (head : FrameHead) (packet : List ℕ) (contents : List Entries) (clock : ℕ → ℕ) (o q : Outcome)
+    → HasOutcome p head packet contents clock o → HasOutcome p head packet contents clock q → o ≡ q
+HasOutcome-same p head packet contents clock o q h k =
+    let one = turn-outcome p head packet contents clock o (o.steps + q.steps) h (omega arith) in
+    let two = turn-outcome p head packet contents clock q (o.steps + q.steps) k (omega arith) in
+    let same = sym one ∙ two in
+    let ends : Exit o.number o.steps ≡ Exit q.number q.steps = ap (λ (t : Turn). t.ends) same in
+    let number : o.number ≡ q.number = cc in
+    let steps : o.steps ≡ q.steps = cc in
+    ap (λ n. outcome_of n o.packet o.contents o.steps o.clock_calls) number
+    ∙ ap (λ l. outcome_of q.number l o.contents o.steps o.clock_calls) (ap (λ (t : Turn). t.packet) same)
+    ∙ ap (λ c. outcome_of q.number q.packet c o.steps o.clock_calls) (ap (λ (t : Turn). t.contents) same)
+    ∙ ap (λ n. outcome_of q.number q.packet q.contents n o.clock_calls) steps
+    ∙ ap (λ n. outcome_of q.number q.packet q.contents q.steps n) (ap (λ (t : Turn). t.clock_calls) same)
 
 -- two runs from one state are one
 pub Runs-same : (p : Program) (clock : ℕ → ℕ) (s : State) (m n a b : ℕ) → Runs p clock s m a → Runs p clock s n b → (m ≡ n) × (a ≡ b)

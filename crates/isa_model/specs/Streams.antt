@@ -1,6 +1,6 @@
 -- The stream of packet frames: the magic `XPF1`, and then records of a head of 20 bytes and a body. docs/FORMATS.md.
 -- A head is: u64 time in nanoseconds, u32 interface, u32 queue, u32 length of the body; the lowest byte first.
-use Rattle.std.specs.Prelude.{ℕ, zero, suc, ◌+◌, ◌^◌, ◌<◌, ◌≤◌, List, [], ◌∷◌, ◌++◌, length, take, drop, nat_lt, nat_eq, ◌==◌, if◌then◌else◌, Option, Some, None, codes}
+use Rattle.std.specs.Prelude.{ℕ, zero, suc, ◌+◌, ◌^◌, ◌<◌, ◌≤◌, List, [], ◌∷◌, ◌++◌, length, take, drop, nat_lt, nat_eq, ◌==◌, if◌then◌else◌, All, Option, Some, None, codes}
 use Rattle.std.specs.List.{starts_with}
 use Rattle.byteorder.specs.Endian.{little_bytes, little_from}
 use Rattle.isa_model.specs.declared.frames.FrameHead.{FrameHead}
@@ -35,6 +35,7 @@ max_body = 4096
 -- the frames that can be spelled
 pub record IsFrame (f : Frame) : Type 0 where
   pub short : length f.body ≤ max_body
+  pub bytes : All (λ b. b < 256) f.body
   pub time : f.head.time < 2 ^ 64
   pub interface : f.head.interface < 2 ^ 32
   pub queue : f.head.queue < 2 ^ 32

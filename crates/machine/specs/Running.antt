@@ -3,7 +3,7 @@ use Rattle.std.specs.Prelude.{◌≡◌, ℕ, ◌+◌, ◌≤◌, List}
 use Rattle.isa_model.specs.declared.frames.FrameHead.{FrameHead}
 use Rattle.isa_model.specs.Instructions.{Program}
 use Rattle.isa_model.specs.States.{Entries}
-use Rattle.isa_model.specs.Runs.{Outcome, HasOutcome}
+use Rattle.isa_model.specs.Runs.{max_steps, Outcome, HasOutcome}
 use Rattle.isa_model.specs.Outcomes.{StartsEnd}
 use Rattle.isa_model.specs.MachineStates.{FitRows, IsProgram}
 use Rattle.machine.specs.declared.machines.Exit.{Exit}
@@ -19,7 +19,7 @@ pub record IsRunning (r : Running) : Type 0 where
   pub is_program : IsProgram r.program
   pub ends : StartsEnd r.program r.bound
   pub some : 1 ≤ r.bound
-  pub most : r.bound ≤ 1000000
+  pub most : r.bound ≤ max_steps
   pub fits : FitRows r.program.maps r.contents
 
 -- A run answers its outcome, which has at most as many steps as the bound: the number and the steps, the packet and

@@ -1,15 +1,14 @@
 -- What a run over a stream writes, and how the task ends then.
-use Rattle.std.specs.Prelude.{◌≡◌, ◌≢◌, ℕ, List, Option, Some, None, Result, Ok, Err, IfSome}
+use Rattle.std.specs.Prelude.{◌≡◌, ◌≢◌, ℕ, List, Option, Some, None, Result, Ok, Err}
 use Rattle.isa_model.specs.declared.streams.Fault.{Fault}
 use Rattle.isa_model.specs.Instructions.{Program}
-use Rattle.isa_model.specs.MachineStates.{AreBytes}
-use Rattle.isa_model.specs.Reports.{report_of, checked_rule, starting_contents, checked_report}
+use Rattle.isa_model.specs.Reports.{checked_report}
 use Rattle.explorer.specs.Bounds.{Bounded}
 use Rattle.host.specs.declared.errors.HostError.{HostError}
 use Rattle.host.specs.declared.errors.HostError.TheVariants as failure
 use Rattle.host.specs.declared.tallies.Tally.{Tally}
 use Rattle.host.specs.Writing.{Outputs}
-use Rattle.host.specs.Reported.{Reports, ReportsSome}
+use Rattle.host.specs.Reported.{Reports}
 use Rattle.host.specs.Accepted.{ReportsRun}
 use Rattle.serving.specs.declared.outcomes.Outcome.{Outcome}
 use Rattle.serving.specs.declared.outcomes.Outcome.TheVariants.{Done, Faulted, NoMemory}
@@ -27,22 +26,21 @@ EndsBy name (Err failure.Memory) result = result ≡ NoMemory
 EndsBy name (Err failure.Report) result = IsOutputFailure result
 EndsBy name (Err failure.Frames) result = IsWriteFailure name result
 
--- A run with checks: where the source tells its bytes, what is written is exactly the checked report of the program and
--- the input that was heard, and else that of some frames.
+-- A run with checks: what is written is exactly the checked report of the program and of the frames that were found,
+-- which are those that the source's bytes spell, where it tells them.
 pub record Traces (p : Program) (limit : ℕ) (source : Option (List ℕ)) (name : List ℕ) (old new : Outputs) (result : Outcome) : Type 0 where
   pub ended : Result Tally HostError
   pub ends : EndsBy name ended result
   pub report_untouched : ended ≡ Err failure.Memory → new.report ≡ old.report
   pub frames_untouched : ended ≡ Err failure.Memory → new.frames ≡ old.frames
-  pub reports : ended ≢ Err failure.Memory → IfSome source (λ bytes. Reports bytes (checked_report p limit) old new ended)
-  pub some_frames : ended ≢ Err failure.Memory → ReportsSome (λ found. report_of limit p.maps (checked_rule p limit) (starting_contents p.maps) found) old new ended
+  pub reports : ended ≢ Err failure.Memory → Reports source (checked_report p limit) old new ended
 
--- A run of an accepted program: where the source tells its bytes, what is written is exactly the report of the program
--- and the input that was heard, without a trap and within the bound, and else the checked report of some frames.
+-- A run of an accepted program: what is written is exactly the report of the program and of the frames that were found,
+-- which are those that the source's bytes spell, where it tells them; no run of a frame meets a trap, and each exits
+-- within the bound.
 pub record RunsAccepted (v : Bounded) (source : Option (List ℕ)) (name : List ℕ) (old new : Outputs) (result : Outcome) : Type 0 where
   pub ended : Result Tally HostError
   pub ends : EndsBy name ended result
   pub report_untouched : ended ≡ Err failure.Memory → new.report ≡ old.report
   pub frames_untouched : ended ≡ Err failure.Memory → new.frames ≡ old.frames
-  pub reports : ended ≢ Err failure.Memory → IfSome source (λ bytes. AreBytes bytes → ReportsRun v bytes old new ended)
-  pub some_frames : ended ≢ Err failure.Memory → ReportsSome (λ found. report_of v.bound v.program.maps (checked_rule v.program v.bound) (starting_contents v.program.maps) found) old new ended
+  pub reports : ended ≢ Err failure.Memory → ReportsRun v source old new ended

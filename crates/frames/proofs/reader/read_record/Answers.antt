@@ -1,5 +1,5 @@
 use Rattle.std.proofs.Common.{arith, rules}
-use Rattle.frames.proofs.Findings.{record_many, record_end, record_failed, record_cut, record_long, body_cut, body_failed, record_whole}
+use Rattle.frames.proofs.Findings.{record_many, record_end, record_failed, record_cut, record_long, body_cut, body_failed, record_whole, can_end, can_fail, can_be_many, can_be_cut, can_be_long, can_lack_body}
 use Rattle.frames.proofs.reader.read_record.Goals as goal
 
 pub returns-in-Whole-clause-bytes : goal.returns-in-Whole-clause-bytes
@@ -31,3 +31,30 @@ returns-in-Ended-fill-2-clause-bytes g c = body_cut _ _ _ _ _ _ _ _ (search rule
 
 pub returns-in-Failed-fill-2-clause-bytes : goal.returns-in-Failed-fill-2-clause-bytes
 returns-in-Failed-fill-2-clause-bytes g c = body_failed _ _ _ _ _ _ _ _ (search rules) c.fill-2.auto.buffer (omega arith) (search rules) c.in-Failed-fill-2.ensures.0 c.in-Whole-fill.ensures c.in-Failed-fill-2.ensures.1
+
+pub returns-in-Whole-clause-room : goal.returns-in-Whole-clause-room
+returns-in-Whole-clause-room g c = can_be_many _ _ (search rules)
+
+pub returns-in-Ended-clause-room : goal.returns-in-Ended-clause-room
+returns-in-Ended-clause-room g c = can_end _ _
+
+pub returns-in-Failed-clause-room : goal.returns-in-Failed-clause-room
+returns-in-Failed-clause-room g c = can_fail _ _
+
+pub returns-in-Ended-eq0-clause-room : goal.returns-in-Ended-eq0-clause-room
+returns-in-Ended-eq0-clause-room g c = can_end _ _
+
+pub returns-in-Ended-fill-clause-room : goal.returns-in-Ended-fill-clause-room
+returns-in-Ended-fill-clause-room g c = can_be_cut _ _ (search rules)
+
+pub returns-in-Failed-fill-clause-room : goal.returns-in-Failed-fill-clause-room
+returns-in-Failed-fill-clause-room g c = can_fail _ _
+
+pub returns-then-length-gt4096-clause-room : goal.returns-then-length-gt4096-clause-room
+returns-then-length-gt4096-clause-room g c = can_be_long _ _ c.fill-2.new.buffer (search rules) c.fill-2.auto.buffer (omega arith)
+
+pub returns-in-Ended-fill-2-clause-room : goal.returns-in-Ended-fill-2-clause-room
+returns-in-Ended-fill-2-clause-room g c = can_lack_body _ _ c.fill-2.new.buffer _ _ (search rules) c.fill-2.auto.buffer (omega arith) (search rules) c.in-Ended-fill-2.ensures.0
+
+pub returns-in-Failed-fill-2-clause-room : goal.returns-in-Failed-fill-2-clause-room
+returns-in-Failed-fill-2-clause-room g c = can_fail _ _

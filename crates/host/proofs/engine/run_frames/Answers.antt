@@ -1,5 +1,5 @@
 use Rattle.std.proofs.Common.{rules, refl}
-use Rattle.host.proofs.Turns.{magic_failed, no_turn, turn_more, turn_failed, run_ended, some_magic_failed, some_turn_failed, some_run_ended}
+use Rattle.host.proofs.Turns.{magic_failed, no_turn, turn_more, turn_failed, run_ended}
 use Rattle.host.proofs.engine.run_frames.Goals as goal
 
 pub returns-in-Err-clause-reports : goal.returns-in-Err-clause-reports
@@ -25,27 +25,9 @@ returns-in-Err-run_frame-clause-reports g c =
 pub returns-in-End-clause-reports : goal.returns-in-End-clause-reports
 returns-in-End-clause-reports g c =
     let (frames, s, r) = c.turns.invariant in
-    run_ended frames _ _ _ _ _ _ _ _ _ _ _ _ _ _ _ _ c.requires s c.in-End.ensures.bytes c.end_run.ensures.ok c.end_run.ensures.err c.end_run.ensures.kind c.end_run.ensures.tally
+    run_ended frames _ _ _ _ _ _ _ _ _ _ _ _ _ _ _ _ c.requires s c.in-End.ensures.bytes c.in-End.ensures.room c.end_run.ensures.ok c.end_run.ensures.err c.end_run.ensures.kind c.end_run.ensures.tally
 
 pub returns-in-Fault-clause-reports : goal.returns-in-Fault-clause-reports
 returns-in-Fault-clause-reports g c =
     let (frames, s, r) = c.turns.invariant in
-    run_ended frames _ _ _ _ _ _ _ _ _ _ _ _ _ _ _ _ c.requires s c.in-Fault.ensures.bytes c.end_run-in-Fault.ensures.ok c.end_run-in-Fault.ensures.err c.end_run-in-Fault.ensures.kind c.end_run-in-Fault.ensures.tally
-
-pub returns-in-Err-clause-some_frames : goal.returns-in-Err-clause-some_frames
-returns-in-Err-clause-some_frames g c = some_magic_failed _ _ _ _ _ _ _ c.in-Err.ensures.err
-
-pub returns-in-Err-run_frame-clause-some_frames : goal.returns-in-Err-run_frame-clause-some_frames
-returns-in-Err-run_frame-clause-some_frames g c =
-    let (frames, s, r) = c.turns.invariant in
-    some_turn_failed frames _ _ _ _ _ _ _ _ _ _ _ _ _ _ _ s c.in-Frame.ensures.bytes c.in-Frame.ensures.room (rw (← r) c.in-Err-run_frame.ensures.writes)
-
-pub returns-in-End-clause-some_frames : goal.returns-in-End-clause-some_frames
-returns-in-End-clause-some_frames g c =
-    let (frames, s, r) = c.turns.invariant in
-    some_run_ended frames _ _ _ _ _ _ _ _ _ _ _ _ _ _ _ c.requires s c.end_run.ensures.ok c.end_run.ensures.err c.end_run.ensures.kind c.end_run.ensures.tally
-
-pub returns-in-Fault-clause-some_frames : goal.returns-in-Fault-clause-some_frames
-returns-in-Fault-clause-some_frames g c =
-    let (frames, s, r) = c.turns.invariant in
-    some_run_ended frames _ _ _ _ _ _ _ _ _ _ _ _ _ _ _ c.requires s c.end_run-in-Fault.ensures.ok c.end_run-in-Fault.ensures.err c.end_run-in-Fault.ensures.kind c.end_run-in-Fault.ensures.tally
+    run_ended frames _ _ _ _ _ _ _ _ _ _ _ _ _ _ _ _ c.requires s c.in-Fault.ensures.bytes c.in-Fault.ensures.room c.end_run-in-Fault.ensures.ok c.end_run-in-Fault.ensures.err c.end_run-in-Fault.ensures.kind c.end_run-in-Fault.ensures.tally
