@@ -5,3 +5,9 @@ pub mod MeaningLaws
 pub mod PlaceLaws
 pub mod Starts
 pub mod Slots
+pub mod StackMeaning
+pub mod SpliceLaws
+pub mod CellLaws
+pub mod StackLaws
+pub mod FillLaws
+pub mod FrameLaws

@@ -1,9 +1,12 @@
 //! What is known of the bytes of a call frame.
 
-ghost use Rattle.std.specs.Prelude.{◌≡◌, ◌≢◌, ◌+◌, ◌/◌, ◌%◌, ◌<◌, ◌≤◌, ◌↔◌, IsTrue, replicate, slice_set};
+ghost use Rattle.std.specs.Prelude.{◌≡◌, List, length, ◌+◌, ◌/◌, ◌%◌, ◌<◌, ◌≤◌, ◌↔◌, IsTrue, replicate, slice_set};
+ghost use Rattle.isa_model.specs.declared.values.Cell.{Cell};
 ghost use Rattle.isa_model.specs.Sizes.{size_bytes};
+ghost use Rattle.reg_state.specs.Kinds.{Assigned};
 ghost use Rattle.stack_state.specs.Slots as slot_words;
 ghost use Rattle.stack_state.specs.Slots.{slot_at, IsMarked, AreMarked, after_store, IsLoad, IsSpill, IsFill};
+ghost use Rattle.stack_state.specs.StackMeaning.{StackMeans, Stores, Spills, Loads, Fills, AreBytes, Forgets};
 
 use crate::slots::{Slot, filled, forgotten, marks, mask, numbers, spilled};
 use isa_model::Size;
@@ -19,6 +22,7 @@ impl StackState {
     /// A frame of which nothing is known.
     pub fn new() -> StackState
         ensures exact { result.slots ≡ replicate 64 (Slot.Written 0) }
+        ensures meant { (e : Assigned) (cells : List Cell) → length cells ≡ 512 → StackMeans e result.slots cells }
     {
         StackState {
             slots: [Slot::Written(0); 64],
@@ -30,6 +34,7 @@ impl StackState {
         requires inside { at < 512 }
         requires in_slot { at % 8 + size_bytes size ≤ 8 }
         ensures exact { self.new.slots ≡ after_store self.old.slots at (size_bytes size) }
+        ensures meant { Stores self.old.slots at size self.new.slots }
     {
         let slot = self.slots[at / 8];
         let written = marks(slot) | mask(at % 8, size.bytes());
@@ -41,6 +46,7 @@ impl StackState {
         requires inside { at < 512 }
         requires in_slot { at % 8 + size_bytes size ≤ 8 }
         ensures exact { IsLoad self.now.slots at size result }
+        ensures meant { Loads self.now.slots at size result }
     {
         if self.is_bytes(at, size.bytes()) {
             Some(numbers(self.slots[at / 8], size))
@@ -54,6 +60,7 @@ impl StackState {
         requires { slot < 64 }
         ensures exact { IsSpill kind (slot_at self.new.slots slot) }
         ensures others { self.new.slots ≡ slice_set self.old.slots slot (slot_at self.new.slots slot) }
+        ensures meant { Spills self.old.slots slot kind self.new.slots }
     {
         self.slots[slot] = spilled(kind);
     }
@@ -62,6 +69,7 @@ impl StackState {
     pub fn fill(&self, slot: usize) -> Option<Kind>
         requires { slot < 64 }
         ensures exact { IsFill (slot_at self.now.slots slot) result }
+        ensures meant { Fills self.now.slots slot result }
     {
         filled(self.slots[slot])
     }
@@ -75,11 +83,12 @@ impl StackState {
     }
 
     /// Whether the bytes are all written number bytes.
-    pub fn is_bytes(&self, from: usize, length: usize) -> bool
-        requires { from + length ≤ 512 }
-        ensures exact { IsTrue result ↔ AreMarked self.now.slots from (from + length) }
+    pub fn is_bytes(&self, from: usize, count: usize) -> bool
+        requires { from + count ≤ 512 }
+        ensures exact { IsTrue result ↔ AreMarked self.now.slots from (from + count) }
+        ensures meant { IsTrue result → AreBytes self.now.slots from count }
     {
-        for at in from..from + length {
+        for at in from..from + count {
             if !self.is_byte(at) {
                 return false;
             }
@@ -90,6 +99,7 @@ impl StackState {
     /// Pointers to values of the map are forgotten.
     pub fn forget_map(&mut self, map: u8)
         ensures exact { self.new.slots ≡ slot_words.forgotten map self.old.slots }
+        ensures meant { Forgets map self.old.slots self.new.slots }
     {
         for slot in 0..64 {
             self.slots[slot] = forgotten(self.slots[slot], map);

@@ -1,7 +1,10 @@
-use Rattle.std.proofs.Common.{arith, ◌≡◌, ◌≤◌, length, length-set, get_or, set, ap, ◌∙◌}
+use Rattle.std.proofs.Common.{arith, ◌≡◌, ◌≤◌, List, length, length-set, get_or, set, ap, sym, subst, ◌∙◌}
 use Rattle.std.proofs.lemmas.List.{get_or_default, take_all, drop_all, append-nil}
 use Rattle.std.proofs.lemmas.List.Edits.{map_over_more}
-use Rattle.stack_state.specs.Slots.{forgotten_slot}
+use Rattle.stack_state.specs.declared.slots.Slot.{Slot}
+use Rattle.stack_state.specs.Slots.{forgotten_slot, forgotten}
+use Rattle.stack_state.specs.StackMeaning.{Forgets}
+use Rattle.stack_state.specs.FillLaws.{forgets}
 use Rattle.stack_state.proofs.stacks.StackState.forget_map.Goals as goal
 
 pub loop-slot-preserved : goal.loop-slot-preserved
@@ -22,4 +25,5 @@ returns c =
     let xs = c.args.self.now.slots in
     let count : length xs ≡ 64 = omega arith in
     let over : length xs ≤ c.loop-slot.slot = omega arith in
-    record { exact = c.loop-slot.invariant.done ∙ (rw (take_all, drop_all, append-nil)) }
+    let all : c.loop-slot.self.slots ≡ forgotten c.args.map xs = c.loop-slot.invariant.done ∙ (rw (take_all, drop_all, append-nil)) in
+    record { exact = all; meant = subst (λ (s : List Slot). Forgets c.args.map xs s) (sym all) (forgets xs c.args.map count) }

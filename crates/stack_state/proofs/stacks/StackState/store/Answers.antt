@@ -1,0 +1,17 @@
+use Rattle.std.proofs.Common.{arith, ◌≡◌, ℕ, ◌+◌, ◌/◌, ◌%◌, set, ap, ◌∙◌, bit_or}
+use Rattle.std.proofs.lemmas.List.{get_or_default}
+use Rattle.stack_state.specs.declared.slots.Slot.TheVariants.{Written}
+use Rattle.stack_state.specs.Slots.{slot_at, marks_of, mask_of}
+use Rattle.stack_state.specs.StackLaws.{stores}
+use Rattle.stack_state.proofs.stacks.StackState.store.Goals as goal
+
+pub returns-clause-meant : goal.returns-clause-meant
+returns-clause-meant c =
+    let slots = c.args.self.now.slots in
+    let at : ℕ = c.args.at in
+    let marks : c.marks.result ≡ marks_of (slot_at slots (at / 8)) =
+    c.marks.ensures ∙ ap marks_of (get_or_default slots (at / 8) c.index-self-at.result (Written 0) (omega arith)) in
+    let mask = c.mask.ensures ∙ ap (λ (n : ℕ). mask_of (at % 8) (at % 8 + n)) c.bytes.ensures.value in
+    stores slots _ at c.args.size (omega arith) c.requires.inside c.requires.in_slot
+    (ap (λ (m : ℕ). set slots (at / 8) (Written (bit_or m c.mask.result))) marks
+    ∙ ap (λ (m : ℕ). set slots (at / 8) (Written (bit_or (marks_of (slot_at slots (at / 8))) m))) mask)

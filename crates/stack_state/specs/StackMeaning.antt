@@ -1,0 +1,100 @@
+-- The cells of a frame that its slots stand for, and what the calls of `StackState` keep of that.
+-- The contracts cite the words below; StackLaws and FrameLaws have the laws.
+use Rattle.std.specs.Prelude.{◌≡◌, ◌≢◌, ℕ, ◌+◌, ◌*◌, ◌<◌, true, List, [], map, take, drop, length, slice_index_or, All, Option, Ok, IfSome}
+use Rattle.std.specs.Int.{bit_at}
+use Rattle.std.specs.List.{splice, list_all}
+use Rattle.isa_model.specs.declared.sizes.Size.{Size}
+use Rattle.isa_model.specs.declared.sizes.Size.TheVariants.{U64}
+use Rattle.isa_model.specs.declared.values.Value.{Value}
+use Rattle.isa_model.specs.declared.values.Value.TheVariants.{Unset, Num, Ptr}
+use Rattle.isa_model.specs.declared.values.Cell.{Cell}
+use Rattle.isa_model.specs.declared.values.Cell.TheVariants.{Unwritten, Byte}
+use Rattle.isa_model.specs.Sizes.{size_bytes}
+use Rattle.isa_model.specs.Numbers.{bytes_of}
+use Rattle.isa_model.specs.States.{Content}
+use Rattle.isa_model.specs.Memory.{is_byte, number_of, number_in, pieces, value_in}
+use Rattle.isa_model.specs.MachineStates.{IsCell}
+use Rattle.reg_state.specs.declared.scalars.Scalar.{Scalar}
+use Rattle.reg_state.specs.declared.kinds.Kind.{Kind}
+use Rattle.reg_state.specs.Scalars.{Has}
+use Rattle.reg_state.specs.Kinds.{Assigned, Allows, IsLive}
+use Rattle.stack_state.specs.declared.slots.Slot.{Slot}
+use Rattle.stack_state.specs.declared.slots.Slot.TheVariants.{Written, Spilled}
+use Rattle.stack_state.specs.Slots.{slot_at}
+
+-- ---- cells
+
+-- n of the cells
+abbrev pub part_of : {X : Type 0} → List X → ℕ → ℕ → List X
+part_of cells at n = take n (drop at cells)
+
+-- the eight cells of a slot
+abbrev pub chunk_of : {X : Type 0} → ℕ → List X → List X
+chunk_of k cells = part_of cells (8 * k) 8
+
+-- the cells with new ones written at a place
+abbrev pub written : {X : Type 0} → List X → ℕ → List X → List X
+written cells at new = splice cells at (at + length new) new
+
+-- the eight cells that an 8-byte store of the value writes; an unset one cannot be stored
+abbrev pub stored : Value → List Cell
+stored Unset = []
+stored (Num n) = map Byte (bytes_of U64 n)
+stored (Ptr r z) = pieces r z
+
+-- ---- what slots stand for
+
+-- each marked cell is a number byte
+abbrev pub Marked : ℕ → List Cell → Type 0
+Marked marks cs = (i : ℕ) → i < 8 → bit_at marks i ≡ 1 → is_byte (slice_index_or cs i Unwritten) ≡ true
+
+abbrev pub SlotMeans : Assigned → Slot → List Cell → Type 0
+SlotMeans e (Written marks) cs = Marked marks cs
+SlotMeans e (Spilled k) cs = (v : Value) × Allows e k v × (cs ≡ stored v)
+
+-- under the assignment, the slots stand for the cells
+pub record StackMeans (e : Assigned) (slots : List Slot) (cells : List Cell) : Type 0 where
+  pub size : length cells ≡ 512
+  pub each : (k : ℕ) → k < 64 → SlotMeans e (slot_at slots k) (chunk_of k cells)
+
+-- ---- what the calls keep
+
+-- the bytes of any number, stored at a place
+unfoldable pub Stores : List Slot → ℕ → Size → List Slot → Type 0
+Stores old at size new = (e : Assigned) (cells : List Cell) (n : ℕ) → StackMeans e old cells
+    → StackMeans e new (written cells at (map Byte (bytes_of size n)))
+
+-- any value that the kind allows, stored into a slot
+unfoldable pub Spills : List Slot → ℕ → Kind → List Slot → Type 0
+Spills old k kind new = (e : Assigned) (cells : List Cell) (v : Value) → v ≢ Unset → Allows e kind v → StackMeans e old cells
+    → StackMeans e new (written cells (8 * k) (stored v))
+
+-- the number that a load answers is one of these
+unfoldable pub Loads : List Slot → ℕ → Size → Option Scalar → Type 0
+Loads slots at size answer = IfSome answer (λ numbers. (e : Assigned) (rows next : ℕ) (cells : List Cell)
+    → All (IsCell rows next) cells → StackMeans e slots cells
+    → (n : ℕ) × (number_in (part_of cells at (size_bytes size)) ≡ Ok n) × Has numbers n)
+
+-- the value that a load of a whole slot answers is one that the kind allows
+unfoldable pub Fills : List Slot → ℕ → Option Kind → Type 0
+Fills slots k answer = IfSome answer (λ kind. (e : Assigned) (rows next : ℕ) (cells : List Cell)
+    → All (IsCell rows next) cells → StackMeans e slots cells
+    → (v : Value) × (value_in (chunk_of k cells) ≡ Ok v) × Allows e kind v)
+
+-- the cells are number bytes, and a load of them answers their number
+unfoldable pub AreBytes : List Slot → ℕ → ℕ → Type 0
+AreBytes slots from n = (e : Assigned) (cells : List Cell) → StackMeans e slots cells
+    → (list_all is_byte (part_of cells from n) ≡ true)
+    × (number_in (part_of cells from n) ≡ Ok (number_of (part_of cells from n)))
+
+-- the live values of every other map stay live
+abbrev pub KeepsOthers : ℕ → List Content → List Content → Type 0
+KeepsOthers m before after = (j n : ℕ) → j ≢ m → IsLive before j n → IsLive after j n
+
+abbrev pub with_maps : Assigned → List Content → Assigned
+with_maps e maps = record e { maps = maps }
+
+-- whatever becomes of the values of the map
+unfoldable pub Forgets : ℕ → List Slot → List Slot → Type 0
+Forgets m old new = (e : Assigned) (maps : List Content) (cells : List Cell) → KeepsOthers m e.maps maps
+    → StackMeans e old cells → StackMeans (with_maps e maps) new cells
