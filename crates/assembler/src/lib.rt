@@ -17,8 +17,6 @@ mod parts;
 mod readings;
 mod refusals;
 mod statements;
-#[cfg(test)]
-mod tests;
 mod wrong;
 
 pub use assembly::assemble;

@@ -10,6 +10,3 @@ mod text;
 mod words;
 
 pub use text::disassemble;
-
-#[cfg(test)]
-mod tests;

@@ -9,6 +9,3 @@ mod writing;
 
 pub use reading::{Filled, fill};
 pub use writing::write_bytes;
-
-#[cfg(test)]
-mod tests;

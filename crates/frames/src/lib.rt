@@ -11,6 +11,3 @@ mod writer;
 
 pub use reader::{FrameReader, Next};
 pub use writer::write_frame;
-
-#[cfg(test)]
-mod tests;

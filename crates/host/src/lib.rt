@@ -17,6 +17,3 @@ pub use checked::run_checked;
 pub use errors::HostError;
 pub use tallies::Tally;
 pub use verified::run;
-
-#[cfg(test)]
-mod tests;

@@ -8,8 +8,6 @@ mod code;
 pub mod errors;
 mod head;
 pub mod images;
-#[cfg(test)]
-mod tests;
 
 pub use errors::ImageError;
 pub use head::{MAX_MAPS, MAX_SLOTS};

@@ -9,8 +9,6 @@ pub mod errors;
 mod fields;
 mod forms;
 mod slots;
-#[cfg(test)]
-mod tests;
 
 ghost use Rattle.std.specs.Prelude.{◌≡◌, ◌*◌, ◌++◌, ◌<◌, take, drop, ℕ, List, Ok, IfOk};
 ghost use Rattle.isa_model.specs.declared.instructions.Insn.{Insn};

@@ -7,8 +7,6 @@
 pub mod lexemes;
 mod numbers;
 mod signs;
-#[cfg(test)]
-mod tests;
 pub mod tokens;
 mod words;
 

@@ -1,6 +1,6 @@
 //! Spellings worked out by hand from the tables of RFC 9669, and the refusals.
 
-use crate::{CodecError, decode, encode};
+use insn_codec::{CodecError, decode, encode};
 use isa_model::AluOp::{
     Add, And, Arsh, Div, Lsh, Mod, Mov, Mul, Or, Rsh, SignedDiv, SignedMod, Sub, Xor,
 };

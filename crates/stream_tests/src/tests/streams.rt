@@ -1,61 +1,33 @@
-//! Streams run on machines that need no program, into writers that stumble at each place.
+//! Streams that small programs run on, into writers that stumble at each place.
 
 ghost use Rattle.std.specs.Prelude.{◌≤◌};
 
-use super::engine::run_frames;
-use super::runners::Runner;
-use super::{HostError, Tally, run, run_checked};
+use assembler::assemble;
 use explorer::verify;
+use host::{HostError, Tally, run, run_checked};
 use image::Image;
-use isa_model::{End, Fault, FrameHead, TrapReason};
+use isa_model::Fault;
 use std::alloc::Global;
 use std::io::ErrorKind;
 use std::test::Fail;
 use stumbling_io::{Reader, STUMBLES, Stumble, Writer};
 
-// Ends each run the same way, and leaves the frames as they are.
-#[derive(Clone, Copy)]
-struct EndsBy(End);
+// Passes each frame.
+const PASSES: &str = "r0 = 2; exit";
 
-impl Runner for EndsBy {
-    ghost use Rattle.std.specs.Prelude.{[]};
+// Turns the two bytes of a frame round, and passes it. It drops longer frames.
+const TURNS: &str = "
+    r2 = *(u32 *)(r1 + 0); r3 = *(u32 *)(r1 + 4)
+    r4 = r2; r4 += 3
+    if r4 <= r3 goto drop
+    r5 = *(u8 *)(r2 + 0); r6 = *(u8 *)(r2 + 1)
+    *(u8 *)(r2 + 0) = r6; *(u8 *)(r2 + 1) = r5
+    r0 = 2; exit
+    drop: r0 = 1; exit";
 
-    ghost rows = { λ _. [] };
-
-    ghost contents = { λ _. [] };
-
-    ghost rule = { λ s head body contents. record { ends = s.0; packet = body; contents = []; clock_calls = 0 } };
-
-    fn run(&mut self, _head: FrameHead, _body: &mut [u8]) -> End {
-        self.0
-    }
-}
-
-const PASSES: EndsBy = EndsBy(End::Exit(2, 2));
-
-// Turns the bytes of frames round. It passes the first frame, and drops those that come when it is marked.
-#[derive(Drop)]
-struct Marking {
-    is_marked: bool,
-}
-
-impl Runner for Marking {
-    ghost use Rattle.std.specs.Prelude.{[], ◌∷◌, ◌-◌, length, reverse, if◌then◌else◌};
-    ghost use Rattle.isa_model.specs.declared.ends.End.TheVariants.{Exit};
-
-    ghost rows = { λ _. [] };
-
-    ghost contents = { λ s. if s.is_marked then [] ∷ [] else [] };
-
-    ghost rule = { λ s head body contents.
-        record { ends = Exit (2 - length contents) 1; packet = reverse body; contents = [] ∷ []; clock_calls = 0 } };
-
-    fn run(&mut self, _head: FrameHead, body: &mut [u8]) -> End {
-        let value = if self.is_marked { 1 } else { 2 };
-        self.is_marked = true;
-        body.reverse();
-        End::Exit(value, 1)
-    }
+// The program that a text spells.
+fn program(alloc: Global, text: &str) -> Result<Image, Fail> {
+    Ok(assemble(alloc, text.as_bytes())?)
 }
 
 // A writer that takes at most 5 bytes at a call.
@@ -86,13 +58,14 @@ const ONE: [u8; 24] = [
 
 #[test]
 fn report_fails(rt: HostRuntime) -> Result<(), Fail> {
+    let alloc = rt.alloc();
     let lines = b"0 PASS 0 2\nend 1\n";
     for stumble in STUMBLES {
         for k in 0..17usize {
-            let mut report = make_writer(rt.alloc(), k, Some(stumble));
-            let mut out = make_writer(rt.alloc(), 0, None);
-            let mut machine = PASSES;
-            let result = run_frames(&mut machine, 100, ONE.as_slice(), &mut report, &mut out);
+            let mut report = make_writer(alloc, k, Some(stumble));
+            let mut out = make_writer(alloc, 0, None);
+            let passes = program(alloc, PASSES)?;
+            let result = run_checked(alloc, passes, 100, ONE.as_slice(), &mut report, &mut out);
             assert_eq!(rt; result, Err(HostError::Report), "after {k} bytes");
             assert_eq!(rt; report.taken.as_slice(), &lines[..k]);
             let sent = if k < 11 { &ONE[..4] } else { &ONE };
@@ -104,13 +77,14 @@ fn report_fails(rt: HostRuntime) -> Result<(), Fail> {
 
 #[test]
 fn frames_fail(rt: HostRuntime) -> Result<(), Fail> {
+    let alloc = rt.alloc();
     let line = b"0 PASS 0 2\n";
     for stumble in STUMBLES {
         for k in 0..24usize {
-            let mut report = make_writer(rt.alloc(), 0, None);
-            let mut out = make_writer(rt.alloc(), k, Some(stumble));
-            let mut machine = PASSES;
-            let result = run_frames(&mut machine, 100, ONE.as_slice(), &mut report, &mut out);
+            let mut report = make_writer(alloc, 0, None);
+            let mut out = make_writer(alloc, k, Some(stumble));
+            let passes = program(alloc, PASSES)?;
+            let result = run_checked(alloc, passes, 100, ONE.as_slice(), &mut report, &mut out);
             assert_eq!(rt; result, Err(HostError::Frames), "after {k} bytes");
             assert_eq!(rt; out.taken.as_slice(), &ONE[..k]);
             let told = if k < 4 { &line[..0] } else { line };
@@ -122,31 +96,38 @@ fn frames_fail(rt: HostRuntime) -> Result<(), Fail> {
 
 #[test]
 fn ends(rt: HostRuntime) -> Result<(), Fail> {
+    let alloc = rt.alloc();
     let cases = [
+        ("r1 = r0; exit", "0 TRAP unset 0 0\nend 1\n", false),
         (
-            End::Exit(0x7_0000_0002, 1_000_000),
+            "r1 = 0; again: r1 += 1; if r1 < 499998 goto again; r0 = 7; r0 = 0x700000002 ll; exit",
             "0 PASS 0 1000000\nend 1\n",
             true,
         ),
-        (End::Exit(3, 9), "0 TX 0 9\nend 1\n", true),
-        (End::Exit(0, 12), "0 ABORTED 0 12\nend 1\n", false),
-        (End::Exit(5, 3), "0 INVALID 0 3\nend 1\n", false),
         (
-            End::Trap(TrapReason::UnsetRead, 0),
-            "0 TRAP unset 0 0\nend 1\n",
-            false,
+            "r0 = 3; r0 = 3; r0 = 3; r0 = 3; r0 = 3; r0 = 3; r0 = 3; r0 = 3; exit",
+            "0 TX 0 9\nend 1\n",
+            true,
         ),
         (
-            End::Trap(TrapReason::ReadOnly, 10),
+            "r0 = 0; r1 = 1; r2 = 2; r3 = 3; r4 = 4; r5 = 5; r6 = 6; r7 = 7; r8 = 8; r9 = 9; r0 *= r9; exit",
+            "0 ABORTED 0 12\nend 1\n",
+            false,
+        ),
+        ("r0 = 2; r0 += 3; exit", "0 INVALID 0 3\nend 1\n", false),
+        (
+            "r0 = 0; r1 = 0; r2 = 0; r3 = 0; r4 = 0; r5 = 0; r6 = 0; r7 = 0; r8 = 0; r9 = 0; r10 = 0",
             "0 TRAP readonly 0 10\nend 1\n",
             false,
         ),
-        (End::Limit, "0 LIMIT 0 100\nend 1\n", false),
+        ("again: goto again", "0 LIMIT 0 1000000\nend 1\n", false),
     ];
-    for (end, lines, is_sent) in cases {
-        let mut report = make_writer(rt.alloc(), 0, None);
-        let mut out = make_writer(rt.alloc(), 0, None);
-        let result = run_frames(&mut EndsBy(end), 100, ONE.as_slice(), &mut report, &mut out);
+    for (text, lines, is_sent) in cases {
+        let mut report = make_writer(alloc, 0, None);
+        let mut out = make_writer(alloc, 0, None);
+        let image = program(alloc, text)?;
+        let frames = ONE.as_slice();
+        let result = run_checked(alloc, image, 1_000_000, frames, &mut report, &mut out);
         let tally = Tally {
             frames: 1,
             fault: None,
@@ -160,13 +141,14 @@ fn ends(rt: HostRuntime) -> Result<(), Fail> {
 }
 
 #[test]
-fn contents_are_carried(rt: HostRuntime) -> Result<(), Fail> {
+fn bodies_are_changed(rt: HostRuntime) -> Result<(), Fail> {
+    let alloc = rt.alloc();
     let record =
         *b"XPF1\x01\0\0\0\0\0\0\0\x02\0\0\0\x03\0\0\0\x02\0\0\0abcdefghijklmnopqr\x03\0\0\0uvw";
-    let mut report = make_writer(rt.alloc(), 0, None);
-    let mut out = make_writer(rt.alloc(), 0, None);
-    let mut machine = Marking { is_marked: false };
-    let result = run_frames(&mut machine, 100, &record[..], &mut report, &mut out);
+    let mut report = make_writer(alloc, 0, None);
+    let mut out = make_writer(alloc, 0, None);
+    let turns = program(alloc, TURNS)?;
+    let result = run_checked(alloc, turns, 100, &record[..], &mut report, &mut out);
     assert_eq!(rt;
         result,
         Ok(Tally {
@@ -176,7 +158,7 @@ fn contents_are_carried(rt: HostRuntime) -> Result<(), Fail> {
     );
     assert_eq!(rt;
         report.taken.as_slice(),
-        b"0 PASS 2 1\n1 DROP 3 1\nend 2\n".as_slice()
+        b"0 PASS 2 11\n1 DROP 3 7\nend 2\n".as_slice()
     );
     let sent = b"XPF1\x01\0\0\0\0\0\0\0\x02\0\0\0\x03\0\0\0\x02\0\0\0ba";
     assert_eq!(rt; out.taken.as_slice(), sent.as_slice());
@@ -185,6 +167,7 @@ fn contents_are_carried(rt: HostRuntime) -> Result<(), Fail> {
 
 #[test]
 fn faults(rt: HostRuntime) -> Result<(), Fail> {
+    let alloc = rt.alloc();
     for n in 0..45usize {
         let (frames, fault) = match n {
             0..4 => (0, Some((Fault::F1, 0))),
@@ -194,10 +177,10 @@ fn faults(rt: HostRuntime) -> Result<(), Fail> {
             25..44 => (1, Some((Fault::F2, 24))),
             _ => (2, None),
         };
-        let mut machine = PASSES;
-        let mut report = make_writer(rt.alloc(), 0, None);
-        let mut out = make_writer(rt.alloc(), 0, None);
-        let result = run_frames(&mut machine, 100, &TWO[..n], &mut report, &mut out);
+        let passes = program(alloc, PASSES)?;
+        let mut report = make_writer(alloc, 0, None);
+        let mut out = make_writer(alloc, 0, None);
+        let result = run_checked(alloc, passes, 100, &TWO[..n], &mut report, &mut out);
         assert_eq!(rt; result, Ok(Tally { frames, fault }), "{n} bytes");
         assert_eq!(rt; out.taken.as_slice(), &TWO[..4 + 20 * frames as usize]);
         let place = match n {
@@ -206,9 +189,11 @@ fn faults(rt: HostRuntime) -> Result<(), Fail> {
             24..44 => 24,
             _ => 44,
         };
-        let mut report = make_writer(rt.alloc(), 0, None);
-        let mut out = make_writer(rt.alloc(), 0, None);
-        let result = run_frames(&mut machine, 100, broken(&TWO[..n]), &mut report, &mut out);
+        let passes = program(alloc, PASSES)?;
+        let left = broken(&TWO[..n]);
+        let mut report = make_writer(alloc, 0, None);
+        let mut out = make_writer(alloc, 0, None);
+        let result = run_checked(alloc, passes, 100, left, &mut report, &mut out);
         let fault = Some((Fault::F5, place));
         assert_eq!(rt; result, Ok(Tally { frames, fault }), "{n} bytes");
     }
@@ -217,16 +202,18 @@ fn faults(rt: HostRuntime) -> Result<(), Fail> {
 
 #[test]
 fn last_lines(rt: HostRuntime) -> Result<(), Fail> {
-    let mut machine = PASSES;
-    let mut report = make_writer(rt.alloc(), 0, None);
-    let mut out = make_writer(rt.alloc(), 0, None);
-    run_frames(&mut machine, 100, &TWO[..29], &mut report, &mut out)?;
+    let alloc = rt.alloc();
+    let mut report = make_writer(alloc, 0, None);
+    let mut out = make_writer(alloc, 0, None);
+    let passes = program(alloc, PASSES)?;
+    run_checked(alloc, passes, 100, &TWO[..29], &mut report, &mut out)?;
     assert_eq!(rt;
         report.taken.as_slice(),
         b"0 PASS 0 2\nfault F2 at 24\n".as_slice()
     );
-    let mut report = make_writer(rt.alloc(), 0, None);
-    run_frames(&mut machine, 100, broken(&TWO), &mut report, &mut out)?;
+    let mut report = make_writer(alloc, 0, None);
+    let passes = program(alloc, PASSES)?;
+    run_checked(alloc, passes, 100, broken(&TWO), &mut report, &mut out)?;
     assert_eq!(rt;
         report.taken.as_slice(),
         b"0 PASS 0 2\n1 PASS 0 2\nfault F5 at 44\n".as_slice()

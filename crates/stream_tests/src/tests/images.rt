@@ -1,10 +1,8 @@
 //! Images worked out by hand, and their refusals. Where memory is wanting a test fails of itself, by `?`; any other
 //! answer that is not wanted fails an assertion.
 
-mod changes;
-
-use crate::ImageError::{Code, Long, Magic, Memory, Short, SlotCount, TooManyMaps};
-use crate::{Image, ImageError};
+use image::ImageError::{Code, Long, Magic, Memory, Short, SlotCount, TooManyMaps};
+use image::{Image, ImageError};
 use insn_codec::CodecError;
 use isa_model::Operand::Constant;
 use isa_model::{AluOp, Insn, Reg, Width};
@@ -13,7 +11,7 @@ use std::io::ErrorKind;
 use std::test::Fail;
 
 /// `r0 = 2; exit`: the magic, no maps, two slots.
-const TWO_SLOTS: [u8; 24] = *b"XBP1\0\0\x02\0\xb7\0\0\0\x02\0\0\0\x95\0\0\0\0\0\0\0";
+pub const TWO_SLOTS: [u8; 24] = *b"XBP1\0\0\x02\0\xb7\0\0\0\x02\0\0\0\x95\0\0\0\0\0\0\0";
 
 /// `r0 = 0x100000002 ll; exit`: three slots.
 const WIDE: [u8; 32] = *b"XBP1\0\0\x03\0\x18\0\0\0\x02\0\0\0\0\0\0\0\x01\0\0\0\x95\0\0\0\0\0\0\0";

@@ -1,6 +1,6 @@
 //! Streams that are cut, damaged or broken, from readers and to writers that stumble at each place.
 
-use super::{FrameReader, Next, write_frame};
+use frames::{FrameReader, Next, write_frame};
 use isa_model::{Fault, FrameHead};
 use std::io::{ErrorKind, Read};
 use std::test::Fail;

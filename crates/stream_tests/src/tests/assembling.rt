@@ -1,12 +1,12 @@
 //! Texts, the bytes of their images, and refusals with their places.
 
-use crate::AsmErrorKind::{DefinedTwice, NoForm, NotDefined, OutOfRange, SlotCount, UnknownByte};
-use crate::{AsmError, AsmErrorKind, assemble};
+use assembler::AsmErrorKind::{
+    DefinedTwice, NoForm, NotDefined, OutOfRange, SlotCount, UnknownByte,
+};
+use assembler::{AsmError, AsmErrorKind, assemble};
 use std::alloc::Global;
 use std::process::Abort;
 use std::test::Fail;
-
-mod forms;
 
 // The code of the text's image: the bytes behind the head and no map rows.
 fn code_of(alloc: Global, text: &str) -> Result<Vec<u8>, Fail> {
@@ -17,14 +17,14 @@ fn code_of(alloc: Global, text: &str) -> Result<Vec<u8>, Fail> {
 }
 
 // The text's code is these bytes.
-fn is_code(rt: &(impl Abort + AllocGlobal), text: &str, code: &[u8]) -> Result<(), Fail> {
+pub fn is_code(rt: &(impl Abort + AllocGlobal), text: &str, code: &[u8]) -> Result<(), Fail> {
     let bytes = code_of(rt.alloc(), text)?;
     assert_eq!(rt; bytes.get(8..), Some(code), "{text}");
     Ok(())
 }
 
 // Each text is one slot of these bytes.
-fn are_slots(rt: &(impl Abort + AllocGlobal), rows: &[(&str, [u8; 8])]) -> Result<(), Fail> {
+pub fn are_slots(rt: &(impl Abort + AllocGlobal), rows: &[(&str, [u8; 8])]) -> Result<(), Fail> {
     for (text, slot) in rows {
         is_code(rt, *text, slot.as_slice())?;
     }

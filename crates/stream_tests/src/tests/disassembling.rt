@@ -1,9 +1,7 @@
 //! A text that was worked out by hand from the forms, and outputs that fail.
 
-use super::disassemble;
-use super::lines::line_of_row;
+use disassembler::disassemble;
 use image::Image;
-use isa_model::{MapDef, MapKind};
 use std::alloc::Global;
 use std::io::ErrorKind;
 use std::test::Fail;
@@ -114,21 +112,4 @@ fn full_outputs(rt: HostRuntime) -> Result<(), Fail> {
         assert_eq!(rt; Some(&taken[..room]), text.get(..room), "{room} bytes");
     }
     Ok(())
-}
-
-/// No image has map rows yet.
-#[test]
-fn map_rows(rt: HostRuntime) {
-    for (kind, key_size, value_size, entries, text) in [
-        (MapKind::Hash, 64, 4096, 65536, "map hash 64 4096 65536\n"),
-        (MapKind::Array, 4, 16, 1, "map array 4 16 1\n"),
-    ] {
-        let row = MapDef {
-            kind,
-            key_size,
-            value_size,
-            entries,
-        };
-        assert_eq!(rt; line_of_row(&row).as_str(), text);
-    }
 }

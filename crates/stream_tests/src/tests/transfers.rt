@@ -1,6 +1,6 @@
 //! Reads and writes in pieces of each size, that stumble at each place.
 
-use super::{Filled, fill, write_bytes};
+use exact_io::{Filled, fill, write_bytes};
 use std::io::ErrorKind;
 use std::test::Fail;
 use stumbling_io::{Reader, STUMBLES, Stumble, Writer};

@@ -1,6 +1,6 @@
 //! One text of each form, and its slot: opcode, registers, offset and imm of the tables of the encoding.
 
-use super::{are_slots, is_code};
+use super::assembling::{are_slots, is_code};
 use std::test::Fail;
 
 #[test]

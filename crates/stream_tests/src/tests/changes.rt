@@ -1,8 +1,8 @@
 //! Every front of an image, and every change of one byte, by a rule of the format.
 
-use super::TWO_SLOTS;
-use crate::ImageError::{Code, Long, Magic, Short, SlotCount, TooManyMaps};
-use crate::{Image, ImageError};
+use super::images::TWO_SLOTS;
+use image::ImageError::{Code, Long, Magic, Short, SlotCount, TooManyMaps};
+use image::{Image, ImageError};
 use insn_codec::CodecError;
 use std::test::Fail;
 

@@ -1,6 +1,6 @@
 //! A lexeme of each kind, and the byte at which none begins.
 
-use crate::{Lexeme, Sign, Token, Word, lexeme_at};
+use lexer::{Lexeme, Sign, Token, Word, lexeme_at};
 use std::process::Abort;
 
 #[test]
