@@ -6,66 +6,66 @@ use Rattle.serving.specs.Statuses.{status_of, is_silent, is_unsaid}
 
 pub silent_words : (o : Outcome) → status_of o ≡ 1 → is_silent o ≡ true
 silent_words Done e = absurd (omega arith)
-silent_words WrongWords e = refl
+silent_words (WrongWords text) e = refl
 silent_words (NotBuilt name) e = refl
 silent_words Refused e = absurd (omega arith)
 silent_words Faulted e = absurd (omega arith)
-silent_words (CannotRead path) e = refl
-silent_words (CannotWrite path) e = absurd (omega arith)
+silent_words (CannotRead path kind) e = refl
+silent_words (CannotWrite path cause) e = absurd (omega arith)
 silent_words (CannotReplace path) e = refl
 silent_words NoMemory e = refl
 
 pub silent_memory : (o : Outcome) → status_of o ≡ 5 → is_silent o ≡ true
 silent_memory Done e = absurd (omega arith)
-silent_memory WrongWords e = refl
+silent_memory (WrongWords text) e = refl
 silent_memory (NotBuilt name) e = refl
 silent_memory Refused e = absurd (omega arith)
 silent_memory Faulted e = absurd (omega arith)
-silent_memory (CannotRead path) e = refl
-silent_memory (CannotWrite path) e = absurd (omega arith)
+silent_memory (CannotRead path kind) e = refl
+silent_memory (CannotWrite path cause) e = absurd (omega arith)
 silent_memory (CannotReplace path) e = refl
 silent_memory NoMemory e = refl
 
 pub status_fits : (o : Outcome) → status_of o ≤ 5
 status_fits Done = omega arith
-status_fits WrongWords = omega arith
+status_fits (WrongWords text) = omega arith
 status_fits (NotBuilt name) = omega arith
 status_fits Refused = omega arith
 status_fits Faulted = omega arith
-status_fits (CannotRead path) = omega arith
-status_fits (CannotWrite path) = omega arith
+status_fits (CannotRead path kind) = omega arith
+status_fits (CannotWrite path cause) = omega arith
 status_fits (CannotReplace path) = omega arith
 status_fits NoMemory = omega arith
 
 pub unsaid_done : (o : Outcome) → status_of o ≡ 0 → is_unsaid o ≡ true
 unsaid_done Done e = refl
-unsaid_done WrongWords e = absurd (omega arith)
+unsaid_done (WrongWords text) e = absurd (omega arith)
 unsaid_done (NotBuilt name) e = absurd (omega arith)
 unsaid_done Refused e = refl
 unsaid_done Faulted e = refl
-unsaid_done (CannotRead path) e = absurd (omega arith)
-unsaid_done (CannotWrite path) e = absurd (omega arith)
+unsaid_done (CannotRead path kind) e = absurd (omega arith)
+unsaid_done (CannotWrite path cause) e = absurd (omega arith)
 unsaid_done (CannotReplace path) e = absurd (omega arith)
 unsaid_done NoMemory e = absurd (omega arith)
 
 pub unsaid_refused : (o : Outcome) → status_of o ≡ 2 → is_unsaid o ≡ true
 unsaid_refused Done e = refl
-unsaid_refused WrongWords e = absurd (omega arith)
+unsaid_refused (WrongWords text) e = absurd (omega arith)
 unsaid_refused (NotBuilt name) e = absurd (omega arith)
 unsaid_refused Refused e = refl
 unsaid_refused Faulted e = refl
-unsaid_refused (CannotRead path) e = absurd (omega arith)
-unsaid_refused (CannotWrite path) e = absurd (omega arith)
+unsaid_refused (CannotRead path kind) e = absurd (omega arith)
+unsaid_refused (CannotWrite path cause) e = absurd (omega arith)
 unsaid_refused (CannotReplace path) e = absurd (omega arith)
 unsaid_refused NoMemory e = absurd (omega arith)
 
 pub unsaid_faulted : (o : Outcome) → status_of o ≡ 3 → is_unsaid o ≡ true
 unsaid_faulted Done e = refl
-unsaid_faulted WrongWords e = absurd (omega arith)
+unsaid_faulted (WrongWords text) e = absurd (omega arith)
 unsaid_faulted (NotBuilt name) e = absurd (omega arith)
 unsaid_faulted Refused e = refl
 unsaid_faulted Faulted e = refl
-unsaid_faulted (CannotRead path) e = absurd (omega arith)
-unsaid_faulted (CannotWrite path) e = absurd (omega arith)
+unsaid_faulted (CannotRead path kind) e = absurd (omega arith)
+unsaid_faulted (CannotWrite path cause) e = absurd (omega arith)
 unsaid_faulted (CannotReplace path) e = absurd (omega arith)
 unsaid_faulted NoMemory e = absurd (omega arith)

@@ -42,6 +42,6 @@ pub fn execute<R: Files + AllocGlobal, W1: Write, W2: Write>(
     let alloc = rt.alloc();
     match read_words(alloc, words) {
         Ok(task) => serve(rt, alloc, task, out).tell(err),
-        Err(error) => Outcome::from(error).tell(err),
+        Err(error) => Outcome::of_words(&error).tell(err),
     }
 }

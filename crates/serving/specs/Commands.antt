@@ -8,7 +8,7 @@ use Rattle.explorer.specs.Bounds.{Bounded, IsVerified}
 use Rattle.serving.specs.declared.outcomes.Outcome.{Outcome}
 use Rattle.serving.specs.declared.outcomes.Outcome.TheVariants as outcome
 use Rattle.serving.specs.Lines.{size_line}
-use Rattle.serving.specs.Statuses.{IsMakeFailure, IsNotBuilt, IsReadFailure}
+use Rattle.serving.specs.Statuses.{IsMakeFailure, IsNotBuilt, IsReadFailure, IsWrongWords}
 use Rattle.serving.specs.Saying.{Says}
 use Rattle.serving.specs.Judging.{RefusesImage, RefusesProgram, RefusesText, Stores, Verifies}
 use Rattle.serving.specs.Streams.{RunsAccepted, Traces}
@@ -91,7 +91,7 @@ AssemblesFile text image old new result =
 
 -- what is done where this is asked for
 abbrev pub Serves : Option Request → Option (List ℕ) → Option (List ℕ) → Outcome → Type 0
-Serves None old new result = (result ≡ outcome.WrongWords) × (new ≡ old)
+Serves None old new result = IsWrongWords result × (new ≡ old)
 Serves (Some (Trace files limit)) old new result = TracesFile files limit old new result
 Serves (Some (Run files)) old new result = RunsFile files old new result
 Serves (Some (Verify path)) old new result = VerifiesFile path old new result

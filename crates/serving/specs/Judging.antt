@@ -7,7 +7,7 @@ use Rattle.image.specs.declared.errors.ImageError.{ImageError}
 use Rattle.image.specs.Images.{image_bytes}
 use Rattle.image.specs.Refusals.{refusal_of}
 use Rattle.explorer.specs.declared.refusals.Refusal.{Refusal}
-use Rattle.explorer.specs.Bounds.{IsVerified}
+use Rattle.explorer.specs.Bounds.{Bounded, IsVerified}
 use Rattle.explorer.specs.Refused.{IsRefused}
 use Rattle.assembler.specs.declared.errors.AsmErrorKind.TheVariants as text
 use Rattle.assembler.specs.declared.errors.AsmError.{AsmError}
@@ -31,14 +31,16 @@ RefusesProgram p old new result =
     ⊎ ((refusal : Refusal) × (slot : ℕ) × IsRefused p refusal slot × (is_memory refusal ≡ false)
     × Says old new (verdict_line refusal slot) Refused result)
 
--- a program is accepted, and standard output says the bound; or memory ran out
-abbrev pub Accepts : Program → Option (List ℕ) → Option (List ℕ) → Outcome → Type 0
-Accepts p old new result =
-    LacksMemory old new result
-    ⊎ ((bound : ℕ) × IsVerified (record { program = p; bound = bound }) × Says old new (bound_line bound) Done result)
+-- standard output says the bound of an accepted program; or memory ran out
+abbrev pub Accepts : Bounded → Option (List ℕ) → Option (List ℕ) → Outcome → Type 0
+Accepts v old new result = LacksMemory old new result ⊎ Says old new (bound_line v.bound) Done result
+
+-- a program is accepted with a bound, and this is the bound that is said
+abbrev pub AcceptsSome : Program → Option (List ℕ) → Option (List ℕ) → Outcome → Type 0
+AcceptsSome p old new result = (v : Bounded) × IsVerified v × (v.program ≡ p) × Accepts v old new result
 
 abbrev pub Verifies : Program → Option (List ℕ) → Option (List ℕ) → Outcome → Type 0
-Verifies p old new result = Accepts p old new result ⊎ RefusesProgram p old new result
+Verifies p old new result = AcceptsSome p old new result ⊎ RefusesProgram p old new result
 
 -- a text spells no program, and standard output says why and where; or memory ran out
 abbrev pub RefusesText : List ℕ → Option (List ℕ) → Option (List ℕ) → Outcome → Type 0

@@ -1,3 +1,4 @@
+pub mod Causes
 pub mod Statuses
 pub mod Lines
 pub mod Saying

@@ -7,37 +7,20 @@ ghost use Rattle.tasks.specs.Requests.{files_of};
 ghost use Rattle.serving.specs.Commands.{LoadsNone, TracesFile, RunsFile, VerifiesFile, DisassemblesFile, AssemblesFile};
 
 use super::outcomes::Outcome;
+use super::reading::{read_file, read_start};
+use super::same::is_same_file;
 use super::streams::{run_stream, store_image, trace_stream};
 use super::verdicts::{assembled, image_of, judge, say_text, say_verdict, size_line};
 use image::Image;
 use std::alloc::Global;
-use std::io::{Read, Write};
-use std::os::unix::fs::MetadataExt;
+use std::fs;
+use std::io::Write;
 use std::rt::Files;
-use std::{fs, io};
 use tasks::{Assembly, Paths, StepLimit};
 
 // One byte more than the longest image has: its head, 16 rows of maps and 4,096 slots. Of a longer file the rest
 // changes nothing.
 const PAST_ANY_IMAGE: u64 = 8 + 16 * 12 + 4096 * 8 + 1;
-
-// The first bytes of a file, at most so many.
-fn read_file<R: Files>(rt: &R, alloc: Global, path: &str, most: u64) -> io::Result<Vec<u8>> {
-    let mut file = fs::open(rt, path)?.take(most);
-    let mut bytes = Vec::new(alloc);
-    file.read_to_end(&mut bytes)?;
-    Ok(bytes)
-}
-
-// Whether two paths lead to one file on a disk.
-fn is_same_file<R: Files>(rt: &R, one: &str, other: &str) -> bool {
-    match (fs::metadata(rt, one), fs::metadata(rt, other)) {
-        (Ok(one), Ok(other)) => {
-            one.is_file() && one.ino() != 0 && one.ino() == other.ino() && one.dev() == other.dev()
-        }
-        _ => false,
-    }
-}
 
 // Makes a file to write to, unless it is one of those that are read.
 fn create_file<'a, R: Files>(rt: &R, path: &'a str, read: &[&str]) -> Result<R::File, Outcome<'a>>
@@ -65,7 +48,7 @@ fn load_image<'a, R: Files, W: Write>(
     ensures fits { IfOk result IsImage }
     ensures none { IfErr result (λ ended. LoadsNone path.now (W.contents out.old) (W.contents out.new) ended) }
 {
-    let bytes = match read_file(rt, alloc, path, PAST_ANY_IMAGE) {
+    let bytes = match read_start(rt, alloc, path, PAST_ANY_IMAGE) {
         Ok(bytes) => bytes,
         Err(error) => return Err(Outcome::of_read(path, &error)),
     };
@@ -173,7 +156,7 @@ pub fn assemble_file<'a, R: Files, W: Write>(
 ) -> Outcome<'a>
     ensures { AssemblesFile paths.entry.text.now paths.entry.image.now (W.contents out.old) (W.contents out.new) result }
 {
-    let text = match read_file(rt, alloc, paths.text, u64::MAX) {
+    let text = match read_file(rt, alloc, paths.text) {
         Ok(text) => text,
         Err(error) => return Outcome::of_read(paths.text, &error),
     };

@@ -1,10 +1,13 @@
 //! What each command does with bytes, readers, writers and files, and how it ends.
 #![tactic(auto)]
 
+mod causes;
 mod files;
 mod names;
 mod outcomes;
+mod reading;
 mod requests;
+mod same;
 mod streams;
 mod verdicts;
 

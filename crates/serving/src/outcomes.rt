@@ -4,9 +4,11 @@ ghost use Rattle.std.specs.Prelude.{◌≡◌, ◌≢◌, ◌++◌, true, OnOk, 
 ghost use Rattle.std.specs.Io.KnownBytes.{Appends};
 ghost use Rattle.std.specs.IoError.{error_kind};
 ghost use Rattle.exact_io.specs.Transfers.{AppendsBeginning};
-ghost use Rattle.serving.specs.Statuses.{status_of, is_unsaid, message_of};
+ghost use Rattle.serving.specs.Statuses.{status_of, is_unsaid, message_of, IsWordsEnd, IsReadFailure, IsMakeFailure};
 ghost use Rattle.serving.specs.Saying.{AppendsPart};
+ghost use Rattle.serving.specs.Judging.{IsStoreFailure};
 
+use super::causes::{cause_line, line_after};
 use exact_io::write_bytes;
 use std::io;
 use std::io::{ErrorKind, Write};
@@ -21,54 +23,58 @@ const USAGE: &str = "usage: xdpvm asm|dis|verify|run|trace|prove|recheck\n";
 #[derive(Clone, Copy)]
 pub enum Outcome<'a> {
     Done,
-    /// The words ask for nothing.
-    WrongWords,
+    /// The words ask for nothing. The text says why, or is the help.
+    WrongWords(&'a str),
     /// The words ask for a command that this build does not have.
     NotBuilt(&'static str),
     /// The image, the text or the program was refused, which standard output says.
     Refused,
     /// The report ended in a fault.
     Faulted,
-    CannotRead(&'a str),
-    CannotWrite(&'a str),
+    /// The file at the path cannot be read.
+    CannotRead(&'a str, ErrorKind),
+    /// The file or output of this name cannot be written. Where a run failed the cause is not known.
+    CannotWrite(&'a str, Option<ErrorKind>),
     /// The file that was to be written is one of those that are read. It was left as it is.
     CannotReplace(&'a str),
     NoMemory,
 }
 
-impl From<WordsError> for Outcome<'_> {
-    ghost use Rattle.serving.specs.Statuses.{IsWordsEnd};
-
-    ghost from_gives = { IsWordsEnd };
-
-    fn from(error: WordsError) -> Self {
+impl<'a> Outcome<'a> {
+    /// The words ask for nothing, or memory ran out before that was known.
+    pub fn of_words(error: &'a WordsError) -> Self
+        ensures { IsWordsEnd error.now result }
+    {
         match error {
-            WordsError::Wrong => Outcome::WrongWords,
+            WordsError::Wrong(text) => Outcome::WrongWords(text.as_str()),
             WordsError::Memory => Outcome::NoMemory,
         }
     }
-}
 
-impl<'a> Outcome<'a> {
     /// A read of the file failed.
     pub fn of_read(path: &'a str, error: &io::Error) -> Self
         ensures memory { error_kind error.now ≡ ErrorKind.OutOfMemory → result ≡ Outcome.NoMemory }
-        ensures file { error_kind error.now ≢ ErrorKind.OutOfMemory → result ≡ Outcome.CannotRead path.entry }
+        ensures file { error_kind error.now ≢ ErrorKind.OutOfMemory
+            → result ≡ Outcome.CannotRead path.entry (error_kind error.now) }
+        ensures failed { IsReadFailure path.now result }
     {
         match error.kind() {
             ErrorKind::OutOfMemory => Outcome::NoMemory,
-            _ => Outcome::CannotRead(path),
+            kind => Outcome::CannotRead(path, kind),
         }
     }
 
     /// A write to the file failed, or it could not be made.
     pub fn of_write(path: &'a str, error: &io::Error) -> Self
         ensures memory { error_kind error.now ≡ ErrorKind.OutOfMemory → result ≡ Outcome.NoMemory }
-        ensures file { error_kind error.now ≢ ErrorKind.OutOfMemory → result ≡ Outcome.CannotWrite path.entry }
+        ensures file { error_kind error.now ≢ ErrorKind.OutOfMemory
+            → result ≡ Outcome.CannotWrite path.entry (Some (error_kind error.now)) }
+        ensures unmade { IsMakeFailure path.now result }
+        ensures unstored { IsStoreFailure path.now result }
     {
         match error.kind() {
             ErrorKind::OutOfMemory => Outcome::NoMemory,
-            _ => Outcome::CannotWrite(path),
+            kind => Outcome::CannotWrite(path, Some(kind)),
         }
     }
 
@@ -78,10 +84,10 @@ impl<'a> Outcome<'a> {
     {
         match self {
             Outcome::Done => 0,
-            Outcome::WrongWords | Outcome::NotBuilt(_) => 1,
+            Outcome::WrongWords(_) | Outcome::NotBuilt(_) => 1,
             Outcome::Refused => 2,
             Outcome::Faulted => 3,
-            Outcome::CannotRead(_) | Outcome::CannotWrite(_) | Outcome::CannotReplace(_) => 4,
+            Outcome::CannotRead(_, _) | Outcome::CannotWrite(_, _) | Outcome::CannotReplace(_) => 4,
             Outcome::NoMemory => 5,
         }
     }
@@ -95,13 +101,20 @@ impl<'a> Outcome<'a> {
     {
         match self {
             Outcome::Done | Outcome::Refused | Outcome::Faulted => Ok(()),
-            Outcome::WrongWords => write_bytes(err, USAGE.as_bytes()),
+            Outcome::WrongWords(text) => {
+                write_bytes(err, text.as_bytes())?;
+                write_bytes(err, USAGE.as_bytes())
+            }
             Outcome::NotBuilt(name) => {
                 write_bytes(err, USAGE.as_bytes())?;
                 write_texts(err, "this build has no command ", name, "\n")
             }
-            Outcome::CannotRead(path) => write_texts(err, "cannot read ", path, "\n"),
-            Outcome::CannotWrite(path) => write_texts(err, "cannot write ", path, "\n"),
+            Outcome::CannotRead(path, kind) => {
+                write_texts(err, "cannot read ", path, cause_line(kind))
+            }
+            Outcome::CannotWrite(path, cause) => {
+                write_texts(err, "cannot write ", path, line_after(cause))
+            }
             Outcome::CannotReplace(path) => {
                 let why = "\nit is one of the files that are read\n";
                 write_texts(err, "cannot write ", path, why)

@@ -22,8 +22,8 @@ fn outcome_of<'a>(path: &'a str, ended: Result<Tally, HostError>) -> Outcome<'a>
             Some(_) => Outcome::Faulted,
         },
         Err(HostError::Memory) => Outcome::NoMemory,
-        Err(HostError::Report) => Outcome::CannotWrite(STANDARD_OUTPUT),
-        Err(HostError::Frames) => Outcome::CannotWrite(path),
+        Err(HostError::Report) => Outcome::CannotWrite(STANDARD_OUTPUT, None),
+        Err(HostError::Frames) => Outcome::CannotWrite(path, None),
     }
 }
 

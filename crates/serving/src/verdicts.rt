@@ -31,7 +31,7 @@ pub fn say_line<'a, W: Write>(line: &str, ended: Outcome<'a>, out: &mut W) -> Ou
 {
     match write_bytes(out, line.as_bytes()) {
         Ok(()) => ended,
-        Err(_) => Outcome::CannotWrite(STANDARD_OUTPUT),
+        Err(error) => Outcome::CannotWrite(STANDARD_OUTPUT, Some(error.kind())),
     }
 }
 
@@ -94,7 +94,7 @@ pub fn judge<'a, W: Write>(
 
 /// Says the most steps of a run.
 pub fn accepted<'a, W: Write>(alloc: Global, verified: &Verified, out: &mut W) -> Outcome<'a>
-    ensures { Accepts verified.now.program (W.contents out.old) (W.contents out.new) result }
+    ensures { Accepts verified.now (W.contents out.old) (W.contents out.new) result }
 {
     let bound = verified.bound();
     say_made(format!(in alloc; "ok bound {bound}\n"), Outcome::Done, out)
@@ -116,7 +116,7 @@ pub fn say_text<'a, W: Write>(image: &Image, out: &mut W) -> Outcome<'a>
 {
     match disassemble(image, out) {
         Ok(()) => Outcome::Done,
-        Err(_) => Outcome::CannotWrite(STANDARD_OUTPUT),
+        Err(error) => Outcome::CannotWrite(STANDARD_OUTPUT, Some(error.kind())),
     }
 }
 

@@ -46,10 +46,11 @@ pub struct Assembly<'a> {
 }
 
 /// Why the words ask for nothing.
-#[derive(Clone, Copy)]
+#[derive(Drop)]
 pub enum WordsError {
-    /// They are words of no command, or no text, or they ask for help or the version.
-    Wrong,
+    /// They are words of no command, or no text, or they ask for help or the version. The text says what is wrong with
+    /// them, or is the help: some lines, or none.
+    Wrong(String),
     Memory,
 }
 

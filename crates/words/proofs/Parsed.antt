@@ -1,7 +1,6 @@
 -- What a parse of the command line says of what the words ask for.
 use Rattle.std.proofs.Common.{◌≡◌, ◌∙◌, ℕ, true, List, [], ◌∷◌, Option, Some, None, refl, ap, ap₂, sym, subst, inl, inr}
 use Rattle.std.specs.Prelude.{option_map, Result, Err}
-use Rattle.std.specs.Option.{ok_or}
 use Rattle.clap.specs.Faults.{fault_of, is_simple_and_free}
 use Rattle.clap.specs.Simple.{is_simple, subcommand_of}
 use Rattle.clap.specs.Kinds.{HasKind, IsAmong, Kinds}
@@ -14,8 +13,8 @@ use Rattle.tasks.specs.declared.Task.{Task}
 use Rattle.tasks.specs.declared.WordsError.{WordsError}
 use Rattle.tasks.specs.declared.WordsError.TheVariants.{Wrong, Memory}
 use Rattle.words.specs.CommandLine.{program, asm, dis, verify, run, trace, prove, recheck}
-use Rattle.tasks.specs.Requests.{Request, request_of}
-use Rattle.words.specs.Asked.{Reads, asked, request_by, request_met, unless_faulty}
+use Rattle.tasks.specs.Requests.{Request}
+use Rattle.words.specs.Asked.{Reads, TellsOf, asked, request_by, request_met, unless_faulty}
 
 -- the command line is one of which clap says what a parse finds, and how it fails
 is_simple-program : is_simple program ≡ true
@@ -35,9 +34,9 @@ pub failed-reads : (a : App) (words : List (List ℕ)) (e : Error) (w : WordsErr
     → (is_simple_and_free a ≡ true → HasKind (fault_of a words) e) → (kind_of e ≡ kind.OutOfMemory → w ≡ Memory) → Reads words (Err w)
 unfolding asked
 failed-reads a words e Memory is h memory = tt
-failed-reads a words e Wrong is h memory =
+failed-reads a words e (Wrong text) is h memory =
     elim (h (ap is_simple_and_free is ∙ is_simple_and_free-program)) [
-      | inl out ↦ let same : Wrong ≡ Memory = memory out in cc
+      | inl out ↦ let same : Wrong text ≡ Memory = memory out in cc
       | inr among ↦ unless_faulty-among (kind_of e) (fault_of program words) _ (subst (λ (x : App). IsAmong (kind_of e) (fault_of x words)) is among)
     ]
 
@@ -66,18 +65,14 @@ met-none : (o : Option (List ℕ × List Row)) → None ≡ option_map (λ p. p.
 met-none None e = refl
 met-none (Some p) e = cc
 
-reads-task : (words : List (List ℕ)) (o : Option Request) (t : Option Task) (r : Result Task WordsError) → asked words ≡ o → option_map request_of t ≡ o
-    → r ≡ ok_or t Wrong → Reads words r
-reads-task words o (Some x) r e f is = rw is (e ∙ sym f)
-reads-task words o None r e f is = rw is (e ∙ sym f)
-
 -- and met a command
-pub parsed-reads : (a : App) (words : List (List ℕ)) (m : ArgMatches) (name : List ℕ) (rows : List Row) (t : Option Task) (r : Result Task WordsError) → a ≡ program
+pub parsed-reads : (a : App) (words : List (List ℕ)) (m : ArgMatches) (name : List ℕ) (rows : List Row) (r : Result Task WordsError) → a ≡ program
     → (is_simple_and_free a ≡ true → fault_of a words ≡ []) → HasMatchesOf a words m → Some name ≡ subcommand_name_of m → Some rows ≡ option_map (λ p. p.1) (subcommand_rows_of m)
-    → option_map request_of t ≡ request_by name rows → r ≡ ok_or t Wrong → Reads words r
-parsed-reads a words m name rows t r is h found e f task made =
+    → TellsOf (request_by name rows) r → Reads words r
+parsed-reads a words m name rows r is h found e f tells =
     let met : subcommand_rows_of m ≡ Some (name, rows) = met-some (subcommand_rows_of m) name rows (e ∙ name-met m) f in
-    reads-task words (request_by name rows) t r (asked-parsed a words m is h found ∙ ap request_met met) task made
+    let same : request_by name rows ≡ asked words = sym (asked-parsed a words m is h found ∙ ap request_met met) in
+    subst (λ (o : Option Request). TellsOf o r) same tells
 
 -- and met none
 pub parsed-none : (a : App) (words : List (List ℕ)) (m : ArgMatches) → a ≡ program

@@ -72,8 +72,17 @@ asked words = unless_faulty (fault_of program words) (request_met (subcommand_of
 
 -- ---- what was read of them
 
+-- the words are told to be wrong
+abbrev pub IsWrong : WordsError → Type 0
+IsWrong (Wrong text) = Unit {0}
+IsWrong Memory = ⊥
+
+-- the task of what is asked for, or that it is nothing; or memory ran out
+abbrev pub TellsOf : Option Request → Result Task WordsError → Type 0
+TellsOf request (Ok task) = request ≡ Some (request_of task)
+TellsOf request (Err (Wrong text)) = request ≡ None
+TellsOf request (Err Memory) = Unit {0}
+
 -- what was read of words: what they ask for, or that it is nothing; or memory ran out
 abbrev pub Reads : List (List ℕ) → Result Task WordsError → Type 0
-Reads words (Ok task) = asked words ≡ Some (request_of task)
-Reads words (Err Wrong) = asked words ≡ None
-Reads words (Err Memory) = Unit {0}
+Reads words result = TellsOf (asked words) result

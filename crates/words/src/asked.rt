@@ -6,17 +6,18 @@ ghost use Rattle.std.specs.Char.{is_ascii_digit};
 ghost use Rattle.std.specs.String.{string_bytes};
 ghost use Rattle.clap.specs.Words.{first_of, found_of, kind_of, rows_of};
 ghost use Rattle.tasks.specs.Requests.{files_of, request_of};
-ghost use Rattle.words.specs.Asked.{Reads, assembly_of, files_in, limit_in, limit_of, request_by, trace_of};
+ghost use Rattle.words.specs.Asked.{Reads, TellsOf, assembly_of, files_in, limit_in, limit_of, request_by, trace_of};
 
 use super::command_line::program;
 use clap::ArgMatches;
 use clap::error::ErrorKind;
 use std::alloc::Global;
-use std::env::Env;
-use std::io;
 use tasks::{Assembly, Paths, StepLimit, Task, WordsError};
 
 const MAX_STEPS: u32 = 1_000_000;
+
+// What is wrong with the words, where clap takes them and a command does not.
+const NO_LIMIT: &str = "error: the value of --limit is no number from 1 to 1000000\n";
 
 fn has_digits_alone(text: &[u8]) -> bool
     ensures { result ≡ list_all is_ascii_digit text.now }
@@ -95,24 +96,30 @@ fn task_of<'a>(name: &str, matches: &ArgMatches<'a>) -> Option<Task<'a>>
     }
 }
 
-/// The words that the program was given. The first one is its name.
-pub fn given_words<R: Env + AllocGlobal>(rt: &R) -> Result<Vec<String>, WordsError> {
-    match std::env::args(rt) {
-        Ok(words) => Ok(words.collect(rt.alloc())?),
-        Err(error) => Err(match error.kind() {
-            io::ErrorKind::OutOfMemory => WordsError::Memory,
-            _ => WordsError::Wrong,
-        }),
+// The task, where the command of this name is asked for with arguments that it takes.
+fn wanted_task<'a>(
+    alloc: Global,
+    name: &str,
+    matches: &ArgMatches<'a>,
+) -> Result<Task<'a>, WordsError>
+    ensures { TellsOf (request_by name.now (rows_of (found_of matches.now))) result }
+{
+    match task_of(name, matches) {
+        Some(task) => Ok(task),
+        None => Err(WordsError::Wrong(String::from_str(alloc, NO_LIMIT)?)),
     }
 }
 
-// Why a command line was refused.
-fn refusal_of(error: &clap::Error) -> WordsError
+// Why a command line was refused, as clap says it.
+fn refusal_of(alloc: Global, error: &clap::Error) -> WordsError
     ensures { kind_of error.now ≡ ErrorKind.OutOfMemory → result ≡ WordsError.Memory }
 {
     match error.kind() {
         ErrorKind::OutOfMemory => WordsError::Memory,
-        _ => WordsError::Wrong,
+        _ => match format!(in alloc; "{error}") {
+            Ok(text) => WordsError::Wrong(text),
+            Err(_) => WordsError::Memory,
+        },
     }
 }
 
@@ -122,10 +129,10 @@ pub fn read_words<'a>(alloc: Global, words: &'a [String]) -> Result<Task<'a>, Wo
 {
     let matches = match program(alloc)?.try_get_matches_from(words) {
         Ok(matches) => matches,
-        Err(error) => return Err(refusal_of(&error)),
+        Err(error) => return Err(refusal_of(alloc, &error)),
     };
     match matches.subcommand() {
-        Some((name, given)) => task_of(name, given).ok_or(WordsError::Wrong),
-        None => Err(WordsError::Wrong),
+        Some((name, given)) => wanted_task(alloc, name, given),
+        None => Err(WordsError::Wrong(String::new(alloc))),
     }
 }

@@ -3,5 +3,7 @@
 
 mod asked;
 mod command_line;
+mod given;
 
-pub use asked::{given_words, read_words};
+pub use asked::read_words;
+pub use given::given_words;

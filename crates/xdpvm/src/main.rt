@@ -13,7 +13,7 @@ fn main(rt: HostRuntime) -> ExitCode {
     let mut err = rt.stderr();
     ExitCode::from(match given_words(&rt) {
         Ok(words) => execute(&rt, words.as_slice(), &mut out, &mut err),
-        Err(error) => Outcome::from(error).tell(&mut err),
+        Err(error) => Outcome::of_words(&error).tell(&mut err),
     })
 }
 

@@ -89,64 +89,106 @@ fn write_files<R: Files + AllocGlobal>(rt: &R) -> Result<(), Fail> {
     Ok(())
 }
 
+// The command asks for nothing: standard error gets a text that begins so, and then the usage line.
+fn is_wrong<R: Files + AllocGlobal + Abort>(
+    rt: &R,
+    texts: &[&str],
+    front: &str,
+) -> Result<(), Fail> {
+    let words = words_of(rt.alloc(), texts)?;
+    let mut out = Vec::new(rt.alloc());
+    let mut err = Vec::new(rt.alloc());
+    assert_eq!(rt;
+        execute(rt, words.as_slice(), &mut out, &mut err),
+        1,
+        "{texts:?}"
+    );
+    assert_eq!(rt; out.len(), 0, "{texts:?}");
+    let said = err.as_slice();
+    assert!(rt; said.starts_with(front.as_bytes()), "{texts:?}");
+    assert!(rt; said.ends_with(USAGE.as_bytes()), "{texts:?}");
+    Ok(())
+}
+
 #[test]
-fn statuses_of_words(rt: HostRuntime) -> Result<(), Fail> {
+fn wrong_words(rt: HostRuntime) -> Result<(), Fail> {
     write_files(&rt)?;
-    let passed = "0 PASS 0 2\nend 1\n";
-    let rows: [(&[&str], u8, &str); 18] = [
-        (&[], 1, ""),
-        (&["--help"], 1, ""),
-        (&["--version"], 1, ""),
-        (&["help"], 1, ""),
-        (&["walk", "image"], 1, ""),
-        (&["trace", "image", "frames"], 1, ""),
-        (&["trace", "image", "frames", "sent", "more"], 1, ""),
-        (&["run", "image", "frames", "sent", "--limit", "5"], 1, ""),
-        (&["trace", "image", "frames", "sent", "--limit", "0"], 1, ""),
+    let no_limit = "error: the value of --limit is no number from 1 to 1000000\nusage: ";
+    let rows: [(&[&str], &str); 13] = [
+        (&[], "error: 'xdpvm' requires a subcommand"),
+        (&["--help"], "Usage: xdpvm <COMMAND>\n"),
+        (&["help"], "Usage: xdpvm <COMMAND>\n"),
         (
-            &["trace", "image", "frames", "sent", "--limit", "1000001"],
-            1,
-            "",
+            &["--version"],
+            "error: unexpected argument '--version' found\n",
         ),
         (
-            &["trace", "image", "frames", "sent", "--limit", "+5"],
-            1,
-            "",
+            &["walk", "image"],
+            "error: unrecognized subcommand 'walk'\n",
         ),
-        (&["trace", "image", "frames", "sent", "--limit", ""], 1, ""),
+        (
+            &["trace", "image", "frames"],
+            "error: the following required arguments were not provided:\n",
+        ),
+        (
+            &["trace", "image", "frames", "sent", "more"],
+            "error: unexpected argument 'more' found\n",
+        ),
+        (
+            &["run", "image", "frames", "sent", "--limit", "5"],
+            "error: unexpected argument '--limit' found\n",
+        ),
         (
             &[
                 "trace", "image", "frames", "sent", "--limit", "5", "--limit", "5",
             ],
-            1,
-            "",
+            "error: the argument '--limit <limit>' cannot be used multiple times\n",
         ),
-        (&["trace", "image", "frames", "sent"], 0, passed),
-        (&["run", "image", "frames", "sent"], 0, passed),
+        (
+            &["trace", "image", "frames", "sent", "--limit", "0"],
+            no_limit,
+        ),
+        (
+            &["trace", "image", "frames", "sent", "--limit", "1000001"],
+            no_limit,
+        ),
+        (
+            &["trace", "image", "frames", "sent", "--limit", "+5"],
+            no_limit,
+        ),
+        (
+            &["trace", "image", "frames", "sent", "--limit", ""],
+            no_limit,
+        ),
+    ];
+    for (texts, front) in rows {
+        is_wrong(&rt, texts, front)?;
+    }
+    remove_files(&rt)
+}
+
+#[test]
+fn right_words(rt: HostRuntime) -> Result<(), Fail> {
+    write_files(&rt)?;
+    let passed = "0 PASS 0 2\nend 1\n";
+    let rows: [(&[&str], &str); 5] = [
+        (&["trace", "image", "frames", "sent"], passed),
+        (&["run", "image", "frames", "sent"], passed),
         (
             &["trace", "--limit", "002", "image", "frames", "sent"],
-            0,
             passed,
         ),
         (
             &["trace", "image", "--limit", "1", "frames", "sent"],
-            0,
             "0 LIMIT 0 1\nend 1\n",
         ),
         (
             &["trace", "image", "frames", "sent", "--limit", "1000000"],
-            0,
             passed,
         ),
     ];
-    for (texts, status, report) in rows {
-        answers(
-            &rt,
-            texts,
-            status,
-            report,
-            if status == 1 { USAGE } else { "" },
-        )?;
+    for (texts, report) in rows {
+        answers(&rt, texts, 0, report, "")?;
     }
     let sent = fs::read(&rt, "sent")?;
     let frames = fs::read(&rt, "frames")?;

@@ -13,8 +13,8 @@ returns-in-Ok-clause-executes g c = (
 
 pub returns-in-Err-clause-executes : goal.returns-in-Err-clause-executes
 returns-in-Err-clause-executes g c = (
-  c.from.result,
+  c.of_words.result,
   c.tell-in-Err.ensures.status,
-  unasked _ c.in-Err.error _ _ _ _ c.in-Err.ensures c.from.ensures refl refl,
+  unasked _ c.in-Err.error _ _ _ _ c.in-Err.ensures c.of_words.ensures refl refl,
   c.tell-in-Err.ensures.said,
 )

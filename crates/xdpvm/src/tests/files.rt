@@ -9,37 +9,42 @@ fn files_that_fail(rt: HostRuntime) -> Result<(), Fail> {
     write_files(&rt)?;
     fs::create_dir(&rt, "folder")?;
     let rows: [(&[&str], u8, &str, &str); 10] = [
-        (&["dis", "lost"], 4, "", "cannot read lost\n"),
+        (
+            &["dis", "lost"],
+            4,
+            "",
+            "cannot read lost\nno such file or folder\n",
+        ),
         (&["dis", "short"], 2, "refused I2\n", ""),
         (
             &["trace", "lost", "frames", "sent"],
             4,
             "",
-            "cannot read lost\n",
+            "cannot read lost\nno such file or folder\n",
         ),
         (
             &["trace", "image", "lost", "sent"],
             4,
             "",
-            "cannot read lost\n",
+            "cannot read lost\nno such file or folder\n",
         ),
         (
             &["trace", "image", "lost", "lost/sent"],
             4,
             "",
-            "cannot read lost\n",
+            "cannot read lost\nno such file or folder\n",
         ),
         (
             &["trace", "image", "frames", "lost/sent"],
             4,
             "",
-            "cannot write lost/sent\n",
+            "cannot write lost/sent\nno such file or folder\n",
         ),
         (
             &["trace", "folder", "frames", "sent"],
             4,
             "",
-            "cannot read folder\n",
+            "cannot read folder\nit is a folder\n",
         ),
         (
             &["trace", "image", "folder", "sent"],
@@ -67,13 +72,15 @@ fn files_that_fail(rt: HostRuntime) -> Result<(), Fail> {
 fn files_that_are_read_too(rt: HostRuntime) -> Result<(), Fail> {
     write_files(&rt)?;
     fs::write(&rt, "text", b"exit")?;
-    let rows: [(&[&str], &str); 6] = [
+    fs::write(&rt, "cut", b"")?;
+    let rows: [(&[&str], &str); 7] = [
         (&["trace", "image", "frames", "frames"], "frames"),
         (&["run", "image", "frames", "frames"], "frames"),
         (&["run", "image", "frames", "./frames"], "./frames"),
         (&["trace", "image", "frames", "image"], "image"),
         (&["run", "image", "frames", "image"], "image"),
         (&["asm", "text", "text"], "text"),
+        (&["run", "image", "cut", "cut"], "cut"),
     ];
     for (texts, path) in rows {
         let said = format!(in rt.alloc();

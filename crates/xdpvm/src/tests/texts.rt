@@ -23,7 +23,7 @@ fn texts(rt: HostRuntime) -> Result<(), Fail> {
         assert_eq!(rt; Some(out.taken.as_slice()), text.get(..room));
         assert_eq!(rt;
             err.as_slice(),
-            b"cannot write standard output\n".as_slice()
+            b"cannot write standard output\nits reader has closed it\n".as_slice()
         );
     }
     remove_files(&rt)
@@ -60,14 +60,14 @@ fn files_of_an_assembly_that_fail(rt: HostRuntime) -> Result<(), Fail> {
         &["asm", "right", "none/made"],
         4,
         "",
-        "cannot write none/made\n",
+        "cannot write none/made\nno such file or folder\n",
     )?;
     answers(
         &rt,
         &["asm", "absent", "made"],
         4,
         "",
-        "cannot read absent\n",
+        "cannot read absent\nno such file or folder\n",
     )?;
     remove_files(&rt)
 }

@@ -6,8 +6,8 @@ returns-in-Err c = failed-reads _ _ c.in-Err.error _ c.in_ok-program.ensures c.i
 
 pub returns-in-Some : goal.returns-in-Some
 returns-in-Some c =
-    parsed-reads _ _ c.in-Ok.matches _ _ c.task_of.result _ c.in_ok-program.ensures c.in-Ok.ensures.kinds c.in-Ok.ensures.matches
-    c.in-Some.ensures.name c.in-Some.ensures.rows c.task_of.ensures c.ok_or.ensures.value
+    parsed-reads _ _ c.in-Ok.matches _ _ _ c.in_ok-program.ensures c.in-Ok.ensures.kinds c.in-Ok.ensures.matches
+    c.in-Some.ensures.name c.in-Some.ensures.rows c.wanted_task.ensures
 
 pub returns : goal.returns
 returns c = parsed-none _ _ c.in-Ok.matches c.in_ok-program.ensures c.in-Ok.ensures.kinds c.in-Ok.ensures.matches c.in-None.ensures.name

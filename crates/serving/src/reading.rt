@@ -1,0 +1,34 @@
+//! What files hold.
+
+ghost use Rattle.std.specs.Prelude.{◌≡◌, IfOk, IfSome, take};
+
+use std::alloc::Global;
+use std::io::Read;
+use std::rt::Files;
+use std::{fs, io};
+
+/// All bytes of a source. Where they are not read to their end, also for want of memory, it is an error.
+fn read_all<S: Read + Drop>(alloc: Global, mut source: S) -> io::Result<Vec<u8>>
+    ensures { IfOk result (λ bytes. IfSome (S.remaining source) (λ held. bytes.items ≡ held)) }
+{
+    let mut bytes = Vec::new(alloc);
+    source.read_to_end(&mut bytes)?;
+    Ok(bytes)
+}
+
+/// The first bytes of a source, this many or all.
+fn read_front<S: Read + Drop>(alloc: Global, source: S, most: u64) -> io::Result<Vec<u8>>
+    ensures { IfOk result (λ bytes. IfSome (S.remaining source) (λ held. bytes.items ≡ take most held)) }
+{
+    read_all(alloc, source.take(most))
+}
+
+/// What a file holds, to its end.
+pub fn read_file<R: Files>(rt: &R, alloc: Global, path: &str) -> io::Result<Vec<u8>> {
+    read_all(alloc, fs::open(rt, path)?)
+}
+
+/// The first bytes of a file, this many or all.
+pub fn read_start<R: Files>(rt: &R, alloc: Global, path: &str, most: u64) -> io::Result<Vec<u8>> {
+    read_front(alloc, fs::open(rt, path)?, most)
+}

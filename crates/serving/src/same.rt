@@ -1,0 +1,37 @@
+//! Paths that lead to one file.
+
+ghost use Rattle.std.specs.Prelude.{◌≡◌, ◌≢◌, ◌↔◌, IsTrue};
+
+use std::fs;
+use std::fs::Metadata;
+use std::os::unix::fs::MetadataExt;
+use std::rt::Files;
+
+/// The numbers by which the system tells files apart.
+#[derive(Clone, Copy)]
+struct FileNumbers {
+    device: u64,
+    inode: u64,
+}
+
+// Whether files with these numbers are one. A file system that does not number its files gives 0.
+fn is_one(one: FileNumbers, other: FileNumbers) -> bool
+    ensures { IsTrue result ↔ ((one.device ≡ other.device) × (one.inode ≡ other.inode) × (one.inode ≢ 0)) }
+{
+    one.device == other.device && one.inode == other.inode && one.inode != 0
+}
+
+fn numbers_of(file: &Metadata) -> FileNumbers {
+    FileNumbers {
+        device: file.dev(),
+        inode: file.ino(),
+    }
+}
+
+/// Whether two paths lead to one file on a disk.
+pub fn is_same_file<R: Files>(rt: &R, one: &str, other: &str) -> bool {
+    match (fs::metadata(rt, one), fs::metadata(rt, other)) {
+        (Ok(one), Ok(other)) => one.is_file() && is_one(numbers_of(&one), numbers_of(&other)),
+        _ => false,
+    }
+}

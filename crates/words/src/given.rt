@@ -1,0 +1,30 @@
+//! The words that the program is given.
+
+ghost use Rattle.std.specs.Prelude.{◌≡◌, ◌≢◌};
+ghost use Rattle.std.specs.IoError.{error_kind};
+ghost use Rattle.words.specs.Asked.{IsWrong};
+
+use std::alloc::Global;
+use std::env::Env;
+use std::io;
+use std::io::ErrorKind;
+use tasks::WordsError;
+
+// Why the words could not be got.
+fn failure_of(alloc: Global, error: &io::Error) -> WordsError
+    ensures memory { error_kind error.now ≡ ErrorKind.OutOfMemory → result ≡ WordsError.Memory }
+    ensures wrong { error_kind error.now ≢ ErrorKind.OutOfMemory → IsWrong result }
+{
+    match error.kind() {
+        ErrorKind::OutOfMemory => WordsError::Memory,
+        _ => WordsError::Wrong(String::new(alloc)),
+    }
+}
+
+/// The words that the program was given. The first one is its name.
+pub fn given_words<R: Env + AllocGlobal>(rt: &R) -> Result<Vec<String>, WordsError> {
+    match std::env::args(rt) {
+        Ok(words) => Ok(words.collect(rt.alloc())?),
+        Err(error) => Err(failure_of(rt.alloc(), &error)),
+    }
+}
