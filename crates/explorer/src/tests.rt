@@ -2,6 +2,7 @@
 
 mod advice;
 mod covered;
+mod many;
 mod verdicts;
 
 use crate::Refusal::{Repeats, TooLong};
