@@ -100,7 +100,7 @@ pub spent_into : (p : Program) (path whole : List Visit) (visit : Visit) (s chil
 spent_into p path whole visit s child n m e counts spends is =
     subst (λ x. CountsTo p start x child m) (sym e) (subst (λ k. CountsTo p start (path ++ visit ∷ []) child k) (sym is) (CountsTo-push p path visit start s child n 1 counts spends))
 
--- the current state takes so many
+-- the current state takes `own`
 pub spent_here : (p : Program) (path : List Visit) (s : State) (n own m : ℕ) → CountsTo p start path s n → Takes p s own → n + own ≡ m → HasSpent p path m
 spent_here p path s n own m counts takes is = record { state = s; before = n; own = own; counts = counts; takes = takes; total_is = is }
 

@@ -27,7 +27,7 @@ pub data HasNumber (p : Program) : State → ℕ → Type 0 where
   IsCoveredBy : (s e : State) (steps n : ℕ) → Leads p steps start e → e.slot ≡ s.slot → Covers p e s → HasNumber p e n
       → HasNumber p s n
 
--- so many instructions, or more, are explored from a state where nothing covers anything
+-- at least n instructions are explored from a state where nothing covers anything
 pub data Takes (p : Program) : State → ℕ → Type 0 where
   Nothing : (s : State) (n : ℕ) → n ≡ 0 → Takes p s n
   ItsOwn : (s : State) (n : ℕ) → BeginsInsn p s.slot → n ≡ 1 → Takes p s n

@@ -134,22 +134,22 @@ Path p finished table from (visit ∷ path) to =
 
 -- ---- how many instructions were explored
 
--- so many are explored from the state once what is pending takes its own
+-- n instructions are explored from the state once what is pending takes its own
 abbrev pub TakesBoth : Program → Option State → State → ℕ → Type 0
 TakesBoth p None s n = Takes p s n
 TakesBoth p (Some other) s n = (y : ℕ) → Takes p other y → Takes p s (n + y)
 
--- and once the child takes its own; so many were explored already
+-- and once the child takes its own; `own` were explored already
 unfoldable pub Spends : Program → Visit → State → State → ℕ → Type 0
 Spends p visit s child own = (x : ℕ) → Takes p child x → TakesBoth p visit.pending s (own + x)
 
--- the path leads from one state to another, and so many instructions were explored before the last one
+-- the path leads from one state to another, and n instructions were explored before the last one
 unfoldable pub CountsTo : Program → State → List Visit → State → ℕ → Type 0
 CountsTo p from [] to n = (to ≡ from) × (n ≡ 0)
 CountsTo p from (visit ∷ path) to n =
     (child : State) × (own : ℕ) × (rest : ℕ) × Spends p visit from child own × CountsTo p child path to rest × (n ≡ own + rest)
 
--- the path leads to a state all of which is explored, and so many instructions were explored in all
+-- the path leads to a state all of which is explored, and `total` instructions were explored
 pub record HasSpent (p : Program) (path : List Visit) (total : ℕ) : Type 0 where
   pub state : State
   pub before : ℕ

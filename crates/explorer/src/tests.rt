@@ -1,5 +1,7 @@
 //! What the index proposes, on which no contract rests.
 
+mod many;
+
 use crate::fingerprints::fingerprint_of;
 use crate::index::{Index, Places};
 use crate::table::Table;

@@ -94,7 +94,7 @@ pub fn verify(alloc: Global, image: Image) -> Result<Verified, (Refusal, usize)>
     ensures refused { IfErr result (λ r. IsRefused image r.0 r.1) }
     ensures number { IfOk result (λ verified. HasNumber image start verified.bound) }
 {
-    // the proof takes from this call that the program is an image's, also where it is refused
+    // only for the proof: this call says that the program is an image's, which `verified` needs
     let _slots = image.slots();
     let bound = bound_of(alloc, &image)?;
     Ok(Verified { image, bound })
