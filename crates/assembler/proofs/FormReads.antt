@@ -23,10 +23,10 @@ use Rattle.isa_model.specs.declared.instructions.Operand.{Operand}
 use Rattle.isa_model.specs.declared.instructions.Operand.TheVariants.{Constant, Register}
 use Rattle.isa_model.specs.declared.instructions.Insn.{Insn}
 use Rattle.isa_model.specs.declared.instructions.Insn.TheVariants.{Alu, Neg, MovSx, ByteSwap, LoadNumber, Load, LoadSx, StoreConstant, Store, Atomic, Exchange, CompareExchange, Jump, JumpLong, JumpIf, CallLocal, Exit}
-use Rattle.isa_model.specs.Registers.{reg_number}
-use Rattle.isa_model.specs.Sizes.{width_bits, width_size}
-use Rattle.isa_model.specs.Spelling.{OperandFits}
-use Rattle.isa_model.specs.CanonicalText.{extension_width}
+use Rattle.isa_model.specs.Code.Registers.{reg_number}
+use Rattle.isa_model.specs.Code.Sizes.{width_bits, width_size}
+use Rattle.isa_model.specs.Code.Spelling.{OperandFits}
+use Rattle.isa_model.specs.Text.CanonicalText.{extension_width}
 use Rattle.lexer.specs.declared.tokens.Word.{Word}
 use Rattle.lexer.specs.declared.tokens.Word.TheVariants as word
 use Rattle.lexer.specs.declared.tokens.Sign.{Sign}

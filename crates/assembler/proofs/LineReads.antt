@@ -20,9 +20,9 @@ use Rattle.isa_model.specs.declared.instructions.Place.{Place}
 use Rattle.isa_model.specs.declared.instructions.Cond.{Cond}
 use Rattle.isa_model.specs.declared.instructions.Insn.{Insn}
 use Rattle.isa_model.specs.declared.instructions.Insn.TheVariants.{Alu, Neg, MovSx, ByteSwap, LoadNumber, Load, LoadSx, StoreConstant, Store, Atomic, Exchange, CompareExchange, Jump, JumpLong, JumpIf, CallLocal, Exit}
-use Rattle.isa_model.specs.Sizes.{width_size}
-use Rattle.isa_model.specs.Spelling.{OperandFits, InsnFits}
-use Rattle.isa_model.specs.CanonicalText.{reg_text, size_text, narrow_text, extension_text, extension_width, span_text, order_text, width_text, op_text, comparison_text, atomic_text, fetch_text, operand_text, offset_text, distance_text, line_of}
+use Rattle.isa_model.specs.Code.Sizes.{width_size}
+use Rattle.isa_model.specs.Code.Spelling.{OperandFits, InsnFits}
+use Rattle.isa_model.specs.Text.CanonicalText.{reg_text, size_text, narrow_text, extension_text, extension_width, span_text, order_text, width_text, op_text, comparison_text, atomic_text, fetch_text, operand_text, offset_text, distance_text, line_of}
 use Rattle.lexer.specs.declared.tokens.Word.{Word}
 use Rattle.lexer.specs.declared.tokens.Word.TheVariants as word
 use Rattle.lexer.specs.declared.tokens.Sign.TheVariants as sign

@@ -2,8 +2,8 @@
 use Rattle.std.proofs.Common.{◌≡◌, ℕ, ◌+◌, ◌≤◌, ◌==◌, nat_lt, Bool, false, true, not, if◌then◌else◌, is_none, List, [], ◌∷◌, ◌++◌, length, Some, Result, Ok, Err, refl, sym, ap, ap₂, ◌∙◌, arith, append_assoc, append-nil, length-append, le-ltb, ne_eqb}
 use Rattle.isa_model.specs.declared.map_defs.MapDef.{MapDef}
 use Rattle.isa_model.specs.declared.instructions.Insn.{Insn}
-use Rattle.isa_model.specs.Instructions.{Program, slots}
-use Rattle.isa_model.specs.CanonicalText.{canonical_text, code_text, rows_text, instructions}
+use Rattle.isa_model.specs.Code.Instructions.{Program, slots}
+use Rattle.isa_model.specs.Text.CanonicalText.{canonical_text, code_text, rows_text, instructions}
 use Rattle.image.specs.Images.{IsImage, code_alone}
 use Rattle.image.specs.CodeLaws.{AllFit, AllFit-instructions, slots-append, slots-instructions}
 use Rattle.image.specs.Refusals.{count_refusal}

@@ -1,7 +1,7 @@
 -- Programs from texts: lexeme by lexeme, a statement at a time.
 use Rattle.std.specs.Prelude.{◌≡◌, ℕ, zero, suc, ◌+◌, ◌-◌, ◌==◌, nat_lt, not, Bool, if◌then◌else◌, is_none, List, [], ◌∷◌, ◌++◌, length, take, drop, slice_get, Option, Some, None, ok_or, Result, Ok, Err, ◌⊎◌}
 use Rattle.isa_model.specs.declared.instructions.Insn.{Insn}
-use Rattle.isa_model.specs.Instructions.{Program, slots}
+use Rattle.isa_model.specs.Code.Instructions.{Program, slots}
 use Rattle.image.specs.Images.{code_alone}
 use Rattle.image.specs.Refusals.{count_refusal}
 use Rattle.assembler.specs.declared.errors.AsmErrorKind.{AsmErrorKind}

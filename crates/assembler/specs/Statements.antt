@@ -23,8 +23,8 @@ use Rattle.isa_model.specs.declared.instructions.Operand.TheVariants.{Constant, 
 use Rattle.isa_model.specs.declared.instructions.Place.{Place}
 use Rattle.isa_model.specs.declared.instructions.Insn.{Insn}
 use Rattle.isa_model.specs.declared.instructions.Insn.TheVariants as insn
-use Rattle.isa_model.specs.Registers.{reg_number}
-use Rattle.isa_model.specs.Sizes.{width_bits}
+use Rattle.isa_model.specs.Code.Registers.{reg_number}
+use Rattle.isa_model.specs.Code.Sizes.{width_bits}
 use Rattle.lexer.specs.declared.tokens.Word.{Word}
 use Rattle.lexer.specs.declared.tokens.Word.TheVariants as word
 use Rattle.lexer.specs.declared.tokens.Sign.{Sign}

@@ -1,8 +1,8 @@
 //! Images from texts.
 
 ghost use Rattle.std.specs.Prelude.{◌≡◌, ◌⊎◌, ◌-◌, ◌<◌, length, drop, Ok, Err, MatchResult};
-ghost use Rattle.isa_model.specs.Instructions.{Program};
-ghost use Rattle.isa_model.specs.CanonicalText.{canonical_text};
+ghost use Rattle.isa_model.specs.Code.Instructions.{Program};
+ghost use Rattle.isa_model.specs.Text.CanonicalText.{canonical_text};
 ghost use Rattle.image.specs.Images.{IsImage};
 ghost use Rattle.assembler.specs.declared.errors.AsmErrorKind.TheVariants as AsmErrorKind;
 ghost use Rattle.assembler.specs.Assembling.{start, read_on, finished, program_in, assembled, Answers};

@@ -1,7 +1,7 @@
 //! Instructions in a row, and the slots that they fill.
 
 ghost use Rattle.std.specs.Prelude.{◌≡◌, ◌≤◌, ◌+◌, ◌++◌, ◌∷◌, [], length};
-ghost use Rattle.isa_model.specs.Instructions.{slots};
+ghost use Rattle.isa_model.specs.Code.Instructions.{slots};
 
 use super::errors::AsmErrorKind;
 use image::MAX_SLOTS;

@@ -8,11 +8,11 @@ use Rattle.isa_model.specs.declared.instructions.Cond.{Cond}
 use Rattle.isa_model.specs.declared.instructions.Operand.{Operand}
 use Rattle.isa_model.specs.declared.instructions.Operand.TheVariants.{Constant, Register}
 use Rattle.isa_model.specs.declared.values.Value.TheVariants.{Num}
-use Rattle.isa_model.specs.Numbers.{unsigned, holds}
-use Rattle.isa_model.specs.Instructions.{Program}
-use Rattle.isa_model.specs.States.{reg}
-use Rattle.isa_model.specs.States as Machine
-use Rattle.isa_model.specs.Steps.{operand_value, tested, test_of}
+use Rattle.isa_model.specs.Code.Numbers.{unsigned, holds}
+use Rattle.isa_model.specs.Code.Instructions.{Program}
+use Rattle.isa_model.specs.Machine.States.{reg}
+use Rattle.isa_model.specs.Machine.States as Machine
+use Rattle.isa_model.specs.Machine.Steps.{operand_value, tested, test_of}
 use Rattle.reg_state.specs.declared.kinds.Kind.{Kind}
 use Rattle.reg_state.specs.declared.kinds.Kind.TheVariants.{Number}
 use Rattle.reg_state.specs.declared.scalars.Scalar.{Scalar}

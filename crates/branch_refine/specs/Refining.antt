@@ -7,10 +7,10 @@ use Rattle.isa_model.specs.declared.instructions.Cond.{Cond}
 use Rattle.isa_model.specs.declared.instructions.Operand.{Operand}
 use Rattle.isa_model.specs.declared.instructions.Operand.TheVariants.{Constant, Register}
 use Rattle.isa_model.specs.declared.values.Value.{Value}
-use Rattle.isa_model.specs.Numbers.{unsigned}
-use Rattle.isa_model.specs.Instructions.{Program}
-use Rattle.isa_model.specs.Steps.{test_of}
-use Rattle.isa_model.specs.States as Machine
+use Rattle.isa_model.specs.Code.Numbers.{unsigned}
+use Rattle.isa_model.specs.Code.Instructions.{Program}
+use Rattle.isa_model.specs.Machine.Steps.{test_of}
+use Rattle.isa_model.specs.Machine.States as Machine
 use Rattle.reg_state.specs.declared.kinds.Kind.{Kind}
 use Rattle.reg_state.specs.declared.kinds.Kind.TheVariants.{Number}
 use Rattle.reg_state.specs.Scalars.{Has, IsConstant}

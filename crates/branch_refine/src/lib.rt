@@ -2,7 +2,7 @@
 #![tactic(auto)]
 
 ghost use Rattle.std.specs.Prelude.{◌≡◌, ◌≢◌, ℕ, ◌<◌, IsTrue, false};
-ghost use Rattle.isa_model.specs.Numbers.{holds};
+ghost use Rattle.isa_model.specs.Code.Numbers.{holds};
 ghost use Rattle.stack_state.specs.Meaning.{depth};
 ghost use Rattle.stack_state.specs.Places.{kind_of};
 ghost use Rattle.branch_refine.specs.Refining.{IsJust, IsJustOperand, AreCompared, Keeps, Narrows, KeepsOthers, IfGoes, KeepsIn};

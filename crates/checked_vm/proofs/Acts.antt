@@ -3,10 +3,10 @@ use Rattle.std.proofs.Common.{◌≡◌, ℕ, List, length, Result, Ok, Err, ref
 use Rattle.std.proofs.lemmas.Bool.Decides.{nat_tests}
 use Rattle.isa_model.specs.declared.instructions.Insn.{Insn}
 use Rattle.isa_model.specs.declared.ends.TrapReason.{TrapReason}
-use Rattle.isa_model.specs.Instructions.{Program}
-use Rattle.isa_model.specs.States.{State}
-use Rattle.isa_model.specs.Calls.{enter, leave}
-use Rattle.isa_model.specs.Steps.{Next, target, calls, exits}
+use Rattle.isa_model.specs.Code.Instructions.{Program}
+use Rattle.isa_model.specs.Machine.States.{State}
+use Rattle.isa_model.specs.Machine.Calls.{enter, leave}
+use Rattle.isa_model.specs.Machine.Steps.{Next, target, calls, exits}
 use Rattle.checked_vm.specs.declared.core_state.Core.{Core}
 use Rattle.checked_vm.specs.Machine.{KeepsFrames, IsRunning, StaysRunning, Performs, PerformsApart, PerformsIn}
 

@@ -7,9 +7,9 @@ use Rattle.isa_model.specs.declared.values.Region.TheVariants.{Packet}
 use Rattle.isa_model.specs.declared.values.Cell.{Cell}
 use Rattle.isa_model.specs.declared.values.Cell.TheVariants.{Byte}
 use Rattle.isa_model.specs.declared.ends.TrapReason.{TrapReason}
-use Rattle.isa_model.specs.Numbers.{number_from}
-use Rattle.isa_model.specs.Memory.{and_then, place_in, number_in, write}
-use Rattle.isa_model.specs.ByteCells.{map-byte_in-Byte, number_in-Byte, take-drop-Byte}
+use Rattle.isa_model.specs.Code.Numbers.{number_from}
+use Rattle.isa_model.specs.Machine.Memory.{and_then, place_in, number_in, write}
+use Rattle.isa_model.specs.Machine.ByteCells.{map-byte_in-Byte, number_in-Byte, take-drop-Byte}
 use Rattle.checked_vm.specs.declared.core_state.Core.{Core}
 use Rattle.checked_vm.specs.Machine.{state_of}
 

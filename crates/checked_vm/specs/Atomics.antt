@@ -6,10 +6,10 @@ use Rattle.isa_model.specs.declared.registers.Reg.TheVariants.{R0}
 use Rattle.isa_model.specs.declared.instructions.AtomicOp.{AtomicOp}
 use Rattle.isa_model.specs.declared.instructions.Place.{Place}
 use Rattle.isa_model.specs.declared.ends.TrapReason.{TrapReason}
-use Rattle.isa_model.specs.Numbers.{alu, low, atomic_alu}
-use Rattle.isa_model.specs.States.{State, reg}
-use Rattle.isa_model.specs.Memory.{and_then}
-use Rattle.isa_model.specs.Steps.{atomic_number, swaps_in, fetched_into}
+use Rattle.isa_model.specs.Code.Numbers.{alu, low, atomic_alu}
+use Rattle.isa_model.specs.Machine.States.{State, reg}
+use Rattle.isa_model.specs.Machine.Memory.{and_then}
+use Rattle.isa_model.specs.Machine.Steps.{atomic_number, swaps_in, fetched_into}
 
 -- the bytes = the bytes op source, with FETCH source = the old bytes
 abbrev pub combines : State → Width → AtomicOp → Bool → Place → Reg → Result State TrapReason

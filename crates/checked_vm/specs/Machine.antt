@@ -2,10 +2,10 @@
 use Rattle.std.specs.Prelude.{◌≡◌, ℕ, ◌+◌, ◌≤◌, List, [], length, Result, MatchResult, vec_len, vec_capacity}
 use Rattle.isa_model.specs.declared.instructions.Insn.{Insn}
 use Rattle.isa_model.specs.declared.ends.TrapReason.{TrapReason}
-use Rattle.isa_model.specs.Instructions.{Program}
-use Rattle.isa_model.specs.States.{Content, State}
-use Rattle.isa_model.specs.Steps.{Next, Trapped, act}
-use Rattle.isa_model.specs.Calls.{most_frames}
+use Rattle.isa_model.specs.Code.Instructions.{Program}
+use Rattle.isa_model.specs.Machine.States.{Content, State}
+use Rattle.isa_model.specs.Machine.Steps.{Next, Trapped, act}
+use Rattle.isa_model.specs.Machine.Calls.{most_frames}
 use Rattle.checked_vm.specs.declared.core_state.Core.{Core}
 
 -- the state of a run: the machine's fields, the packet and the maps' contents

@@ -1,7 +1,7 @@
 -- What callers see of the checked machine.
 use Rattle.std.specs.Prelude.{List}
-use Rattle.isa_model.specs.Instructions.{Program}
-use Rattle.isa_model.specs.States.{Entries}
+use Rattle.isa_model.specs.Code.Instructions.{Program}
+use Rattle.isa_model.specs.Machine.States.{Entries}
 
 -- its program, and the maps' contents between runs
 pub record Running : Type 0 where

@@ -1,7 +1,7 @@
 -- What steps of the checked machine come to.
 use Rattle.std.specs.Prelude.{◌≡◌}
-use Rattle.isa_model.specs.States.{State}
-use Rattle.isa_model.specs.Steps.{StepResult, Next, Finished, Trapped}
+use Rattle.isa_model.specs.Machine.States.{State}
+use Rattle.isa_model.specs.Machine.Steps.{StepResult, Next, Finished, Trapped}
 use Rattle.checked_vm.specs.declared.steps.Stepped.{Stepped}
 use Rattle.checked_vm.specs.declared.steps.Stepped.TheVariants.{Went, Ended, Stopped}
 

@@ -1,9 +1,9 @@
 //! The checked machine: an image, and the room to run it.
 
 ghost use Rattle.std.specs.Prelude.{◌≡◌, ◌+◌, ◌≤◌, ℕ, [], length, IfOk};
-ghost use Rattle.isa_model.specs.Streams.{max_body};
-ghost use Rattle.isa_model.specs.Runs.{turn};
-ghost use Rattle.isa_model.specs.Reports.{starting_contents};
+ghost use Rattle.isa_model.specs.Reporting.Streams.{max_body};
+ghost use Rattle.isa_model.specs.Running.Runs.{turn};
+ghost use Rattle.isa_model.specs.Reporting.Reports.{starting_contents};
 
 use crate::core_state::Core;
 use image::Image;
@@ -35,7 +35,7 @@ pub struct Checked {
 }
 
 impl Model for Checked {
-    ghost use Rattle.isa_model.specs.Calls.{most_frames};
+    ghost use Rattle.isa_model.specs.Machine.Calls.{most_frames};
     ghost use Rattle.std.specs.Prelude.{◌≤◌, [], vec_capacity};
     ghost use Rattle.checked_vm.specs.Machines.{Running};
 

@@ -1,11 +1,11 @@
 //! The machine's fields: slot, registers and call frames.
 
 ghost use Rattle.std.specs.Prelude.{◌≡◌, ◌≤◌, ℕ, List, [], length, slice_set, IfOk, vec_len, vec_capacity};
-ghost use Rattle.isa_model.specs.Registers.{reg_number};
-ghost use Rattle.isa_model.specs.States.{value_at, new_frame};
-ghost use Rattle.isa_model.specs.Memory.{frame_index};
-ghost use Rattle.isa_model.specs.Calls.{most_frames};
-ghost use Rattle.isa_model.specs.Runs.{start_state};
+ghost use Rattle.isa_model.specs.Code.Registers.{reg_number};
+ghost use Rattle.isa_model.specs.Machine.States.{value_at, new_frame};
+ghost use Rattle.isa_model.specs.Machine.Memory.{frame_index};
+ghost use Rattle.isa_model.specs.Machine.Calls.{most_frames};
+ghost use Rattle.isa_model.specs.Running.Runs.{start_state};
 ghost use Rattle.checked_vm.specs.Machine.{state_of};
 
 use isa_model::{CallFrame, Cell, FrameHead, Reg, Region, Value};
@@ -33,7 +33,7 @@ pub struct Core {
 }
 
 /// A call frame whose cells are unwritten.
-#[tactic(auto, unfolding(isa_model::specs::States::new_frame))]
+#[tactic(auto, unfolding(isa_model::specs::Machine::States::new_frame))]
 pub fn new_frame(serial: u64, return_slot: usize, saved: [Value; 4]) -> CallFrame
     ensures { result ≡ new_frame serial return_slot saved }
 {
@@ -62,7 +62,7 @@ impl Core {
     }
 
     /// Goes to the start of a run.
-    #[tactic(auto, unfolding(isa_model::specs::Runs::start_state))]
+    #[tactic(auto, unfolding(isa_model::specs::Running::Runs::start_state))]
     pub fn start(&mut self, head: FrameHead)
         requires { most_frames ≤ vec_capacity self.old.frames }
         ensures state { (packet : List ℕ) → state_of self.new packet [] ≡ start_state head packet [] }

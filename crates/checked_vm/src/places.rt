@@ -1,7 +1,7 @@
 //! Places in memory: where an access begins, and whether all its bytes are there.
 
 ghost use Rattle.std.specs.Prelude.{◌≡◌, ◌+◌, ◌<◌, ◌≤◌, ◌^◌, pos, ◌+ℤ◌, ◌<ℤ◌, length, Some, IfOk};
-ghost use Rattle.isa_model.specs.Memory.{index_from, index_at, place_in};
+ghost use Rattle.isa_model.specs.Machine.Memory.{index_from, index_at, place_in};
 
 use isa_model::{Cell, Place, Region, TrapReason};
 

@@ -1,10 +1,10 @@
 //! Whole runs within a limit of steps.
 
 ghost use Rattle.std.specs.Prelude.{◌≡◌, ◌+◌, ◌<◌, ◌≤◌, ◌^◌, ℕ, List, [], vec_capacity};
-ghost use Rattle.isa_model.specs.Instructions.{Program};
-ghost use Rattle.isa_model.specs.Calls.{most_frames};
-ghost use Rattle.isa_model.specs.Steps.{step};
-ghost use Rattle.isa_model.specs.Runs.{progress, turn_of, left, turn};
+ghost use Rattle.isa_model.specs.Code.Instructions.{Program};
+ghost use Rattle.isa_model.specs.Machine.Calls.{most_frames};
+ghost use Rattle.isa_model.specs.Machine.Steps.{step};
+ghost use Rattle.isa_model.specs.Running.Runs.{progress, turn_of, left, turn};
 ghost use Rattle.checked_vm.specs.Machine.{state_of, IsRunning, StaysRunning};
 ghost use Rattle.checked_vm.specs.Outcomes.{IsStep};
 
@@ -14,7 +14,7 @@ use isa_model::{Clock, End, FrameHead, Insn, TrapReason};
 
 impl Core {
     /// One step in a program's code, by slot.
-    #[tactic(auto, unfolding(isa_model::specs::Steps::step))]
+    #[tactic(auto, unfolding(isa_model::specs::Machine::Steps::step))]
     fn step(&mut self, insns: &[Option<Insn>], packet: &mut [u8]) -> Stepped
         requires running { IsRunning self.old }
         requires serial { self.old.next_serial < 2 ^ 63 }
@@ -48,7 +48,7 @@ impl Core {
     }
 
     /// Runs a program's code on a packet from the start.
-    #[tactic(auto, unfolding(isa_model::specs::Runs::turn))]
+    #[tactic(auto, unfolding(isa_model::specs::Running::Runs::turn))]
     pub fn run<C: Clock>(
         &mut self,
         insns: &[Option<Insn>],

@@ -3,10 +3,10 @@
 ghost use Rattle.std.specs.Prelude.{◌≡◌, ◌≢◌, ◌+◌, ◌<◌, ◌≤◌, ◌^◌, ℕ, List, [], length};
 ghost use Rattle.std.specs.List.{list_any};
 ghost use Rattle.isa_model.specs.declared.instructions.Insn.{Insn};
-ghost use Rattle.isa_model.specs.Registers.{reg_number};
-ghost use Rattle.isa_model.specs.Instructions.{Program, operand_reads, reads};
-ghost use Rattle.isa_model.specs.States.{value_at};
-ghost use Rattle.isa_model.specs.Steps.{is_unset, act, performed};
+ghost use Rattle.isa_model.specs.Code.Registers.{reg_number};
+ghost use Rattle.isa_model.specs.Code.Instructions.{Program, operand_reads, reads};
+ghost use Rattle.isa_model.specs.Machine.States.{value_at};
+ghost use Rattle.isa_model.specs.Machine.Steps.{is_unset, act, performed};
 ghost use Rattle.checked_vm.specs.Machine.{state_of, IsRunning, StaysRunning, PerformsIn};
 ghost use Rattle.checked_vm.specs.Outcomes.{IsStep};
 
@@ -67,7 +67,7 @@ impl Core {
     }
 
     /// What an instruction other than EXIT does, once its registers are set.
-    #[tactic(auto, unfolding(isa_model::specs::Steps::act))]
+    #[tactic(auto, unfolding(isa_model::specs::Machine::Steps::act))]
     fn act(&mut self, insn: &Insn, slots: usize, packet: &mut [u8]) -> Result<(), TrapReason>
         requires running { IsRunning self.old }
         requires other { insn.now ≢ Insn.Exit }
@@ -117,7 +117,7 @@ impl Core {
     }
 
     /// EXIT: the first frame's ends the run, an inner one's leads back to the caller.
-    #[tactic(auto, unfolding(isa_model::specs::Steps::act))]
+    #[tactic(auto, unfolding(isa_model::specs::Machine::Steps::act))]
     fn exit(&mut self) -> Stepped
         requires { IsRunning self.old }
         ensures stays { StaysRunning self.old self.new }

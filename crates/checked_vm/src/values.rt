@@ -1,9 +1,9 @@
 //! Arithmetic on values, pointers included.
 
 ghost use Rattle.std.specs.Prelude.{◌≡◌, ℕ, Ok};
-ghost use Rattle.isa_model.specs.Numbers.{low, negated, sign_extended, reordered};
-ghost use Rattle.isa_model.specs.Pointers.{moved_to, pointer_and_number, number_and_pointer, moved, combined, arithmetic, on_number};
-ghost use Rattle.isa_model.specs.Memory.{and_then};
+ghost use Rattle.isa_model.specs.Code.Numbers.{low, negated, sign_extended, reordered};
+ghost use Rattle.isa_model.specs.Machine.Pointers.{moved_to, pointer_and_number, number_and_pointer, moved, combined, arithmetic, on_number};
+ghost use Rattle.isa_model.specs.Machine.Memory.{and_then};
 
 use isa_model::numbers::{compute, low_word, negate, reorder, sign_extend};
 use isa_model::{AluOp, ByteOrder, Extension, Region, Span, TrapReason, Value, Width};

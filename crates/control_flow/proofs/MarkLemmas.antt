@@ -4,7 +4,7 @@ use Rattle.std.specs.Prelude.{◌⊎◌}
 use Rattle.std.proofs.lemmas.Bool.{cases_lt, cases_eq}
 use Rattle.std.proofs.lemmas.Option.{same_Some, get_or_from_slice_get, slice_get_read}
 use Rattle.std.proofs.lemmas.List.{get_or-set_same, get_or-set_other, length-set, length-replicate, get_or-replicate, get_or_past}
-use Rattle.isa_model.specs.Instructions.{Program}
+use Rattle.isa_model.specs.Code.Instructions.{Program}
 use Rattle.control_flow.specs.Graph.{jump_to, Jumps}
 use Rattle.control_flow.specs.Flows.{IsMarked, MarksJoins}
 use Rattle.control_flow.specs.FlowLaws.{Leads-inside}

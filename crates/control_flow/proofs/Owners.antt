@@ -5,7 +5,7 @@ use Rattle.std.proofs.lemmas.Bool.{cases_lt, eqb-false, ne_eqb, not-true, not_fr
 use Rattle.std.proofs.lemmas.List.{length-append}
 use Rattle.std.proofs.Math.ListN.{get_or-append}
 use Rattle.std.proofs.Math.Seq.{get_or-append_seam}
-use Rattle.isa_model.specs.Instructions.{Program}
+use Rattle.isa_model.specs.Code.Instructions.{Program}
 use Rattle.control_flow.specs.Graph.{call_to, Calls}
 use Rattle.control_flow.specs.Functions.{BeginsFunction, SameFunction, IsFunctionOf, MarksFunctions, HasFunctions}
 use Rattle.control_flow.specs.FlowLaws.{Leads-inside}

@@ -6,9 +6,9 @@ use Rattle.std.proofs.lemmas.Bool.{cases_lt, iff_false, not-true, not_from_false
 use Rattle.std.specs.Option.{option_map, option_and_then}
 use Rattle.isa_model.specs.declared.instructions.Insn.{Insn}
 use Rattle.isa_model.specs.declared.instructions.Insn.TheVariants.{Jump, JumpLong, JumpIf, CallLocal}
-use Rattle.isa_model.specs.Instructions.{Program, fetch}
-use Rattle.isa_model.specs.Steps.{destination}
-use Rattle.isa_model.specs.Successors.{jump_distance}
+use Rattle.isa_model.specs.Code.Instructions.{Program, fetch}
+use Rattle.isa_model.specs.Machine.Steps.{destination}
+use Rattle.isa_model.specs.Machine.Successors.{jump_distance}
 use Rattle.control_flow.specs.declared.errors.FlowError.{FlowError}
 use Rattle.control_flow.specs.declared.errors.FlowError.TheVariants.{TargetOutside, SecondHalf}
 use Rattle.control_flow.specs.Graph.{BeginsInsn, IsSecondHalf, call_distance, jump_to, call_to}

@@ -4,7 +4,7 @@ use Rattle.std.specs.Prelude.{◌↔◌, ◌⊎◌, ◌≢◌, slice_index_or}
 use Rattle.std.proofs.lemmas.Bool.{cases_lt, cases_eq, cases_Bool}
 use Rattle.isa_model.specs.declared.instructions.Insn.{Insn}
 use Rattle.isa_model.specs.declared.instructions.Insn.TheVariants.{LoadNumber}
-use Rattle.isa_model.specs.Instructions.{Program, fetch, slots_of}
+use Rattle.isa_model.specs.Code.Instructions.{Program, fetch, slots_of}
 use Rattle.image.specs.Images.{IsImage}
 use Rattle.image.specs.ImageLaws.{fetch-next, fetch-second}
 use Rattle.control_flow.specs.declared.errors.FlowError.{FlowError}

@@ -6,9 +6,9 @@ use Rattle.std.proofs.lemmas.Bool.{cases_lt, cases_order}
 use Rattle.std.proofs.lemmas.Option.{slice_get_past, cond_some}
 use Rattle.isa_model.specs.declared.instructions.Insn.{Insn}
 use Rattle.isa_model.specs.declared.instructions.Insn.TheVariants.{LoadNumber}
-use Rattle.isa_model.specs.Instructions.{Program, fetch, slots_of}
-use Rattle.isa_model.specs.Steps.{destination}
-use Rattle.isa_model.specs.Successors.{jump_distance, falls_through, Follows}
+use Rattle.isa_model.specs.Code.Instructions.{Program, fetch, slots_of}
+use Rattle.isa_model.specs.Machine.Steps.{destination}
+use Rattle.isa_model.specs.Machine.Successors.{jump_distance, falls_through, Follows}
 use Rattle.control_flow.specs.declared.errors.FlowError.{FlowError}
 use Rattle.control_flow.specs.declared.errors.FlowError.TheVariants.{TargetOutside, SecondHalf, OtherFunction, FallsOff, Unreachable, Memory}
 use Rattle.control_flow.specs.Graph.{call_distance, BeginsInsn, jump_to, call_to, slot_behind, fall_to, Leads, Falls, Jumps, Calls}

@@ -1,6 +1,6 @@
 -- Programs whose control flow is good, and the tests that find out.
 use Rattle.std.specs.Prelude.{◌≡◌, ℕ, ◌<◌, ◌≤◌, ◌⊎◌, Option, Some, None, List, length, Bool, IsTrue, ◌↔◌, slice_index_or, false}
-use Rattle.isa_model.specs.Instructions.{Program}
+use Rattle.isa_model.specs.Code.Instructions.{Program}
 use Rattle.control_flow.specs.declared.errors.FlowError.{FlowError}
 use Rattle.control_flow.specs.declared.errors.FlowError.TheVariants.{TargetOutside, SecondHalf, OtherFunction, FallsOff, Unreachable, Memory}
 use Rattle.control_flow.specs.Graph.{BeginsInsn, IsSecondHalf, jump_to, call_to, fall_to, Reached}

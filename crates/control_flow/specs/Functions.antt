@@ -1,6 +1,6 @@
 -- The functions of a program. Each ends before the next one begins.
 use Rattle.std.specs.Prelude.{◌≡◌, ℕ, ◌<◌, ◌≤◌, ◌↔◌, ◌⊎◌, Bool, false, IsTrue, List, length, slice_index, slice_index_or, Some}
-use Rattle.isa_model.specs.Instructions.{Program}
+use Rattle.isa_model.specs.Code.Instructions.{Program}
 use Rattle.control_flow.specs.Graph.{call_to}
 
 -- a function begins at slot 0 and at the target of each call

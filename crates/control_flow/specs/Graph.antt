@@ -3,9 +3,9 @@ use Rattle.std.specs.Prelude.{◌≡◌, ℕ, zero, suc, ◌+◌, ◌<◌, lengt
 use Rattle.std.specs.Option.{option_map, option_and_then}
 use Rattle.isa_model.specs.declared.instructions.Insn.{Insn}
 use Rattle.isa_model.specs.declared.instructions.Insn.TheVariants.{CallLocal}
-use Rattle.isa_model.specs.Instructions.{Program, fetch, slots_of}
-use Rattle.isa_model.specs.Steps.{destination}
-use Rattle.isa_model.specs.Successors.{jump_distance, falls_through}
+use Rattle.isa_model.specs.Code.Instructions.{Program, fetch, slots_of}
+use Rattle.isa_model.specs.Machine.Steps.{destination}
+use Rattle.isa_model.specs.Machine.Successors.{jump_distance, falls_through}
 
 -- the distance of a call of a function of the program
 abbrev pub call_distance : Insn → Option ℤ

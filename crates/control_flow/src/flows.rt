@@ -26,7 +26,7 @@ pub struct Flow<'a> {
 }
 
 impl<'a> Model for Flow<'a> {
-    ghost use Rattle.isa_model.specs.Instructions.{Program};
+    ghost use Rattle.isa_model.specs.Code.Instructions.{Program};
     ghost use Rattle.control_flow.specs.Flows.{IsKnown};
 
     ghost Value = { Program };

@@ -1,8 +1,8 @@
 //! Where jumps and calls lead, and the tests of that.
 
 ghost use Rattle.std.specs.Prelude.{◌≡◌, ◌<◌, ◌^◌, ◌↔◌, ℕ, IsTrue, length, IfOk};
-ghost use Rattle.isa_model.specs.Steps.{destination};
-ghost use Rattle.isa_model.specs.Successors.{jump_distance, falls_through};
+ghost use Rattle.isa_model.specs.Machine.Steps.{destination};
+ghost use Rattle.isa_model.specs.Machine.Successors.{jump_distance, falls_through};
 ghost use Rattle.control_flow.specs.Graph.{BeginsInsn, call_distance, jump_to, call_to, fall_to};
 ghost use Rattle.control_flow.specs.Flows.{HasTarget, Fails, IsLowest, MarksJoins};
 

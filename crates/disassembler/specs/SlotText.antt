@@ -2,7 +2,7 @@
 use Rattle.std.proofs.Common.{◌≡◌, ℕ, List, [], ◌∷◌, ◌++◌, Option, Some, None, refl, ap}
 use Rattle.std.specs.List.{flat_map}
 use Rattle.isa_model.specs.declared.instructions.Insn.{Insn}
-use Rattle.isa_model.specs.CanonicalText.{line_of, instructions, code_text}
+use Rattle.isa_model.specs.Text.CanonicalText.{line_of, instructions, code_text}
 
 -- a second half has no text of its own
 abbrev pub slot_text : Option Insn → List ℕ

@@ -1,7 +1,7 @@
 //! The lines of canonical text, one function for each form.
 
 ghost use Rattle.std.specs.Prelude.{◌≡◌, true, false};
-ghost use Rattle.isa_model.specs.CanonicalText.{line_of, row_line};
+ghost use Rattle.isa_model.specs.Text.CanonicalText.{line_of, row_line};
 
 use super::numbers::{Line, push_distance, push_hex, push_number, push_signed};
 use super::parts::{push_operand, push_place, push_reg};
@@ -14,7 +14,7 @@ use isa_model::{
     Span, Width,
 };
 
-#[tactic(auto, unfolding(isa_model::specs::CanonicalText::line_of))]
+#[tactic(auto, unfolding(isa_model::specs::Text::CanonicalText::line_of))]
 fn alu_line(width: Width, op: AluOp, destination: Reg, operand: Operand) -> Line
     ensures { result.bytes ≡ line_of (Insn.Alu width op destination operand) }
 {
@@ -28,7 +28,7 @@ fn alu_line(width: Width, op: AluOp, destination: Reg, operand: Operand) -> Line
     line
 }
 
-#[tactic(auto, unfolding(isa_model::specs::CanonicalText::line_of))]
+#[tactic(auto, unfolding(isa_model::specs::Text::CanonicalText::line_of))]
 fn negation_line(width: Width, destination: Reg) -> Line
     ensures { result.bytes ≡ line_of (Insn.Neg width destination) }
 {
@@ -40,7 +40,7 @@ fn negation_line(width: Width, destination: Reg) -> Line
     line
 }
 
-#[tactic(auto, unfolding(isa_model::specs::CanonicalText::line_of))]
+#[tactic(auto, unfolding(isa_model::specs::Text::CanonicalText::line_of))]
 fn extension_line(extension: Extension, destination: Reg, source: Reg) -> Line
     ensures { result.bytes ≡ line_of (Insn.MovSx extension destination source) }
 {
@@ -55,7 +55,7 @@ fn extension_line(extension: Extension, destination: Reg, source: Reg) -> Line
     line
 }
 
-#[tactic(auto, unfolding(isa_model::specs::CanonicalText::line_of))]
+#[tactic(auto, unfolding(isa_model::specs::Text::CanonicalText::line_of))]
 fn swap_line(order: ByteOrder, span: Span, destination: Reg) -> Line
     ensures { result.bytes ≡ line_of (Insn.ByteSwap order span destination) }
 {
@@ -70,7 +70,7 @@ fn swap_line(order: ByteOrder, span: Span, destination: Reg) -> Line
     line
 }
 
-#[tactic(auto, unfolding(isa_model::specs::CanonicalText::line_of))]
+#[tactic(auto, unfolding(isa_model::specs::Text::CanonicalText::line_of))]
 fn number_line(destination: Reg, number: u64) -> Line
     ensures { result.bytes ≡ line_of (Insn.LoadNumber destination number) }
 {
@@ -82,7 +82,7 @@ fn number_line(destination: Reg, number: u64) -> Line
     line
 }
 
-#[tactic(auto, unfolding(isa_model::specs::CanonicalText::line_of))]
+#[tactic(auto, unfolding(isa_model::specs::Text::CanonicalText::line_of))]
 fn load_line(size: Size, destination: Reg, place: Place) -> Line
     ensures { result.bytes ≡ line_of (Insn.Load size destination place) }
 {
@@ -96,7 +96,7 @@ fn load_line(size: Size, destination: Reg, place: Place) -> Line
     line
 }
 
-#[tactic(auto, unfolding(isa_model::specs::CanonicalText::line_of))]
+#[tactic(auto, unfolding(isa_model::specs::Text::CanonicalText::line_of))]
 fn signed_load_line(size: Narrow, destination: Reg, place: Place) -> Line
     ensures { result.bytes ≡ line_of (Insn.LoadSx size destination place) }
 {
@@ -110,7 +110,7 @@ fn signed_load_line(size: Narrow, destination: Reg, place: Place) -> Line
     line
 }
 
-#[tactic(auto, unfolding(isa_model::specs::CanonicalText::line_of))]
+#[tactic(auto, unfolding(isa_model::specs::Text::CanonicalText::line_of))]
 fn constant_store_line(size: Size, place: Place, number: i32) -> Line
     ensures { result.bytes ≡ line_of (Insn.StoreConstant size place number) }
 {
@@ -125,7 +125,7 @@ fn constant_store_line(size: Size, place: Place, number: i32) -> Line
     line
 }
 
-#[tactic(auto, unfolding(isa_model::specs::CanonicalText::line_of))]
+#[tactic(auto, unfolding(isa_model::specs::Text::CanonicalText::line_of))]
 fn store_line(size: Size, place: Place, source: Reg) -> Line
     ensures { result.bytes ≡ line_of (Insn.Store size place source) }
 {
@@ -140,7 +140,7 @@ fn store_line(size: Size, place: Place, source: Reg) -> Line
     line
 }
 
-#[tactic(auto, unfolding(isa_model::specs::CanonicalText::line_of))]
+#[tactic(auto, unfolding(isa_model::specs::Text::CanonicalText::line_of))]
 fn atomic_line(width: Width, op: AtomicOp, place: Place, source: Reg) -> Line
     ensures { result.bytes ≡ line_of (Insn.Atomic width op false place source) }
 {
@@ -157,7 +157,7 @@ fn atomic_line(width: Width, op: AtomicOp, place: Place, source: Reg) -> Line
     line
 }
 
-#[tactic(auto, unfolding(isa_model::specs::CanonicalText::line_of))]
+#[tactic(auto, unfolding(isa_model::specs::Text::CanonicalText::line_of))]
 fn fetch_line(width: Width, op: AtomicOp, place: Place, source: Reg) -> Line
     ensures { result.bytes ≡ line_of (Insn.Atomic width op true place source) }
 {
@@ -174,7 +174,7 @@ fn fetch_line(width: Width, op: AtomicOp, place: Place, source: Reg) -> Line
     line
 }
 
-#[tactic(auto, unfolding(isa_model::specs::CanonicalText::line_of))]
+#[tactic(auto, unfolding(isa_model::specs::Text::CanonicalText::line_of))]
 fn exchange_line(width: Width, place: Place, source: Reg) -> Line
     ensures { result.bytes ≡ line_of (Insn.Exchange width place source) }
 {
@@ -190,7 +190,7 @@ fn exchange_line(width: Width, place: Place, source: Reg) -> Line
     line
 }
 
-#[tactic(auto, unfolding(isa_model::specs::CanonicalText::line_of))]
+#[tactic(auto, unfolding(isa_model::specs::Text::CanonicalText::line_of))]
 fn compare_exchange_line(width: Width, place: Place, source: Reg) -> Line
     ensures { result.bytes ≡ line_of (Insn.CompareExchange width place source) }
 {
@@ -205,7 +205,7 @@ fn compare_exchange_line(width: Width, place: Place, source: Reg) -> Line
     line
 }
 
-#[tactic(auto, unfolding(isa_model::specs::CanonicalText::line_of))]
+#[tactic(auto, unfolding(isa_model::specs::Text::CanonicalText::line_of))]
 fn jump_line(distance: i16) -> Line
     ensures { result.bytes ≡ line_of (Insn.Jump distance) }
 {
@@ -216,7 +216,7 @@ fn jump_line(distance: i16) -> Line
     line
 }
 
-#[tactic(auto, unfolding(isa_model::specs::CanonicalText::line_of))]
+#[tactic(auto, unfolding(isa_model::specs::Text::CanonicalText::line_of))]
 fn long_jump_line(distance: i32) -> Line
     ensures { result.bytes ≡ line_of (Insn.JumpLong distance) }
 {
@@ -227,7 +227,7 @@ fn long_jump_line(distance: i32) -> Line
     line
 }
 
-#[tactic(auto, unfolding(isa_model::specs::CanonicalText::line_of))]
+#[tactic(auto, unfolding(isa_model::specs::Text::CanonicalText::line_of))]
 fn condition_line(condition: Cond, distance: i16) -> Line
     ensures { result.bytes ≡ line_of (Insn.JumpIf condition distance) }
 {
@@ -244,7 +244,7 @@ fn condition_line(condition: Cond, distance: i16) -> Line
     line
 }
 
-#[tactic(auto, unfolding(isa_model::specs::CanonicalText::line_of))]
+#[tactic(auto, unfolding(isa_model::specs::Text::CanonicalText::line_of))]
 fn call_line(distance: i32) -> Line
     ensures { result.bytes ≡ line_of (Insn.CallLocal distance) }
 {
@@ -255,7 +255,7 @@ fn call_line(distance: i32) -> Line
     line
 }
 
-#[tactic(auto, unfolding(isa_model::specs::CanonicalText::line_of))]
+#[tactic(auto, unfolding(isa_model::specs::Text::CanonicalText::line_of))]
 fn exit_line() -> Line
     ensures { result.bytes ≡ line_of Insn.Exit }
 {
@@ -293,7 +293,7 @@ pub fn line_of(insn: &Insn) -> Line
 }
 
 /// The line of a map row.
-#[tactic(auto, unfolding(isa_model::specs::CanonicalText::row_line))]
+#[tactic(auto, unfolding(isa_model::specs::Text::CanonicalText::row_line))]
 pub fn line_of_row(row: &MapDef) -> Line
     ensures { result.bytes ≡ row_line row.now }
 {

@@ -3,7 +3,7 @@
 ghost use Rattle.std.specs.Prelude.{◌≡◌, ◌+◌, ◌<◌, ◌≤◌, ◌^◌, ◌++◌, false, length, decimal};
 ghost use Rattle.std.specs.Fmt.{digits, signed_decimal};
 ghost use Rattle.arrayvec.specs.ArrayString.{array_string_len};
-ghost use Rattle.isa_model.specs.CanonicalText.{offset_text, distance_text};
+ghost use Rattle.isa_model.specs.Text.CanonicalText.{offset_text, distance_text};
 ghost use Rattle.disassembler.specs.Hexadecimal.{hex_glyph, hex_digits};
 
 use arrayvec::ArrayString;

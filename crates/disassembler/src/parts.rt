@@ -2,7 +2,7 @@
 
 ghost use Rattle.std.specs.Prelude.{◌≡◌, ◌+◌, ◌≤◌, ◌++◌};
 ghost use Rattle.arrayvec.specs.ArrayString.{array_string_len};
-ghost use Rattle.isa_model.specs.CanonicalText.{reg_text, operand_text, place_text};
+ghost use Rattle.isa_model.specs.Text.CanonicalText.{reg_text, operand_text, place_text};
 
 use super::numbers::{Line, push_offset, push_signed};
 use super::words::reg_digits;

@@ -3,7 +3,7 @@
 ghost use Rattle.std.specs.Prelude.{OnOk, OnErr};
 ghost use Rattle.std.specs.List.{flat_map};
 ghost use Rattle.std.specs.Io.KnownBytes.{Appends};
-ghost use Rattle.isa_model.specs.CanonicalText.{line_of, row_line, rows_text, canonical_text};
+ghost use Rattle.isa_model.specs.Text.CanonicalText.{line_of, row_line, rows_text, canonical_text};
 ghost use Rattle.exact_io.specs.Transfers.{AppendsBeginning};
 ghost use Rattle.disassembler.specs.SlotText.{slot_text};
 

@@ -1,6 +1,6 @@
 -- How many instructions were explored, along the path.
 use Rattle.std.proofs.Common.{◌≡◌, ◌≤◌, ◌+◌, ◌∷◌, ◌++◌, [], ℕ, suc, Some, None, Option, List, length, arith, refl, sym, ap, ◌∙◌, subst}
-use Rattle.isa_model.specs.Instructions.{Program}
+use Rattle.isa_model.specs.Code.Instructions.{Program}
 use Rattle.stack_state.specs.declared.states.State.{State}
 use Rattle.stack_state.specs.Starts.{start}
 use Rattle.transfer.specs.declared.Ways.TheVariants as ways

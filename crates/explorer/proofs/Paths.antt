@@ -1,9 +1,9 @@
 -- Paths, visit by visit.
 use Rattle.std.proofs.Common.{◌≡◌, ◌≤◌, ◌+◌, ◌∷◌, ◌++◌, [], ℕ, suc, Some, None, Option, List, length, max, arith, refl, sym, ap, add-one, subst, inl, inr, ◌⊎◌}
-use Rattle.isa_model.specs.Instructions.{Program}
-use Rattle.isa_model.specs.States as Machine
-use Rattle.isa_model.specs.Steps.{step}
-use Rattle.isa_model.specs.Ends.{Ends, After, After-weaker, Ends-more}
+use Rattle.isa_model.specs.Code.Instructions.{Program}
+use Rattle.isa_model.specs.Machine.States as Machine
+use Rattle.isa_model.specs.Machine.Steps.{step}
+use Rattle.isa_model.specs.Running.Ends.{Ends, After, After-weaker, Ends-more}
 use Rattle.stack_state.specs.declared.states.State.{State}
 use Rattle.stack_state.specs.Meaning.{Means, Within}
 use Rattle.transfer.specs.declared.Ways.TheVariants as ways

@@ -2,16 +2,16 @@
 use Rattle.std.proofs.Common.{◌≡◌, ◌≤◌, ◌+◌, ◌<◌, ◌∷◌, ◌++◌, [], ℕ, suc, Some, None, Option, List, length, max, arith, refl, sym, ap, ◌∙◌, subst, inl, inr, ◌⊎◌}
 use Rattle.std.specs.Prelude.{IsSome}
 use Rattle.isa_model.specs.declared.instructions.Insn.{Insn}
-use Rattle.isa_model.specs.Instructions.{Program, fetch}
+use Rattle.isa_model.specs.Code.Instructions.{Program, fetch}
 use Rattle.image.specs.Images.{IsImage}
 use Rattle.image.specs.ImageLaws.{fetch-zero}
 use Rattle.image.specs.Programs.{IsProgram-IsImage}
-use Rattle.isa_model.specs.Runs.{start_state}
+use Rattle.isa_model.specs.Running.Runs.{start_state}
 use Rattle.stack_state.specs.Starts.{start, Means-start}
 use Rattle.stack_state.specs.declared.states.State.{State}
-use Rattle.isa_model.specs.Outcomes.{StartsEnd}
+use Rattle.isa_model.specs.Running.Outcomes.{StartsEnd}
 use Rattle.stack_state.specs.Meaning.{Within, depth}
-use Rattle.isa_model.specs.Successors.{Follows}
+use Rattle.isa_model.specs.Machine.Successors.{Follows}
 use Rattle.control_flow.specs.Flows.{IsFlow}
 use Rattle.control_flow.specs.FlowLaws.{IsFlow-Follows}
 use Rattle.transfer.specs.declared.Ways.{Ways}

@@ -3,7 +3,7 @@ use Rattle.std.proofs.Common.{◌≡◌, ◌+◌, ◌∷◌, ◌++◌, [], ℕ, 
 use Rattle.std.specs.Option.{option_map}
 use Rattle.std.proofs.lemmas.Option.{slice_get-map}
 use Rattle.isa_model.specs.declared.instructions.Insn.{Insn}
-use Rattle.isa_model.specs.Instructions.{Program, fetch}
+use Rattle.isa_model.specs.Code.Instructions.{Program, fetch}
 use Rattle.stack_state.specs.declared.states.State.{State}
 use Rattle.stack_state.specs.Starts.{start}
 use Rattle.control_flow.specs.Flows.{IsJoin}

@@ -1,8 +1,8 @@
 -- Programs each of whose runs ends within a bound.
 use Rattle.std.specs.Prelude.{◌≡◌, ℕ, ◌≤◌}
-use Rattle.isa_model.specs.Instructions.{Program}
+use Rattle.isa_model.specs.Code.Instructions.{Program}
 use Rattle.image.specs.Images.{IsImage}
-use Rattle.isa_model.specs.Outcomes.{StartsEnd}
+use Rattle.isa_model.specs.Running.Outcomes.{StartsEnd}
 use Rattle.explorer.specs.declared.verified.TheConstants.{MAX_EXPLORED}
 
 -- a program, and the most steps of a run

@@ -1,7 +1,7 @@
 -- The numbers of states, and how many instructions are explored.
 use Rattle.std.specs.Prelude.{◌≡◌, ℕ, ◌+◌, max, Some}
 use Rattle.isa_model.specs.declared.instructions.Insn.{Insn}
-use Rattle.isa_model.specs.Instructions.{Program, fetch}
+use Rattle.isa_model.specs.Code.Instructions.{Program, fetch}
 use Rattle.stack_state.specs.declared.states.State.{State}
 use Rattle.stack_state.specs.Meaning.{Covers}
 use Rattle.stack_state.specs.Starts.{start}

@@ -1,11 +1,11 @@
 -- What a search knows: the numbers of the stored states, and the path.
 use Rattle.std.specs.Prelude.{◌≡◌, ℕ, zero, suc, ◌+◌, ◌<◌, ◌≤◌, ◌⊎◌, max, IsSome, List, [], ◌∷◌, ◌++◌, Option, Some, None, map, length, vec_len}
 use Rattle.std.specs.List.{All}
-use Rattle.isa_model.specs.Instructions.{Program, fetch}
-use Rattle.isa_model.specs.States as Machine
-use Rattle.isa_model.specs.Steps.{step}
-use Rattle.isa_model.specs.Ends.{Ends, After}
-use Rattle.isa_model.specs.MachineStates.{IsClock}
+use Rattle.isa_model.specs.Code.Instructions.{Program, fetch}
+use Rattle.isa_model.specs.Machine.States as Machine
+use Rattle.isa_model.specs.Machine.Steps.{step}
+use Rattle.isa_model.specs.Running.Ends.{Ends, After}
+use Rattle.isa_model.specs.Machine.MachineStates.{IsClock}
 use Rattle.stack_state.specs.declared.states.State.{State}
 use Rattle.stack_state.specs.Meaning.{Means, Within, depth}
 use Rattle.stack_state.specs.Starts.{start}

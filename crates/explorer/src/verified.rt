@@ -1,7 +1,7 @@
 //! Programs each of whose runs ends within a bound.
 
 ghost use Rattle.std.specs.Prelude.{◌≡◌, ◌≤◌, IfOk, IfErr};
-ghost use Rattle.isa_model.specs.Outcomes.{StartsEnd};
+ghost use Rattle.isa_model.specs.Running.Outcomes.{StartsEnd};
 ghost use Rattle.explorer.specs.Bounds.{IsVerified};
 ghost use Rattle.explorer.specs.Refused.{IsRefused};
 ghost use Rattle.explorer.specs.Counts.{HasNumber};

@@ -10,7 +10,7 @@ use Rattle.isa_model.specs.declared.frames.FrameHead.{FrameHead}
 use Rattle.isa_model.specs.declared.streams.Fault.TheVariants.{F1, F2, F3, F4, F5, F6}
 use Rattle.isa_model.specs.declared.streams.Finish.{Finish}
 use Rattle.isa_model.specs.declared.streams.Finish.TheVariants as finish
-use Rattle.isa_model.specs.Streams.{magic, max_body, max_frames, cut_by, length_field, Ending, ByEnd, ByError, head_bytes, stop_at, stop_from, Position, Fresh, At, Done}
+use Rattle.isa_model.specs.Reporting.Streams.{magic, max_body, max_frames, cut_by, length_field, Ending, ByEnd, ByError, head_bytes, stop_at, stop_from, Position, Fresh, At, Done}
 use Rattle.frames.specs.Reading.{Reads, Stops, CanStop, HasRoom, Finding, Found, Stopped}
 use Rattle.frames.specs.Stages.{ReadsMagic}
 use Rattle.frames.proofs.Stopping.{stop_at-cut, stop_at-heard, stop_at-nothing_heard, stop_at-many, stop_at-long, stop_at-body, length_field-append, stop_from-short, stop_from-other, stop_from-magic}

@@ -5,7 +5,7 @@ use Rattle.std.proofs.lemmas.Bool.Decides.{nat_tests}
 use Rattle.std.specs.List.{starts_with}
 use Rattle.isa_model.specs.declared.streams.Fault.TheVariants.{F1, F2, F3, F4, F5, F6}
 use Rattle.isa_model.specs.declared.streams.Finish.TheVariants as finish
-use Rattle.isa_model.specs.Streams.{magic, max_body, max_frames, cut_by, length_field, Ending, ByError, stop_at, stop_from, Fresh}
+use Rattle.isa_model.specs.Reporting.Streams.{magic, max_body, max_frames, cut_by, length_field, Ending, ByError, stop_at, stop_from, Fresh}
 
 -- a part of a head
 pub stop_at-cut : (number offset : ℕ) (bytes : List ℕ) (e : Ending) → number ≢ max_frames → 0 < length bytes → length bytes < 20

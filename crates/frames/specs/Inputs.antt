@@ -5,8 +5,8 @@ use Rattle.std.proofs.KnownBytes.{Consumes-trans, Consumes-nil}
 use Rattle.isa_model.specs.declared.streams.Fault.TheVariants.{F1, F2, F3, F4, F5, F6}
 use Rattle.isa_model.specs.declared.streams.Finish.{Finish}
 use Rattle.isa_model.specs.declared.streams.Finish.TheVariants as finish
-use Rattle.isa_model.specs.Streams.{Frame, Input, Ending, ByEnd, ByError, Position, Fresh, At, Done, opening, frame_bytes, stop_at, stop_from, after_frame, position_after, number_of, bytes_from, IsOpen, AreOpen, stream_of}
-use Rattle.isa_model.specs.StreamLaws.{number_of-position_after, position_after-append, bytes_from-append, AreOpen-append, stream_of-stops}
+use Rattle.isa_model.specs.Reporting.Streams.{Frame, Input, Ending, ByEnd, ByError, Position, Fresh, At, Done, opening, frame_bytes, stop_at, stop_from, after_frame, position_after, number_of, bytes_from, IsOpen, AreOpen, stream_of}
+use Rattle.isa_model.specs.Reporting.StreamLaws.{number_of-position_after, position_after-append, bytes_from-append, AreOpen-append, stream_of-stops}
 use Rattle.frames.specs.Reading.{Found, Stopped, Stops, Reads, CanStop, next_position}
 
 -- What was heard of a source with these bytes: all of them and then an end, or a front of them and then an error;

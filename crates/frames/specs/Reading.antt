@@ -4,7 +4,7 @@ use Rattle.std.specs.Io.KnownBytes.{Consumes}
 use Rattle.isa_model.specs.declared.streams.Fault.TheVariants.{F5}
 use Rattle.isa_model.specs.declared.streams.Finish.{Finish}
 use Rattle.isa_model.specs.declared.streams.Finish.TheVariants as finish
-use Rattle.isa_model.specs.Streams.{Frame, max_body, frame_bytes, IsOpen, Ending, ByEnd, ByError, Position, Done, stop_from, opening, after_frame}
+use Rattle.isa_model.specs.Reporting.Streams.{Frame, max_body, frame_bytes, IsOpen, Ending, ByEnd, ByError, Position, Done, stop_from, opening, after_frame}
 use Rattle.frames.specs.Readers.{Reading}
 use Rattle.frames.specs.declared.reader.Next.{Next}
 use Rattle.frames.specs.declared.reader.Next.TheVariants as next

@@ -2,7 +2,7 @@
 use Rattle.std.specs.Prelude.{◌≡◌, ℕ, ◌+◌, ◌*◌, ◌<◌, ◌≤◌, List, ◌++◌, Option, Some, None}
 use Rattle.isa_model.specs.declared.streams.Fault.{Fault}
 use Rattle.isa_model.specs.declared.streams.Finish.TheVariants as finish
-use Rattle.isa_model.specs.Streams.{magic, max_body, max_frames, Position, Fresh, At, Done}
+use Rattle.isa_model.specs.Reporting.Streams.{magic, max_body, max_frames, Position, Fresh, At, Done}
 use Rattle.frames.specs.Reading.{Stops, CanStop}
 use Rattle.frames.specs.declared.reader.Next.{Next}
 use Rattle.frames.specs.declared.reader.Next.TheVariants as next

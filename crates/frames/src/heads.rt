@@ -1,6 +1,6 @@
 //! The 20 bytes before a record's body: u64 time, u32 interface, u32 queue, u32 length of the body.
 ghost use Rattle.std.specs.Prelude.{◌≡◌, length};
-ghost use Rattle.isa_model.specs.Streams.{head_bytes, length_field};
+ghost use Rattle.isa_model.specs.Reporting.Streams.{head_bytes, length_field};
 
 use byteorder::{ByteOrder, LittleEndian};
 use isa_model::FrameHead;

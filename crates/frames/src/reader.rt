@@ -1,7 +1,7 @@
 //! Reads records one by one.
 ghost use Rattle.std.specs.Prelude.{◌≡◌, ◌+◌, ◌*◌, ◌≤◌, Option};
-ghost use Rattle.isa_model.specs.MachineStates.{AreBytes};
-ghost use Rattle.isa_model.specs.Streams.{Position, Fresh, At};
+ghost use Rattle.isa_model.specs.Machine.MachineStates.{AreBytes};
+ghost use Rattle.isa_model.specs.Reporting.Streams.{Position, Fresh, At};
 ghost use Rattle.frames.specs.Reading.{finding_of, next_position, Reads, HasRoom, FitsBuffer, StaysDone};
 ghost use Rattle.frames.specs.Stages.{ReadsMagic, MayFail, HasRoomFor, IsStageAfter};
 

@@ -1,7 +1,7 @@
 //! Writes records.
 ghost use Rattle.std.specs.Prelude.{◌≤◌, length, OnOk, OnErr};
 ghost use Rattle.std.specs.Io.KnownBytes.{Appends};
-ghost use Rattle.isa_model.specs.Streams.{frame_bytes, max_body};
+ghost use Rattle.isa_model.specs.Reporting.Streams.{frame_bytes, max_body};
 ghost use Rattle.exact_io.specs.Transfers.{AppendsBeginning};
 
 use super::heads::encode_head;

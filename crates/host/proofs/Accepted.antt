@@ -3,12 +3,12 @@ use Rattle.std.proofs.Common.{◌≡◌, ℕ, List, Option, Result, refl, sym, a
 use Rattle.isa_model.specs.declared.frames.FrameHead.{FrameHead}
 use Rattle.isa_model.specs.declared.ends.End.TheVariants.{Exit}
 use Rattle.isa_model.specs.declared.streams.Finish.{Finish}
-use Rattle.isa_model.specs.States.{Entries}
-use Rattle.isa_model.specs.Streams.{Frame, Fresh}
-use Rattle.isa_model.specs.Runs.{Turn, turn}
-use Rattle.isa_model.specs.RunLaws.{turn-outcome}
-use Rattle.isa_model.specs.Reports.{report_of, checked_rule, checked_report, starting_contents}
-use Rattle.isa_model.specs.ReportLaws.{AreOpen-IsFrame, IsReport-checked}
+use Rattle.isa_model.specs.Machine.States.{Entries}
+use Rattle.isa_model.specs.Reporting.Streams.{Frame, Fresh}
+use Rattle.isa_model.specs.Running.Runs.{Turn, turn}
+use Rattle.isa_model.specs.Running.RunLaws.{turn-outcome}
+use Rattle.isa_model.specs.Reporting.Reports.{report_of, checked_rule, checked_report, starting_contents}
+use Rattle.isa_model.specs.Reporting.ReportLaws.{AreOpen-IsFrame, IsReport-checked}
 use Rattle.image.specs.Programs.{IsProgram-IsImage, FitRows-starting_contents}
 use Rattle.explorer.specs.Bounds.{Bounded, IsVerified}
 use Rattle.machine.specs.declared.machines.Exit.{Exit as TheExit}

@@ -5,9 +5,9 @@ use Rattle.std.specs.Io.KnownBytes.{Appends}
 use Rattle.std.proofs.KnownBytes.{Appends-nil, Appends-trans}
 use Rattle.exact_io.specs.Transfers.{AppendsBeginning}
 use Rattle.isa_model.specs.declared.ends.End.{End}
-use Rattle.isa_model.specs.Streams.{Frame, frame_bytes}
-use Rattle.isa_model.specs.Runs.{Turn}
-use Rattle.isa_model.specs.Reports.{Piece, ToReport, ToFrames, frame_line, frame_pieces, record_pieces, is_sent}
+use Rattle.isa_model.specs.Reporting.Streams.{Frame, frame_bytes}
+use Rattle.isa_model.specs.Running.Runs.{Turn}
+use Rattle.isa_model.specs.Reporting.Reports.{Piece, ToReport, ToFrames, frame_line, frame_pieces, record_pieces, is_sent}
 use Rattle.host.specs.declared.errors.HostError.{HostError}
 use Rattle.host.specs.declared.errors.HostError.TheVariants as failure
 use Rattle.host.specs.Writing.{Outputs, Wrote, WroteBefore}

@@ -1,8 +1,8 @@
 -- What holds while the frames of a stream are run.
 use Rattle.std.proofs.Common.{◌≡◌, ℕ, List, ◌∷◌, Option}
-use Rattle.isa_model.specs.States.{Entries}
-use Rattle.isa_model.specs.Streams.{Frame, magic, Position, number_of}
-use Rattle.isa_model.specs.Reports.{Rule, ToFrames, turns_pieces, contents_after}
+use Rattle.isa_model.specs.Machine.States.{Entries}
+use Rattle.isa_model.specs.Reporting.Streams.{Frame, magic, Position, number_of}
+use Rattle.isa_model.specs.Reporting.Reports.{Rule, ToFrames, turns_pieces, contents_after}
 use Rattle.frames.specs.Inputs.{HasFound}
 use Rattle.host.specs.Writing.{Outputs, Wrote}
 

@@ -4,9 +4,9 @@ use Rattle.std.specs.Io.KnownBytes.{Appends}
 use Rattle.exact_io.specs.Transfers.{AppendsBeginning}
 use Rattle.isa_model.specs.declared.map_defs.MapDef.{MapDef}
 use Rattle.isa_model.specs.declared.streams.Finish.{Finish}
-use Rattle.isa_model.specs.States.{Entries}
-use Rattle.isa_model.specs.Streams.{Frame, magic, Position, Fresh, number_of, IsOpen}
-use Rattle.isa_model.specs.Reports.{Piece, Rule, ToReport, ToFrames, turns_pieces, contents_after, frame_pieces, maps_pieces, last_line, report_of}
+use Rattle.isa_model.specs.Machine.States.{Entries}
+use Rattle.isa_model.specs.Reporting.Streams.{Frame, magic, Position, Fresh, number_of, IsOpen}
+use Rattle.isa_model.specs.Reporting.Reports.{Piece, Rule, ToReport, ToFrames, turns_pieces, contents_after, frame_pieces, maps_pieces, last_line, report_of}
 use Rattle.frames.specs.Reading.{Found, Stopped, Reads, CanStop, next_position}
 use Rattle.frames.specs.Inputs.{HasFound, HasFound-fresh, HasFound-next, HasFound-count, HasFound-stops, HasFound-breaks, broken_off}
 use Rattle.host.specs.declared.errors.HostError.{HostError}

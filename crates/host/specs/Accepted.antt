@@ -1,9 +1,9 @@
 -- What a run of an accepted program writes of the stream that it hears.
 use Rattle.std.specs.Prelude.{◌≡◌, ℕ, List, length, Option, Result, IfOk}
 use Rattle.isa_model.specs.declared.streams.Finish.{Finish}
-use Rattle.isa_model.specs.Streams.{Frame, Fresh, AreOpen}
-use Rattle.isa_model.specs.Reports.{Piece, IsReport, starting_contents}
-use Rattle.isa_model.specs.ReportLaws.{AllExit}
+use Rattle.isa_model.specs.Reporting.Streams.{Frame, Fresh, AreOpen}
+use Rattle.isa_model.specs.Reporting.Reports.{Piece, IsReport, starting_contents}
+use Rattle.isa_model.specs.Reporting.ReportLaws.{AllExit}
 use Rattle.explorer.specs.Bounds.{Bounded}
 use Rattle.frames.specs.Inputs.{IsHeard}
 use Rattle.host.specs.declared.errors.HostError.{HostError}

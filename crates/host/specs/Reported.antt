@@ -1,8 +1,8 @@
 -- What a run writes of the stream that it hears.
 use Rattle.std.specs.Prelude.{◌≡◌, ℕ, List, length, Option, Result, IfOk}
 use Rattle.isa_model.specs.declared.streams.Finish.{Finish}
-use Rattle.isa_model.specs.Streams.{Frame, Fresh, AreOpen}
-use Rattle.isa_model.specs.Reports.{Piece}
+use Rattle.isa_model.specs.Reporting.Streams.{Frame, Fresh, AreOpen}
+use Rattle.isa_model.specs.Reporting.Reports.{Piece}
 use Rattle.frames.specs.Inputs.{IsHeard}
 use Rattle.host.specs.declared.errors.HostError.{HostError}
 use Rattle.host.specs.declared.tallies.Tally.{Tally}

@@ -1,7 +1,7 @@
 -- What two outputs hold after the pieces of a report were written to them in order, also where one of them failed.
 use Rattle.std.specs.Prelude.{◌≡◌, ℕ, ◌<◌, List, ◌∷◌, ◌++◌, length, take, Option, Result, MatchResult}
 use Rattle.std.specs.Io.KnownBytes.{Appends}
-use Rattle.isa_model.specs.Reports.{Piece, ToReport, ToFrames, report_part, frames_part, report_bytes, frames_out}
+use Rattle.isa_model.specs.Reporting.Reports.{Piece, ToReport, ToFrames, report_part, frames_part, report_bytes, frames_out}
 use Rattle.host.specs.declared.errors.HostError.{HostError}
 use Rattle.host.specs.declared.errors.HostError.TheVariants as failure
 

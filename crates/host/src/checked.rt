@@ -1,7 +1,7 @@
 //! Runs on the checked machine.
 ghost use Rattle.std.specs.Prelude.{◌≡◌, ◌≢◌, ◌≤◌};
-ghost use Rattle.isa_model.specs.Runs.{max_steps};
-ghost use Rattle.isa_model.specs.Reports.{checked_report};
+ghost use Rattle.isa_model.specs.Running.Runs.{max_steps};
+ghost use Rattle.isa_model.specs.Reporting.Reports.{checked_report};
 ghost use Rattle.host.specs.Reported.{Reports};
 
 use super::clocks::FrameClock;
@@ -25,7 +25,7 @@ struct CheckedRunner {
 }
 
 impl Runner for CheckedRunner {
-    ghost use Rattle.isa_model.specs.Reports.{checked_rule};
+    ghost use Rattle.isa_model.specs.Reporting.Reports.{checked_rule};
 
     ghost rows = { λ runner. runner.machine.program.maps };
 

@@ -1,7 +1,7 @@
 //! The lines of the report, made in a buffer of fixed size.
 ghost use Rattle.std.specs.Prelude.{◌≡◌, ◌+◌, ◌≤◌, ◌++◌, decimal};
 ghost use Rattle.arrayvec.specs.ArrayString.{array_string_len};
-ghost use Rattle.isa_model.specs.Reports.{frame_line, last_line};
+ghost use Rattle.isa_model.specs.Reporting.Reports.{frame_line, last_line};
 
 use arrayvec::ArrayString;
 use isa_model::{Action, End, Finish};
@@ -21,7 +21,7 @@ fn push_number(line: &mut Line, number: u64)
 }
 
 /// The line of the frame with this number, by how its run within the limit ended and how many bytes it has.
-#[tactic(auto, unfolding(isa_model::specs::Reports::frame_line))]
+#[tactic(auto, unfolding(isa_model::specs::Reporting::Reports::frame_line))]
 pub fn line_of_frame(limit: u32, number: u32, end: End, size: usize) -> Line
     ensures { result.bytes ≡ frame_line limit number end size }
 {
@@ -56,7 +56,7 @@ pub fn line_of_frame(limit: u32, number: u32, end: End, size: usize) -> Line
 }
 
 /// The last line, by how many frames were run and how the stream ended.
-#[tactic(auto, unfolding(isa_model::specs::Reports::last_line))]
+#[tactic(auto, unfolding(isa_model::specs::Reporting::Reports::last_line))]
 pub fn line_of_finish(frames: u32, finish: Finish) -> Line
     ensures { result.bytes ≡ last_line frames finish }
 {

@@ -20,7 +20,7 @@ struct MachineRunner {
 }
 
 impl Runner for MachineRunner {
-    ghost use Rattle.isa_model.specs.Reports.{checked_rule};
+    ghost use Rattle.isa_model.specs.Reporting.Reports.{checked_rule};
 
     ghost rows = { λ runner. runner.machine.program.maps };
 

@@ -4,11 +4,11 @@ use Rattle.std.specs.Prelude.{slice_index}
 use Rattle.std.proofs.lemmas.List.{get_or-drop, length-drop, length-take, take-append-drop, drop_at}
 use Rattle.isa_model.specs.declared.instructions.Insn.{Insn}
 use Rattle.isa_model.specs.declared.instructions.Insn.TheVariants.{LoadNumber}
-use Rattle.isa_model.specs.Instructions.{slots_of}
-use Rattle.isa_model.specs.Spelling.{spelling_of, InsnFits}
+use Rattle.isa_model.specs.Code.Instructions.{slots_of}
+use Rattle.isa_model.specs.Code.Spelling.{spelling_of, InsnFits}
 use Rattle.insn_codec.specs.declared.errors.CodecError.{CodecError}
 use Rattle.insn_codec.specs.Decoding.{decoded}
-use Rattle.isa_model.specs.LittleEndian.{EachByte, EachByte-drop}
+use Rattle.isa_model.specs.Code.LittleEndian.{EachByte, EachByte-drop}
 use Rattle.image.specs.declared.errors.ImageError.{ImageError}
 use Rattle.image.specs.Images.{code_bytes, is_wide, IsCode}
 use Rattle.image.specs.Refusals.{◌>>=◌, insn_at, at_slot, code_from}

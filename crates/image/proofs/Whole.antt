@@ -13,8 +13,8 @@ use Rattle.byteorder.specs.Endian.{little_bytes, little_number}
 use Rattle.byteorder.specs.Numbers.{little_number-reads_back}
 use Rattle.isa_model.specs.declared.map_defs.MapDef.{MapDef}
 use Rattle.isa_model.specs.declared.instructions.Insn.{Insn}
-use Rattle.isa_model.specs.Instructions.{Program}
-use Rattle.isa_model.specs.LittleEndian.{EachByte, EachByte-drop, little_bytes-little_from}
+use Rattle.isa_model.specs.Code.Instructions.{Program}
+use Rattle.isa_model.specs.Code.LittleEndian.{EachByte, EachByte-drop, little_bytes-little_from}
 use Rattle.image.specs.declared.errors.ImageError.{ImageError}
 use Rattle.image.specs.declared.errors.ImageError.TheVariants.{Magic, Short, Long, TooManyMaps, SlotCount, Memory}
 use Rattle.image.specs.declared.head.TheConstants.{MAX_MAPS, MAX_SLOTS}

@@ -7,7 +7,7 @@ use Rattle.std.proofs.lemmas.List.{take-append-drop}
 use Rattle.std.specs.Io.KnownBytes.{Appends}
 use Rattle.std.proofs.KnownBytes.{Appends-trans}
 use Rattle.isa_model.specs.declared.instructions.Insn.{Insn}
-use Rattle.isa_model.specs.Spelling.{spelling_of}
+use Rattle.isa_model.specs.Code.Spelling.{spelling_of}
 use Rattle.exact_io.specs.Transfers.{AppendsBeginning}
 use Rattle.exact_io.specs.TransferLaws.{AppendsBeginning-first, AppendsBeginning-second}
 use Rattle.image.specs.Images.{slot_spelling, code_bytes}

@@ -2,9 +2,9 @@
 use Rattle.std.proofs.Common.{◌≡◌, ◌≢◌, ℕ, ◌+◌, Bool, true, false, List, [], ◌∷◌, ◌++◌, length, Option, Some, None, refl, sym, ap, ◌∙◌, subst, arith, length-append}
 use Rattle.isa_model.specs.declared.instructions.Insn.{Insn}
 use Rattle.isa_model.specs.declared.instructions.Insn.TheVariants.{LoadNumber}
-use Rattle.isa_model.specs.Instructions.{slots, slots_of}
-use Rattle.isa_model.specs.Spelling.{InsnFits}
-use Rattle.isa_model.specs.CanonicalText.{instructions}
+use Rattle.isa_model.specs.Code.Instructions.{slots, slots_of}
+use Rattle.isa_model.specs.Code.Spelling.{InsnFits}
+use Rattle.isa_model.specs.Text.CanonicalText.{instructions}
 use Rattle.image.specs.Images.{IsCode, is_wide}
 
 abbrev Slots : Type 0

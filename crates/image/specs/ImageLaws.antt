@@ -4,8 +4,8 @@ use Rattle.std.specs.Prelude.{slice_get, ◌⊎◌}
 use Rattle.std.specs.Option.{option_flatten}
 use Rattle.isa_model.specs.declared.instructions.Insn.{Insn}
 use Rattle.isa_model.specs.declared.instructions.Insn.TheVariants.{LoadNumber}
-use Rattle.isa_model.specs.Instructions.{Program, fetch, slots_of}
-use Rattle.isa_model.specs.Spelling.{InsnFits}
+use Rattle.isa_model.specs.Code.Instructions.{Program, fetch, slots_of}
+use Rattle.isa_model.specs.Code.Spelling.{InsnFits}
 use Rattle.image.specs.Images.{IsCode, is_wide, IsImage}
 
 -- ---- code, slot by slot

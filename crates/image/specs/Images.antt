@@ -7,8 +7,8 @@ use Rattle.isa_model.specs.declared.map_defs.MapKind.{MapKind}
 use Rattle.isa_model.specs.declared.map_defs.MapKind.TheVariants.{Hash, Array}
 use Rattle.isa_model.specs.declared.map_defs.MapDef.{MapDef}
 use Rattle.isa_model.specs.declared.instructions.Insn.{Insn}
-use Rattle.isa_model.specs.Instructions.{Program, slots, slots_of}
-use Rattle.isa_model.specs.Spelling.{spelling_of, InsnFits}
+use Rattle.isa_model.specs.Code.Instructions.{Program, slots, slots_of}
+use Rattle.isa_model.specs.Code.Spelling.{spelling_of, InsnFits}
 use Rattle.image.specs.declared.head.TheConstants.{MAX_MAPS, MAX_SLOTS}
 
 -- ---- spelling

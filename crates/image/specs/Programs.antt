@@ -7,9 +7,9 @@ use Rattle.std.proofs.lemmas.Option.{slice_get_past}
 use Rattle.isa_model.specs.declared.instructions.Insn.{Insn}
 use Rattle.isa_model.specs.declared.map_defs.MapDef.{MapDef}
 use Rattle.isa_model.specs.declared.instructions.Insn.TheVariants.{LoadNumber}
-use Rattle.isa_model.specs.Instructions.{Program, fetch, slots_of}
-use Rattle.isa_model.specs.MachineStates.{IsProgram, FitRows}
-use Rattle.isa_model.specs.Reports.{starting_contents}
+use Rattle.isa_model.specs.Code.Instructions.{Program, fetch, slots_of}
+use Rattle.isa_model.specs.Machine.MachineStates.{IsProgram, FitRows}
+use Rattle.isa_model.specs.Reporting.Reports.{starting_contents}
 use Rattle.image.specs.Images.{IsImage}
 use Rattle.image.specs.ImageLaws.{InsnFits-fetch, fetch-second}
 

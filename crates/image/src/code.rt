@@ -2,8 +2,8 @@
 
 ghost use Rattle.std.specs.Prelude.{◌≡◌, ◌/◌, false, length, IfOk, OnOk, OnErr};
 ghost use Rattle.std.specs.Io.KnownBytes.{Appends};
-ghost use Rattle.isa_model.specs.Instructions.{slots};
-ghost use Rattle.isa_model.specs.Spelling.{spelling_of, InsnFits};
+ghost use Rattle.isa_model.specs.Code.Instructions.{slots};
+ghost use Rattle.isa_model.specs.Code.Spelling.{spelling_of, InsnFits};
 ghost use Rattle.exact_io.specs.Transfers.{AppendsBeginning};
 ghost use Rattle.image.specs.Images.{code_bytes, IsCode};
 ghost use Rattle.image.specs.Refusals.{Gives, insn_at, code_from};

@@ -3,7 +3,7 @@
 ghost use Rattle.std.specs.Prelude.{◌≡◌, ◌⊎◌, None, Some, length, IfOk, MatchResult, OnOk, OnErr};
 ghost use Rattle.std.specs.Option.{option_copied};
 ghost use Rattle.std.specs.Io.KnownBytes.{Appends};
-ghost use Rattle.isa_model.specs.Instructions.{Program, fetch, slots};
+ghost use Rattle.isa_model.specs.Code.Instructions.{Program, fetch, slots};
 ghost use Rattle.exact_io.specs.Transfers.{AppendsBeginning};
 ghost use Rattle.image.specs.Images.{IsImage, image_bytes, code_alone};
 ghost use Rattle.image.specs.Refusals.{refusal_of, count_refusal};

@@ -34,10 +34,10 @@ use Rattle.isa_model.specs.declared.instructions.Cond.{Cond}
 use Rattle.isa_model.specs.declared.instructions.Insn.{Insn}
 use Rattle.isa_model.specs.declared.instructions.Insn.TheVariants.{Alu, Neg, MovSx, ByteSwap, LoadNumber, Load, LoadSx, StoreConstant, Store, Atomic, Exchange, CompareExchange, Jump, JumpLong, JumpIf, CallLocal, Exit}
 use Rattle.isa_model.specs.declared.slots.Slot.{Slot}
-use Rattle.isa_model.specs.Registers.{reg_numbered}
-use Rattle.isa_model.specs.Sizes.{span_bits}
-use Rattle.isa_model.specs.Spelling.{alu_code, alu_offset, alu_class, jump_class, jump_code, extension_class, extension_bits, order_opcode, size_code, narrow_code, atomic_opcode, atomic_code, fetch_bit, first_slot, next_imm, second_bytes}
-use Rattle.isa_model.specs.Spelling.{InsnFits, OperandFits}
+use Rattle.isa_model.specs.Code.Registers.{reg_numbered}
+use Rattle.isa_model.specs.Code.Sizes.{span_bits}
+use Rattle.isa_model.specs.Code.Spelling.{alu_code, alu_offset, alu_class, jump_class, jump_code, extension_class, extension_bits, order_opcode, size_code, narrow_code, atomic_opcode, atomic_code, fetch_bit, first_slot, next_imm, second_bytes}
+use Rattle.isa_model.specs.Code.Spelling.{InsnFits, OperandFits}
 use Rattle.insn_codec.specs.declared.errors.CodecError.{CodecError}
 use Rattle.insn_codec.specs.declared.errors.CodecError.TheVariants.{UnusedField, SecondSlot}
 use Rattle.insn_codec.specs.declared.forms.AluCode.{AluCode}

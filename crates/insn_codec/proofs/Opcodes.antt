@@ -5,8 +5,8 @@ use Rattle.std.specs.Option.{option_map_or}
 use Rattle.std.proofs.lemmas.Bool.{agree_below_at, eqb-true}
 use Rattle.isa_model.specs.declared.registers.Reg.{Reg}
 use Rattle.isa_model.specs.declared.registers.Reg.TheVariants.{R0}
-use Rattle.isa_model.specs.Registers.{reg_number, reg_numbered}
-use Rattle.isa_model.specs.Spelling.{alu_class, jump_class, jump_code, order_opcode, size_code, narrow_code, atomic_opcode}
+use Rattle.isa_model.specs.Code.Registers.{reg_number, reg_numbered}
+use Rattle.isa_model.specs.Code.Spelling.{alu_class, jump_class, jump_code, order_opcode, size_code, narrow_code, atomic_opcode}
 use Rattle.insn_codec.specs.declared.forms.AluCode.{AluCode}
 use Rattle.insn_codec.specs.declared.forms.AluCode.TheVariants as codes
 use Rattle.insn_codec.specs.declared.forms.Form.{Form}

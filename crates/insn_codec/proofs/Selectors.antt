@@ -14,9 +14,9 @@ use Rattle.isa_model.specs.declared.sizes.Span.TheVariants.{B16, B32, B64}
 use Rattle.isa_model.specs.declared.sizes.Extension.{Extension}
 use Rattle.isa_model.specs.declared.sizes.Extension.TheVariants.{Low8, Low16, Full8, Full16, Full32}
 use Rattle.isa_model.specs.declared.instructions.Insn.{Insn}
-use Rattle.isa_model.specs.Registers.{reg_number}
-use Rattle.isa_model.specs.Sizes.{span_bits}
-use Rattle.isa_model.specs.Spelling.{alu_code, alu_offset, alu_class, extension_class, extension_bits}
+use Rattle.isa_model.specs.Code.Registers.{reg_number}
+use Rattle.isa_model.specs.Code.Sizes.{span_bits}
+use Rattle.isa_model.specs.Code.Spelling.{alu_code, alu_offset, alu_class, extension_class, extension_bits}
 use Rattle.insn_codec.specs.declared.errors.CodecError.{CodecError}
 use Rattle.insn_codec.specs.declared.forms.AluCode.{AluCode}
 use Rattle.insn_codec.specs.declared.forms.AluCode.TheVariants as codes

@@ -20,9 +20,9 @@ use Rattle.isa_model.specs.declared.instructions.Operand.TheVariants.{Constant, 
 use Rattle.isa_model.specs.declared.instructions.Insn.{Insn}
 use Rattle.isa_model.specs.declared.instructions.Insn.TheVariants.{Alu, MovSx, ByteSwap, Atomic, Exchange, CompareExchange}
 use Rattle.isa_model.specs.declared.slots.Slot.{Slot}
-use Rattle.isa_model.specs.Registers.{reg_number, reg_numbered}
-use Rattle.isa_model.specs.Spelling.{InsnFits, alu_class, atomic_opcode, first_slot, next_imm, second_bytes, slot}
-use Rattle.isa_model.specs.LittleEndian.{EachByte, EachByte-drop, little_bytes-little_from}
+use Rattle.isa_model.specs.Code.Registers.{reg_number, reg_numbered}
+use Rattle.isa_model.specs.Code.Spelling.{InsnFits, alu_class, atomic_opcode, first_slot, next_imm, second_bytes, slot}
+use Rattle.isa_model.specs.Code.LittleEndian.{EachByte, EachByte-drop, little_bytes-little_from}
 use Rattle.insn_codec.specs.declared.forms.AluCode.{AluCode}
 use Rattle.insn_codec.specs.declared.forms.Form.{Form}
 use Rattle.insn_codec.specs.declared.forms.Form.TheVariants as form

@@ -23,8 +23,8 @@ use Rattle.isa_model.specs.declared.instructions.Place.{Place}
 use Rattle.isa_model.specs.declared.instructions.Insn.{Insn}
 use Rattle.isa_model.specs.declared.instructions.Insn.TheVariants.{Alu, Neg, MovSx, ByteSwap, LoadNumber, Load, LoadSx, StoreConstant, Store, Atomic, Exchange, CompareExchange, Jump, JumpLong, JumpIf, CallLocal, Exit}
 use Rattle.isa_model.specs.declared.slots.Slot.{Slot}
-use Rattle.isa_model.specs.Registers.{reg_numbered}
-use Rattle.isa_model.specs.Instructions.{slots_of}
+use Rattle.isa_model.specs.Code.Registers.{reg_numbered}
+use Rattle.isa_model.specs.Code.Instructions.{slots_of}
 use Rattle.insn_codec.specs.declared.errors.CodecError.{CodecError}
 use Rattle.insn_codec.specs.declared.errors.CodecError.TheVariants.{Short, UnknownOpcode, UnknownRegister, UnusedField, UnknownSelector, SecondSlot}
 use Rattle.insn_codec.specs.declared.forms.AluCode.{AluCode}

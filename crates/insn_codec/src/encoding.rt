@@ -2,9 +2,9 @@
 
 ghost use Rattle.std.specs.Prelude.{◌≡◌, ◌+◌, ◌<◌};
 ghost use Rattle.std.specs.Int.{w32, cast_unsigned};
-ghost use Rattle.isa_model.specs.Registers.{reg_number};
-ghost use Rattle.isa_model.specs.Sizes.{span_bits};
-ghost use Rattle.isa_model.specs.Spelling.{first_slot, next_imm, slot, offset16, alu_code, alu_offset, alu_class, jump_code, jump_class, operand_bit, operand_src, operand_imm, extension_class, extension_bits, order_opcode, size_code, narrow_code, atomic_opcode, atomic_code, fetch_bit};
+ghost use Rattle.isa_model.specs.Code.Registers.{reg_number};
+ghost use Rattle.isa_model.specs.Code.Sizes.{span_bits};
+ghost use Rattle.isa_model.specs.Code.Spelling.{first_slot, next_imm, slot, offset16, alu_code, alu_offset, alu_class, jump_code, jump_class, operand_bit, operand_src, operand_imm, extension_class, extension_bits, order_opcode, size_code, narrow_code, atomic_opcode, atomic_code, fetch_bit};
 
 use isa_model::{
     AluOp, AtomicOp, ByteOrder, Comparison, Cond, Extension, Insn, Narrow, Operand, Place, Reg,

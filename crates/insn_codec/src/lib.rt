@@ -12,9 +12,9 @@ mod slots;
 
 ghost use Rattle.std.specs.Prelude.{◌≡◌, ◌*◌, ◌++◌, ◌<◌, take, drop, ℕ, List, Ok, IfOk};
 ghost use Rattle.isa_model.specs.declared.instructions.Insn.{Insn};
-ghost use Rattle.isa_model.specs.Instructions.{slots_of};
-ghost use Rattle.isa_model.specs.LittleEndian.{EachByte};
-ghost use Rattle.isa_model.specs.Spelling.{spelling_of, InsnFits};
+ghost use Rattle.isa_model.specs.Code.Instructions.{slots_of};
+ghost use Rattle.isa_model.specs.Code.LittleEndian.{EachByte};
+ghost use Rattle.isa_model.specs.Code.Spelling.{spelling_of, InsnFits};
 ghost use Rattle.insn_codec.specs.Decoding.{decoded, sized};
 
 pub use errors::CodecError;

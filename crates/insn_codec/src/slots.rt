@@ -1,7 +1,7 @@
 //! Slots as bytes. RFC 9669, section 3.
 
 ghost use Rattle.std.specs.Prelude.{◌≡◌, ◌≤◌, ◌<◌, ◌++◌, Some, length, drop};
-ghost use Rattle.isa_model.specs.Spelling.{slot_bytes, second_bytes};
+ghost use Rattle.isa_model.specs.Code.Spelling.{slot_bytes, second_bytes};
 ghost use Rattle.insn_codec.specs.Decoding.{slot_at};
 
 use byteorder::{ByteOrder, LittleEndian};

@@ -1,7 +1,7 @@
 //! How runs end.
 
 ghost use Rattle.std.specs.Prelude.{◌≡◌, ◌≤◌, length};
-ghost use Rattle.isa_model.specs.Reports.{reason_name};
+ghost use Rattle.isa_model.specs.Reporting.Reports.{reason_name};
 
 /// Why a run stopped at an instruction. A trap changes nothing.
 #[derive(Clone, Copy, PartialEq, Eq, Debug)]

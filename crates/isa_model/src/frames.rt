@@ -1,8 +1,8 @@
 //! Packet frames: what a program is run on, and what becomes of it.
 
 ghost use Rattle.std.specs.Prelude.{◌≡◌, ◌≤◌, length};
-ghost use Rattle.isa_model.specs.Frames.{action_of};
-ghost use Rattle.isa_model.specs.Reports.{action_name, is_forwarded};
+ghost use Rattle.isa_model.specs.Reporting.Frames.{action_of};
+ghost use Rattle.isa_model.specs.Reporting.Reports.{action_name, is_forwarded};
 
 /// What a frame's record says beside its bytes: a time in nanoseconds, and the interface and queue that it
 /// came in by.

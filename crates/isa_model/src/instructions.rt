@@ -3,7 +3,7 @@
 //! The parts' types admit only what can be spelled, so each value is an instruction.
 
 ghost use Rattle.std.specs.Prelude.{◌≡◌};
-ghost use Rattle.isa_model.specs.Instructions.{slots_of, writes, is_frame_pointer};
+ghost use Rattle.isa_model.specs.Code.Instructions.{slots_of, writes, is_frame_pointer};
 
 use crate::registers::Reg;
 use crate::sizes::{ByteOrder, Extension, Narrow, Size, Span, Width};

@@ -1,7 +1,7 @@
 //! Where jumps and local calls lead. RFC 9669, section 4.3.
 
 ghost use Rattle.std.specs.Prelude.{◌≡◌, ◌<◌, ◌^◌, unwrap_or};
-ghost use Rattle.isa_model.specs.Steps.{target};
+ghost use Rattle.isa_model.specs.Machine.Steps.{target};
 
 /// The slot to which a distance from an instruction at `slot` leads, in a program of `slots` slots: distances count
 /// from the slot behind the instruction. Where it is before slot 0 the answer is `slots`, where no instruction begins.

@@ -3,7 +3,7 @@
 //! Machines and abstract domains compute with these functions and have no others.
 
 ghost use Rattle.std.specs.Prelude.{◌≡◌, ◌%◌, ◌^◌};
-ghost use Rattle.isa_model.specs.Numbers.{low, signed, unsigned, alu, result_of, negated, sign_extended, reordered, holds};
+ghost use Rattle.isa_model.specs.Code.Numbers.{low, signed, unsigned, alu, result_of, negated, sign_extended, reordered, holds};
 
 use crate::instructions::{AluOp, Comparison};
 use crate::sizes::{ByteOrder, Extension, Span, Width};
@@ -26,7 +26,7 @@ pub fn unsigned(width: Width, k: i32) -> u64
 }
 
 /// What the operation gives on two registers' numbers. A 32-bit result has an upper half of zeros.
-#[tactic(auto, unfolding(crate::specs::Numbers::alu))]
+#[tactic(auto, unfolding(crate::specs::Code::Numbers::alu))]
 pub fn compute(op: AluOp, width: Width, a: u64, b: u64) -> u64
     ensures { result ≡ alu op width a b }
 {
@@ -94,7 +94,7 @@ pub fn negate(width: Width, a: u64) -> u64
 }
 
 /// The low bits, sign-extended to the extension's width; a 32-bit result has an upper half of zeros.
-#[tactic(auto, unfolding(crate::specs::Numbers::sign_extended))]
+#[tactic(auto, unfolding(crate::specs::Code::Numbers::sign_extended))]
 pub fn sign_extend(extension: Extension, a: u64) -> u64
     ensures { result ≡ sign_extended extension a }
 {
@@ -120,7 +120,7 @@ fn low_half(a: u64) -> u16
 }
 
 /// The low bytes in their order or reversed, zero-extended.
-#[tactic(auto, unfolding(crate::specs::Numbers::reordered))]
+#[tactic(auto, unfolding(crate::specs::Code::Numbers::reordered))]
 pub fn reorder(order: ByteOrder, span: Span, a: u64) -> u64
     ensures { result ≡ reordered order span a }
 {
@@ -155,7 +155,7 @@ pub fn as_signed(width: Width, a: u64) -> i64
 }
 
 /// Whether the comparison holds of two registers' numbers, at the width.
-#[tactic(auto, unfolding(crate::specs::Numbers::holds))]
+#[tactic(auto, unfolding(crate::specs::Code::Numbers::holds))]
 pub fn compare(comparison: Comparison, width: Width, a: u64, b: u64) -> bool
     ensures { result ≡ holds comparison width a b }
 {

@@ -1,7 +1,7 @@
 //! How many bits an instruction works on. RFC 9669, sections 3.3, 4.1, 4.2, 5.1 and 5.2.
 
 ghost use Rattle.std.specs.Prelude.{◌≡◌, ◌≤◌};
-ghost use Rattle.isa_model.specs.Sizes.{size_bytes, width_size, width_bits};
+ghost use Rattle.isa_model.specs.Code.Sizes.{size_bytes, width_size, width_bits};
 
 /// The class of an arithmetic instruction or of a jump: 32 bits (ALU, JMP32) or 64 (ALU64, JMP).
 #[derive(Clone, Copy, PartialEq, Eq, Debug)]

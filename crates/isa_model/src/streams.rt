@@ -1,7 +1,7 @@
 //! How streams of packet frames end.
 
 ghost use Rattle.std.specs.Prelude.{◌≡◌, ◌≤◌, length};
-ghost use Rattle.isa_model.specs.Reports.{fault_name};
+ghost use Rattle.isa_model.specs.Reporting.Reports.{fault_name};
 
 /// What is wrong with a frame stream.
 #[derive(Clone, Copy, PartialEq, Eq, Debug)]

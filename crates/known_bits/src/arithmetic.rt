@@ -1,15 +1,15 @@
 //! What the arithmetic instructions give.
 
 ghost use Rattle.std.specs.Prelude.{◌≡◌, ℕ, ◌%◌, ◌^◌, ◌<◌};
-ghost use Rattle.isa_model.specs.Sizes.{width_bits, span_bits};
-ghost use Rattle.isa_model.specs.Numbers.{negated, sign_extended, reordered};
-ghost use Rattle.isa_model.specs.ExtensionLemmas.{extension_width};
+ghost use Rattle.isa_model.specs.Code.Sizes.{width_bits, span_bits};
+ghost use Rattle.isa_model.specs.Code.Numbers.{negated, sign_extended, reordered};
+ghost use Rattle.isa_model.specs.Code.ExtensionLemmas.{extension_width};
 
 use crate::bits::Bits;
 use isa_model::{AluOp, ByteOrder, Extension, Span, Width, numbers};
 
 impl Bits {
-    ghost use Rattle.isa_model.specs.Numbers.{alu};
+    ghost use Rattle.isa_model.specs.Code.Numbers.{alu};
     ghost use Rattle.known_bits.specs.Bits.{Has, IsConstant, IsSharp, IsPrecise};
 
     /// What the operation gives on the numbers of both.

@@ -2,7 +2,7 @@
 
 ghost use Rattle.std.specs.Prelude.{◌≡◌, ◌≢◌, ℕ, ◌+◌, ◌/◌, ◌^◌, ◌<◌, ◌≤◌, ◌↔◌, IsSomeAnd, IfSome, IsTrue, bit_and};
 ghost use Rattle.std.specs.Int.{bit_at};
-ghost use Rattle.isa_model.specs.Sizes.{width_bits};
+ghost use Rattle.isa_model.specs.Code.Sizes.{width_bits};
 
 use isa_model::Width;
 

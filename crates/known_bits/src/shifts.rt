@@ -1,14 +1,14 @@
 //! Low parts of numbers, and shifts by a known distance.
 
 ghost use Rattle.std.specs.Prelude.{◌≡◌, ℕ, ◌*◌, ◌/◌, ◌%◌, ◌^◌, ◌<◌, ◌≤◌};
-ghost use Rattle.isa_model.specs.Sizes.{width_bits};
-ghost use Rattle.isa_model.specs.Numbers.{result_of, shift};
+ghost use Rattle.isa_model.specs.Code.Sizes.{width_bits};
+ghost use Rattle.isa_model.specs.Code.Numbers.{result_of, shift};
 
 use crate::bits::{Bits, ones};
 use isa_model::{AluOp, Width, numbers};
 
 impl Bits {
-    ghost use Rattle.isa_model.specs.Numbers.{alu};
+    ghost use Rattle.isa_model.specs.Code.Numbers.{alu};
     ghost use Rattle.known_bits.specs.Bits.{Has, IsSharp};
 
     // The low bits, so many of them.

@@ -2,8 +2,8 @@
 
 ghost use Rattle.std.specs.Prelude.{◌≡◌, ℕ, ◌+◌, ◌-◌, ◌*◌, ◌%◌, ◌^◌, ◌<◌, ◌≤◌};
 ghost use Rattle.std.specs.Int.{bit_at};
-ghost use Rattle.isa_model.specs.Sizes.{width_bits};
-ghost use Rattle.isa_model.specs.Numbers.{result_of};
+ghost use Rattle.isa_model.specs.Code.Sizes.{width_bits};
+ghost use Rattle.isa_model.specs.Code.Numbers.{result_of};
 
 use crate::bits::Bits;
 use isa_model::{AluOp, Width};

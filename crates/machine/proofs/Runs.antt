@@ -3,14 +3,14 @@ use Rattle.std.proofs.Common.{◌≡◌, ℕ, ◌+◌, ◌<◌, ◌≤◌, ◌^�
 use Rattle.isa_model.specs.declared.frames.FrameHead.{FrameHead}
 use Rattle.isa_model.specs.declared.ends.End.{End}
 use Rattle.isa_model.specs.declared.ends.End.TheVariants.{Exit}
-use Rattle.isa_model.specs.Instructions.{Program}
-use Rattle.isa_model.specs.States.{Entries}
-use Rattle.isa_model.specs.Streams.{max_body}
-use Rattle.isa_model.specs.Runs.{Turn, turn}
-use Rattle.isa_model.specs.RunLaws.{turn-outcome}
-use Rattle.isa_model.specs.MachineStates.{AreBytes, FitRows, IsClock, IsGiven}
-use Rattle.isa_model.specs.Outcomes.{ExitsWithin, ExitsWithin-StartsEnd, FitRows-HasOutcome}
-use Rattle.isa_model.specs.Reports.{turn_by, starting_contents}
+use Rattle.isa_model.specs.Code.Instructions.{Program}
+use Rattle.isa_model.specs.Machine.States.{Entries}
+use Rattle.isa_model.specs.Reporting.Streams.{max_body}
+use Rattle.isa_model.specs.Running.Runs.{Turn, turn}
+use Rattle.isa_model.specs.Running.RunLaws.{turn-outcome}
+use Rattle.isa_model.specs.Machine.MachineStates.{AreBytes, FitRows, IsClock, IsGiven}
+use Rattle.isa_model.specs.Running.Outcomes.{ExitsWithin, ExitsWithin-StartsEnd, FitRows-HasOutcome}
+use Rattle.isa_model.specs.Reporting.Reports.{turn_by, starting_contents}
 use Rattle.image.specs.Programs.{IsProgram-IsImage, FitRows-starting_contents}
 use Rattle.explorer.specs.Bounds.{Bounded, IsVerified}
 use Rattle.machine.specs.Running.{Running, IsRunning, Answers}

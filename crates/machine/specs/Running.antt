@@ -1,11 +1,11 @@
 -- What callers see of the machine, and what its runs answer.
 use Rattle.std.specs.Prelude.{◌≡◌, ℕ, ◌+◌, ◌≤◌, List}
 use Rattle.isa_model.specs.declared.frames.FrameHead.{FrameHead}
-use Rattle.isa_model.specs.Instructions.{Program}
-use Rattle.isa_model.specs.States.{Entries}
-use Rattle.isa_model.specs.Runs.{max_steps, Outcome, HasOutcome}
-use Rattle.isa_model.specs.Outcomes.{StartsEnd}
-use Rattle.isa_model.specs.MachineStates.{FitRows, IsProgram}
+use Rattle.isa_model.specs.Code.Instructions.{Program}
+use Rattle.isa_model.specs.Machine.States.{Entries}
+use Rattle.isa_model.specs.Running.Runs.{max_steps, Outcome, HasOutcome}
+use Rattle.isa_model.specs.Running.Outcomes.{StartsEnd}
+use Rattle.isa_model.specs.Machine.MachineStates.{FitRows, IsProgram}
 use Rattle.machine.specs.declared.machines.Exit.{Exit}
 
 -- its program with the bound of its runs, and the maps' contents between runs

@@ -1,9 +1,9 @@
 //! Machines, and their runs.
 
 ghost use Rattle.std.specs.Prelude.{◌≡◌, ◌<◌, ◌≤◌, ◌^◌, length, IfOk};
-ghost use Rattle.isa_model.specs.Streams.{max_body};
-ghost use Rattle.isa_model.specs.MachineStates.{AreBytes};
-ghost use Rattle.isa_model.specs.Reports.{starting_contents};
+ghost use Rattle.isa_model.specs.Reporting.Streams.{max_body};
+ghost use Rattle.isa_model.specs.Machine.MachineStates.{AreBytes};
+ghost use Rattle.isa_model.specs.Reporting.Reports.{starting_contents};
 ghost use Rattle.machine.specs.Running.{Answers, IsRunning};
 
 use checked_vm::Checked;

@@ -6,8 +6,8 @@ use Rattle.isa_model.specs.declared.sizes.Extension.{Extension}
 use Rattle.isa_model.specs.declared.sizes.Extension.TheVariants.{Low8, Low16, Full8, Full16, Full32}
 use Rattle.isa_model.specs.declared.instructions.AluOp.{AluOp}
 use Rattle.isa_model.specs.declared.instructions.AluOp.TheVariants.{Add, Sub, Mul, Div, Mod, And, Lsh, Rsh, Mov, Arsh}
-use Rattle.isa_model.specs.Sizes.{width_bits}
-use Rattle.isa_model.specs.Numbers.{shift}
+use Rattle.isa_model.specs.Code.Sizes.{width_bits}
+use Rattle.isa_model.specs.Code.Numbers.{shift}
 use Rattle.ranges.specs.Within.{IsWithin}
 use Rattle.ranges.specs.declared.range.Range.{Range}
 

@@ -2,14 +2,14 @@
 
 ghost use Rattle.std.specs.Prelude.{◌≡◌, ℕ, ◌+◌, ◌^◌, ◌<◌, ◌-ℤ◌, pos, FitsSigned};
 ghost use Rattle.std.specs.Int.{w64};
-ghost use Rattle.isa_model.specs.Sizes.{width_bits, span_bits};
-ghost use Rattle.isa_model.specs.Numbers.{negated, reordered};
+ghost use Rattle.isa_model.specs.Code.Sizes.{width_bits, span_bits};
+ghost use Rattle.isa_model.specs.Code.Numbers.{negated, reordered};
 
 use crate::range::Range;
 use isa_model::{AluOp, ByteOrder, Span, Width, numbers};
 
 impl Range {
-    ghost use Rattle.isa_model.specs.Numbers.{alu};
+    ghost use Rattle.isa_model.specs.Code.Numbers.{alu};
     ghost use Rattle.ranges.specs.Ranges.{Has, IsConstant, IsBetween, IsSignedBetween, KeepsLimits, KeepsSignedLimits};
 
     /// What the operation gives on the numbers of both.

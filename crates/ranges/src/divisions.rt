@@ -1,7 +1,7 @@
 //! Unsigned quotients and remainders, and common bits.
 
 ghost use Rattle.std.specs.Prelude.{◌≡◌, ℕ, bit_and};
-ghost use Rattle.isa_model.specs.Numbers.{quotient, remainder};
+ghost use Rattle.isa_model.specs.Code.Numbers.{quotient, remainder};
 
 use crate::range::Range;
 use isa_model::{AluOp, Width};

@@ -1,9 +1,9 @@
 //! Sign extensions of low bits.
 
 ghost use Rattle.std.specs.Prelude.{◌≡◌, ℕ, ℤ, ◌+◌, ◌^◌, ◌<◌, ◌≤ℤ◌, ◌↔◌, FitsSigned, IsTrue};
-ghost use Rattle.isa_model.specs.Sizes.{width_bits};
-ghost use Rattle.isa_model.specs.Numbers.{sign_extended};
-ghost use Rattle.isa_model.specs.ExtensionLemmas.{extension_bits, extension_width};
+ghost use Rattle.isa_model.specs.Code.Sizes.{width_bits};
+ghost use Rattle.isa_model.specs.Code.Numbers.{sign_extended};
+ghost use Rattle.isa_model.specs.Code.ExtensionLemmas.{extension_bits, extension_width};
 ghost use Rattle.ranges.specs.Ranges.{Has, extension_signed};
 
 use crate::range::Range;

@@ -2,7 +2,7 @@
 
 ghost use Rattle.std.specs.Prelude.{◌≡◌, ℕ, ◌+◌, ◌^◌, ◌<◌, ◌≤◌, ◌≤ℤ◌, ◌↔◌, Some, IsSomeAnd, IfSome, IsTrue};
 ghost use Rattle.std.specs.Int.{w64, cast_signed, cast_unsigned};
-ghost use Rattle.isa_model.specs.Sizes.{width_bits};
+ghost use Rattle.isa_model.specs.Code.Sizes.{width_bits};
 
 use isa_model::Width;
 

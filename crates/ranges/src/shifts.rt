@@ -2,8 +2,8 @@
 
 ghost use Rattle.std.specs.Prelude.{◌≡◌, ℕ, ◌*◌, ◌/◌, ◌%◌, ◌^◌, ◌<◌, ◌≤◌};
 ghost use Rattle.std.specs.Int.{w64, cast_signed, cast_unsigned, int_shr};
-ghost use Rattle.isa_model.specs.Sizes.{width_bits, span_bits};
-ghost use Rattle.isa_model.specs.Numbers.{result_of, shift};
+ghost use Rattle.isa_model.specs.Code.Sizes.{width_bits, span_bits};
+ghost use Rattle.isa_model.specs.Code.Numbers.{result_of, shift};
 
 use crate::range::Range;
 use isa_model::{AluOp, Span, Width};

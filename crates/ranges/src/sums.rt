@@ -1,8 +1,8 @@
 //! Sums, differences and products, first at 64 bits and then at a width.
 
 ghost use Rattle.std.specs.Prelude.{◌≡◌, ℕ, ◌+◌, ◌-◌, ◌*◌, ◌%◌, ◌^◌, ◌<◌, ◌≤◌};
-ghost use Rattle.isa_model.specs.Sizes.{width_bits};
-ghost use Rattle.isa_model.specs.Numbers.{result_of};
+ghost use Rattle.isa_model.specs.Code.Sizes.{width_bits};
+ghost use Rattle.isa_model.specs.Code.Numbers.{result_of};
 
 use crate::range::Range;
 use isa_model::{AluOp, Width};

@@ -8,9 +8,9 @@ use Rattle.isa_model.specs.declared.sizes.Span.{Span}
 use Rattle.isa_model.specs.declared.sizes.ByteOrder.{ByteOrder}
 use Rattle.isa_model.specs.declared.sizes.ByteOrder.TheVariants.{Little}
 use Rattle.isa_model.specs.declared.instructions.AluOp.{AluOp}
-use Rattle.isa_model.specs.Sizes.{width_bits, span_bits}
-use Rattle.isa_model.specs.Numbers.{alu, negated, sign_extended, reordered}
-use Rattle.isa_model.specs.ExtensionLemmas.{extension_bits, extension_width}
+use Rattle.isa_model.specs.Code.Sizes.{width_bits, span_bits}
+use Rattle.isa_model.specs.Code.Numbers.{alu, negated, sign_extended, reordered}
+use Rattle.isa_model.specs.Code.ExtensionLemmas.{extension_bits, extension_width}
 use Rattle.known_bits.specs.Member.{Occurs}
 use Rattle.known_bits.specs.Bits.{IsPrecise}
 use Rattle.ranges.specs.Ranges.{IsSignedOf, KeepsLimits, KeepsSignedLimits, extension_signed}

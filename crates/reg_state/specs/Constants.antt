@@ -7,7 +7,7 @@ use Rattle.known_bits.specs.declared.bits.Bits.{Bits}
 use Rattle.known_bits.specs.Bits as B
 use Rattle.ranges.specs.declared.range.Range.{Range}
 use Rattle.ranges.specs.Ranges as R
-use Rattle.isa_model.specs.NumberLemmas.{signed_equation}
+use Rattle.isa_model.specs.Code.NumberLemmas.{signed_equation}
 use Rattle.reg_state.specs.Limits.{range_limits, no_limits}
 use Rattle.reg_state.specs.Reach.{IsInside}
 

@@ -4,8 +4,8 @@ use Rattle.std.specs.Prelude.{◌≡◌, ℕ, ◌<◌, ℤ, pos, ◌+ℤ◌, ◌
 use Rattle.isa_model.specs.declared.values.Region.TheVariants as region
 use Rattle.isa_model.specs.declared.values.Value.{Value}
 use Rattle.isa_model.specs.declared.values.Value.TheVariants.{Num, Ptr}
-use Rattle.isa_model.specs.States.{Content}
-use Rattle.isa_model.specs.MachineStates.{value_serials}
+use Rattle.isa_model.specs.Machine.States.{Content}
+use Rattle.isa_model.specs.Machine.MachineStates.{value_serials}
 use Rattle.reg_state.specs.declared.kinds.Kind.{Kind}
 use Rattle.reg_state.specs.declared.kinds.Kind.TheVariants.{Unset, Number, Context, Stack, Packet, PacketEnd, Map, MapValue, MapValueOrNull}
 use Rattle.reg_state.specs.Scalars.{Has}

@@ -9,9 +9,9 @@ use Rattle.isa_model.specs.declared.sizes.Extension.TheVariants.{Full32}
 use Rattle.isa_model.specs.declared.instructions.AluOp.TheVariants.{Mov}
 use Rattle.isa_model.specs.declared.instructions.Comparison.{Comparison}
 use Rattle.isa_model.specs.declared.instructions.Comparison.TheVariants.{Equal, NotEqual, Greater, GreaterEqual, Less, LessEqual, AnyBit, SignedGreater, SignedGreaterEqual, SignedLess, SignedLessEqual}
-use Rattle.isa_model.specs.Numbers.{low, alu, sign_extended, compares, holds}
-use Rattle.isa_model.specs.NumberLemmas.{low_same, low_below}
-use Rattle.isa_model.specs.ExtensionLemmas.{sign_extended-small, sign_extended_fits}
+use Rattle.isa_model.specs.Code.Numbers.{low, alu, sign_extended, compares, holds}
+use Rattle.isa_model.specs.Code.NumberLemmas.{low_same, low_below}
+use Rattle.isa_model.specs.Code.ExtensionLemmas.{sign_extended-small, sign_extended_fits}
 
 -- of two numbers of 64 bits
 abbrev pub Goes : Comparison → Bool → ℕ → ℕ → Type 0

@@ -2,14 +2,14 @@
 
 ghost use Rattle.std.specs.Prelude.{◌≡◌, ◌≢◌, ℕ, ◌/◌, ◌^◌, ◌<◌, ◌≤◌};
 ghost use Rattle.std.specs.Int.{bit_at};
-ghost use Rattle.isa_model.specs.Sizes.{width_bits};
+ghost use Rattle.isa_model.specs.Code.Sizes.{width_bits};
 
 use crate::domains::Domain;
 use isa_model::{AluOp, ByteOrder, Extension, Span, Width};
 use known_bits::Bits;
 
 impl Domain for Bits {
-    ghost use Rattle.isa_model.specs.Numbers.{alu};
+    ghost use Rattle.isa_model.specs.Code.Numbers.{alu};
     ghost use Rattle.known_bits.specs.Bits.{Has, IsConstant, IsSharp, IsPrecise};
     ghost use Rattle.reg_state.specs.Limits.{no_limits};
     ghost use Rattle.reg_state.specs.Constants.{any_inside, bits_constant_has, bits_constant_only};

@@ -1,7 +1,7 @@
 //! What a conditional jump shows of the numbers that it compares.
 
 ghost use Rattle.std.specs.Prelude.{◌≡◌, ◌≢◌, ℕ, ◌^◌, ◌<◌, None, IsSomeAnd, IfSome, IsTrue};
-ghost use Rattle.isa_model.specs.Numbers.{holds};
+ghost use Rattle.isa_model.specs.Code.Numbers.{holds};
 ghost use Rattle.reg_state.specs.Relations.{Goes, reads_signed, low_half};
 ghost use Rattle.reg_state.specs.Reach.{MayGo, exchanged};
 

@@ -2,9 +2,9 @@
 
 ghost use Rattle.std.specs.Prelude.{◌≡◌, ◌≢◌, ℕ, ◌^◌, ◌<◌, ◌≤◌, ◌<ℤ◌, ◌≤ℤ◌, ◌↔◌, Some, IsSomeAnd, IfSome, IsTrue, bit_and, pos};
 ghost use Rattle.std.specs.Int.{w64, cast_signed};
-ghost use Rattle.isa_model.specs.Sizes.{width_bits, span_bits};
-ghost use Rattle.isa_model.specs.Numbers.{alu, negated, sign_extended, reordered};
-ghost use Rattle.isa_model.specs.ExtensionLemmas.{extension_width};
+ghost use Rattle.isa_model.specs.Code.Sizes.{width_bits, span_bits};
+ghost use Rattle.isa_model.specs.Code.Numbers.{alu, negated, sign_extended, reordered};
+ghost use Rattle.isa_model.specs.Code.ExtensionLemmas.{extension_width};
 ghost use Rattle.reg_state.specs.Limits.{Limits};
 ghost use Rattle.reg_state.specs.Reach.{IsInside};
 

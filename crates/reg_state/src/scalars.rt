@@ -2,7 +2,7 @@
 
 ghost use Rattle.std.specs.Prelude.{◌≡◌, ℕ, ◌+◌, ◌%◌, ◌^◌, ◌<◌, ◌≤◌, pos, ◌-ℤ◌, FitsSigned, ◌↔◌, IsSomeAnd, IfSome, IsTrue};
 ghost use Rattle.std.specs.Int.{w64, bit_at};
-ghost use Rattle.isa_model.specs.Sizes.{width_bits};
+ghost use Rattle.isa_model.specs.Code.Sizes.{width_bits};
 
 use crate::domains::Domain;
 use isa_model::{AluOp, ByteOrder, Extension, Span, Width};
@@ -119,14 +119,14 @@ impl Scalar {
 }
 
 impl Domain for Scalar {
-    ghost use Rattle.isa_model.specs.Numbers.{alu};
+    ghost use Rattle.isa_model.specs.Code.Numbers.{alu};
     ghost use Rattle.ranges.specs.Ranges.{KeepsLimits, KeepsSignedLimits};
     ghost use Rattle.reg_state.specs.Scalars.{Has, IsConstant, Encloses};
     ghost use Rattle.reg_state.specs.Arithmetic.{IsFromTo, IsSignedFromTo, IsSharp};
     ghost use Rattle.known_bits.specs.Bits.{IsPrecise};
-    ghost use Rattle.isa_model.specs.Numbers.{negated, sign_extended, reordered};
-    ghost use Rattle.isa_model.specs.Sizes.{span_bits};
-    ghost use Rattle.isa_model.specs.ExtensionLemmas.{extension_bits, extension_width};
+    ghost use Rattle.isa_model.specs.Code.Numbers.{negated, sign_extended, reordered};
+    ghost use Rattle.isa_model.specs.Code.Sizes.{span_bits};
+    ghost use Rattle.isa_model.specs.Code.ExtensionLemmas.{extension_bits, extension_width};
     ghost use Rattle.ranges.specs.Ranges as R;
     ghost use Rattle.ranges.specs.Ranges.{IsSignedOf, extension_signed};
     ghost use Rattle.reg_state.specs.Limits.{range_limits};

@@ -1,6 +1,6 @@
 -- The lines that standard output gets of what was judged. docs/FORMATS.md and docs/TEXT.md say what the words mean.
 use Rattle.std.specs.Prelude.{ℕ, Bool, true, false, List, ◌++◌, length, codes, decimal}
-use Rattle.isa_model.specs.Instructions.{Program}
+use Rattle.isa_model.specs.Code.Instructions.{Program}
 use Rattle.insn_codec.specs.declared.errors.CodecError.{CodecError}
 use Rattle.insn_codec.specs.declared.errors.CodecError.TheVariants as code
 use Rattle.image.specs.declared.errors.ImageError.{ImageError}

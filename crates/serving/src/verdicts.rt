@@ -2,8 +2,8 @@
 
 ghost use Rattle.std.specs.Prelude.{◌≡◌, false, true, Ok, IfOk, IfErr, OnOk, MatchResult};
 ghost use Rattle.std.specs.String.{string_bytes};
-ghost use Rattle.isa_model.specs.Instructions.{Program};
-ghost use Rattle.isa_model.specs.CanonicalText.{canonical_text};
+ghost use Rattle.isa_model.specs.Code.Instructions.{Program};
+ghost use Rattle.isa_model.specs.Text.CanonicalText.{canonical_text};
 ghost use Rattle.image.specs.Images.{IsImage, image_bytes};
 ghost use Rattle.explorer.specs.Bounds.{IsVerified};
 ghost use Rattle.assembler.specs.Assembling as spells;

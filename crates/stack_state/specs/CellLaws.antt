@@ -17,11 +17,11 @@ use Rattle.isa_model.specs.declared.values.Value.TheVariants.{Num, Ptr}
 use Rattle.isa_model.specs.declared.values.Value.TheVariants as value
 use Rattle.isa_model.specs.declared.values.Cell.{Cell}
 use Rattle.isa_model.specs.declared.values.Cell.TheVariants.{Unwritten, Byte, Piece}
-use Rattle.isa_model.specs.Sizes.{size_bytes}
-use Rattle.isa_model.specs.Numbers.{bytes_of, number_from}
-use Rattle.isa_model.specs.Memory.{is_unwritten, is_byte, number_of, number_in, pieces, value_in, same_region, same_int}
-use Rattle.isa_model.specs.ByteCells.{map-byte_in-Byte, value_in-Byte}
-use Rattle.isa_model.specs.LittleEndian.{EachByte}
+use Rattle.isa_model.specs.Code.Sizes.{size_bytes}
+use Rattle.isa_model.specs.Code.Numbers.{bytes_of, number_from}
+use Rattle.isa_model.specs.Machine.Memory.{is_unwritten, is_byte, number_of, number_in, pieces, value_in, same_region, same_int}
+use Rattle.isa_model.specs.Machine.ByteCells.{map-byte_in-Byte, value_in-Byte}
+use Rattle.isa_model.specs.Code.LittleEndian.{EachByte}
 use Rattle.reg_state.specs.declared.kinds.Kind.{Kind}
 use Rattle.reg_state.specs.declared.kinds.Kind.TheVariants.{Unset, Number, Context, Stack, Packet, PacketEnd, Map, MapValue, MapValueOrNull}
 use Rattle.reg_state.specs.Kinds.{Assigned, Allows, AllowsOrNull}

@@ -7,8 +7,8 @@ use Rattle.isa_model.specs.declared.sizes.Size.TheVariants.{U64}
 use Rattle.isa_model.specs.declared.values.Value.{Value}
 use Rattle.isa_model.specs.declared.values.Value.TheVariants.{Num}
 use Rattle.isa_model.specs.declared.values.Cell.{Cell}
-use Rattle.isa_model.specs.States.{Content}
-use Rattle.isa_model.specs.Memory.{number_of, value_in}
+use Rattle.isa_model.specs.Machine.States.{Content}
+use Rattle.isa_model.specs.Machine.Memory.{number_of, value_in}
 use Rattle.reg_state.specs.declared.kinds.Kind.{Kind}
 use Rattle.reg_state.specs.declared.kinds.Kind.TheVariants.{Unset, Number, Context, Stack, Packet, PacketEnd, Map, MapValue, MapValueOrNull}
 use Rattle.reg_state.specs.Kinds.{Assigned, Allows, AllowsOrNull}

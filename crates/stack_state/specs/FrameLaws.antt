@@ -12,11 +12,11 @@ use Rattle.isa_model.specs.declared.values.Value.TheVariants as value
 use Rattle.isa_model.specs.declared.values.Cell.{Cell}
 use Rattle.isa_model.specs.declared.values.Cell.TheVariants.{Byte}
 use Rattle.isa_model.specs.declared.ends.TrapReason.{TrapReason}
-use Rattle.isa_model.specs.Sizes.{size_bytes}
-use Rattle.isa_model.specs.Numbers.{bytes_of}
-use Rattle.isa_model.specs.States.{State, frame_at}
-use Rattle.isa_model.specs.Memory.{frame_index, index_from, index_at, read, write, number_in, value_in, load, load_number, store}
-use Rattle.isa_model.specs.MachineStates.{IsCell}
+use Rattle.isa_model.specs.Code.Sizes.{size_bytes}
+use Rattle.isa_model.specs.Code.Numbers.{bytes_of}
+use Rattle.isa_model.specs.Machine.States.{State, frame_at}
+use Rattle.isa_model.specs.Machine.Memory.{frame_index, index_from, index_at, read, write, number_in, value_in, load, load_number, store}
+use Rattle.isa_model.specs.Machine.MachineStates.{IsCell}
 use Rattle.reg_state.specs.declared.scalars.Scalar.{Scalar}
 use Rattle.reg_state.specs.declared.kinds.Kind.{Kind}
 use Rattle.reg_state.specs.Scalars.{Has}

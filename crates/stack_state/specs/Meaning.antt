@@ -1,12 +1,12 @@
 -- What abstract states mean: the machine states that they stand for.
 use Rattle.std.specs.Prelude.{◌≡◌, ℕ, suc, ◌+◌, ◌-◌, ◌<◌, pos, List, [], map, length, slice_index_or}
 use Rattle.isa_model.specs.declared.registers.Reg.TheVariants.{R10}
-use Rattle.isa_model.specs.Instructions.{Program}
-use Rattle.isa_model.specs.States.{Entries, value_at, reg, frame_pointer, frame_at}
-use Rattle.isa_model.specs.States as Machine
-use Rattle.isa_model.specs.Calls.{innermost}
-use Rattle.isa_model.specs.Ends.{Ends}
-use Rattle.isa_model.specs.MachineStates.{IsState, IsClock}
+use Rattle.isa_model.specs.Code.Instructions.{Program}
+use Rattle.isa_model.specs.Machine.States.{Entries, value_at, reg, frame_pointer, frame_at}
+use Rattle.isa_model.specs.Machine.States as Machine
+use Rattle.isa_model.specs.Machine.Calls.{innermost}
+use Rattle.isa_model.specs.Running.Ends.{Ends}
+use Rattle.isa_model.specs.Machine.MachineStates.{IsState, IsClock}
 use Rattle.reg_state.specs.declared.kinds.Kind.{Kind}
 use Rattle.reg_state.specs.declared.kinds.Kind.TheVariants.{Unset}
 use Rattle.reg_state.specs.Kinds.{Assigned, Allows}

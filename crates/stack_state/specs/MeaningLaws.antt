@@ -10,13 +10,13 @@ use Rattle.isa_model.specs.declared.registers.Reg.{Reg}
 use Rattle.isa_model.specs.declared.registers.Reg.TheVariants.{R0, R1, R2, R3, R4, R5, R6, R7, R8, R9, R10}
 use Rattle.isa_model.specs.declared.values.Value.{Value}
 use Rattle.isa_model.specs.declared.values.CallFrame.{CallFrame}
-use Rattle.isa_model.specs.Registers.{reg_number}
-use Rattle.isa_model.specs.Instructions.{Program}
-use Rattle.isa_model.specs.States.{value_at, reg, set_reg, new_frame, frame_at}
-use Rattle.isa_model.specs.States as Machine
-use Rattle.isa_model.specs.Calls.{innermost}
-use Rattle.isa_model.specs.MachineStates.{IsValue, IsSlot}
-use Rattle.isa_model.specs.StateLaws.{IsState-go_to, IsState-set_reg, reg_fits}
+use Rattle.isa_model.specs.Code.Registers.{reg_number}
+use Rattle.isa_model.specs.Code.Instructions.{Program}
+use Rattle.isa_model.specs.Machine.States.{value_at, reg, set_reg, new_frame, frame_at}
+use Rattle.isa_model.specs.Machine.States as Machine
+use Rattle.isa_model.specs.Machine.Calls.{innermost}
+use Rattle.isa_model.specs.Machine.MachineStates.{IsValue, IsSlot}
+use Rattle.isa_model.specs.Machine.StateLaws.{IsState-go_to, IsState-set_reg, reg_fits}
 use Rattle.reg_state.specs.declared.kinds.Kind.{Kind}
 use Rattle.reg_state.specs.declared.kinds.Kind.TheVariants.{Stack}
 use Rattle.reg_state.specs.Kinds.{Assigned, Allows}

@@ -3,7 +3,7 @@ use Rattle.std.specs.Prelude.{ℕ, ◌-◌, pos, [], slice_set, slice_index_or}
 use Rattle.arrayvec.specs.ArrayVec.{with_item}
 use Rattle.isa_model.specs.declared.registers.Reg.{Reg}
 use Rattle.isa_model.specs.declared.registers.Reg.TheVariants.{R10}
-use Rattle.isa_model.specs.Registers.{reg_number}
+use Rattle.isa_model.specs.Code.Registers.{reg_number}
 use Rattle.reg_state.specs.declared.kinds.Kind.{Kind}
 use Rattle.reg_state.specs.declared.kinds.Kind.TheVariants.{Stack}
 use Rattle.stack_state.specs.declared.states.AbstractFrame.{AbstractFrame}

@@ -2,7 +2,7 @@
 use Rattle.std.specs.Prelude.{◌≡◌, ℕ, ◌+◌, ◌-◌, ◌*◌, ◌<◌, ◌≤◌, List, ◌++◌, length, take, drop, slice_index_or, ◌⊎◌, refl}
 use Rattle.std.proofs.Common.{sym, ap, ◌∙◌, inl, inr, arith}
 use Rattle.std.proofs.lemmas.List.{length-drop, length-take-le, get_or-take, get_or-drop, get_or-append_right, get_or_append_left, same_lists}
-use Rattle.isa_model.specs.ValueLaws.{length-splice}
+use Rattle.isa_model.specs.Machine.ValueLaws.{length-splice}
 use Rattle.stack_state.specs.StackMeaning.{chunk_of, written}
 
 pub length-written : {X : Type 0} (xs ys : List X) (at : ℕ) → at + length ys ≤ length xs → length (written xs at ys) ≡ length xs

@@ -11,11 +11,11 @@ use Rattle.isa_model.specs.declared.sizes.Size.TheVariants.{U8, U16, U32, U64}
 use Rattle.isa_model.specs.declared.values.Value.{Value}
 use Rattle.isa_model.specs.declared.values.Cell.{Cell}
 use Rattle.isa_model.specs.declared.values.Cell.TheVariants.{Unwritten, Byte}
-use Rattle.isa_model.specs.Sizes.{size_bytes}
-use Rattle.isa_model.specs.Numbers.{bytes_of}
-use Rattle.isa_model.specs.Memory.{is_byte, byte_in, number_of}
-use Rattle.isa_model.specs.MachineStates.{IsCell}
-use Rattle.isa_model.specs.ValueLaws.{bytes_in_fit, slice_index_fits}
+use Rattle.isa_model.specs.Code.Sizes.{size_bytes}
+use Rattle.isa_model.specs.Code.Numbers.{bytes_of}
+use Rattle.isa_model.specs.Machine.Memory.{is_byte, byte_in, number_of}
+use Rattle.isa_model.specs.Machine.MachineStates.{IsCell}
+use Rattle.isa_model.specs.Machine.ValueLaws.{bytes_in_fit, slice_index_fits}
 use Rattle.reg_state.specs.declared.scalars.Scalar.{Scalar}
 use Rattle.reg_state.specs.declared.kinds.Kind.{Kind}
 use Rattle.reg_state.specs.declared.kinds.Kind.TheVariants.{Unset, Number}

@@ -9,11 +9,11 @@ use Rattle.isa_model.specs.declared.values.Value.{Value}
 use Rattle.isa_model.specs.declared.values.Value.TheVariants.{Unset, Num, Ptr}
 use Rattle.isa_model.specs.declared.values.Cell.{Cell}
 use Rattle.isa_model.specs.declared.values.Cell.TheVariants.{Unwritten, Byte}
-use Rattle.isa_model.specs.Sizes.{size_bytes}
-use Rattle.isa_model.specs.Numbers.{bytes_of}
-use Rattle.isa_model.specs.States.{Content}
-use Rattle.isa_model.specs.Memory.{is_byte, number_of, number_in, pieces, value_in}
-use Rattle.isa_model.specs.MachineStates.{IsCell}
+use Rattle.isa_model.specs.Code.Sizes.{size_bytes}
+use Rattle.isa_model.specs.Code.Numbers.{bytes_of}
+use Rattle.isa_model.specs.Machine.States.{Content}
+use Rattle.isa_model.specs.Machine.Memory.{is_byte, number_of, number_in, pieces, value_in}
+use Rattle.isa_model.specs.Machine.MachineStates.{IsCell}
 use Rattle.reg_state.specs.declared.scalars.Scalar.{Scalar}
 use Rattle.reg_state.specs.declared.kinds.Kind.{Kind}
 use Rattle.reg_state.specs.Scalars.{Has}

@@ -2,11 +2,11 @@
 use Rattle.std.specs.Prelude.{◌≡◌, ℕ, zero, suc, pos, List, [], ◌∷◌, None, refl, length}
 use Rattle.std.proofs.Common.{arith}
 use Rattle.isa_model.specs.declared.frames.FrameHead.{FrameHead}
-use Rattle.isa_model.specs.Instructions.{Program}
-use Rattle.isa_model.specs.States.{Entries, value_at, new_frame}
-use Rattle.isa_model.specs.Runs.{count_values, numbered_maps, start_regs, start_state}
-use Rattle.isa_model.specs.MachineStates.{IsProgram, IsGiven}
-use Rattle.isa_model.specs.StepLaws.{start_is_state}
+use Rattle.isa_model.specs.Code.Instructions.{Program}
+use Rattle.isa_model.specs.Machine.States.{Entries, value_at, new_frame}
+use Rattle.isa_model.specs.Running.Runs.{count_values, numbered_maps, start_regs, start_state}
+use Rattle.isa_model.specs.Machine.MachineStates.{IsProgram, IsGiven}
+use Rattle.isa_model.specs.Machine.StepLaws.{start_is_state}
 use Rattle.reg_state.specs.declared.kinds.Kind.TheVariants.{Unset, Context}
 use Rattle.reg_state.specs.Kinds.{Assigned, Allows}
 use Rattle.stack_state.specs.declared.states.AbstractFrame.{AbstractFrame}

@@ -1,7 +1,7 @@
 //! What is known of eight bytes of a call frame.
 
 ghost use Rattle.std.specs.Prelude.{◌≡◌, ℕ, ◌+◌, ◌-◌, ◌*◌, ◌^◌, ◌<◌, ◌≤◌, ◌↔◌, IsTrue};
-ghost use Rattle.isa_model.specs.Sizes.{size_bytes};
+ghost use Rattle.isa_model.specs.Code.Sizes.{size_bytes};
 ghost use Rattle.reg_state.specs.Scalars.{Has};
 ghost use Rattle.stack_state.specs.Slots.{marks_of, mask_of, IsAny, AreAll, ArePart, AreSpilled, AreNumbers, IsSpill, IsFill, forgotten_slot};
 

@@ -2,7 +2,7 @@
 
 ghost use Rattle.std.specs.Prelude.{◌≡◌, List, length, ◌+◌, ◌/◌, ◌%◌, ◌<◌, ◌≤◌, ◌↔◌, IsTrue, replicate, slice_set};
 ghost use Rattle.isa_model.specs.declared.values.Cell.{Cell};
-ghost use Rattle.isa_model.specs.Sizes.{size_bytes};
+ghost use Rattle.isa_model.specs.Code.Sizes.{size_bytes};
 ghost use Rattle.reg_state.specs.Kinds.{Assigned};
 ghost use Rattle.stack_state.specs.Slots as slot_words;
 ghost use Rattle.stack_state.specs.Slots.{slot_at, IsMarked, AreMarked, after_store, IsLoad, IsSpill, IsFill};

@@ -1,7 +1,7 @@
 //! Abstract states, and their registers.
 
 ghost use Rattle.std.specs.Prelude.{◌≡◌, ◌≢◌, ◌<◌};
-ghost use Rattle.isa_model.specs.Registers.{reg_number};
+ghost use Rattle.isa_model.specs.Code.Registers.{reg_number};
 ghost use Rattle.stack_state.specs.Meaning.{depth};
 ghost use Rattle.stack_state.specs.Places.{kind_of, with_register};
 ghost use Rattle.stack_state.specs.Starts.{start};

@@ -1,7 +1,7 @@
 //! Frames by hand.
 
 ghost use Rattle.std.specs.Prelude.{◌+◌, ◌%◌, ◌<◌, ◌≤◌};
-ghost use Rattle.isa_model.specs.Sizes.{size_bytes};
+ghost use Rattle.isa_model.specs.Code.Sizes.{size_bytes};
 
 use crate::{Slot, StackState};
 use isa_model::{Size, Width};

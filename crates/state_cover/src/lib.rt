@@ -2,7 +2,7 @@
 #![tactic(auto)]
 
 ghost use Rattle.std.specs.Prelude.{◌≡◌, ℕ, IsTrue, length};
-ghost use Rattle.isa_model.specs.Instructions.{Program};
+ghost use Rattle.isa_model.specs.Code.Instructions.{Program};
 ghost use Rattle.reg_state.specs.KindCover.{KindCovers, KindEncloses};
 ghost use Rattle.stack_state.specs.Meaning.{Covers};
 ghost use Rattle.state_cover.specs.Names.{packet_name, null_name};

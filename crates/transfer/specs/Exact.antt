@@ -8,9 +8,9 @@ use Rattle.isa_model.specs.declared.instructions.Operand.{Operand}
 use Rattle.isa_model.specs.declared.instructions.Operand.TheVariants.{Constant, Register}
 use Rattle.isa_model.specs.declared.instructions.Insn.{Insn}
 use Rattle.isa_model.specs.declared.instructions.Insn.TheVariants.{Alu, Neg, MovSx, ByteSwap, LoadNumber, Load, Jump, JumpLong, JumpIf, Exit}
-use Rattle.isa_model.specs.Numbers.{unsigned, holds}
-use Rattle.isa_model.specs.Instructions.{Program, slots_of, writes}
-use Rattle.isa_model.specs.Steps.{destination}
+use Rattle.isa_model.specs.Code.Numbers.{unsigned, holds}
+use Rattle.isa_model.specs.Code.Instructions.{Program, slots_of, writes}
+use Rattle.isa_model.specs.Machine.Steps.{destination}
 use Rattle.reg_state.specs.declared.kinds.Kind.{Kind}
 use Rattle.reg_state.specs.Arithmetic.{IsNegated, IsReordered, IsSignExtended}
 use Rattle.stack_state.specs.declared.states.State.{State}

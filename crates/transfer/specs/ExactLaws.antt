@@ -18,21 +18,21 @@ use Rattle.isa_model.specs.declared.values.Value.{Value}
 use Rattle.isa_model.specs.declared.values.Value.TheVariants as value
 use Rattle.isa_model.specs.declared.ends.TrapReason.{TrapReason}
 use Rattle.isa_model.specs.declared.ends.TrapReason.TheVariants.{UnsetRead, ReadOnly}
-use Rattle.isa_model.specs.Registers.{reg_number}
-use Rattle.isa_model.specs.Numbers.{unsigned, negated, sign_extended, reordered, holds}
-use Rattle.isa_model.specs.Spelling.{InsnFits, OperandFits}
-use Rattle.isa_model.specs.Instructions.{Program, fetch, slots_of, operand_reads, alu_reads, reads, writes, is_frame_pointer}
-use Rattle.isa_model.specs.Pointers.{arithmetic, on_number, compared, compared_constant}
-use Rattle.isa_model.specs.States.{reg, set_reg, value_at}
-use Rattle.isa_model.specs.States as Machine
-use Rattle.isa_model.specs.Memory.{load}
-use Rattle.isa_model.specs.Steps.{StepResult, Next, Finished, Trapped, operand_value, base_of, destination, sets, jumps, branches, tested, test_of, finishes, exits, act, is_unset, performed, performed_at, step}
-use Rattle.isa_model.specs.Ends.{After, After-weaker}
-use Rattle.isa_model.specs.Successors.{Follows, falls_through}
-use Rattle.isa_model.specs.MachineStates.{IsProgram, IsState, IsValue, IsSlot}
-use Rattle.isa_model.specs.ValueLaws.{unsigned_fits}
-use Rattle.isa_model.specs.StateLaws.{reg_fits}
-use Rattle.isa_model.specs.StepLaws.{IfNext, act_keeps}
+use Rattle.isa_model.specs.Code.Registers.{reg_number}
+use Rattle.isa_model.specs.Code.Numbers.{unsigned, negated, sign_extended, reordered, holds}
+use Rattle.isa_model.specs.Code.Spelling.{InsnFits, OperandFits}
+use Rattle.isa_model.specs.Code.Instructions.{Program, fetch, slots_of, operand_reads, alu_reads, reads, writes, is_frame_pointer}
+use Rattle.isa_model.specs.Machine.Pointers.{arithmetic, on_number, compared, compared_constant}
+use Rattle.isa_model.specs.Machine.States.{reg, set_reg, value_at}
+use Rattle.isa_model.specs.Machine.States as Machine
+use Rattle.isa_model.specs.Machine.Memory.{load}
+use Rattle.isa_model.specs.Machine.Steps.{StepResult, Next, Finished, Trapped, operand_value, base_of, destination, sets, jumps, branches, tested, test_of, finishes, exits, act, is_unset, performed, performed_at, step}
+use Rattle.isa_model.specs.Running.Ends.{After, After-weaker}
+use Rattle.isa_model.specs.Machine.Successors.{Follows, falls_through}
+use Rattle.isa_model.specs.Machine.MachineStates.{IsProgram, IsState, IsValue, IsSlot}
+use Rattle.isa_model.specs.Machine.ValueLaws.{unsigned_fits}
+use Rattle.isa_model.specs.Machine.StateLaws.{reg_fits}
+use Rattle.isa_model.specs.Machine.StepLaws.{IfNext, act_keeps}
 use Rattle.reg_state.specs.declared.kinds.Kind.{Kind}
 use Rattle.reg_state.specs.declared.kinds.Kind.TheVariants as kind
 use Rattle.reg_state.specs.Kinds.{Assigned, Allows, AllowsOrNull}

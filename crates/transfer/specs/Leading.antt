@@ -1,10 +1,10 @@
 -- Where an abstract step leads.
 use Rattle.std.specs.Prelude.{ℕ, ◌⊎◌}
-use Rattle.isa_model.specs.Instructions.{Program}
-use Rattle.isa_model.specs.States as Machine
-use Rattle.isa_model.specs.Steps.{step}
-use Rattle.isa_model.specs.Ends.{After}
-use Rattle.isa_model.specs.MachineStates.{IsClock}
+use Rattle.isa_model.specs.Code.Instructions.{Program}
+use Rattle.isa_model.specs.Machine.States as Machine
+use Rattle.isa_model.specs.Machine.Steps.{step}
+use Rattle.isa_model.specs.Running.Ends.{After}
+use Rattle.isa_model.specs.Machine.MachineStates.{IsClock}
 use Rattle.stack_state.specs.declared.states.State.{State}
 use Rattle.stack_state.specs.Meaning.{Means}
 use Rattle.transfer.specs.declared.Ways.{Ways}

@@ -14,13 +14,13 @@ use Rattle.isa_model.specs.declared.values.Value.{Value}
 use Rattle.isa_model.specs.declared.values.Value.TheVariants as value
 use Rattle.isa_model.specs.declared.ends.TrapReason.{TrapReason}
 use Rattle.isa_model.specs.declared.ends.TrapReason.TheVariants.{OutOfRange}
-use Rattle.isa_model.specs.Numbers.{alu, low, signed}
-use Rattle.isa_model.specs.NumberLemmas.{low_same}
-use Rattle.isa_model.specs.Pointers.{offset_limit, pointer_at, moved_to, moved, combined, arithmetic, on_number}
-use Rattle.isa_model.specs.States as Machine
-use Rattle.isa_model.specs.Steps.{is_unset}
-use Rattle.isa_model.specs.MachineStates.{IsValue}
-use Rattle.isa_model.specs.Memory.{load}
+use Rattle.isa_model.specs.Code.Numbers.{alu, low, signed}
+use Rattle.isa_model.specs.Code.NumberLemmas.{low_same}
+use Rattle.isa_model.specs.Machine.Pointers.{offset_limit, pointer_at, moved_to, moved, combined, arithmetic, on_number}
+use Rattle.isa_model.specs.Machine.States as Machine
+use Rattle.isa_model.specs.Machine.Steps.{is_unset}
+use Rattle.isa_model.specs.Machine.MachineStates.{IsValue}
+use Rattle.isa_model.specs.Machine.Memory.{load}
 use Rattle.reg_state.specs.declared.scalars.Scalar.{Scalar}
 use Rattle.reg_state.specs.declared.kinds.Kind.{Kind}
 use Rattle.reg_state.specs.declared.kinds.Kind.TheVariants.{Unset, Number, Context, Stack, Packet, PacketEnd, Map, MapValue, MapValueOrNull}

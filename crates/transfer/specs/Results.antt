@@ -6,8 +6,8 @@ use Rattle.isa_model.specs.declared.sizes.Size.{Size}
 use Rattle.isa_model.specs.declared.sizes.Size.TheVariants.{U32}
 use Rattle.isa_model.specs.declared.instructions.AluOp.{AluOp}
 use Rattle.isa_model.specs.declared.instructions.AluOp.TheVariants.{Mov, Add, Sub}
-use Rattle.isa_model.specs.Numbers.{signed}
-use Rattle.isa_model.specs.Pointers.{offset_limit}
+use Rattle.isa_model.specs.Code.Numbers.{signed}
+use Rattle.isa_model.specs.Machine.Pointers.{offset_limit}
 use Rattle.reg_state.specs.declared.scalars.Scalar.{Scalar}
 use Rattle.reg_state.specs.declared.kinds.Kind.{Kind}
 use Rattle.reg_state.specs.declared.kinds.Kind.TheVariants.{Number, Context, Stack}

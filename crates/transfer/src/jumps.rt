@@ -1,8 +1,8 @@
 //! Jumps.
 
 ghost use Rattle.std.specs.Prelude.{◌≡◌, ◌+◌, ◌<◌, ◌^◌, ◌↔◌, IfOk, IfErr, IsOk, IsTrue, length, unwrap_or};
-ghost use Rattle.isa_model.specs.Instructions.{Program};
-ghost use Rattle.isa_model.specs.Steps.{target};
+ghost use Rattle.isa_model.specs.Code.Instructions.{Program};
+ghost use Rattle.isa_model.specs.Machine.Steps.{target};
 ghost use Rattle.stack_state.specs.Meaning.{depth};
 ghost use Rattle.stack_state.specs.Places.{kind_of, go_to};
 ghost use Rattle.branch_refine.specs.Refining.{IsNumber, IsNumberOperand, AreCompared};

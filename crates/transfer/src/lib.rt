@@ -3,8 +3,8 @@
 
 ghost use Rattle.std.specs.Prelude.{◌≡◌, ◌<◌, Some, IfOk, IfErr, IsOk, IsSome};
 ghost use Rattle.isa_model.specs.declared.instructions.Insn.{Insn};
-ghost use Rattle.isa_model.specs.Instructions.{fetch};
-ghost use Rattle.isa_model.specs.Successors.{Follows};
+ghost use Rattle.isa_model.specs.Code.Instructions.{fetch};
+ghost use Rattle.isa_model.specs.Machine.Successors.{Follows};
 ghost use Rattle.stack_state.specs.Meaning.{depth};
 ghost use Rattle.transfer.specs.Leading.{Given, LeadsTo, EachWay};
 ghost use Rattle.transfer.specs.Refusing.{register_refusal, Decides, Refuses};

@@ -1,7 +1,7 @@
 //! Arithmetic on pointers.
 
 ghost use Rattle.std.specs.Prelude.{◌≡◌, nat_le, unsigned_abs, if◌then◌else◌, Ok, Err, IfOk, IfErr, IsOk};
-ghost use Rattle.isa_model.specs.Pointers.{offset_limit};
+ghost use Rattle.isa_model.specs.Machine.Pointers.{offset_limit};
 ghost use Rattle.transfer.specs.Refusing.{moved_refusal, pointer_refusal, number_refusal};
 ghost use Rattle.transfer.specs.Results.{moved_offset, Moves, PointerAndNumber, NumberAndPointer, IsMoved, IsPointerAndNumber, IsNumberAndPointer};
 

@@ -1,8 +1,8 @@
 //! The forms that set a register from registers and constants alone.
 
 ghost use Rattle.std.specs.Prelude.{◌≡◌, ◌+◌, ◌<◌, ◌^◌, ℕ, List, [], slice_set};
-ghost use Rattle.isa_model.specs.Registers.{reg_number};
-ghost use Rattle.isa_model.specs.Steps.{operand_value};
+ghost use Rattle.isa_model.specs.Code.Registers.{reg_number};
+ghost use Rattle.isa_model.specs.Machine.Steps.{operand_value};
 ghost use Rattle.checked_vm.specs.Machine.{state_of, KeepsFrames, PerformsApart};
 
 use crate::core_state::Core;
@@ -30,7 +30,7 @@ impl Core {
     }
 
     /// Every operation with two operands, MOV included.
-    #[tactic(auto, unfolding(isa_model::specs::Steps::act))]
+    #[tactic(auto, unfolding(isa_model::specs::Machine::Steps::act))]
     pub fn do_alu(
         &mut self,
         width: Width,
@@ -48,7 +48,7 @@ impl Core {
     }
 
     /// NEG.
-    #[tactic(auto, unfolding(isa_model::specs::Steps::act))]
+    #[tactic(auto, unfolding(isa_model::specs::Machine::Steps::act))]
     pub fn do_neg(&mut self, width: Width, d: Reg) -> Result<(), TrapReason>
         requires { self.old.slot + 1 < 2 ^ 64 }
         ensures kept { KeepsFrames self.old self.new }
@@ -60,7 +60,7 @@ impl Core {
     }
 
     /// MOVSX.
-    #[tactic(auto, unfolding(isa_model::specs::Steps::act))]
+    #[tactic(auto, unfolding(isa_model::specs::Machine::Steps::act))]
     pub fn do_mov_sx(&mut self, extension: Extension, d: Reg, source: Reg) -> Result<(), TrapReason>
         requires { self.old.slot + 1 < 2 ^ 64 }
         ensures kept { KeepsFrames self.old self.new }
@@ -72,7 +72,7 @@ impl Core {
     }
 
     /// END.
-    #[tactic(auto, unfolding(isa_model::specs::Steps::act))]
+    #[tactic(auto, unfolding(isa_model::specs::Machine::Steps::act))]
     pub fn do_byte_swap(&mut self, order: ByteOrder, span: Span, d: Reg) -> Result<(), TrapReason>
         requires { self.old.slot + 1 < 2 ^ 64 }
         ensures kept { KeepsFrames self.old self.new }

@@ -1,7 +1,7 @@
 //! Local calls and their exits.
 
 ghost use Rattle.std.specs.Prelude.{◌≡◌, ◌+◌, ◌<◌, ◌≤◌, ◌^◌, ℕ, List, [], vec_len, vec_capacity};
-ghost use Rattle.isa_model.specs.Calls.{most_frames, enter, leave};
+ghost use Rattle.isa_model.specs.Machine.Calls.{most_frames, enter, leave};
 ghost use Rattle.checked_vm.specs.Machine.{state_of};
 
 use crate::core_state::{Core, new_frame};

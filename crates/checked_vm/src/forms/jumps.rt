@@ -1,7 +1,7 @@
 //! Jumps.
 
 ghost use Rattle.std.specs.Prelude.{◌≡◌, ◌<◌, ◌^◌, ℕ, List, [], length, unwrap_or};
-ghost use Rattle.isa_model.specs.Steps.{target, test_of};
+ghost use Rattle.isa_model.specs.Machine.Steps.{target, test_of};
 ghost use Rattle.checked_vm.specs.Machine.{state_of, KeepsFrames, PerformsIn};
 
 use crate::comparisons::{compared, compared_constant};
@@ -36,7 +36,7 @@ impl Core {
     }
 
     /// A conditional jump.
-    #[tactic(auto, unfolding(isa_model::specs::Steps::act))]
+    #[tactic(auto, unfolding(isa_model::specs::Machine::Steps::act))]
     pub fn do_jump_if(
         &mut self,
         packet: &[u8],

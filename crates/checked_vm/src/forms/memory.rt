@@ -9,7 +9,7 @@ use isa_model::{AtomicOp, Insn, Narrow, Place, Reg, Size, TrapReason, Value, Wid
 
 impl Core {
     /// LDX MEM.
-    #[tactic(auto, unfolding(isa_model::specs::Steps::act))]
+    #[tactic(auto, unfolding(isa_model::specs::Machine::Steps::act))]
     pub fn do_load(
         &mut self,
         packet: &[u8],
@@ -27,7 +27,7 @@ impl Core {
     }
 
     /// LDX MEMSX.
-    #[tactic(auto, unfolding(isa_model::specs::Steps::act))]
+    #[tactic(auto, unfolding(isa_model::specs::Machine::Steps::act))]
     pub fn do_load_sx(
         &mut self,
         packet: &[u8],
@@ -45,7 +45,7 @@ impl Core {
     }
 
     /// ST: the constant is sign-extended to 64 bits, of which the low bytes are stored.
-    #[tactic(auto, unfolding(isa_model::specs::Steps::act))]
+    #[tactic(auto, unfolding(isa_model::specs::Machine::Steps::act))]
     pub fn do_store_constant(
         &mut self,
         packet: &mut [u8],
@@ -64,7 +64,7 @@ impl Core {
     }
 
     /// STX.
-    #[tactic(auto, unfolding(isa_model::specs::Steps::act))]
+    #[tactic(auto, unfolding(isa_model::specs::Machine::Steps::act))]
     pub fn do_store(
         &mut self,
         packet: &mut [u8],
@@ -83,7 +83,7 @@ impl Core {
     }
 
     /// ADD, OR, AND and XOR on memory, with FETCH (`fetched`) or without.
-    #[tactic(auto, unfolding(isa_model::specs::Steps::act))]
+    #[tactic(auto, unfolding(isa_model::specs::Machine::Steps::act))]
     pub fn do_atomic(
         &mut self,
         packet: &mut [u8],
@@ -103,7 +103,7 @@ impl Core {
     }
 
     /// XCHG.
-    #[tactic(auto, unfolding(isa_model::specs::Steps::act))]
+    #[tactic(auto, unfolding(isa_model::specs::Machine::Steps::act))]
     pub fn do_exchange(
         &mut self,
         packet: &mut [u8],
@@ -121,7 +121,7 @@ impl Core {
     }
 
     /// CMPXCHG.
-    #[tactic(auto, unfolding(isa_model::specs::Steps::act))]
+    #[tactic(auto, unfolding(isa_model::specs::Machine::Steps::act))]
     pub fn do_compare_exchange(
         &mut self,
         packet: &mut [u8],

@@ -1,6 +1,6 @@
 use Rattle.std.proofs.Common.{◌≡◌, ◌∙◌, ◌<◌, refl, sym, subst, Some, None, false}
 use Rattle.isa_model.specs.declared.instructions.Insn.{Insn}
-use Rattle.isa_model.specs.Instructions.{fetch, writes, is_frame_pointer}
+use Rattle.isa_model.specs.Code.Instructions.{fetch, writes, is_frame_pointer}
 use Rattle.stack_state.specs.declared.states.State.{State}
 use Rattle.image.specs.Programs.{IsProgram-IsImage}
 use Rattle.transfer.specs.Refusing.{reads_unset, register_refusal}

@@ -1,5 +1,5 @@
 use Rattle.std.proofs.KnownBytes.{Appends-trans}
-use Rattle.isa_model.specs.CanonicalText.{rows_text, code_text, instructions, canonical_text}
+use Rattle.isa_model.specs.Text.CanonicalText.{rows_text, code_text, instructions, canonical_text}
 use Rattle.exact_io.specs.TransferLaws.{AppendsBeginning-first, AppendsBeginning-second}
 use Rattle.disassembler.specs.SlotText.{slot_text-code}
 use Rattle.disassembler.proofs.Written.{on_err}

@@ -1,7 +1,7 @@
 use Rattle.std.proofs.Common.{refl, get_or}
 use Rattle.isa_model.specs.declared.map_defs.MapKind.TheVariants.{Hash}
 use Rattle.isa_model.specs.declared.map_defs.MapDef.{MapDef}
-use Rattle.isa_model.specs.CanonicalText.{row_line}
+use Rattle.isa_model.specs.Text.CanonicalText.{row_line}
 use Rattle.disassembler.proofs.Written.{on_err, text_failed}
 use Rattle.disassembler.proofs.text.write_rows.Goals as goal
 

@@ -1,7 +1,7 @@
 use Rattle.std.proofs.Common.{◌≡◌, arith, ◌∙◌}
 use Rattle.byteorder.specs.Endian.{little_from}
-use Rattle.isa_model.specs.Streams.{head_bytes}
-use Rattle.isa_model.specs.LittleEndian.{EachByte}
+use Rattle.isa_model.specs.Reporting.Streams.{head_bytes}
+use Rattle.isa_model.specs.Code.LittleEndian.{EachByte}
 use Rattle.frames.proofs.HeadNumbers.{little_from-behind, little_bytes-four}
 use Rattle.frames.proofs.heads.decode_head.Goals as goal
 

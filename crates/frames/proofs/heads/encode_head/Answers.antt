@@ -1,5 +1,5 @@
 use Rattle.std.proofs.Common.{refl}
-use Rattle.isa_model.specs.Streams.{head_bytes}
+use Rattle.isa_model.specs.Reporting.Streams.{head_bytes}
 use Rattle.frames.proofs.heads.encode_head.Goals as goal
 
 pub returns : goal.returns

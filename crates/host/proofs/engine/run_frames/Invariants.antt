@@ -1,5 +1,5 @@
 use Rattle.std.proofs.Common.{◌≡◌, ◌-◌, List}
-use Rattle.isa_model.specs.Streams.{Frame}
+use Rattle.isa_model.specs.Reporting.Streams.{Frame}
 use Rattle.host.proofs.SoFar.{SoFar}
 use Rattle.host.proofs.engine.run_frames.Given as goal
 

@@ -1,5 +1,5 @@
 use Rattle.std.proofs.Common.{◌≡◌, take, false}
-use Rattle.isa_model.specs.Instructions.{slots}
+use Rattle.isa_model.specs.Code.Instructions.{slots}
 use Rattle.image.specs.Images.{IsCode}
 use Rattle.image.proofs.code.by_slot.Given as goal
 

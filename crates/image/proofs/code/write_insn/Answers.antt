@@ -1,7 +1,7 @@
 use Rattle.std.proofs.Common.{◌≡◌, ℕ, List, ◌∙◌, ap, sym, subst, take, drop}
 use Rattle.std.specs.Prelude.{OnErr}
 use Rattle.std.proofs.lemmas.List.{take_at}
-use Rattle.isa_model.specs.Spelling.{spelling_of}
+use Rattle.isa_model.specs.Code.Spelling.{spelling_of}
 use Rattle.exact_io.specs.Transfers.{AppendsBeginning}
 use Rattle.image.proofs.CodeSpelling.{length-spelling_of}
 use Rattle.image.proofs.code.write_insn.Goals as goal

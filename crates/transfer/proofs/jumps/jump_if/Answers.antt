@@ -2,7 +2,7 @@ use Rattle.std.proofs.Common.{◌≡◌, ◌+◌, ◌∙◌, rules, ap, sym, sub
 use Rattle.std.proofs.lemmas.Int.{to_z-of_z}
 use mir.Val.{SFits}
 use mir.Syntax.{w32}
-use Rattle.isa_model.specs.Steps.{target, destination}
+use Rattle.isa_model.specs.Machine.Steps.{target, destination}
 use Rattle.stack_state.specs.declared.states.State.{State}
 use Rattle.stack_state.specs.Places.{go_to}
 use Rattle.transfer.specs.Exact.{Sides}

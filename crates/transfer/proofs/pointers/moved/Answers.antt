@@ -3,7 +3,7 @@ use Rattle.std.proofs.lemmas.Bool.Decides.{nat_tests}
 use Rattle.std.proofs.lemmas.Int.{to_z-of_z}
 use mir.Val.{SFits}
 use mir.Syntax.{w32, w128}
-use Rattle.isa_model.specs.Pointers.{offset_limit}
+use Rattle.isa_model.specs.Machine.Pointers.{offset_limit}
 use Rattle.reg_state.specs.declared.kinds.Kind.{Kind}
 use Rattle.reg_state.specs.declared.kinds.Kind.TheVariants.{Stack}
 use Rattle.transfer.specs.declared.refusals.Refusal.{Refusal}

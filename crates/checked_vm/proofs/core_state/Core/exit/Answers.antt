@@ -1,5 +1,5 @@
 use Rattle.std.proofs.Common.{[], sym, ap, ◌∙◌}
-use Rattle.isa_model.specs.Steps.{Next, act}
+use Rattle.isa_model.specs.Machine.Steps.{Next, act}
 use Rattle.checked_vm.specs.Machine.{state_of}
 use Rattle.checked_vm.proofs.Acts.{exits_leave}
 use Rattle.checked_vm.proofs.core_state.Core.exit.Goals as goal

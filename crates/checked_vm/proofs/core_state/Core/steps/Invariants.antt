@@ -1,6 +1,6 @@
 use Rattle.std.proofs.Common.{◌≡◌, ◌+◌, ◌≤◌, ℕ, []}
-use Rattle.isa_model.specs.Instructions.{Program}
-use Rattle.isa_model.specs.Runs.{GoesOn, progress}
+use Rattle.isa_model.specs.Code.Instructions.{Program}
+use Rattle.isa_model.specs.Running.Runs.{GoesOn, progress}
 use Rattle.checked_vm.specs.Machine.{state_of, IsRunning}
 use Rattle.checked_vm.proofs.core_state.Core.steps.Given as goal
 

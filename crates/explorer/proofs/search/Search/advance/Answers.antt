@@ -1,5 +1,5 @@
 use Rattle.std.proofs.Common.{◌≡◌, ◌≤◌, ◌+◌, Some, length, arith, refl, ap, ◌∙◌, subst, vec_len}
-use Rattle.isa_model.specs.Instructions.{fetch}
+use Rattle.isa_model.specs.Code.Instructions.{fetch}
 use Rattle.stack_state.specs.Starts.{start}
 use Rattle.explorer.specs.declared.search.Visit.{Visit}
 use Rattle.explorer.specs.Search.{HasEnded, HasEntered}

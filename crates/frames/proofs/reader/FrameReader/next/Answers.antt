@@ -1,5 +1,5 @@
 use Rattle.std.proofs.Common.{◌≡◌, rules}
-use Rattle.isa_model.specs.Streams.{Fresh}
+use Rattle.isa_model.specs.Reporting.Streams.{Fresh}
 use Rattle.frames.proofs.Findings.{fresh_reads, done_reads, fresh_room, done_room}
 use Rattle.frames.proofs.reader.FrameReader.next.Goals as goal
 

@@ -3,8 +3,8 @@ use Rattle.std.specs.Prelude.{MatchResult, ◌⊎◌}
 use Rattle.std.proofs.lemmas.Result.{err_from_is_err_and}
 use Rattle.isa_model.specs.declared.map_defs.MapDef.{MapDef}
 use Rattle.isa_model.specs.declared.instructions.Insn.{Insn}
-use Rattle.isa_model.specs.Instructions.{Program}
-use Rattle.isa_model.specs.LittleEndian.{EachByte}
+use Rattle.isa_model.specs.Code.Instructions.{Program}
+use Rattle.isa_model.specs.Code.LittleEndian.{EachByte}
 use Rattle.image.specs.declared.errors.ImageError.{ImageError}
 use Rattle.image.specs.declared.errors.ImageError.TheVariants.{Memory}
 use Rattle.image.specs.Images.{IsImage, image_bytes}

@@ -1,9 +1,9 @@
 use Rattle.std.proofs.Common.{arith, ℕ, ◌≡◌, ◌^◌, ◌%◌, refl, ap, ◌∙◌, bit_and, bit_or, bit_xor}
 use Rattle.std.proofs.lemmas.Nat.{and_mod, or_mod, xor_mod, pow_pos}
-use Rattle.isa_model.specs.Sizes.{width_bits}
+use Rattle.isa_model.specs.Code.Sizes.{width_bits}
 use Rattle.isa_model.specs.declared.instructions.AluOp.TheVariants.{Add, Sub, Lsh, Rsh}
-use Rattle.isa_model.specs.Numbers.{alu, result_of}
-use Rattle.isa_model.specs.NumberLemmas.{alu_below, low_below, width_most}
+use Rattle.isa_model.specs.Code.Numbers.{alu, result_of}
+use Rattle.isa_model.specs.Code.NumberLemmas.{alu_below, low_below, width_most}
 use Rattle.std.proofs.Math.Nat.{mod-eq_of_lt}
 use Rattle.known_bits.proofs.Members.{Known}
 use Rattle.known_bits.proofs.Sharp.{low_set, occurs_low}

@@ -1,5 +1,5 @@
 use Rattle.std.proofs.Common.{◌*◌}
-use Rattle.isa_model.specs.NumberLemmas.{low_wrapped}
+use Rattle.isa_model.specs.Code.NumberLemmas.{low_wrapped}
 use Rattle.known_bits.proofs.bits.Bits.mul_at.Goals as goal
 
 pub returns-clause-contains : goal.returns-clause-contains

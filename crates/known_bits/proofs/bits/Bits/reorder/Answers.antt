@@ -1,6 +1,6 @@
 use Rattle.std.proofs.Math.Nat.{mod-eq_of_lt}
-use Rattle.isa_model.specs.Numbers.{reordered}
-use Rattle.isa_model.specs.NumberLemmas.{reordered_below, reordered_fits}
+use Rattle.isa_model.specs.Code.Numbers.{reordered}
+use Rattle.isa_model.specs.Code.NumberLemmas.{reordered_below, reordered_fits}
 use Rattle.std.proofs.Common.{arith}
 use Rattle.known_bits.proofs.bits.Bits.reorder.Goals as goal
 

@@ -1,9 +1,9 @@
 use Rattle.std.proofs.Common.{arith, ◌≡◌, ◌*◌, ◌^◌, ap, sym, ◌∙◌, ℕ, ◌%◌}
-use Rattle.isa_model.specs.Numbers.{shift, result_of}
-use Rattle.isa_model.specs.NumberLemmas.{low_wrapped, low_below}
+use Rattle.isa_model.specs.Code.Numbers.{shift, result_of}
+use Rattle.isa_model.specs.Code.NumberLemmas.{low_wrapped, low_below}
 use Rattle.known_bits.proofs.Widths.{only_member}
 use Rattle.isa_model.specs.declared.instructions.AluOp.TheVariants.{Lsh}
-use Rattle.isa_model.specs.Sizes.{width_bits}
+use Rattle.isa_model.specs.Code.Sizes.{width_bits}
 use Rattle.known_bits.proofs.Members.{Known}
 use Rattle.known_bits.proofs.Sharp.{low_set, occurs_low}
 use Rattle.known_bits.proofs.Precise.{left_sharp}

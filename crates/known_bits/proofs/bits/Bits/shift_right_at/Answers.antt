@@ -1,10 +1,10 @@
 use Rattle.std.proofs.Common.{◌/◌, ◌≡◌, ◌^◌, ap, sym, ◌∙◌, arith, ℕ, ◌%◌}
 use Rattle.std.proofs.Math.Nat.{div-le_self}
-use Rattle.isa_model.specs.Numbers.{shift, result_of}
-use Rattle.isa_model.specs.NumberLemmas.{low_same}
+use Rattle.isa_model.specs.Code.Numbers.{shift, result_of}
+use Rattle.isa_model.specs.Code.NumberLemmas.{low_same}
 use Rattle.known_bits.proofs.Widths.{only_member}
 use Rattle.isa_model.specs.declared.instructions.AluOp.TheVariants.{Rsh}
-use Rattle.isa_model.specs.Sizes.{width_bits}
+use Rattle.isa_model.specs.Code.Sizes.{width_bits}
 use Rattle.known_bits.proofs.Members.{Known}
 use Rattle.known_bits.proofs.Sharp.{low_set, occurs_low}
 use Rattle.known_bits.proofs.Precise.{right_sharp}

@@ -1,5 +1,5 @@
 use Rattle.std.proofs.Common.{arith, ap, ◌∙◌}
-use Rattle.isa_model.specs.Numbers.{sign_extended}
+use Rattle.isa_model.specs.Code.Numbers.{sign_extended}
 use Rattle.known_bits.proofs.Members.{Known}
 use Rattle.known_bits.proofs.Copies.{extension_copies, copied_known, copied_contains, copied_fits, copied_sharp, extended_zero}
 use Rattle.known_bits.proofs.bits.Bits.sign_extend.Goals as goal

@@ -1,8 +1,8 @@
-use Rattle.isa_model.specs.NumberLemmas.{low_difference}
+use Rattle.isa_model.specs.Code.NumberLemmas.{low_difference}
 use Rattle.std.proofs.Common.{◌+◌, ◌-◌, ◌%◌, ◌^◌}
 use Rattle.isa_model.specs.declared.instructions.AluOp.TheVariants.{Sub}
-use Rattle.isa_model.specs.Sizes.{width_bits}
-use Rattle.isa_model.specs.Numbers.{result_of}
+use Rattle.isa_model.specs.Code.Sizes.{width_bits}
+use Rattle.isa_model.specs.Code.Numbers.{result_of}
 use Rattle.known_bits.proofs.Sharp.{low_set, occurs_low}
 use Rattle.known_bits.proofs.bits.Bits.sub_at.Goals as goal
 

@@ -2,9 +2,9 @@ use Rattle.std.proofs.Common.{arith, ◌≡◌, ◌<◌, ◌^◌, ◌∙◌, ap,
 use Rattle.std.specs.Int.{cast_signed}
 use Rattle.std.proofs.lemmas.Int.{ints}
 use Rattle.isa_model.specs.declared.sizes.Width.TheVariants.{Full64}
-use Rattle.isa_model.specs.Numbers.{alu}
-use Rattle.isa_model.specs.NumberLemmas.{alu_below, low_below, low_same}
-use Rattle.isa_model.specs.Sizes.{width_bits}
+use Rattle.isa_model.specs.Code.Numbers.{alu}
+use Rattle.isa_model.specs.Code.NumberLemmas.{alu_below, low_below, low_same}
+use Rattle.isa_model.specs.Code.Sizes.{width_bits}
 use Rattle.ranges.proofs.Limits.{keeps_constant, keeps_signed_constant}
 use Rattle.ranges.proofs.range.Range.alu.Goals as goal
 use Rattle.ranges.proofs.range.Range.alu.Goals.{else-a-via-then-a+else-b, else-a-via-else-a}

@@ -1,8 +1,8 @@
 use Rattle.std.proofs.Common.{arith, ◌^◌}
-use Rattle.isa_model.specs.Numbers.{reordered}
-use Rattle.isa_model.specs.NumberLemmas.{reordered_below}
+use Rattle.isa_model.specs.Code.Numbers.{reordered}
+use Rattle.isa_model.specs.Code.NumberLemmas.{reordered_below}
 use Rattle.std.proofs.Math.Nat.{mod-eq_of_lt}
-use Rattle.isa_model.specs.Sizes.{span_bits}
+use Rattle.isa_model.specs.Code.Sizes.{span_bits}
 use Rattle.ranges.proofs.range.Range.reorder.Goals as goal
 
 pub returns-in-Little-clause-contains : goal.returns-in-Little-clause-contains

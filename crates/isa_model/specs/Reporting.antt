@@ -1,0 +1,6 @@
+-- Frame streams, and the report of a run over one.
+pub mod Frames
+pub mod Streams
+pub mod StreamLaws
+pub mod Reports
+pub mod ReportLaws

@@ -1,0 +1,199 @@
+-- What running a program over a frame stream writes: the report and the frames out, as pieces in their order. docs/FORMATS.md.
+use Rattle.std.specs.Prelude.{◌≡◌, ℕ, ◌+◌, if◌then◌else◌, Bool, true, false, List, [], ◌∷◌, ◌++◌, length, map, fold, replicate, codes, decimal, Option}
+use Rattle.std.specs.List.{flat_map, filter_map, range_with_len}
+use Rattle.std.specs.Option.{option_map}
+use Rattle.std.specs.Ordering.{nat_cmp}
+use Rattle.std.specs.Cmp.Lexicographic.{slice_cmp}
+use Rattle.std.specs.FinMap.Entries.{find, put as put_entry}
+use Rattle.byteorder.specs.Endian.{little_bytes}
+use Rattle.hex.specs.Hex.{encode_lower}
+use Rattle.isa_model.specs.declared.map_defs.MapKind.{MapKind}
+use Rattle.isa_model.specs.declared.map_defs.MapKind.TheVariants.{Hash, Array}
+use Rattle.isa_model.specs.declared.map_defs.MapDef.{MapDef}
+use Rattle.isa_model.specs.declared.frames.FrameHead.{FrameHead}
+use Rattle.isa_model.specs.declared.frames.Action.{Action}
+use Rattle.isa_model.specs.declared.frames.Action.TheVariants as action
+use Rattle.isa_model.specs.declared.streams.Fault.{Fault}
+use Rattle.isa_model.specs.declared.streams.Fault.TheVariants.{F1, F2, F3, F4, F5, F6}
+use Rattle.isa_model.specs.declared.streams.Finish.{Finish}
+use Rattle.isa_model.specs.declared.streams.Finish.TheVariants as finish
+use Rattle.isa_model.specs.declared.ends.TrapReason.{TrapReason}
+use Rattle.isa_model.specs.declared.ends.TrapReason.TheVariants.{NoCode, UnsetRead, ReadOnly, BadPointer, OutOfRange, BadAccess, BadCompare, BadHelper, TooManyFrames, NoResult}
+use Rattle.isa_model.specs.declared.ends.End.{End}
+use Rattle.isa_model.specs.declared.ends.End.TheVariants.{Exit, Trap, Limit}
+use Rattle.isa_model.specs.Reporting.Frames.{action_of}
+use Rattle.isa_model.specs.Code.Instructions.{Program}
+use Rattle.isa_model.specs.Machine.States.{Entries}
+use Rattle.isa_model.specs.Reporting.Streams.{Frame, magic, frame_bytes}
+use Rattle.isa_model.specs.Running.Runs.{Outcome, HasOutcome, Turn, turn}
+
+-- ---- names
+
+abbrev pub action_name : Action → List ℕ
+action_name action.Aborted = codes "ABORTED"
+action_name action.Drop = codes "DROP"
+action_name action.Pass = codes "PASS"
+action_name action.Tx = codes "TX"
+action_name action.Redirect = codes "REDIRECT"
+action_name action.Invalid = codes "INVALID"
+
+abbrev pub reason_name : TrapReason → List ℕ
+reason_name NoCode = codes "code"
+reason_name UnsetRead = codes "unset"
+reason_name ReadOnly = codes "readonly"
+reason_name BadPointer = codes "pointer"
+reason_name OutOfRange = codes "range"
+reason_name BadAccess = codes "access"
+reason_name BadCompare = codes "compare"
+reason_name BadHelper = codes "helper"
+reason_name TooManyFrames = codes "frames"
+reason_name NoResult = codes "exit"
+
+abbrev pub fault_name : Fault → List ℕ
+fault_name F1 = codes "F1"
+fault_name F2 = codes "F2"
+fault_name F3 = codes "F3"
+fault_name F4 = codes "F4"
+fault_name F5 = codes "F5"
+fault_name F6 = codes "F6"
+
+-- ---- lines, each ended by one line feed
+
+-- a frame's line, by the limit of steps, the frame's number, how its run ended, and the length of its body
+unfoldable pub frame_line : ℕ → ℕ → End → ℕ → List ℕ
+frame_line limit number (Exit value steps) size =
+    decimal number ++ codes " " ++ action_name (action_of value) ++ codes " " ++ decimal size ++ codes " " ++ decimal steps ++ codes "\n"
+frame_line limit number (Trap reason steps) size =
+    decimal number ++ codes " TRAP " ++ reason_name reason ++ codes " " ++ decimal size ++ codes " " ++ decimal steps ++ codes "\n"
+frame_line limit number Limit size =
+    decimal number ++ codes " LIMIT " ++ decimal size ++ codes " " ++ decimal limit ++ codes "\n"
+
+-- an entry's line, by the map's index, in lower-case hexadecimal
+unfoldable pub map_line : ℕ → (List ℕ × List ℕ) → List ℕ
+map_line index e =
+    codes "map " ++ decimal index ++ codes " " ++ encode_lower e.0 ++ codes " " ++ encode_lower e.1 ++ codes "\n"
+
+-- the last line, by the number of frames and how the stream ended
+unfoldable pub last_line : ℕ → Finish → List ℕ
+last_line number finish.End = codes "end " ++ decimal number ++ codes "\n"
+last_line number (finish.Fault f offset) = codes "fault " ++ fault_name f ++ codes " at " ++ decimal offset ++ codes "\n"
+
+-- ---- pieces: each is written whole, or a beginning of it is the last that is written
+
+pub data Piece : Type 0 where
+  ToReport : List ℕ → Piece
+  ToFrames : List ℕ → Piece
+
+abbrev pub report_part : Piece → List ℕ
+report_part (ToReport bytes) = bytes
+report_part (ToFrames bytes) = []
+
+abbrev pub frames_part : Piece → List ℕ
+frames_part (ToReport bytes) = []
+frames_part (ToFrames bytes) = bytes
+
+-- the report, and the frames out
+abbrev pub report_bytes : List Piece → List ℕ
+report_bytes pieces = flat_map report_part pieces
+
+abbrev pub frames_out : List Piece → List ℕ
+frames_out pieces = flat_map frames_part pieces
+
+-- ---- frames
+
+abbrev pub is_forwarded : Action → Bool
+is_forwarded action.Pass = true
+is_forwarded action.Tx = true
+is_forwarded other = false
+
+-- PASS and TX frames are written out
+abbrev pub is_sent : End → Bool
+is_sent (Exit value steps) = is_forwarded (action_of value)
+is_sent (Trap reason steps) = false
+is_sent Limit = false
+
+abbrev pub record_pieces : FrameHead → Turn → List Piece
+record_pieces head t = if is_sent t.ends then ToFrames (frame_bytes (record { head = head; body = t.packet })) ∷ [] else []
+
+-- a frame's line, and then its record if it has one
+unfoldable pub frame_pieces : ℕ → ℕ → Frame → Turn → List Piece
+frame_pieces limit number f t = ToReport (frame_line limit number t.ends (length f.body)) ∷ record_pieces f.head t
+
+-- what running a frame on map contents gives
+abbrev pub Rule : Type 0
+Rule = FrameHead → List ℕ → List Entries → Turn
+
+-- the frames' pieces, the maps' contents carried along
+abbrev pub turns_pieces : ℕ → Rule → ℕ → List Entries → List Frame → List Piece
+turns_pieces limit rule number contents [] = []
+turns_pieces limit rule number contents (f ∷ frames) =
+    let t = rule f.head f.body contents in
+    frame_pieces limit number f t ++ turns_pieces limit rule (number + 1) t.contents frames
+
+abbrev pub contents_after : Rule → List Entries → List Frame → List Entries
+contents_after rule contents [] = contents
+contents_after rule contents (f ∷ frames) = contents_after rule (rule f.head f.body contents).contents frames
+
+-- ---- maps
+
+-- an array's value by its index
+abbrev pub entry_by_index : Entries → ℕ → Option (List ℕ × List ℕ)
+entry_by_index es i = option_map (λ value. (little_bytes 4 i, value)) (find (slice_cmp nat_cmp) (little_bytes 4 i) es)
+
+-- hash maps in the order of key bytes, arrays by rising index
+abbrev pub in_report_order : MapKind → ℕ → Entries → Entries
+in_report_order Hash entries es = es
+in_report_order Array entries es = filter_map (entry_by_index es) (range_with_len 0 entries)
+
+abbrev pub map_pieces : ℕ → MapDef → Entries → List Piece
+map_pieces index row es = map (λ e. ToReport (map_line index e)) (in_report_order row.kind row.entries es)
+
+-- the maps' lines, map by map
+abbrev pub maps_pieces : ℕ → List MapDef → List Entries → List Piece
+maps_pieces index [] contents = []
+maps_pieces index (row ∷ rows) [] = []
+maps_pieces index (row ∷ rows) (es ∷ contents) = map_pieces index row es ++ maps_pieces (index + 1) rows contents
+
+-- an array's values exist from the start, zero-filled; a hash map starts empty
+abbrev pub starting_entries : MapKind → MapDef → Entries
+starting_entries Hash row = []
+starting_entries Array row =
+    fold (λ es i. put_entry (slice_cmp nat_cmp) (little_bytes 4 i) (replicate row.value_size 0) es) [] (range_with_len 0 row.entries)
+
+abbrev pub starting_contents : List MapDef → List Entries
+starting_contents rows = map (λ row. starting_entries row.kind row) rows
+
+-- ---- reports
+
+-- the magic, each frame's pieces, the maps' lines, and the last line
+abbrev pub report_of : ℕ → List MapDef → Rule → List Entries → List Frame × Finish → List Piece
+report_of limit rows rule contents found =
+    (ToFrames magic ∷ turns_pieces limit rule 0 contents found.0)
+    ++ (maps_pieces 0 rows (contents_after rule contents found.0) ++ ToReport (last_line (length found.0) found.1) ∷ [])
+
+-- a run with checks, stopped at the limit; every answer of the clock is the frame's time
+abbrev pub checked_rule : Program → ℕ → Rule
+checked_rule p limit head body contents = turn p limit (λ k. head.time) head body contents
+
+-- the checked report of a program, a limit, and the frames and the end or fault of a stream
+abbrev pub checked_report : Program → ℕ → List Frame × Finish → List Piece
+checked_report p limit found = report_of limit p.maps (checked_rule p limit) (starting_contents p.maps) found
+
+-- the turn of a run that has this outcome
+abbrev pub turn_by : Outcome → Turn
+turn_by o = record { ends = Exit o.number o.steps; packet = o.packet; contents = o.contents; clock_calls = o.clock_calls }
+
+-- the frames' pieces by the outcomes of their runs, and the contents that the last one leaves
+abbrev pub ReportsFrames : Program → ℕ → List Entries → List Frame → List Piece → List Entries → Type 0
+ReportsFrames p number contents [] pieces last = (pieces ≡ []) × (last ≡ contents)
+ReportsFrames p number contents (f ∷ frames) pieces last =
+    (o : Outcome) × (rest : List Piece) × HasOutcome p f.head f.body contents (λ k. f.head.time) o
+    × (pieces ≡ frame_pieces o.steps number f (turn_by o) ++ rest) × ReportsFrames p (number + 1) o.contents frames rest last
+
+-- the report of a program, and the frames and the end or fault of a stream: every run exits
+pub record IsReport (p : Program) (found : List Frame × Finish) (pieces : List Piece) : Type 0 where
+  pub turns : List Piece
+  pub last : List Entries
+  pub frames : ReportsFrames p 0 (starting_contents p.maps) found.0 turns last
+  pub whole : pieces ≡ (ToFrames magic ∷ turns)
+      ++ (maps_pieces 0 p.maps last ++ ToReport (last_line (length found.0) found.1) ∷ [])

@@ -1,0 +1,124 @@
+-- Whole runs: steps, ends, outcomes, and how a run ends within a limit.
+use Rattle.std.specs.Prelude.{◌≡◌, ℕ, zero, suc, ◌+◌, pos, List, [], ◌∷◌, map, length}
+use Rattle.isa_model.specs.declared.values.Region.TheVariants as region
+use Rattle.isa_model.specs.declared.values.Value.{Value}
+use Rattle.isa_model.specs.declared.values.Value.TheVariants.{Unset, Ptr}
+use Rattle.isa_model.specs.declared.frames.FrameHead.{FrameHead}
+use Rattle.isa_model.specs.declared.ends.End.{End}
+use Rattle.isa_model.specs.declared.ends.End.TheVariants.{Exit, Trap, Limit}
+use Rattle.isa_model.specs.Code.Instructions.{Program}
+use Rattle.isa_model.specs.Machine.States.{Content, Entries, entries_of, State, frame_pointer, new_frame}
+use Rattle.isa_model.specs.Machine.Steps.{StepResult, Next, Finished, Trapped, step}
+
+-- ---- the start
+
+-- the values of a map are numbered by their keys
+abbrev pub numbered : ℕ → Entries → Content
+numbered n [] = []
+numbered n (e ∷ es) = (e.0, record { serial = n; bytes = e.1 }) ∷ numbered (suc n) es
+
+-- and map by map
+abbrev pub numbered_maps : ℕ → List Entries → List Content
+numbered_maps n [] = []
+numbered_maps n (m ∷ ms) = numbered n m ∷ numbered_maps (n + length m) ms
+
+abbrev pub count_values : List Entries → ℕ
+count_values [] = 0
+count_values (m ∷ ms) = length m + count_values ms
+
+-- r1 points to the context and r10 to the end of the first frame
+abbrev pub start_regs : ℕ → List Value
+start_regs serial =
+    Unset ∷ Ptr region.Context (pos 0) ∷ Unset ∷ Unset ∷ Unset ∷ Unset ∷ Unset ∷ Unset ∷ Unset ∷ Unset
+    ∷ frame_pointer serial ∷ []
+
+-- the values have the serials 0, 1, .. and the first frame the next one
+unfoldable pub start_state : FrameHead → List ℕ → List Entries → State
+start_state head packet contents =
+    record {
+      slot = 0;
+      regs = start_regs (count_values contents);
+      frames = new_frame (count_values contents) 0 (Unset ∷ Unset ∷ Unset ∷ Unset ∷ []) ∷ [];
+      packet = packet;
+      interface = head.interface;
+      queue = head.queue;
+      maps = numbered_maps 0 contents;
+      clock_calls = 0;
+      next_serial = suc (count_values contents);
+    }
+
+-- ---- steps in a row
+
+-- a run so far: it goes on from a state, or it has ended in one
+pub data Progress : Type 0 where
+  GoesOn : State → Progress
+  Ended : End → State → Progress
+
+-- what one step does to a run of n steps
+abbrev pub after_step : ℕ → State → StepResult → Progress
+after_step n s (Next t) = GoesOn t
+after_step n s (Finished a) = Ended (Exit a (n + 1)) s
+after_step n s (Trapped e) = Ended (Trap e n) s
+
+abbrev pub advanced : Program → (ℕ → ℕ) → ℕ → Progress → Progress
+advanced p clock n (GoesOn s) = after_step n s (step p clock s)
+advanced p clock n (Ended e s) = Ended e s
+
+-- what the first n steps come to
+unfoldable pub progress : Program → (ℕ → ℕ) → ℕ → State → Progress
+progress p clock zero s = GoesOn s
+progress p clock (suc n) s = advanced p clock n (progress p clock n s)
+
+-- n steps, none of which ends the run, lead from s to t
+abbrev pub Reaches : Program → (ℕ → ℕ) → State → ℕ → State → Type 0
+Reaches p clock s n t = progress p clock n s ≡ GoesOn t
+
+-- the run from s has n steps: the first n - 1 go on, and the nth exits with this number
+abbrev pub Runs : Program → (ℕ → ℕ) → State → ℕ → ℕ → Type 0
+Runs p clock s zero a = ⊥
+Runs p clock s (suc n) a = (t : State) × Reaches p clock s n t × (step p clock t ≡ Finished a)
+
+-- ---- outcomes
+
+-- what a run that exits gives: r0, the packet and the map contents as they are then, its steps, and how often it asked the clock
+pub record Outcome : Type 0 where
+  pub number : ℕ
+  pub packet : List ℕ
+  pub contents : List Entries
+  pub steps : ℕ
+  pub clock_calls : ℕ
+
+-- a run from the start state has this outcome
+pub record HasOutcome (p : Program) (head : FrameHead) (packet : List ℕ) (contents : List Entries) (clock : ℕ → ℕ) (o : Outcome) : Type 0 where
+  pub before : ℕ
+  pub last : State
+  pub reached : Reaches p clock (start_state head packet contents) before last
+  pub exits : step p clock last ≡ Finished o.number
+  pub steps_are : o.steps ≡ suc before
+  pub packet_is : o.packet ≡ last.packet
+  pub contents_are : o.contents ≡ map entries_of last.maps
+  pub clock_calls_are : o.clock_calls ≡ last.clock_calls
+
+-- ---- turns
+
+-- the most steps that a run may be given
+abbrev pub max_steps : ℕ
+max_steps = 1000000
+
+-- how a run within a limit ended, and what it leaves
+pub record Turn : Type 0 where
+  pub ends : End
+  pub packet : List ℕ
+  pub contents : List Entries
+  pub clock_calls : ℕ
+
+abbrev pub left : End → State → Turn
+left e s = record { ends = e; packet = s.packet; contents = map entries_of s.maps; clock_calls = s.clock_calls }
+
+abbrev pub turn_of : Progress → Turn
+turn_of (GoesOn s) = left Limit s
+turn_of (Ended e s) = left e s
+
+-- one run on a frame, stopped at the limit
+unfoldable pub turn : Program → ℕ → (ℕ → ℕ) → FrameHead → List ℕ → List Entries → Turn
+turn p limit clock head packet contents = turn_of (progress p clock limit (start_state head packet contents))

@@ -1,0 +1,3 @@
+-- Programs as text.
+pub mod CanonicalText
+pub mod TextLaws

@@ -1,0 +1,11 @@
+-- Worked examples, computed from the definitions.
+pub mod NumberExamples
+pub mod Examples
+pub mod SpellingExamples
+pub mod PointerExamples
+pub mod MemoryExamples
+pub mod AtomicExamples
+pub mod CallExamples
+pub mod StreamExamples
+pub mod ReportExamples
+pub mod TextExamples

@@ -1,0 +1,101 @@
+-- Worked examples of frame streams, computed from the definitions. docs/FORMATS.md.
+use Rattle.std.specs.Prelude.{◌≡◌, ℕ, List, [], ◌∷◌, ◌++◌, length, map, take, replicate, codes, Some, None, refl}
+use Rattle.std.specs.List.{range_with_len}
+use Rattle.byteorder.specs.Endian.{little_bytes}
+use Rattle.isa_model.specs.declared.streams.Fault.TheVariants.{F1, F2, F3, F4, F5, F6}
+use Rattle.isa_model.specs.declared.streams.Finish.{Finish}
+use Rattle.isa_model.specs.declared.streams.Finish.TheVariants as finish
+use Rattle.isa_model.specs.Reporting.Streams.{Frame, magic, max_frames, Ending, ByEnd, ByError, head_bytes, frame_bytes, stop_at, stop_from, frames_from, stream_of}
+use Rattle.isa_model.specs.Worked.Examples.{zeros}
+
+-- the magic, and two records of no bytes
+abbrev pub two_empty_records : List ℕ
+two_empty_records = magic ++ zeros 40
+
+-- how many records there are, and how they end
+abbrev pub summary_of : List ℕ → Ending → ℕ × Finish
+summary_of bytes ending = let found = stream_of (record { bytes = bytes; ending = ending }) in (length found.0, found.1)
+
+-- the two records cut after 0, 1, .. 44 bytes
+pub cuts_by_an_end : map (λ n. summary_of (take n two_empty_records) ByEnd) (range_with_len 0 45)
+    ≡ replicate 4 (0, finish.Fault F1 0) ++ (0, finish.End) ∷ replicate 19 (0, finish.Fault F2 4)
+    ++ (1, finish.End) ∷ replicate 19 (1, finish.Fault F2 24) ++ (2, finish.End) ∷ []
+unfolding frames_from stop_from stop_at
+cuts_by_an_end = refl
+
+-- and by an error of the reader
+pub cuts_by_an_error : map (λ n. summary_of (take n two_empty_records) ByError) (range_with_len 0 45)
+    ≡ replicate 4 (0, finish.Fault F5 0) ++ replicate 20 (0, finish.Fault F5 4)
+    ++ replicate 20 (1, finish.Fault F5 24) ++ (2, finish.Fault F5 44) ∷ []
+unfolding frames_from stop_from stop_at
+cuts_by_an_error = refl
+
+-- another byte at each place of the magic, also where an error follows
+pub other_magic : map (λ text. summary_of (text ++ zeros 20) ByEnd) (codes "xPF1" ∷ codes "XpF1" ∷ codes "XPf1" ∷ codes "XPF2" ∷ []) ≡ replicate 4 (0, finish.Fault F1 0)
+unfolding frames_from stop_from stop_at
+other_magic = refl
+
+pub other_magic_and_an_error : summary_of (codes "XPF2") ByError ≡ (0, finish.Fault F1 0)
+unfolding frames_from stop_from stop_at
+other_magic_and_an_error = refl
+
+-- ---- a record
+
+-- a frame whose head's bytes count up from 1, with a body of two bytes
+abbrev pub frame : Frame
+frame = record { head = record { time = 0x0807060504030201; interface = 0x0c0b0a09; queue = 0x100f0e0d }; body = 0xaa ∷ 0xbb ∷ [] }
+
+-- the time, the interface and the queue, then the length and the body
+abbrev pub record_bytes : List ℕ
+record_bytes = range_with_len 1 16 ++ 2 ∷ 0 ∷ 0 ∷ 0 ∷ 0xaa ∷ 0xbb ∷ []
+
+pub record_written : frame_bytes frame ≡ record_bytes
+unfolding head_bytes
+record_written = refl
+
+pub record_read : stream_of (record { bytes = magic ++ record_bytes ++ record_bytes; ending = ByEnd }) ≡ (frame ∷ frame ∷ [], finish.End)
+unfolding frames_from stop_from stop_at
+record_read = refl
+
+-- ---- faults of the body
+
+-- a record's head whose body has n bytes, all other fields 0
+abbrev pub head_of : ℕ → List ℕ
+head_of n = zeros 16 ++ little_bytes 4 n
+
+-- a length over 4,096 counts as soon as the head is whole, whatever follows; 4,096 is none
+pub lengths : map (λ n. stop_at 0 4 (head_of n) ByEnd) (4096 ∷ 4097 ∷ 65536 ∷ 4294967295 ∷ [])
+    ≡ Some (finish.Fault F4 4) ∷ Some (finish.Fault F3 4) ∷ Some (finish.Fault F3 4) ∷ Some (finish.Fault F3 4) ∷ []
+unfolding stop_at
+lengths = refl
+
+pub length_before_an_error : stop_at 0 4 (head_of 4097) ByError ∷ stop_at 0 4 (head_of 4096) ByError ∷ [] ≡ Some (finish.Fault F3 4) ∷ Some (finish.Fault F5 4) ∷ []
+unfolding stop_at
+length_before_an_error = refl
+
+-- a body of three bytes, cut after 0 to 3
+pub bodies_cut_by_an_end : map (λ n. stop_at 7 24 (head_of 3 ++ zeros n) ByEnd) (0 ∷ 1 ∷ 2 ∷ 3 ∷ []) ≡ replicate 3 (Some (finish.Fault F4 24)) ++ None ∷ []
+unfolding stop_at
+bodies_cut_by_an_end = refl
+
+pub bodies_cut_by_an_error : map (λ n. stop_at 7 24 (head_of 3 ++ zeros n) ByError) (0 ∷ 1 ∷ 2 ∷ 3 ∷ []) ≡ replicate 3 (Some (finish.Fault F5 24)) ++ None ∷ []
+unfolding stop_at
+bodies_cut_by_an_error = refl
+
+-- a record is read whole before an error behind it
+pub error_behind_a_record : summary_of (magic ++ head_of 3 ++ zeros 3) ByError ≡ (1, finish.Fault F5 27)
+unfolding frames_from stop_from stop_at
+error_behind_a_record = refl
+
+-- ---- too many records
+
+-- after the last one that may be there: one byte more, whatever it begins and however the bytes end; no byte more
+pub one_record_too_many : stop_at max_frames 24 (0 ∷ []) ByEnd ∷ stop_at max_frames 24 (0 ∷ []) ByError ∷ stop_at max_frames 24 (head_of 4097) ByEnd ∷ []
+    ≡ replicate 3 (Some (finish.Fault F6 24))
+unfolding stop_at
+one_record_too_many = refl
+
+pub no_record_too_many : stop_at max_frames 24 [] ByEnd ∷ stop_at max_frames 24 [] ByError ∷ stop_at 4294967294 24 (zeros 20) ByEnd ∷ []
+    ≡ Some finish.End ∷ Some (finish.Fault F5 24) ∷ None ∷ []
+unfolding stop_at
+no_record_too_many = refl
