@@ -49,7 +49,7 @@ number-found base skipped c bs (d ∷ ds) rest e at h small w g p =
     let some : (suc (length ds) == 0) ≡ false = ne_eqb (suc (length ds)) 0 (λ q. omega (arith, q)) in
     ap (number_after base skipped bs) many ∙ rw some (rw word (rw taken (rw value refl)))
 
--- ---- a byte below the digits stands behind them
+-- ---- a byte below the digits stands after them
 
 low-word : (c : ℕ) → c < 48 → is_word_byte c ≡ false
 low-word c h = let t : nat_lt c 48 ≡ true = lt-ltb c 48 h in let u : (c == 95) ≡ false = ne_eqb c 95 (λ e. omega arith) in rw t u
@@ -94,7 +94,7 @@ decimal-read n c rest s small low =
     token (decimal n) (c ∷ rest) (Number (digits_value 10 (decimal n))) s (lexeme-decimal c (decimal n) rest own.0 fits low) own.0.0
     ∙ ap (λ v. assembled (c ∷ rest) 0 (with_number s v)) own.1
 
--- hexadecimal digits behind 0x
+-- hexadecimal digits after 0x
 pub hexadecimal-read : (n c : ℕ) (rest : List ℕ) (s : Progress) → n < 2 ^ 64 → c < 48 → assembled (48 ∷ 120 ∷ (digits 16 false n ++ c ∷ rest)) 0 s ≡ assembled (c ∷ rest) 0 (record { tokens = s.tokens ++ Number n ∷ []; insns = s.insns })
 hexadecimal-read n c rest s small low =
     let own = digits_is_IsNumeral 16 false (lit≤ tt) (lit≤ tt) n (omega arith) in

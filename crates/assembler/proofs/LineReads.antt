@@ -41,7 +41,7 @@ ended ts i is rest some h room =
     ∙ ap (λ (o : Option Insn). added (draft ts is) o >>= λ t. assembled rest 0 t) h
     ∙ ap (λ (b : Bool). keep b (draft [] (is ++ i ∷ [])) >>= λ t. assembled rest 0 t) room
 
--- a line's end, behind the tokens of an instruction
+-- a line's end, after the tokens of an instruction
 end-read : (t : Token) (ts : List Token) (i : Insn) (is : List Insn) (rest : List ℕ) → plain_statement (t ∷ ts) ≡ Some i → has_room (is ++ i ∷ []) ≡ true → assembled (10 ∷ rest) 0 (draft (t ∷ ts) is) ≡ assembled rest 0 (draft [] (is ++ i ∷ []))
 end-read t ts i is rest h room = ended (t ∷ ts) i is rest (ne_eqb (length (t ∷ ts)) 0 (λ e. omega (arith, e))) h room
 
@@ -223,7 +223,7 @@ lock-line w o p s is rest h room =
     ∙ ap (λ us. assembled (10 ∷ rest) 0 (draft us is)) (locked-tokens w o p.base s p.offset)
     ∙ end-read (Named word.Lock) (memory_tokens (word.Unsigned (width_size w)) p.base p.offset (Signed (atomic_sign o) ∷ reg Full64 s ∷ [])) (Atomic w o false p s) is rest (lock-form w o p.base s p.offset h) room
 
--- the tokens of an exchange up to the comma behind its place
+-- the tokens of an exchange up to the comma after its place
 abbrev exchanged_so_far : Word → Reg → Place → List Token
 exchanged_so_far x d p = ((reg Full64 d ∷ Signed sign.Assign ∷ Named x ∷ Signed sign.Open ∷ []) ++ place_tokens p) ++ Signed sign.Comma ∷ []
 

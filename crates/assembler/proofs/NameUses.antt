@@ -9,7 +9,7 @@ use Rattle.assembler.specs.declared.names.Use.{Use}
 use Rattle.assembler.specs.Naming.{NameUse, use_of, aim, aim_used, put, resolved}
 use Rattle.assembler.specs.Statements.{◌>>=◌}
 
--- what the use makes of the instruction that stands at its index, and the uses behind it of that
+-- what the use makes of the instruction that stands at its index, and the uses after it of that
 abbrev turn : (List ℕ → Option ℕ) → List Use → List Insn → ℕ → NameUse → Option Insn → Result (List Insn) Refusal
 turn f us is k u found = put u is (aim_used f u found) >>= λ next. resolved f (drop (k + 1) (map use_of us)) next
 

@@ -23,7 +23,7 @@ anywhere bs m n s (inr e) = ap (λ at. read_on bs 0 at s) e
 anywhere [] m n s (inl e) = refl
 anywhere (b ∷ bs) m n s (inl e) = absurd (omega (arith, e))
 
--- what stands behind so many bytes of a text of that length, and at least one
+-- what stands after that many bytes of a text of that length, and at least one
 behind : (bs : List ℕ) (n all : ℕ) → 0 < length bs → length bs ≤ all → (length (drop (n - 1) (drop 1 bs)) ≡ 0) ⊎ (((all - length bs) + 1) + (n - 1) ≡ all - length (drop (n - 1) (drop 1 bs)))
 behind bs n all more few =
     let one : length (drop 1 bs) ≡ length bs - 1 = length-drop 1 bs in

@@ -53,7 +53,7 @@ abbrev pub refused_at : {A : Type 0} → ℕ → Result A AsmErrorKind → Resul
 refused_at at (Ok x) = Ok x
 refused_at at (Err kind) = Err (record { kind = kind; offset = at })
 
--- why the tokens behind so many others are no instruction: a number out of range counts where all else fits
+-- why the tokens after that many others are no instruction: a number out of range counts where all else fits
 abbrev pub refusal_of : Progress → ℕ → Wrong → Refusal
 refusal_of s k Form = record { kind = NoForm; offset = begins_at s }
 refusal_of s k (Range at) =
@@ -81,12 +81,12 @@ with_use s None = s.uses
 with_use s (Some place) =
     s.uses ++ (record { index = length s.insns; slot = length (slots s.insns); name = place.1; offset = place.0 }) ∷ []
 
--- the name of the instruction's target, if it has one, behind so many tokens
+-- the name of the instruction's target, if it has one, after that many tokens
 abbrev pub name_place : Progress → ℕ → Option ℕ → Option TokenPlace
 name_place s k None = None
 name_place s k (Some i) = slice_get s.places (i + k)
 
--- the statement's instruction, which was read behind so many tokens
+-- the statement's instruction, which was read after that many tokens
 abbrev pub added : Progress → ℕ → Reading → Result Progress Refusal
 added s k r =
     refused_at (begins_at s) (with_insn s.insns r.insn)
@@ -107,12 +107,12 @@ named s = named_by s (slice_get s.places 0)
 
 -- ---- statements
 
--- behind a label of so many tokens: nothing, or an instruction
+-- after a label of that many tokens: nothing, or an instruction
 abbrev pub ended : Progress → ℕ → Option Reading → Result Progress Refusal
 ended s k None = Ok (record { tokens = []; places = []; insns = s.insns; labels = s.labels; uses = s.uses })
 ended s k (Some r) = added s k r
 
--- at the end of a statement with a label of so many tokens
+-- at the end of a statement with a label of that many tokens
 abbrev pub closed_behind : Progress → ℕ → Result Progress Refusal
 closed_behind s k =
     unless_wrong s k (spelled (drop k s.tokens)) >>= λ said. (if k == 0 then Ok s else named s) >>= λ t. ended t k said
@@ -130,7 +130,7 @@ accept s (Solid t) place =
 
 -- ---- texts
 
--- what stands at the front of the text behind so many bytes
+-- what stands at the front of the text after that many bytes
 abbrev pub next_lexeme : ℕ → List ℕ → Result (Lexeme × ℕ) Refusal
 next_lexeme at bs = ok_or (lexeme_at bs) (record { kind = UnknownByte; offset = at + fault_at bs })
 
@@ -164,7 +164,7 @@ assembled text = error_in text (program_in text)
 
 -- ---- what calls answer
 
--- that, or refused so, or want of memory
+-- that, or refused so, or out of memory
 abbrev pub Answers : {A B : Type 0} → (A → B) → Result A Refusal → Result B Refusal → Type 0
 Answers view (Ok x) wanted = wanted ≡ Ok (view x)
 Answers view (Err e) wanted = (e.kind ≡ Memory) ⊎ (wanted ≡ Err e)

@@ -7,7 +7,7 @@ use Rattle.assembler.specs.declared.readings.Reading.{Reading}
 use Rattle.assembler.specs.declared.wrong.Wrong.{Wrong}
 use Rattle.assembler.specs.Statements.{◌>>=◌, is_name, statement_of}
 
--- ---- what stands behind a label
+-- ---- what stands after a label
 
 -- nothing, or an instruction
 abbrev pub spelled : List Token → Result (Option Reading) Wrong
@@ -24,7 +24,7 @@ has_form ts = is_ok (statement_of (map zeroed ts))
 
 -- ---- labels
 
--- a name, and a colon behind it
+-- a name, and a colon after it
 abbrev pub is_label : Option Token → Option Token → Bool
 is_label (Some (Named x)) (Some (Signed sign.Colon)) = is_name x
 is_label t u = false

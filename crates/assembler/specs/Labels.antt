@@ -18,7 +18,7 @@ slot_in labels name = lookup (bytes_eq name) labels
 abbrev pub with_label : List (List ℕ × ℕ) → List ℕ → ℕ → Result (List (List ℕ × ℕ)) AsmErrorKind
 with_label labels name slot = if is_some (slot_in labels name) then Err DefinedTwice else Ok (labels ++ (name, slot) ∷ [])
 
--- what is wanted was made, or it is refused so, or memory was wanting
+-- what is wanted was made, or it is refused so, or memory ran out
 abbrev pub Makes : {A B : Type 0} → (A → B) → Result A AsmErrorKind → Result B AsmErrorKind → Type 0
 Makes view (Ok x) wanted = wanted ≡ Ok (view x)
 Makes view (Err kind) wanted = (kind ≡ Memory) ⊎ (wanted ≡ Err kind)

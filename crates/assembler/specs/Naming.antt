@@ -18,7 +18,7 @@ pub record NameUse : Type 0 where
 abbrev pub use_of : Use → NameUse
 use_of used = record { index = used.index; slot = used.slot; name = used.name.now; offset = used.offset }
 
--- how far it is to a slot from behind another
+-- how far it is to a slot from after another
 abbrev pub distance : ℕ → ℕ → ℤ
 distance from to = pos to -ℤ pos (from + 1)
 

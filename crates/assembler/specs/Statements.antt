@@ -159,13 +159,13 @@ wide_within at false n = if nat_lt n (2 ^ 64) then Ok n else Err (Range at)
 abbrev pub signed_at : ℕ → List Token → ℕ → Result ℤ Wrong
 signed_at half ts i = sign_at ts i >>= is_minus >>= λ minus. number_at ts (i + 1) >>= signed_within half i minus
 
--- the index of the number at index i, behind its minus if it has one
+-- the index of the number at index i, after its minus if it has one
 abbrev pub number_index : ℕ → Token → Result (Bool × ℕ) Wrong
 number_index i (Number n) = Ok (false, i)
 number_index i (Signed sign.Minus) = Ok (true, i + 1)
 number_index i t = Err Form
 
--- a number for imm, and the index behind it
+-- a number for imm, and the index after it
 abbrev pub constant_at : List Token → ℕ → Result (ℤ × ℕ) Wrong
 constant_at ts i =
     token_at ts i >>= number_index i >>= λ (at : Bool × ℕ). number_at ts at.1 >>= signed_within (2 ^ 31) i at.0 >>= λ k. Ok (k, at.1 + 1)
@@ -190,7 +190,7 @@ register_at w ts i = word_at ts i >>= as_register w
 abbrev pub again_at : Width → Reg → List Token → ℕ → Result (Unit {0}) Wrong
 again_at w r ts i = register_at w ts i >>= λ s. keep (same_register s r) tt
 
--- an operand, and the index behind it
+-- an operand, and the index after it
 abbrev pub operand_token : Width → List Token → ℕ → Token → Result (Operand × ℕ) Wrong
 operand_token w ts i (Named x) = as_register w x >>= λ r. Ok (Register r, i + 1)
 operand_token w ts i t = constant_at ts i >>= λ (k : ℤ × ℕ). Ok (Constant k.0, k.1)
@@ -198,7 +198,7 @@ operand_token w ts i t = constant_at ts i >>= λ (k : ℤ × ℕ). Ok (Constant 
 abbrev pub operand_at : Width → List Token → ℕ → Result (Operand × ℕ) Wrong
 operand_at w ts i = token_at ts i >>= operand_token w ts i
 
--- a base, and an offset behind its sign
+-- a base, and an offset after its sign
 abbrev pub place_at : List Token → ℕ → Result Place Wrong
 place_at ts i = register_at Full64 ts i >>= λ b. signed_at (2 ^ 15) ts (i + 1) >>= λ by. Ok (record { base = b; offset = by })
 
@@ -234,7 +234,7 @@ target_token half ts i (Signed s) = signed_at half ts i >>= λ by. keep (length 
 target_token half ts i (Named x) = if is_name x then keep (length ts == i + 1) (pos 0, Some i) else Err Form
 target_token half ts i (Number n) = Err Form
 
--- a target at index i, and nothing behind it
+-- a target at index i, and nothing after it
 abbrev pub target_at : ℕ → List Token → ℕ → Result (ℤ × Option ℕ) Wrong
 target_at half ts i = token_at ts i >>= target_token half ts i
 
@@ -268,7 +268,7 @@ wide w d ts minus i =
 abbrev pub number_or_wide : Width → Reg → List Token → Bool → ℕ → Result Reading Wrong
 number_or_wide w d ts minus i = if wide_at ts (i + 1) then wide w d ts minus i else arithmetic op.Mov w d ts
 
--- what stands behind `R = -`
+-- what stands after `R = -`
 abbrev pub negated : Width → Reg → List Token → Token → Result Reading Wrong
 negated w d ts (Named x) = again_at w d ts 3 >>= λ u. plain (insn.Neg w d) ts 4
 negated w d ts t = number_or_wide w d ts true 3
@@ -289,7 +289,7 @@ loaded w d ts = if is_full w then (memory_at ts 2 >>= λ (m : Word × Place). lo
 abbrev pub swapped : ByteOrder → Span → Reg → List Token → Result Reading Wrong
 swapped order span d ts = again_at Full64 d ts 3 >>= λ u. plain (insn.ByteSwap order span d) ts 4
 
--- (P, R) behind a word, the register being the destination
+-- (P, R) after a word, the register being the destination
 abbrev pub exchanged_place : Reg → List Token → Result Place Wrong
 exchanged_place d ts = argument_at ts 3 >>= λ p. again_at Full64 d ts 8 >>= λ u. expect_at ts 9 sign.Close >>= λ v. Ok p
 
@@ -307,7 +307,7 @@ compared v d ts =
     register_at Full64 ts 10 >>= λ s. expect_at ts 11 sign.Close >>= λ c. plain (insn.CompareExchange v p s) ts 12)
     else Err Form
 
--- what begins with a word behind `R =`
+-- what begins with a word after `R =`
 abbrev pub moved_word : Width → Reg → List Token → Word → Result Reading Wrong
 moved_word Full64 d ts (word.Swapped order span) = swapped order span d ts
 moved_word Full64 d ts (word.Fetch o v) = fetched o v d ts
@@ -315,7 +315,7 @@ moved_word Full64 d ts (word.Exchange v) = exchanged v d ts
 moved_word Full64 d ts (word.CompareExchange v) = compared v d ts
 moved_word w d ts x = arithmetic op.Mov w d ts
 
--- what stands behind `R =`
+-- what stands after `R =`
 abbrev pub moved : Width → Reg → List Token → Token → Result Reading Wrong
 moved w d ts (Number n) = number_or_wide w d ts false 2
 moved w d ts (Named x) = moved_word w d ts x
@@ -332,7 +332,7 @@ assigned_by o w d ts = arithmetic o w d ts
 abbrev pub assigned : Width → Reg → List Token → Result Reading Wrong
 assigned w d ts = sign_at ts 1 >>= op_of >>= λ o. assigned_by o w d ts
 
--- what is stored behind `*(size *)(P) =`
+-- what is stored after `*(size *)(P) =`
 abbrev pub stored_token : Size → Place → List Token → Token → Result Reading Wrong
 stored_token size p ts (Named x) = as_register Full64 x >>= λ s. plain (insn.Store size p s) ts 12
 stored_token size p ts t = constant_at ts 11 >>= λ (k : ℤ × ℕ). plain (insn.StoreConstant size p k.0) ts k.1
@@ -361,7 +361,7 @@ is_goto x = false
 abbrev pub goto_at : List Token → ℕ → Result (ℤ × Option ℕ) Wrong
 goto_at ts i = word_at ts i >>= λ x. if is_goto x then target_at (2 ^ 15) ts (i + 1) else Err Form
 
--- what stands behind `if R`
+-- what stands after `if R`
 abbrev pub condition : Width → Reg → List Token → Result Reading Wrong
 condition w d ts =
     sign_at ts 2 >>= comparison_of >>= λ c. operand_at w ts 3 >>= λ (x : Operand × ℕ). goto_at ts x.1 >>= λ (t : ℤ × Option ℕ).
@@ -371,7 +371,7 @@ abbrev pub tested : List Token → Word → Result Reading Wrong
 tested ts (word.Register w d) = condition w d ts
 tested ts x = Err Form
 
--- what stands behind `call`: pc and a distance, or a name
+-- what stands after `call`: pc and a distance, or a name
 abbrev pub called_word : List Token → Word → Result Reading Wrong
 called_word ts word.Pc = signed_at (2 ^ 31) ts 2 >>= λ by. plain (insn.CallLocal by) ts 4
 called_word ts x = keep (length ts == 2) (record { insn = insn.CallLocal (pos 0); name = Some 1 })

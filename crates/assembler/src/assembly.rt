@@ -17,7 +17,7 @@ use image::{Image, ImageError};
 use lexer::lexeme_at;
 use std::alloc::Global;
 
-// What stands behind so many bytes, and at least one.
+// What stands after that many bytes, and at least one.
 fn after(bytes: &[u8], count: usize) -> &[u8]
     requires { 0 < length bytes.now }
     ensures value { result.now ≡ drop (count - 1) (drop 1 bytes.now) }
@@ -101,10 +101,10 @@ fn image_of(alloc: Global, text: &[u8]) -> Result<Image, Refusal>
 ///
 /// Jump targets are not tested, those of names aside.
 pub fn assemble(alloc: Global, text: &[u8]) -> Result<Image, AsmError>
-    // The image is the program that the text spells, and the error says why it spells none, or memory is wanting.
+    // The image is the program that the text spells, and the error says why it spells none, or memory runs out.
     ensures exact { MatchResult result (λ image. assembled text.now ≡ Ok image) (λ e. (e.kind ≡ AsmErrorKind.Memory) ⊎ (assembled text.now ≡ Err e)) }
 
-    // The canonical text of an image gives that image, or memory is wanting.
+    // The canonical text of an image gives that image, or memory runs out.
     ensures round_trip { (p : Program) → IsImage p → text.now ≡ canonical_text p → MatchResult result (λ image. image ≡ p) (λ e. e.kind ≡ AsmErrorKind.Memory) }
 {
     match image_of(alloc, text) {

@@ -43,7 +43,7 @@ fn wide_at(tokens: &[Token], i: usize) -> bool
     }
 }
 
-// The number at index i, and behind it `ll`.
+// The number at index i, and after it `ll`.
 fn wide(
     width: Width,
     register: Reg,
@@ -79,7 +79,7 @@ fn number_or_wide(
     }
 }
 
-// What stands behind `R = -`.
+// What stands after `R = -`.
 fn negated(width: Width, register: Reg, tokens: &[Token], token: Token) -> Result<Reading, Wrong>
     ensures { result ≡ negated width register tokens.now token }
 {
@@ -92,7 +92,7 @@ fn negated(width: Width, register: Reg, tokens: &[Token], token: Token) -> Resul
     }
 }
 
-// `(size)R` behind `R =`.
+// `(size)R` after `R =`.
 fn extended(width: Width, register: Reg, tokens: &[Token]) -> Result<Reading, Wrong>
     ensures { result ≡ extended width register tokens.now }
 {
@@ -112,7 +112,7 @@ fn load_of(register: Reg, place: Place, word: Word) -> Result<Insn, Wrong>
     }
 }
 
-// `*(size *)(place)` behind `R =`.
+// `*(size *)(place)` after `R =`.
 fn loaded(width: Width, register: Reg, tokens: &[Token]) -> Result<Reading, Wrong>
     ensures { result ≡ loaded width register tokens.now }
 {
@@ -132,7 +132,7 @@ fn swapped(order: ByteOrder, span: Span, register: Reg, tokens: &[Token]) -> Res
     plain(Insn::ByteSwap(order, span, register), tokens, 4)
 }
 
-// `(place, R)` behind a word, the register being the destination.
+// `(place, R)` after a word, the register being the destination.
 fn exchanged_place(register: Reg, tokens: &[Token]) -> Result<Place, Wrong>
     ensures { result ≡ exchanged_place register tokens.now }
 {
@@ -156,7 +156,7 @@ fn exchanged(width: Width, register: Reg, tokens: &[Token]) -> Result<Reading, W
     plain(Insn::Exchange(width, place, register), tokens, 10)
 }
 
-// `(place, r0, R)` behind a word, the destination being r0.
+// `(place, r0, R)` after a word, the destination being r0.
 fn compared(width: Width, register: Reg, tokens: &[Token]) -> Result<Reading, Wrong>
     ensures { result ≡ compared width register tokens.now }
 {
@@ -172,7 +172,7 @@ fn compared(width: Width, register: Reg, tokens: &[Token]) -> Result<Reading, Wr
     }
 }
 
-// What begins with a word behind `R =`.
+// What begins with a word after `R =`.
 fn moved_word(width: Width, register: Reg, tokens: &[Token], word: Word) -> Result<Reading, Wrong>
     ensures { result ≡ moved_word width register tokens.now word }
 {
@@ -185,7 +185,7 @@ fn moved_word(width: Width, register: Reg, tokens: &[Token], word: Word) -> Resu
     }
 }
 
-// What stands behind `R =`.
+// What stands after `R =`.
 fn moved(width: Width, register: Reg, tokens: &[Token], token: Token) -> Result<Reading, Wrong>
     ensures { result ≡ moved width register tokens.now token }
 {

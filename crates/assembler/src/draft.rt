@@ -98,7 +98,7 @@ impl<'a> Draft<'a> {
         }
     }
 
-    // Adds the instruction of the statement, whose tokens were read behind so many others.
+    // Adds the instruction of the statement, whose tokens were read after that many others.
     fn add(&mut self, reading: Reading, skipped: usize) -> Result<(), Refusal>
         ensures exact { Answers (λ _. progress_of self.new) result (added (progress_of self.old) skipped reading) }
         ensures place { IfErr result (λ e. e.offset ≡ offset_or (slice_get (map place_of self.old.spans.items) 0) 0) }
@@ -169,7 +169,7 @@ impl<'a> Draft<'a> {
         }
     }
 
-    // Why the tokens behind so many others are no instruction.
+    // Why the tokens after that many others are no instruction.
     fn refusal(&mut self, wrong: Wrong, skipped: usize) -> Refusal
         ensures { result ≡ refusal_of (progress_of self.old) skipped wrong }
     {

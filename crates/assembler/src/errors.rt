@@ -23,7 +23,7 @@ pub enum AsmErrorKind {
     /// A name too far away for the jump.
     #[error("A6")]
     TooFar,
-    /// Want of memory.
+    /// Out of memory.
     #[error("A8")]
     Memory,
     /// No instruction, or more than 4,096 slots.

@@ -42,7 +42,7 @@ pub fn define<'a>(labels: &mut Labels<'a>, name: &'a [u8], slot: u16) -> Result<
     }
 }
 
-// How far it is to the slot from behind the one at `from`.
+// How far it is to the slot from after the one at `from`.
 fn distance(from: u16, to: u16) -> i32
     ensures { result ≡ distance from to }
 {

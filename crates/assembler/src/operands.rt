@@ -104,7 +104,7 @@ fn number_index(i: usize, token: Token) -> Result<(bool, usize), Wrong>
     }
 }
 
-/// A number for `imm` with a minus or without one, and the index behind it.
+/// A number for `imm` with a minus or without one, and the index after it.
 pub fn constant_at(tokens: &[Token], i: usize) -> Result<(i32, usize), Wrong>
     requires { i < 16 }
     ensures value { result ≡ constant_at tokens.now i }
@@ -181,7 +181,7 @@ fn operand_token(
     }
 }
 
-/// A register of that width or a number, and the index behind it.
+/// A register of that width or a number, and the index after it.
 pub fn operand_at(width: Width, tokens: &[Token], i: usize) -> Result<(Operand, usize), Wrong>
     requires { i < 8 }
     ensures value { result ≡ operand_at width tokens.now i }
@@ -190,7 +190,7 @@ pub fn operand_at(width: Width, tokens: &[Token], i: usize) -> Result<(Operand, 
     operand_token(width, tokens, i, token_at(tokens, i)?)
 }
 
-// A base, and an offset behind its sign.
+// A base, and an offset after its sign.
 fn place_at(tokens: &[Token], i: usize) -> Result<Place, Wrong>
     requires { i < 12 }
     ensures { result ≡ place_at tokens.now i }

@@ -17,7 +17,7 @@ use super::wrong::Wrong;
 use isa_model::{Cond, Insn, Place, Reg, Size, Width};
 use lexer::{Sign, Token, Word};
 
-// What is stored behind `*(size *)(place) =`.
+// What is stored after `*(size *)(place) =`.
 fn stored_token(size: Size, place: Place, tokens: &[Token], token: Token) -> Result<Reading, Wrong>
     ensures { result ≡ stored_token size place tokens.now token }
 {
@@ -92,7 +92,7 @@ fn goto_at(tokens: &[Token], i: usize) -> Result<(i16, Option<usize>), Wrong>
     }
 }
 
-// What stands behind `if R`.
+// What stands after `if R`.
 fn condition(width: Width, register: Reg, tokens: &[Token]) -> Result<Reading, Wrong>
     ensures { result ≡ condition width register tokens.now }
 {
@@ -120,7 +120,7 @@ fn tested(tokens: &[Token], word: Word) -> Result<Reading, Wrong>
     }
 }
 
-// What stands behind `call`: `pc` and a distance, or a name.
+// What stands after `call`: `pc` and a distance, or a name.
 fn called_word(tokens: &[Token], word: Word) -> Result<Reading, Wrong>
     ensures { result ≡ called_word tokens.now word }
 {

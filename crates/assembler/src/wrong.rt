@@ -5,6 +5,6 @@
 pub enum Wrong {
     /// No form fits.
     Form,
-    /// The number at this token, or behind the sign at it, is out of range.
+    /// The number at this token, or after the sign at it, is out of range.
     Range(usize),
 }

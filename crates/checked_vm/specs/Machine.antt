@@ -56,7 +56,7 @@ PerformsApart i result old new =
     (λ _. (packet : List ℕ) (p : Program) (clock : ℕ → ℕ) → act p clock (state_of old packet []) i ≡ Next (state_of new packet []))
     (λ e. ((packet : List ℕ) (p : Program) (clock : ℕ → ℕ) → act p clock (state_of old packet []) i ≡ Trapped e) × (new ≡ old))
 
--- the same in a program of so many slots
+-- the same in a program of that many slots
 abbrev pub PerformsIn : {A : Type 0} → ℕ → Insn → Result A TrapReason → Core → List ℕ → Core → List ℕ → Type 0
 PerformsIn slots i result old before new after =
     MatchResult result

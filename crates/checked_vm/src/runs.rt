@@ -28,7 +28,7 @@ impl Core {
         }
     }
 
-    /// Goes on, at most so many steps.
+    /// Goes on, at most that many steps.
     fn steps(&mut self, insns: &[Option<Insn>], packet: &mut [u8], limit: u32) -> End
         requires running { IsRunning self.old }
         requires serial { self.old.next_serial < 2 ^ 62 }

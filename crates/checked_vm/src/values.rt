@@ -79,7 +79,7 @@ pub fn low(width: Width, n: u64) -> u64
     }
 }
 
-/// MOV: a pointer is copied whole, at 64 bits alone.
+/// MOV: a pointer is copied whole, at 64 bits only.
 fn moved(width: Width, value: Value) -> Result<Value, TrapReason>
     ensures { result ≡ moved width value }
 {

@@ -14,14 +14,14 @@ use std::rt::Files;
 use words::read_words;
 
 /// Does what the words ask for, and answers the program's status: 0 done, 1 words of no command, 2 refused, 3 the
-/// report ended in a fault, 4 a file or output failed, 5 want of memory.
+/// report ended in a fault, 4 a file or output failed, 5 out of memory.
 ///
 /// It does what the words ask for (`asked`): which command, on which files, with which limit. What standard output gets
 /// then is what that command writes (`Executes`): the report of some frames by the program of some image, the verdict on
 /// it, its text, or its size. What the files hold no contract says.
 ///
 /// The first word is the program's name. `out` stands for standard output and `err` for standard error; files are
-/// opened by their paths. Where the words ask for nothing and where memory is wanting, standard output gets no byte;
+/// opened by their paths. Where the words ask for nothing and where memory runs out, standard output gets no byte;
 /// where all is done, where something is refused and where the report ends in a fault, standard error gets none.
 #[tactic(auto, using(crate::proofs::Endings::silent_words, crate::proofs::Endings::silent_memory, crate::proofs::Endings::status_fits, crate::proofs::Endings::unsaid_done, crate::proofs::Endings::unsaid_refused, crate::proofs::Endings::unsaid_faulted))]
 pub fn execute<R: Files + AllocGlobal, W1: Write, W2: Write>(

@@ -43,7 +43,7 @@ passed_4 p a b x f SecondHalf k lt = b k
 passed_4 p a b x f TargetOutside k lt = a k
 passed_4 p a b x f d k lt = absurd (omega (arith, lt))
 
--- only want of memory refuses good control flow
+-- only running out of memory refuses good control flow
 pub only_memory : (p : Program) (e : FlowError) (slot : ℕ) → IsFlow p → IsRefusal p e slot → e ≡ Memory
 only_memory p Memory slot flow r = refl
 only_memory p TargetOutside slot flow r = absurd (IsFlow-Fails p TargetOutside slot flow r.fails)
@@ -84,7 +84,7 @@ slots_of-cases : (i : Insn) → (slots_of i ≡ 1) ⊎ (slots_of i ≡ 2)
 slots_of-cases (LoadNumber d n) = inr refl
 slots_of-cases i = inl refl
 
--- no function begins between a slot and the one behind its instruction, nor there
+-- no function begins between a slot and the one after its instruction, nor there
 falls_within : (p : Program) → IsImage p → Passes p TargetOutside → Passes p SecondHalf → Passes p FallsOff → (slot to : ℕ) → fall_to p slot ≡ Some to → SameFunction p slot to
 falls_within p h a b f slot to falls =
     let found = fall_to-behind p slot to falls in

@@ -60,7 +60,7 @@ fall_to-insn p slot i e h = ap (option_and_then (slot_behind slot)) e ∙ behind
 abbrev some_slot : ℕ → Option ℕ
 some_slot n = Some n
 
--- it falls through to the slot behind an instruction
+-- it falls through to the slot after an instruction
 pub fall_to-behind : (p : Program) (slot to : ℕ) → fall_to p slot ≡ Some to → (i : Insn) × (fetch p slot ≡ Some i) × (slot + slots_of i ≡ to)
 unfolding fall_to
 fall_to-behind p slot to h = of (fetch p slot) h where
@@ -83,7 +83,7 @@ from_none p slot to e (Jumps h) =
 from_none p slot to e (Calls h) =
     let none : call_to p slot ≡ None = ap (λ (o : Option Insn). option_map (destination p slot) (option_and_then call_distance o)) e in absurd cc
 
--- it leads on from instructions alone
+-- it leads on from instructions only
 pub Leads-inside : (p : Program) (slot to : ℕ) → Leads p slot to → slot < length p.insns
 Leads-inside p slot to h =
     elim (cases_lt slot (length p.insns)) [
@@ -103,7 +103,7 @@ IsFlow-next p slot to flow (Calls h) = flow.calls slot to h
 pub IsFlow-Follows : (p : Program) (slot next : ℕ) → IsFlow p → Follows p slot next → BeginsInsn p next
 IsFlow-Follows p slot next flow h = IsFlow-next p slot next flow (Leads-Follows p slot next h)
 
--- an instruction begins behind each one that falls through
+-- an instruction begins after each one that falls through
 pub IsFlow-fall : (p : Program) (slot : ℕ) (i : Insn) → IsFlow p → fetch p slot ≡ Some i → falls_through i ≡ true → BeginsInsn p (slot + slots_of i)
 IsFlow-fall p slot i flow e h = (flow.falls slot (slot + slots_of i) (fall_to-insn p slot i e h)).0
 
@@ -127,7 +127,7 @@ target-LeadsOn : (p : Program) (slot to : ℕ) → HasTarget p slot to → Leads
 target-LeadsOn p slot to (inl h) = (to, Jumps h)
 target-LeadsOn p slot to (inr h) = (to, Calls h)
 
--- they fail inside the code alone
+-- they fail inside the code only
 pub Fails-inside : (p : Program) (e : FlowError) (slot : ℕ) → Fails p e slot → slot < length p.insns
 Fails-inside p TargetOutside slot (to, h, past) = let on = target-LeadsOn p slot to h in Leads-inside p slot on.0 on.1
 Fails-inside p SecondHalf slot (to, h, half) = let on = target-LeadsOn p slot to h in Leads-inside p slot on.0 on.1

@@ -50,7 +50,7 @@ pub record IsFirst (p : Program) (e : FlowError) (slot : ℕ) : Type 0 where
   pub lowest : (k : ℕ) → k < slot → ¬ Fails p e k
   pub first : (d : FlowError) (k : ℕ) → place d < place e → ¬ Fails p d k
 
--- want of memory may come at any test
+-- memory may run out at any test
 abbrev pub IsRefusal : Program → FlowError → ℕ → Type 0
 IsRefusal p Memory slot = slot ≡ 0
 IsRefusal p e slot = IsFirst p e slot

@@ -11,7 +11,7 @@ BeginsFunction p slot = (slot ≡ 0) ⊎ ((from : ℕ) × (call_to p from ≡ So
 pub record SameFunction (p : Program) (slot to : ℕ) : Type 0 where
   pub none : (f : ℕ) → BeginsFunction p f → (f ≤ slot) ↔ (f ≤ to)
 
--- behind the last instruction of a function: the code ends there or another function begins
+-- after the last instruction of a function: the code ends there or another function begins
 abbrev pub EndsFunction : Program → ℕ → Type 0
 EndsFunction p slot = (length p.insns ≤ slot) ⊎ BeginsFunction p slot
 

@@ -33,11 +33,11 @@ call_to p slot = option_map (destination p slot) (option_and_then call_distance 
 abbrev pub slot_behind : ℕ → Insn → Option ℕ
 slot_behind slot i = if falls_through i then Some (slot + slots_of i) else None
 
--- the slot behind the instruction at a slot, if it goes on there
+-- the slot after the instruction at a slot, if it goes on there
 unfoldable pub fall_to : Program → ℕ → Option ℕ
 fall_to p slot = option_and_then (slot_behind slot) (fetch p slot)
 
--- control goes from a slot to another one. A function's return goes on behind its call: that slot counts as one to which
+-- control goes from a slot to another one. A function's return goes on after its call: that slot counts as one to which
 -- the call itself leads, whether or not the function can return.
 pub data Leads (p : Program) (slot to : ℕ) : Type 0 where
   Falls : fall_to p slot ≡ Some to → Leads p slot to

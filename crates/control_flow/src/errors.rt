@@ -21,7 +21,7 @@ pub enum FlowError {
     /// No path leads from slot 0 to the instruction.
     #[error("G4")]
     Unreachable,
-    /// Want of memory.
+    /// Out of memory.
     #[error("G6")]
     Memory,
 }

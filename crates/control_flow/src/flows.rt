@@ -69,12 +69,12 @@ fn test_all(alloc: Global, image: &Image) -> Result<(), (FlowError, usize)>
 impl<'a> Flow<'a> {
     /// The control flow of an image, or why it is refused and at which slot.
     pub fn of(alloc: Global, image: &'a Image) -> Result<Self, (FlowError, usize)>
-        // A good program is accepted, want of memory aside, and no other one.
+        // A good program is accepted, running out of memory aside, and no other one.
         ensures found { IfOk result (λ flow. flow ≡ image.now) }
         ensures good { IfOk result (λ _. IsFlow image.now) }
         ensures only { IsFlow image.now → IfErr result (λ refusal. refusal.0 ≡ FlowError.Memory) }
 
-        // All others get the first refusal at its lowest slot, or want of memory with slot 0.
+        // All others get the first refusal at its lowest slot, or out of memory with slot 0.
         ensures refused { IfErr result (λ refusal. IsRefusal image.now refusal.0 refusal.1) }
     {
         test_all(alloc, image)?;

@@ -33,7 +33,7 @@ fn call_distance(insn: &Insn) -> Option<i32>
     }
 }
 
-/// Whether control may go on at the instruction behind.
+/// Whether control may go on at the instruction after it.
 fn falls_through(insn: &Insn) -> bool
     ensures { result ≡ falls_through insn.now }
 {
@@ -67,7 +67,7 @@ pub fn call_target(image: &Image, slot: usize) -> Option<usize>
     Some(destination(slot, by, image.slots()))
 }
 
-/// The slot behind the instruction at a slot, if it goes on there.
+/// The slot after the instruction at a slot, if it goes on there.
 #[tactic(auto, unfolding(crate::specs::Graph::fall_to))]
 pub fn fall_target(image: &Image, slot: usize) -> Option<usize>
     requires { slot < 2 ^ 63 }

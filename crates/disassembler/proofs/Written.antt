@@ -21,7 +21,7 @@ texts-split text xs k x d lt e =
     ∙ ap (λ l. flat_map text (take k xs) ++ flat_map text l) (drop-cons xs k d lt)
     ∙ ap (λ y. flat_map text (take k xs) ++ (text y ++ flat_map text (drop (suc k) xs))) e
 
--- behind the texts before it, a beginning of one was written
+-- after the texts before it, a beginning of one was written
 pub text_failed : {X : Type 0} (text : X → List ℕ) (old mid new : Option (List ℕ)) (xs : List X) (k : ℕ) (x d : X) → k < length xs → get_or xs k d ≡ x → Appends old mid (flat_map text (take k xs)) → AppendsBeginning mid new (text x) → AppendsBeginning old new (flat_map text xs)
 text_failed text old mid new xs k x d lt e before part =
     let rest = flat_map text (drop (suc k) xs) in

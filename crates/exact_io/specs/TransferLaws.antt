@@ -1,4 +1,4 @@
--- Writes that failed, one part behind another.
+-- Writes that failed, one part after another.
 use Rattle.std.proofs.Common.{◌≡◌, ℕ, ◌+◌, List, ◌++◌, length, take, drop, Option, refl, sym, ap, ◌∙◌, subst, length-append, arith}
 use Rattle.std.proofs.lemmas.List.{take_at, drop_at, take-append-le}
 use Rattle.std.specs.Io.KnownBytes.{Appends}
@@ -12,7 +12,7 @@ AppendsBeginning-first old new front rest p =
     let (n, less, appended) = p in
     (n, omega (arith, length-append front rest), subst (Appends old new) (sym (take-append-le n front rest (omega arith))) appended)
 
--- a beginning of the second part, behind all of the first, is a beginning of both
+-- a beginning of the second part, after all of the first, is a beginning of both
 pub AppendsBeginning-second : (old mid new : Option (List ℕ)) (front rest : List ℕ) → Appends old mid front → AppendsBeginning mid new rest → AppendsBeginning old new (front ++ rest)
 AppendsBeginning-second old mid new front rest p q =
     let (n, less, appended) = q in

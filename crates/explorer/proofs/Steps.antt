@@ -139,7 +139,7 @@ step_on p m old new a path visit child n rest at current whole fine last on_path
 
 -- ---- a visit that begins
 
--- where control flow is good an instruction begins behind each step
+-- where control flow is good an instruction begins after each step
 IsReady-next : (p : Program) (slot : ℕ) (next : State) → IsFlow p → Follows p slot next.slot → 0 < depth next → IsReady p next
 IsReady-next p slot next flow follows called = record { begins = IsFlow-Follows p slot next.slot flow follows; called = called }
 
@@ -150,7 +150,7 @@ some_there None h = absurd (cc)
 pub fetched : (p : Program) (s : State) → IsReady p s → (i : Insn) × (fetch p s.slot ≡ Some i)
 fetched p s ready = some_there (fetch p s.slot) ready.begins
 
--- the instruction's state waits for the state behind it
+-- the instruction's state waits for the state after it
 pub record Begins (p : Program) (m : ℕ) (table : List Stored) (visit : Visit) (s next : State) : Type 0 where
   pub waiting : Waiting p m table visit s next
   pub ready : IsReady p next
@@ -187,7 +187,7 @@ two_ways p q m table stored s a b w pending same flow ready at leads makes follo
       spends = Spends-two p s a b stored into;
     })
 
--- the search is at the state behind
+-- the search is at the state after it
 pub step_into : (p : Program) (m : ℕ) (old new : List Stored) (a : State) (path : List Visit) (visit : Visit) (s child : State) (arrival : Arrival) (whole : List Visit)
     → AllFine p m old → Path p m old a path s → Waiting p m old visit s child → Arrives p old child arrival new → whole ≡ path ++ visit ∷ [] → AllFine p m new × Path p m new a whole child
 step_into p m old new a path visit s child arrival whole fine before waiting arrives e =

@@ -78,7 +78,7 @@ pub OnPath-pop : (table : List Stored) (path whole : List Visit) (visit : Visit)
 unfolding OnPath
 OnPath-pop table path whole visit e h = h ∙ (ap places_of e ∙ places_of-push path visit)
 
--- a state that was met is stored behind all others
+-- a state that was met is stored after all others
 pub OnPath-arrives : (p : Program) (old new : List Stored) (path : List Visit) (s : State) (at : Option ℕ) → Arrives p old s (New at) new → OnPath old path None → OnPath new path at
 unfolding OnPath
 OnPath-arrives p old new path s None h on = ap unfinished h.1 ∙ on

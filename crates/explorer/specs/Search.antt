@@ -170,7 +170,7 @@ zeros_from k (suc n ∷ numbers) = zeros_from (suc k) numbers
 abbrev pub unfinished : List Stored → List ℕ
 unfinished table = zeros_from 0 (map (λ e. e.number) table)
 
--- the places with one in front of them, or behind them, if there is one
+-- the places with one in front of them, or after them, if there is one
 abbrev pub with_first : Option ℕ → List ℕ → List ℕ
 with_first None places = places
 with_first (Some k) places = k ∷ places
@@ -184,7 +184,7 @@ abbrev pub places_of : List Visit → List ℕ
 places_of [] = []
 places_of (visit ∷ path) = with_first visit.stored (places_of path)
 
--- the entries without a number are those of the path and the one behind it, in their order, and no others
+-- the entries without a number are those of the path and the one after it, in their order, and no others
 unfoldable pub OnPath : List Stored → List Visit → Option ℕ → Type 0
 OnPath table path stored = unfinished table ≡ with_last (places_of path) stored
 

@@ -28,7 +28,7 @@ pub record StepsTo (p : Program) (a b : State) : Type 0 where
   pub makes : Makes p a insn taken first other
   pub among : IsAmong taken first other b
 
--- so many steps lead from a to b
+-- that many steps lead from a to b
 unfoldable pub Leads : Program → ℕ → State → State → Type 0
 Leads p zero a b = b ≡ a
 Leads p (suc n) a b = (c : State) × StepsTo p a c × Leads p n c b

@@ -35,7 +35,7 @@ struct Ends {
 #[derive(Drop)]
 pub struct Index {
     links: Vec<Link>,
-    /// Of each entry the one behind it in its list.
+    /// Of each entry the one after it in its list.
     behind: Vec<Option<usize>>,
     /// The shapes that stored states have, and of each the next one of its slot.
     shapes: Vec<Shape>,
@@ -48,7 +48,7 @@ pub struct Index {
     unfinished: Vec<Option<usize>>,
 }
 
-/// A list, given by its first place and by the place behind each.
+/// A list, given by its first place and by the place after each.
 #[derive(Drop)]
 pub struct Places<'a> {
     behind: &'a [Option<usize>],
@@ -86,7 +86,7 @@ fn list_of(fingerprint: u64) -> usize {
 }
 
 impl Index {
-    /// The index of no entries, of code with so many slots.
+    /// The index of no entries, of code with that many slots.
     pub fn new(alloc: Global, slots: usize) -> Result<Self, AllocError>
         ensures room { IfOk result (λ index. vec_len index.first_shapes ≡ slots) }
     {
@@ -196,7 +196,7 @@ impl Index {
         }
     }
 
-    /// Makes the entry the one behind the last of its list when it was stored, and answers the one that was.
+    /// Makes the entry the one after the last of its list when it was stored, and answers the one that was.
     fn put_behind(&mut self, link: Link, index: usize) -> Option<usize> {
         let ends = self.finished.get_mut(link.list)?;
         if ends.last == link.before {

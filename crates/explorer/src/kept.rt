@@ -7,7 +7,7 @@ use stack_state::{AbstractFrame, State};
 use std::alloc::{AllocError, Global};
 use std::marker::Model;
 
-/// A state that is kept for later: its live frames alone.
+/// A state that is kept for later: its live frames only.
 ///
 /// Contracts see the state.
 #[derive(Drop)]

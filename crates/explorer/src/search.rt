@@ -28,9 +28,9 @@ const NO_MEMORY: Refused = (Refusal::Memory, 0);
 /// An instruction on the path, and what is still to be explored after it.
 #[derive(Drop)]
 pub struct Visit {
-    /// The state behind the taken jump, until it is explored.
+    /// The state after the taken jump, until it is explored.
     pub pending: Option<Kept>,
-    /// The greatest number of the states behind it so far, 0 where there is none yet.
+    /// The greatest number of the states after it so far, 0 where there is none yet.
     pub best: u32,
     /// Where its own state is stored.
     pub stored: Option<usize>,
@@ -55,7 +55,7 @@ pub enum Turn {
 pub enum Resumed {
     /// The pending state is to be explored.
     Next(Visit, Option<usize>),
-    /// All is explored, and this is the greatest number behind it.
+    /// All is explored, and this is the greatest number after it.
     Ended(u32),
 }
 
@@ -138,7 +138,7 @@ fn resume(
 }
 
 impl Search {
-    /// A search at the start of code with so many slots.
+    /// A search at the start of code with that many slots.
     pub fn new(alloc: Global, slots: usize) -> Result<Self, AllocError>
         ensures new { IfOk result (λ search. IsNew search) }
         ensures room { IfOk result (λ search. vec_len search.table.index.first_shapes ≡ slots) }
@@ -227,7 +227,7 @@ impl Search {
         self.descend(alloc, flow, stored, pending)
     }
 
-    /// Puts a visit behind the path, whose state is stored there and leads to the current state and to what is pending.
+    /// Puts a visit after the path, whose state is stored there and leads to the current state and to what is pending.
     fn descend(
         &mut self,
         alloc: Global,

@@ -26,7 +26,7 @@ pub struct Table {
 }
 
 impl Table {
-    /// A table with no states, of code with so many slots.
+    /// A table with no states, of code with that many slots.
     pub fn new(alloc: Global, slots: usize) -> Result<Self, AllocError>
         ensures empty { IfOk result (λ table. table.entries.items ≡ []) }
         ensures room { IfOk result (λ table. vec_len table.index.first_shapes ≡ slots) }

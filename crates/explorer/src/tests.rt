@@ -1,7 +1,5 @@
 //! What the index proposes, on which no contract rests.
 
-mod many;
-
 use crate::fingerprints::fingerprint_of;
 use crate::index::{Index, Places};
 use crate::table::Table;
@@ -87,7 +85,7 @@ fn entries_come_in_order(rt: HostRuntime) -> Result<(), Fail> {
     index.finish(0);
     assert_eq!(rt; proposed(&index, &five), 1356);
     assert_eq!(rt; digits(index.unfinished_like(like_five)), 0);
-    // one more goes behind the last
+    // one more goes after the last
     index.add(&five)?;
     index.finish(6);
     assert_eq!(rt; proposed(&index, &five), 13_567);
@@ -117,7 +115,7 @@ fn names_of_identities_do_not_count(rt: HostRuntime) {
     assert_ne!(rt; fingerprint_of(&state_at(1, value(1, 1))), one);
 }
 
-/// A state whose number is another one in one register alone, in its low or its high half, is not looked at.
+/// A state whose number is another one in one register only, in its low or its high half, is not looked at.
 #[test]
 fn each_register_counts(rt: HostRuntime) -> Result<(), Fail> {
     for register in 0..10usize {
@@ -139,7 +137,7 @@ fn each_register_counts(rt: HostRuntime) -> Result<(), Fail> {
     Ok(())
 }
 
-/// An equal state is found behind a newer one that differs in its signed limits alone, which have no part in
+/// An equal state is found after a newer one that differs in its signed limits only, which have no part in
 /// fingerprints.
 #[test]
 fn each_unfinished_state_is_compared(rt: HostRuntime) -> Result<(), Fail> {

@@ -168,7 +168,7 @@ can_lack_body number offset head n buffer early size short room less = record {
   stops = part_of_record number offset head [] ByEnd early size short (omega arith);
 }
 
--- behind the magic a stream may stop as at the first record
+-- after the magic a stream may stop as at the first record
 pub fresh_room : (finding : Finding) → HasRoom (At 0 4) finding → HasRoom Fresh finding
 unfolding stop_from
 fresh_room (Found f) h = h
@@ -181,7 +181,7 @@ done_room position stop e = subst (λ (p : Position). CanStop p stop) (sym e) (r
 
 -- ---- a call
 
--- what stops the stream behind the magic stops it before
+-- what stops the stream after the magic stops it before
 fresh_stops : (bytes rest : List ℕ) (new : Option (List ℕ)) (stop : Finish) → bytes ≡ magic ++ rest → Stops (At 0 4) rest new stop → Stops Fresh bytes new stop
 unfolding stop_from
 fresh_stops bytes rest new finish.End e h = rw e (stop_from-magic rest ByEnd ∙ h)
@@ -194,7 +194,7 @@ fresh_stops bytes rest new (finish.Fault F5 o) e h =
     (magic ++ heard, Consumes-trans (Some bytes) (Some rest) new magic heard e lost, stop_from-magic heard ByError ∙ why)
 fresh_stops bytes rest new (finish.Fault F6 o) e h = rw e (stop_from-magic rest ByEnd ∙ h)
 
--- the magic, and then what was found behind it
+-- the magic, and then what was found after it
 pub fresh_reads : (old mid new : Option (List ℕ)) (finding : Finding) → ReadsMagic old mid None → Reads (At 0 4) mid new finding → Reads Fresh old new finding
 fresh_reads None mid new finding p q = tt
 fresh_reads (Some bytes) None new finding p q = absurd p

@@ -4,7 +4,7 @@ use Rattle.std.proofs.lemmas.List.{take-append-drop, drop-drop, take_all, length
 use Rattle.byteorder.specs.Endian.{little_from, little_bytes}
 use Rattle.isa_model.specs.Code.LittleEndian.{EachByte, little_bytes-little_from, little_from-drop}
 
--- a number that was read from the part of a list behind its first i bytes
+-- a number that was read from the part of a list after its first i bytes
 pub little_from-behind : (n i : ℕ) (xs : List ℕ) → little_from 0 n (take (length xs - i) (drop i xs)) ≡ little_from (i + 0) n xs
 little_from-behind n i xs =
     ap (little_from 0 n) (take_all (length xs - i) (drop i xs) (omega (arith, length-drop i xs))) ∙ little_from-drop n 0 i xs

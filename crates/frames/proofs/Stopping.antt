@@ -26,7 +26,7 @@ pub stop_at-nothing_heard : (number offset : ℕ) → stop_at number offset [] B
 unfolding stop_at
 stop_at-nothing_heard number offset = refl
 
--- a byte behind the last record
+-- a byte after the last record
 pub stop_at-many : (offset : ℕ) (bytes : List ℕ) (e : Ending) → 0 < length bytes
     → stop_at max_frames offset bytes e ≡ Some (finish.Fault F6 offset)
 unfolding stop_at
@@ -68,7 +68,7 @@ pub stop_from-other : (bytes : List ℕ) (e : Ending) → 4 ≤ length bytes →
 unfolding stop_from
 stop_from-other bytes e h p = let long : nat_lt (length bytes) 4 ≡ false = le-ltb _ _ h in rw (long, p) refl
 
--- the magic, and what stands behind it
+-- the magic, and what stands after it
 pub stop_from-magic : (bytes : List ℕ) (e : Ending) → stop_from Fresh (magic ++ bytes) e ≡ stop_at 0 4 bytes e
 unfolding stop_from
 stop_from-magic bytes e = let long : nat_lt (length (magic ++ bytes)) 4 ≡ false = le-ltb _ _ (omega (arith, length-append magic bytes)) in rw long refl

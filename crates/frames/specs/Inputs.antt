@@ -122,11 +122,11 @@ offset_of Fresh = 0
 offset_of (At number offset) = offset
 offset_of (Done stop) = 0
 
--- the fault of a stream that breaks off behind these records
+-- the fault of a stream that breaks off after these records
 abbrev pub broken_off : List Frame → Finish
 broken_off frames = finish.Fault F5 (offset_of (position_after Fresh frames))
 
--- an error behind a record, or behind others that follow it
+-- an error after a record, or after others that follow it
 breaks_behind : (number offset : ℕ) (frames : List Frame)
     → stop_from (position_after (At number offset) frames) [] ByError ≡ Some (finish.Fault F5 (offset_of (position_after (At number offset) frames)))
 unfolding stop_from stop_at
@@ -138,7 +138,7 @@ unfolding stop_from
 breaks [] = refl
 breaks (f ∷ frames) = breaks_behind 1 (4 + (20 + length f.body)) frames
 
--- Where nothing more is read, the frames that were found were heard, as those of an input that breaks off behind them.
+-- Where nothing more is read, the frames that were found were heard, as those of an input that breaks off after them.
 pub HasFound-breaks : (frames : List Frame) (old known : Option (List ℕ)) (p : Position) → HasFound frames old known p → IsHeard old (frames, broken_off frames)
 HasFound-breaks frames old known p s =
     let input : Input = record { bytes = bytes_from Fresh frames ++ []; ending = ByError } in

@@ -26,7 +26,7 @@ next_position position (Found f) = after_frame position f
 next_position position (Stopped stop) = Done stop
 
 -- The stream stops at a position, where the source has these bytes left before the call and those after it. Only
--- for F5 did the source answer an error, behind the bytes that it lost.
+-- for F5 did the source answer an error, after the bytes that it lost.
 abbrev pub Stops : Position → List ℕ → Option (List ℕ) → Finish → Type 0
 Stops position bytes new (finish.Fault F5 offset) =
     (heard : List ℕ) × Consumes (Some bytes) new heard × (stop_from position heard ByError ≡ Some (finish.Fault F5 offset))

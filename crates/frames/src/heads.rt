@@ -5,7 +5,7 @@ ghost use Rattle.isa_model.specs.Reporting.Streams.{head_bytes, length_field};
 use byteorder::{ByteOrder, LittleEndian};
 use isa_model::FrameHead;
 
-/// The head that 20 bytes spell, and the length of the body behind it.
+/// The head that 20 bytes spell, and the length of the body after it.
 pub fn decode_head(bytes: &[u8]) -> (FrameHead, u32)
     requires { length bytes.now ≡ 20 }
     ensures spelled { head_bytes result.0 result.1 ≡ bytes.now }

@@ -1,4 +1,4 @@
--- Pieces that were written, one behind another, and of which one may have failed.
+-- Pieces that were written, one after another, and of which one may have failed.
 use Rattle.std.proofs.Common.{◌≡◌, ℕ, zero, suc, true, false, List, [], ◌∷◌, ◌++◌, length, take, Option, refl, sym, ap, ◌∙◌, subst, append-nil, append_assoc}
 use Rattle.std.specs.List.{flat_map}
 use Rattle.std.specs.Io.KnownBytes.{Appends}
@@ -21,14 +21,14 @@ take-nil : (n : ℕ) → take {A = ℕ} n [] ≡ []
 take-nil zero = refl
 take-nil (suc n) = refl
 
--- pieces behind pieces
+-- pieces after pieces
 pub Wrote-append : (a b c : Outputs) (p q : List Piece) → Wrote a b p → Wrote b c q → Wrote a c (p ++ q)
 Wrote-append a b c p q first second = record {
   report = rw (flat_map-append _ p q) (Appends-trans a.report b.report c.report _ _ first.report second.report);
   frames = rw (flat_map-append _ p q) (Appends-trans a.frames b.frames c.frames _ _ first.frames second.frames);
 }
 
--- pieces behind pieces, of which a later one failed
+-- pieces after pieces, of which a later one failed
 pub WroteBefore-append : (a b c : Outputs) (p q : List Piece) (e : HostError) → Wrote a b p → WroteBefore b c q e → WroteBefore a c (p ++ q) e
 WroteBefore-append a b c p q e first second = record {
   before = p ++ second.before;
@@ -119,7 +119,7 @@ record_is : (frame : Frame) (t : Turn) (bytes : List ℕ) → bytes ≡ t.packet
     → frame_bytes (record { head = frame.head; body = bytes }) ≡ frame_bytes (record { head = frame.head; body = t.packet })
 record_is frame t bytes is = ap (λ l. frame_bytes (record { head = frame.head; body = l })) is
 
--- the frame is written out behind its line
+-- the frame is written out after its line
 pub frame_sent : (r s f g : Option (List ℕ)) (limit number : ℕ) (frame : Frame) (t : Turn) (e : End) (bytes line : List ℕ) → e ≡ t.ends → bytes ≡ t.packet
     → line ≡ frame_line limit number e (length frame.body) → is_sent e ≡ true → Appends r s line → Appends f g (frame_bytes (record { head = frame.head; body = bytes }))
     → Wrote (record { report = r; frames = f }) (record { report = s; frames = g }) (frame_pieces limit number frame t)
@@ -130,7 +130,7 @@ frame_sent r s f g limit number frame t e bytes line ended left is sent p q =
     (wrote_report r s f _ (subst (Appends r s) (line_is limit number frame t e line ended is) p))
     (wrote_frames s f g _ (subst (Appends f g) (record_is frame t bytes left) q)))
 
--- the record failed behind the line
+-- the record failed after the line
 pub record_failed : (r s f g : Option (List ℕ)) (limit number : ℕ) (frame : Frame) (t : Turn) (e : End) (bytes line : List ℕ) → e ≡ t.ends → bytes ≡ t.packet
     → line ≡ frame_line limit number e (length frame.body) → is_sent e ≡ true → Appends r s line → AppendsBeginning f g (frame_bytes (record { head = frame.head; body = bytes }))
     → WroteBefore (record { report = r; frames = f }) (record { report = s; frames = g }) (frame_pieces limit number frame t) failure.Frames

@@ -20,7 +20,7 @@ use Rattle.host.proofs.SoFar.{SoFar}
 
 -- ---- frames in a row
 
--- the pieces of frames, and of those behind them
+-- the pieces of frames, and of those after them
 turns_pieces-append : (limit : ℕ) (rule : Rule) (n : ℕ) (c : List Entries) (fs gs : List Frame)
     → turns_pieces limit rule n c (fs ++ gs) ≡ turns_pieces limit rule n c fs ++ turns_pieces limit rule (n + length fs) (contents_after rule c fs) gs
 turns_pieces-append limit rule n c [] gs = ap (λ m. turns_pieces limit rule m c gs) (sym (add-zero n))
@@ -31,7 +31,7 @@ turns_pieces-append limit rule n c (f ∷ fs) gs =
     ap (λ l. front ++ l) (turns_pieces-append limit rule (n + 1) next fs gs ∙ ap (λ m. turns_pieces limit rule (n + 1) next fs ++ turns_pieces limit rule m (contents_after rule next fs) gs) same)
     ∙ sym (append_assoc front (turns_pieces limit rule (n + 1) next fs) (turns_pieces limit rule (n + suc (length fs)) (contents_after rule next fs) gs))
 
--- the contents after frames and those behind them
+-- the contents after frames and those after them
 contents_after-append : (rule : Rule) (c : List Entries) (fs gs : List Frame) → contents_after rule c (fs ++ gs) ≡ contents_after rule (contents_after rule c fs) gs
 contents_after-append rule c [] gs = refl
 contents_after-append rule c (f ∷ fs) gs = contents_after-append rule (rule f.head f.body c).contents fs gs

@@ -14,7 +14,7 @@ use Rattle.host.specs.Writing.{Outputs, Writes}
 -- Of a source an input was heard, of its bytes where it tells them. These are the input's frames, and its end or fault;
 -- the heads and the lengths of the bodies fit, and the bodies are bytes. Their report was written: in every frame's run
 -- the meaning of the program meets no trap, and it exits within the bound. The tally is what the last line shows.
--- (Where an output failed before that line, the input breaks off behind the last frame that was run.)
+-- (Where an output failed before that line, the input breaks off after the last frame that was run.)
 pub record ReportsRun (a : Bounded) (source : Option (List ℕ)) (old new : Outputs) (result : Result Tally HostError) : Type 0 where
   pub frames : List Frame
   pub finish : Finish

@@ -11,7 +11,7 @@ use Rattle.host.specs.Writing.{Outputs, Writes}
 
 -- Of a source an input was heard, of its bytes where it tells them. These are the input's frames, and its end or fault;
 -- the heads and the lengths of the bodies fit, and the bodies are bytes. The pieces that belong to them were written;
--- the tally is what their last line shows. (Where an output failed before that line, the input breaks off behind the
+-- the tally is what their last line shows. (Where an output failed before that line, the input breaks off after the
 -- last frame that was run.)
 pub record Reports (source : Option (List ℕ)) (pieces : List Frame × Finish → List Piece) (old new : Outputs) (result : Result Tally HostError) : Type 0 where
   pub frames : List Frame

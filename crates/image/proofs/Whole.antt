@@ -96,7 +96,7 @@ no_rows = []
 abbrev pub program_of : List (Option Insn) → Program
 program_of xs = record { insns = xs; maps = [] }
 
--- the code of an image with no rows stands behind its head
+-- the code of an image with no rows stands after its head
 code_behind : (bytes : List ℕ) → map_count bytes ≡ 0 → drop (8 + 12 * map_count bytes) bytes ≡ drop 8 bytes
 code_behind bytes h = ap (λ (k : ℕ). drop (8 + 12 * k) bytes) h
 

@@ -28,7 +28,7 @@ code_bytes-split xs k i lt e =
     ∙ ap (λ (l : Slots). code_bytes (take k xs) ++ code_bytes l) (drop-cons xs k None lt)
     ∙ ap (λ (o : Option Insn). code_bytes (take k xs) ++ (slot_spelling o ++ code_bytes (drop (suc k) xs))) e
 
--- behind the slots before it, a part of a slot's instruction was written
+-- after the slots before it, a part of a slot's instruction was written
 pub AppendsBeginning-code : (old mid new : Option (List ℕ)) (xs : List (Option Insn)) (k : ℕ) (i : Insn) → k < length xs → get_or xs k None ≡ Some i → Appends old mid (code_bytes (take k xs)) → AppendsBeginning mid new (spelling_of i) → AppendsBeginning old new (code_bytes xs)
 AppendsBeginning-code old mid new xs k i lt e before part =
     let rest = code_bytes (drop (suc k) xs) in

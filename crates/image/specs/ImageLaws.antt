@@ -88,7 +88,7 @@ InsnFits-fetch p s i h e = InsnFits-insn_in p.insns false s i h.code e
 pub fetch-zero : (p : Program) → IsImage p → (i : Insn) × (fetch p 0 ≡ Some i)
 fetch-zero p h = elim (at_front p.insns h.code) [ inl e ↦ absurd (omega (arith, h.some_slots, e)) | inr f ↦ f ]
 
--- behind an instruction the code ends or another one begins
+-- after an instruction the code ends or another one begins
 pub fetch-next : (p : Program) (s : ℕ) (i : Insn) → IsImage p → fetch p s ≡ Some i → (s + slots_of i ≡ length p.insns) ⊎ ((j : Insn) × (fetch p (s + slots_of i) ≡ Some j))
 fetch-next p s i h e = behind p.insns false s i h.code e
 

@@ -28,7 +28,7 @@ pub enum ImageError {
     /// The codec refuses the instruction that begins at a slot.
     #[error("I8 slot {0} {1}")]
     Code(usize, CodecError),
-    /// Want of memory.
+    /// Out of memory.
     #[error("I9")]
     Memory,
 }

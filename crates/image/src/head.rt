@@ -42,7 +42,7 @@ pub fn size_refusal(bytes: &[u8]) -> Option<ImageError>
     None
 }
 
-/// What is wrong with so many slots.
+/// What is wrong with that many slots.
 pub fn count_refusal(slots: usize) -> Option<ImageError>
     ensures { result ≡ count_refusal slots }
 {
@@ -53,7 +53,7 @@ pub fn count_refusal(slots: usize) -> Option<ImageError>
     }
 }
 
-/// The head of an image with so many map rows and slots.
+/// The head of an image with that many map rows and slots.
 pub fn head_of(maps: u16, slots: u16) -> [u8; 8]
     ensures { result ≡ magic ++ (little_bytes 2 maps ++ little_bytes 2 slots) }
 {

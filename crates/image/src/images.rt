@@ -46,7 +46,7 @@ impl Image {
         ensures fits { IfOk result IsImage }
         ensures only { (p : Program) → IsImage p → bytes.now ≡ image_bytes p → MatchResult result (λ image. image ≡ p) (λ e. e ≡ ImageError.Memory) }
 
-        // All others get the first refusal, want of memory aside.
+        // All others get the first refusal, running out of memory aside.
         ensures refused { MatchResult result (λ _. refusal_of bytes.now ≡ None) (λ e. (e ≡ ImageError.Memory) ⊎ (refusal_of bytes.now ≡ Some e)) }
     {
         decoding_laws();
@@ -67,7 +67,7 @@ impl Image {
         ensures found { IfOk result (λ image. image ≡ code_alone insns.now) }
         ensures fits { IfOk result IsImage }
 
-        // The only refusals are that there are no slots or too many, and want of memory.
+        // The only refusals are that there are no slots or too many, and that memory ran out.
         ensures refused { MatchResult result (λ _. count_refusal (length (slots insns.now)) ≡ None) (λ e. (e ≡ ImageError.Memory) ⊎ (count_refusal (length (slots insns.now)) ≡ Some e)) }
     {
         let slots = by_slot(alloc, insns)?;

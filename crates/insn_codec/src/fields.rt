@@ -1,4 +1,4 @@
-//! The fields behind an opcode.
+//! The fields after an opcode.
 
 ghost use Rattle.std.specs.Prelude.{◌≡◌};
 ghost use Rattle.insn_codec.specs.Forms.{zero_unused};

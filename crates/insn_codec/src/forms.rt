@@ -151,7 +151,7 @@ fn arithmetic_form(width: Width, register: bool, code: u8) -> Option<Form>
     }
 }
 
-/// A form that stands in class JMP alone, with a clear source bit.
+/// A form that stands in class JMP only, with a clear source bit.
 fn full_only(width: Width, register: bool, form: Form) -> Option<Form>
     ensures { result ≡ full_only width register form }
 {

@@ -79,7 +79,7 @@ pub enum AtomicOp {
 /// An instruction. Distances of jumps count 8-byte slots from the slot after the instruction.
 #[derive(Clone, Copy, PartialEq, Eq, Debug)]
 pub enum Insn {
-    /// destination = destination op source; MOV is the source alone.
+    /// destination = destination op source; MOV is the source only.
     Alu(Width, AluOp, Reg, Operand),
     /// destination = -destination.
     Neg(Width, Reg),

@@ -96,7 +96,7 @@ one_place n i n_in e =
     ] in
     e ∙ ap (λ k. 2 ^ k) same ∙ sym (one_shl j 64 t.0)
 
--- the numbers of so many bits
+-- the numbers of that many bits
 pub low_member : (k x : ℕ) → k ≤ 64 → x < 2 ^ 64 → x < 2 ^ k → IsMember 0 (2 ^ k - 1) x
 low_member k x k_in x_in h =
     let p = pow_pos k in

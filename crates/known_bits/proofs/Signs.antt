@@ -16,7 +16,7 @@ use Rattle.known_bits.proofs.Sharp.{most_member}
 pub sign_unknown : {v m : ℕ} → Known v m → 2 ^ 63 ≤ m → v < 2 ^ 63
 sign_unknown {v} {m} k h = let a = bits_apart k 63 in let b = k.value_in in let c = k.mask_in in omega arith
 
--- with an unknown sign bit, a number that differs from a member in that bit alone is a member
+-- with an unknown sign bit, a number that differs from a member in that bit only is a member
 pub other_sign : {v m x : ℕ} (y : ℕ) → Known v m → 2 ^ 63 ≤ m → IsMember v m x → y < 2 ^ 64 → y % 2 ^ 63 ≡ x % 2 ^ 63 → IsMember v m y
 other_sign {v} {m} {x} y k large h y_in same =
     let v_in = sign_unknown k large in

@@ -78,7 +78,7 @@ impl Bits {
     }
 }
 
-// The number that is so many ones.
+// The number that is that many ones.
 pub(crate) fn ones(count: u32) -> u64
     requires { count ≤ 64 }
     ensures { result + 1 ≡ 2 ^ count }

@@ -11,7 +11,7 @@ impl Bits {
     ghost use Rattle.isa_model.specs.Code.Numbers.{alu};
     ghost use Rattle.known_bits.specs.Bits.{Has, IsSharp};
 
-    // The low bits, so many of them.
+    // The low bits, that many of them.
     pub(crate) fn low(self, count: u32) -> Self
         requires { count ≤ 64 }
         ensures value { result.value ≡ self.value % 2 ^ count }

@@ -22,7 +22,7 @@ abbrev pub digits_number : ℕ → ℕ → List ℕ → ℕ
 digits_number base n [] = n
 digits_number base n (c ∷ cs) = digits_number base (add_digit base n c) cs
 
--- the n digits behind the skipped bytes, and no word byte behind them
+-- the n digits after the skipped bytes, and no word byte after them
 abbrev pub number_after : ℕ → ℕ → List ℕ → ℕ → Option (Lexeme × ℕ)
 number_after base skip bs n =
     if n == 0 then None
@@ -32,11 +32,11 @@ number_after base skip bs n =
 abbrev pub number_at : ℕ → ℕ → List ℕ → Option (Lexeme × ℕ)
 number_at base skip bs = number_after base skip bs (prefix_len (λ c. is_digit c base) (drop skip bs))
 
--- hexadecimal digits behind 0x, or decimal ones
+-- hexadecimal digits after 0x, or decimal ones
 abbrev pub number_from : List ℕ → Option (Lexeme × ℕ)
 number_from bs = if (slice_index bs 0 == 48) && (slice_index bs 1 == 120) then number_at 16 2 bs else number_at 10 0 bs
 
--- where a number with n digits behind the skipped bytes is none; `0x` without a digit is the number 0 with an x behind it
+-- where a number with n digits after the skipped bytes is none; `0x` without a digit is the number 0 with an x after it
 abbrev pub number_fault : ℕ → ℕ → ℕ
 number_fault skip n = if n == 0 then 1 else skip + n
 

@@ -104,8 +104,8 @@ fn digits_number(digits: &[u8], base: u8) -> u128
     n
 }
 
-// The number whose `n` digits stand behind the skipped bytes, and its length; or the place of a byte that cannot stand
-// behind a number.
+// The number whose `n` digits stand after the skipped bytes, and its length; or the place of a byte that cannot stand
+// after a number.
 fn number_after(base: u8, skip: usize, text: &[u8], n: usize) -> Result<(Lexeme, usize), usize>
     requires within { skip + n ≤ length text.now }
     requires base { base ≤ 16 }
@@ -113,7 +113,7 @@ fn number_after(base: u8, skip: usize, text: &[u8], n: usize) -> Result<(Lexeme,
     ensures fault { IfErr result (λ at. at ≡ number_fault skip n) }
 {
     if n == 0 {
-        // `0x` without a digit is the number 0 with an `x` behind it
+        // `0x` without a digit is the number 0 with an `x` after it
         return Err(1);
     }
     if is_word_byte(byte_at(text, skip + n)) {

@@ -13,7 +13,7 @@ fn found(sign: Sign, length: usize) -> Option<(Lexeme, usize)>
     Some((Lexeme::Solid(Token::Signed(sign)), length))
 }
 
-// A sign with or without an `=` behind its first bytes.
+// A sign with or without an `=` after its first bytes.
 fn with_equals(next: u8, length: usize, long: Sign, short: Sign) -> Option<(Lexeme, usize)>
     requires { length < 4 }
     ensures { result ≡ with_equals next length long short }
@@ -25,7 +25,7 @@ fn with_equals(next: u8, length: usize, long: Sign, short: Sign) -> Option<(Lexe
     }
 }
 
-// A sign that wants the `=` behind its first bytes.
+// A sign that wants the `=` after its first bytes.
 fn only_equals(next: u8, length: usize, long: Sign) -> Option<(Lexeme, usize)>
     requires { length < 4 }
     ensures { result ≡ only_equals next length long }

@@ -71,7 +71,7 @@ impl Range {
     }
 }
 
-// The greatest number of so many bits.
+// The greatest number of that many bits.
 fn greatest_read(span: Span) -> u64
     ensures { result + 1 ≡ 2 ^ span_bits span }
 {

@@ -85,7 +85,7 @@ impl Range {
     }
 
     /// Those that have no bit in common with some number of the other, and the other way round. Limits show that of
-    /// two constants alone.
+    /// two constants only.
     pub fn disjoint(self, other: Self) -> Option<(Self, Self)>
         ensures common { (x y : ℕ) → Has self x → Has other y → bit_and x y ≡ 0
             → IsSomeAnd result (λ p. Has p.0 x × Has p.1 y) }

@@ -12,6 +12,6 @@ Has s x = B.Has s.bits x × R.Has s.range x
 abbrev pub Encloses : Scalar → Scalar → Type 0
 Encloses a b = ((x : ℕ) → B.Has b.bits x → B.Has a.bits x) × R.Encloses a.range b.range
 
--- both parts are x alone
+-- both parts are x only
 abbrev pub IsConstant : Scalar → ℕ → Type 0
 IsConstant s x = B.IsConstant s.bits x × R.IsConstant s.range x

@@ -23,7 +23,7 @@ pub enum Kind {
         offset: i32,
     },
     /// A pointer into the packet: a fixed part, and a variable part within limits, which all pointers of the
-    /// identity share. Where `proved` is not 0, so many bytes after the variable part are in the packet.
+    /// identity share. Where `proved` is not 0, that many bytes after the variable part are in the packet.
     Packet {
         fixed: i32,
         identity: u32,

@@ -1,4 +1,4 @@
--- Texts that were written one behind another, and of which one failed.
+-- Texts that were written one after another, and of which one failed.
 use Rattle.std.proofs.Common.{◌≡◌, ℕ, List, ◌++◌, Option, Result, Ok, Err, subst}
 use Rattle.std.specs.Prelude.{OnOk, OnErr}
 use Rattle.std.specs.Io.KnownBytes.{Appends}
@@ -31,7 +31,7 @@ ok_text r old new bytes text e h = subst (λ (l : List ℕ). OnOk r (Appends old
 pub err_text : {X E : Type 0} (r : Result X E) (old new : Option (List ℕ)) (bytes text : List ℕ) → bytes ≡ text → OnErr r (AppendsBeginning old new bytes) → OnErr r (AppendsBeginning old new text)
 err_text r old new bytes text e h = subst (λ (l : List ℕ). OnErr r (AppendsBeginning old new l)) e h
 
--- the same of a text behind one that was written
+-- the same of a text after one that was written
 pub ok_behind : {X E : Type 0} (r : Result X E) (old mid new : Option (List ℕ)) (first rest bytes : List ℕ) → bytes ≡ first → Appends old mid bytes → OnOk r (Appends mid new rest) → OnOk r (Appends old new (first ++ rest))
 ok_behind (Ok x) old mid new first rest bytes e p q = Appends-trans old mid new first rest (subst (Appends old mid) e p) q
 ok_behind (Err x) old mid new first rest bytes e p q = tt

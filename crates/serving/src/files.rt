@@ -147,7 +147,7 @@ pub fn disassemble_file<'a, R: Files, W: Write>(
 }
 
 /// Makes the image of a text: the text is read and judged, then the image is written, and then standard output says
-/// how large it is. Where memory is wanting no file is opened for the image.
+/// how large it is. Where memory runs out no file is opened for the image.
 pub fn assemble_file<'a, R: Files, W: Write>(
     rt: &R,
     alloc: Global,

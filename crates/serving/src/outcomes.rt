@@ -135,7 +135,7 @@ impl<'a> Outcome<'a> {
     }
 }
 
-// Writes three texts, one behind another.
+// Writes three texts, one after another.
 fn write_texts<W: Write>(out: &mut W, front: &str, name: &str, back: &str) -> io::Result<()>
     ensures ok { OnOk result (Appends (W.contents out.old) (W.contents out.new) (front.now ++ (name.now ++ back.now))) }
     ensures err { OnErr result

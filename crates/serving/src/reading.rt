@@ -7,7 +7,7 @@ use std::io::Read;
 use std::rt::Files;
 use std::{fs, io};
 
-/// All bytes of a source. Where they are not read to their end, also for want of memory, it is an error.
+/// All bytes of a source. Where they are not read to their end, also because memory ran out, it is an error.
 fn read_all<S: Read + Drop>(alloc: Global, mut source: S) -> io::Result<Vec<u8>>
     ensures { IfOk result (λ bytes. IfSome (S.remaining source) (λ held. bytes.items ≡ held)) }
 {

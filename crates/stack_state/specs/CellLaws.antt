@@ -64,7 +64,7 @@ length-bytes_of U16 n = refl
 length-bytes_of U32 n = refl
 length-bytes_of U64 n = refl
 
--- so many bytes spell a number that fits them
+-- that many bytes spell a number that fits them
 pub number_from_below : (size : Size) (bytes : List ℕ) → length bytes ≡ size_bytes size → EachByte bytes
     → number_from bytes < 2 ^ (8 * size_bytes size)
 number_from_below U8 bytes long h =

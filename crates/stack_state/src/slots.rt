@@ -36,7 +36,7 @@ pub(crate) fn mask(from: usize, bytes: usize) -> u8
     ((1u32 << (from + bytes)) - (1u32 << from)) as u8
 }
 
-/// The greatest number that is spelled by so many bytes.
+/// The greatest number that is spelled by that many bytes.
 fn greatest(size: Size) -> u64
     ensures { result + 1 ≡ 2 ^ (8 * size_bytes size) }
 {
@@ -48,7 +48,7 @@ fn greatest(size: Size) -> u64
     }
 }
 
-/// All numbers that so many bytes may spell.
+/// All numbers that that many bytes may spell.
 fn all(size: Size) -> Scalar
     ensures { AreAll size result }
 {

@@ -56,7 +56,7 @@ Sides true false stay go ways b c = (ways ≡ One) × (b ≡ stay)
 Sides false true stay go ways b c = (ways ≡ One) × (b ≡ go)
 Sides false false stay go ways b c = ways ≡ None
 
--- each side keeps what goes that way, and only narrows what was known; on two constants one side alone is gone to
+-- each side keeps what goes that way, and only narrows what was known; on two constants one side only is gone to
 pub record Branches (p : Program) (a : State) (cond : Cond) (by : ℤ) (ways : Ways) (b c : State) : Type 0 where
   pub compared : AreCompared a cond
   pub stays : Bool

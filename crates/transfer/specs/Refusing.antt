@@ -98,7 +98,7 @@ arithmetic_refusal op w a b = combined_refusal op w a b
 
 -- ---- exits
 
--- in so many frames
+-- in that many frames
 abbrev pub exit_refusal : ℕ → Refusal
 exit_refusal depth = if depth == 1 then ExitValue else NotBuilt
 

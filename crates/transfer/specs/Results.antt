@@ -38,7 +38,7 @@ abbrev pub moved_offset : Bool → ℤ → ℕ → ℤ
 moved_offset true z n = z -ℤ signed Full64 n
 moved_offset false z n = z +ℤ signed Full64 n
 
--- a frame pointer moves by a number that can be one alone, within the limit of offsets
+-- a frame pointer moves by a number that can be one only, within the limit of offsets
 pub record MovesFrame (back : Bool) (frame : ℕ) (offset : ℤ) (by : Scalar) (k : Kind) : Type 0 where
   pub number : ℕ
   pub only : (x : ℕ) → Has by x → x ≡ number
@@ -49,7 +49,7 @@ abbrev pub Moves : Bool → Kind → Scalar → Kind → Type 0
 Moves back (Stack frame offset) by k = MovesFrame back frame offset by k
 Moves back pointer by k = ⊥
 
--- pointer + number and pointer - number at 64 bits alone
+-- pointer + number and pointer - number at 64 bits only
 abbrev pub PointerAndNumber : AluOp → Width → Kind → Scalar → Kind → Type 0
 PointerAndNumber Add Full64 pointer by k = Moves false pointer by k
 PointerAndNumber Sub Full64 pointer by k = Moves true pointer by k

@@ -16,7 +16,7 @@ traces : asked (codes "xdpvm" ∷ codes "trace" ∷ codes "a" ∷ codes "b" ∷ 
 unfolding clap_on_literals asked program asm dis verify run trace prove recheck
 traces = refl
 
--- ---- a limit stands anywhere among the files, and has its value behind it or behind an equals sign
+-- ---- a limit stands anywhere among the files, and has its value after it or after an equals sign
 
 traces-limit : asked (codes "xdpvm" ∷ codes "trace" ∷ codes "a" ∷ codes "b" ∷ codes "c" ∷ codes "--limit" ∷ codes "5" ∷ []) ≡ Some (Trace (record { image = codes "a"; frames = codes "b"; out = codes "c" }) 5)
 unfolding clap_on_literals asked program asm dis verify run trace prove recheck
@@ -52,7 +52,7 @@ runs-limit : asked (codes "xdpvm" ∷ codes "run" ∷ codes "a" ∷ codes "b" �
 unfolding clap_on_literals asked program asm dis verify run trace prove recheck
 runs-limit = refl
 
--- ---- behind two hyphens all words are files
+-- ---- after two hyphens all words are files
 
 verifies-hyphen : asked (codes "xdpvm" ∷ codes "verify" ∷ codes "--" ∷ codes "-a" ∷ []) ≡ Some (Verify (codes "-a"))
 unfolding clap_on_literals asked program asm dis verify run trace prove recheck

@@ -12,7 +12,7 @@ use Rattle.tasks.specs.Requests.{Assemble, Disassemble, Run, Trace, Verify}
 use Rattle.words.specs.Asked.{asked, limit_of, request_by, request_met, unless_faulty}
 use Rattle.words.specs.WalkLaws.{walk_at, fault-command, met-command, walk_fault-none, walk_fault-plain, walked-plain}
 
--- the words behind the program's name
+-- the words after the program's name
 words-program : (name : Text) (rest : List Text) → argument_words program (name ∷ rest) ≡ rest
 unfolding program
 words-program name rest = refl
@@ -23,7 +23,7 @@ quiet-program : or_else (settle_fault (built program).top.rules (built program).
 unfolding clap_on_literals program asm dis verify run trace prove recheck
 quiet-program = refl
 
--- what a command asks for with the words behind it
+-- what a command asks for with the words after it
 pub asked-command : (name command : Text) (rest : List Text) (s : Shape) → subcommand_met (names_of (built program)) idle command ≡ Some command → bytes_eq command (codes "help") ≡ false
     → find (λ t. answers_to command (label_of t)) (built program).subs ≡ Some s
     → asked (name ∷ command ∷ rest) ≡ unless_faulty (level_fault s [] nothing_held rest false []) (request_by s.name (rows_after s.rules [] rest))
@@ -73,7 +73,7 @@ asked-asm name (c ∷ cs) (d ∷ ds) h i =
     let second : (d == 45) ≡ false = no-hyphen _ i in
     simp (first, second)
 
--- three plain words behind `run` have no fault
+-- three plain words after `run` have no fault
 run-faults : (c d e : ℕ) (cs ds es : List ℕ) → (c == 45) ≡ false → (d == 45) ≡ false → (e == 45) ≡ false
     → level_fault (built_leaf run.top) [] nothing_held ((c ∷ cs) ∷ (d ∷ ds) ∷ (e ∷ es) ∷ []) false [] ≡ []
 unfolding run defaults_fault
@@ -99,7 +99,7 @@ asked-run name (c ∷ cs) (d ∷ ds) (e ∷ es) h i j =
     asked-command name (codes "run") ((c ∷ cs) ∷ (d ∷ ds) ∷ (e ∷ es) ∷ []) (built_leaf run.top) refl refl refl
     ∙ ap₂ unless_faulty (run-faults c d e cs ds es first second third) (run-request c d e cs ds es first second third)
 
--- the same behind `trace`
+-- the same after `trace`
 trace-faults : (c d e : ℕ) (cs ds es : List ℕ) → (c == 45) ≡ false → (d == 45) ≡ false → (e == 45) ≡ false
     → level_fault (built_leaf trace.top) [] nothing_held ((c ∷ cs) ∷ (d ∷ ds) ∷ (e ∷ es) ∷ []) false [] ≡ []
 unfolding trace defaults_fault
@@ -124,9 +124,9 @@ asked-trace name (c ∷ cs) (d ∷ ds) (e ∷ es) h i j =
     asked-command name (codes "trace") ((c ∷ cs) ∷ (d ∷ ds) ∷ (e ∷ es) ∷ []) (built_leaf trace.top) refl refl refl
     ∙ ap₂ unless_faulty (trace-faults c d e cs ds es first second third) (trace-request c d e cs ds es first second third)
 
--- ---- a limit behind the files
+-- ---- a limit after the files
 
--- the walk stands at a positional, behind --limit
+-- the walk stands at a positional, after --limit
 abbrev limit_at : Held → ℕ → Walk
 limit_at h p = record {
   held = record (settled (built_leaf trace.top).rules h) { pending = Some (codes "limit", []) };
@@ -146,7 +146,7 @@ walk_fault-limit : (h : Held) (p : ℕ) (rest : List Text) → walk_fault (built
 unfolding walk_fault walked trace
 walk_fault-limit h p rest = refl
 
--- a plain word behind it is that value
+-- a plain word after it is that value
 walked-value : (h : Held) (p c : ℕ) (cs : List ℕ) → (c == 45) ≡ false → walked (built_leaf trace.top).rules [] (limit_at h p) (c ∷ cs)
     ≡ walk_at (record (settled (built_leaf trace.top).rules h) { pending = Some (codes "limit", (c ∷ cs) ∷ []) }) p
 unfolding walked trace
@@ -157,7 +157,7 @@ walk_fault-value : (h : Held) (p c : ℕ) (cs : List ℕ) (rest : List Text) →
 unfolding walk_fault walked trace
 walk_fault-value h p c cs rest apart = simp apart
 
--- three plain words behind `trace`, and --limit with a fourth, have no fault
+-- three plain words after `trace`, and --limit with a fourth, have no fault
 limit-faults : (c d e f : ℕ) (cs ds es fs : List ℕ) → (c == 45) ≡ false → (d == 45) ≡ false → (e == 45) ≡ false → (f == 45) ≡ false
     → level_fault (built_leaf trace.top) [] nothing_held ((c ∷ cs) ∷ (d ∷ ds) ∷ (e ∷ es) ∷ codes "--limit" ∷ (f ∷ fs) ∷ []) false [] ≡ []
 unfolding trace defaults_fault

@@ -8,7 +8,7 @@ use Rattle.clap.specs.Simple.{App, Shape, entered, label_of, names_of, rows_at}
 use Rattle.clap.specs.Kinds.{Kinds, or_else}
 use Rattle.clap.specs.Faults.{built_fault, check_fault, defaults_fault, level_fault, positional_fault, settle_fault, stray_fault, walk_fault}
 
--- the walk stands behind no option, at a positional
+-- the walk stands after no option, at a positional
 abbrev pub walk_at : Held → ℕ → Walk
 walk_at h p = record { held = h; waiting = idle; position = p; is_trailing = false; stopped = None }
 
@@ -17,7 +17,7 @@ pub walked-plain : (rules : List Rule) (h : Held) (p c : ℕ) (cs : List ℕ) �
 unfolding walked
 walked-plain rules h p c cs apart = simp apart
 
--- words behind a command are its own
+-- words after a command are its own
 walked-stopped : (rules : List Rule) (names : Names) (h : Held) (p : ℕ) (name : Text) (before rest : List Text)
     → fold (walked rules names) (record { held = h; waiting = idle; position = p; is_trailing = false; stopped = Some (name, before) }) rest
     ≡ record { held = h; waiting = idle; position = p; is_trailing = false; stopped = Some (name, before ++ rest) }
@@ -42,7 +42,7 @@ pub walk-command : (rules : List Rule) (names : Names) (command : Text) (rest : 
 walk-command rules names command rest met =
     ap (λ (w : Walk). fold (walked rules names) w rest) (walked-command rules names command met) ∙ walked-stopped rules names nothing_held 1 command [] rest
 
--- and is no fault, nor are the words behind it one of the program
+-- and is no fault, nor are the words after it one of the program
 walk_fault-command : (s : Shape) (names : Names) (command : Text) (rest : List Text) → subcommand_met names idle command ≡ Some command → bytes_eq command (codes "help") ≡ false
     → walk_fault s names (walk_from nothing_held) (command ∷ rest) ≡ []
 unfolding walk_fault walked
@@ -53,7 +53,7 @@ or_else-none : (k : Kinds) → or_else k [] ≡ k
 or_else-none [] = refl
 or_else-none (x ∷ xs) = refl
 
--- where only a command's name stands before them, the faults are those of the words behind it
+-- where only a command's name stands before them, the faults are those of the words after it
 pub fault-command : (a : App) (command : Text) (rest : List Text) (s : Shape) → subcommand_met (names_of a) idle command ≡ Some command → bytes_eq command (codes "help") ≡ false
     → find (λ t. answers_to command (label_of t)) a.subs ≡ Some s
     → or_else (settle_fault a.top.rules a.top.args_override_self nothing_held)
@@ -62,13 +62,13 @@ pub fault-command : (a : App) (command : Text) (rest : List Text) (s : Shape) �
 fault-command a command rest s met apart found quiet =
     rw (walk-command a.top.rules (names_of a) command rest met, found, walk_fault-command a.top (names_of a) command rest met apart, quiet) (or_else-none _)
 
--- the command that is met is the one of that name, with the words behind it
+-- the command that is met is the one of that name, with the words after it
 pub met-command : (a : App) (command : Text) (rest : List Text) (s : Shape) → subcommand_met (names_of a) idle command ≡ Some command
     → find (λ t. answers_to command (label_of t)) a.subs ≡ Some s → entered a (stop_after a.top.rules (names_of a) (command ∷ rest)) ≡ Some (s.name, rows_after s.rules [] rest)
 met-command a command rest s met found =
     ap (λ (w : Walk). entered a w.stopped) (walk-command a.top.rules (names_of a) command rest met) ∙ ap (option_map (λ t. rows_at t rest)) found
 
--- ---- plain words behind a command
+-- ---- plain words after a command
 
 -- a plain word is at fault where no positional is left, or what was pending is
 pub walk_fault-plain : (s : Shape) (h : Held) (p c : ℕ) (cs : List ℕ) (rest : List Text) → (c == 45) ≡ false

@@ -71,7 +71,7 @@ fn write_hex<R: Files + AllocGlobal>(rt: &R, path: &str, text: &str) -> Result<(
     Ok(())
 }
 
-// The magic, and then so many zero bytes.
+// The magic, and then that many zero bytes.
 fn stream(alloc: Global, zeros: usize) -> Result<Vec<u8>, Fail> {
     let mut bytes = b"XPF1".to_vec(alloc)?;
     for _ in 0..zeros {
@@ -300,7 +300,7 @@ fn images(rt: HostRuntime) -> Result<(), Fail> {
     remove_files(&rt)
 }
 
-// What the stream of two empty records reports where it is cut after so many bytes.
+// What the stream of two empty records reports where it is cut after that many bytes.
 fn report_cut_at(count: usize) -> (u8, &'static str) {
     match count {
         0..=3 => (3, "fault F1 at 0\n"),

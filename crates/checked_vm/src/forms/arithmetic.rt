@@ -1,4 +1,4 @@
-//! The forms that set a register from registers and constants alone.
+//! The forms that set a register from registers and constants only.
 
 ghost use Rattle.std.specs.Prelude.{◌≡◌, ◌+◌, ◌<◌, ◌^◌, ℕ, List, [], slice_set};
 ghost use Rattle.isa_model.specs.Code.Registers.{reg_number};
@@ -11,7 +11,7 @@ use isa_model::numbers::unsigned;
 use isa_model::{AluOp, ByteOrder, Extension, Insn, Operand, Reg, Span, TrapReason, Value, Width};
 
 impl Core {
-    /// Sets a register and goes on, so many slots.
+    /// Sets a register and goes on, that many slots.
     pub fn set_and_go_on(&mut self, d: Reg, value: Value, slots: usize)
         requires { self.old.slot + slots < 2 ^ 64 }
         ensures { self.new ≡ record self.old { slot = self.old.slot + slots; regs = slice_set self.old.regs (reg_number d) value } }

@@ -129,7 +129,7 @@ alu_below Arsh w x y = arithmetic_shift_below w (low w x) (low w y) (low_below w
 pub alu_fits : (op : AluOp) (w : Width) (x y : ℕ) → alu op w x y < 2 ^ 64
 alu_fits op w x y = let b = alu_below op w x y in let f = width_fits w in omega arith
 
--- the low bytes in an order are a number of so many bits
+-- the low bytes in an order are a number of that many bits
 pub reordered_below : (order : ByteOrder) (span : Span) (x : ℕ) → reordered order span x < 2 ^ span_bits span
 unfolding reordered
 reordered_below Little span x = mod_below x (2 ^ span_bits span) (pow_pos (span_bits span))

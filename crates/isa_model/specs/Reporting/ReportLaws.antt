@@ -89,7 +89,7 @@ AreOpen-IsFrame p (f ∷ frames) h = All-cons IsFrame f frames h.0.1 (AreOpen-Is
 
 -- ---- the pieces
 
--- the limit shows in the line of a run that it stopped alone
+-- the limit shows in the line of a run that it stopped only
 frame_pieces-turn_by : (m n number : ℕ) (f : Frame) (o : Outcome) → frame_pieces m number f (turn_by o) ≡ frame_pieces n number f (turn_by o)
 unfolding frame_pieces frame_line
 frame_pieces-turn_by m n number f o = refl

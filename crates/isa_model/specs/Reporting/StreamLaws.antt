@@ -23,7 +23,7 @@ frame_of-frame_bytes f rest ok =
     let body : take (length_field (frame_bytes f ++ rest)) (f.body ++ rest) ≡ f.body = rw (length_field-frame_bytes f rest ok.short) (take_at f.body rest (length f.body) refl) in
     rw (time, interface, queue, body) refl
 
--- what stands behind a record
+-- what stands after a record
 pub drop-frame_bytes : (f : Frame) (rest : List ℕ) → drop (20 + length f.body) (frame_bytes f ++ rest) ≡ rest
 unfolding head_bytes
 drop-frame_bytes f rest = sym (drop-drop (length f.body) 20 (frame_bytes f ++ rest)) ∙ drop_at f.body rest (length f.body) refl
@@ -65,13 +65,13 @@ pub frames_from-stops : (fuel : ℕ) (p : Position) (bytes : List ℕ) (e : Endi
 unfolding frames_from
 frames_from-stops fuel p bytes e stop h = rw (h, frames_from) refl
 
--- the records behind the one at the front
+-- the records after the one at the front
 abbrev pub frames_behind : ℕ → Position → List ℕ → Ending → List Frame × Finish
 frames_behind fuel p bytes e =
     let f = frame_of (drop (length (opening p)) bytes) in
     frames_from fuel (after_frame p f) (drop (20 + length f.body) (drop (length (opening p)) bytes)) e
 
--- a stream that goes on has the record at its front, and then those behind it
+-- a stream that goes on has the record at its front, and then those after it
 pub frames_from-goes_on : (fuel : ℕ) (p : Position) (bytes : List ℕ) (e : Ending) → stop_from p bytes e ≡ None
     → frames_from (suc fuel) p bytes e ≡ (frame_of (drop (length (opening p)) bytes) ∷ (frames_behind fuel p bytes e).0, (frames_behind fuel p bytes e).1)
 unfolding frames_from
@@ -102,7 +102,7 @@ frames_from-fuel (suc fuel) (suc more) p (x ∷ xs) e a b =
     go None h same = frames_from-goes_on fuel p (x ∷ xs) e h ∙ ap (λ (t : List Frame × Finish). (frame_of (drop (length (opening p)) (x ∷ xs)) ∷ t.0, t.1)) same ∙ sym (frames_from-goes_on more p (x ∷ xs) e h)
     go (Some stop) h same = frames_from-stops fuel p (x ∷ xs) e stop h ∙ sym (frames_from-stops more p (x ∷ xs) e stop h)
 
--- A stream that begins with a record has that record, and then the records behind it.
+-- A stream that begins with a record has that record, and then the records after it.
 pub frames_from-frame_bytes : (fuel more : ℕ) (p : Position) (f : Frame) (rest : List ℕ) (e : Ending) → IsOpen p f
     → length (opening p ++ (frame_bytes f ++ rest)) < fuel → length rest < more
     → frames_from fuel p (opening p ++ (frame_bytes f ++ rest)) e ≡ (f ∷ (frames_from more (after_frame p f) rest e).0, (frames_from more (after_frame p f) rest e).1)
@@ -128,7 +128,7 @@ pub position_after-append : (p : Position) (fs gs : List Frame) → position_aft
 position_after-append p [] gs = refl
 position_after-append p (f ∷ fs) gs = position_after-append (after_frame p f) fs gs
 
--- the bytes of records in a row, and of those behind them
+-- the bytes of records in a row, and of those after them
 pub bytes_from-append : (p : Position) (fs gs : List Frame) → bytes_from p (fs ++ gs) ≡ bytes_from p fs ++ bytes_from (position_after p fs) gs
 bytes_from-append p [] gs = refl
 bytes_from-append p (f ∷ fs) gs =
@@ -156,7 +156,7 @@ number_of-position_after p (f ∷ fs) ok =
     let one = number_of-after_frame p f ok.0 in
     omega (arith, more, one)
 
--- A stream that begins with records in a row has these records, and then those behind them.
+-- A stream that begins with records in a row has these records, and then those after them.
 pub frames_from-bytes_from : (fs : List Frame) (fuel more : ℕ) (p : Position) (rest : List ℕ) (e : Ending) → AreOpen p fs → length (bytes_from p fs ++ rest) < fuel → length rest < more
     → frames_from fuel p (bytes_from p fs ++ rest) e ≡ (fs ++ (frames_from more (position_after p fs) rest e).0, (frames_from more (position_after p fs) rest e).1)
 frames_from-bytes_from [] fuel more p rest e ok a b = frames_from-fuel fuel more p rest e a b
@@ -179,7 +179,7 @@ stream_of-begins fs rest e ok =
     let t = frames_from (suc (length rest)) (position_after Fresh fs) rest e in
     (t.0, t.1, frames_from-bytes_from fs _ (suc (length rest)) Fresh rest e ok (omega arith) (omega arith))
 
--- The stream of an input that stops behind records in a row is these records and that stop.
+-- The stream of an input that stops after records in a row is these records and that stop.
 pub stream_of-stops : (fs : List Frame) (rest : List ℕ) (e : Ending) (stop : Finish) → AreOpen Fresh fs → stop_from (position_after Fresh fs) rest e ≡ Some stop
     → stream_of (record { bytes = bytes_from Fresh fs ++ rest; ending = e }) ≡ (fs, stop)
 stream_of-stops fs rest e stop ok h =

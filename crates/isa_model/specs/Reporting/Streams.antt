@@ -65,7 +65,7 @@ cut_by ByError f = F5
 abbrev pub length_field : List ℕ → ℕ
 length_field bytes = little_from 16 4 bytes
 
--- why no record begins with these bytes, after so many records and at this offset, if none does
+-- why no record begins with these bytes, after that many records and at this offset, if none does
 unfoldable pub stop_at : ℕ → ℕ → List ℕ → Ending → Option Finish
 stop_at number offset [] ByEnd = Some finish.End
 stop_at number offset [] ByError = Some (finish.Fault F5 offset)

@@ -59,7 +59,7 @@ compared_with w expected =
     (head_by 0) (bytes_of U64 0x700000009) 5 in
     (t.ends, t.packet)
 
--- with the number itself, and with one that is equal to it in the low half alone
+-- with the number itself, and with one that is equal to it in the low half only
 pub compare_exchanges : map (compared_with Full64) (0x700000009 ∷ 0x900000009 ∷ [])
     ≡ (Exit 0x700000009 5, bytes_of U64 0x500000003) ∷ (Exit 0x700000009 5, bytes_of U64 0x700000009) ∷ []
 unfolding turn progress start_state new_frame step act alu holds sign_extended reordered

@@ -33,7 +33,7 @@ pub jumps_count_from_the_next_slot : map past_one (insn.Jump (pos 2) ∷ insn.Ju
 unfolding turn progress start_state new_frame step act alu holds sign_extended reordered
 jumps_count_from_the_next_slot = refl
 
--- behind the last slot, past it, and before slot 0
+-- after the last slot, past it, and before slot 0
 pub jumps_out_of_the_code : map past_one (insn.Jump (pos 4) ∷ insn.Jump (pos 300) ∷ insn.Jump (negsuc 1) ∷ insn.JumpLong (negsuc 0x7fffffff) ∷ insn.CallLocal (pos 4) ∷ insn.CallLocal (negsuc 1) ∷ [])
     ≡ replicate 6 (Trap NoCode 1)
 unfolding turn progress start_state new_frame step act alu holds sign_extended reordered
@@ -58,7 +58,7 @@ pub limits : map (end_on (set R0 (pos 1) ∷ insn.Exit ∷ []) []) (2 ∷ 1 ∷ 
 unfolding turn progress start_state new_frame step act alu holds sign_extended reordered
 limits = refl
 
--- a trap at the step behind the limit is not met
+-- a trap at the step after the limit is not met
 pub trap_behind_the_limit : map (end_on (set R1 (pos 1) ∷ insn.Exit ∷ []) []) (2 ∷ 1 ∷ []) ≡ Trap NoResult 1 ∷ Limit ∷ []
 unfolding turn progress start_state new_frame step act alu holds sign_extended reordered
 trap_behind_the_limit = refl
@@ -80,7 +80,7 @@ pub destinations_that_are_not_read : map past_one (insn.Alu Full64 Mov R3 (Regis
 unfolding turn progress start_state new_frame step act alu holds sign_extended reordered
 destinations_that_are_not_read = refl
 
--- at the start r1 and r10 alone are set
+-- at the start r1 and r10 only are set
 pub registers_at_the_start : map (λ r. past_one (insn.Alu Full64 Mov R0 (Register r))) (R0 ∷ R1 ∷ R2 ∷ R3 ∷ R4 ∷ R5 ∷ R6 ∷ R7 ∷ R8 ∷ R9 ∷ R10 ∷ [])
     ≡ Trap UnsetRead 0 ∷ Exit 1 3 ∷ replicate 8 (Trap UnsetRead 0) ++ Exit 1 3 ∷ []
 unfolding turn progress start_state new_frame step act alu holds sign_extended reordered

@@ -1,4 +1,4 @@
--- Worked examples: what small programs do, computed from the definitions alone.
+-- Worked examples: what small programs do, computed from the definitions only.
 -- An end names its step, so `Exit a n` says that step n is the exit and that the n - 1 before it go on;
 -- `Trap e n` says that n steps go on and the next one traps.
 use Rattle.std.specs.Prelude.{◌≡◌, ℕ, zero, suc, false, ℤ, pos, negsuc, List, [], ◌∷◌, refl, replicate}
@@ -183,7 +183,7 @@ pub guarded_load_past_the_guard : end_on (guarded_load Greater 14) (zeros 14) 10
 unfolding turn progress start_state new_frame step act alu holds sign_extended reordered
 guarded_load_past_the_guard = refl
 
--- the 15th byte, behind a guard that wants more than 14
+-- the 15th byte, after a guard that wants more than 14
 pub strict_guard_turns_its_own_length_away : end_on (guarded_load GreaterEqual 14) (zeros 14) 7 ≡ Exit 1 7
 unfolding turn progress start_state new_frame step act alu holds sign_extended reordered
 strict_guard_turns_its_own_length_away = refl

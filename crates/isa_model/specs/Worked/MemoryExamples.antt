@@ -211,7 +211,7 @@ longer_than k =
     end_on (insn.Load U32 R2 (above R1 0) ∷ insn.Load U32 R3 (above R1 4) ∷ add R2 k ∷ if_register Greater R2 R3 (pos 2)
     ∷ set R0 (pos 2) ∷ insn.Exit ∷ set R0 (pos 1) ∷ insn.Exit ∷ []) (zeros 3) 6
 
--- the end lies behind the packet's three bytes
+-- the end lies after the packet's three bytes
 pub data_and_data_end : map longer_than (pos 3 ∷ pos 4 ∷ []) ≡ Exit 2 6 ∷ Exit 1 6 ∷ []
 unfolding turn progress start_state new_frame step act alu holds sign_extended reordered
 data_and_data_end = refl

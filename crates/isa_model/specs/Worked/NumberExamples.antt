@@ -217,7 +217,7 @@ pub halves_differ : map (both_hold word_end 1) unsigned_comparisons
 unfolding holds
 halves_differ = refl
 
--- 2^32 and 0 are equal at 32 bits, and 2^32 has a bit in common with itself at 64 alone
+-- 2^32 and 0 are equal at 32 bits, and 2^32 has a bit in common with itself at 64 only
 pub low_halves_are_equal : holds Equal Low32 word_end 0 ∷ holds NotEqual Low32 word_end 0 ∷ holds AnyBit Full64 word_end word_end ∷ holds AnyBit Low32 word_end word_end ∷ []
     ≡ true ∷ false ∷ true ∷ false ∷ []
 unfolding holds

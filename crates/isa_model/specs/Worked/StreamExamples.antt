@@ -82,7 +82,7 @@ pub bodies_cut_by_an_error : map (λ n. stop_at 7 24 (head_of 3 ++ zeros n) ByEr
 unfolding stop_at
 bodies_cut_by_an_error = refl
 
--- a record is read whole before an error behind it
+-- a record is read whole before an error after it
 pub error_behind_a_record : summary_of (magic ++ head_of 3 ++ zeros 3) ByError ≡ (1, finish.Fault F5 27)
 unfolding frames_from stop_from stop_at
 error_behind_a_record = refl

@@ -8,7 +8,7 @@ use std::alloc::Global;
 use std::process::Abort;
 use std::test::Fail;
 
-// The code of the text's image: the bytes behind the head and no map rows.
+// The code of the text's image: the bytes after the head and no map rows.
 fn code_of(alloc: Global, text: &str) -> Result<Vec<u8>, Fail> {
     let image = assemble(alloc, text.as_bytes())?;
     let mut bytes: Vec<u8> = Vec::new(alloc);

@@ -35,7 +35,7 @@ fn make_writer(alloc: Global, room: usize, stumble: Option<Stumble>) -> Writer {
     Writer::new(alloc, 5, room, stumble)
 }
 
-// Gives at most 3 bytes at a call, and an error behind the last.
+// Gives at most 3 bytes at a call, and an error after the last.
 fn broken(left: &[u8]) -> Reader<'_> {
     Reader {
         left,

@@ -26,7 +26,7 @@ fn end_of(alloc: Global, text: &str) -> Result<End, Fail> {
     Ok(checked.run(head, &mut [0; 14], &mut Stopped, 100))
 }
 
-/// Each text, with so many instructions before it, ends so.
+/// Each text, with that many instructions before it, ends so.
 fn ends_are(
     rt: &(impl Abort + AllocGlobal),
     first: &str,
@@ -104,7 +104,7 @@ fn a_spilled_pointer_comes_back_whole(rt: HostRuntime) -> Result<(), Fail> {
                 Exit(7, 7),
             ),
             ("r0 = *(u32 *)(r10 - 8)", Trap(BadAccess, 3)),
-            // pieces go into frames alone, and by eight bytes
+            // pieces go into frames only, and by eight bytes
             (
                 "r3 = *(u32 *)(r1 + 0); *(u64 *)(r3 + 0) = r2",
                 Trap(BadAccess, 4),

@@ -39,7 +39,7 @@ pub fn verdict(alloc: Global, code: &[u64]) -> Result<Result<u32, (Refusal, usiz
     }
 }
 
-/// Some slots, others so many times, and the rest.
+/// Some slots, others that many times, and the rest.
 pub fn repeated(
     alloc: Global,
     first: &[u64],

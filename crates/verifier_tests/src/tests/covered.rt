@@ -36,8 +36,8 @@ fn narrower_states_end_their_paths(rt: HostRuntime) -> Result<(), Fail> {
     Ok(())
 }
 
-/// Of two finished states that cover one, the number of that which was stored first counts: the narrower one, behind
-/// which there are fewer steps, or one behind which there are more. Before them one was stored that does not cover it,
+/// Of two finished states that cover one, the number of that which was stored first counts: the narrower one, after
+/// which there are fewer steps, or one after which there are more. Before them one was stored that does not cover it,
 /// of which the same bits are known as of the wider one.
 #[test]
 fn the_first_that_was_stored_counts(rt: HostRuntime) -> Result<(), Fail> {
@@ -96,7 +96,7 @@ fn narrowing(is_masked: bool, arm: u32) -> u64
 
 /// Eight times thirty ways to a join, on each of which r6 becomes something else: by the second time round all thirty
 /// states are stored, and each is found whatever else is. If the first or the last eight were not, they would be explored
-/// anew behind each join, eight times as often each time.
+/// anew after each join, eight times as often each time.
 #[test]
 fn every_stored_state_is_found(rt: HostRuntime) -> Result<(), Fail> {
     let alloc = rt.alloc();

@@ -72,7 +72,7 @@ fn refuses_targets(rt: HostRuntime) -> Result<(), Fail> {
         refusal(alloc, &[call(5, 0), EXIT])?,
         Some((TargetOutside, 0))
     );
-    // the slot behind the last one, and the one before slot 0
+    // the slot after the last one, and the one before slot 0
     assert_eq!(rt;
         refusal(alloc, &[TWO, goto(0, 0)])?,
         Some((TargetOutside, 1))
@@ -98,7 +98,7 @@ fn refuses_functions(rt: HostRuntime) -> Result<(), Fail> {
     assert_eq!(rt; refusal(alloc, &entering)?, Some((OtherFunction, 1)));
     assert_eq!(rt; refusal(alloc, &[TWO])?, Some((FallsOff, 0)));
     assert_eq!(rt; refusal(alloc, &[WIDE, HALF])?, Some((FallsOff, 0)));
-    // a call at a function's end: another function begins behind it, or the code ends
+    // a call at a function's end: another function begins after it, or the code ends
     assert_eq!(rt; refusal(alloc, &[call(0, 0), EXIT])?, Some((FallsOff, 0)));
     let last = [call(1, 0), EXIT, call(0xff, 0xff)];
     assert_eq!(rt; refusal(alloc, &last)?, Some((FallsOff, 2)));

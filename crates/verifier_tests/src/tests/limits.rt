@@ -45,7 +45,7 @@ fn sums_and_products(rt: HostRuntime) -> Result<(), Fail> {
             1530
         )
     );
-    // A difference below 0 keeps its signed limits alone.
+    // A difference below 0 keeps its signed limits only.
     let less = Range::alu(AluOp::Sub, FULL, byte, Range::constant(10));
     assert!(rt; is_signed(less, -10, 245) && is(less, 0, u64::MAX));
     assert!(rt; is_signed(Range::negate(FULL, byte), -255, 0));

@@ -105,7 +105,7 @@ fn bound(alloc: Global, text: &str) -> Result<u32, Fail> {
     }
 }
 
-/// The text, so many instructions behind it, and an exit.
+/// The text, that many instructions after it, and an exit.
 fn lengthened(alloc: Global, first: &str, times: u32) -> Result<String, Fail> {
     let mut text = first.to_string(alloc)?;
     for _ in 0..times {

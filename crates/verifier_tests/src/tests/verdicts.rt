@@ -123,7 +123,7 @@ fn memory_is_no_other_refusal(rt: HostRuntime) -> Result<(), Fail> {
     Ok(())
 }
 
-/// Both sides of a test are stored at the join behind it, and each later one finds them.
+/// Both sides of a test are stored at the join after it, and each later one finds them.
 #[test]
 fn branches_meet(rt: HostRuntime) -> Result<(), Fail> {
     let alloc = rt.alloc();

@@ -147,7 +147,7 @@ fn traces_jumps_and_loops(rt: HostRuntime) -> Result<(), Fail> {
     traces(&rt, &examples)
 }
 
-/// Packet reads and writes behind a test of the length, and the limit of a pointer's offset.
+/// Packet reads and writes after a test of the length, and the limit of a pointer's offset.
 #[test]
 fn traces_packets(rt: HostRuntime) -> Result<(), Fail> {
     let examples: [Example; 6] = [

@@ -4,7 +4,7 @@ use Rattle.reg_state.specs.declared.kinds.Kind.TheVariants.{Number}
 use Rattle.reg_state.specs.KindCover.{KindCovers, KindEncloses, IsNoNumber}
 use Rattle.reg_state.proofs.kinds.Kind.covers.Goals as goal
 
--- the two differ in numbers alone
+-- the two differ in numbers only
 covers_other : (packet null : ℕ → ℕ) (a b : Kind) → IsNoNumber a → KindEncloses packet null a b → KindCovers packet null a b
 covers_other packet null (Number numbers) b other e = absurd other
 covers_other packet null a b other e = e
