@@ -101,7 +101,8 @@ fn image_of(alloc: Global, text: &[u8]) -> Result<Image, Refusal>
 ///
 /// Jump targets are not tested, those of names aside.
 pub fn assemble(alloc: Global, text: &[u8]) -> Result<Image, AsmError>
-    // The image is the program that the text spells, and the error says why it spells none, or memory runs out.
+    // The image is the program that the text spells, and the error says why it spells none, or
+    // memory runs out.
     ensures exact { MatchResult result (λ image. assembled text.now ≡ Ok image) (λ e. (e.kind ≡ AsmErrorKind.Memory) ⊎ (assembled text.now ≡ Err e)) }
 
     // The canonical text of an image gives that image, or memory runs out.

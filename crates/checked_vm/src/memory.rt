@@ -4,7 +4,10 @@ ghost use Rattle.std.specs.Prelude.{◌≡◌, ◌+◌, ◌<◌, ◌≤◌, ℕ,
 ghost use Rattle.isa_model.specs.Code.Numbers.{number_from};
 ghost use Rattle.isa_model.specs.Code.Sizes.{narrow_size, narrow_extension};
 ghost use Rattle.isa_model.specs.Machine.States.{frame_at};
-ghost use Rattle.isa_model.specs.Machine.Memory.{frame_index, place_of, read, number_at, context_field, context_load, memory_load, load, load_number, load_signed, write, store_number, store_pointer, store};
+ghost use Rattle.isa_model.specs.Machine.Memory.{frame_index, place_of, read, number_at};
+ghost use Rattle.isa_model.specs.Machine.Memory.{context_field, context_load, memory_load, load};
+ghost use Rattle.isa_model.specs.Machine.Memory.{load_number, load_signed, write, store_number};
+ghost use Rattle.isa_model.specs.Machine.Memory.{store_pointer, store};
 ghost use Rattle.checked_vm.specs.declared.core_state.Core.{Core};
 ghost use Rattle.checked_vm.specs.Machine.{state_of, KeepsFrames};
 

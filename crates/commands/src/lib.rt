@@ -13,16 +13,15 @@ use std::io::Write;
 use std::rt::Files;
 use words::read_words;
 
-/// Does what the words ask for, and answers the program's status: 0 done, 1 words of no command, 2 refused, 3 the
-/// report ended in a fault, 4 a file or output failed, 5 out of memory.
+/// Does what the arguments ask for, and answers the program's status: 0 done, 1 invalid arguments,
+/// 2 refused, 3 the report ended in a fault, 4 a file or an output failed, 5 out of memory.
 ///
-/// It does what the words ask for (`asked`): which command, on which files, with which limit. What standard output gets
-/// then is what that command writes (`Executes`): the report of some frames by the program of some image, the verdict on
-/// it, its text, or its size. What the files hold no contract says.
+/// `asked` says which command the arguments ask for, on which files and with which limit, and
+/// `Executes` what that command writes to standard output: the report of some frames by the program
+/// of some image, the verdict on it, its text, or its size. No contract can say what a file holds.
 ///
-/// The first word is the program's name. `out` stands for standard output and `err` for standard error; files are
-/// opened by their paths. Where the words ask for nothing and where memory runs out, standard output gets no byte;
-/// where all is done, where something is refused and where the report ends in a fault, standard error gets none.
+/// The first word is the program's name. `out` stands for standard output and `err` for standard
+/// error. At status 1 and 5 standard output gets no byte; at 0, 2 and 3 standard error gets none.
 #[tactic(auto, using(crate::proofs::Endings::silent_words, crate::proofs::Endings::silent_memory, crate::proofs::Endings::status_fits, crate::proofs::Endings::unsaid_done, crate::proofs::Endings::unsaid_refused, crate::proofs::Endings::unsaid_faulted))]
 pub fn execute<R: Files + AllocGlobal, W1: Write, W2: Write>(
     rt: &R,
@@ -30,7 +29,8 @@ pub fn execute<R: Files + AllocGlobal, W1: Write, W2: Write>(
     out: &mut W1,
     err: &mut W2,
 ) -> u8
-    ensures executes { (o : Outcome) × (result ≡ status_of o) × Executes (map string_bytes words.now) (W1.contents out.old) (W1.contents out.new) o
+    ensures executes { (o : Outcome) × (result ≡ status_of o)
+        × Executes (map string_bytes words.now) (W1.contents out.old) (W1.contents out.new) o
         × AppendsPart (W2.contents err.old) (W2.contents err.new) (message_of o) }
     ensures statuses { result ≤ 5 }
     ensures wrong_words { result ≡ 1 → W1.contents out.new ≡ W1.contents out.old }

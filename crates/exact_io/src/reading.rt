@@ -16,8 +16,8 @@ pub enum Filled {
 
 /// Fills the buffer from its front.
 ///
-/// The reader's first error, of any kind, is the failure, and nothing is tried again. After the bytes that
-/// were counted the buffer may hold any bytes.
+/// The reader's first error, of any kind, is the failure, and nothing is tried again. After the
+/// bytes that were counted the buffer may hold any bytes.
 pub fn fill<R: Read>(source: &mut R, buffer: &mut [u8]) -> Filled
     ensures { Fills (R.remaining source.old) (R.remaining source.new) result buffer.new }
 {

@@ -196,7 +196,8 @@ impl Index {
         }
     }
 
-    /// Makes the entry the one after the last of its list when it was stored, and answers the one that was.
+    /// Makes the entry the one after the last of its list when it was stored, and answers the one
+    /// that was.
     fn put_behind(&mut self, link: Link, index: usize) -> Option<usize> {
         let ends = self.finished.get_mut(link.list)?;
         if ends.last == link.before {

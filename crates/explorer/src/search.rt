@@ -227,7 +227,8 @@ impl Search {
         self.descend(alloc, flow, stored, pending)
     }
 
-    /// Puts a visit after the path, whose state is stored there and leads to the current state and to what is pending.
+    /// Puts a visit after the path, whose state is stored there and leads to the current state and
+    /// to what is pending.
     fn descend(
         &mut self,
         alloc: Global,

@@ -115,7 +115,8 @@ fn names_of_identities_do_not_count(rt: HostRuntime) {
     assert_ne!(rt; fingerprint_of(&state_at(1, value(1, 1))), one);
 }
 
-/// A state whose number is another one in one register only, in its low or its high half, is not looked at.
+/// A state whose number is another one in one register only, in its low or its high half, is not
+/// looked at.
 #[test]
 fn each_register_counts(rt: HostRuntime) -> Result<(), Fail> {
     for register in 0..10usize {
@@ -137,8 +138,8 @@ fn each_register_counts(rt: HostRuntime) -> Result<(), Fail> {
     Ok(())
 }
 
-/// An equal state is found after a newer one that differs in its signed limits only, which have no part in
-/// fingerprints.
+/// An equal state is found after a newer one that differs in its signed limits only, which have no
+/// part in fingerprints.
 #[test]
 fn each_unfinished_state_is_compared(rt: HostRuntime) -> Result<(), Fail> {
     let alloc = rt.alloc();

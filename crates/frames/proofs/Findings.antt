@@ -13,7 +13,7 @@ use Rattle.isa_model.specs.declared.streams.Finish.TheVariants as finish
 use Rattle.isa_model.specs.Reporting.Streams.{magic, max_body, max_frames, cut_by, length_field, Ending, ByEnd, ByError, head_bytes, stop_at, stop_from, Position, Fresh, At, Done}
 use Rattle.frames.specs.Reading.{Reads, Stops, CanStop, HasRoom, Finding, Found, Stopped}
 use Rattle.frames.specs.Stages.{ReadsMagic}
-use Rattle.frames.proofs.Stopping.{stop_at-cut, stop_at-heard, stop_at-nothing_heard, stop_at-many, stop_at-long, stop_at-body, length_field-append, stop_from-short, stop_from-other, stop_from-magic}
+use Rattle.frames.proofs.Stopping.{stop_at-cut, stop_at-read, stop_at-nothing_read, stop_at-many, stop_at-long, stop_at-body, length_field-append, stop_from-short, stop_from-other, stop_from-magic}
 
 -- ---- the magic
 
@@ -83,11 +83,11 @@ pub record_failed : (number offset : ℕ) (old new : Option (List ℕ)) (n : ℕ
 unfolding stop_from
 record_failed number offset old new n buffer none size less p =
     let long = length-take-le n buffer (omega arith) in
-    let heard : stop_at number offset (take n buffer) ByError ≡ Some (finish.Fault F5 offset) = elim (cases_eq number max_frames) [
-      | inl last ↦ rw (none last) (stop_at-nothing_heard number offset)
-      | inr early ↦ stop_at-heard number offset (take n buffer) early (omega arith)
+    let read : stop_at number offset (take n buffer) ByError ≡ Some (finish.Fault F5 offset) = elim (cases_eq number max_frames) [
+      | inl last ↦ rw (none last) (stop_at-nothing_read number offset)
+      | inr early ↦ stop_at-read number offset (take n buffer) early (omega arith)
     ] in
-    stopped_more (At number offset) old new (take n buffer) (finish.Fault F5 offset) p (λ bytes rest e. (take n buffer, e, heard))
+    stopped_more (At number offset) old new (take n buffer) (finish.Fault F5 offset) p (λ bytes rest e. (take n buffer, e, read))
 
 pub record_long : (number offset : ℕ) (old new : Option (List ℕ)) (head : List ℕ) → number ≢ max_frames → length head ≡ 20 → max_body < length_field head
     → Consumes old new head → Reads (At number offset) old new (Stopped (finish.Fault F3 offset))
@@ -117,8 +117,8 @@ pub body_failed : (number offset : ℕ) (old mid new : Option (List ℕ)) (head 
     → Reads (At number offset) old new (Stopped (finish.Fault F5 offset))
 unfolding stop_from
 body_failed number offset old mid new head n buffer early size short room less p q =
-    let heard = part_of_record number offset head (take n buffer) ByError early size short (omega (arith, length-take-le n buffer (omega arith))) in
-    stopped_more (At number offset) old new (head ++ take n buffer) (finish.Fault F5 offset) (Consumes-trans _ _ _ _ _ p q) (λ bytes rest e. (head ++ take n buffer, e, heard))
+    let read = part_of_record number offset head (take n buffer) ByError early size short (omega (arith, length-take-le n buffer (omega arith))) in
+    stopped_more (At number offset) old new (head ++ take n buffer) (finish.Fault F5 offset) (Consumes-trans _ _ _ _ _ p q) (λ bytes rest e. (head ++ take n buffer, e, read))
 
 pub record_whole : (number offset : ℕ) (old mid new : Option (List ℕ)) (bytes body after : List ℕ) (head : FrameHead) (n : ℕ) → head_bytes head n ≡ bytes
     → length body ≡ n → Consumes old mid bytes → Consumes mid new body
@@ -144,7 +144,7 @@ can_end number offset = record { bytes = []; ending = ByEnd; stops = refl }
 
 pub can_fail : (number offset : ℕ) → CanStop (At number offset) (finish.Fault F5 offset)
 unfolding stop_from
-can_fail number offset = record { bytes = []; ending = ByError; stops = stop_at-nothing_heard number offset }
+can_fail number offset = record { bytes = []; ending = ByError; stops = stop_at-nothing_read number offset }
 
 pub can_be_many : (number offset : ℕ) → number ≡ max_frames → CanStop (At number offset) (finish.Fault F6 offset)
 unfolding stop_from
@@ -190,8 +190,8 @@ fresh_stops bytes rest new (finish.Fault F2 o) e h = rw e (stop_from-magic rest 
 fresh_stops bytes rest new (finish.Fault F3 o) e h = rw e (stop_from-magic rest ByEnd ∙ h)
 fresh_stops bytes rest new (finish.Fault F4 o) e h = rw e (stop_from-magic rest ByEnd ∙ h)
 fresh_stops bytes rest new (finish.Fault F5 o) e h =
-    let (heard, lost, why) = h in
-    (magic ++ heard, Consumes-trans (Some bytes) (Some rest) new magic heard e lost, stop_from-magic heard ByError ∙ why)
+    let (read, lost, why) = h in
+    (magic ++ read, Consumes-trans (Some bytes) (Some rest) new magic read e lost, stop_from-magic read ByError ∙ why)
 fresh_stops bytes rest new (finish.Fault F6 o) e h = rw e (stop_from-magic rest ByEnd ∙ h)
 
 -- the magic, and then what was found after it

@@ -15,16 +15,16 @@ stop_at-cut number offset [] e n p q = absurd (omega arith)
 stop_at-cut number offset (b ∷ bytes) e n p q = grind (arith, nat_tests)
 
 -- a part of a head, or none of it, and then an error
-pub stop_at-heard : (number offset : ℕ) (bytes : List ℕ) → number ≢ max_frames → length bytes < 20
+pub stop_at-read : (number offset : ℕ) (bytes : List ℕ) → number ≢ max_frames → length bytes < 20
     → stop_at number offset bytes ByError ≡ Some (finish.Fault F5 offset)
 unfolding stop_at
-stop_at-heard number offset [] n q = refl
-stop_at-heard number offset (b ∷ bytes) n q = grind (arith, nat_tests)
+stop_at-read number offset [] n q = refl
+stop_at-read number offset (b ∷ bytes) n q = grind (arith, nat_tests)
 
 -- an error in a record's place
-pub stop_at-nothing_heard : (number offset : ℕ) → stop_at number offset [] ByError ≡ Some (finish.Fault F5 offset)
+pub stop_at-nothing_read : (number offset : ℕ) → stop_at number offset [] ByError ≡ Some (finish.Fault F5 offset)
 unfolding stop_at
-stop_at-nothing_heard number offset = refl
+stop_at-nothing_read number offset = refl
 
 -- a byte after the last record
 pub stop_at-many : (offset : ℕ) (bytes : List ℕ) (e : Ending) → 0 < length bytes

@@ -29,7 +29,7 @@ next_position position (Stopped stop) = Done stop
 -- for F5 did the source answer an error, after the bytes that it lost.
 abbrev pub Stops : Position → List ℕ → Option (List ℕ) → Finish → Type 0
 Stops position bytes new (finish.Fault F5 offset) =
-    (heard : List ℕ) × Consumes (Some bytes) new heard × (stop_from position heard ByError ≡ Some (finish.Fault F5 offset))
+    (read : List ℕ) × Consumes (Some bytes) new read × (stop_from position read ByError ≡ Some (finish.Fault F5 offset))
 Stops position bytes new stop = stop_from position bytes ByEnd ≡ Some stop
 
 -- What a call does where the source's bytes are known: the bytes of the record that it finds are gone, or the

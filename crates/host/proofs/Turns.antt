@@ -88,7 +88,7 @@ magic_failed known limit rows rule start r f g p = record {
   frames = [];
   finish = broken_off [];
   are_open = tt;
-  heard = HasFound-breaks [] known known Fresh (HasFound-fresh known);
+  read = HasFound-breaks [] known known Fresh (HasFound-fresh known);
   writes = frames_failed r f g magic _ p;
   tells = tt;
 }
@@ -111,7 +111,7 @@ turn_failed frames old known new p number limit rows rule start contents before 
       frames = all;
       finish = broken_off all;
       are_open = found.are_open;
-      heard = HasFound-breaks all old new (next_position p (Found f)) found;
+      read = HasFound-breaks all old new (next_position p (Found f)) found;
       writes = subst (λ (l : List Piece). WroteBefore before after l error) whole
           (WroteBefore-more before after (front ++ turn) last error (WroteBefore-append before now after front turn error s.wrote w));
       tells = tt;
@@ -142,7 +142,7 @@ run_ended frames old known new p number limit rows rule start contents before r 
       frames = frames;
       finish = stop;
       are_open = so.found.are_open;
-      heard = HasFound-stops frames old known new p stop so.found h can;
+      read = HasFound-stops frames old known new p stop so.found h can;
       writes = subst (λ (l : List Piece). Writes before (record { report = s; frames = g }) result (front ++ (l ++ last))) no_lines
           (last_written front before r s g number (length frames) stop result count so.wrote ok err kind);
       tells = subst (λ (n : ℕ). IfOk result (λ t. t ≡ tally_of n stop)) count tally;

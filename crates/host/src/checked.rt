@@ -56,7 +56,8 @@ pub fn run_checked<R: Read + Drop, W1: Write, W2: Write>(
     requires most { limit ≤ max_steps }
     ensures report_untouched { result ≡ Err HostError.Memory → W1.contents report.new ≡ W1.contents report.old }
     ensures out_untouched { result ≡ Err HostError.Memory → W2.contents out.new ≡ W2.contents out.old }
-    ensures reports { result ≢ Err HostError.Memory → Reports (R.remaining source) (checked_report image limit)
+    ensures reports { result ≢ Err HostError.Memory
+        → Reports (R.remaining source) (checked_report image limit)
         record { report = W1.contents report.old; frames = W2.contents out.old }
         record { report = W1.contents report.new; frames = W2.contents out.new } result }
 {

@@ -104,8 +104,8 @@ fn digits_number(digits: &[u8], base: u8) -> u128
     n
 }
 
-// The number whose `n` digits stand after the skipped bytes, and its length; or the place of a byte that cannot stand
-// after a number.
+// The number whose `n` digits stand after the skipped bytes, and its length; or the place of a byte
+// that cannot stand after a number.
 fn number_after(base: u8, skip: usize, text: &[u8], n: usize) -> Result<(Lexeme, usize), usize>
     requires within { skip + n ≤ length text.now }
     requires base { base ≤ 16 }

@@ -2,7 +2,8 @@
 
 use isa_model::{AtomicOp, ByteOrder, Narrow, Reg, Size, Span, Width};
 
-/// What a word stands for in an instruction. As a name of a place a word is known by its letters only.
+/// What a word stands for in an instruction. As a name of a place a word is known by its letters
+/// only.
 #[derive(Clone, Copy)]
 pub enum Word {
     /// `r0` to `r10`, `w0` to `w10`.

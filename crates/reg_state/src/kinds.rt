@@ -22,8 +22,9 @@ pub enum Kind {
         frame: u8,
         offset: i32,
     },
-    /// A pointer into the packet: a fixed part, and a variable part within limits, which all pointers of the
-    /// identity share. Where `proved` is not 0, that many bytes after the variable part are in the packet.
+    /// A pointer into the packet: a fixed part, and a variable part within limits, which all
+    /// pointers of the identity share. Where `proved` is not 0, that many bytes after the variable
+    /// part are in the packet.
     Packet {
         fixed: i32,
         identity: u32,

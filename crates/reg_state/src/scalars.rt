@@ -1,6 +1,7 @@
 //! Known bits and limits at once.
 
-ghost use Rattle.std.specs.Prelude.{◌≡◌, ℕ, ◌+◌, ◌%◌, ◌^◌, ◌<◌, ◌≤◌, pos, ◌-ℤ◌, FitsSigned, ◌↔◌, IsSomeAnd, IfSome, IsTrue};
+ghost use Rattle.std.specs.Prelude.{◌≡◌, ℕ, ◌+◌, ◌%◌, ◌^◌, ◌<◌, ◌≤◌, pos, ◌-ℤ◌, FitsSigned, ◌↔◌};
+ghost use Rattle.std.specs.Prelude.{IsSomeAnd, IfSome, IsTrue};
 ghost use Rattle.std.specs.Int.{w64, bit_at};
 ghost use Rattle.isa_model.specs.Code.Sizes.{width_bits};
 
@@ -200,7 +201,8 @@ impl Domain for Scalar {
         ensures fits { (x : ℕ) → Has result x → x < 2 ^ width_bits width }
         ensures signed { (x : ℕ) → Has a x → width ≡ Width.Full64
             → FitsSigned w64 (pos 0 -ℤ a.range.signed_least)
-            → IsSignedFromTo result (pos 0 -ℤ a.range.signed_greatest) (pos 0 -ℤ a.range.signed_least) }
+            → IsSignedFromTo result
+            (pos 0 -ℤ a.range.signed_greatest) (pos 0 -ℤ a.range.signed_least) }
         ensures sharp { IsSharp a a (λ x y. negated width x) result }
     {
         let both = Scalar {

@@ -4,7 +4,8 @@ ghost use Rattle.std.specs.Prelude.{◌≡◌, ◌⊎◌, OnOk, IfOk, IfErr};
 ghost use Rattle.image.specs.Images.{IsImage};
 ghost use Rattle.serving.specs.Statuses.{IsReadFailure, IsMakeFailure};
 ghost use Rattle.tasks.specs.Requests.{files_of};
-ghost use Rattle.serving.specs.Commands.{LoadsNone, TracesFile, RunsFile, VerifiesFile, DisassemblesFile, AssemblesFile};
+ghost use Rattle.serving.specs.Commands.{LoadsNone, TracesFile, RunsFile, VerifiesFile};
+ghost use Rattle.serving.specs.Commands.{DisassemblesFile, AssemblesFile};
 
 use super::outcomes::Outcome;
 use super::reading::{read_file, read_start};

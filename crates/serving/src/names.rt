@@ -2,7 +2,8 @@
 
 ghost use Rattle.std.specs.Prelude.{◌≡◌, IfOk};
 ghost use Rattle.std.specs.String.{string_bytes};
-ghost use Rattle.serving.specs.Lines.{code_name, flow_name, step_name, refusal_name, text_name, image_line, verdict_line, text_line};
+ghost use Rattle.serving.specs.Lines.{code_name, flow_name, step_name, refusal_name, text_name};
+ghost use Rattle.serving.specs.Lines.{image_line, verdict_line, text_line};
 
 use assembler::{AsmError, AsmErrorKind};
 use control_flow::FlowError;

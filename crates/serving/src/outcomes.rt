@@ -4,7 +4,8 @@ ghost use Rattle.std.specs.Prelude.{◌≡◌, ◌≢◌, ◌++◌, true, OnOk, 
 ghost use Rattle.std.specs.Io.KnownBytes.{Appends};
 ghost use Rattle.std.specs.IoError.{error_kind};
 ghost use Rattle.exact_io.specs.Transfers.{AppendsBeginning};
-ghost use Rattle.serving.specs.Statuses.{status_of, is_unsaid, message_of, IsWordsEnd, IsReadFailure, IsMakeFailure};
+ghost use Rattle.serving.specs.Statuses.{status_of, is_unsaid, message_of, IsWordsEnd};
+ghost use Rattle.serving.specs.Statuses.{IsReadFailure, IsMakeFailure};
 ghost use Rattle.serving.specs.Saying.{AppendsPart};
 ghost use Rattle.serving.specs.Judging.{IsStoreFailure};
 
@@ -33,7 +34,8 @@ pub enum Outcome<'a> {
     Faulted,
     /// The file at the path cannot be read.
     CannotRead(&'a str, ErrorKind),
-    /// The file or output of this name cannot be written. Where a run failed the cause is not known.
+    /// The file or output of this name cannot be written. Where a run failed the cause is not
+    /// known.
     CannotWrite(&'a str, Option<ErrorKind>),
     /// The file that was to be written is one of those that are read. It was left as it is.
     CannotReplace(&'a str),

@@ -7,7 +7,8 @@ use std::io::Read;
 use std::rt::Files;
 use std::{fs, io};
 
-/// All bytes of a source. Where they are not read to their end, also because memory ran out, it is an error.
+/// All bytes of a source. Where they are not read to their end, also because memory ran out, it is
+/// an error.
 fn read_all<S: Read + Drop>(alloc: Global, mut source: S) -> io::Result<Vec<u8>>
     ensures { IfOk result (λ bytes. IfSome (S.remaining source) (λ held. bytes.items ≡ held)) }
 {
@@ -18,7 +19,8 @@ fn read_all<S: Read + Drop>(alloc: Global, mut source: S) -> io::Result<Vec<u8>>
 
 /// The first bytes of a source, this many or all.
 fn read_front<S: Read + Drop>(alloc: Global, source: S, most: u64) -> io::Result<Vec<u8>>
-    ensures { IfOk result (λ bytes. IfSome (S.remaining source) (λ held. bytes.items ≡ take most held)) }
+    ensures { IfOk result (λ bytes. IfSome (S.remaining source)
+        (λ held. bytes.items ≡ take most held)) }
 {
     read_all(alloc, source.take(most))
 }

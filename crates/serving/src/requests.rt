@@ -18,7 +18,8 @@ pub fn serve<'a, R: Files, W: Write>(
     task: Task<'a>,
     out: &mut W,
 ) -> Outcome<'a>
-    ensures { Serves (Some (request_of task.entry)) (W.contents out.old) (W.contents out.new) result }
+    ensures { Serves (Some (request_of task.entry))
+        (W.contents out.old) (W.contents out.new) result }
 {
     match task {
         Task::Trace(paths, limit) => trace(rt, alloc, paths, limit, out),

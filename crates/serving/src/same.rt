@@ -16,7 +16,8 @@ struct FileNumbers {
 
 // Whether files with these numbers are one. A file system that does not number its files gives 0.
 fn is_one(one: FileNumbers, other: FileNumbers) -> bool
-    ensures { IsTrue result ↔ ((one.device ≡ other.device) × (one.inode ≡ other.inode) × (one.inode ≢ 0)) }
+    ensures { IsTrue result
+        ↔ ((one.device ≡ other.device) × (one.inode ≡ other.inode) × (one.inode ≢ 0)) }
 {
     one.device == other.device && one.inode == other.inode && one.inode != 0
 }

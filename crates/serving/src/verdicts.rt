@@ -10,7 +10,8 @@ ghost use Rattle.assembler.specs.Assembling as spells;
 ghost use Rattle.serving.specs.Statuses.{is_silent};
 ghost use Rattle.serving.specs.Lines.{bound_line, size_line};
 ghost use Rattle.serving.specs.Saying.{Says, LacksMemory};
-ghost use Rattle.serving.specs.Judging.{RefusesImage, RefusesProgram, Accepts, Verifies, RefusesText};
+ghost use Rattle.serving.specs.Judging.{RefusesImage, RefusesProgram, Accepts, Verifies};
+ghost use Rattle.serving.specs.Judging.{RefusesText};
 
 use super::names::{image_line, text_line, verdict_line};
 use super::outcomes::{Outcome, STANDARD_OUTPUT};

@@ -1,18 +1,22 @@
 //! What is known of the bytes of a call frame.
 
-ghost use Rattle.std.specs.Prelude.{◌≡◌, List, length, ◌+◌, ◌/◌, ◌%◌, ◌<◌, ◌≤◌, ◌↔◌, IsTrue, replicate, slice_set};
+ghost use Rattle.std.specs.Prelude.{◌≡◌, List, length, ◌+◌, ◌/◌, ◌%◌, ◌<◌, ◌≤◌, ◌↔◌, IsTrue};
+ghost use Rattle.std.specs.Prelude.{replicate, slice_set};
 ghost use Rattle.isa_model.specs.declared.values.Cell.{Cell};
 ghost use Rattle.isa_model.specs.Code.Sizes.{size_bytes};
 ghost use Rattle.reg_state.specs.Kinds.{Assigned};
 ghost use Rattle.stack_state.specs.Slots as slot_words;
-ghost use Rattle.stack_state.specs.Slots.{slot_at, IsMarked, AreMarked, after_store, IsLoad, IsSpill, IsFill};
-ghost use Rattle.stack_state.specs.StackMeaning.{StackMeans, Stores, Spills, Loads, Fills, AreBytes, Forgets};
+ghost use Rattle.stack_state.specs.Slots.{slot_at, IsMarked, AreMarked, after_store, IsLoad};
+ghost use Rattle.stack_state.specs.Slots.{IsSpill, IsFill};
+ghost use Rattle.stack_state.specs.StackMeaning.{StackMeans, Stores, Spills, Loads, Fills};
+ghost use Rattle.stack_state.specs.StackMeaning.{AreBytes, Forgets};
 
 use crate::slots::{Slot, filled, forgotten, marks, mask, numbers, spilled};
 use isa_model::Size;
 use reg_state::{Kind, Scalar};
 
-/// What is known of the 512 bytes of a call frame: slot 0 is the one at offset -512 from the frame's end.
+/// What is known of the 512 bytes of a call frame: slot 0 is the one at offset -512 from the
+/// frame's end.
 #[derive(Clone, Copy, PartialEq, Eq, Debug)]
 pub struct StackState {
     pub slots: [Slot; 64],
@@ -22,7 +26,8 @@ impl StackState {
     /// A frame of which nothing is known.
     pub fn new() -> StackState
         ensures exact { result.slots ≡ replicate 64 (Slot.Written 0) }
-        ensures meant { (e : Assigned) (cells : List Cell) → length cells ≡ 512 → StackMeans e result.slots cells }
+        ensures meant { (e : Assigned) (cells : List Cell) → length cells ≡ 512
+            → StackMeans e result.slots cells }
     {
         StackState {
             slots: [Slot::Written(0); 64],
@@ -41,7 +46,8 @@ impl StackState {
         self.slots[at / 8] = Slot::Written(written);
     }
 
-    /// The numbers that a load of the bytes may answer. None: not all of them are written number bytes.
+    /// The numbers that a load of the bytes may answer. None: not all of them are written number
+    /// bytes.
     pub fn load(&self, at: usize, size: Size) -> Option<Scalar>
         requires inside { at < 512 }
         requires in_slot { at % 8 + size_bytes size ≤ 8 }
@@ -59,13 +65,15 @@ impl StackState {
     pub fn spill(&mut self, slot: usize, kind: Kind)
         requires { slot < 64 }
         ensures exact { IsSpill kind (slot_at self.new.slots slot) }
-        ensures others { self.new.slots ≡ slice_set self.old.slots slot (slot_at self.new.slots slot) }
+        ensures others { self.new.slots
+            ≡ slice_set self.old.slots slot (slot_at self.new.slots slot) }
         ensures meant { Spills self.old.slots slot kind self.new.slots }
     {
         self.slots[slot] = spilled(kind);
     }
 
-    /// The kind of the value that a load of the whole slot answers. None: some byte may be unset, or a pointer not whole.
+    /// The kind of the value that a load of the whole slot answers. None: some byte may be unset,
+    /// or a pointer not whole.
     pub fn fill(&self, slot: usize) -> Option<Kind>
         requires { slot < 64 }
         ensures exact { IsFill (slot_at self.now.slots slot) result }

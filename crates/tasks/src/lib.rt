@@ -1,4 +1,5 @@
-//! What the program is to do, and why words ask for nothing. Nothing here speaks of the command line's form.
+//! What the program is to do, and why words ask for nothing. Nothing here speaks of the command
+//! line's form.
 #![tactic(auto)]
 
 ghost use Rattle.std.specs.Prelude.{◌≤◌};
@@ -48,8 +49,8 @@ pub struct Assembly<'a> {
 /// Why the words ask for nothing.
 #[derive(Drop)]
 pub enum WordsError {
-    /// They are words of no command, or no text, or they ask for help or the version. The text says what is wrong with
-    /// them, or is the help: some lines, or none.
+    /// The arguments are invalid, or not UTF-8, or they ask for help or the version. The text is
+    /// the message or the help, in whole lines, and may be empty.
     Wrong(String),
     Memory,
 }

@@ -54,7 +54,8 @@ pub fn step(image: &Image, state: &State) -> Result<Successors, Refusal>
     ensures accepts { (i : Insn) → fetch image.now state.now.slot ≡ Some i → register_refusal state.now i ≡ None
         → IsAccepted state.now i → IsOk result }
     ensures decides { (i : Insn) → fetch image.now state.now.slot ≡ Some i → Decides state.now i (register_refusal state.now i) result }
-    ensures refuses { (i : Insn) → fetch image.now state.now.slot ≡ Some i → IfErr result (Refuses state.now i) }
+    ensures refuses { (i : Insn) → fetch image.now state.now.slot ≡ Some i
+        → IfErr result (Refuses state.now i) }
 {
     let mut first = state.copy();
     let mut second = state.copy();
@@ -80,7 +81,8 @@ pub fn step_in_place(image: &Image, state: &mut State, other: &mut State) -> Res
     ensures accepts { (i : Insn) → fetch image.now state.old.slot ≡ Some i → register_refusal state.old i ≡ None
         → IsAccepted state.old i → IsOk result }
     ensures decides { (i : Insn) → fetch image.now state.old.slot ≡ Some i → Decides state.old i (register_refusal state.old i) result }
-    ensures refuses { (i : Insn) → fetch image.now state.old.slot ≡ Some i → IfErr result (Refuses state.old i) }
+    ensures refuses { (i : Insn) → fetch image.now state.old.slot ≡ Some i
+        → IfErr result (Refuses state.old i) }
 {
     let Some(insn) = image.at(state.slot) else {
         unreachable!()

@@ -2,7 +2,8 @@
 
 ghost use Rattle.std.specs.Prelude.{false, ◌≡◌, ◌≢◌, ◌+◌, ◌<◌, ◌^◌, IfOk, IfErr, IsOk, length};
 ghost use Rattle.std.specs.List.{list_any};
-ghost use Rattle.isa_model.specs.Code.Instructions.{Program, slots_of, operand_reads, reads, writes, is_frame_pointer};
+ghost use Rattle.isa_model.specs.Code.Instructions.{Program, slots_of, operand_reads, reads};
+ghost use Rattle.isa_model.specs.Code.Instructions.{writes, is_frame_pointer};
 ghost use Rattle.stack_state.specs.Meaning.{depth};
 ghost use Rattle.stack_state.specs.Places.{kind_of};
 ghost use Rattle.transfer.specs.Refusing.{is_unset, is_unset_in, reads_unset, SetRefused, Refused};

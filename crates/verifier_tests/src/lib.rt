@@ -1,7 +1,8 @@
-//! Tests of the numbers and of the verifier, from the operations of one instruction to whole programs.
+//! Tests of the numbers and of the verifier, from the operations of one instruction to whole
+//! programs.
 //!
-//! They stand here, since a crate with tests is proved twice. Each module tests what one crate below makes public, but
-//! for `precision`, which tests them all together.
+//! They stand here, since a crate with tests is proved twice. Each module tests what one crate
+//! below makes public, but for `precision`, which tests them all together.
 #![tactic(auto)]
 
 #[cfg(test)]

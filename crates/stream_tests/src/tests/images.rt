@@ -1,5 +1,5 @@
-//! Images worked out by hand, and their refusals. Where memory runs out a test fails of itself, by `?`; any other
-//! answer that is not wanted fails an assertion.
+//! Images worked out by hand, and their refusals. Where memory runs out a test fails of itself, by
+//! `?`; any other answer that is not wanted fails an assertion.
 
 use image::ImageError::{Code, Long, Magic, Memory, Short, SlotCount, TooManyMaps};
 use image::{Image, ImageError};

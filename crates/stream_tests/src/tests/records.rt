@@ -156,7 +156,8 @@ fn round_trip(rt: HostRuntime) -> Result<(), Fail> {
     Ok(())
 }
 
-// The bodies of 300 records have 0 to 5 bytes, 750 together, and after them stand 19 bytes of a head.
+// The bodies of 300 records have 0 to 5 bytes, 750 together, and after them stand 19 bytes of a
+// head.
 #[test]
 fn many_records(rt: HostRuntime) -> Result<(), Fail> {
     let mut bytes = Vec::new(rt.alloc());

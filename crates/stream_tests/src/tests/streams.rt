@@ -110,13 +110,15 @@ fn ends(rt: HostRuntime) -> Result<(), Fail> {
             true,
         ),
         (
-            "r0 = 0; r1 = 1; r2 = 2; r3 = 3; r4 = 4; r5 = 5; r6 = 6; r7 = 7; r8 = 8; r9 = 9; r0 *= r9; exit",
+            "r0 = 0; r1 = 1; r2 = 2; r3 = 3; r4 = 4; r5 = 5; r6 = 6; r7 = 7; r8 = 8; r9 = 9; \
+             r0 *= r9; exit",
             "0 ABORTED 0 12\nend 1\n",
             false,
         ),
         ("r0 = 2; r0 += 3; exit", "0 INVALID 0 3\nend 1\n", false),
         (
-            "r0 = 0; r1 = 0; r2 = 0; r3 = 0; r4 = 0; r5 = 0; r6 = 0; r7 = 0; r8 = 0; r9 = 0; r10 = 0",
+            "r0 = 0; r1 = 0; r2 = 0; r3 = 0; r4 = 0; r5 = 0; r6 = 0; r7 = 0; r8 = 0; r9 = 0; \
+             r10 = 0",
             "0 TRAP readonly 0 10\nend 1\n",
             false,
         ),

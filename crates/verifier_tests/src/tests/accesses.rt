@@ -1,4 +1,5 @@
-//! Worked examples of memory, pointers and atomic instructions: what the checked machine does with short texts.
+//! Worked examples of memory, pointers and atomic instructions: what the checked machine does with
+//! short texts.
 
 use super::clocks::Stopped;
 use assembler::assemble;
@@ -135,7 +136,8 @@ fn the_context_answers_its_four_fields(rt: HostRuntime) -> Result<(), Fail> {
                 Exit(9, 5),
             ),
             (
-                "r2 = *(u32 *)(r1 + 0); r3 = *(u32 *)(r1 + 4); r2 += 14; if r2 <= r3 goto +1; r0 = 0; exit",
+                "r2 = *(u32 *)(r1 + 0); r3 = *(u32 *)(r1 + 4); r2 += 14; \
+                 if r2 <= r3 goto +1; r0 = 0; exit",
                 Exit(1, 6),
             ),
             ("r0 = *(u32 *)(r1 + 8)", Trap(BadAccess, 1)),
@@ -161,7 +163,8 @@ fn atomic_instructions_change_numbers(rt: HostRuntime) -> Result<(), Fail> {
                 Exit(4, 6),
             ),
             (
-                "r5 = 0x100000004 ll; r5 = atomic_fetch_or_32(r2 + 0, r5); r0 = *(u64 *)(r2 + 0); r0 <<= 8; r0 |= r5; exit",
+                "r5 = 0x100000004 ll; r5 = atomic_fetch_or_32(r2 + 0, r5); \
+                 r0 = *(u64 *)(r2 + 0); r0 <<= 8; r0 |= r5; exit",
                 Exit(0x703, 9),
             ),
             (
@@ -175,18 +178,21 @@ fn atomic_instructions_change_numbers(rt: HostRuntime) -> Result<(), Fail> {
     // 32 bits of r0 take part, and the old number comes back zero-extended
     ends_are(
         &rt,
-        "*(u32 *)(r10 - 8) = 5; r0 = 0x100000005 ll; r1 = 9; r0 = cmpxchg_32(r10 - 8, r0, r1); r1 = 7",
+        "*(u32 *)(r10 - 8) = 5; r0 = 0x100000005 ll; r1 = 9; \
+         r0 = cmpxchg_32(r10 - 8, r0, r1); r1 = 7",
         &[
             (
                 "r1 = *(u32 *)(r10 - 8); r1 <<= 8; r0 |= r1; exit",
                 Exit(0x905, 9),
             ),
             (
-                "r0 = cmpxchg_32(r10 - 8, r0, r1); r1 = *(u32 *)(r10 - 8); r1 <<= 8; r0 |= r1; exit",
+                "r0 = cmpxchg_32(r10 - 8, r0, r1); r1 = *(u32 *)(r10 - 8); r1 <<= 8; \
+                 r0 |= r1; exit",
                 Exit(0x909, 10),
             ),
             (
-                "r0 = cmpxchg_32(r10 - 8, r0, r1); r0 = cmpxchg_32(r10 - 8, r0, r1); r1 = *(u32 *)(r10 - 8); r1 <<= 8; r0 |= r1; exit",
+                "r0 = cmpxchg_32(r10 - 8, r0, r1); r0 = cmpxchg_32(r10 - 8, r0, r1); \
+                 r1 = *(u32 *)(r10 - 8); r1 <<= 8; r0 |= r1; exit",
                 Exit(0x709, 11),
             ),
         ],
@@ -233,7 +239,8 @@ fn values_compute_by_their_kinds(rt: HostRuntime) -> Result<(), Fail> {
     )
 }
 
-/// Pointers to a map's values, which no image has yet, are compared in the worked examples of the definitions.
+/// Pointers to a map's values, which no image has yet, are compared in the worked examples of the
+/// definitions.
 #[test]
 fn pointers_compare_with_the_packet_end_and_with_null(rt: HostRuntime) -> Result<(), Fail> {
     ends_are(

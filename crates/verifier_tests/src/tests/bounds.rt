@@ -1,4 +1,5 @@
-//! Small programs, spelled by hand, with their bounds or refusals. A slot is written as its eight bytes in order.
+//! Small programs, spelled by hand, with their bounds or refusals. A slot is written as its eight
+//! bytes in order.
 
 use explorer::Refusal::{Repeats, TooLong};
 use explorer::{Refusal, verify};

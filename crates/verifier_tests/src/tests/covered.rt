@@ -36,9 +36,9 @@ fn narrower_states_end_their_paths(rt: HostRuntime) -> Result<(), Fail> {
     Ok(())
 }
 
-/// Of two finished states that cover one, the number of that which was stored first counts: the narrower one, after
-/// which there are fewer steps, or one after which there are more. Before them one was stored that does not cover it,
-/// of which the same bits are known as of the wider one.
+/// Of two finished states that cover one, the number of that which was stored first counts: the
+/// narrower one, after which there are fewer steps, or one after which there are more. Before them
+/// one was stored that does not cover it, of which the same bits are known as of the wider one.
 #[test]
 fn the_first_that_was_stored_counts(rt: HostRuntime) -> Result<(), Fail> {
     let alloc = rt.alloc();

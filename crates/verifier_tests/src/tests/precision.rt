@@ -1,4 +1,5 @@
-//! Programs whose verdicts rest on how narrow the verifier's numbers are, and on what it finds again of what it stored.
+//! Programs whose verdicts rest on how narrow the verifier's numbers are, and on what it finds
+//! again of what it stored.
 
 use assembler::assemble;
 use explorer::verify;
@@ -45,8 +46,8 @@ const NARROW: [(&str, &str, u32); 3] = [
     ),
 ];
 
-/// 1,024 states come to slot 22, each with another limit of r6 and with the same bits known, and then 300 more, which only
-/// the one with the greatest limit covers.
+/// 1,024 states come to slot 22, each with another limit of r6 and with the same bits known, and
+/// then 300 more, which only the one with the greatest limit covers.
 const BEYOND_512: &str = "r0 = 2
 r8 = 1025
 r6 = *(u32 *)(r1 + 12)

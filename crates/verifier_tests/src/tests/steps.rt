@@ -34,7 +34,8 @@ fn stepped(image: &Image, state: &State) -> Option<Result<Successors, Refusal>> 
     }
 }
 
-/// After at most that many steps, each time to the first successor: the state, or the slot and its refusal.
+/// After at most that many steps, each time to the first successor: the state, or the slot and its
+/// refusal.
 fn walked(image: &Image, steps: usize) -> Result<State, (usize, Option<Refusal>)> {
     let mut state = State::start();
     for _ in 0..steps {
