@@ -11,6 +11,7 @@ use lexer::{Sign, Token, Word};
 
 // A number below that limit, or with a minus up to it; `at` is the token at which it begins.
 fn signed_within(limit: u32, minus: bool, n: u128, at: usize) -> Result<i64, Wrong>
+    requires { 0 < limit }
     ensures value { result ≡ signed_within limit at minus n }
     ensures fits { IfOk result (λ k. (neg_ℤ (pos limit) ≤ℤ k) × (k <ℤ pos limit)) }
 {
@@ -58,7 +59,8 @@ pub fn wide_within(minus: bool, n: u128, at: usize) -> Result<u64, Wrong>
 
 // A sign and a number.
 fn signed_at(limit: u32, tokens: &[Token], i: usize) -> Result<i64, Wrong>
-    requires { i < 16 }
+    requires some { 0 < limit }
+    requires near { i < 16 }
     ensures value { result ≡ signed_at limit tokens.now i }
     ensures fits { IfOk result (λ k. (neg_ℤ (pos limit) ≤ℤ k) × (k <ℤ pos limit)) }
 {
@@ -226,10 +228,10 @@ fn target_token(
     i: usize,
     token: Token,
 ) -> Result<(i64, Option<usize>), Wrong>
-    requires { i < 8 }
+    requires some { 0 < limit }
+    requires near { i < 8 }
     ensures value { result ≡ target_token limit tokens.now i token }
-    ensures fits { 0 < limit
-        → IfOk result (λ t. (neg_ℤ (pos limit) ≤ℤ t.0) × (t.0 <ℤ pos limit)) }
+    ensures fits { IfOk result (λ t. (neg_ℤ (pos limit) ≤ℤ t.0) × (t.0 <ℤ pos limit)) }
 {
     match token {
         Token::Signed(_) => {
