@@ -344,7 +344,8 @@ fn cut_images(rt: HostRuntime) -> Result<(), Fail> {
     remove_files(&rt)
 }
 
-// Standard output fails after each byte: the report is what came before, and the frames out follow it.
+// Standard output fails after each byte: the report is what came before, and the frames out follow
+// it.
 #[test]
 fn standard_output_fails(rt: HostRuntime) -> Result<(), Fail> {
     write_files(&rt)?;

@@ -117,8 +117,8 @@ fn files_that_are_written_over(rt: HostRuntime) -> Result<(), Fail> {
     remove_files(&rt)
 }
 
-/// The largest image is read whole; of a longer file no more is read than shows that it is too long, and a device that
-/// never ends is refused by its first bytes.
+/// The largest image is read whole; of a longer file no more is read than shows that it is too
+/// long, and a device that never ends is refused by its first bytes.
 #[test]
 fn large_images(rt: HostRuntime) -> Result<(), Fail> {
     let mut text = "".to_string(rt.alloc())?;

@@ -68,7 +68,8 @@ const ROWS: [(
         [ANY, (5, 10)],
         Some([(5, u64::MAX), (5, 10)]),
     ),
-    // Of 7 to 100 below 5 to 10, what is below 10 is left of the one, and what is above 7 of the other.
+    // Of 7 to 100 below 5 to 10, what is below 10 is left of the one, and what is above 7 of the
+    // other.
     (
         Comparison::Less,
         FULL,
