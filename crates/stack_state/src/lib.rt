@@ -8,6 +8,3 @@ pub mod states;
 pub use slots::Slot;
 pub use stacks::StackState;
 pub use states::{AbstractFrame, State};
-
-#[cfg(test)]
-mod tests;

@@ -1,19 +1,9 @@
-//! A module for each crate or subject that is tested, and the clock of their runs.
+//! A module for each crate or subject that is tested.
 
-mod accesses;
-mod bits;
 mod bounds;
-mod branches;
-mod clocks;
 mod covered;
-mod covers;
 mod flows;
-mod kinds;
-mod limits;
-mod machines;
-mod numbers;
 mod precision;
-mod runs;
-mod scalars;
+mod programs;
 mod steps;
 mod verdicts;

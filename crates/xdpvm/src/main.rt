@@ -16,6 +16,3 @@ fn main(rt: HostRuntime) -> ExitCode {
         Err(error) => Outcome::of_words(&error).tell(&mut err),
     })
 }
-
-#[cfg(test)]
-mod tests;

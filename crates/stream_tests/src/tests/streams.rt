@@ -1,14 +1,12 @@
 //! Streams that small programs run on, into writers that stumble at each place.
 
-ghost use Rattle.std.specs.Prelude.{◌≤◌};
-
 use assembler::assemble;
 use explorer::verify;
 use host::{HostError, Tally, run, run_checked};
 use image::Image;
 use isa_model::Fault;
 use std::alloc::Global;
-use std::io::ErrorKind;
+use std::io::{ErrorKind, Read};
 use std::test::Fail;
 use stumbling_io::{Reader, STUMBLES, Stumble, Writer};
 
@@ -45,6 +43,8 @@ fn broken(left: &[u8]) -> Reader<'_> {
     }
 }
 
+const MAGIC: &[u8] = b"XPF1";
+
 // The magic and two empty records.
 const TWO: [u8; 44] = [
     88, 80, 70, 49, 0, 0, 0, 0, 0, 0, 0, 0, 0, 0, 0, 0, 0, 0, 0, 0, 0, 0, 0, 0, 0, 0, 0, 0, 0, 0,
@@ -56,6 +56,22 @@ const ONE: [u8; 24] = [
     88, 80, 70, 49, 0, 0, 0, 0, 0, 0, 0, 0, 0, 0, 0, 0, 0, 0, 0, 0, 0, 0, 0, 0,
 ];
 
+// What a checked run on some frames answers, and what it has written.
+fn checked<R: Read + Drop>(
+    alloc: Global,
+    text: &str,
+    limit: u32,
+    frames: R,
+    report: &mut Writer,
+    out: &mut Writer,
+) -> Result<Result<Tally, HostError>, Fail> {
+    if limit < 1 || limit > 1_000_000 {
+        return Err("no limit".into());
+    }
+    let image = program(alloc, text)?;
+    Ok(run_checked(alloc, image, limit, frames, report, out))
+}
+
 #[test]
 fn report_fails(rt: HostRuntime) -> Result<(), Fail> {
     let alloc = rt.alloc();
@@ -64,8 +80,7 @@ fn report_fails(rt: HostRuntime) -> Result<(), Fail> {
         for k in 0..17usize {
             let mut report = make_writer(alloc, k, Some(stumble));
             let mut out = make_writer(alloc, 0, None);
-            let passes = program(alloc, PASSES)?;
-            let result = run_checked(alloc, passes, 100, ONE.as_slice(), &mut report, &mut out);
+            let result = checked(alloc, PASSES, 100, ONE.as_slice(), &mut report, &mut out)?;
             assert_eq!(rt; result, Err(HostError::Report), "after {k} bytes");
             assert_eq!(rt; report.taken.as_slice(), &lines[..k]);
             let sent = if k < 11 { &ONE[..4] } else { &ONE };
@@ -83,8 +98,7 @@ fn frames_fail(rt: HostRuntime) -> Result<(), Fail> {
         for k in 0..24usize {
             let mut report = make_writer(alloc, 0, None);
             let mut out = make_writer(alloc, k, Some(stumble));
-            let passes = program(alloc, PASSES)?;
-            let result = run_checked(alloc, passes, 100, ONE.as_slice(), &mut report, &mut out);
+            let result = checked(alloc, PASSES, 100, ONE.as_slice(), &mut report, &mut out)?;
             assert_eq!(rt; result, Err(HostError::Frames), "after {k} bytes");
             assert_eq!(rt; out.taken.as_slice(), &ONE[..k]);
             let told = if k < 4 { &line[..0] } else { line };
@@ -94,76 +108,116 @@ fn frames_fail(rt: HostRuntime) -> Result<(), Fail> {
     Ok(())
 }
 
-#[test]
-fn ends(rt: HostRuntime) -> Result<(), Fail> {
-    let alloc = rt.alloc();
-    let cases = [
-        ("r1 = r0; exit", "0 TRAP unset 0 0\nend 1\n", false),
-        (
-            "r1 = 0; again: r1 += 1; if r1 < 499998 goto again; r0 = 7; r0 = 0x700000002 ll; exit",
-            "0 PASS 0 1000000\nend 1\n",
-            true,
-        ),
-        (
-            "r0 = 3; r0 = 3; r0 = 3; r0 = 3; r0 = 3; r0 = 3; r0 = 3; r0 = 3; exit",
-            "0 TX 0 9\nend 1\n",
-            true,
-        ),
-        (
-            "r0 = 0; r1 = 1; r2 = 2; r3 = 3; r4 = 4; r5 = 5; r6 = 6; r7 = 7; r8 = 8; r9 = 9; \
-             r0 *= r9; exit",
-            "0 ABORTED 0 12\nend 1\n",
-            false,
-        ),
-        ("r0 = 2; r0 += 3; exit", "0 INVALID 0 3\nend 1\n", false),
-        (
-            "r0 = 0; r1 = 0; r2 = 0; r3 = 0; r4 = 0; r5 = 0; r6 = 0; r7 = 0; r8 = 0; r9 = 0; \
-             r10 = 0",
-            "0 TRAP readonly 0 10\nend 1\n",
-            false,
-        ),
-        ("again: goto again", "0 LIMIT 0 1000000\nend 1\n", false),
-    ];
-    for (text, lines, is_sent) in cases {
-        let mut report = make_writer(alloc, 0, None);
-        let mut out = make_writer(alloc, 0, None);
-        let image = program(alloc, text)?;
-        let frames = ONE.as_slice();
-        let result = run_checked(alloc, image, 1_000_000, frames, &mut report, &mut out);
-        let tally = Tally {
-            frames: 1,
-            fault: None,
-        };
-        assert_eq!(rt; result, Ok(tally), "{lines}");
-        assert_eq!(rt; report.taken.as_slice(), lines.as_bytes());
-        let sent = if is_sent { &ONE } else { &ONE[..4] };
-        assert_eq!(rt; out.taken.as_slice(), sent);
-    }
-    Ok(())
-}
+// A frame of two bytes and one of three, each with a time, an interface and a queue.
+const RECORDS: &[u8] =
+    b"XPF1\x01\0\0\0\0\0\0\0\x02\0\0\0\x03\0\0\0\x02\0\0\0abcdefghijklmnopqr\x03\0\0\0uvw";
+
+// The first of them, with its bytes turned round.
+const TURNED: &[u8] = b"XPF1\x01\0\0\0\0\0\0\0\x02\0\0\0\x03\0\0\0\x02\0\0\0ba";
+
+// A program, the limit of its steps, the frames, how many they are, the report and the frames out.
+const RUNS: [(&str, u32, &[u8], u32, &[u8], &[u8]); 12] = [
+    (
+        "r1 = r0; exit",
+        1_000_000,
+        &ONE,
+        1,
+        b"0 TRAP unset 0 0\nend 1\n",
+        MAGIC,
+    ),
+    (
+        "r1 = 0; again: r1 += 1; if r1 < 499998 goto again; r0 = 7; r0 = 0x700000002 ll; exit",
+        1_000_000,
+        &ONE,
+        1,
+        b"0 PASS 0 1000000\nend 1\n",
+        &ONE,
+    ),
+    (
+        "r0 = 3; r0 = 3; r0 = 3; r0 = 3; r0 = 3; r0 = 3; r0 = 3; r0 = 3; exit",
+        1_000_000,
+        &ONE,
+        1,
+        b"0 TX 0 9\nend 1\n",
+        &ONE,
+    ),
+    (
+        "r0 = 0; r1 = 1; r2 = 2; r3 = 3; r4 = 4; r5 = 5; r6 = 6; r7 = 7; r8 = 8; r9 = 9; \
+         r0 *= r9; exit",
+        1_000_000,
+        &ONE,
+        1,
+        b"0 ABORTED 0 12\nend 1\n",
+        MAGIC,
+    ),
+    (
+        "r0 = 2; r0 += 3; exit",
+        1_000_000,
+        &ONE,
+        1,
+        b"0 INVALID 0 3\nend 1\n",
+        MAGIC,
+    ),
+    (
+        "r0 = 0; r1 = 0; r2 = 0; r3 = 0; r4 = 0; r5 = 0; r6 = 0; r7 = 0; r8 = 0; r9 = 0; \
+         r10 = 0",
+        1_000_000,
+        &ONE,
+        1,
+        b"0 TRAP readonly 0 10\nend 1\n",
+        MAGIC,
+    ),
+    (
+        "again: goto again",
+        1_000_000,
+        &ONE,
+        1,
+        b"0 LIMIT 0 1000000\nend 1\n",
+        MAGIC,
+    ),
+    (PASSES, 1_000_000, &ONE, 1, b"0 PASS 0 2\nend 1\n", &ONE),
+    (PASSES, 1, &ONE, 1, b"0 LIMIT 0 1\nend 1\n", MAGIC),
+    (
+        "r0 = r2; exit",
+        100,
+        &ONE,
+        1,
+        b"0 TRAP unset 0 0\nend 1\n",
+        MAGIC,
+    ),
+    (
+        "r0 = r10; exit",
+        100,
+        &ONE,
+        1,
+        b"0 TRAP exit 0 1\nend 1\n",
+        MAGIC,
+    ),
+    (
+        TURNS,
+        100,
+        RECORDS,
+        2,
+        b"0 PASS 2 11\n1 DROP 3 7\nend 2\n",
+        TURNED,
+    ),
+];
 
 #[test]
-fn bodies_are_changed(rt: HostRuntime) -> Result<(), Fail> {
+fn runs_end(rt: HostRuntime) -> Result<(), Fail> {
     let alloc = rt.alloc();
-    let record =
-        *b"XPF1\x01\0\0\0\0\0\0\0\x02\0\0\0\x03\0\0\0\x02\0\0\0abcdefghijklmnopqr\x03\0\0\0uvw";
-    let mut report = make_writer(alloc, 0, None);
-    let mut out = make_writer(alloc, 0, None);
-    let turns = program(alloc, TURNS)?;
-    let result = run_checked(alloc, turns, 100, &record[..], &mut report, &mut out);
-    assert_eq!(rt;
-        result,
-        Ok(Tally {
-            frames: 2,
-            fault: None
-        })
-    );
-    assert_eq!(rt;
-        report.taken.as_slice(),
-        b"0 PASS 2 11\n1 DROP 3 7\nend 2\n".as_slice()
-    );
-    let sent = b"XPF1\x01\0\0\0\0\0\0\0\x02\0\0\0\x03\0\0\0\x02\0\0\0ba";
-    assert_eq!(rt; out.taken.as_slice(), sent.as_slice());
+    for (text, limit, given, count, lines, sent) in RUNS.iter() {
+        let mut report = make_writer(alloc, 0, None);
+        let mut out = make_writer(alloc, 0, None);
+        let result = checked(alloc, *text, *limit, *given, &mut report, &mut out)?;
+        let tally = Tally {
+            frames: *count,
+            fault: None,
+        };
+        assert_eq!(rt; result, Ok(tally), "{text}");
+        assert_eq!(rt; report.taken.as_slice(), *lines, "{text}");
+        assert_eq!(rt; out.taken.as_slice(), *sent, "{text}");
+    }
     Ok(())
 }
 
@@ -179,10 +233,9 @@ fn faults(rt: HostRuntime) -> Result<(), Fail> {
             25..44 => (1, Some((Fault::F2, 24))),
             _ => (2, None),
         };
-        let passes = program(alloc, PASSES)?;
         let mut report = make_writer(alloc, 0, None);
         let mut out = make_writer(alloc, 0, None);
-        let result = run_checked(alloc, passes, 100, &TWO[..n], &mut report, &mut out);
+        let result = checked(alloc, PASSES, 100, &TWO[..n], &mut report, &mut out)?;
         assert_eq!(rt; result, Ok(Tally { frames, fault }), "{n} bytes");
         assert_eq!(rt; out.taken.as_slice(), &TWO[..4 + 20 * frames as usize]);
         let place = match n {
@@ -191,107 +244,69 @@ fn faults(rt: HostRuntime) -> Result<(), Fail> {
             24..44 => 24,
             _ => 44,
         };
-        let passes = program(alloc, PASSES)?;
         let left = broken(&TWO[..n]);
         let mut report = make_writer(alloc, 0, None);
         let mut out = make_writer(alloc, 0, None);
-        let result = run_checked(alloc, passes, 100, left, &mut report, &mut out);
+        let result = checked(alloc, PASSES, 100, left, &mut report, &mut out)?;
         let fault = Some((Fault::F5, place));
         assert_eq!(rt; result, Ok(Tally { frames, fault }), "{n} bytes");
     }
     Ok(())
 }
 
+// Where a stream ends with a fault, the last line names it and its place.
 #[test]
 fn last_lines(rt: HostRuntime) -> Result<(), Fail> {
     let alloc = rt.alloc();
+    for (n, lines) in [
+        (29usize, "0 PASS 0 2\nfault F5 at 24\n"),
+        (44, "0 PASS 0 2\n1 PASS 0 2\nfault F5 at 44\n"),
+    ] {
+        let mut report = make_writer(alloc, 0, None);
+        let mut out = make_writer(alloc, 0, None);
+        let left = broken(&TWO[..n]);
+        let _tally = checked(alloc, PASSES, 100, left, &mut report, &mut out)?;
+        assert_eq!(rt; report.taken.as_slice(), lines.as_bytes());
+    }
     let mut report = make_writer(alloc, 0, None);
     let mut out = make_writer(alloc, 0, None);
-    let passes = program(alloc, PASSES)?;
-    run_checked(alloc, passes, 100, &TWO[..29], &mut report, &mut out)?;
-    assert_eq!(rt;
-        report.taken.as_slice(),
-        b"0 PASS 0 2\nfault F2 at 24\n".as_slice()
-    );
-    let mut report = make_writer(alloc, 0, None);
-    let passes = program(alloc, PASSES)?;
-    run_checked(alloc, passes, 100, broken(&TWO), &mut report, &mut out)?;
-    assert_eq!(rt;
-        report.taken.as_slice(),
-        b"0 PASS 0 2\n1 PASS 0 2\nfault F5 at 44\n".as_slice()
-    );
+    let _tally = checked(alloc, PASSES, 100, &TWO[..29], &mut report, &mut out)?;
+    let lines = "0 PASS 0 2\nfault F2 at 24\n";
+    assert_eq!(rt; report.taken.as_slice(), lines.as_bytes());
     Ok(())
 }
 
-// Runs a program of two instructions on one empty frame: the report, and the frames out.
-fn trace(alloc: Global, code: &[u8; 16], limit: u32) -> Result<(Writer, Writer), Fail>
-    requires some { 1 ≤ limit }
-    requires most { limit ≤ 1000000 }
-{
-    let mut bytes = Vec::from_slice(alloc, b"XBP1\0\0\x02\0")?;
-    bytes.extend_from_slice(code)?;
-    let program = Image::parse(alloc, &bytes)?;
-    let mut report = make_writer(alloc, 0, None);
-    let mut out = make_writer(alloc, 0, None);
-    run_checked(alloc, program, limit, ONE.as_slice(), &mut report, &mut out)?;
-    Ok((report, out))
+// What a verified program's run on two frames answers.
+fn verified(
+    alloc: Global,
+    report: &mut Writer,
+    out: &mut Writer,
+) -> Result<Result<Tally, HostError>, Fail> {
+    let program = verify(alloc, program(alloc, PASSES)?)?;
+    Ok(run(alloc, program, TWO.as_slice(), report, out))
 }
 
-#[test]
-fn checked(rt: HostRuntime) -> Result<(), Fail> {
-    // r0 = 2; exit
-    let passes = b"\xb7\0\0\0\x02\0\0\0\x95\0\0\0\0\0\0\0";
-    let (report, out) = trace(rt.alloc(), passes, 1_000_000)?;
-    assert_eq!(rt; report.taken.as_slice(), b"0 PASS 0 2\nend 1\n".as_slice());
-    assert_eq!(rt; out.taken.as_slice(), ONE.as_slice());
-    let (report, out) = trace(rt.alloc(), passes, 1)?;
-    assert_eq!(rt; report.taken.as_slice(), b"0 LIMIT 0 1\nend 1\n".as_slice());
-    assert_eq!(rt; out.taken.as_slice(), &ONE[..4]);
-    // r0 = r2; exit
-    let unset = b"\xbf\x20\0\0\0\0\0\0\x95\0\0\0\0\0\0\0";
-    let (report, out) = trace(rt.alloc(), unset, 100)?;
-    assert_eq!(rt;
-        report.taken.as_slice(),
-        b"0 TRAP unset 0 0\nend 1\n".as_slice()
-    );
-    assert_eq!(rt; out.taken.as_slice(), &ONE[..4]);
-    // r0 = r10; exit
-    let pointer = b"\xbf\xa0\0\0\0\0\0\0\x95\0\0\0\0\0\0\0";
-    let (report, _) = trace(rt.alloc(), pointer, 100)?;
-    assert_eq!(rt;
-        report.taken.as_slice(),
-        b"0 TRAP exit 0 1\nend 1\n".as_slice()
-    );
-    Ok(())
-}
+// A room for the report, the answer, the report and the frames out.
+const VERIFIED: [(usize, Result<u32, HostError>, &[u8], &[u8]); 2] = [
+    (100, Ok(2), b"0 PASS 0 2\n1 PASS 0 2\nend 2\n", &TWO),
+    (3, Err(HostError::Report), b"0 P", MAGIC),
+];
 
-// A verified program is run as a checked one, and writes the same; where an output fails, the other gets nothing more.
+// A verified program is run as a checked one, and writes the same; where an output fails, the other
+// gets nothing more.
 #[test]
-fn verified(rt: HostRuntime) -> Result<(), Fail> {
-    // r0 = 2; exit
-    let bytes = b"XBP1\0\0\x02\0\xb7\0\0\0\x02\0\0\0\x95\0\0\0\0\0\0\0";
-    let program = verify(rt.alloc(), Image::parse(rt.alloc(), bytes)?)?;
-    let mut report = make_writer(rt.alloc(), 0, None);
-    let mut out = make_writer(rt.alloc(), 0, None);
-    let tally = run(rt.alloc(), program, TWO.as_slice(), &mut report, &mut out)?;
-    assert_eq!(rt;
-        tally,
-        Tally {
-            frames: 2,
-            fault: None
-        }
-    );
-    assert_eq!(rt;
-        report.taken.as_slice(),
-        b"0 PASS 0 2\n1 PASS 0 2\nend 2\n".as_slice()
-    );
-    assert_eq!(rt; out.taken.as_slice(), TWO.as_slice());
-    let program = verify(rt.alloc(), Image::parse(rt.alloc(), bytes)?)?;
-    let mut report = make_writer(rt.alloc(), 3, Some(Stumble::Nothing));
-    let mut out = make_writer(rt.alloc(), 0, None);
-    let failed = run(rt.alloc(), program, TWO.as_slice(), &mut report, &mut out);
-    assert_eq!(rt; failed, Err(HostError::Report));
-    assert_eq!(rt; report.taken.as_slice(), b"0 P".as_slice());
-    assert_eq!(rt; out.taken.as_slice(), b"XPF1".as_slice());
+fn verified_programs_run(rt: HostRuntime) -> Result<(), Fail> {
+    for (room, wanted, lines, sent) in VERIFIED.iter() {
+        let mut report = make_writer(rt.alloc(), *room, Some(Stumble::Nothing));
+        let mut out = make_writer(rt.alloc(), 0, None);
+        let result = verified(rt.alloc(), &mut report, &mut out)?;
+        let tally = wanted.map(|frames| Tally {
+            frames,
+            fault: None,
+        });
+        assert_eq!(rt; result, tally);
+        assert_eq!(rt; report.taken.as_slice(), *lines);
+        assert_eq!(rt; out.taken.as_slice(), *sent);
+    }
     Ok(())
 }

@@ -1,15 +1,13 @@
 //! Programs whose verdicts rest on how narrow the verifier's numbers are, and on what it finds
 //! again of what it stored.
 
-use assembler::assemble;
-use explorer::verify;
-use std::alloc::Global;
+use super::programs::{are_verdicts, repeated};
 use std::test::Fail;
 
 /// Whoever jumps past the first `exit` reads r9, which is unset.
-const NARROW: [(&str, &str, u32); 3] = [
+const NARROW: [(&str, &str); 3] = [
+    // The product of two unknown factors of 16 is even.
     (
-        "the product of two unknown factors of 16 is even",
         "r0 = 2
         r6 = *(u32 *)(r1 + 12)
         r6 &= 240
@@ -20,10 +18,10 @@ const NARROW: [(&str, &str, u32); 3] = [
         exit
         r0 = r9
         exit",
-        8,
+        "ok 8",
     ),
+    // A shift keeps the limits of its operand.
     (
-        "a shift keeps the limits of its operand",
         "r0 = 2
         r6 = *(u32 *)(r1 + 12)
         r6 >>= 8
@@ -31,10 +29,10 @@ const NARROW: [(&str, &str, u32); 3] = [
         exit
         r0 = r9
         exit",
-        5,
+        "ok 5",
     ),
+    // A signed comparison narrows the unsigned limits.
     (
-        "a signed comparison narrows the unsigned limits",
         "r0 = 2
         r6 = *(u32 *)(r1 + 12)
         if r6 s> 5 goto +1
@@ -42,7 +40,7 @@ const NARROW: [(&str, &str, u32); 3] = [
         exit
         r0 = r9
         exit",
-        5,
+        "ok 5",
     ),
 ];
 
@@ -97,43 +95,22 @@ if r8 != 0 goto -9
 exit
 ";
 
-/// The bound of the program that a text spells.
-fn bound(alloc: Global, text: &str) -> Result<u32, Fail> {
-    let image = assemble(alloc, text.as_bytes())?;
-    match verify(alloc, image) {
-        Ok(verified) => Ok(verified.bound()),
-        Err((refusal, _slot)) => Err(Fail::from(refusal)),
-    }
-}
-
-/// The text, that many instructions after it, and an exit.
-fn lengthened(alloc: Global, first: &str, times: u32) -> Result<String, Fail> {
-    let mut text = first.to_string(alloc)?;
-    for _ in 0..times {
-        text.push_str("r0 = 2\n")?;
-    }
-    text.push_str("exit")?;
-    Ok(text)
-}
+/// A text that ends with that many instructions and an exit, and its bound.
+const LONG: [(&str, usize, &str); 2] = [
+    (BEYOND_512, 900, "ok 8849"),
+    (BEYOND_4096, 200, "ok 37453"),
+];
 
 #[test]
 fn numbers_are_narrow(rt: HostRuntime) -> Result<(), Fail> {
-    for (name, text, wanted) in NARROW {
-        assert_eq!(rt; bound(rt.alloc(), text)?, wanted, "{name}");
+    are_verdicts(&rt, &NARROW)
+}
+
+#[test]
+fn finds_beyond_512_and_4096_entries(rt: HostRuntime) -> Result<(), Fail> {
+    for (first, times, bound) in LONG.iter() {
+        let text = repeated(rt.alloc(), *first, "r0 = 2\n", *times, "exit")?;
+        are_verdicts(&rt, &[(text.as_str(), *bound)])?;
     }
-    Ok(())
-}
-
-#[test]
-fn finds_beyond_512_entries(rt: HostRuntime) -> Result<(), Fail> {
-    let text = lengthened(rt.alloc(), BEYOND_512, 900)?;
-    assert_eq!(rt; bound(rt.alloc(), text.as_str())?, 8849);
-    Ok(())
-}
-
-#[test]
-fn finds_beyond_4096_entries(rt: HostRuntime) -> Result<(), Fail> {
-    let text = lengthened(rt.alloc(), BEYOND_4096, 200)?;
-    assert_eq!(rt; bound(rt.alloc(), text.as_str())?, 37453);
     Ok(())
 }

@@ -1,44 +1,14 @@
 //! Worked examples of memory, pointers and atomic instructions: what the checked machine does with
 //! short texts.
 
-use super::clocks::Stopped;
-use assembler::assemble;
-use checked_vm::Checked;
+use super::runs::ends_are;
 use isa_model::End::{Exit, Trap};
 use isa_model::TrapReason::{BadAccess, BadCompare, BadPointer, OutOfRange, UnsetRead};
-use isa_model::{End, FrameHead};
-use std::alloc::Global;
-use std::process::Abort;
 use std::test::Fail;
 
 const MINUS_1: u64 = 0xffff_ffff_ffff_ffff;
 
 const MINUS_2: u64 = 0xffff_ffff_ffff_fffe;
-
-/// How the text's run on a packet of 14 bytes ends within 100 steps.
-fn end_of(alloc: Global, text: &str) -> Result<End, Fail> {
-    let image = assemble(alloc, text.as_bytes())?;
-    let mut checked = Checked::new(alloc, image)?;
-    let head = FrameHead {
-        time: 0,
-        interface: 5,
-        queue: 6,
-    };
-    Ok(checked.run(head, &mut [0; 14], &mut Stopped, 100))
-}
-
-/// Each text, with that many instructions before it, ends so.
-fn ends_are(
-    rt: &(impl Abort + AllocGlobal),
-    first: &str,
-    rows: &[(&str, End)],
-) -> Result<(), Fail> {
-    for (text, end) in rows {
-        let whole = format!(in rt.alloc(); "{first}; {text}")?;
-        assert_eq!(rt; end_of(rt.alloc(), whole.as_str())?, *end, "{whole}");
-    }
-    Ok(())
-}
 
 #[test]
 fn stored_bytes_are_loaded(rt: HostRuntime) -> Result<(), Fail> {
@@ -61,13 +31,22 @@ fn stored_bytes_are_loaded(rt: HostRuntime) -> Result<(), Fail> {
             ],
         )?;
     }
-    // an 8-byte -2 read back as one signed byte
-    let signed = "*(u64 *)(r10 - 8) = -2; r0 = *(s8 *)(r10 - 8); exit";
-    assert_eq!(rt; end_of(rt.alloc(), signed)?, Exit(MINUS_2, 3));
-    // four written bytes are no eight
-    let half = "*(u32 *)(r10 - 16) = 5; r0 = *(u64 *)(r10 - 16)";
-    assert_eq!(rt; end_of(rt.alloc(), half)?, Trap(UnsetRead, 1));
-    Ok(())
+    ends_are(
+        &rt,
+        "",
+        &[
+            // an 8-byte -2 read back as one signed byte
+            (
+                "*(u64 *)(r10 - 8) = -2; r0 = *(s8 *)(r10 - 8); exit",
+                Exit(MINUS_2, 3),
+            ),
+            // four written bytes are no eight
+            (
+                "*(u32 *)(r10 - 16) = 5; r0 = *(u64 *)(r10 - 16)",
+                Trap(UnsetRead, 1),
+            ),
+        ],
+    )
 }
 
 #[test]
@@ -90,8 +69,7 @@ fn accesses_stay_within_their_region(rt: HostRuntime) -> Result<(), Fail> {
     // the frame of a call that has ended
     let left = "r1 = r10; call inner; r2 = *(u64 *)(r10 - 8); *(u64 *)(r2 - 8) = 0
         inner: *(u64 *)(r1 - 8) = r10; r0 = 0; exit";
-    assert_eq!(rt; end_of(rt.alloc(), left)?, Trap(BadAccess, 6));
-    Ok(())
+    ends_are(&rt, "", &[(left, Trap(BadAccess, 6))])
 }
 
 #[test]

@@ -1,4 +1,5 @@
-//! One text of each form, and its slot: opcode, registers, offset and imm of the tables of the encoding.
+//! One text of each form, and its slot: opcode, registers, offset and imm of the tables of the
+//! encoding.
 
 use super::assembling::{are_slots, is_code};
 use std::test::Fail;

@@ -20,8 +20,8 @@ fn refuses_each_front_and_more(rt: HostRuntime) -> Result<(), Fail> {
     Ok(())
 }
 
-/// The opcodes of the forms that use `imm` as a number: ALU and ALU64 with a constant, conditional jumps on one, JA
-/// of class JMP32, ST.
+/// The opcodes of the forms that use `imm` as a number: ALU and ALU64 with a constant, conditional
+/// jumps on one, JA of class JMP32, ST.
 const WITH_IMM: [u8; 51] = [
     0x04, 0x14, 0x24, 0x34, 0x44, 0x54, 0x64, 0x74, 0x94, 0xa4, 0xb4, 0xc4, 0x07, 0x17, 0x27, 0x37,
     0x47, 0x57, 0x67, 0x77, 0x97, 0xa7, 0xb7, 0xc7, 0x15, 0x25, 0x35, 0x45, 0x55, 0x65, 0x75, 0xa5,
@@ -29,8 +29,8 @@ const WITH_IMM: [u8; 51] = [
     0x6a, 0x72, 0x7a,
 ];
 
-/// Those of the forms in which `imm` is unused: ALU and ALU64 with a register, NEG, conditional jumps on a register,
-/// JA of class JMP, EXIT, LDX, STX.
+/// Those of the forms in which `imm` is unused: ALU and ALU64 with a register, NEG, conditional
+/// jumps on a register, JA of class JMP, EXIT, LDX, STX.
 const WITHOUT_IMM: [u8; 61] = [
     0x0c, 0x1c, 0x2c, 0x3c, 0x4c, 0x5c, 0x6c, 0x7c, 0x9c, 0xac, 0xbc, 0xcc, 0x0f, 0x1f, 0x2f, 0x3f,
     0x4f, 0x5f, 0x6f, 0x7f, 0x9f, 0xaf, 0xbf, 0xcf, 0x84, 0x87, 0x1d, 0x2d, 0x3d, 0x4d, 0x5d, 0x6d,
@@ -38,7 +38,8 @@ const WITHOUT_IMM: [u8; 61] = [
     0x05, 0x95, 0x61, 0x69, 0x71, 0x79, 0x81, 0x89, 0x91, 0x63, 0x6b, 0x73, 0x7b,
 ];
 
-/// The refusal of a slot all of whose fields but opcode and `imm` are 0, as the opcode is. `imm` is 2 or 0.
+/// The refusal of a slot all of whose fields but opcode and `imm` are 0, as the opcode is. `imm` is
+/// 2 or 0.
 fn opcode_refusal(opcode: u8, imm: u8) -> Option<CodecError> {
     match opcode {
         0x18 => Some(CodecError::SecondSlot),

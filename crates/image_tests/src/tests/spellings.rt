@@ -31,109 +31,122 @@ fn jump_if(width: Width, comparison: Comparison, operand: Operand, by: i16) -> I
     )
 }
 
+/// What encoding answers, the bytes that it leaves of 16 times 0xaa, and what they decode to.
+fn both_ways(insn: Insn) -> (usize, [u8; 16], Result<(Insn, usize), CodecError>) {
+    let mut out = [0xaa; 16];
+    let length = encode(&insn, &mut out);
+    (length, out, decode(&out))
+}
+
 /// Encodes to these 8 bytes, written from left to right, and they decode to it whatever follows.
 fn assert_spelled(rt: &impl Abort, insn: Insn, bytes: u64) {
-    let mut out = [0xaa; 16];
-    let mut expected = out;
-    expected[..8].copy_from_slice(&bytes.to_be_bytes());
-    assert_eq!(rt; encode(&insn, &mut out), 8);
-    assert_eq!(rt; out, expected, "{insn:?}");
-    assert_eq!(rt; decode(&out), Ok((insn, 8)), "{insn:?}");
+    let (length, out, decoded) = both_ways(insn);
+    assert_eq!(rt; length, 8);
+    assert_eq!(rt; &out[..8], bytes.to_be_bytes().as_slice(), "{insn:?}");
+    assert_eq!(rt; &out[8..], [0xaa; 8].as_slice(), "{insn:?}");
+    assert_eq!(rt; decoded, Ok((insn, 8)), "{insn:?}");
 }
+
+/// Why bytes are no instruction, if they are none.
+fn refusal_of(bytes: &[u8]) -> Option<CodecError> {
+    decode(bytes).err()
+}
+
+const ARITHMETIC: [(Insn, u64); 28] = [
+    (
+        Insn::Alu(Full64, Mov, R0, Constant(2)),
+        0xb700_0000_02000000,
+    ),
+    (
+        Insn::Alu(Full64, Add, R10, Constant(-8)),
+        0x070a_0000_f8ffffff,
+    ),
+    (
+        Insn::Alu(Low32, Sub, R1, Register(R2)),
+        0x1c21_0000_00000000,
+    ),
+    (
+        Insn::Alu(Full64, Mul, R2, Register(R10)),
+        0x2fa2_0000_00000000,
+    ),
+    (Insn::Alu(Low32, Div, R1, Constant(7)), 0x3401_0000_07000000),
+    (
+        Insn::Alu(Full64, Div, R1, Register(R2)),
+        0x3f21_0000_00000000,
+    ),
+    (
+        Insn::Alu(Low32, SignedDiv, R1, Register(R2)),
+        0x3c21_0100_00000000,
+    ),
+    (
+        Insn::Alu(Full64, SignedDiv, R1, Constant(-1)),
+        0x3701_0100_ffffffff,
+    ),
+    (
+        Insn::Alu(Full64, Or, R1, Constant(256)),
+        0x4701_0000_00010000,
+    ),
+    (
+        Insn::Alu(Low32, And, R1, Register(R3)),
+        0x5c31_0000_00000000,
+    ),
+    (
+        Insn::Alu(Full64, Lsh, R1, Constant(63)),
+        0x6701_0000_3f000000,
+    ),
+    (
+        Insn::Alu(Low32, Rsh, R1, Register(R9)),
+        0x7c91_0000_00000000,
+    ),
+    (
+        Insn::Alu(Low32, Mod, R0, Register(R0)),
+        0x9c00_0000_00000000,
+    ),
+    (
+        Insn::Alu(Full64, SignedMod, R0, Constant(3)),
+        0x9700_0100_03000000,
+    ),
+    (
+        Insn::Alu(Full64, Xor, R1, Register(R2)),
+        0xaf21_0000_00000000,
+    ),
+    (
+        Insn::Alu(Low32, Mov, R1, Constant(i32::MIN)),
+        0xb401_0000_00000080,
+    ),
+    (
+        Insn::Alu(Full64, Mov, R0, Register(R2)),
+        0xbf20_0000_00000000,
+    ),
+    (
+        Insn::Alu(Low32, Arsh, R3, Constant(5)),
+        0xc403_0000_05000000,
+    ),
+    (Insn::Neg(Low32, R1), 0x8401_0000_00000000),
+    (Insn::Neg(Full64, R2), 0x8702_0000_00000000),
+    (Insn::MovSx(Extension::Low8, R1, R2), 0xbc21_0800_00000000),
+    (Insn::MovSx(Extension::Low16, R1, R2), 0xbc21_1000_00000000),
+    (Insn::MovSx(Extension::Full8, R1, R2), 0xbf21_0800_00000000),
+    (Insn::MovSx(Extension::Full16, R1, R2), 0xbf21_1000_00000000),
+    (Insn::MovSx(Extension::Full32, R1, R2), 0xbf21_2000_00000000),
+    (
+        Insn::ByteSwap(ByteOrder::Little, Span::B32, R1),
+        0xd401_0000_20000000,
+    ),
+    (
+        Insn::ByteSwap(ByteOrder::Big, Span::B16, R0),
+        0xdc00_0000_10000000,
+    ),
+    (
+        Insn::ByteSwap(ByteOrder::Swap, Span::B64, R9),
+        0xd709_0000_40000000,
+    ),
+];
 
 #[test]
 fn spells_arithmetic(rt: HostRuntime) {
-    for (insn, bytes) in [
-        (
-            Insn::Alu(Full64, Mov, R0, Constant(2)),
-            0xb700_0000_02000000,
-        ),
-        (
-            Insn::Alu(Full64, Add, R10, Constant(-8)),
-            0x070a_0000_f8ffffff,
-        ),
-        (
-            Insn::Alu(Low32, Sub, R1, Register(R2)),
-            0x1c21_0000_00000000,
-        ),
-        (
-            Insn::Alu(Full64, Mul, R2, Register(R10)),
-            0x2fa2_0000_00000000,
-        ),
-        (Insn::Alu(Low32, Div, R1, Constant(7)), 0x3401_0000_07000000),
-        (
-            Insn::Alu(Full64, Div, R1, Register(R2)),
-            0x3f21_0000_00000000,
-        ),
-        (
-            Insn::Alu(Low32, SignedDiv, R1, Register(R2)),
-            0x3c21_0100_00000000,
-        ),
-        (
-            Insn::Alu(Full64, SignedDiv, R1, Constant(-1)),
-            0x3701_0100_ffffffff,
-        ),
-        (
-            Insn::Alu(Full64, Or, R1, Constant(256)),
-            0x4701_0000_00010000,
-        ),
-        (
-            Insn::Alu(Low32, And, R1, Register(R3)),
-            0x5c31_0000_00000000,
-        ),
-        (
-            Insn::Alu(Full64, Lsh, R1, Constant(63)),
-            0x6701_0000_3f000000,
-        ),
-        (
-            Insn::Alu(Low32, Rsh, R1, Register(R9)),
-            0x7c91_0000_00000000,
-        ),
-        (
-            Insn::Alu(Low32, Mod, R0, Register(R0)),
-            0x9c00_0000_00000000,
-        ),
-        (
-            Insn::Alu(Full64, SignedMod, R0, Constant(3)),
-            0x9700_0100_03000000,
-        ),
-        (
-            Insn::Alu(Full64, Xor, R1, Register(R2)),
-            0xaf21_0000_00000000,
-        ),
-        (
-            Insn::Alu(Low32, Mov, R1, Constant(i32::MIN)),
-            0xb401_0000_00000080,
-        ),
-        (
-            Insn::Alu(Full64, Mov, R0, Register(R2)),
-            0xbf20_0000_00000000,
-        ),
-        (
-            Insn::Alu(Low32, Arsh, R3, Constant(5)),
-            0xc403_0000_05000000,
-        ),
-        (Insn::Neg(Low32, R1), 0x8401_0000_00000000),
-        (Insn::Neg(Full64, R2), 0x8702_0000_00000000),
-        (Insn::MovSx(Extension::Low8, R1, R2), 0xbc21_0800_00000000),
-        (Insn::MovSx(Extension::Low16, R1, R2), 0xbc21_1000_00000000),
-        (Insn::MovSx(Extension::Full8, R1, R2), 0xbf21_0800_00000000),
-        (Insn::MovSx(Extension::Full16, R1, R2), 0xbf21_1000_00000000),
-        (Insn::MovSx(Extension::Full32, R1, R2), 0xbf21_2000_00000000),
-        (
-            Insn::ByteSwap(ByteOrder::Little, Span::B32, R1),
-            0xd401_0000_20000000,
-        ),
-        (
-            Insn::ByteSwap(ByteOrder::Big, Span::B16, R0),
-            0xdc00_0000_10000000,
-        ),
-        (
-            Insn::ByteSwap(ByteOrder::Swap, Span::B64, R9),
-            0xd709_0000_40000000,
-        ),
-    ] {
-        assert_spelled(&rt, insn, bytes);
+    for (insn, bytes) in ARITHMETIC.iter() {
+        assert_spelled(&rt, *insn, *bytes);
     }
 }
 
@@ -283,74 +296,68 @@ const WIDE: [u8; 16] = [
 #[test]
 fn spells_wide_loads(rt: HostRuntime) {
     let insn = Insn::LoadNumber(R1, 0x0102_0304_0506_0708);
-    let mut out = [0xaa; 16];
-    assert_eq!(rt; encode(&insn, &mut out), 16);
-    assert_eq!(rt; out, WIDE);
-    assert_eq!(rt; decode(&WIDE), Ok((insn, 16)));
+    let (length, out, decoded) = both_ways(insn);
+    assert_eq!(rt; (length, out), (16, WIDE));
+    assert_eq!(rt; decoded, Ok((insn, 16)));
     for length in 8..16 {
-        assert_eq!(rt;
-            decode(&WIDE[..length]),
-            Err(CodecError::SecondSlot),
-            "{length} bytes"
-        );
+        let refused = refusal_of(&WIDE[..length]);
+        assert_eq!(rt; refused, Some(CodecError::SecondSlot), "{length} bytes");
     }
     for reserved in 8..12 {
         let mut bytes = WIDE;
         bytes[reserved] = 1;
-        assert_eq!(rt;
-            decode(&bytes),
-            Err(CodecError::SecondSlot),
-            "byte {reserved}"
-        );
+        let refused = refusal_of(&bytes);
+        assert_eq!(rt; refused, Some(CodecError::SecondSlot), "byte {reserved}");
     }
 }
+
+/// Eight bytes, written from left to right, and why they are no instruction.
+const REFUSED: [(u64, CodecError); 28] = [
+    // NEG X, JA X, EXIT of JMP32, END X of ALU64, a legacy packet load, a load of a signed u64
+    (0x8c00_0000_00000000, CodecError::UnknownOpcode),
+    (0x0d00_0000_00000000, CodecError::UnknownOpcode),
+    (0x9600_0000_00000000, CodecError::UnknownOpcode),
+    (0xdf00_0000_10000000, CodecError::UnknownOpcode),
+    (0x20bb_0100_01000000, CodecError::UnknownOpcode),
+    (0x9900_0000_00000000, CodecError::UnknownOpcode),
+    // a register over 10: as an operand, unused, and where it selects
+    (0xb70b_0000_00000000, CodecError::UnknownRegister),
+    (0xbff0_0000_00000000, CodecError::UnknownRegister),
+    (0x95b0_0100_00000000, CodecError::UnknownRegister),
+    (0x85b0_0000_00000000, CodecError::UnknownRegister),
+    (0x18b0_0100_00000000, CodecError::UnknownRegister),
+    // each unused field; with a bad selector as well; one that is no selector of this form
+    (0x9500_0100_00000000, CodecError::UnusedField),
+    (0x9501_0000_00000000, CodecError::UnusedField),
+    (0x9510_0000_00000000, CodecError::UnusedField),
+    (0x9500_0000_01000000, CodecError::UnusedField),
+    (0xb700_0800_00000000, CodecError::UnusedField),
+    (0xd410_0000_11000000, CodecError::UnusedField),
+    (0xd400_0100_10000000, CodecError::UnusedField),
+    (0x1800_0100_00000000, CodecError::UnusedField),
+    // selectors: of division, MOV X, END, atomic instructions, calls and wide loads
+    (0x3701_0200_00000000, CodecError::UnknownSelector),
+    (0xbf21_0500_00000000, CodecError::UnknownSelector),
+    (0xbc21_2000_00000000, CodecError::UnknownSelector),
+    (0xd401_0000_08000000, CodecError::UnknownSelector),
+    (0xdb10_0000_e0000000, CodecError::UnknownSelector),
+    (0x8500_0000_01000000, CodecError::UnknownSelector),
+    (0x8520_0000_00000000, CodecError::UnknownSelector),
+    (0x1851_0000_00000000, CodecError::UnknownSelector),
+    // a wide load of one slot
+    (0x1801_0000_00000000, CodecError::SecondSlot),
+];
 
 #[test]
 fn refuses_in_order(rt: HostRuntime) {
     let exit = 0x9500_0000_00000000_u64.to_be_bytes();
     for length in 0..8 {
-        assert_eq!(rt;
-            decode(&exit[..length]),
-            Err(CodecError::Short),
-            "{length} bytes"
-        );
+        let refused = refusal_of(&exit[..length]);
+        assert_eq!(rt; refused, Some(CodecError::Short), "{length} bytes");
     }
-    for (bytes, error) in [
-        // NEG X, JA X, EXIT of JMP32, END X of ALU64, a legacy packet load, a load of a signed u64
-        (0x8c00_0000_00000000_u64, CodecError::UnknownOpcode),
-        (0x0d00_0000_00000000, CodecError::UnknownOpcode),
-        (0x9600_0000_00000000, CodecError::UnknownOpcode),
-        (0xdf00_0000_10000000, CodecError::UnknownOpcode),
-        (0x20bb_0100_01000000, CodecError::UnknownOpcode),
-        (0x9900_0000_00000000, CodecError::UnknownOpcode),
-        // a register over 10: as an operand, unused, and where it selects
-        (0xb70b_0000_00000000, CodecError::UnknownRegister),
-        (0xbff0_0000_00000000, CodecError::UnknownRegister),
-        (0x95b0_0100_00000000, CodecError::UnknownRegister),
-        (0x85b0_0000_00000000, CodecError::UnknownRegister),
-        (0x18b0_0100_00000000, CodecError::UnknownRegister),
-        // each unused field; with a bad selector as well; one that is no selector of this form
-        (0x9500_0100_00000000, CodecError::UnusedField),
-        (0x9501_0000_00000000, CodecError::UnusedField),
-        (0x9510_0000_00000000, CodecError::UnusedField),
-        (0x9500_0000_01000000, CodecError::UnusedField),
-        (0xb700_0800_00000000, CodecError::UnusedField),
-        (0xd410_0000_11000000, CodecError::UnusedField),
-        (0xd400_0100_10000000, CodecError::UnusedField),
-        (0x1800_0100_00000000, CodecError::UnusedField),
-        // selectors: of division, MOV X, END, atomic instructions, calls and wide loads
-        (0x3701_0200_00000000, CodecError::UnknownSelector),
-        (0xbf21_0500_00000000, CodecError::UnknownSelector),
-        (0xbc21_2000_00000000, CodecError::UnknownSelector),
-        (0xd401_0000_08000000, CodecError::UnknownSelector),
-        (0xdb10_0000_e0000000, CodecError::UnknownSelector),
-        (0x8500_0000_01000000, CodecError::UnknownSelector),
-        (0x8520_0000_00000000, CodecError::UnknownSelector),
-        (0x1851_0000_00000000, CodecError::UnknownSelector),
-        // a wide load of one slot
-        (0x1801_0000_00000000, CodecError::SecondSlot),
-    ] {
-        assert_eq!(rt; decode(&bytes.to_be_bytes()), Err(error), "{bytes:x}");
+    for (bytes, error) in REFUSED.iter() {
+        let refused = refusal_of(&bytes.to_be_bytes());
+        assert_eq!(rt; refused, Some(*error), "{bytes:x}");
     }
 }
 

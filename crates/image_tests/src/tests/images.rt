@@ -1,5 +1,4 @@
-//! Images worked out by hand, and their refusals. Where memory runs out a test fails of itself, by
-//! `?`; any other answer that is not wanted fails an assertion.
+//! Images worked out by hand, and their refusals.
 
 use image::ImageError::{Code, Long, Magic, Memory, Short, SlotCount, TooManyMaps};
 use image::{Image, ImageError};
@@ -18,38 +17,33 @@ const WIDE: [u8; 32] = *b"XBP1\0\0\x03\0\x18\0\0\0\x02\0\0\0\0\0\0\0\x01\0\0\0\x
 
 const WIDE_NUMBER: Insn = Insn::LoadNumber(Reg::R0, 0x1_0000_0002);
 
-/// Why there is no image, if there is none.
-fn refusal(answer: Result<Image, ImageError>) -> Result<Option<ImageError>, ImageError> {
-    match answer {
-        Err(Memory) => Err(Memory),
-        answer => Ok(answer.err()),
-    }
+const TWO: Insn = Insn::Alu(Width::Full64, AluOp::Mov, Reg::R0, Constant(2));
+
+/// The bytes of an image, and its slots.
+const IMAGES: [(&[u8], &[Option<Insn>]); 2] = [
+    (&TWO_SLOTS, &[Some(TWO), Some(Insn::Exit)]),
+    (&WIDE, &[Some(WIDE_NUMBER), None, Some(Insn::Exit)]),
+];
+
+/// The image that bytes are, and the bytes that it writes.
+fn written(alloc: Global, bytes: &[u8]) -> Result<(Image, Vec<u8>), Fail> {
+    let image = Image::parse(alloc, bytes)?;
+    let mut out = Vec::new(alloc);
+    image.write(&mut out)?;
+    Ok((image, out))
 }
 
 #[test]
 fn reads_and_writes(rt: HostRuntime) -> Result<(), Fail> {
-    let two = Insn::Alu(Width::Full64, AluOp::Mov, Reg::R0, Constant(2));
-    for (bytes, code) in [
-        (
-            TWO_SLOTS.as_slice(),
-            [Some(two), Some(Insn::Exit)].as_slice(),
-        ),
-        (
-            WIDE.as_slice(),
-            [Some(WIDE_NUMBER), None, Some(Insn::Exit)].as_slice(),
-        ),
-    ] {
-        let image = Image::parse(rt.alloc(), bytes)?;
-        assert_eq!(rt; image.maps().len(), 0);
-        assert_eq!(rt; image.slots(), code.len());
-        assert_eq!(rt; image.code(), code);
+    for (bytes, code) in IMAGES.iter() {
+        let (image, out) = written(rt.alloc(), *bytes)?;
+        assert_eq!(rt; out.as_slice(), *bytes);
+        assert_eq!(rt; (image.maps().len(), image.slots()), (0, code.len()));
+        assert_eq!(rt; image.code(), *code);
         for slot in 0..5usize {
             let insn = code.get(slot).copied().flatten();
             assert_eq!(rt; image.at(slot).copied(), insn, "slot {slot}");
         }
-        let mut out = Vec::new(rt.alloc());
-        image.write(&mut out)?;
-        assert_eq!(rt; out.as_slice(), bytes);
     }
     Ok(())
 }
@@ -80,8 +74,8 @@ fn makes_of_instructions(rt: HostRuntime) -> Result<(), Fail> {
         for _ in 0..count {
             insns.push(WIDE_NUMBER)?;
         }
-        let answer = refusal(Image::of(rt.alloc(), &insns))?;
-        assert_eq!(rt; answer, wanted, "{count} instructions");
+        let refused = Image::of(rt.alloc(), &insns).err();
+        assert_eq!(rt; refused, wanted, "{count} instructions");
     }
     Ok(())
 }
@@ -97,38 +91,39 @@ fn reads_the_longest(rt: HostRuntime) -> Result<(), Fail> {
         for _ in 0..count {
             bytes.extend_from_slice(&TWO_SLOTS[16..])?;
         }
-        assert_eq!(rt; refusal(Image::parse(rt.alloc(), &bytes))?, wanted);
+        assert_eq!(rt; Image::parse(rt.alloc(), &bytes).err(), wanted);
     }
     Ok(())
 }
 
-/// Where two tests fail, the earlier one counts.
+/// Bytes, and why they are no image. Where two tests fail, the earlier one counts.
+const REFUSED: [(&[u8], ImageError); 10] = [
+    (b"xbp1\x01\0\0", Short),
+    (b"xbp1\x01\0\0\0", Magic),
+    (b"XBP1\x01\0\0\0", TooManyMaps),
+    (b"XBP1\0\x01\0\0", TooManyMaps),
+    (b"XBP1\0\0\0\0\0", SlotCount),
+    (b"XBP1\0\0\x01\0\0\0\0\0\0\0\0", Short),
+    (b"XBP1\0\0\x01\0\0\0\0\0\0\0\0\0\0", Long),
+    (
+        b"XBP1\0\0\x01\0\x95\0\x01\0\0\0\0\0",
+        Code(0, CodecError::UnusedField),
+    ),
+    (
+        b"XBP1\0\0\x02\0\0\0\0\0\0\0\0\0\x95\0\x01\0\0\0\0\0",
+        Code(0, CodecError::UnknownOpcode),
+    ),
+    (
+        b"XBP1\0\0\x02\0\x95\0\0\0\0\0\0\0\x18\0\0\0\0\0\0\0",
+        Code(1, CodecError::SecondSlot),
+    ),
+];
+
 #[test]
 fn refuses_in_order(rt: HostRuntime) -> Result<(), Fail> {
-    let unused = CodecError::UnusedField;
-    for (bytes, wanted) in [
-        (b"xbp1\x01\0\0".as_slice(), Short),
-        (b"xbp1\x01\0\0\0".as_slice(), Magic),
-        (b"XBP1\x01\0\0\0".as_slice(), TooManyMaps),
-        (b"XBP1\0\x01\0\0".as_slice(), TooManyMaps),
-        (b"XBP1\0\0\0\0\0".as_slice(), SlotCount),
-        (b"XBP1\0\0\x01\0\0\0\0\0\0\0\0".as_slice(), Short),
-        (b"XBP1\0\0\x01\0\0\0\0\0\0\0\0\0\0".as_slice(), Long),
-        (
-            b"XBP1\0\0\x01\0\x95\0\x01\0\0\0\0\0".as_slice(),
-            Code(0, unused),
-        ),
-        (
-            b"XBP1\0\0\x02\0\0\0\0\0\0\0\0\0\x95\0\x01\0\0\0\0\0".as_slice(),
-            Code(0, CodecError::UnknownOpcode),
-        ),
-        (
-            b"XBP1\0\0\x02\0\x95\0\0\0\0\0\0\0\x18\0\0\0\0\0\0\0".as_slice(),
-            Code(1, CodecError::SecondSlot),
-        ),
-    ] {
-        let answer = refusal(Image::parse(rt.alloc(), bytes))?;
-        assert_eq!(rt; answer, Some(wanted), "{bytes:?}");
+    for (bytes, wanted) in REFUSED.iter() {
+        let refused = Image::parse(rt.alloc(), *bytes).err();
+        assert_eq!(rt; refused, Some(*wanted), "{bytes:?}");
     }
     Ok(())
 }

@@ -1,30 +1,18 @@
 //! Texts made into images, and images into texts.
 
-use super::{BROKEN, PASSES, answers, remove_files, words_of, write_hex};
-use commands::execute;
+use super::{PASSES_IMAGE, answers, breaks, remove_files, write_program};
 use std::fs;
 use std::test::Fail;
-use stumbling_io::Writer;
-
-// r1 = 16; goto -2
-const GOES_BACK: &str = "5842503100000200b7010000100000000500feff00000000";
 
 // The text of an image, and what is left of it where standard output fails.
 #[test]
 fn texts(rt: HostRuntime) -> Result<(), Fail> {
-    write_hex(&rt, "image", GOES_BACK)?;
-    let text = b"r1 = 16\ngoto -2\n";
-    answers(&rt, &["dis", "image"], 0, "r1 = 16\ngoto -2\n", "")?;
-    let words = words_of(rt.alloc(), &["dis", "image"])?;
+    let text = "r1 = 16\ngoto -2\n";
+    write_program(&rt, "image", text)?;
+    answers(&rt, &["dis", "image"], 0, text, "")?;
+    let said = "cannot write standard output\nits reader has closed it\n";
     for room in 0..16usize {
-        let mut out = Writer::new(rt.alloc(), 1, room, Some(BROKEN));
-        let mut err = Vec::new(rt.alloc());
-        assert_eq!(rt; execute(&rt, words.as_slice(), &mut out, &mut err), 4);
-        assert_eq!(rt; Some(out.taken.as_slice()), text.get(..room));
-        assert_eq!(rt;
-            err.as_slice(),
-            b"cannot write standard output\nits reader has closed it\n".as_slice()
-        );
+        breaks(&rt, &["dis", "image"], room, text, said)?;
     }
     remove_files(&rt)
 }
@@ -34,8 +22,7 @@ fn assembles(rt: HostRuntime) -> Result<(), Fail> {
     fs::write(&rt, "text", b"r0 = 2\nexit")?;
     answers(&rt, &["asm", "text", "made"], 0, "ok maps 0 slots 2\n", "")?;
     let made = fs::read(&rt, "made")?;
-    let wanted = hex::decode(rt.alloc(), PASSES)?;
-    assert_eq!(rt; made.as_slice(), wanted.as_slice());
+    assert_eq!(rt; made.as_slice(), PASSES_IMAGE);
     remove_files(&rt)
 }
 

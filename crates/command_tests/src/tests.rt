@@ -1,0 +1,366 @@
+//! The commands on files that the tests write: the words that are given, the lines of the report,
+//! and an output that fails.
+
+mod files;
+mod programs;
+mod texts;
+mod verdicts;
+
+use assembler::assemble;
+use commands::execute;
+use std::alloc::Global;
+use std::fs;
+use std::io::ErrorKind;
+use std::process::Abort;
+use std::rt::Files;
+use std::test::Fail;
+use stumbling_io::{Stumble, Writer};
+
+const USAGE: &str = "usage: xdpvm asm|dis|verify|run|trace|prove|recheck\n";
+
+// What an output says once in place of taking a byte.
+const BROKEN: Stumble = Stumble::Error(ErrorKind::BrokenPipe);
+
+const PASSES: &str = "r0 = 2; exit";
+
+// Its image: the magic, no maps and two slots.
+const PASSES_IMAGE: &[u8] = b"XBP1\0\0\x02\0\xb7\0\0\0\x02\0\0\0\x95\0\0\0\0\0\0\0";
+
+const TRACE: &[&str] = &["trace", "image", "frames", "sent"];
+
+const RUN: &[&str] = &["run", "image", "frames", "sent"];
+
+fn words_of(alloc: Global, texts: &[&str]) -> Result<Vec<String>, Fail> {
+    let mut words = Vec::new(alloc);
+    words.push(String::from_str(alloc, "xdpvm")?)?;
+    for text in texts {
+        words.push(String::from_str(alloc, *text)?)?;
+    }
+    Ok(words)
+}
+
+// The files that tests write.
+const FILES: [&str; 12] = [
+    "image", "short", "frames", "sent", "other", "cut", "text", "made", "wrong", "right", "long",
+    "largest",
+];
+
+// Removes what a test has written. Of a test that fails the files stay.
+fn remove_files<R: Files>(rt: &R) -> Result<(), Fail> {
+    for name in FILES {
+        if fs::exists(rt, name)? {
+            fs::remove_file(rt, name)?;
+        }
+    }
+    Ok(())
+}
+
+// A writer that takes all.
+fn sink(alloc: Global) -> Writer {
+    Writer::new(alloc, 4096, 0, None)
+}
+
+// The status of a command, which writes to standard output and to standard error.
+fn status_of<R: Files + AllocGlobal + Abort>(
+    rt: &R,
+    texts: &[&str],
+    out: &mut Writer,
+    err: &mut Writer,
+) -> Result<u8, Fail> {
+    let words = words_of(rt.alloc(), texts)?;
+    Ok(execute(rt, words.as_slice(), out, err))
+}
+
+// A command answers this status, and writes this to standard output and to standard error.
+fn answers<R: Files + AllocGlobal + Abort>(
+    rt: &R,
+    texts: &[&str],
+    status: u8,
+    report: &str,
+    said: &str,
+) -> Result<(), Fail> {
+    let mut out = sink(rt.alloc());
+    let mut err = sink(rt.alloc());
+    let found = status_of(rt, texts, &mut out, &mut err)?;
+    assert_eq!(rt; found, status, "{texts:?}");
+    assert_eq!(rt; out.taken.as_slice(), report.as_bytes(), "{texts:?}");
+    assert_eq!(rt; err.taken.as_slice(), said.as_bytes(), "{texts:?}");
+    Ok(())
+}
+
+// The same where standard output breaks after some bytes: the status is 4, the output has the front
+// of the report, and the reason is told.
+fn breaks<R: Files + AllocGlobal + Abort>(
+    rt: &R,
+    texts: &[&str],
+    room: usize,
+    report: &str,
+    said: &str,
+) -> Result<(), Fail> {
+    let mut out = Writer::new(rt.alloc(), 1, room, Some(BROKEN));
+    let mut err = sink(rt.alloc());
+    let found = status_of(rt, texts, &mut out, &mut err)?;
+    assert_eq!(rt; found, 4, "after {room}");
+    assert_eq!(rt; Some(out.taken.as_slice()), report.as_bytes().get(..room));
+    assert_eq!(rt; err.taken.as_slice(), said.as_bytes(), "after {room}");
+    Ok(())
+}
+
+// Writes the image of a program.
+fn write_program<R: Files + AllocGlobal>(rt: &R, path: &str, text: &str) -> Result<(), Fail> {
+    let image = assemble(rt.alloc(), text.as_bytes())?;
+    let mut bytes = Vec::new(rt.alloc());
+    image.write(&mut bytes)?;
+    fs::write(rt, path, bytes.as_slice())?;
+    Ok(())
+}
+
+// The magic, and then that many zero bytes.
+fn stream(alloc: Global, zeros: usize) -> Result<Vec<u8>, Fail> {
+    let mut bytes = b"XPF1".to_vec(alloc)?;
+    for _ in 0..zeros {
+        bytes.push(0)?;
+    }
+    Ok(bytes)
+}
+
+// The files that most tests use.
+fn write_files<R: Files + AllocGlobal>(rt: &R) -> Result<(), Fail> {
+    fs::write(rt, "image", PASSES_IMAGE)?;
+    fs::write(rt, "short", b"XB")?;
+    let one = stream(rt.alloc(), 20)?;
+    fs::write(rt, "frames", one.as_slice())?;
+    Ok(())
+}
+
+// The command asks for nothing: standard error gets a text that begins so, and then the usage line.
+fn is_wrong<R: Files + AllocGlobal + Abort>(
+    rt: &R,
+    texts: &[&str],
+    front: &str,
+) -> Result<(), Fail> {
+    let mut out = sink(rt.alloc());
+    let mut err = sink(rt.alloc());
+    let found = status_of(rt, texts, &mut out, &mut err)?;
+    assert_eq!(rt; (found, out.taken.len()), (1, 0), "{texts:?}");
+    let said = err.taken.as_slice();
+    assert!(rt; said.starts_with(front.as_bytes()), "{texts:?}");
+    assert!(rt; said.ends_with(USAGE.as_bytes()), "{texts:?}");
+    Ok(())
+}
+
+const NO_LIMIT: &str = "error: the value of --limit is no number from 1 to 1000000\nusage: ";
+
+// Words that ask for nothing, and how the text on standard error begins.
+const WRONG: [(&[&str], &str); 13] = [
+    (&[], "error: 'xdpvm' requires a subcommand"),
+    (&["--help"], "Usage: xdpvm <COMMAND>\n"),
+    (&["help"], "Usage: xdpvm <COMMAND>\n"),
+    (
+        &["--version"],
+        "error: unexpected argument '--version' found\n",
+    ),
+    (
+        &["walk", "image"],
+        "error: unrecognized subcommand 'walk'\n",
+    ),
+    (
+        &["trace", "image", "frames"],
+        "error: the following required arguments were not provided:\n",
+    ),
+    (
+        &["trace", "image", "frames", "sent", "more"],
+        "error: unexpected argument 'more' found\n",
+    ),
+    (
+        &["run", "image", "frames", "sent", "--limit", "5"],
+        "error: unexpected argument '--limit' found\n",
+    ),
+    (
+        &[
+            "trace", "image", "frames", "sent", "--limit", "5", "--limit", "5",
+        ],
+        "error: the argument '--limit <limit>' cannot be used multiple times\n",
+    ),
+    (
+        &["trace", "image", "frames", "sent", "--limit", "0"],
+        NO_LIMIT,
+    ),
+    (
+        &["trace", "image", "frames", "sent", "--limit", "1000001"],
+        NO_LIMIT,
+    ),
+    (
+        &["trace", "image", "frames", "sent", "--limit", "+5"],
+        NO_LIMIT,
+    ),
+    (
+        &["trace", "image", "frames", "sent", "--limit", ""],
+        NO_LIMIT,
+    ),
+];
+
+#[test]
+fn wrong_words(rt: HostRuntime) -> Result<(), Fail> {
+    write_files(&rt)?;
+    for (texts, front) in WRONG.iter() {
+        is_wrong(&rt, *texts, *front)?;
+    }
+    remove_files(&rt)
+}
+
+const PASSED: &str = "0 PASS 0 2\nend 1\n";
+
+// Words that run the program, and the report.
+const RIGHT: [(&[&str], &str); 5] = [
+    (TRACE, PASSED),
+    (RUN, PASSED),
+    (
+        &["trace", "--limit", "002", "image", "frames", "sent"],
+        PASSED,
+    ),
+    (
+        &["trace", "image", "--limit", "1", "frames", "sent"],
+        "0 LIMIT 0 1\nend 1\n",
+    ),
+    (
+        &["trace", "image", "frames", "sent", "--limit", "1000000"],
+        PASSED,
+    ),
+];
+
+#[test]
+fn right_words(rt: HostRuntime) -> Result<(), Fail> {
+    write_files(&rt)?;
+    for (texts, report) in RIGHT.iter() {
+        answers(&rt, *texts, 0, *report, "")?;
+    }
+    let sent = fs::read(&rt, "sent")?;
+    let frames = fs::read(&rt, "frames")?;
+    assert_eq!(rt; sent.as_slice(), frames.as_slice());
+    remove_files(&rt)
+}
+
+#[test]
+fn commands_that_are_not_built(rt: HostRuntime) -> Result<(), Fail> {
+    let rows: [(&[&str], &str); 2] = [
+        (&["prove", "a", "b"], "prove"),
+        (&["recheck", "a", "b"], "recheck"),
+    ];
+    for (texts, name) in rows {
+        let said = format!(in rt.alloc(); "{USAGE}this build has no command {name}\n")?;
+        answers(&rt, texts, 1, "", said.as_str())?;
+    }
+    Ok(())
+}
+
+// Files that are no images, and what standard output has.
+const NO_IMAGES: [(&[u8], &str); 9] = [
+    (b"", "refused I2\n"),
+    (
+        b"XBP2\0\0\x02\0\xb7\0\0\0\x02\0\0\0\x95\0\0\0\0\0\0\0",
+        "refused I1\n",
+    ),
+    (
+        b"XBP1\x01\0\x02\0\xb7\0\0\0\x02\0\0\0\x95\0\0\0\0\0\0\0",
+        "refused I4\n",
+    ),
+    (
+        b"XBP1\0\0\0\0\xb7\0\0\0\x02\0\0\0\x95\0\0\0\0\0\0\0",
+        "refused I6\n",
+    ),
+    (
+        b"XBP1\0\0\x02\0\xb7\0\0\0\x02\0\0\0\x95\0\0\0\0\0\0",
+        "refused I2\n",
+    ),
+    (
+        b"XBP1\0\0\x02\0\xb7\0\0\0\x02\0\0\0\x95\0\0\0\0\0\0\0\0",
+        "refused I3\n",
+    ),
+    // an exit with another register than r0; no opcode; a call of a helper, which there is not
+    (
+        b"XBP1\0\0\x01\0\x95\0\x01\0\0\0\0\0",
+        "refused I8 slot 0 C4\n",
+    ),
+    (
+        b"XBP1\0\0\x02\0\x95\0\0\0\0\0\0\0\xff\0\0\0\0\0\0\0",
+        "refused I8 slot 1 C2\n",
+    ),
+    (
+        b"XBP1\0\0\x01\0\x85\0\0\0\x05\0\0\0",
+        "refused I8 slot 0 C5\n",
+    ),
+];
+
+#[test]
+fn no_images(rt: HostRuntime) -> Result<(), Fail> {
+    write_files(&rt)?;
+    for (bytes, report) in NO_IMAGES.iter() {
+        fs::write(&rt, "other", *bytes)?;
+        answers(&rt, &["trace", "other", "frames", "sent"], 2, *report, "")?;
+    }
+    remove_files(&rt)
+}
+
+// What the stream of two empty records reports where it is cut after that many bytes.
+fn report_cut_at(count: usize) -> (u8, &'static str) {
+    match count {
+        0..=3 => (3, "fault F1 at 0\n"),
+        4 => (0, "end 0\n"),
+        5..=23 => (3, "fault F2 at 4\n"),
+        24 => (0, "0 PASS 0 2\nend 1\n"),
+        25..=43 => (3, "0 PASS 0 2\nfault F2 at 24\n"),
+        _ => (0, "0 PASS 0 2\n1 PASS 0 2\nend 2\n"),
+    }
+}
+
+#[test]
+fn cut_frames(rt: HostRuntime) -> Result<(), Fail> {
+    write_files(&rt)?;
+    let two = stream(rt.alloc(), 40)?;
+    for count in 0..45usize {
+        let front = two.get(..count).ok_or("too long a cut")?;
+        fs::write(&rt, "cut", front)?;
+        let (status, report) = report_cut_at(count);
+        answers(&rt, &["run", "image", "cut", "sent"], status, report, "")?;
+    }
+    remove_files(&rt)
+}
+
+#[test]
+fn cut_images(rt: HostRuntime) -> Result<(), Fail> {
+    write_files(&rt)?;
+    for count in 0..24usize {
+        let front = PASSES_IMAGE.get(..count).ok_or("too long a cut")?;
+        fs::write(&rt, "cut", front)?;
+        answers(
+            &rt,
+            &["run", "cut", "frames", "sent"],
+            2,
+            "refused I2\n",
+            "",
+        )?;
+    }
+    remove_files(&rt)
+}
+
+// Standard output fails after each byte: the report is what came before, and the frames out follow
+// it.
+#[test]
+fn standard_output_fails(rt: HostRuntime) -> Result<(), Fail> {
+    write_files(&rt)?;
+    let said = "cannot write standard output\nits reader has closed it\n";
+    for room in 0..17usize {
+        breaks(&rt, RUN, room, PASSED, "cannot write standard output\n")?;
+        let sent = fs::read(&rt, "sent")?;
+        assert_eq!(rt; sent.len(), if room < 11 { 4 } else { 24 }, "after {room}");
+    }
+    breaks(
+        &rt,
+        &["run", "short", "frames", "sent"],
+        3,
+        "refused I2\n",
+        said,
+    )?;
+    remove_files(&rt)
+}

@@ -1,0 +1,156 @@
+//! Files that fail, that are read and written at once, and that are large.
+
+use super::{PASSED, RUN, answers, remove_files, write_files};
+use assembler::assemble;
+use std::fs;
+use std::test::Fail;
+
+// A command, its status, and what standard output and standard error have.
+const FAILING: [(&[&str], u8, &str, &str); 10] = [
+    (
+        &["dis", "lost"],
+        4,
+        "",
+        "cannot read lost\nno such file or folder\n",
+    ),
+    (&["dis", "short"], 2, "refused I2\n", ""),
+    (
+        &["trace", "lost", "frames", "sent"],
+        4,
+        "",
+        "cannot read lost\nno such file or folder\n",
+    ),
+    (
+        &["trace", "image", "lost", "sent"],
+        4,
+        "",
+        "cannot read lost\nno such file or folder\n",
+    ),
+    (
+        &["trace", "image", "lost", "lost/sent"],
+        4,
+        "",
+        "cannot read lost\nno such file or folder\n",
+    ),
+    (
+        &["trace", "image", "frames", "lost/sent"],
+        4,
+        "",
+        "cannot write lost/sent\nno such file or folder\n",
+    ),
+    (
+        &["trace", "folder", "frames", "sent"],
+        4,
+        "",
+        "cannot read folder\nit is a folder\n",
+    ),
+    (
+        &["trace", "image", "folder", "sent"],
+        3,
+        "fault F5 at 0\n",
+        "",
+    ),
+    (
+        &["trace", "image", "frames", "/dev/full"],
+        4,
+        "",
+        "cannot write /dev/full\n",
+    ),
+    (&["trace", "short", "lost", "sent"], 2, "refused I2\n", ""),
+];
+
+#[test]
+fn files_that_fail(rt: HostRuntime) -> Result<(), Fail> {
+    write_files(&rt)?;
+    fs::create_dir(&rt, "folder")?;
+    for (texts, status, report, said) in FAILING.iter() {
+        answers(&rt, *texts, *status, *report, *said)?;
+    }
+    fs::remove_dir(&rt, "folder")?;
+    remove_files(&rt)
+}
+
+// A command that would write over a file that it reads, and that file.
+const READ_TOO: [(&[&str], &str); 7] = [
+    (&["trace", "image", "frames", "frames"], "frames"),
+    (&["run", "image", "frames", "frames"], "frames"),
+    (&["run", "image", "frames", "./frames"], "./frames"),
+    (&["trace", "image", "frames", "image"], "image"),
+    (&["run", "image", "frames", "image"], "image"),
+    (&["asm", "text", "text"], "text"),
+    (&["run", "image", "cut", "cut"], "cut"),
+];
+
+/// Files that are read are not written over, whatever they are called.
+#[test]
+fn files_that_are_read_too(rt: HostRuntime) -> Result<(), Fail> {
+    write_files(&rt)?;
+    fs::write(&rt, "text", b"exit")?;
+    fs::write(&rt, "cut", b"")?;
+    for (texts, path) in READ_TOO.iter() {
+        let said = format!(in rt.alloc();
+            "cannot write {path}\nit is one of the files that are read\n"
+        )?;
+        answers(&rt, *texts, 4, "", said.as_str())?;
+    }
+    answers(&rt, RUN, 0, PASSED, "")?;
+    let text = fs::read(&rt, "text")?;
+    assert_eq!(rt; text.as_slice(), b"exit".as_slice());
+    remove_files(&rt)
+}
+
+/// A file that is written keeps nothing of what it held.
+#[test]
+fn files_that_are_written_over(rt: HostRuntime) -> Result<(), Fail> {
+    write_files(&rt)?;
+    fs::write(&rt, "text", b"r0 = 2\nexit")?;
+    let before = [7u8; 100];
+    fs::write(&rt, "sent", before.as_slice())?;
+    fs::write(&rt, "made", before.as_slice())?;
+    answers(&rt, RUN, 0, PASSED, "")?;
+    answers(&rt, &["asm", "text", "made"], 0, "ok maps 0 slots 2\n", "")?;
+    for (written, wanted) in [("sent", "frames"), ("made", "image")] {
+        let written = fs::read(&rt, written)?;
+        let wanted = fs::read(&rt, wanted)?;
+        assert_eq!(rt; written.as_slice(), wanted.as_slice());
+    }
+    remove_files(&rt)
+}
+
+/// The largest image is read whole; of a longer file no more is read than shows that it is too
+/// long, and a device that never ends is refused by its first bytes.
+#[test]
+fn large_images(rt: HostRuntime) -> Result<(), Fail> {
+    let mut text = "".to_string(rt.alloc())?;
+    for _ in 0..4095u32 {
+        text.push_str("r0 = 2\n")?;
+    }
+    text.push_str("exit")?;
+    let mut bytes = Vec::new(rt.alloc());
+    assemble(rt.alloc(), text.as_bytes())?.write(&mut bytes)?;
+    fs::write(&rt, "largest", bytes.as_slice())?;
+    bytes.push(0)?;
+    fs::write(&rt, "long", bytes.as_slice())?;
+    for (path, status, line) in [
+        ("largest", 0, "ok bound 4096\n"),
+        ("long", 2, "refused I3\n"),
+        ("/dev/zero", 2, "refused I1\n"),
+    ] {
+        answers(&rt, &["verify", path], status, line, "")?;
+    }
+    remove_files(&rt)
+}
+
+/// A device is read and written at once: it holds nothing that could be lost.
+#[test]
+fn devices_that_are_read_too(rt: HostRuntime) -> Result<(), Fail> {
+    write_files(&rt)?;
+    answers(
+        &rt,
+        &["trace", "image", "/dev/null", "/dev/null"],
+        3,
+        "fault F1 at 0\n",
+        "",
+    )?;
+    remove_files(&rt)
+}

@@ -1,0 +1,105 @@
+//! Programs that are verified and run.
+
+use super::programs::{EMPTY, write_frames};
+use super::{RUN, TRACE, answers, remove_files, write_program};
+use std::fs;
+use std::test::Fail;
+
+/// A program, what `verify` says of it, and its report.
+const ACCEPTED: [(&str, &str, &str); 7] = [
+    ("r0 = 2; exit", "ok bound 2\n", "0 PASS 0 2\nend 1\n"),
+    (
+        "r0 = 0x100000002 ll; w1 = 0; w0 %= w1; exit",
+        "ok bound 4\n",
+        "0 PASS 0 4\nend 1\n",
+    ),
+    (
+        "r0 = 0x8000000000000000 ll; r1 = -1; r0 s/= r1; r0 >>= 62; exit",
+        "ok bound 5\n",
+        "0 PASS 0 5\nend 1\n",
+    ),
+    (
+        "r0 = 0x102030405060708 ll; r0 = be16 r0; exit",
+        "ok bound 3\n",
+        "0 INVALID 0 3\nend 1\n",
+    ),
+    (
+        "r0 = -13; r0 s%= 3; r0 += 3; exit",
+        "ok bound 4\n",
+        "0 PASS 0 4\nend 1\n",
+    ),
+    (
+        "r0 = -1; r1 = 0; w0 %= w1; r0 >>= 31; exit",
+        "ok bound 5\n",
+        "0 DROP 0 5\nend 1\n",
+    ),
+    (
+        "r1 = 0; r1 += 1; if r1 < 10 goto -2; r0 = 2; exit",
+        "ok bound 23\n",
+        "0 PASS 0 23\nend 1\n",
+    ),
+];
+
+/// What is accepted, with its bound; `run` writes what `trace` writes.
+#[test]
+fn verifies_and_runs(rt: HostRuntime) -> Result<(), Fail> {
+    write_frames(&rt, EMPTY)?;
+    for (text, bound, report) in ACCEPTED.iter() {
+        write_program(&rt, "image", *text)?;
+        answers(&rt, &["verify", "image"], 0, *bound, "")?;
+        answers(&rt, RUN, 0, *report, "")?;
+        let sent = fs::read(&rt, "sent")?;
+        answers(&rt, TRACE, 0, *report, "")?;
+        let again = fs::read(&rt, "sent")?;
+        assert_eq!(rt; sent.as_slice(), again.as_slice(), "{text}");
+    }
+    remove_files(&rt)
+}
+
+/// A program, and how it is refused.
+const REFUSED: [(&str, &str); 8] = [
+    ("r0 = r2; exit", "refused V1 slot 0\n"),
+    ("r10 = 0; exit", "refused V2 slot 0\n"),
+    ("r0 = r10; exit", "refused V17 slot 1\n"),
+    ("r0 = 0x1 ll; goto -2", "refused G2 slot 2\n"),
+    ("r0 = 0", "refused G3 slot 0\n"),
+    ("r0 = 0; exit; exit", "refused G4 slot 2\n"),
+    ("r0 = 0; goto -1", "refused V18 slot 1\n"),
+    (
+        "r6 = *(u32 *)(r1 + 12); if r6 != 0 goto -2; r0 = 2; exit",
+        "refused V18 slot 0\n",
+    ),
+];
+
+/// What is refused, by what and where. No instruction is run, and the frames and the frames out are
+/// not opened.
+#[test]
+fn refuses_and_runs_nothing(rt: HostRuntime) -> Result<(), Fail> {
+    write_frames(&rt, EMPTY)?;
+    for (text, refusal) in REFUSED.iter() {
+        write_program(&rt, "image", *text)?;
+        answers(&rt, &["verify", "image"], 2, *refusal, "")?;
+        answers(&rt, &["run", "image", "lost", "lost/sent"], 2, *refusal, "")?;
+        fs::write(&rt, "sent", b"kept")?;
+        answers(&rt, RUN, 2, *refusal, "")?;
+        let sent = fs::read(&rt, "sent")?;
+        assert_eq!(rt; sent.as_slice(), b"kept".as_slice(), "{text}");
+    }
+    remove_files(&rt)
+}
+
+/// Both sides of each jump come together again: without that, 2,097,151 instructions would be
+/// explored.
+#[test]
+fn verifies_where_paths_join(rt: HostRuntime) -> Result<(), Fail> {
+    let mut text = "r0 = 2\n".to_string(rt.alloc())?;
+    for _ in 0..20u32 {
+        text.push_str("r7 = *(u32 *)(r1 + 12); if r7 == 0 goto +0\n")?;
+    }
+    text.push_str("exit")?;
+    write_program(&rt, "image", text.as_str())?;
+    write_frames(&rt, EMPTY)?;
+    answers(&rt, &["verify", "image"], 0, "ok bound 42\n", "")?;
+    answers(&rt, RUN, 0, "0 PASS 0 42\nend 1\n", "")?;
+    remove_files(&rt)
+}

@@ -1,0 +1,5 @@
+//! A module for each crate or subject that is tested.
+
+mod changes;
+mod images;
+mod spellings;

@@ -1,0 +1,10 @@
+//! A module for each crate or subject that is tested.
+
+mod bits;
+mod branches;
+mod covers;
+mod kinds;
+mod limits;
+mod numbers;
+mod scalars;
+mod stacks;

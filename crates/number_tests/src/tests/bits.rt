@@ -1,0 +1,230 @@
+//! How precise known bits are, worked out by hand: values and masks of real shapes.
+
+use isa_model::{AluOp, ByteOrder, Extension, Span, Width};
+use known_bits::Bits;
+use std::test::Fail;
+
+const FULL: Width = Width::Full64;
+
+const LOW: Width = Width::Low32;
+
+/// A value and a mask. An unknown bit has a 1 in the mask and a 0 in the value.
+type Pair = (u64, u64);
+
+const ANY: Pair = (0, u64::MAX);
+
+const BYTE: Pair = (0, 0xff);
+
+/// The numbers from 2^64 - 256 on.
+const TOP: Pair = (0xffff_ffff_ffff_ff00, 0xff);
+
+/// The ones of the value, and the unknown bits of the mask.
+fn bits_of(pair: Pair) -> Bits {
+    let unknown = Bits::alu(AluOp::And, FULL, Bits::any(FULL), Bits::constant(pair.1));
+    Bits::alu(AluOp::Or, FULL, unknown, Bits::constant(pair.0))
+}
+
+fn pair_of(bits: Bits) -> Pair {
+    (bits.value, bits.mask)
+}
+
+/// An operation, its width, both operands and the result.
+const RESULTS: [(AluOp, Width, Pair, Pair, Pair); 15] = [
+    (AluOp::And, FULL, BYTE, (15, 0), (0, 15)),
+    // A header length: 0, 4, .. 60, and 14 more: each is 2 above a multiple of 4, and at most 126.
+    (AluOp::Lsh, FULL, (0, 15), (2, 0), (0, 60)),
+    (AluOp::Add, FULL, (0, 60), (14, 0), (2, 0x7c)),
+    // Six times a byte is even and below 2,048.
+    (AluOp::Mul, FULL, BYTE, (6, 0), (0, 0x7fe)),
+    // A difference may have borrowed.
+    (AluOp::Sub, FULL, BYTE, (10, 0), ANY),
+    (AluOp::And, FULL, ANY, (15, 0), (0, 15)),
+    (AluOp::Or, FULL, BYTE, (0x30, 0), (0x30, 0xcf)),
+    (AluOp::Xor, FULL, BYTE, (0x30, 0), BYTE),
+    (AluOp::Mov, LOW, ANY, ANY, (0, 0xffff_ffff)),
+    (AluOp::Rsh, FULL, ANY, (48, 0), (0, 0xffff)),
+    // A shift by 64 goes nowhere.
+    (AluOp::Lsh, FULL, BYTE, (64, 0), BYTE),
+    (AluOp::Lsh, FULL, BYTE, ANY, ANY),
+    // 0x8000_00?? moved by four bits, the sign kept.
+    (
+        AluOp::Arsh,
+        LOW,
+        (0x8000_0000, 0xff),
+        (4, 0),
+        (0xf800_0000, 0xf),
+    ),
+    (AluOp::Div, LOW, ANY, (3, 0), (0, 0xffff_ffff)),
+    (AluOp::And, FULL, ANY, (u64::MAX - 1, 0), (0, u64::MAX - 1)),
+];
+
+#[test]
+fn sums_products_logic_and_shifts(rt: HostRuntime) -> Result<(), Fail> {
+    for (op, width, a, b, wanted) in RESULTS.iter() {
+        let found = pair_of(Bits::alu(*op, *width, bits_of(*a), bits_of(*b)));
+        assert_eq!(rt; found, *wanted, "{op:?}");
+    }
+    Ok(())
+}
+
+const EXTENSIONS: [(Extension, Pair, Pair); 3] = [
+    (
+        Extension::Full8,
+        (0x80, 0x7f),
+        (0xffff_ffff_ffff_ff80, 0x7f),
+    ),
+    (Extension::Full8, (0, 0x7f), (0, 0x7f)),
+    (Extension::Low16, (0x8000, 0), (0xffff_8000, 0)),
+];
+
+const ORDERS: [(ByteOrder, Span, Pair, Pair); 3] = [
+    (ByteOrder::Big, Span::B16, ANY, (0, 0xffff)),
+    (ByteOrder::Little, Span::B32, ANY, (0, 0xffff_ffff)),
+    (ByteOrder::Swap, Span::B16, (0x1234, 0), (0x3412, 0)),
+];
+
+#[test]
+fn parts(rt: HostRuntime) -> Result<(), Fail> {
+    for (extension, a, wanted) in EXTENSIONS.iter() {
+        let found = pair_of(Bits::sign_extend(*extension, bits_of(*a)));
+        assert_eq!(rt; found, *wanted, "{extension:?}");
+    }
+    for (order, span, a, wanted) in ORDERS.iter() {
+        let found = pair_of(Bits::reorder(*order, *span, bits_of(*a)));
+        assert_eq!(rt; found, *wanted, "{order:?}");
+    }
+    let minus_one = Bits::negate(LOW, Bits::constant(1));
+    assert_eq!(rt; pair_of(minus_one), (0xffff_ffff, 0));
+    Ok(())
+}
+
+/// A set, its four limits, and its number where it has one alone.
+const LIMITS: [(Pair, u64, u64, i64, i64, Option<u64>); 4] = [
+    (BYTE, 0, 255, 0, 255, None),
+    ((7, 0), 7, 7, 7, 7, Some(7)),
+    (TOP, 0xffff_ffff_ffff_ff00, u64::MAX, -256, -1, None),
+    (ANY, 0, u64::MAX, i64::MIN, i64::MAX, None),
+];
+
+#[test]
+fn limits(rt: HostRuntime) -> Result<(), Fail> {
+    for (pair, least, greatest, signed_least, signed_greatest, number) in LIMITS.iter() {
+        let bits = bits_of(*pair);
+        assert_eq!(rt; (bits.least(), bits.greatest()), (*least, *greatest));
+        let signed = (bits.signed_least(), bits.signed_greatest());
+        assert_eq!(rt; signed, (*signed_least, *signed_greatest));
+        assert_eq!(rt; bits.number(), *number);
+    }
+    Ok(())
+}
+
+const EVEN: Pair = (0, u64::MAX - 1);
+
+/// Two sets, what both have, and whether the first covers the second.
+const COMMON: [(Pair, Pair, Option<Pair>, bool); 4] = [
+    (BYTE, EVEN, Some((0, 0xfe)), false),
+    ((1, 0), EVEN, None, false),
+    (EVEN, (6, 0), Some((6, 0)), true),
+    (BYTE, BYTE, Some(BYTE), true),
+];
+
+#[test]
+fn common_numbers(rt: HostRuntime) -> Result<(), Fail> {
+    for (a, b, common, is_covered) in COMMON.iter() {
+        let (a, b) = (bits_of(*a), bits_of(*b));
+        assert_eq!(rt; a.meet(b).map(pair_of), *common);
+        assert_eq!(rt; a.covers(b), *is_covered);
+    }
+    assert!(rt; !bits_of(EVEN).covers(bits_of(BYTE)));
+    Ok(())
+}
+
+#[test]
+fn sets(rt: HostRuntime) -> Result<(), Fail> {
+    for (bits, wanted) in [
+        (Bits::any(FULL), ANY),
+        (Bits::any(LOW), (0, 0xffff_ffff)),
+        (Bits::constant(7), (7, 0)),
+        (Bits::between(0, 7), (0, 7)),
+        (Bits::between(0, 0xff), BYTE),
+        (Bits::between(0x80, 0xff), (0x80, 0x7f)),
+        (Bits::between(0x8000_0000, 0x8000_00ff), (0x8000_0000, 0xff)),
+        (Bits::between(0xffff_ffff_ffff_ff00, u64::MAX), TOP),
+    ] {
+        assert_eq!(rt; pair_of(bits), wanted);
+    }
+    Ok(())
+}
+
+enum Relation {
+    Below,
+    AtMost,
+    SignedBelow,
+    SignedAtMost,
+    Apart,
+    Disjoint,
+    Overlapping,
+}
+
+fn related(relation: &Relation, a: Bits, b: Bits) -> Option<(Bits, Bits)> {
+    match relation {
+        Relation::Below => a.below(b),
+        Relation::AtMost => a.at_most(b),
+        Relation::SignedBelow => a.signed_below(b),
+        Relation::SignedAtMost => a.signed_at_most(b),
+        Relation::Apart => a.apart(b),
+        Relation::Disjoint => a.disjoint(b),
+        Relation::Overlapping => a.overlapping(b),
+    }
+}
+
+const TEN: Pair = (10, 0);
+
+const MINUS_ONE: Pair = (u64::MAX, 0);
+
+const GREAT: Pair = (0xffff_ffff_ffff_ff00, 0);
+
+/// A relation, two sets, and what it leaves of both.
+const RELATIONS: [(Relation, Pair, Pair, Option<(Pair, Pair)>); 15] = [
+    (Relation::Below, BYTE, TEN, Some(((0, 15), TEN))),
+    (Relation::Below, TEN, (0, 7), None),
+    // What is above a great number shares its leading ones.
+    (Relation::Below, GREAT, ANY, Some((GREAT, TOP))),
+    (Relation::AtMost, GREAT, ANY, Some((GREAT, TOP))),
+    (Relation::AtMost, BYTE, (7, 0), Some(((0, 7), (7, 0)))),
+    (
+        Relation::SignedBelow,
+        MINUS_ONE,
+        BYTE,
+        Some((MINUS_ONE, BYTE)),
+    ),
+    (Relation::SignedBelow, BYTE, MINUS_ONE, None),
+    (Relation::SignedAtMost, TEN, MINUS_ONE, None),
+    (Relation::SignedAtMost, TEN, TEN, Some((TEN, TEN))),
+    (Relation::Apart, TEN, TEN, None),
+    (Relation::Apart, TEN, BYTE, Some((TEN, BYTE))),
+    (
+        Relation::Disjoint,
+        BYTE,
+        (16, 0),
+        Some(((0, 0xef), (16, 0))),
+    ),
+    (
+        Relation::Overlapping,
+        BYTE,
+        (16, 0),
+        Some(((16, 0xef), (16, 0))),
+    ),
+    (Relation::Overlapping, TEN, (5, 0), None),
+    (Relation::Disjoint, TEN, TEN, None),
+];
+
+#[test]
+fn relations(rt: HostRuntime) -> Result<(), Fail> {
+    for (relation, a, b, wanted) in RELATIONS.iter() {
+        let found = related(relation, bits_of(*a), bits_of(*b));
+        let left = found.map(|both| (pair_of(both.0), pair_of(both.1)));
+        assert_eq!(rt; left, *wanted);
+    }
+    Ok(())
+}

@@ -1,0 +1,171 @@
+//! How precise the answers about conditional jumps are.
+
+ghost use Rattle.std.specs.Prelude.{◌<◌};
+ghost use Rattle.stack_state.specs.Meaning.{depth};
+
+use branch_refine::{Branch, refine};
+use isa_model::{Comparison, Cond, Operand, Reg, Width};
+use reg_state::{Domain, Kind, Scalar};
+use stack_state::State;
+use std::test::Fail;
+
+const FULL: Width = Width::Full64;
+
+const LOW: Width = Width::Low32;
+
+/// The least and the greatest of a set of numbers.
+type Limits = (u64, u64);
+
+const ANY: Limits = (0, u64::MAX);
+
+const WORD: Limits = (0, 0xffff_ffff);
+
+const SEVEN: Limits = (7, 7);
+
+const TEN: Operand = Operand::Constant(10);
+
+const R3: Operand = Operand::Register(Reg::R3);
+
+/// r2 is compared with the operand, and the jump is taken or not: the limits of r2 and r3 before,
+/// and of both after it, if it goes this way.
+const ROWS: [(
+    Comparison,
+    Width,
+    Operand,
+    bool,
+    [Limits; 2],
+    Option<[Limits; 2]>,
+); 9] = [
+    (
+        Comparison::Less,
+        FULL,
+        TEN,
+        true,
+        [ANY, ANY],
+        Some([(0, 9), ANY]),
+    ),
+    (
+        Comparison::Less,
+        FULL,
+        TEN,
+        false,
+        [ANY, ANY],
+        Some([(10, u64::MAX), ANY]),
+    ),
+    (
+        Comparison::Less,
+        FULL,
+        R3,
+        true,
+        [ANY, (5, 10)],
+        Some([(0, 9), (5, 10)]),
+    ),
+    (
+        Comparison::Less,
+        FULL,
+        R3,
+        false,
+        [ANY, (5, 10)],
+        Some([(5, u64::MAX), (5, 10)]),
+    ),
+    // Of 7 to 100 below 5 to 10, what is below 10 is left of the one, and what is above 7 of the
+    // other.
+    (
+        Comparison::Less,
+        FULL,
+        R3,
+        true,
+        [(7, 100), (5, 10)],
+        Some([(7, 9), (8, 10)]),
+    ),
+    // What a low half shows is kept of a word only.
+    (
+        Comparison::Less,
+        LOW,
+        TEN,
+        true,
+        [ANY, ANY],
+        Some([ANY, ANY]),
+    ),
+    (
+        Comparison::Less,
+        LOW,
+        TEN,
+        true,
+        [WORD, ANY],
+        Some([(0, 9), ANY]),
+    ),
+    (
+        Comparison::Equal,
+        FULL,
+        R3,
+        true,
+        [SEVEN, SEVEN],
+        Some([SEVEN, SEVEN]),
+    ),
+    (Comparison::Equal, FULL, R3, false, [SEVEN, SEVEN], None),
+];
+
+fn numbers(limits: Limits) -> Kind {
+    let (least, greatest) = limits;
+    if least <= greatest {
+        Kind::Number(Scalar::between(least, greatest))
+    } else {
+        Kind::Unset
+    }
+}
+
+fn limits_of(kind: Kind) -> Option<Limits> {
+    match kind {
+        Kind::Number(numbers) => Some((numbers.range.least, numbers.range.greatest)),
+        _ => None,
+    }
+}
+
+/// What is left of a start with these numbers in r2 and r3.
+#[tactic(auto, using(stack_state::specs::Starts::depth_start))]
+fn left_of(cond: Cond, taken: bool, before: &[Limits; 2]) -> Branch {
+    let mut state = State::start();
+    state.set_register(Reg::R2, numbers(before[0]));
+    state.set_register(Reg::R3, numbers(before[1]));
+    refine(cond, taken, &state)
+}
+
+#[test]
+fn registers_narrow(rt: HostRuntime) -> Result<(), Fail> {
+    for (comparison, width, operand, taken, before, wanted) in ROWS.iter() {
+        let cond = Cond {
+            width: *width,
+            comparison: *comparison,
+            register: Reg::R2,
+            operand: *operand,
+        };
+        let after = match left_of(cond, *taken, before) {
+            Branch::Never => None,
+            Branch::Goes(state) => {
+                let left = limits_of(state.kind_of(Reg::R2)).ok_or("r2 is no number")?;
+                let right = limits_of(state.kind_of(Reg::R3)).ok_or("r3 is no number")?;
+                Some([left, right])
+            }
+        };
+        assert_eq!(rt; after, *wanted, "{comparison:?} {taken}");
+    }
+    Ok(())
+}
+
+#[test]
+#[tactic(auto, using(stack_state::specs::Starts::depth_start))]
+fn pointers_stay(rt: HostRuntime) -> Result<(), Fail> {
+    let state = State::start();
+    let context_is_0 = Cond {
+        width: FULL,
+        comparison: Comparison::Equal,
+        register: Reg::R1,
+        operand: Operand::Constant(0),
+    };
+    let Branch::Goes(left) = refine(context_is_0, true, &state) else {
+        return Err("the context may be 0".into());
+    };
+    assert!(rt; left.kind_of(Reg::R1) == Kind::Context);
+    Ok(())
+}

@@ -1,0 +1,319 @@
+//! How precise limits are, worked out by hand: limits of real shapes.
+
+use isa_model::{AluOp, ByteOrder, Extension, Span, Width};
+use ranges::Range;
+use std::test::Fail;
+
+const FULL: Width = Width::Full64;
+
+const LOW: Width = Width::Low32;
+
+/// A set of numbers.
+#[derive(Clone, Copy)]
+enum Set {
+    Any,
+    One(u64),
+    /// By its least and its greatest number.
+    Between(u64, u64),
+    /// The same as signed numbers.
+    Signed(i64, i64),
+}
+
+const BYTE: Set = Set::Between(0, 255);
+
+const WORD: Set = Set::Between(0, 0xffff_ffff);
+
+const MINUS_ONE: Set = Set::Signed(-1, -1);
+
+fn range_of(set: Set) -> Range {
+    match set {
+        Set::One(number) => Range::constant(number),
+        Set::Between(least, greatest) if least <= greatest => Range::between(least, greatest),
+        Set::Signed(least, greatest) if least <= greatest => {
+            Range::signed_between(least, greatest)
+        }
+        _ => Range::any(FULL),
+    }
+}
+
+/// Sets, and their limits: unsigned and then signed.
+const LIMITS: [(Set, u64, u64, i64, i64); 8] = [
+    (Set::Any, 0, u64::MAX, i64::MIN, i64::MAX),
+    (WORD, 0, 0xffff_ffff, 0, 0xffff_ffff),
+    (Set::One(7), 7, 7, 7, 7),
+    (Set::One(u64::MAX), u64::MAX, u64::MAX, -1, -1),
+    (BYTE, 0, 255, 0, 255),
+    (
+        Set::Between(5, 0x8000_0000_0000_0003),
+        5,
+        0x8000_0000_0000_0003,
+        i64::MIN,
+        i64::MAX,
+    ),
+    (Set::Signed(-10, 5), 0, u64::MAX, -10, 5),
+    (
+        Set::Signed(i64::MAX - 1, i64::MAX),
+        0x7fff_ffff_ffff_fffe,
+        0x7fff_ffff_ffff_ffff,
+        i64::MAX - 1,
+        i64::MAX,
+    ),
+];
+
+#[test]
+fn sets(rt: HostRuntime) -> Result<(), Fail> {
+    for (set, least, greatest, signed_least, signed_greatest) in LIMITS.iter() {
+        let range = range_of(*set);
+        assert_eq!(rt; (range.least, range.greatest), (*least, *greatest));
+        let signed = (range.signed_least, range.signed_greatest);
+        assert_eq!(rt; signed, (*signed_least, *signed_greatest));
+    }
+    assert_eq!(rt; Range::any(LOW), range_of(WORD));
+    Ok(())
+}
+
+/// An operation, its width, both operands and the result.
+const RESULTS: [(AluOp, Width, Set, Set, Set); 20] = [
+    // A header length of 0 to 60 bytes after 14 others.
+    (AluOp::And, FULL, BYTE, Set::One(15), Set::Between(0, 15)),
+    (
+        AluOp::Lsh,
+        FULL,
+        Set::Between(0, 15),
+        Set::One(2),
+        Set::Between(0, 60),
+    ),
+    (
+        AluOp::Add,
+        FULL,
+        Set::Between(0, 60),
+        Set::One(14),
+        Set::Between(14, 74),
+    ),
+    (AluOp::Mul, FULL, BYTE, Set::One(6), Set::Between(0, 1530)),
+    // A difference below 0 keeps its signed limits only.
+    (AluOp::Sub, FULL, BYTE, Set::One(10), Set::Signed(-10, 245)),
+    (AluOp::Sub, LOW, BYTE, Set::One(10), WORD),
+    (
+        AluOp::Add,
+        FULL,
+        Set::Signed(-10, 5),
+        Set::One(3),
+        Set::Signed(-7, 8),
+    ),
+    // A signed sum that wraps has no limits.
+    (
+        AluOp::Add,
+        FULL,
+        Set::Between(0x7fff_ffff_ffff_fffe, 0x7fff_ffff_ffff_ffff),
+        Set::Between(0, 2),
+        Set::Between(0x7fff_ffff_ffff_fffe, 0x8000_0000_0000_0001),
+    ),
+    (
+        AluOp::And,
+        FULL,
+        Set::Any,
+        Set::One(15),
+        Set::Between(0, 15),
+    ),
+    (
+        AluOp::Rsh,
+        FULL,
+        Set::Any,
+        Set::One(48),
+        Set::Between(0, 0xffff),
+    ),
+    (AluOp::Mov, LOW, Set::Any, Set::Any, WORD),
+    (AluOp::Lsh, FULL, BYTE, Set::One(64), BYTE),
+    (AluOp::Rsh, FULL, BYTE, Set::Any, BYTE),
+    (
+        AluOp::Arsh,
+        FULL,
+        Set::Signed(-256, 255),
+        Set::One(4),
+        Set::Signed(-16, 15),
+    ),
+    (AluOp::Arsh, LOW, BYTE, Set::One(4), Set::Between(0, 15)),
+    (
+        AluOp::Div,
+        FULL,
+        BYTE,
+        Set::Between(2, 3),
+        Set::Between(0, 127),
+    ),
+    (
+        AluOp::Mod,
+        FULL,
+        Set::Any,
+        Set::One(100),
+        Set::Between(0, 99),
+    ),
+    // Numbers with the same upper half keep their distances.
+    (
+        AluOp::Mov,
+        LOW,
+        Set::Between(0x5_0000_0003, 0x5_0000_0009),
+        Set::Between(0x5_0000_0003, 0x5_0000_0009),
+        Set::Between(3, 9),
+    ),
+    (AluOp::Mov, FULL, BYTE, Set::Any, Set::Any),
+    (AluOp::Xor, FULL, Set::One(6), Set::One(5), Set::One(3)),
+];
+
+#[test]
+fn sums_products_logic_and_shifts(rt: HostRuntime) -> Result<(), Fail> {
+    for (op, width, a, b, wanted) in RESULTS.iter() {
+        let found = Range::alu(*op, *width, range_of(*a), range_of(*b));
+        assert_eq!(rt; found, range_of(*wanted), "{op:?}");
+    }
+    assert_eq!(rt;
+        Range::negate(FULL, range_of(BYTE)),
+        range_of(Set::Signed(-255, 0))
+    );
+    Ok(())
+}
+
+const ORDERS: [(ByteOrder, Span, Set, Set); 2] = [
+    (ByteOrder::Big, Span::B16, Set::Any, Set::Between(0, 0xffff)),
+    (ByteOrder::Little, Span::B32, BYTE, BYTE),
+];
+
+const EXTENSIONS: [(Extension, Set, Set); 5] = [
+    (Extension::Low8, Set::Between(3, 100), Set::Between(3, 100)),
+    (Extension::Full8, Set::Any, Set::Signed(-128, 127)),
+    (Extension::Full16, Set::Any, Set::Signed(-32768, 32767)),
+    (
+        Extension::Full32,
+        Set::Any,
+        Set::Signed(-2147483648, 2147483647),
+    ),
+    (Extension::Full8, Set::Signed(-5, 3), Set::Signed(-5, 3)),
+];
+
+#[test]
+fn parts(rt: HostRuntime) -> Result<(), Fail> {
+    for (order, span, a, wanted) in ORDERS.iter() {
+        let found = Range::reorder(*order, *span, range_of(*a));
+        assert_eq!(rt; found, range_of(*wanted), "{order:?}");
+    }
+    for (extension, a, wanted) in EXTENSIONS.iter() {
+        let found = Range::sign_extend(*extension, range_of(*a));
+        assert_eq!(rt; found, range_of(*wanted), "{extension:?}");
+    }
+    Ok(())
+}
+
+/// Two sets, what both have, and whether the first covers the second.
+const COMMON: [(Set, Set, Option<Set>, bool); 6] = [
+    (
+        BYTE,
+        Set::Between(200, 1000),
+        Some(Set::Between(200, 255)),
+        false,
+    ),
+    (BYTE, Set::One(256), None, false),
+    // Each pair of limits takes up what the other shows.
+    (BYTE, Set::Signed(-5, 10), Some(Set::Between(0, 10)), false),
+    // Of the numbers with the sign bit none is left, and then not of those below 5.
+    (
+        Set::Between(5, 0x8000_0000_0000_0003),
+        Set::Signed(-0x7fff_ffff_ffff_0000, 10),
+        Some(Set::Between(5, 10)),
+        false,
+    ),
+    (WORD, BYTE, Some(BYTE), true),
+    (BYTE, BYTE, Some(BYTE), true),
+];
+
+#[test]
+fn common_numbers(rt: HostRuntime) -> Result<(), Fail> {
+    for (a, b, common, is_covered) in COMMON.iter() {
+        let (a, b) = (range_of(*a), range_of(*b));
+        assert_eq!(rt; a.meet(b), common.map(range_of));
+        assert_eq!(rt; a.covers(b), *is_covered);
+    }
+    let numbers = (range_of(Set::One(7)).number(), range_of(BYTE).number());
+    assert_eq!(rt; numbers, (Some(7), None));
+    Ok(())
+}
+
+enum Relation {
+    Below,
+    AtMost,
+    SignedBelow,
+    SignedAtMost,
+    Apart,
+    Disjoint,
+    Overlapping,
+}
+
+fn related(relation: &Relation, a: Range, b: Range) -> Option<(Range, Range)> {
+    match relation {
+        Relation::Below => a.below(b),
+        Relation::AtMost => a.at_most(b),
+        Relation::SignedBelow => a.signed_below(b),
+        Relation::SignedAtMost => a.signed_at_most(b),
+        Relation::Apart => a.apart(b),
+        Relation::Disjoint => a.disjoint(b),
+        Relation::Overlapping => a.overlapping(b),
+    }
+}
+
+const TEN: Set = Set::One(10);
+
+const ZERO: Set = Set::One(0);
+
+/// A relation, two sets, and what it leaves of both.
+const RELATIONS: [(Relation, Set, Set, Option<(Set, Set)>); 14] = [
+    (Relation::Below, BYTE, TEN, Some((Set::Between(0, 9), TEN))),
+    (
+        Relation::Below,
+        TEN,
+        BYTE,
+        Some((TEN, Set::Between(11, 255))),
+    ),
+    (Relation::Below, TEN, TEN, None),
+    (Relation::AtMost, TEN, TEN, Some((TEN, TEN))),
+    (
+        Relation::AtMost,
+        BYTE,
+        TEN,
+        Some((Set::Between(0, 10), TEN)),
+    ),
+    (
+        Relation::SignedBelow,
+        MINUS_ONE,
+        BYTE,
+        Some((MINUS_ONE, BYTE)),
+    ),
+    (Relation::SignedBelow, BYTE, MINUS_ONE, None),
+    (Relation::SignedAtMost, BYTE, MINUS_ONE, None),
+    (Relation::SignedAtMost, TEN, TEN, Some((TEN, TEN))),
+    (
+        Relation::Apart,
+        BYTE,
+        ZERO,
+        Some((Set::Between(1, 255), ZERO)),
+    ),
+    (Relation::Apart, TEN, TEN, None),
+    (
+        Relation::Overlapping,
+        BYTE,
+        TEN,
+        Some((Set::Between(1, 255), TEN)),
+    ),
+    (Relation::Disjoint, TEN, TEN, None),
+    (Relation::Disjoint, BYTE, TEN, Some((BYTE, TEN))),
+];
+
+#[test]
+fn relations(rt: HostRuntime) -> Result<(), Fail> {
+    for (relation, a, b, wanted) in RELATIONS.iter() {
+        let found = related(relation, range_of(*a), range_of(*b));
+        assert_eq!(rt;
+            found,
+            wanted.map(|both| (range_of(both.0), range_of(both.1)))
+        );
+    }
+    Ok(())
+}

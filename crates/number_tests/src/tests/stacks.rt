@@ -1,0 +1,187 @@
+//! What is known of the bytes of a frame, on frames filled by hand.
+
+use isa_model::{Size, Width};
+use reg_state::{Domain, Kind, Scalar};
+use stack_state::{Slot, StackState};
+use std::process::Abort;
+
+/// What is done to a frame.
+#[derive(Clone, Copy)]
+enum Act {
+    Spill(usize, Kind),
+    Store(usize, Size),
+    ForgetMap(u8),
+}
+
+/// A question about it, and the answer that is wanted.
+#[derive(Clone, Copy)]
+enum Look {
+    Slot(usize, Slot),
+    Fill(usize, Option<Kind>),
+    Load(usize, Size, Option<Scalar>),
+    IsBytes(usize, usize, bool),
+}
+
+fn after(acts: &[Act]) -> StackState {
+    let mut stack = StackState::new();
+    for act in acts {
+        match act {
+            Act::Spill(slot, kind) => {
+                if *slot < 64 {
+                    stack.spill(*slot, *kind);
+                }
+            }
+            Act::Store(at, size) => {
+                if *at < 512 && *at % 8 + size.bytes() <= 8 {
+                    stack.store(*at, *size);
+                }
+            }
+            Act::ForgetMap(map) => stack.forget_map(*map),
+        }
+    }
+    stack
+}
+
+fn is_shown(stack: &StackState, look: &Look) -> bool {
+    match look {
+        Look::Slot(slot, wanted) => stack.slots.get(*slot) == Some(wanted),
+        Look::Fill(slot, wanted) => *slot < 64 && stack.fill(*slot) == *wanted,
+        Look::Load(at, size, wanted) => {
+            *at < 512 && *at % 8 + size.bytes() <= 8 && stack.load(*at, *size) == *wanted
+        }
+        Look::IsBytes(from, count, wanted) => {
+            *from <= 512 && *count <= 512 - *from && stack.is_bytes(*from, *count) == *wanted
+        }
+    }
+}
+
+fn are_shown(rt: &impl Abort, acts: &[Act], looks: &[Look]) {
+    let stack = after(acts);
+    for (place, look) in looks.iter().enumerate() {
+        assert!(rt; is_shown(&stack, look), "look {place}");
+    }
+}
+
+/// The marks of slot 2 after a store.
+#[test]
+fn each_size_at_each_place(rt: HostRuntime) {
+    for byte in 0..8usize {
+        let marks = Look::Slot(2, Slot::Written(1u8 << byte));
+        are_shown(&rt, &[Act::Store(16 + byte, Size::U8)], &[marks]);
+    }
+    for (at, size, marks) in [
+        (16, Size::U16, 0x03),
+        (18, Size::U16, 0x0c),
+        (20, Size::U16, 0x30),
+        (22, Size::U16, 0xc0),
+        (16, Size::U32, 0x0f),
+        (20, Size::U32, 0xf0),
+        (16, Size::U64, 0xff),
+        (15, Size::U8, 0),
+        (24, Size::U64, 0),
+    ] {
+        let marks = Look::Slot(2, Slot::Written(marks));
+        are_shown(&rt, &[Act::Store(at, size)], &[marks]);
+    }
+}
+
+#[test]
+fn a_pointer_is_read_whole(rt: HostRuntime) {
+    are_shown(
+        &rt,
+        &[Act::Spill(3, Kind::Context)],
+        &[
+            Look::Fill(3, Some(Kind::Context)),
+            Look::Fill(2, None),
+            Look::Load(24, Size::U64, None),
+            Look::Load(28, Size::U32, None),
+        ],
+    );
+    are_shown(
+        &rt,
+        &[Act::Spill(3, Kind::Context), Act::Store(25, Size::U8)],
+        &[
+            Look::Slot(3, Slot::Written(2)),
+            Look::Fill(3, None),
+            Look::IsBytes(25, 1, true),
+            Look::IsBytes(24, 2, false),
+        ],
+    );
+}
+
+#[test]
+fn a_number_is_read_in_part(rt: HostRuntime) {
+    let seven = Scalar::constant(7);
+    let number = Kind::Number(seven);
+    are_shown(
+        &rt,
+        &[Act::Spill(3, number), Act::Spill(4, Kind::PacketEnd)],
+        &[
+            Look::Fill(3, Some(number)),
+            Look::Load(24, Size::U64, Some(seven)),
+            Look::Load(26, Size::U16, Some(Scalar::between(0, 0xffff))),
+            // across two slots, the second a pointer
+            Look::IsBytes(28, 8, false),
+        ],
+    );
+    are_shown(
+        &rt,
+        &[Act::Spill(3, number), Act::Spill(4, number)],
+        &[
+            Look::IsBytes(28, 8, true),
+            Look::IsBytes(24, 16, true),
+            Look::IsBytes(24, 17, false),
+        ],
+    );
+    are_shown(
+        &rt,
+        &[Act::Spill(3, number), Act::Store(24, Size::U32)],
+        &[Look::Slot(3, Slot::Written(255))],
+    );
+}
+
+#[test]
+fn an_unknown_number_is_written_bytes(rt: HostRuntime) {
+    let any = Kind::Number(Scalar::any(Width::Full64));
+    are_shown(
+        &rt,
+        &[Act::Spill(0, any), Act::Spill(63, Kind::Unset)],
+        &[
+            Look::Slot(0, Slot::Written(255)),
+            Look::Fill(0, Some(any)),
+            Look::Slot(63, Slot::Written(0)),
+        ],
+    );
+}
+
+/// What points to the value of a map that was looked up.
+fn looked_up(index: u8) -> Kind {
+    Kind::MapValueOrNull { index, identity: 1 }
+}
+
+#[test]
+fn a_map_is_forgotten(rt: HostRuntime) {
+    let value = Kind::MapValue {
+        index: 1,
+        least: 0,
+        greatest: 0,
+    };
+    are_shown(
+        &rt,
+        &[
+            Act::Spill(0, value),
+            Act::Spill(1, looked_up(1)),
+            Act::Spill(2, looked_up(2)),
+            Act::Spill(3, Kind::Map { index: 1 }),
+            Act::Store(32, Size::U16),
+            Act::ForgetMap(1),
+        ],
+        &[
+            Look::Fill(0, None),
+            Look::Slot(1, Slot::Written(0)),
+            Look::Fill(2, Some(looked_up(2))),
+            Look::Fill(3, Some(Kind::Map { index: 1 })),
+            Look::IsBytes(32, 2, true),
+        ],
+    );
+}

@@ -1,0 +1,40 @@
+//! A lexeme of each kind, and the byte at which none begins.
+
+use lexer::{Lexeme, Sign, Token, Word, lexeme_at};
+
+/// What stands at the text's front, and its length; or "none", and the place of the byte that
+/// begins no token.
+fn front_of(text: &[u8]) -> (&'static str, usize) {
+    match lexeme_at(text) {
+        Ok((Lexeme::Blank, length)) => ("blank", length),
+        Ok((Lexeme::End, length)) => ("end", length),
+        Ok((Lexeme::Solid(Token::Signed(Sign::ArshAssign)), length)) => ("s>>=", length),
+        Ok((Lexeme::Solid(Token::Named(Word::GotoLong)), length)) => ("gotol", length),
+        Ok((Lexeme::Solid(Token::Number(31)), length)) => ("31", length),
+        Ok((Lexeme::Solid(_), length)) => ("another token", length),
+        Err(at) => ("none", at),
+    }
+}
+
+const FRONTS: [(&[u8], &str, usize); 11] = [
+    // the longest that fits
+    (b"# ; ?\nexit", "blank", 5),
+    (b";;", "end", 1),
+    (b"s>>=1", "s>>=", 4),
+    (b"gotol 1", "gotol", 5),
+    (b"0x1F ", "31", 4),
+    // no token
+    (b"", "none", 0),
+    (b"?", "none", 0),
+    (b"/ 2", "none", 0),
+    (b"0x", "none", 1),
+    (b"0x1g", "none", 3),
+    (b"12_", "none", 2),
+];
+
+#[test]
+fn finds_the_longest_or_no_token(rt: HostRuntime) {
+    for (text, name, place) in FRONTS.iter() {
+        assert_eq!(rt; front_of(*text), (*name, *place));
+    }
+}
