@@ -5,12 +5,7 @@ use control_flow::FlowError::{
     FallsOff, Memory, OtherFunction, SecondHalf, TargetOutside, Unreachable,
 };
 use control_flow::{Flow, FlowError};
-<<<<<<< HEAD
-use image::Image;
 use std::alloc::Global;
-=======
-use std::alloc::{AllocError, Global};
->>>>>>> 7e55e32ebce248a2324a10734b5ad1c8f992a687
 use std::test::Fail;
 
 /// Why the control flow of a program is refused, if it is.
