@@ -14,6 +14,9 @@ use std::rt::Files;
 use std::test::Fail;
 use stumbling_io::{Stumble, Writer};
 
+// Why I2 is answered.
+const SHORT: &str = "the image is shorter than its head, or than its counts say\n";
+
 const USAGE: &str = "usage: xdpvm asm|dis|verify|run|trace|prove|recheck\n";
 
 // What an output says once in place of taking a byte.
@@ -114,12 +117,14 @@ fn is_wrong<R: Files + AllocGlobal + Abort>(
 fn wrong_words(rt: HostRuntime) -> Result<(), Fail> {
     write_files(&rt)?;
     let no_limit = "error: the value of --limit is no number from 1 to 1000000\nusage: ";
-    let rows: [(&[&str], &str); 13] = [
+    let rows: [(&[&str], &str); 15] = [
         (&[], "error: 'xdpvm' requires a subcommand"),
         (&["--help"], "Usage: xdpvm <COMMAND>\n"),
         (&["help"], "Usage: xdpvm <COMMAND>\n"),
+        (&["--version"], "xdpvm 0.1.0\nusage: "),
+        (&["-V"], "xdpvm 0.1.0\nusage: "),
         (
-            &["--version"],
+            &["verify", "--version"],
             "error: unexpected argument '--version' found\n",
         ),
         (
@@ -209,92 +214,106 @@ fn commands_that_are_not_built(rt: HostRuntime) -> Result<(), Fail> {
     Ok(())
 }
 
-// Images, their status and what standard output has.
-const IMAGES: [(&str, u8, &str); 15] = [
-    ("", 2, "refused I2\n"),
+// Images, their status and what standard output and standard error have.
+const IMAGES: [(&str, u8, &str, &str); 15] = [
+    ("", 2, "refused I2\n", SHORT),
     (
         "5842503200000200b7000000020000009500000000000000",
         2,
         "refused I1\n",
+        "the bytes do not begin with XBP1\n",
     ),
     (
         "5842503101000200b7000000020000009500000000000000",
         2,
         "refused I4\n",
+        "the image has map rows, and maps are not supported yet\n",
     ),
     (
         "5842503100000000b7000000020000009500000000000000",
         2,
         "refused I6\n",
+        "the image has no slots, or more than 4096\n",
     ),
     (
         "5842503100000200b70000000200000095000000000000",
         2,
         "refused I2\n",
+        SHORT,
     ),
     (
         "5842503100000200b700000002000000950000000000000000",
         2,
         "refused I3\n",
+        "the image is longer than its counts say\n",
     ),
     (
         "58425031000001009500010000000000",
         2,
         "refused I8 slot 0 C4\n",
+        "a field that the instruction does not use is not 0\nslot 0\n",
     ),
     (
         "58425031000002009500000000000000ff00000000000000",
         2,
         "refused I8 slot 1 C2\n",
+        "the opcode is unknown\nslot 1\n",
     ),
     (
         "58425031000001008500000005000000",
         2,
         "refused I8 slot 0 C5\n",
+        "the selector is unknown; helper calls and map loads are not supported yet\nslot 0\n",
     ),
     (
         "5842503100000200bf200000000000009500000000000000",
         0,
         "0 TRAP unset 0 0\nend 1\n",
+        "",
     ),
     (
         "5842503100000200b70a0000000000009500000000000000",
         0,
         "0 TRAP readonly 0 0\nend 1\n",
+        "",
     ),
     (
         "5842503100000200bfa00000000000009500000000000000",
         0,
         "0 TRAP exit 0 1\nend 1\n",
+        "",
     ),
     (
         "5842503100000100b700000000000000",
         0,
         "0 TRAP code 0 1\nend 1\n",
+        "",
     ),
     (
         "584250310000020085100000ffffffff9500000000000000",
         0,
         "0 TRAP frames 0 7\nend 1\n",
+        "",
     ),
     (
         "5842503100000200b7000000060000009500000000000000",
         0,
         "0 INVALID 0 2\nend 1\n",
+        "",
     ),
 ];
 
 #[test]
 fn images(rt: HostRuntime) -> Result<(), Fail> {
     write_files(&rt)?;
-    for (text, status, report) in IMAGES {
+    for (text, status, report, said) in IMAGES {
         write_hex(&rt, "other", text)?;
         answers(
             &rt,
             &["trace", "other", "frames", "sent"],
             status,
             report,
-            "",
+            said,
         )?;
     }
     remove_files(&rt)
@@ -331,7 +350,7 @@ fn cuts(rt: HostRuntime) -> Result<(), Fail> {
             &["run", "cut", "frames", "sent"],
             2,
             "refused I2\n",
-            "",
+            SHORT,
         )?;
     }
     remove_files(&rt)

@@ -66,55 +66,66 @@ fn verifies_and_runs(rt: HostRuntime) -> Result<(), Fail> {
     remove_files(&rt)
 }
 
-/// What is refused, by what and where. No instruction is run, and the frames and the frames out are not opened.
+/// What is refused, why and where. No instruction is run, and the frames and the frames out are not opened.
 #[test]
 fn refuses_and_runs_nothing(rt: HostRuntime) -> Result<(), Fail> {
-    let examples: [(&str, &str); 8] = [
+    let examples: [(&str, &str, &str); 8] = [
         // r0 = r2; exit
         (
             "5842503100000200bf200000000000009500000000000000",
             "refused V1 slot 0\n",
+            "a register is read that may be unset\nslot 0: r0 = r2\n",
         ),
         // r10 = 0; exit
         (
             "5842503100000200b70a0000000000009500000000000000",
             "refused V2 slot 0\n",
+            "r10 is written, and it is read-only\nslot 0: r10 = 0\n",
         ),
         // r0 = r10; exit
         (
             "5842503100000200bfa00000000000009500000000000000",
             "refused V17 slot 1\n",
+            "r0 is unset or a pointer at the exit\nslot 1: exit\n",
         ),
         // r0 = 0x1 ll; goto -2
         (
             "5842503100000300180000000100000000000000000000000500feff00000000",
             "refused G2 slot 2\n",
+            "the jump or call leads into the second half of a wide load\nslot 2: goto -2\n",
         ),
         // r0 = 0
-        ("5842503100000100b700000000000000", "refused G3 slot 0\n"),
+        (
+            "5842503100000100b700000000000000",
+            "refused G3 slot 0\n",
+            "the last instruction of the function falls through\nslot 0: r0 = 0\n",
+        ),
         // r0 = 0; exit; exit
         (
             "5842503100000300b70000000000000095000000000000009500000000000000",
             "refused G4 slot 2\n",
+            "no path leads from slot 0 to the instruction\nslot 2: exit\n",
         ),
         // r0 = 0; goto -1
         (
             "5842503100000200b7000000000000000500ffff00000000",
             "refused V18 slot 1\n",
+            "a path comes back to a state that it was in: the loop has no end\nslot 1: goto -1\n",
         ),
         // r6 = *(u32 *)(r1 + 12); if r6 != 0 goto -2; r0 = 2; exit
         (
             "584250310000040061160c00000000005506feff00000000b7000000020000009500000000000000",
             "refused V18 slot 0\n",
+            "a path comes back to a state that it was in: the loop has no end\nslot 0: r6 = *(u32 *)(r1 + 12)\n",
         ),
     ];
     write_frames(&rt, EMPTY)?;
-    for (image, refusal) in examples {
+    for (image, refusal, why) in examples {
         write_hex(&rt, "image", image)?;
-        answers(&rt, &["verify", "image"], 2, refusal, "")?;
-        answers(&rt, &["run", "image", "lost", "lost/sent"], 2, refusal, "")?;
+        answers(&rt, &["verify", "image"], 2, refusal, why)?;
+        answers(&rt, &["run", "image", "lost", "lost/sent"], 2, refusal, why)?;
         write_hex(&rt, "sent", "0102")?;
-        answers(&rt, &["run", "image", "frames", "sent"], 2, refusal, "")?;
+        answers(&rt, &["run", "image", "frames", "sent"], 2, refusal, why)?;
         let sent = fs::read(&rt, "sent")?;
         assert_eq!(rt; sent.as_slice(), [1, 2].as_slice(), "{image}");
     }
