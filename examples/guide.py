@@ -9,13 +9,14 @@ The first word after the backquotes of a code block says how the block is tried:
 
     console     commands after `$`, each followed by its standard output
     NAME.text   a program text; it is written to that file, for the commands that follow it on the page
-    program     a program text; `asm` assembles it, and `verify` answers what the first line says
-    trace       a program text; the first frame of examples/two.frames, traced, has the line that the first line says
-    image       an image in hexadecimal; `verify` answers what the first line says
-    stream      a frame stream in hexadecimal; the report of examples/pass.image ends in what the first line says
+    program     a program text; `asm` assembles it, and `verify` answers what the comment says
+    trace       a program text; the first frame of examples/two.frames, traced, has the line that the comment says
+    image       an image in hexadecimal; `verify` answers what the comment says
+    stream      a frame stream in hexadecimal; the report of examples/pass.image ends in what the comment says
 
-The first line of the last four is a comment. A refusal of `asm` counts as the answer. In hexadecimal `#` begins a
-comment. Blocks with any other word, or with none, are not tried. Each examples/NAME.text has to make NAME.image.
+The last four begin with a comment: the line of standard output, and after it what standard error gets. A refusal of
+`asm` counts as the answer. In hexadecimal `#` begins a comment. Blocks with any other word, or with none, are not
+tried. Each examples/NAME.text has to make NAME.image.
 The exit status is 0 if every answer is the one wanted, else 1.
 """
 import glob
@@ -28,13 +29,14 @@ import tempfile
 TOP = os.path.dirname(os.path.dirname(os.path.abspath(__file__)))
 PROGRAM = os.path.abspath(sys.argv[1] if len(sys.argv) > 1 else os.path.join(TOP, "crates/xdpvm/out/xdpvm"))
 BLOCK = re.compile(r"^```(\S+)\n(.*?)^```$", re.M | re.S)
+COMMENT = re.compile(r"(?:# .*\n)*")
 COMMAND = re.compile(r"^\$ (.*)\n((?:(?!\$ ).*\n)*)", re.M)
 
 
 def run(*words):
-    """The status and the standard output of the program."""
-    ran = subprocess.run([PROGRAM, *words], stdout=subprocess.PIPE, stderr=subprocess.DEVNULL, text=True, timeout=100)
-    return ran.returncode, ran.stdout
+    """The status, the standard output and the standard error of the program."""
+    ran = subprocess.run([PROGRAM, *words], stdout=subprocess.PIPE, stderr=subprocess.PIPE, text=True, timeout=100)
+    return ran.returncode, ran.stdout, ran.stderr
 
 
 def shell(command):
@@ -61,19 +63,25 @@ def write_hex(name, text):
 def assembled(text):
     """The refusal of `asm`, or None where it made example.image."""
     write("example.text", text)
-    status, answer = run("asm", "example.text", "example.image")
-    return answer if status else None
+    status, answer, why = run("asm", "example.text", "example.image")
+    return answer + why if status else None
+
+
+def verified():
+    """The verdict on example.image."""
+    status, answer, why = run("verify", "example.image")
+    return answer + why
 
 
 def answer_of(kind, body):
-    """What the program answers to a block whose first line says what is wanted."""
+    """What the program answers to a block whose first comment says what is wanted."""
     if kind == "program":
-        return assembled(body) or run("verify", "example.image")[1]
+        return assembled(body) or verified()
     if kind == "trace":
         return assembled(body) or line(run("trace", "example.image", "examples/two.frames", "sent")[1], 0)
     if kind == "image":
         write_hex("example.image", body)
-        return run("verify", "example.image")[1]
+        return verified()
     write_hex("example.frames", body)
     return line(run("run", "examples/pass.image", "example.frames", "sent")[1], -1)
 
@@ -86,7 +94,7 @@ def tries(kind, body):
         for command, wanted in COMMAND.findall(body):
             yield command, wanted, shell(command)
     elif kind in ("program", "trace", "image", "stream"):
-        yield body, body.splitlines()[0].removeprefix("# ") + "\n", answer_of(kind, body)
+        yield body, re.sub("^# ", "", COMMENT.match(body)[0], flags=re.M), answer_of(kind, body)
 
 
 def stored():

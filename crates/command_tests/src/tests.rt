@@ -16,6 +16,9 @@ use std::rt::Files;
 use std::test::Fail;
 use stumbling_io::{Stumble, Writer};
 
+// Why an image is refused by I2.
+const SHORT: &str = "the image is shorter than its head, or than its counts say\n";
+
 const USAGE: &str = "usage: xdpvm asm|dis|verify|run|trace|prove|recheck\n";
 
 // What an output says once in place of taking a byte.
@@ -152,12 +155,14 @@ fn is_wrong<R: Files + AllocGlobal + Abort>(
 const NO_LIMIT: &str = "error: the value of --limit is no number from 1 to 1000000\nusage: ";
 
 // Words that ask for nothing, and how the text on standard error begins.
-const WRONG: [(&[&str], &str); 13] = [
+const WRONG: [(&[&str], &str); 15] = [
     (&[], "error: 'xdpvm' requires a subcommand"),
     (&["--help"], "Usage: xdpvm <COMMAND>\n"),
     (&["help"], "Usage: xdpvm <COMMAND>\n"),
+    (&["--version"], "xdpvm 0.1.0\nusage: "),
+    (&["-V"], "xdpvm 0.1.0\nusage: "),
     (
-        &["--version"],
+        &["verify", "--version"],
         "error: unexpected argument '--version' found\n",
     ),
     (
@@ -254,50 +259,58 @@ fn commands_that_are_not_built(rt: HostRuntime) -> Result<(), Fail> {
     Ok(())
 }
 
-// Files that are no images, and what standard output has.
-const NO_IMAGES: [(&[u8], &str); 9] = [
-    (b"", "refused I2\n"),
+// Files that are no images, and what standard output and standard error have.
+const NO_IMAGES: [(&[u8], &str, &str); 9] = [
+    (b"", "refused I2\n", SHORT),
     (
         b"XBP2\0\0\x02\0\xb7\0\0\0\x02\0\0\0\x95\0\0\0\0\0\0\0",
         "refused I1\n",
+        "the bytes do not begin with XBP1\n",
     ),
     (
         b"XBP1\x01\0\x02\0\xb7\0\0\0\x02\0\0\0\x95\0\0\0\0\0\0\0",
         "refused I4\n",
+        "the image has map rows, and maps are not supported yet\n",
     ),
     (
         b"XBP1\0\0\0\0\xb7\0\0\0\x02\0\0\0\x95\0\0\0\0\0\0\0",
         "refused I6\n",
+        "the image has no slots, or more than 4096\n",
     ),
     (
         b"XBP1\0\0\x02\0\xb7\0\0\0\x02\0\0\0\x95\0\0\0\0\0\0",
         "refused I2\n",
+        SHORT,
     ),
     (
         b"XBP1\0\0\x02\0\xb7\0\0\0\x02\0\0\0\x95\0\0\0\0\0\0\0\0",
         "refused I3\n",
+        "the image is longer than its counts say\n",
     ),
     // an exit with another register than r0; no opcode; a call of a helper, which there is not
     (
         b"XBP1\0\0\x01\0\x95\0\x01\0\0\0\0\0",
         "refused I8 slot 0 C4\n",
+        "a field that the instruction does not use is not 0\nslot 0\n",
     ),
     (
         b"XBP1\0\0\x02\0\x95\0\0\0\0\0\0\0\xff\0\0\0\0\0\0\0",
         "refused I8 slot 1 C2\n",
+        "the opcode is unknown\nslot 1\n",
     ),
     (
         b"XBP1\0\0\x01\0\x85\0\0\0\x05\0\0\0",
         "refused I8 slot 0 C5\n",
+        "the selector is unknown; helper calls and map loads are not supported yet\nslot 0\n",
     ),
 ];
 
 #[test]
 fn no_images(rt: HostRuntime) -> Result<(), Fail> {
     write_files(&rt)?;
-    for (bytes, report) in NO_IMAGES.iter() {
+    for (bytes, report, why) in NO_IMAGES.iter() {
         fs::write(&rt, "other", *bytes)?;
-        answers(&rt, &["trace", "other", "frames", "sent"], 2, *report, "")?;
+        answers(&rt, &["trace", "other", "frames", "sent"], 2, *report, *why)?;
     }
     remove_files(&rt)
 }
@@ -338,7 +351,7 @@ fn cut_images(rt: HostRuntime) -> Result<(), Fail> {
             &["run", "cut", "frames", "sent"],
             2,
             "refused I2\n",
-            "",
+            SHORT,
         )?;
     }
     remove_files(&rt)

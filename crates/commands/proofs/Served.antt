@@ -22,7 +22,7 @@ wrong : (text : List ℕ) (o : Outcome) → IsWrong text o → IsWrongWords o
 wrong text (WrongWords said) h = tt
 wrong text Done h = absurd h
 wrong text (NotBuilt name) h = absurd h
-wrong text Refused h = absurd h
+wrong text (Refused rejection) h = absurd h
 wrong text Faulted h = absurd h
 wrong text (CannotRead path kind) h = absurd h
 wrong text (CannotWrite path cause) h = absurd h

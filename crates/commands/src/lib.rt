@@ -6,7 +6,7 @@ ghost use Rattle.std.specs.String.{string_bytes};
 ghost use Rattle.serving.specs.declared.outcomes.Outcome.{Outcome};
 ghost use Rattle.serving.specs.Statuses.{status_of, message_of};
 ghost use Rattle.serving.specs.Saying.{AppendsPart};
-ghost use Rattle.commands.specs.Executing.{Executes};
+ghost use Rattle.commands.specs.Executing.{Executes, IsTold};
 
 use serving::{Outcome, serve};
 use std::io::Write;
@@ -21,8 +21,9 @@ use words::read_words;
 /// of some image, the verdict on it, its text, or its size. No contract can say what a file holds.
 ///
 /// The first word is the program's name. `out` stands for standard output and `err` for standard
-/// error. At status 1 and 5 standard output gets no byte; at 0, 2 and 3 standard error gets none.
-#[tactic(auto, using(crate::proofs::Endings::silent_words, crate::proofs::Endings::silent_memory, crate::proofs::Endings::status_fits, crate::proofs::Endings::unsaid_done, crate::proofs::Endings::unsaid_refused, crate::proofs::Endings::unsaid_faulted))]
+/// error. At status 1 and 5 standard output gets no byte; at 0 and 3 standard error gets none, and
+/// at 2 it gets why something was refused and where.
+#[tactic(auto, using(crate::proofs::Endings::silent_words, crate::proofs::Endings::silent_memory, crate::proofs::Endings::status_fits, crate::proofs::Endings::unsaid_done, crate::proofs::Endings::told_refused, crate::proofs::Endings::unsaid_faulted))]
 pub fn execute<R: Files + AllocGlobal, W1: Write, W2: Write>(
     rt: &R,
     words: &[String],
@@ -36,7 +37,7 @@ pub fn execute<R: Files + AllocGlobal, W1: Write, W2: Write>(
     ensures wrong_words { result ≡ 1 → W1.contents out.new ≡ W1.contents out.old }
     ensures no_memory { result ≡ 5 → W1.contents out.new ≡ W1.contents out.old }
     ensures done { result ≡ 0 → W2.contents err.new ≡ W2.contents err.old }
-    ensures refused { result ≡ 2 → W2.contents err.new ≡ W2.contents err.old }
+    ensures refused { result ≡ 2 → IsTold (W2.contents err.old) (W2.contents err.new) }
     ensures faulted { result ≡ 3 → W2.contents err.new ≡ W2.contents err.old }
 {
     let alloc = rt.alloc();

@@ -9,4 +9,4 @@ mod parts;
 mod text;
 mod words;
 
-pub use text::disassemble;
+pub use text::{disassemble, write_insn};

@@ -23,8 +23,8 @@ fn write_row<W: Write>(out: &mut W, row: &MapDef) -> io::Result<()>
     write_bytes(out, line_of_row(row).as_str().as_bytes())
 }
 
-// Writes an instruction's line.
-fn write_insn<W: Write>(out: &mut W, insn: &Insn) -> io::Result<()>
+/// Writes an instruction's line, as `disassemble` does.
+pub fn write_insn<W: Write>(out: &mut W, insn: &Insn) -> io::Result<()>
     ensures ok { OnOk result (Appends (W.contents out.old) (W.contents out.new) (line_of insn.now)) }
     ensures err { OnErr result
         (AppendsBeginning (W.contents out.old) (W.contents out.new) (line_of insn.now)) }

@@ -2,7 +2,8 @@
 use Rattle.std.specs.Prelude.{◌≡◌, ◌≢◌, ℕ, false, List, Option, Some, Err, ◌⊎◌}
 use Rattle.std.specs.Io.KnownBytes.{Appends}
 use Rattle.exact_io.specs.Transfers.{AppendsBeginning}
-use Rattle.isa_model.specs.Code.Instructions.{Program}
+use Rattle.isa_model.specs.declared.instructions.Insn.{Insn}
+use Rattle.isa_model.specs.Code.Instructions.{Program, fetch}
 use Rattle.image.specs.declared.errors.ImageError.{ImageError}
 use Rattle.image.specs.Images.{image_bytes}
 use Rattle.image.specs.Refusals.{refusal_of}
@@ -12,6 +13,7 @@ use Rattle.explorer.specs.Refused.{IsRefused}
 use Rattle.assembler.specs.declared.errors.AsmErrorKind.TheVariants as text
 use Rattle.assembler.specs.declared.errors.AsmError.{AsmError}
 use Rattle.assembler.specs.Assembling.{assembled}
+use Rattle.serving.specs.declared.rejections.Rejection.TheVariants as rejection
 use Rattle.serving.specs.declared.outcomes.Outcome.{Outcome}
 use Rattle.serving.specs.declared.outcomes.Outcome.TheVariants.{Done, Refused, NoMemory}
 use Rattle.serving.specs.Statuses.{IsWriteFailure}
@@ -22,14 +24,20 @@ use Rattle.serving.specs.Saying.{Says, LacksMemory}
 abbrev pub RefusesImage : List ℕ → Option (List ℕ) → Option (List ℕ) → Outcome → Type 0
 RefusesImage bytes old new result =
     LacksMemory old new result
-    ⊎ ((error : ImageError) × (refusal_of bytes ≡ Some error) × Says old new (image_line error) Refused result)
+    ⊎ ((error : ImageError) × (refusal_of bytes ≡ Some error) × Says old new (image_line error) (Refused (rejection.Image error)) result)
+
+-- standard output says that a program is refused at a slot, where this instruction begins; or memory ran out
+abbrev pub SaysRefused : Refusal → ℕ → Option Insn → Option (List ℕ) → Option (List ℕ) → Outcome → Type 0
+SaysRefused refusal slot insn old new result =
+    LacksMemory old new result
+    ⊎ ((is_memory refusal ≡ false) × Says old new (verdict_line refusal slot) (Refused (rejection.Program refusal slot insn)) result)
 
 -- a program is refused, and standard output says why and where; or memory ran out
 abbrev pub RefusesProgram : Program → Option (List ℕ) → Option (List ℕ) → Outcome → Type 0
 RefusesProgram p old new result =
     LacksMemory old new result
     ⊎ ((refusal : Refusal) × (slot : ℕ) × IsRefused p refusal slot × (is_memory refusal ≡ false)
-    × Says old new (verdict_line refusal slot) Refused result)
+    × Says old new (verdict_line refusal slot) (Refused (rejection.Program refusal slot (fetch p slot))) result)
 
 -- standard output says the bound of an accepted program; or memory ran out
 abbrev pub Accepts : Bounded → Option (List ℕ) → Option (List ℕ) → Outcome → Type 0
@@ -47,7 +55,7 @@ abbrev pub RefusesText : List ℕ → Option (List ℕ) → Option (List ℕ) �
 RefusesText source old new result =
     LacksMemory old new result
     ⊎ ((error : AsmError) × (assembled source ≡ Err error) × (error.kind ≢ text.Memory)
-    × Says old new (text_line error) Refused result)
+    × Says old new (text_line error) (Refused (rejection.Text error)) result)
 
 -- the file with this name cannot be written, or memory ran out
 abbrev pub IsStoreFailure : List ℕ → Outcome → Type 0

@@ -1,4 +1,5 @@
 pub mod Causes
+pub mod Messages
 pub mod Statuses
 pub mod Lines
 pub mod Saying

@@ -12,16 +12,16 @@ use super::reading::{read_file, read_start};
 use super::same::is_same_file;
 use super::streams::{run_stream, store_image, trace_stream};
 use super::verdicts::{assembled, image_of, judge, say_text, say_verdict, size_line};
-use image::Image;
+use image::{Image, MAX_MAPS, MAX_SLOTS};
 use std::alloc::Global;
 use std::fs;
 use std::io::Write;
 use std::rt::Files;
 use tasks::{Assembly, Paths, StepLimit};
 
-// One byte more than the longest image has: its head, 16 rows of maps and 4,096 slots. Of a longer file the rest
-// changes nothing.
-const PAST_ANY_IMAGE: u64 = 8 + 16 * 12 + 4096 * 8 + 1;
+// One byte more than the longest image has: its head, the rows of its maps and its slots. Of a
+// longer file the rest changes nothing.
+const PAST_ANY_IMAGE: u64 = 8 + 12 * MAX_MAPS as u64 + 8 * MAX_SLOTS as u64 + 1;
 
 // Makes a file to write to, unless it is one of those that are read.
 fn create_file<'a, R: Files>(rt: &R, path: &'a str, read: &[&str]) -> Result<R::File, Outcome<'a>>

@@ -6,10 +6,13 @@ mod files;
 mod names;
 mod outcomes;
 mod reading;
+mod rejections;
 mod requests;
 mod same;
 mod streams;
+mod texts;
 mod verdicts;
 
 pub use outcomes::Outcome;
+pub use rejections::Rejection;
 pub use requests::serve;

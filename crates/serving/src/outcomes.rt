@@ -1,6 +1,6 @@
 //! How a task ended, and what is said of it.
 
-ghost use Rattle.std.specs.Prelude.{◌≡◌, ◌≢◌, ◌++◌, true, OnOk, OnErr};
+ghost use Rattle.std.specs.Prelude.{◌≡◌, ◌≢◌, true, OnOk, OnErr};
 ghost use Rattle.std.specs.Io.KnownBytes.{Appends};
 ghost use Rattle.std.specs.IoError.{error_kind};
 ghost use Rattle.exact_io.specs.Transfers.{AppendsBeginning};
@@ -10,6 +10,8 @@ ghost use Rattle.serving.specs.Saying.{AppendsPart};
 ghost use Rattle.serving.specs.Judging.{IsStoreFailure};
 
 use super::causes::{cause_line, line_after};
+use super::rejections::Rejection;
+use super::texts::write_texts;
 use exact_io::write_bytes;
 use std::io;
 use std::io::{ErrorKind, Write};
@@ -29,7 +31,7 @@ pub enum Outcome<'a> {
     /// The words ask for a command that this build does not have.
     NotBuilt(&'static str),
     /// The image, the text or the program was refused, which standard output says.
-    Refused,
+    Refused(Rejection),
     /// The report ended in a fault.
     Faulted,
     /// The file at the path cannot be read.
@@ -87,7 +89,7 @@ impl<'a> Outcome<'a> {
         match self {
             Outcome::Done => 0,
             Outcome::WrongWords(_) | Outcome::NotBuilt(_) => 1,
-            Outcome::Refused => 2,
+            Outcome::Refused(_) => 2,
             Outcome::Faulted => 3,
             Outcome::CannotRead(_, _) | Outcome::CannotWrite(_, _) | Outcome::CannotReplace(_) => 4,
             Outcome::NoMemory => 5,
@@ -102,7 +104,8 @@ impl<'a> Outcome<'a> {
         ensures unsaid { is_unsaid self.entry ≡ true → W.contents err.new ≡ W.contents err.old }
     {
         match self {
-            Outcome::Done | Outcome::Refused | Outcome::Faulted => Ok(()),
+            Outcome::Done | Outcome::Faulted => Ok(()),
+            Outcome::Refused(rejection) => rejection.say(err),
             Outcome::WrongWords(text) => {
                 write_bytes(err, text.as_bytes())?;
                 write_bytes(err, USAGE.as_bytes())
@@ -135,15 +138,4 @@ impl<'a> Outcome<'a> {
         let _ = self.say(err);
         self.status()
     }
-}
-
-// Writes three texts, one after another.
-fn write_texts<W: Write>(out: &mut W, front: &str, name: &str, back: &str) -> io::Result<()>
-    ensures ok { OnOk result (Appends (W.contents out.old) (W.contents out.new) (front.now ++ (name.now ++ back.now))) }
-    ensures err { OnErr result
-        (AppendsBeginning (W.contents out.old) (W.contents out.new) (front.now ++ (name.now ++ back.now))) }
-{
-    write_bytes(out, front.as_bytes())?;
-    write_bytes(out, name.as_bytes())?;
-    write_bytes(out, back.as_bytes())
 }

@@ -1,6 +1,8 @@
 //! What standard output says of an image, a program or a text that was judged.
 
 ghost use Rattle.std.specs.Prelude.{◌≡◌, false, true, Ok, IfOk, IfErr, OnOk, MatchResult};
+ghost use Rattle.std.specs.Prelude.{slice_get};
+ghost use Rattle.std.specs.Option.{option_flatten};
 ghost use Rattle.std.specs.String.{string_bytes};
 ghost use Rattle.isa_model.specs.Code.Instructions.{Program};
 ghost use Rattle.isa_model.specs.Text.CanonicalText.{canonical_text};
@@ -11,16 +13,18 @@ ghost use Rattle.serving.specs.Statuses.{is_silent};
 ghost use Rattle.serving.specs.Lines.{bound_line, size_line};
 ghost use Rattle.serving.specs.Saying.{Says, LacksMemory};
 ghost use Rattle.serving.specs.Judging.{RefusesImage, RefusesProgram, Accepts, Verifies};
-ghost use Rattle.serving.specs.Judging.{RefusesText};
+ghost use Rattle.serving.specs.Judging.{RefusesText, SaysRefused};
 
 use super::names::{image_line, text_line, verdict_line};
 use super::outcomes::{Outcome, STANDARD_OUTPUT};
+use super::rejections::Rejection;
 use assembler::{AsmError, AsmErrorKind, assemble};
 use control_flow::FlowError;
 use disassembler::disassemble;
 use exact_io::write_bytes;
 use explorer::{Refusal, Verified, verify};
 use image::{Image, ImageError};
+use isa_model::Insn;
 use std::alloc::{AllocError, Global};
 use std::io::Write;
 
@@ -67,11 +71,43 @@ pub fn image_of<'a, W: Write>(
     match Image::parse(alloc, bytes) {
         Ok(image) => Ok(image),
         Err(ImageError::Memory) => Err(Outcome::NoMemory),
-        Err(error) => Err(say_made(image_line(alloc, error), Outcome::Refused, out)),
+        Err(error) => Err(say_made(
+            image_line(alloc, error),
+            Outcome::Refused(Rejection::Image(error)),
+            out,
+        )),
     }
 }
 
-/// The verifier's answer, or how the task ends without one: a refusal is said, with its slot.
+// The instruction that begins at the slot.
+fn insn_at(code: &[Option<Insn>], slot: usize) -> Option<Insn>
+    ensures { result ≡ option_flatten (slice_get code.now slot) }
+{
+    *code.get(slot)?
+}
+
+// Says that a program is refused at a slot, where this instruction begins.
+fn say_refused<'a, W: Write>(
+    alloc: Global,
+    refusal: Refusal,
+    slot: usize,
+    insn: Option<Insn>,
+    out: &mut W,
+) -> Outcome<'a>
+    ensures { SaysRefused refusal slot insn (W.contents out.old) (W.contents out.new) result }
+{
+    match refusal {
+        Refusal::Memory | Refusal::Flow(FlowError::Memory) => Outcome::NoMemory,
+        _ => say_made(
+            verdict_line(alloc, refusal, slot),
+            Outcome::Refused(Rejection::Program(refusal, slot, insn)),
+            out,
+        ),
+    }
+}
+
+/// The verifier's answer, or how the task ends without one: a refusal is said, with its slot and
+/// instruction.
 pub fn judge<'a, W: Write>(
     alloc: Global,
     image: Image,
@@ -82,14 +118,16 @@ pub fn judge<'a, W: Write>(
     ensures verified { IfOk result IsVerified }
     ensures refused { IfErr result (λ ended. RefusesProgram image (W.contents out.old) (W.contents out.new) ended) }
 {
+    // a copy, since the verifier takes the image
+    let Ok(code) = Vec::from_slice(alloc, image.code()) else {
+        return Err(Outcome::NoMemory);
+    };
     match verify(alloc, image) {
         Ok(verified) => Ok(verified),
-        Err((Refusal::Memory | Refusal::Flow(FlowError::Memory), _)) => Err(Outcome::NoMemory),
-        Err((refusal, slot)) => Err(say_made(
-            verdict_line(alloc, refusal, slot),
-            Outcome::Refused,
-            out,
-        )),
+        Err(refused) => {
+            let insn = insn_at(&code, refused.1);
+            Err(say_refused(alloc, refused.0, refused.1, insn, out))
+        }
     }
 }
 
@@ -140,7 +178,11 @@ pub fn assembled<'a, W: Write>(
                 ..
             },
         ) => Err(Outcome::NoMemory),
-        Err(error) => Err(say_made(text_line(alloc, error), Outcome::Refused, out)),
+        Err(error) => Err(say_made(
+            text_line(alloc, error),
+            Outcome::Refused(Rejection::Text(error)),
+            out,
+        )),
     }
 }
 

@@ -1,6 +1,6 @@
 //! Files that fail, that are read and written at once, and that are large.
 
-use super::{PASSED, RUN, answers, remove_files, write_files};
+use super::{PASSED, RUN, SHORT, answers, remove_files, write_files};
 use assembler::assemble;
 use std::fs;
 use std::test::Fail;
@@ -13,7 +13,7 @@ const FAILING: [(&[&str], u8, &str, &str); 10] = [
         "",
         "cannot read lost\nno such file or folder\n",
     ),
-    (&["dis", "short"], 2, "refused I2\n", ""),
+    (&["dis", "short"], 2, "refused I2\n", SHORT),
     (
         &["trace", "lost", "frames", "sent"],
         4,
@@ -56,7 +56,12 @@ const FAILING: [(&[&str], u8, &str, &str); 10] = [
         "",
         "cannot write /dev/full\n",
     ),
-    (&["trace", "short", "lost", "sent"], 2, "refused I2\n", ""),
+    (
+        &["trace", "short", "lost", "sent"],
+        2,
+        "refused I2\n",
+        SHORT,
+    ),
 ];
 
 #[test]
@@ -131,12 +136,22 @@ fn large_images(rt: HostRuntime) -> Result<(), Fail> {
     fs::write(&rt, "largest", bytes.as_slice())?;
     bytes.push(0)?;
     fs::write(&rt, "long", bytes.as_slice())?;
-    for (path, status, line) in [
-        ("largest", 0, "ok bound 4096\n"),
-        ("long", 2, "refused I3\n"),
-        ("/dev/zero", 2, "refused I1\n"),
+    for (path, status, line, said) in [
+        ("largest", 0, "ok bound 4096\n", ""),
+        (
+            "long",
+            2,
+            "refused I3\n",
+            "the image is longer than its counts say\n",
+        ),
+        (
+            "/dev/zero",
+            2,
+            "refused I1\n",
+            "the bytes do not begin with XBP1\n",
+        ),
     ] {
-        answers(&rt, &["verify", path], status, line, "")?;
+        answers(&rt, &["verify", path], status, line, said)?;
     }
     remove_files(&rt)
 }

@@ -34,7 +34,7 @@ fn refuses_texts_before_the_image_is_opened(rt: HostRuntime) -> Result<(), Fail>
         &["asm", "wrong", "none/made"],
         2,
         "refused A5 line 2 column 6\n",
-        "",
+        "the name is not defined\nline 2 column 6\n",
     )?;
     remove_files(&rt)
 }

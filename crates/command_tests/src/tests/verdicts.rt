@@ -56,32 +56,68 @@ fn verifies_and_runs(rt: HostRuntime) -> Result<(), Fail> {
     remove_files(&rt)
 }
 
-/// A program, and how it is refused.
-const REFUSED: [(&str, &str); 8] = [
-    ("r0 = r2; exit", "refused V1 slot 0\n"),
-    ("r10 = 0; exit", "refused V2 slot 0\n"),
-    ("r0 = r10; exit", "refused V17 slot 1\n"),
-    ("r0 = 0x1 ll; goto -2", "refused G2 slot 2\n"),
-    ("r0 = 0", "refused G3 slot 0\n"),
-    ("r0 = 0; exit; exit", "refused G4 slot 2\n"),
-    ("r0 = 0; goto -1", "refused V18 slot 1\n"),
+/// A program, how it is refused, and why.
+const REFUSED: [(&str, &str, &str); 8] = [
+    (
+        "r0 = r2; exit",
+        "refused V1 slot 0\n",
+        "a register is read that may be unset\nslot 0: r0 = r2\n",
+    ),
+    (
+        "r10 = 0; exit",
+        "refused V2 slot 0\n",
+        "r10 is written, and it is read-only\nslot 0: r10 = 0\n",
+    ),
+    (
+        "r0 = r10; exit",
+        "refused V17 slot 1\n",
+        "r0 is unset or a pointer at the exit\nslot 1: exit\n",
+    ),
+    (
+        "r0 = 0x1 ll; goto -2",
+        "refused G2 slot 2\n",
+        "the jump or call leads into the second half of a wide load\nslot 2: goto -2\n",
+    ),
+    (
+        "r0 = 0",
+        "refused G3 slot 0\n",
+        "the last instruction of the function falls through\nslot 0: r0 = 0\n",
+    ),
+    (
+        "r0 = 0; exit; exit",
+        "refused G4 slot 2\n",
+        "no path leads from slot 0 to the instruction\nslot 2: exit\n",
+    ),
+    (
+        "r0 = 0; goto -1",
+        "refused V18 slot 1\n",
+        "a path comes back to a state that it was in: the loop has no end\nslot 1: goto -1\n",
+    ),
     (
         "r6 = *(u32 *)(r1 + 12); if r6 != 0 goto -2; r0 = 2; exit",
         "refused V18 slot 0\n",
+        "a path comes back to a state that it was in: the loop has no end\n\
+             slot 0: r6 = *(u32 *)(r1 + 12)\n",
     ),
 ];
 
-/// What is refused, by what and where. No instruction is run, and the frames and the frames out are
+/// What is refused, why and where. No instruction is run, and the frames and the frames out are
 /// not opened.
 #[test]
 fn refuses_and_runs_nothing(rt: HostRuntime) -> Result<(), Fail> {
     write_frames(&rt, EMPTY)?;
-    for (text, refusal) in REFUSED.iter() {
+    for (text, refusal, why) in REFUSED.iter() {
         write_program(&rt, "image", *text)?;
-        answers(&rt, &["verify", "image"], 2, *refusal, "")?;
-        answers(&rt, &["run", "image", "lost", "lost/sent"], 2, *refusal, "")?;
+        answers(&rt, &["verify", "image"], 2, *refusal, *why)?;
+        answers(
+            &rt,
+            &["run", "image", "lost", "lost/sent"],
+            2,
+            *refusal,
+            *why,
+        )?;
         fs::write(&rt, "sent", b"kept")?;
-        answers(&rt, RUN, 2, *refusal, "")?;
+        answers(&rt, RUN, 2, *refusal, *why)?;
         let sent = fs::read(&rt, "sent")?;
         assert_eq!(rt; sent.as_slice(), b"kept".as_slice(), "{text}");
     }

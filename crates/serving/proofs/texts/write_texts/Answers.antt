@@ -1,7 +1,7 @@
 use Rattle.std.proofs.Common.{◌++◌, subst}
 use Rattle.exact_io.specs.Transfers.{AppendsBeginning}
 use Rattle.serving.proofs.Written.{on_err, on_err_too, first_failed, second_failed}
-use Rattle.serving.proofs.outcomes.write_texts.Goals as goal
+use Rattle.serving.proofs.texts.write_texts.Goals as goal
 
 pub returns-in_err-write_bytes-2-clause-err : goal.returns-in_err-write_bytes-2-clause-err
 returns-in_err-write_bytes-2-clause-err g c =

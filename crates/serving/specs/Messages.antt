@@ -1,0 +1,44 @@
+-- What standard error is told of what is refused: why, in a sentence, and where.
+use Rattle.std.specs.Prelude.{ℕ, List, [], ◌++◌, Option, Some, None, codes, decimal}
+use Rattle.isa_model.specs.declared.instructions.Insn.{Insn}
+use Rattle.isa_model.specs.Text.CanonicalText.{line_of}
+use Rattle.image.specs.declared.errors.ImageError.{ImageError}
+use Rattle.image.specs.declared.errors.ImageError.TheVariants.{Code}
+use Rattle.image.specs.Messages as image
+use Rattle.explorer.specs.Messages as explorer
+use Rattle.assembler.specs.Messages as assembler
+use Rattle.serving.specs.declared.rejections.Rejection.{Rejection}
+use Rattle.serving.specs.declared.rejections.Rejection.TheVariants.{Image, Program, Text}
+
+abbrev pub sentence_of : Rejection → List ℕ
+sentence_of (Image error) = image.sentence_of error
+sentence_of (Program refusal slot insn) = explorer.sentence_of refusal
+sentence_of (Text error) = assembler.sentence_of error.kind
+
+-- ---- places, each a line
+
+-- a slot, and the instruction that begins there
+abbrev pub insn_place : ℕ → Insn → List ℕ
+insn_place slot insn = (codes "slot " ++ (decimal slot ++ codes ": ")) ++ line_of insn
+
+abbrev pub slot_place : ℕ → Option Insn → List ℕ
+slot_place slot None = codes "slot " ++ (decimal slot ++ codes "\n")
+slot_place slot (Some insn) = insn_place slot insn
+
+abbrev pub text_place : ℕ → ℕ → List ℕ
+text_place line column =
+    (codes "line " ++ (decimal line ++ codes " ")) ++ (codes "column " ++ (decimal column ++ codes "\n"))
+
+-- an image is refused at a slot, or as a whole
+abbrev pub image_place : ImageError → List ℕ
+image_place (Code slot error) = slot_place slot None
+image_place error = []
+
+abbrev pub place_of : Rejection → List ℕ
+place_of (Image error) = image_place error
+place_of (Program refusal slot insn) = slot_place slot insn
+place_of (Text error) = text_place error.line error.column
+
+-- the sentence in a line, and then the place
+abbrev pub reason_of : Rejection → List ℕ
+reason_of rejection = (sentence_of rejection ++ codes "\n") ++ place_of rejection

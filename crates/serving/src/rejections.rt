@@ -1,0 +1,99 @@
+//! What is refused and why, and what standard error is told of it.
+
+ghost use Rattle.std.specs.Prelude.{◌≡◌, ◌++◌, OnOk, OnErr, codes, decimal};
+ghost use Rattle.std.specs.Io.KnownBytes.{Appends};
+ghost use Rattle.isa_model.specs.Text.CanonicalText as canonical;
+ghost use Rattle.exact_io.specs.Transfers.{AppendsBeginning};
+ghost use Rattle.serving.specs.Messages.{sentence_of, insn_place, text_place, place_of, reason_of};
+
+use super::texts::write_texts;
+use assembler::AsmError;
+use disassembler::write_insn;
+use explorer::Refusal;
+use image::ImageError;
+use isa_model::Insn;
+use itoa::Buffer;
+use std::io;
+use std::io::Write;
+
+/// What is refused, and why.
+#[derive(Clone, Copy)]
+pub enum Rejection {
+    /// The bytes are no image.
+    Image(ImageError),
+    /// The program is not accepted, at a slot. The instruction is the one that begins there.
+    Program(Refusal, usize, Option<Insn>),
+    /// The text is no program.
+    Text(AsmError),
+}
+
+impl Rejection {
+    fn sentence(self) -> &'static str
+        ensures { result.now ≡ sentence_of self }
+    {
+        match self {
+            Rejection::Image(error) => error.sentence(),
+            Rejection::Program(refusal, _, _) => refusal.sentence(),
+            Rejection::Text(error) => error.kind.sentence(),
+        }
+    }
+
+    // Writes where it is refused.
+    fn say_place<W: Write>(self, err: &mut W) -> io::Result<()>
+        ensures ok { OnOk result (Appends (W.contents err.old) (W.contents err.new) (place_of self)) }
+        ensures err { OnErr result
+            (AppendsBeginning (W.contents err.old) (W.contents err.new) (place_of self)) }
+    {
+        match self {
+            Rejection::Image(ImageError::Code(slot, _)) => say_slot(err, slot, "\n"),
+            Rejection::Image(_) => Ok(()),
+            Rejection::Program(_, slot, None) => say_slot(err, slot, "\n"),
+            Rejection::Program(_, slot, Some(insn)) => say_insn(err, slot, &insn),
+            Rejection::Text(error) => say_text_place(err, error.line, error.column),
+        }
+    }
+
+    /// Writes the sentence, and in the next line the place.
+    pub fn say<W: Write>(self, err: &mut W) -> io::Result<()>
+        ensures ok { OnOk result (Appends (W.contents err.old) (W.contents err.new) (reason_of self)) }
+        ensures err { OnErr result
+            (AppendsBeginning (W.contents err.old) (W.contents err.new) (reason_of self)) }
+    {
+        write_texts(err, "", self.sentence(), "\n")?;
+        self.say_place(err)
+    }
+}
+
+// Writes a slot, and then a text.
+fn say_slot<W: Write>(err: &mut W, slot: usize, back: &str) -> io::Result<()>
+    ensures ok { OnOk result (Appends (W.contents err.old) (W.contents err.new)
+        (codes "slot " ++ (decimal slot ++ back.now))) }
+    ensures err { OnErr result (AppendsBeginning (W.contents err.old) (W.contents err.new)
+        (codes "slot " ++ (decimal slot ++ back.now))) }
+{
+    let mut buffer = Buffer::new();
+    write_texts(err, "slot ", buffer.format(slot as u64), back)
+}
+
+// Writes a slot, and the text of the instruction that begins there.
+fn say_insn<W: Write>(err: &mut W, slot: usize, insn: &Insn) -> io::Result<()>
+    ensures ok { OnOk result (Appends (W.contents err.old) (W.contents err.new)
+        (insn_place slot insn.now)) }
+    ensures err { OnErr result (AppendsBeginning (W.contents err.old) (W.contents err.new)
+        (insn_place slot insn.now)) }
+{
+    say_slot(err, slot, ": ")?;
+    write_insn(err, insn)
+}
+
+// Writes a line and a column.
+fn say_text_place<W: Write>(err: &mut W, line: usize, column: usize) -> io::Result<()>
+    ensures ok { OnOk result (Appends (W.contents err.old) (W.contents err.new)
+        (text_place line column)) }
+    ensures err { OnErr result (AppendsBeginning (W.contents err.old) (W.contents err.new)
+        (text_place line column)) }
+{
+    let mut buffer = Buffer::new();
+    write_texts(err, "line ", buffer.format(line as u64), " ")?;
+    write_texts(err, "column ", buffer.format(column as u64), "\n")
+}
