@@ -141,6 +141,10 @@ impl Domain for Scalar {
 
     ghost limits = { λ s. range_limits s.range };
 
+    ghost ones = { λ s. s.bits.value };
+
+    ghost possible = { λ s. greatest_of s.bits };
+
     fn any(width: Width) -> Scalar {
         Scalar {
             bits: Bits::any(width),
