@@ -28,7 +28,8 @@ pub fn refine(cond: Cond, taken: bool, state: &State) -> Branch
     ensures kept { KeepsIn cond taken state.now result }
     ensures narrowed { IfGoes result (λ left. Narrows state.now left) }
     ensures others { IfGoes result (λ left. KeepsOthers cond state.now left) }
-    ensures shown { AreCompared state.now cond → IfGoes result (λ left. Refined cond taken state.now left) }
+    ensures shown { AreCompared state.now cond
+        → IfGoes result (λ left. Refined cond taken state.now left) }
     ensures constants { (x y : ℕ) → IsJust (kind_of state.now cond.register) x
         → IsJustOperand state.now cond.width cond.operand y
         → holds cond.comparison cond.width x y ≢ taken → result ≡ Branch.Never }

@@ -12,3 +12,4 @@ pub mod Widths
 pub mod Signs
 pub mod Overlaps
 pub mod Copies
+pub mod Frame

@@ -1,5 +1,5 @@
 -- What the contracts of `Bits` cite.
-use Rattle.std.specs.Prelude.{ℕ, ◌≡◌, ⊤}
+use Rattle.std.specs.Prelude.{ℕ, ◌≡◌, ◌+◌, ◌*◌, ◌%◌, ◌^◌, ◌<◌, ◌≤◌, ⊤, bit_or}
 use Rattle.std.specs.Int.{bit_at}
 use Rattle.isa_model.specs.declared.instructions.AluOp.{AluOp}
 use Rattle.isa_model.specs.declared.instructions.AluOp.TheVariants.{Add, Sub, Or, And, Xor, Lsh, Rsh, Mov, Arsh}
@@ -32,6 +32,16 @@ IsPrecise Lsh b = b.mask ≡ 0
 IsPrecise Rsh b = b.mask ≡ 0
 IsPrecise Arsh b = b.mask ≡ 0
 IsPrecise _ b = ⊥
+
+-- the greatest of the numbers: it has each bit that one of them has
+abbrev pub greatest_of : Bits → ℕ
+greatest_of b = bit_or b.value b.mask
+
+-- what the greatest of two factors show of the products that `has` says there are: the trailing zeros of both add up,
+-- and none is longer than the greatest
+pub record KnowsProduct (a b : ℕ) (has : ℕ → Type 0) : Type 0 where
+  pub zeros : (j k z : ℕ) → j + k ≤ 64 → a % 2 ^ j ≡ 0 → b % 2 ^ k ≡ 0 → has z → z % 2 ^ (j + k) ≡ 0
+  pub limit : (l z : ℕ) → a * b < 2 ^ l → has z → z < 2 ^ l
 
 -- some number of a and some number of b have the relation
 pub record SomePair (a b : Bits) (R : ℕ → ℕ → Type 0) : Type 0 where

@@ -10,12 +10,15 @@ use isa_model::{AluOp, ByteOrder, Extension, Span, Width, numbers};
 
 impl Bits {
     ghost use Rattle.isa_model.specs.Code.Numbers.{alu};
-    ghost use Rattle.known_bits.specs.Bits.{Has, IsConstant, IsSharp, IsPrecise};
+    ghost use Rattle.known_bits.specs.Bits.{Has, IsConstant, IsSharp, IsPrecise, greatest_of, KnowsProduct};
 
     /// What the operation gives on the numbers of both.
     pub fn alu(op: AluOp, width: Width, a: Self, b: Self) -> Self
         ensures contains { (x y : ℕ) → Has a x → Has b y → Has result (alu op width x y) }
         ensures sharp { IsPrecise op b → IsSharp a b (alu op width) result.mask }
+        ensures product { op ≡ AluOp.Mul
+            → KnowsProduct (greatest_of a % 2 ^ width_bits width)
+            (greatest_of b % 2 ^ width_bits width) (Has result) }
         ensures exact { (u v : ℕ) → IsConstant a u → IsConstant b v → IsConstant result (alu op width u v) }
         ensures fits { (x : ℕ) → Has result x → x < 2 ^ width_bits width }
     {

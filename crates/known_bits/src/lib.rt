@@ -5,6 +5,7 @@ mod arithmetic;
 pub mod bits;
 mod limits;
 mod logical;
+mod products;
 mod relations;
 mod shifts;
 mod sums;

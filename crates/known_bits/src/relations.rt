@@ -130,7 +130,7 @@ impl Bits {
     }
 
     // The numbers that have none of these bits.
-    fn outside(bits: u64) -> Self
+    pub(crate) fn outside(bits: u64) -> Self
         ensures contains { (x : ℕ) → x < 2 ^ 64 → bit_and x bits ≡ 0 → Has result x }
         ensures only { (x : ℕ) → Has result x → bit_and x bits ≡ 0 }
     {

@@ -1,4 +1,4 @@
-//! Sums, differences and products, first at 64 bits and then at a width.
+//! Sums and differences, first at 64 bits and then at a width.
 
 ghost use Rattle.std.specs.Prelude.{◌≡◌, ℕ, ◌+◌, ◌-◌, ◌*◌, ◌%◌, ◌^◌, ◌<◌, ◌≤◌};
 ghost use Rattle.std.specs.Int.{bit_at};
@@ -36,41 +36,6 @@ impl Bits {
         sum.not()
     }
 
-    fn or_zero(self) -> Self
-        ensures zero { Has result 0 }
-        ensures contains { (x : ℕ) → Has self x → Has result x }
-    {
-        Bits {
-            value: 0,
-            mask: self.value | self.mask,
-        }
-    }
-
-    // What bit `i` of the first factor adds to the product.
-    fn term(self, other: Self, i: u64) -> Self
-        requires { i < 64 }
-        ensures { (x y : ℕ) → Has self x → Has other y → Has result ((bit_at x i * y * 2 ^ i) % 2 ^ 64) }
-    {
-        let moved = other.shift_left(i);
-        if (self.value >> i) & 1 == 1 {
-            moved
-        } else if (self.mask >> i) & 1 == 1 {
-            moved.or_zero()
-        } else {
-            Bits::constant(0)
-        }
-    }
-
-    fn mul(self, other: Self) -> Self
-        ensures { (x y : ℕ) → Has self x → Has other y → Has result ((x * y) % 2 ^ 64) }
-    {
-        let mut sum = Bits::constant(0);
-        for i in 0..64 {
-            sum = sum.add(self.term(other, i));
-        }
-        sum
-    }
-
     pub(crate) fn add_at(self, width: Width, other: Self) -> Self
         ensures contains { (x y : ℕ) → Has self x → Has other y → Has result (result_of AluOp.Add width x y) }
         ensures sharp { IsSharp self other (result_of AluOp.Add width) result.mask }
@@ -87,12 +52,5 @@ impl Bits {
         ensures fits { (x : ℕ) → Has result x → x < 2 ^ width_bits width }
     {
         self.sub(other).truncate(width)
-    }
-
-    pub(crate) fn mul_at(self, width: Width, other: Self) -> Self
-        ensures contains { (x y : ℕ) → Has self x → Has other y → Has result (result_of AluOp.Mul width x y) }
-        ensures fits { (x : ℕ) → Has result x → x < 2 ^ width_bits width }
-    {
-        self.mul(other).truncate(width)
     }
 }

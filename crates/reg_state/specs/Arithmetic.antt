@@ -8,11 +8,12 @@ use Rattle.isa_model.specs.declared.sizes.Span.{Span}
 use Rattle.isa_model.specs.declared.sizes.ByteOrder.{ByteOrder}
 use Rattle.isa_model.specs.declared.sizes.ByteOrder.TheVariants.{Little}
 use Rattle.isa_model.specs.declared.instructions.AluOp.{AluOp}
+use Rattle.isa_model.specs.declared.instructions.AluOp.TheVariants.{Mul}
 use Rattle.isa_model.specs.Code.Sizes.{width_bits, span_bits}
 use Rattle.isa_model.specs.Code.Numbers.{alu, negated, sign_extended, reordered}
 use Rattle.isa_model.specs.Code.ExtensionLemmas.{extension_bits, extension_width}
 use Rattle.known_bits.specs.Member.{Occurs}
-use Rattle.known_bits.specs.Bits.{IsPrecise}
+use Rattle.known_bits.specs.Bits.{IsPrecise, KnowsProduct, greatest_of}
 use Rattle.ranges.specs.Ranges.{IsSignedOf, KeepsLimits, KeepsSignedLimits, extension_signed}
 use Rattle.ranges.specs.Ranges as R
 use Rattle.reg_state.specs.declared.scalars.Scalar.{Scalar}
@@ -41,6 +42,8 @@ pub record IsAlu (op : AluOp) (w : Width) (a b c : Scalar) : Type 0 where
       → KeepsLimits op w a.range b.range (IsFromTo c)
   pub signed : (x y : ℕ) → Has a x → Has b y → w ≡ Full64 → KeepsSignedLimits op a.range b.range (IsSignedFromTo c)
   pub sharp : IsPrecise op b.bits → IsSharp a b (alu op w) c
+  pub product : op ≡ Mul
+      → KnowsProduct (greatest_of a.bits % 2 ^ width_bits w) (greatest_of b.bits % 2 ^ width_bits w) (Has c)
 
 pub record IsNegated (w : Width) (a c : Scalar) : Type 0 where
   pub contains : (x : ℕ) → Has a x → Has c (negated w x)

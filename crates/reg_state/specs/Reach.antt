@@ -1,8 +1,8 @@
 -- What limits show of a comparison: the numbers that may go its way with some number between them.
-use Rattle.std.specs.Prelude.{ℕ, pos, ◌<ℤ◌, ◌≤ℤ◌, Bool, true, false, ⊤}
-use Rattle.std.specs.Int.{w64, cast_signed}
+use Rattle.std.specs.Prelude.{ℕ, ◌≡◌, ◌^◌, pos, ◌<ℤ◌, ◌≤ℤ◌, Bool, true, false, ⊤, bit_and}
+use Rattle.std.specs.Int.{w64, cast_signed, bit_at}
 use Rattle.isa_model.specs.declared.instructions.Comparison.{Comparison}
-use Rattle.isa_model.specs.declared.instructions.Comparison.TheVariants.{Equal, NotEqual, Greater, GreaterEqual, Less, LessEqual, SignedGreater, SignedGreaterEqual, SignedLess, SignedLessEqual}
+use Rattle.isa_model.specs.declared.instructions.Comparison.TheVariants.{Equal, NotEqual, Greater, GreaterEqual, Less, LessEqual, AnyBit, SignedGreater, SignedGreaterEqual, SignedLess, SignedLessEqual}
 use Rattle.reg_state.specs.Limits.{Limits}
 
 -- x is between the limits, read without and with a sign
@@ -34,6 +34,13 @@ MayGo SignedLessEqual false l x = l.signed_least <ℤ cast_signed w64 x
 MayGo SignedGreaterEqual true l x = l.signed_least ≤ℤ cast_signed w64 x
 MayGo SignedLess false l x = l.signed_least ≤ℤ cast_signed w64 x
 MayGo c t l x = ⊤
+
+-- the test of x's bits against a number that has the bits `ones` may have this outcome, where `shared` are the bits that
+-- both may have: on the one side x has none of those, on the other it has the shared bit, if there is only one
+abbrev pub MayShare : Comparison → Bool → ℕ → ℕ → ℕ → Type 0
+MayShare AnyBit false ones shared x = bit_and x ones ≡ 0
+MayShare AnyBit true ones shared x = (i : ℕ) → shared ≡ 2 ^ i → bit_at x i ≡ 1
+MayShare c t ones shared x = ⊤
 
 -- the comparison that goes the same way when its operands are exchanged
 abbrev pub exchanged : Comparison → Comparison

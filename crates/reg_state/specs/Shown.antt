@@ -1,12 +1,13 @@
 -- What `refine` shows of two Scalars whose members are compared: all that its contract promises, as one relation.
-use Rattle.std.specs.Prelude.{◌≡◌, ◌≢◌, ℕ, Bool}
+use Rattle.std.specs.Prelude.{◌≡◌, ◌≢◌, ℕ, Bool, bit_and}
 use Rattle.isa_model.specs.declared.sizes.Width.{Width}
 use Rattle.isa_model.specs.declared.sizes.Width.TheVariants.{Full64}
 use Rattle.isa_model.specs.declared.instructions.Comparison.{Comparison}
 use Rattle.isa_model.specs.Code.Numbers.{holds}
+use Rattle.known_bits.specs.Bits.{greatest_of}
 use Rattle.reg_state.specs.declared.scalars.Scalar.{Scalar}
 use Rattle.reg_state.specs.Limits.{range_limits}
-use Rattle.reg_state.specs.Reach.{MayGo, exchanged}
+use Rattle.reg_state.specs.Reach.{MayGo, MayShare, exchanged}
 use Rattle.reg_state.specs.Scalars.{Has, IsConstant}
 
 -- left and right are what is left of a and b where the comparison of a member of each has this outcome
@@ -20,3 +21,7 @@ pub record Shows (comparison : Comparison) (w : Width) (taken : Bool) (a b left 
       → (x : ℕ) → Has left x → MayGo comparison taken (range_limits b.range) x
   pub right_limits : w ≡ Full64 → (u v : ℕ) → Has b u → Has b v → u ≢ v
       → (y : ℕ) → Has right y → MayGo (exchanged comparison) taken (range_limits a.range) y
+  pub left_bits : w ≡ Full64 → (u v : ℕ) → Has a u → Has a v → u ≢ v → (x : ℕ) → Has left x
+      → MayShare comparison taken b.bits.value (bit_and (greatest_of a.bits) (greatest_of b.bits)) x
+  pub right_bits : w ≡ Full64 → (u v : ℕ) → Has b u → Has b v → u ≢ v → (y : ℕ) → Has right y
+      → MayShare comparison taken a.bits.value (bit_and (greatest_of a.bits) (greatest_of b.bits)) y

@@ -10,7 +10,7 @@ use known_bits::Bits;
 
 impl Domain for Bits {
     ghost use Rattle.isa_model.specs.Code.Numbers.{alu};
-    ghost use Rattle.known_bits.specs.Bits.{Has, IsConstant, IsSharp, IsPrecise};
+    ghost use Rattle.known_bits.specs.Bits.{Has, IsConstant, IsSharp, IsPrecise, greatest_of};
     ghost use Rattle.reg_state.specs.Limits.{no_limits};
     ghost use Rattle.reg_state.specs.Constants.{any_inside, bits_constant_has, bits_constant_only};
 
@@ -21,6 +21,10 @@ impl Domain for Bits {
     ghost encloses = { λ a b. (x : ℕ) → Has b x → Has a x };
 
     ghost limits = { λ b. no_limits };
+
+    ghost ones = { λ b. b.value };
+
+    ghost possible = { greatest_of };
 
     fn any(width: Width) -> Bits {
         Bits::any(width)

@@ -1,9 +1,9 @@
 //! What a conditional jump shows of the numbers that it compares.
 
-ghost use Rattle.std.specs.Prelude.{◌≡◌, ◌≢◌, ℕ, ◌^◌, ◌<◌, None, IsSomeAnd, IfSome, IsTrue};
+ghost use Rattle.std.specs.Prelude.{◌≡◌, ◌≢◌, ℕ, ◌^◌, ◌<◌, None, IsSomeAnd, IfSome, IsTrue, bit_and};
 ghost use Rattle.isa_model.specs.Code.Numbers.{holds};
 ghost use Rattle.reg_state.specs.Relations.{Goes, reads_signed, low_half};
-ghost use Rattle.reg_state.specs.Reach.{MayGo, exchanged};
+ghost use Rattle.reg_state.specs.Reach.{MayGo, MayShare, exchanged};
 
 use crate::domains::Domain;
 use isa_model::{AluOp, Comparison, Extension, Width, numbers};
@@ -30,6 +30,12 @@ pub fn refine<D: Domain>(
         → IfSome result (λ p. (x : ℕ) → D.has p.0 x → MayGo comparison taken (D.limits b) x) }
     ensures right_limits { width ≡ Width.Full64 → (u v : ℕ) → D.has b u → D.has b v → u ≢ v
         → IfSome result (λ p. (y : ℕ) → D.has p.1 y → MayGo (exchanged comparison) taken (D.limits a) y) }
+    ensures left_bits { width ≡ Width.Full64 → (u v : ℕ) → D.has a u → D.has a v → u ≢ v
+        → IfSome result (λ p. (x : ℕ) → D.has p.0 x
+        → MayShare comparison taken (D.ones b) (bit_and (D.possible a) (D.possible b)) x) }
+    ensures right_bits { width ≡ Width.Full64 → (u v : ℕ) → D.has b u → D.has b v → u ≢ v
+        → IfSome result (λ p. (y : ℕ) → D.has p.1 y
+        → MayShare comparison taken (D.ones a) (bit_and (D.possible a) (D.possible b)) y) }
 {
     if never_goes(comparison, width, taken, a, b) {
         return None;
@@ -81,6 +87,10 @@ fn narrowed<D: Domain>(
         → IfSome result (λ p. (x : ℕ) → D.has p.0 x → MayGo comparison taken (D.limits b) x) }
     ensures right_limits { width ≡ Width.Full64
         → IfSome result (λ p. (y : ℕ) → D.has p.1 y → MayGo (exchanged comparison) taken (D.limits a) y) }
+    ensures left_bits { width ≡ Width.Full64 → IfSome result (λ p. (x : ℕ) → D.has p.0 x
+        → MayShare comparison taken (D.ones b) (bit_and (D.possible a) (D.possible b)) x) }
+    ensures right_bits { width ≡ Width.Full64 → IfSome result (λ p. (y : ℕ) → D.has p.1 y
+        → MayShare comparison taken (D.ones a) (bit_and (D.possible a) (D.possible b)) y) }
 {
     match width {
         Width::Full64 => related(comparison, taken, a, b),
@@ -96,6 +106,10 @@ fn related<D: Domain>(comparison: Comparison, taken: bool, a: D, b: D) -> Option
     ensures right { IfSome result (λ p. (y : ℕ) → D.has p.1 y → D.has b y) }
     ensures left_limits { IfSome result (λ p. (x : ℕ) → D.has p.0 x → MayGo comparison taken (D.limits b) x) }
     ensures right_limits { IfSome result (λ p. (y : ℕ) → D.has p.1 y → MayGo (exchanged comparison) taken (D.limits a) y) }
+    ensures left_bits { IfSome result (λ p. (x : ℕ) → D.has p.0 x
+        → MayShare comparison taken (D.ones b) (bit_and (D.possible a) (D.possible b)) x) }
+    ensures right_bits { IfSome result (λ p. (y : ℕ) → D.has p.1 y
+        → MayShare comparison taken (D.ones a) (bit_and (D.possible a) (D.possible b)) y) }
 {
     match (comparison, taken) {
         (Comparison::Equal, true) | (Comparison::NotEqual, false) => {

@@ -1,7 +1,7 @@
 //! What every domain of numbers offers.
 
 ghost use Rattle.std.specs.Prelude.{◌≡◌, ◌≢◌, ℕ, ◌^◌, ◌<◌, ◌≤◌, ◌<ℤ◌, ◌≤ℤ◌, ◌↔◌, Some, IsSomeAnd, IfSome, IsTrue, bit_and, pos};
-ghost use Rattle.std.specs.Int.{w64, cast_signed};
+ghost use Rattle.std.specs.Int.{w64, cast_signed, bit_at};
 ghost use Rattle.isa_model.specs.Code.Sizes.{width_bits, span_bits};
 ghost use Rattle.isa_model.specs.Code.Numbers.{alu, negated, sign_extended, reordered};
 ghost use Rattle.isa_model.specs.Code.ExtensionLemmas.{extension_width};
@@ -12,7 +12,8 @@ use isa_model::{AluOp, ByteOrder, Extension, Span, Width};
 
 /// Sets of numbers below 2^64, each of which a register may hold. `has` says which numbers are members; `is_constant`
 /// that a set is written as the one of a single number, `encloses` that what is written of one set shows that it
-/// contains the other, and `limits` between which limits the members are known to be.
+/// contains the other, `limits` between which limits the members are known to be, `ones` which bits each of them is known
+/// to have, and `possible` which bits any of them may have.
 pub trait Domain: Copy {
     ghost has: { Self → ℕ → Type 0 };
 
@@ -21,6 +22,10 @@ pub trait Domain: Copy {
     ghost encloses: { Self → Self → Type 0 };
 
     ghost limits: { Self → Limits };
+
+    ghost ones: { Self → ℕ };
+
+    ghost possible: { Self → ℕ };
 
     /// All numbers of the width.
     fn any(width: Width) -> Self
@@ -128,14 +133,20 @@ pub trait Domain: Copy {
         ensures common { (x y : ℕ) → has self x → has other y → bit_and x y ≡ 0
             → IsSomeAnd result (λ p. has p.0 x × has p.1 y) }
         ensures left { IfSome result (λ p. (x : ℕ) → has p.0 x → has self x) }
-        ensures right { IfSome result (λ p. (y : ℕ) → has p.1 y → has other y) };
+        ensures right { IfSome result (λ p. (y : ℕ) → has p.1 y → has other y) }
+        ensures left_only { IfSome result (λ p. (x : ℕ) → has p.0 x → bit_and x (ones other) ≡ 0) }
+        ensures right_only { IfSome result (λ p. (y : ℕ) → has p.1 y → bit_and y (ones self) ≡ 0) };
 
     /// Those that have a bit in common with some member of the other, and the other way round.
     fn overlapping(self, other: Self) -> Option<(Self, Self)>
         ensures common { (x y : ℕ) → has self x → has other y → bit_and x y ≢ 0
             → IsSomeAnd result (λ p. has p.0 x × has p.1 y) }
         ensures left { IfSome result (λ p. (x : ℕ) → has p.0 x → has self x) }
-        ensures right { IfSome result (λ p. (y : ℕ) → has p.1 y → has other y) };
+        ensures right { IfSome result (λ p. (y : ℕ) → has p.1 y → has other y) }
+        ensures left_only { IfSome result (λ p. (x i : ℕ) → bit_and (possible self) (possible other) ≡ 2 ^ i
+            → has p.0 x → bit_at x i ≡ 1) }
+        ensures right_only { IfSome result (λ p. (y i : ℕ) → bit_and (possible self) (possible other) ≡ 2 ^ i
+            → has p.1 y → bit_at y i ≡ 1) };
 
     // every member is a number of a register
     ghost bounded: { (d : Self) (x : ℕ) → has d x → x < 2 ^ 64 };

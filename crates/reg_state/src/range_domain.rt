@@ -1,6 +1,6 @@
 //! Limits as a domain.
 
-ghost use Rattle.std.specs.Prelude.{ℕ, ◌≤◌};
+ghost use Rattle.std.specs.Prelude.{ℕ, ◌≤◌, ◌-◌, ◌^◌};
 
 use crate::domains::Domain;
 use isa_model::{AluOp, ByteOrder, Extension, Span, Width};
@@ -18,6 +18,10 @@ impl Domain for Range {
     ghost encloses = { Encloses };
 
     ghost limits = { range_limits };
+
+    ghost ones = { λ r. 0 };
+
+    ghost possible = { λ r. 2 ^ 64 - 1 };
 
     fn any(width: Width) -> Range {
         Range::any(width)

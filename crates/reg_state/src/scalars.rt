@@ -124,7 +124,7 @@ impl Domain for Scalar {
     ghost use Rattle.ranges.specs.Ranges.{KeepsLimits, KeepsSignedLimits};
     ghost use Rattle.reg_state.specs.Scalars.{Has, IsConstant, Encloses};
     ghost use Rattle.reg_state.specs.Arithmetic.{IsFromTo, IsSignedFromTo, IsSharp};
-    ghost use Rattle.known_bits.specs.Bits.{IsPrecise};
+    ghost use Rattle.known_bits.specs.Bits.{IsPrecise, KnowsProduct, greatest_of};
     ghost use Rattle.isa_model.specs.Code.Numbers.{negated, sign_extended, reordered};
     ghost use Rattle.isa_model.specs.Code.Sizes.{span_bits};
     ghost use Rattle.isa_model.specs.Code.ExtensionLemmas.{extension_bits, extension_width};
@@ -140,6 +140,10 @@ impl Domain for Scalar {
     ghost encloses = { Encloses };
 
     ghost limits = { λ s. range_limits s.range };
+
+    ghost ones = { λ s. s.bits.value };
+
+    ghost possible = { λ s. greatest_of s.bits };
 
     fn any(width: Width) -> Scalar {
         Scalar {
@@ -187,6 +191,8 @@ impl Domain for Scalar {
         ensures signed { (x y : ℕ) → Has a x → Has b y → width ≡ Width.Full64
             → KeepsSignedLimits op a.range b.range (IsSignedFromTo result) }
         ensures sharp { IsPrecise op b.bits → IsSharp a b (alu op width) result }
+        ensures product { op ≡ AluOp.Mul → KnowsProduct (greatest_of a.bits % 2 ^ width_bits width)
+            (greatest_of b.bits % 2 ^ width_bits width) (Has result) }
     {
         let both = Scalar {
             bits: Bits::alu(op, width, a.bits, b.bits),

@@ -74,6 +74,8 @@ returns-clause-shown c = λ compared some. record {
     right_constant = c.in-Some-refine.ensures.right_constant;
     left_limits = c.in-Some-refine.ensures.left_limits;
     right_limits = c.in-Some-refine.ensures.right_limits;
+    left_bits = c.in-Some-refine.ensures.left_bits;
+    right_bits = c.in-Some-refine.ensures.right_bits;
   };
   new = rw (c.set_operand.ensures, c.set_register.ensures) refl;
 }

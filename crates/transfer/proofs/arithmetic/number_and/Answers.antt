@@ -10,4 +10,5 @@ returns-in-Number-clause-gives c =
       limits = c.alu.ensures.limits;
       signed = c.alu.ensures.signed;
       sharp = c.alu.ensures.sharp;
+      product = c.alu.ensures.product;
     }

@@ -1,14 +1,31 @@
-use Rattle.std.proofs.Common.{arith, ℕ, ◌≡◌, ◌^◌, ◌%◌, refl, ap, ◌∙◌, bit_and, bit_or, bit_xor}
+use Rattle.std.proofs.Common.{arith, ℕ, ◌≡◌, ◌*◌, ◌+◌, ◌^◌, ◌%◌, refl, sym, ap, ◌∙◌, bit_and, bit_or, bit_xor}
+use Rattle.std.specs.Int.Bits.{or_zero_r}
 use Rattle.std.proofs.lemmas.Nat.{and_mod, or_mod, xor_mod, pow_pos}
 use Rattle.isa_model.specs.Code.Sizes.{width_bits}
-use Rattle.isa_model.specs.declared.instructions.AluOp.TheVariants.{Add, Sub, Lsh, Rsh}
+use Rattle.isa_model.specs.declared.instructions.AluOp.TheVariants.{Add, Sub, Mul, Lsh, Rsh}
+use Rattle.isa_model.specs.declared.sizes.Width.{Width}
 use Rattle.isa_model.specs.Code.Numbers.{alu, result_of}
 use Rattle.isa_model.specs.Code.NumberLemmas.{alu_below, low_below, width_most}
 use Rattle.std.proofs.Math.Nat.{mod-eq_of_lt}
+use Rattle.known_bits.specs.Bits.{Has, greatest_of, KnowsProduct}
 use Rattle.known_bits.proofs.Members.{Known}
 use Rattle.known_bits.proofs.Sharp.{low_set, occurs_low}
+use Rattle.known_bits.proofs.Frame.{mod_le, mod-mod_pow, mod-pow-mul}
 use Rattle.known_bits.proofs.Precise.{occurs_lifted, second_sharp}
 use Rattle.known_bits.proofs.bits.Bits.alu.Goals as goal
+
+product_of_constants : (w : Width) (x y n : ℕ) → n ≡ alu Mul w x y → (has : ℕ → Type 0) → ((z : ℕ) → has z → z ≡ n)
+    → KnowsProduct (x % 2 ^ width_bits w) (y % 2 ^ width_bits w) has
+unfolding alu
+product_of_constants w x y n e has only =
+    let factors = x % 2 ^ width_bits w * (y % 2 ^ width_bits w) in
+    let low : n ≡ factors % 2 ^ width_bits w = e in
+    record {
+      zeros = λ j k z fits hj hk h.
+          ap (λ t. t % 2 ^ (j + k)) (only z h ∙ low)
+          ∙ mod-mod_pow factors (j + k) (width_bits w) (mod-pow-mul (x % 2 ^ width_bits w) (y % 2 ^ width_bits w) j k hj hk);
+      limit = λ l z small h. let is = only z h in let le = mod_le factors (width_bits w) in omega arith;
+    }
 
 zero_low : (n : ℕ) → 0 % 2 ^ n ≡ 0
 zero_low n = mod-eq_of_lt {n = 0} {m = 2 ^ n} (pow_pos n)
@@ -172,3 +189,20 @@ returns-then-b-eq0-clause-fits c = λ x h.
     let is = c.compute.ensures in
     let b = alu_below c.args.op c.args.width c.args.a.value c.args.b.value in
     omega arith
+
+pub returns-in-Mul-clause-product : goal.returns-in-Mul-clause-product
+returns-in-Mul-clause-product c = λ is.
+    let n = width_bits c.args.width in
+    let a : greatest_of c.truncate-x.result ≡ greatest_of c.args.a % 2 ^ n =
+    rw (c.truncate-x.ensures.value, c.truncate-x.ensures.mask) (sym (or_mod c.args.a.value c.args.a.mask n)) in
+    let b : greatest_of c.truncate-y.result ≡ greatest_of c.args.b % 2 ^ n =
+    rw (c.truncate-y.ensures.value, c.truncate-y.ensures.mask) (sym (or_mod c.args.b.value c.args.b.mask n)) in
+    rw (sym a, sym b) c.mul_at.ensures.product
+
+-- two constants have one product
+pub returns-then-b-eq0-clause-product : goal.returns-then-b-eq0-clause-product
+returns-then-b-eq0-clause-product c = λ is.
+    let a : greatest_of c.args.a ≡ c.args.a.value = ap (bit_or c.args.a.value) c.if-a-eq0.true ∙ or_zero_r c.args.a.value in
+    let b : greatest_of c.args.b ≡ c.args.b.value = ap (bit_or c.args.b.value) c.if-b-eq0.true ∙ or_zero_r c.args.b.value in
+    let product = c.compute.ensures ∙ ap (λ op. alu op c.args.width c.args.a.value c.args.b.value) is in
+    rw (a, b) (product_of_constants c.args.width c.args.a.value c.args.b.value c.compute.result product (Has c.constant.result) c.constant.ensures.only)

@@ -1,16 +1,21 @@
-use Rattle.std.proofs.Common.{◌≡◌, arith}
-use Rattle.known_bits.proofs.Parts.{product_more}
-use Rattle.known_bits.proofs.Product.{product_none, product_all}
+use Rattle.std.proofs.Common.{arith}
+use Rattle.known_bits.proofs.Members.{Known}
+use Rattle.known_bits.proofs.Sharp.{least_member}
 use Rattle.known_bits.proofs.bits.Bits.mul.Goals as goal
 
-pub loop-i-init : goal.loop-i-init
-loop-i-init c = λ x y hx hy. rw (product_none x y) c.constant-sum.ensures.contains
-
-pub loop-i-preserved : goal.loop-i-preserved
-loop-i-preserved c = λ x y hx hy.
-    rw (product_more x y c.loop-i.i) at (c.add-sum.ensures.contains _ _ (c.loop-i.invariant x y hx hy) (c.term.ensures x y hx hy))
-
-pub returns : goal.returns
-returns c = λ x y hx hy.
-    let e : c.loop-i.i ≡ 64 = omega arith in
-    rw (product_all x y hx.below) at (rw e at (c.loop-i.invariant x y hx hy))
+pub returns-clause-product : goal.returns-clause-product
+returns-clause-product c =
+    let ka : Known c.args.self.value c.args.self.mask = record { value_in = omega arith; mask_in = omega arith; apart = c.args.self.apart } in
+    let kb : Known c.args.other.value c.args.other.mask = record { value_in = omega arith; mask_in = omega arith; apart = c.args.other.apart } in
+    let x = least_member ka in
+    let y = least_member kb in
+    let term = c.sum_of_terms.ensures _ _ x y in
+    let limit = c.product_limit.ensures.contains _ _ x y in
+    let zero = c.product_zeros.ensures.contains _ _ x y in
+    let both = c.with-limited.ensures.common _ term limit in
+    record {
+      zeros = λ j k z fits hj hk h. c.product_zeros.ensures.zeros j k z fits hj hk (c.with.ensures.within _ z both zero h).1;
+      limit = λ l z small h.
+          let limited = (c.with.ensures.within _ z both zero h).0 in
+          c.product_limit.ensures.limit l z small (c.with-limited.ensures.within _ z term limit limited).1;
+    }

@@ -27,3 +27,11 @@ returns-clause-sharp c = λ precise i x y inside hx hy zero one.
     let fits : c.alu.result.mask < 2 ^ 64 = omega arith in
     c.alu.ensures.sharp precise i (bit_at-differing c.alu.result.value c.alu.result.mask x y i fits
     (c.settled.ensures.narrower x hx).0 (c.settled.ensures.narrower y hy).0 inside zero one)
+
+pub returns-clause-product : goal.returns-clause-product
+returns-clause-product c = λ is.
+    let product = c.alu.ensures.product is in
+    record {
+      zeros = λ j k z fits hj hk h. product.zeros j k z fits hj hk (c.settled.ensures.narrower z h).0;
+      limit = λ l z small h. product.limit l z small (c.settled.ensures.narrower z h).0;
+    }

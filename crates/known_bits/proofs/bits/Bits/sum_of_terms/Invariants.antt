@@ -1,6 +1,6 @@
 use Rattle.std.proofs.Common.{ℕ, ◌*◌, ◌%◌, ◌^◌}
 use Rattle.known_bits.specs.Bits.{Has}
-use Rattle.known_bits.proofs.bits.Bits.mul.Given as goal
+use Rattle.known_bits.proofs.bits.Bits.sum_of_terms.Given as goal
 
 -- the sum so far is the product of the low bits
 abbrev pub invariant-loop-i : goal.invariant-loop-i
