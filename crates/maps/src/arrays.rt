@@ -7,7 +7,8 @@ ghost use Rattle.maps.specs.ArrayPlaces.{array_places};
 use crate::index::Index;
 use byteorder::{ByteOrder, LittleEndian};
 
-/// Which place each key of an array has: its index, which is the key as a number, the lowest byte first.
+/// Which place each key of an array has: its index, which is the key as a number, the lowest byte
+/// first.
 #[derive(Drop)]
 pub struct ArrayIndex {
     entries: u32,

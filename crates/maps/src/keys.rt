@@ -1,6 +1,7 @@
 //! Keys of one size in a block, by place.
 
-ghost use Rattle.std.specs.Prelude.{◌≡◌, ◌+◌, ◌*◌, ◌≤◌, ◌<◌, length, Some, None, IfOk, replicate, slice_set, is_some, true};
+ghost use Rattle.std.specs.Prelude.{◌≡◌, ◌+◌, ◌*◌, ◌≤◌, ◌<◌, length, Some, None, IfOk, replicate};
+ghost use Rattle.std.specs.Prelude.{slice_set, is_some, true};
 ghost use Rattle.std.specs.List.{splice};
 ghost use Rattle.maps.specs.Slots.{KeyTable, slot, slots_of};
 
@@ -26,7 +27,11 @@ pub struct Keys {
 impl Model for Keys {
     ghost Value = { KeyTable };
 
-    ghost view = { λ k. record { size = k.size; slots = slots_of k.size k.block.items 0 k.used.items } };
+    ghost view = { λ k. record {
+      size = k.size;
+      slots = slots_of k.size k.block.items 0
+          k.used.items;
+    } };
 
     ghost invariant = { λ k. length k.block.items ≡ length k.used.items * k.size };
 }

@@ -1,7 +1,7 @@
 //! Maps: finite maps from keys of one size to values of one size.
 //!
-//! A key has a place, which it keeps until it is removed, and the value is the row of a block at that place. All
-//! room is reserved when a map is made; no later call takes memory.
+//! A key has a place, which it keeps until it is removed, and the value is the row of a block at
+//! that place. All room is reserved when a map is made; no later call takes memory.
 #![tactic(auto)]
 
 pub mod arrays;

@@ -1,6 +1,7 @@
 //! The entries of one map.
 
-ghost use Rattle.std.specs.Prelude.{◌≡◌, ◌+◌, ◌*◌, ◌<◌, ◌≤◌, ℕ, List, length, vec_len, replicate, None, Some, IsSome, IfSome, IfOk};
+ghost use Rattle.std.specs.Prelude.{◌≡◌, ◌+◌, ◌*◌, ◌<◌, ◌≤◌, ℕ, List, length, vec_len, replicate};
+ghost use Rattle.std.specs.Prelude.{None, Some, IsSome, IfSome, IfOk};
 ghost use Rattle.std.specs.FinMap as map;
 ghost use Rattle.isa_model.specs.declared.map_defs.MapKind.TheVariants.{Hash, Array};
 ghost use Rattle.isa_model.specs.declared.map_defs.MapDef.{MapDef};
@@ -14,8 +15,8 @@ use crate::scan::ScanIndex;
 use isa_model::{MapDef, MapKind};
 use std::alloc::{AllocError, Global};
 
-/// The entries of a map by its row. Each key has a place, which it keeps until it is removed, and the value of the
-/// key is the row of the block at its place.
+/// The entries of a map by its row. Each key has a place, which it keeps until it is removed, and
+/// the value of the key is the row of the block at its place.
 pub trait MapStore {
     ghost row: { Self → MapDef };
 
@@ -32,24 +33,34 @@ pub trait MapStore {
         requires { length key.now ≡ (row self.now).key_size }
         ensures { result ≡ map.get (places self.now) key.now };
 
-    /// Writes a key's value, and answers its place: a present key keeps its own, and a new one is given a free one.
-    /// There is none where the key is new and the map is full, as an array always is.
+    /// Writes a key's value, and answers its place: a present key keeps its own, and a new one is
+    /// given a free one. There is none where the key is new and the map is full, as an array always
+    /// is.
     fn put(&mut self, key: &[u8], value: &[u8]) -> Option<usize>
         requires key_size { length key.now ≡ (row self.old).key_size }
         requires value_size { length value.now ≡ (row self.old).value_size }
-        ensures present { (p : ℕ) → map.get (places self.old) key.now ≡ Some p → (result ≡ Some p) × (places self.new ≡ places self.old) }
-        ensures full { map.get (places self.old) key.now ≡ None → map.len (places self.old) ≡ (row self.old).entries
-            → (result ≡ None) × (places self.new ≡ places self.old) × (block self.new ≡ block self.old) }
-        ensures added { map.get (places self.old) key.now ≡ None → map.len (places self.old) < (row self.old).entries
-            → IsSome result × IfSome result (λ p. TakesPlace (places self.old) key.now p (places self.new)) }
-        ensures written { IfSome result (λ p. block self.new ≡ with_row (row self.old).value_size (block self.old) p value.now) }
+        ensures present { (p : ℕ) → map.get (places self.old) key.now ≡ Some p
+            → (result ≡ Some p) × (places self.new ≡ places self.old) }
+        ensures full { map.get (places self.old) key.now ≡ None
+            → map.len (places self.old) ≡ (row self.old).entries
+            → (result ≡ None) × (places self.new ≡ places self.old)
+            × (block self.new ≡ block self.old) }
+        ensures added { map.get (places self.old) key.now ≡ None
+            → map.len (places self.old) < (row self.old).entries
+            → IsSome result × IfSome result (λ p. TakesPlace (places self.old) key.now p
+            (places self.new)) }
+        ensures written { IfSome result (λ p. block self.new
+            ≡ with_row (row self.old).value_size (block self.old) p value.now) }
         ensures row { row self.new ≡ row self.old };
 
     /// Removes a key, and answers the place that it had. Nothing is removed from an array.
     fn remove(&mut self, key: &[u8]) -> Option<usize>
         requires { length key.now ≡ (row self.old).key_size }
-        ensures hash { (row self.old).kind ≡ Hash → (result ≡ map.get (places self.old) key.now) × (places self.new ≡ map.remove (places self.old) key.now) }
-        ensures array { (row self.old).kind ≡ Array → (result ≡ None) × (places self.new ≡ places self.old) }
+        ensures hash { (row self.old).kind ≡ Hash
+            → (result ≡ map.get (places self.old) key.now)
+            × (places self.new ≡ map.remove (places self.old) key.now) }
+        ensures array { (row self.old).kind ≡ Array
+            → (result ≡ None) × (places self.new ≡ places self.old) }
         ensures block { block self.new ≡ block self.old }
         ensures row { row self.new ≡ row self.old };
 
@@ -58,11 +69,13 @@ pub trait MapStore {
         requires { place < (row self.now).entries }
         ensures { result.now ≡ row_at (row self.now).value_size (block self.now) place };
 
-    // Each place is below `entries`, no two keys have one place, there are no more keys than `entries`, and the block
-    // has a value for each place.
-    ghost in_range: { (s : Self) (k : List ℕ) (p : ℕ) → map.get (places s) k ≡ Some p → p < (row s).entries };
+    // Each place is below `entries`, no two keys have one place, there are no more keys than
+    // `entries`, and the block has a value for each place.
+    ghost in_range: { (s : Self) (k : List ℕ) (p : ℕ) → map.get (places s) k ≡ Some p
+        → p < (row s).entries };
 
-    ghost apart: { (s : Self) (j k : List ℕ) (p : ℕ) → map.get (places s) j ≡ Some p → map.get (places s) k ≡ Some p → j ≡ k };
+    ghost apart: { (s : Self) (j k : List ℕ) (p : ℕ) → map.get (places s) j ≡ Some p
+        → map.get (places s) k ≡ Some p → j ≡ k };
 
     ghost few: { (s : Self) → map.len (places s) ≤ (row s).entries };
 
@@ -89,7 +102,8 @@ impl<I: Index> Store<I> {
         requires room { I.room index ≡ row.entries }
         ensures row { IfOk result (λ s. s.row ≡ row) }
         ensures index { IfOk result (λ s. s.index ≡ index) }
-        ensures zeros { IfOk result (λ s. s.values.items ≡ replicate (row.entries * row.value_size) 0) }
+        ensures zeros { IfOk result (λ s. s.values.items
+            ≡ replicate (row.entries * row.value_size) 0) }
     {
         let count = row.entries as usize * row.value_size as usize;
         let values = vec![in alloc; 0; count]?;
@@ -152,8 +166,10 @@ impl Store<ArrayIndex> {
     pub fn new(alloc: Global, value_size: u32, entries: u32) -> Result<Self, AllocError>
         ensures row { IfOk result (λ s. ⟦<Store<ArrayIndex> as MapStore>⟧.row s
             ≡ record { kind = Array; key_size = 4; value_size = value_size; entries = entries }) }
-        ensures places { IfOk result (λ s. ⟦<Store<ArrayIndex> as MapStore>⟧.places s ≡ array_places entries) }
-        ensures zeros { IfOk result (λ s. ⟦<Store<ArrayIndex> as MapStore>⟧.block s ≡ replicate (entries * value_size) 0) }
+        ensures places { IfOk result (λ s. ⟦<Store<ArrayIndex> as MapStore>⟧.places s
+            ≡ array_places entries) }
+        ensures zeros { IfOk result (λ s. ⟦<Store<ArrayIndex> as MapStore>⟧.block s
+            ≡ replicate (entries * value_size) 0) }
     {
         let row = MapDef {
             kind: MapKind::Array,
@@ -177,7 +193,12 @@ impl Store<ScanIndex> {
         entries: u32,
     ) -> Result<Self, AllocError>
         ensures row { IfOk result (λ s. ⟦<Store<ScanIndex> as MapStore>⟧.row s
-            ≡ record { kind = Hash; key_size = key_size; value_size = value_size; entries = entries }) }
+            ≡ record {
+              kind = Hash;
+              key_size = key_size;
+              value_size = value_size;
+              entries = entries;
+            }) }
         ensures empty { IfOk result (λ s. ⟦<Store<ScanIndex> as MapStore>⟧.places s ≡ map.empty) }
     {
         let row = MapDef {
