@@ -7,6 +7,8 @@ pub mod Calls
 pub mod Steps
 pub mod Successors
 pub mod MachineStates
+pub mod MapContents
+pub mod MapHelpers
 pub mod ValueLaws
 pub mod StateLaws
 pub mod CallLaws

@@ -6,6 +6,7 @@ pub mod PointerExamples
 pub mod MemoryExamples
 pub mod AtomicExamples
 pub mod CallExamples
+pub mod MapExamples
 pub mod StreamExamples
 pub mod ReportExamples
 pub mod TextExamples

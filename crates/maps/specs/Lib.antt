@@ -1,0 +1,10 @@
+pub mod Rows
+pub mod RowLaws
+pub mod Slots
+pub mod SlotLaws
+pub mod KeyLaws
+pub mod ScanLaws
+pub mod ArrayPlaces
+pub mod ArrayLaws
+pub mod Contents
+pub mod ContentLaws

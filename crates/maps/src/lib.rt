@@ -1,0 +1,16 @@
+//! Maps: finite maps from keys of one size to values of one size.
+//!
+//! A key has a place, which it keeps until it is removed, and the value is the row of a block at
+//! that place. All room is reserved when a map is made; no later call takes memory.
+#![tactic(auto)]
+
+pub mod arrays;
+pub mod index;
+mod keys;
+pub mod scan;
+pub mod store;
+
+pub use arrays::ArrayIndex;
+pub use index::Index;
+pub use scan::ScanIndex;
+pub use store::{ArrayMap, HashMapScan, MapStore, Store};

@@ -1,0 +1,213 @@
+//! The entries of one map.
+
+ghost use Rattle.std.specs.Prelude.{◌≡◌, ◌+◌, ◌*◌, ◌<◌, ◌≤◌, ℕ, List, length, vec_len, replicate};
+ghost use Rattle.std.specs.Prelude.{None, Some, IsSome, IfSome, IfOk};
+ghost use Rattle.std.specs.FinMap as map;
+ghost use Rattle.isa_model.specs.declared.map_defs.MapKind.TheVariants.{Hash, Array};
+ghost use Rattle.isa_model.specs.declared.map_defs.MapDef.{MapDef};
+ghost use Rattle.maps.specs.Rows.{row_at, with_row};
+ghost use Rattle.maps.specs.Slots.{Places, TakesPlace};
+
+use crate::arrays::ArrayIndex;
+use crate::index::Index;
+use crate::keys::put_bytes;
+use crate::scan::ScanIndex;
+use isa_model::{MapDef, MapKind};
+use std::alloc::{AllocError, Global};
+
+/// The entries of a map by its row. Each key has a place, which it keeps until it is removed, and
+/// the value of the key is the row of the block at its place.
+pub trait MapStore {
+    ghost row: { Self → MapDef };
+
+    ghost places: { Self → Places };
+
+    ghost block: { Self → List ℕ };
+
+    /// The map's row.
+    fn row(&self) -> MapDef
+        ensures { result ≡ row self.now };
+
+    /// The place of a key.
+    fn find(&self, key: &[u8]) -> Option<usize>
+        requires { length key.now ≡ (row self.now).key_size }
+        ensures { result ≡ map.get (places self.now) key.now };
+
+    /// Writes a key's value, and answers its place: a present key keeps its own, and a new one is
+    /// given a free one. There is none where the key is new and the map is full, as an array always
+    /// is.
+    fn put(&mut self, key: &[u8], value: &[u8]) -> Option<usize>
+        requires key_size { length key.now ≡ (row self.old).key_size }
+        requires value_size { length value.now ≡ (row self.old).value_size }
+        ensures present { (p : ℕ) → map.get (places self.old) key.now ≡ Some p
+            → (result ≡ Some p) × (places self.new ≡ places self.old) }
+        ensures full { map.get (places self.old) key.now ≡ None
+            → map.len (places self.old) ≡ (row self.old).entries
+            → (result ≡ None) × (places self.new ≡ places self.old)
+            × (block self.new ≡ block self.old) }
+        ensures added { map.get (places self.old) key.now ≡ None
+            → map.len (places self.old) < (row self.old).entries
+            → IsSome result × IfSome result (λ p. TakesPlace (places self.old) key.now p
+            (places self.new)) }
+        ensures written { IfSome result (λ p. block self.new
+            ≡ with_row (row self.old).value_size (block self.old) p value.now) }
+        ensures row { row self.new ≡ row self.old };
+
+    /// Removes a key, and answers the place that it had. Nothing is removed from an array.
+    fn remove(&mut self, key: &[u8]) -> Option<usize>
+        requires { length key.now ≡ (row self.old).key_size }
+        ensures hash { (row self.old).kind ≡ Hash
+            → (result ≡ map.get (places self.old) key.now)
+            × (places self.new ≡ map.remove (places self.old) key.now) }
+        ensures array { (row self.old).kind ≡ Array
+            → (result ≡ None) × (places self.new ≡ places self.old) }
+        ensures block { block self.new ≡ block self.old }
+        ensures row { row self.new ≡ row self.old };
+
+    /// The value at a place.
+    fn value(&self, place: usize) -> &[u8]
+        requires { place < (row self.now).entries }
+        ensures { result.now ≡ row_at (row self.now).value_size (block self.now) place };
+
+    // Each place is below `entries`, no two keys have one place, there are no more keys than
+    // `entries`, and the block has a value for each place.
+    ghost in_range: { (s : Self) (k : List ℕ) (p : ℕ) → map.get (places s) k ≡ Some p
+        → p < (row s).entries };
+
+    ghost apart: { (s : Self) (j k : List ℕ) (p : ℕ) → map.get (places s) j ≡ Some p
+        → map.get (places s) k ≡ Some p → j ≡ k };
+
+    ghost few: { (s : Self) → map.len (places s) ≤ (row s).entries };
+
+    ghost whole: { (s : Self) → length (block s) ≡ (row s).entries * (row s).value_size };
+}
+
+/// The entries of a map over an index of its keys.
+#[derive(Drop)]
+pub struct Store<I: Index> {
+    row: MapDef,
+    index: I,
+    values: Vec<u8>,
+    ghost kind: { I.kind index ≡ row.kind },
+    ghost key_size: { I.key_size index ≡ row.key_size },
+    ghost room: { I.room index ≡ row.entries },
+    ghost whole: { length values.items ≡ row.entries * row.value_size },
+}
+
+impl<I: Index> Store<I> {
+    // The values of a map are zero-filled at first.
+    fn over(alloc: Global, row: MapDef, index: I) -> Result<Self, AllocError>
+        requires kind { I.kind index ≡ row.kind }
+        requires key_size { I.key_size index ≡ row.key_size }
+        requires room { I.room index ≡ row.entries }
+        ensures row { IfOk result (λ s. s.row ≡ row) }
+        ensures index { IfOk result (λ s. s.index ≡ index) }
+        ensures zeros { IfOk result (λ s. s.values.items
+            ≡ replicate (row.entries * row.value_size) 0) }
+    {
+        let count = row.entries as usize * row.value_size as usize;
+        let values = vec![in alloc; 0; count]?;
+        Ok(Store { row, index, values })
+    }
+}
+
+impl<I: Index> MapStore for Store<I> {
+    ghost use Rattle.maps.specs.RowLaws.{below-same, at_most-same};
+
+    ghost row = { λ s. s.row };
+
+    ghost places = { λ s. I.places s.index };
+
+    ghost block = { λ s. s.values.items };
+
+    fn row(&self) -> MapDef {
+        self.row
+    }
+
+    fn find(&self, key: &[u8]) -> Option<usize> {
+        self.index.find(key)
+    }
+
+    fn put(&mut self, key: &[u8], value: &[u8]) -> Option<usize> {
+        let place = match self.index.find(key) {
+            Some(place) => place,
+            None => self.index.add(key)?,
+        };
+        let start = place * self.row.value_size as usize;
+        put_bytes(self.values.as_mut_slice(), start, value);
+        Some(place)
+    }
+
+    fn remove(&mut self, key: &[u8]) -> Option<usize> {
+        self.index.remove(key)
+    }
+
+    fn value(&self, place: usize) -> &[u8] {
+        let size = self.row.value_size as usize;
+        &self.values[place * size..place * size + size]
+    }
+
+    ghost in_range = { λ s k p e. below-same p s.room (I.in_range s.index k p e) };
+
+    ghost apart = { λ s j k p e f. I.apart s.index j k p e f };
+
+    ghost few = { λ s. at_most-same (map.len (I.places s.index)) s.room (I.few s.index) };
+
+    ghost whole = { λ s. s.whole };
+}
+
+/// An array.
+pub type ArrayMap = Store<ArrayIndex>;
+
+impl Store<ArrayIndex> {
+    ghost use Rattle.maps.specs.ArrayPlaces.{array_places};
+
+    /// An array with all its indexes, and values that are zero-filled.
+    pub fn new(alloc: Global, value_size: u32, entries: u32) -> Result<Self, AllocError>
+        ensures row { IfOk result (λ s. ⟦<Store<ArrayIndex> as MapStore>⟧.row s
+            ≡ record { kind = Array; key_size = 4; value_size = value_size; entries = entries }) }
+        ensures places { IfOk result (λ s. ⟦<Store<ArrayIndex> as MapStore>⟧.places s
+            ≡ array_places entries) }
+        ensures zeros { IfOk result (λ s. ⟦<Store<ArrayIndex> as MapStore>⟧.block s
+            ≡ replicate (entries * value_size) 0) }
+    {
+        let row = MapDef {
+            kind: MapKind::Array,
+            key_size: 4,
+            value_size,
+            entries,
+        };
+        Store::over(alloc, row, ArrayIndex::new(entries))
+    }
+}
+
+/// A hash map whose look-ups scan all its places, to be compared with.
+pub type HashMapScan = Store<ScanIndex>;
+
+impl Store<ScanIndex> {
+    /// A hash map without keys.
+    pub fn new(
+        alloc: Global,
+        key_size: u16,
+        value_size: u32,
+        entries: u32,
+    ) -> Result<Self, AllocError>
+        ensures row { IfOk result (λ s. ⟦<Store<ScanIndex> as MapStore>⟧.row s
+            ≡ record {
+              kind = Hash;
+              key_size = key_size;
+              value_size = value_size;
+              entries = entries;
+            }) }
+        ensures empty { IfOk result (λ s. ⟦<Store<ScanIndex> as MapStore>⟧.places s ≡ map.empty) }
+    {
+        let row = MapDef {
+            kind: MapKind::Hash,
+            key_size,
+            value_size,
+            entries,
+        };
+        let index = ScanIndex::new(alloc, key_size, entries)?;
+        Store::over(alloc, row, index)
+    }
+}
