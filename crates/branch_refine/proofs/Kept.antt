@@ -24,7 +24,7 @@ use Rattle.stack_state.specs.Meaning.{MeansBy, depth}
 use Rattle.stack_state.specs.Places.{kind_of, with_register}
 use Rattle.stack_state.specs.MeaningLaws.{depth_positive, reg_allowed, MeansBy-narrow, depth-with, returns-with, frame_of-with}
 use Rattle.stack_state.specs.PlaceLaws.{same_or_other, kind_of-with_same, kind_of-with_other}
-use Rattle.branch_refine.specs.Refining.{IsJust, IsJustOperand, Keeps, Narrows, KeepsOthers}
+use Rattle.branch_refine.specs.Refining.{IsNumber, IsNumberOperand, IsJust, IsJustOperand, Keeps, Narrows, KeepsOthers}
 use Rattle.branch_refine.specs.Numbers.{numbers_in, AreNumbersOf, with_operand, with_compared}
 
 -- ---- numbers and kinds
@@ -32,6 +32,15 @@ use Rattle.branch_refine.specs.Numbers.{numbers_in, AreNumbersOf, with_operand, 
 kind_is : (k : Kind) (numbers : Scalar) → Some numbers ≡ numbers_in k → k ≡ Number numbers
 kind_is (Number m) numbers h = cc
 kind_is k numbers h = absurd (cc)
+
+-- where no numbers are known there is no number
+pub no_number : (k : Kind) → None ≡ numbers_in k → IsNumber k → ⊥
+no_number (Number m) h is = absurd (cc)
+no_number k h is = is
+
+pub no_operand : (a : State) (w : Width) (operand : Operand) → AreNumbersOf a w operand None → IsNumberOperand a operand → ⊥
+no_operand a w (Constant k) h is = h
+no_operand a w (Register r) h is = no_number (kind_of a r) h is
 
 -- a register that is known to hold a number is not r10
 holder : (a : State) (r : Reg) (numbers : Scalar) → Some numbers ≡ numbers_in (kind_of a r) → r ≢ R10

@@ -1,2 +1,2 @@
-pub mod Refining
 pub mod Numbers
+pub mod Refining

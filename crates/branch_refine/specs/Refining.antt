@@ -1,6 +1,6 @@
 -- What is kept of an abstract state on one way of a conditional jump.
 -- Linux, Documentation/bpf/verifier.rst (how the verifier narrows registers at conditional jumps).
-use Rattle.std.specs.Prelude.{◌≡◌, ℕ, suc, ◌<◌, ◌⊎◌, Bool, IsTrue, Ok, map}
+use Rattle.std.specs.Prelude.{◌≡◌, ℕ, suc, ◌<◌, ◌⊎◌, Bool, IsTrue, Some, Ok, map}
 use Rattle.isa_model.specs.declared.sizes.Width.{Width}
 use Rattle.isa_model.specs.declared.registers.Reg.{Reg}
 use Rattle.isa_model.specs.declared.instructions.Cond.{Cond}
@@ -13,11 +13,14 @@ use Rattle.isa_model.specs.Machine.Steps.{test_of}
 use Rattle.isa_model.specs.Machine.States as Machine
 use Rattle.reg_state.specs.declared.kinds.Kind.{Kind}
 use Rattle.reg_state.specs.declared.kinds.Kind.TheVariants.{Number}
+use Rattle.reg_state.specs.declared.scalars.Scalar.{Scalar}
 use Rattle.reg_state.specs.Scalars.{Has, IsConstant}
+use Rattle.reg_state.specs.Shown.{Shows}
 use Rattle.reg_state.specs.Kinds.{Assigned, Allows}
 use Rattle.stack_state.specs.declared.states.State.{State}
 use Rattle.stack_state.specs.Meaning.{MeansBy, depth}
 use Rattle.stack_state.specs.Places.{frame_of, kind_of}
+use Rattle.branch_refine.specs.Numbers.{numbers_in, AreNumbersOf, with_compared}
 use Rattle.branch_refine.specs.declared.Branch.{Branch}
 use Rattle.branch_refine.specs.declared.Branch.TheVariants.{Never, Goes}
 
@@ -69,6 +72,17 @@ pub record Narrows (a b : State) : Type 0 where
 -- registers that the condition does not name have the kinds that they had
 abbrev pub KeepsOthers : Cond → State → State → Type 0
 KeepsOthers cond a b = (r : Reg) → (Names cond r → ⊥) → kind_of b r ≡ kind_of a r
+
+-- two numbers are compared, and in their place in b stand those that the comparison leaves of them
+pub record Refined (cond : Cond) (taken : Bool) (a b : State) : Type 0 where
+  pub left : Scalar
+  pub right : Scalar
+  pub new_left : Scalar
+  pub new_right : Scalar
+  pub left_is : Some left ≡ numbers_in (kind_of a cond.register)
+  pub right_is : AreNumbersOf a cond.width cond.operand (Some right)
+  pub shows : Shows cond.comparison cond.width taken left right new_left new_right
+  pub new : b ≡ with_compared a cond new_left new_right
 
 -- ---- branches
 

@@ -5,7 +5,7 @@ ghost use Rattle.std.specs.Prelude.{◌≡◌, ◌≢◌, ℕ, ◌<◌, IsTrue, 
 ghost use Rattle.isa_model.specs.Code.Numbers.{holds};
 ghost use Rattle.stack_state.specs.Meaning.{depth};
 ghost use Rattle.stack_state.specs.Places.{kind_of};
-ghost use Rattle.branch_refine.specs.Refining.{IsJust, IsJustOperand, AreCompared, Keeps, Narrows, KeepsOthers, IfGoes, KeepsIn};
+ghost use Rattle.branch_refine.specs.Refining.{IsJust, IsJustOperand, AreCompared, Keeps, Narrows, KeepsOthers, Refined, IfGoes, KeepsIn};
 
 mod operands;
 
@@ -28,6 +28,7 @@ pub fn refine(cond: Cond, taken: bool, state: &State) -> Branch
     ensures kept { KeepsIn cond taken state.now result }
     ensures narrowed { IfGoes result (λ left. Narrows state.now left) }
     ensures others { IfGoes result (λ left. KeepsOthers cond state.now left) }
+    ensures shown { AreCompared state.now cond → IfGoes result (λ left. Refined cond taken state.now left) }
     ensures constants { (x y : ℕ) → IsJust (kind_of state.now cond.register) x
         → IsJustOperand state.now cond.width cond.operand y
         → holds cond.comparison cond.width x y ≢ taken → result ≡ Branch.Never }
@@ -50,6 +51,7 @@ pub fn refine_in_place(cond: Cond, taken: bool, state: &mut State) -> bool
     ensures kept { Keeps cond taken state.old result state.new }
     ensures narrowed { Narrows state.old state.new }
     ensures others { KeepsOthers cond state.old state.new }
+    ensures shown { AreCompared state.old cond → IsTrue result → Refined cond taken state.old state.new }
     ensures constants { (x y : ℕ) → IsJust (kind_of state.old cond.register) x
         → IsJustOperand state.old cond.width cond.operand y
         → holds cond.comparison cond.width x y ≢ taken → result ≡ false }

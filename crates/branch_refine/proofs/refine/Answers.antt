@@ -1,5 +1,5 @@
-use Rattle.std.proofs.Common.{sym}
-use Rattle.branch_refine.specs.Refining.{Keeps, KeepsIn}
+use Rattle.std.proofs.Common.{sym, subst, refl}
+use Rattle.branch_refine.specs.Refining.{Keeps, KeepsIn, AreCompared, Refined}
 use Rattle.branch_refine.proofs.refine.Goals as goal
 
 pub returns-then-refine_in_place-clause-kept : goal.returns-then-refine_in_place-clause-kept
@@ -15,3 +15,8 @@ unfolding Keeps KeepsIn
 returns-else-refine_in_place-clause-kept c = λ p e s m says.
     let kept = c.if-refine_in_place.ensures.kept p e s (rw c.copy-left.ensures m) says in
     absurd (cc kept.0)
+
+pub returns-then-refine_in_place-clause-shown : goal.returns-then-refine_in_place-clause-shown
+returns-then-refine_in_place-clause-shown c =
+    subst (λ a. AreCompared a c.args.cond → Refined c.args.cond c.args.taken a c.refine_in_place.new.state) c.copy-left.ensures
+    (λ compared. c.if-refine_in_place.ensures.shown compared refl)
