@@ -8,7 +8,8 @@ ghost use Rattle.stack_state.specs.Meaning.{Covers};
 ghost use Rattle.stack_state.specs.Slots.{marks_of};
 ghost use Rattle.state_cover.specs.Names.{packet_name, null_name};
 ghost use Rattle.state_cover.specs.FrameCover.{FrameCovers, KindsCover, KindsEnclose, Encloses};
-ghost use Rattle.state_cover.specs.FrameCover.{AreAmong, SlotCovers, SlotEncloses, SlotsCover, SlotsEnclose};
+ghost use Rattle.state_cover.specs.FrameCover.{AreAmong, SlotCovers, SlotEncloses, SlotsCover};
+ghost use Rattle.state_cover.specs.FrameCover.{SlotsEnclose};
 
 mod names;
 
@@ -21,8 +22,8 @@ pub fn covers(a: &State, b: &State) -> bool
     ensures yes { IsTrue result → (p : Program) → Covers p a.now b.now }
     ensures slot { IsTrue result → a.now.slot ≡ b.now.slot }
 
-    // It finds what can be found by registers and slots, whatever b calls the identities of a, and by bits and limits of
-    // numbers.
+    // It finds what can be found by registers and slots, whatever b calls the identities of a, and
+    // by bits and limits of numbers.
     ensures encloses { (packet null : ℕ → ℕ) → Encloses packet null a.now b.now → IsTrue result }
     ensures equal { a.now ≡ b.now → IsTrue result }
 {
@@ -45,10 +46,13 @@ pub fn covers(a: &State, b: &State) -> bool
 // Does a frame of a cover one of b, by the names that b has for the identities of a?
 fn frame_covers(left: &AbstractFrame, right: &AbstractFrame, a: &State, b: &State) -> bool
     requires { length a.now.callers.items ≡ length b.now.callers.items }
-    ensures yes { IsTrue result → FrameCovers (packet_name a.now b.now) (null_name a.now b.now) left.now right.now }
+    ensures yes { IsTrue result
+        → FrameCovers (packet_name a.now b.now) (null_name a.now b.now) left.now right.now }
     ensures no { left.now.return_slot ≡ right.now.return_slot
-        → KindsEnclose (packet_name a.now b.now) (null_name a.now b.now) left.now.registers right.now.registers
-        → SlotsEnclose (packet_name a.now b.now) (null_name a.now b.now) left.now.stack.slots right.now.stack.slots
+        → KindsEnclose (packet_name a.now b.now)
+        (null_name a.now b.now) left.now.registers right.now.registers
+        → SlotsEnclose (packet_name a.now b.now)
+        (null_name a.now b.now) left.now.stack.slots right.now.stack.slots
         → IsTrue result }
 {
     if left.return_slot != right.return_slot {
@@ -60,11 +64,14 @@ fn frame_covers(left: &AbstractFrame, right: &AbstractFrame, a: &State, b: &Stat
     slots_cover(&left.stack.slots, &right.stack.slots, a, b)
 }
 
-// All ten are compared in a caller's frame too: r0 to r5 are Unset there, which covers what stands there in b.
+// All ten are compared in a caller's frame too: r0 to r5 are Unset there, which covers what stands
+// there in b.
 fn registers_cover(left: &[Kind; 10], right: &[Kind; 10], a: &State, b: &State) -> bool
     requires { length a.now.callers.items ≡ length b.now.callers.items }
-    ensures yes { IsTrue result → KindsCover (packet_name a.now b.now) (null_name a.now b.now) left.now right.now }
-    ensures no { KindsEnclose (packet_name a.now b.now) (null_name a.now b.now) left.now right.now → IsTrue result }
+    ensures yes { IsTrue result
+        → KindsCover (packet_name a.now b.now) (null_name a.now b.now) left.now right.now }
+    ensures no { KindsEnclose (packet_name a.now b.now) (null_name a.now b.now) left.now right.now
+        → IsTrue result }
 {
     for index in 0..10 {
         if !kind_covers(left[index], right[index], a, b) {
@@ -76,8 +83,10 @@ fn registers_cover(left: &[Kind; 10], right: &[Kind; 10], a: &State, b: &State) 
 
 fn slots_cover(left: &[Slot; 64], right: &[Slot; 64], a: &State, b: &State) -> bool
     requires { length a.now.callers.items ≡ length b.now.callers.items }
-    ensures yes { IsTrue result → SlotsCover (packet_name a.now b.now) (null_name a.now b.now) left.now right.now }
-    ensures no { SlotsEnclose (packet_name a.now b.now) (null_name a.now b.now) left.now right.now → IsTrue result }
+    ensures yes { IsTrue result
+        → SlotsCover (packet_name a.now b.now) (null_name a.now b.now) left.now right.now }
+    ensures no { SlotsEnclose (packet_name a.now b.now) (null_name a.now b.now) left.now right.now
+        → IsTrue result }
 {
     for index in 0..64 {
         if !slot_covers(&left[index], &right[index], a, b) {
@@ -89,8 +98,10 @@ fn slots_cover(left: &[Slot; 64], right: &[Slot; 64], a: &State, b: &State) -> b
 
 fn slot_covers(left: &Slot, right: &Slot, a: &State, b: &State) -> bool
     requires { length a.now.callers.items ≡ length b.now.callers.items }
-    ensures yes { IsTrue result → SlotCovers (packet_name a.now b.now) (null_name a.now b.now) left.now right.now }
-    ensures no { SlotEncloses (packet_name a.now b.now) (null_name a.now b.now) left.now right.now → IsTrue result }
+    ensures yes { IsTrue result
+        → SlotCovers (packet_name a.now b.now) (null_name a.now b.now) left.now right.now }
+    ensures no { SlotEncloses (packet_name a.now b.now) (null_name a.now b.now) left.now right.now
+        → IsTrue result }
 {
     match left {
         Slot::Written(marks) => are_written(*marks, right),
@@ -111,8 +122,10 @@ fn are_written(marks: u8, slot: &Slot) -> bool
 
 fn kind_covers(left: Kind, right: Kind, a: &State, b: &State) -> bool
     requires { length a.now.callers.items ≡ length b.now.callers.items }
-    ensures yes { IsTrue result → KindCovers (packet_name a.now b.now) (null_name a.now b.now) left right }
-    ensures no { KindEncloses (packet_name a.now b.now) (null_name a.now b.now) left right → IsTrue result }
+    ensures yes { IsTrue result
+        → KindCovers (packet_name a.now b.now) (null_name a.now b.now) left right }
+    ensures no { KindEncloses (packet_name a.now b.now) (null_name a.now b.now) left right
+        → IsTrue result }
 {
     left.covers(right, name_in(left, a, b))
 }
