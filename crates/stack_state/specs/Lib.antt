@@ -11,3 +11,5 @@ pub mod CellLaws
 pub mod StackLaws
 pub mod FillLaws
 pub mod FrameLaws
+pub mod Effects
+pub mod EffectLaws

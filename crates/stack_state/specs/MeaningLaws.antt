@@ -12,10 +12,10 @@ use Rattle.isa_model.specs.declared.values.Cell.{Cell}
 use Rattle.isa_model.specs.declared.values.CallFrame.{CallFrame}
 use Rattle.isa_model.specs.Code.Registers.{reg_number}
 use Rattle.isa_model.specs.Code.Instructions.{Program}
-use Rattle.isa_model.specs.Machine.States.{value_at, reg, set_reg, new_frame, frame_at}
+use Rattle.isa_model.specs.Machine.States.{value_at, reg, set_reg, frame_pointer, new_frame, frame_at}
 use Rattle.isa_model.specs.Machine.States as Machine
 use Rattle.isa_model.specs.Machine.Calls.{innermost}
-use Rattle.isa_model.specs.Machine.MachineStates.{IsValue, IsSlot}
+use Rattle.isa_model.specs.Machine.MachineStates.{IsState, IsValue, IsSlot}
 use Rattle.isa_model.specs.Machine.StateLaws.{IsState-go_to, IsState-set_reg, reg_fits}
 use Rattle.reg_state.specs.declared.kinds.Kind.{Kind}
 use Rattle.reg_state.specs.declared.kinds.Kind.TheVariants.{Stack}
@@ -198,11 +198,13 @@ pub record FrameKeeps (e f : Assigned) (g h : AbstractFrame) : Type 0 where
   pub registers : (k : ℕ) (v : Value) → Allows e (kind_at g.registers k) v → Allows f (kind_at h.registers k) v
   pub slots : (k : ℕ) (cs : List Cell) → k < 64 → SlotMeans e (slot_at g.stack.slots k) cs → SlotMeans f (slot_at h.stack.slots k) cs
 
--- other kinds and slots, or another assignment, that allow in each frame all that was allowed there
-pub MeansBy-change : (p : Program) (e f : Assigned) (a b : State) (s : Machine.State) → IsOf f s → b.slot ≡ a.slot
+-- other kinds and slots, or another assignment, that allow in each frame all that was allowed there, for a machine state
+-- with the same slot, registers and frames
+pub MeansBy-onto : (p : Program) (e f : Assigned) (a b : State) (s t : Machine.State) → t.slot ≡ s.slot → t.regs ≡ s.regs
+    → t.frames ≡ s.frames → IsState p t → IsOf f t → b.slot ≡ a.slot
     → map (λ g. g.return_slot) (frames_of b) ≡ map (λ g. g.return_slot) (frames_of a)
-    → ((j : ℕ) → j < depth a → FrameKeeps e f (frame_of a j) (frame_of b j)) → MeansBy p e a s → MeansBy p f b s
-MeansBy-change p e f a b s of slot returns each m =
+    → ((j : ℕ) → j < depth a → FrameKeeps e f (frame_of a j) (frame_of b j)) → MeansBy p e a s → MeansBy p f b t
+MeansBy-onto p e f a b s t same_slot regs frames is of slot returns each m =
     let same : depth b ≡ depth a =
     sym (length-frames_of b) ∙ sym (length-map (frames_of b) (λ g. g.return_slot)) ∙ ap length returns
     ∙ length-map (frames_of a) (λ g. g.return_slot) ∙ length-frames_of a in
@@ -212,17 +214,26 @@ MeansBy-change p e f a b s of slot returns each m =
     (subst (λ g. FrameKeeps e f (frame_of a (length a.callers.items)) g) (ap (frame_of b) callers ∙ frame_of-innermost b)
     (each (length a.callers.items) (omega arith))) in
     record {
-      is_state = m.is_state;
+      is_state = is;
       assigned = of;
-      slot_is = m.slot_is ∙ sym slot;
-      returns = m.returns ∙ sym returns;
-      pointer = m.pointer;
-      registers = λ k. last.registers k (value_at s.regs k) (m.registers k);
-      kept = λ j k below within. (each j (omega arith)).registers (6 + k) (value_at (frame_at s.frames (suc j)).saved k) (m.kept j k (omega arith) within);
+      slot_is = same_slot ∙ m.slot_is ∙ sym slot;
+      returns = ap (λ fs. map (λ g. g.return_slot) fs) frames ∙ m.returns ∙ sym returns;
+      pointer = ap (λ vs. value_at vs 10) regs ∙ m.pointer ∙ ap (λ fs. frame_pointer (innermost fs).serial) (sym frames);
+      registers = λ k. subst (λ vs. Allows f (kind_at (registers_of b) k) (value_at vs k)) (sym regs)
+          (last.registers k (value_at s.regs k) (m.registers k));
+      kept = λ j k below within. subst (λ fs. Allows f (kind_at (kinds_of b j) (6 + k)) (value_at (frame_at fs (suc j)).saved k)) (sym frames)
+          ((each j (omega arith)).registers (6 + k) (value_at (frame_at s.frames (suc j)).saved k) (m.kept j k (omega arith) within));
       stacks = λ j below. let within : j < depth a = omega arith in
-          StackMeans-change e f (slots_of a j) (slots_of b j) (frame_at s.frames j).cells
-          (λ k cs inside. (each j within).slots k cs inside) (m.stacks j within);
+          subst (λ fs. StackMeans f (slots_of b j) (frame_at fs j).cells) (sym frames)
+          (StackMeans-change e f (slots_of a j) (slots_of b j) (frame_at s.frames j).cells
+          (λ k cs inside. (each j within).slots k cs inside) (m.stacks j within));
     }
+
+-- for the same machine state
+pub MeansBy-change : (p : Program) (e f : Assigned) (a b : State) (s : Machine.State) → IsOf f s → b.slot ≡ a.slot
+    → map (λ g. g.return_slot) (frames_of b) ≡ map (λ g. g.return_slot) (frames_of a)
+    → ((j : ℕ) → j < depth a → FrameKeeps e f (frame_of a j) (frame_of b j)) → MeansBy p e a s → MeansBy p f b s
+MeansBy-change p e f a b s of slot returns each m = MeansBy-onto p e f a b s s refl refl refl m.is_state of slot returns each m
 
 -- ---- a fresh identity
 

@@ -42,6 +42,13 @@ impl StackState {
         }
     }
 
+    /// Nothing is known of it any longer.
+    pub fn clear(&mut self)
+        ensures exact { self.new.slots ≡ replicate 64 (Slot.Written 0) }
+    {
+        self.slots = [Slot::Written(0); 64];
+    }
+
     /// Bytes of a number are written.
     pub fn store(&mut self, at: usize, size: Size)
         requires inside { at < 512 }
