@@ -44,7 +44,7 @@ impl StackState {
 
     /// Nothing is known of it any longer.
     pub fn clear(&mut self)
-        ensures exact { self.new.slots ≡ replicate 64 (Slot.Written 0) }
+        ensures { self.new.slots ≡ replicate 64 (Slot.Written 0) }
     {
         self.slots = [Slot::Written(0); 64];
     }
