@@ -5,3 +5,4 @@ pub mod Naming
 pub mod Labels
 pub mod Assembling
 pub mod Drafts
+pub mod Messages

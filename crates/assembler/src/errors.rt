@@ -1,41 +1,98 @@
 //! Why a text is no program.
 
-use thiserror::Error;
+ghost use Rattle.std.specs.Prelude.{◌≡◌, Some};
+ghost use Rattle.assembler.specs.Messages.{code_of, sentence_of};
 
-/// What is wrong with a text. `Display` writes the number by which the format's description names it.
-#[derive(Clone, Copy, PartialEq, Eq, Debug, Error)]
+use std::error::Error;
+use std::fmt;
+
+/// What is wrong with a text.
+#[derive(Clone, Copy, PartialEq, Eq, Debug)]
 pub enum AsmErrorKind {
     /// A byte that begins no token.
-    #[error("A1")]
     UnknownByte,
     /// No form fits the statement.
-    #[error("A2")]
     NoForm,
     /// A number out of range.
-    #[error("A3")]
     OutOfRange,
     /// A name that is defined already.
-    #[error("A4")]
     DefinedTwice,
     /// A name that is not defined.
-    #[error("A5")]
     NotDefined,
     /// A name too far away for the jump.
-    #[error("A6")]
     TooFar,
     /// Out of memory.
-    #[error("A8")]
     Memory,
     /// No instruction, or more than 4,096 slots.
-    #[error("A9")]
     SlotCount,
 }
 
+impl AsmErrorKind {
+    /// Its number in the documents, such as `A1`.
+    pub fn code(self) -> &'static str
+        ensures { result.now ≡ code_of self }
+    {
+        match self {
+            AsmErrorKind::UnknownByte => "A1",
+            AsmErrorKind::NoForm => "A2",
+            AsmErrorKind::OutOfRange => "A3",
+            AsmErrorKind::DefinedTwice => "A4",
+            AsmErrorKind::NotDefined => "A5",
+            AsmErrorKind::TooFar => "A6",
+            AsmErrorKind::Memory => "A8",
+            AsmErrorKind::SlotCount => "A9",
+        }
+    }
+
+    /// What is wrong, in a sentence.
+    pub fn sentence(self) -> &'static str
+        ensures { result.now ≡ sentence_of self }
+    {
+        match self {
+            AsmErrorKind::UnknownByte => "the byte begins no token",
+            AsmErrorKind::NoForm => "no form fits the statement",
+            AsmErrorKind::OutOfRange => "the number is out of range",
+            AsmErrorKind::DefinedTwice => "the name is defined already",
+            AsmErrorKind::NotDefined => "the name is not defined",
+            AsmErrorKind::TooFar => "the name is too far away for the jump",
+            AsmErrorKind::Memory => "out of memory",
+            AsmErrorKind::SlotCount => "the text has no instruction, or more than 4096 slots",
+        }
+    }
+}
+
+/// Writes the sentence.
+impl fmt::Display for AsmErrorKind {
+    ghost output = { λ error. Some (sentence_of error) };
+
+    fn fmt<W: fmt::Write>(&self, f: &mut fmt::Formatter<W>) -> fmt::Result {
+        f.write_str(self.sentence())
+    }
+}
+
+impl Error for AsmErrorKind {}
+
 /// Why a text is no program, and where: lines and columns count from 1, columns in bytes.
-#[derive(Clone, Copy, PartialEq, Eq, Debug, Error)]
-#[error("{kind} line {line} column {column}")]
+#[derive(Clone, Copy, PartialEq, Eq, Debug)]
 pub struct AsmError {
     pub kind: AsmErrorKind,
     pub line: usize,
     pub column: usize,
 }
+
+/// Writes the sentence, and the place after it.
+impl fmt::Display for AsmError {
+    ghost use Rattle.std.specs.Prelude.{◌++◌, codes, decimal};
+
+    ghost output = { λ error. Some (sentence_of error.kind
+        ++ codes ", line " ++ decimal error.line ++ codes " column " ++ decimal error.column) };
+
+    fn fmt<W: fmt::Write>(&self, f: &mut fmt::Formatter<W>) -> fmt::Result {
+        let kind = self.kind;
+        let line = self.line;
+        let column = self.column;
+        write!(f, "{kind}, line {line} column {column}")
+    }
+}
+
+impl Error for AsmError {}

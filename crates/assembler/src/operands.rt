@@ -1,6 +1,7 @@
 //! Numbers in their ranges, registers, operands, places and targets.
 
 ghost use Rattle.std.specs.Prelude.{◌≡◌, ◌+◌, ◌-◌, ◌<◌, ◌≤◌, ◌^◌, ◌==◌, if◌then◌else◌, IfOk};
+ghost use Rattle.std.specs.Prelude.{pos, neg_ℤ, ◌≤ℤ◌, ◌<ℤ◌};
 ghost use Rattle.assembler.specs.Statements.{signed_within, wide_within, signed_at, number_index, constant_at, same_width, same_register, as_register, register_at, again_at, operand_token, operand_at, place_at, memory_at, argument_at, is_name, target_token, target_at};
 
 use super::parts::{expect_at, is_minus, number_at, sign_at, token_at, word_at};
@@ -8,38 +9,21 @@ use super::wrong::Wrong;
 use isa_model::{Operand, Place, Reg, Width};
 use lexer::{Sign, Token, Word};
 
-// A number for `imm`; `at` is the token at which it begins.
-fn imm_within(minus: bool, n: u128, at: usize) -> Result<i32, Wrong>
-    ensures { result ≡ signed_within (2 ^ 31) at minus n }
+// A number below that limit, or with a minus up to it; `at` is the token at which it begins.
+fn signed_within(limit: u32, minus: bool, n: u128, at: usize) -> Result<i64, Wrong>
+    requires { 0 < limit }
+    ensures value { result ≡ signed_within limit at minus n }
+    ensures fits { IfOk result (λ k. (neg_ℤ (pos limit) ≤ℤ k) × (k <ℤ pos limit)) }
 {
     if minus {
-        if n <= 1 << 31 {
-            Ok((-(n as i64)) as i32)
+        if n <= u128::from(limit) {
+            Ok(-(n as i64))
         } else {
             Err(Wrong::Range(at))
         }
     } else {
-        if n < 1 << 31 {
-            Ok(n as i32)
-        } else {
-            Err(Wrong::Range(at))
-        }
-    }
-}
-
-// A number for `offset`.
-fn offset_within(minus: bool, n: u128, at: usize) -> Result<i16, Wrong>
-    ensures { result ≡ signed_within (2 ^ 15) at minus n }
-{
-    if minus {
-        if n <= 1 << 15 {
-            Ok((-(n as i64)) as i16)
-        } else {
-            Err(Wrong::Range(at))
-        }
-    } else {
-        if n < 1 << 15 {
-            Ok(n as i16)
+        if n < u128::from(limit) {
+            Ok(n as i64)
         } else {
             Err(Wrong::Range(at))
         }
@@ -73,22 +57,23 @@ pub fn wide_within(minus: bool, n: u128, at: usize) -> Result<u64, Wrong>
     }
 }
 
+// A sign and a number.
+fn signed_at(limit: u32, tokens: &[Token], i: usize) -> Result<i64, Wrong>
+    requires some { 0 < limit }
+    requires near { i < 16 }
+    ensures value { result ≡ signed_at limit tokens.now i }
+    ensures fits { IfOk result (λ k. (neg_ℤ (pos limit) ≤ℤ k) × (k <ℤ pos limit)) }
+{
+    let minus = is_minus(sign_at(tokens, i)?)?;
+    signed_within(limit, minus, number_at(tokens, i + 1)?, i)
+}
+
 /// A sign and a number for `imm`.
 pub fn signed_imm(tokens: &[Token], i: usize) -> Result<i32, Wrong>
     requires { i < 16 }
     ensures { result ≡ signed_at (2 ^ 31) tokens.now i }
 {
-    let minus = is_minus(sign_at(tokens, i)?)?;
-    imm_within(minus, number_at(tokens, i + 1)?, i)
-}
-
-/// A sign and a number for `offset`.
-pub fn signed_offset(tokens: &[Token], i: usize) -> Result<i16, Wrong>
-    requires { i < 16 }
-    ensures { result ≡ signed_at (2 ^ 15) tokens.now i }
-{
-    let minus = is_minus(sign_at(tokens, i)?)?;
-    offset_within(minus, number_at(tokens, i + 1)?, i)
+    Ok(signed_at(1 << 31, tokens, i)? as i32)
 }
 
 // Whether a minus stands at this token, and where the number then stands.
@@ -111,8 +96,8 @@ pub fn constant_at(tokens: &[Token], i: usize) -> Result<(i32, usize), Wrong>
     ensures near { IfOk result (λ k. k.1 ≤ i + 2) }
 {
     let (minus, at) = number_index(i, token_at(tokens, i)?)?;
-    let number = imm_within(minus, number_at(tokens, at)?, i)?;
-    Ok((number, at + 1))
+    let number = signed_within(1 << 31, minus, number_at(tokens, at)?, i)?;
+    Ok((number as i32, at + 1))
 }
 
 fn same_width(a: Width, b: Width) -> bool
@@ -196,7 +181,7 @@ fn place_at(tokens: &[Token], i: usize) -> Result<Place, Wrong>
     ensures { result ≡ place_at tokens.now i }
 {
     let base = register_at(Width::Full64, tokens, i)?;
-    let offset = signed_offset(tokens, i + 1)?;
+    let offset = signed_at(1 << 15, tokens, i + 1)? as i16;
     Ok(Place { base, offset })
 }
 
@@ -237,17 +222,20 @@ pub fn is_name(word: Word) -> bool
     }
 }
 
-fn near_target_token(
+fn target_token(
+    limit: u32,
     tokens: &[Token],
     i: usize,
     token: Token,
-) -> Result<(i16, Option<usize>), Wrong>
-    requires { i < 8 }
-    ensures { result ≡ target_token (2 ^ 15) tokens.now i token }
+) -> Result<(i64, Option<usize>), Wrong>
+    requires some { 0 < limit }
+    requires near { i < 8 }
+    ensures value { result ≡ target_token limit tokens.now i token }
+    ensures fits { IfOk result (λ t. (neg_ℤ (pos limit) ≤ℤ t.0) × (t.0 <ℤ pos limit)) }
 {
     match token {
         Token::Signed(_) => {
-            let by = signed_offset(tokens, i)?;
+            let by = signed_at(limit, tokens, i)?;
             if tokens.len() == i + 2 {
                 Ok((by, None))
             } else {
@@ -270,31 +258,8 @@ pub fn near_target_at(tokens: &[Token], i: usize) -> Result<(i16, Option<usize>)
     requires { i < 8 }
     ensures { result ≡ target_at (2 ^ 15) tokens.now i }
 {
-    near_target_token(tokens, i, token_at(tokens, i)?)
-}
-
-fn far_target_token(tokens: &[Token], i: usize, token: Token) -> Result<(i32, Option<usize>), Wrong>
-    requires { i < 8 }
-    ensures { result ≡ target_token (2 ^ 31) tokens.now i token }
-{
-    match token {
-        Token::Signed(_) => {
-            let by = signed_imm(tokens, i)?;
-            if tokens.len() == i + 2 {
-                Ok((by, None))
-            } else {
-                Err(Wrong::Form)
-            }
-        }
-        Token::Named(word) => {
-            if is_name(word) && tokens.len() == i + 1 {
-                Ok((0, Some(i)))
-            } else {
-                Err(Wrong::Form)
-            }
-        }
-        Token::Number(_) => Err(Wrong::Form),
-    }
+    let (by, name) = target_token(1 << 15, tokens, i, token_at(tokens, i)?)?;
+    Ok((by as i16, name))
 }
 
 /// The target of `gotol`, up to the end: a distance, or 0 and where a name stands.
@@ -302,5 +267,6 @@ pub fn far_target_at(tokens: &[Token], i: usize) -> Result<(i32, Option<usize>),
     requires { i < 8 }
     ensures { result ≡ target_at (2 ^ 31) tokens.now i }
 {
-    far_target_token(tokens, i, token_at(tokens, i)?)
+    let (by, name) = target_token(1 << 31, tokens, i, token_at(tokens, i)?)?;
+    Ok((by as i32, name))
 }

@@ -1,4 +1,3 @@
 pub mod Machine
-pub mod Atomics
 pub mod Outcomes
 pub mod Machines

@@ -1,6 +1,7 @@
 //! What each form of instruction does, once its registers are set.
 
 pub mod arithmetic;
+pub mod atomics;
 pub mod calls;
 pub mod jumps;
 pub mod memory;

@@ -2,12 +2,11 @@
 //!
 //! `checked` is the machine that callers see. Under it stand whole runs (`runs`), single steps with
 //! the tests before them (`steps`), one function for each form of instruction (`forms`), what these
-//! do to memory (`memory`, `atomics`), and the machine's registers and call frames (`core_state`).
+//! do to memory (`memory`), and the machine's registers and call frames (`core_state`).
 //! `values`, `comparisons`, `cells` and `places` compute on values only. Each function answers what
 //! the definition of its name in `isa_model` says.
 #![tactic(auto)]
 
-mod atomics;
 mod cells;
 pub mod checked;
 mod comparisons;

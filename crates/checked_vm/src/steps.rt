@@ -2,16 +2,17 @@
 
 ghost use Rattle.std.specs.Prelude.{◌≡◌, ◌≢◌, ◌+◌, ◌<◌, ◌≤◌, ◌^◌, ℕ, List, [], length};
 ghost use Rattle.std.specs.List.{list_any};
+ghost use Rattle.std.specs.Option.{option_to_list};
 ghost use Rattle.isa_model.specs.declared.instructions.Insn.{Insn};
 ghost use Rattle.isa_model.specs.Code.Registers.{reg_number};
-ghost use Rattle.isa_model.specs.Code.Instructions.{Program, operand_reads, reads};
+ghost use Rattle.isa_model.specs.Code.Instructions.{Program, reads};
 ghost use Rattle.isa_model.specs.Machine.States.{value_at};
 ghost use Rattle.isa_model.specs.Machine.Steps.{is_unset, act, performed};
 ghost use Rattle.checked_vm.specs.Machine.{state_of, IsRunning, StaysRunning, PerformsIn};
 ghost use Rattle.checked_vm.specs.Outcomes.{IsStep};
 
 use crate::core_state::{Core, MOST_FRAMES};
-use isa_model::{AluOp, Insn, Operand, Reg, TrapReason, Value, destination};
+use isa_model::{Insn, Reg, TrapReason, Value, destination};
 
 /// What a step came to.
 #[derive(Clone, Copy, PartialEq, Eq, Debug)]
@@ -23,47 +24,23 @@ pub enum Stepped {
 }
 
 impl Core {
-    fn lacks(&self, r: Reg) -> bool
-        ensures { result ≡ is_unset (value_at self.now.regs (reg_number r)) }
+    fn lacks(&self, register: Option<Reg>) -> bool
+        ensures { result ≡ list_any (λ r. is_unset (value_at self.now.regs (reg_number r)))
+            (option_to_list register) }
     {
-        matches!(self.value(r), Value::Unset)
-    }
-
-    fn lacks_operand(&self, source: Operand) -> bool
-        ensures { result ≡ list_any (λ r. is_unset (value_at self.now.regs (reg_number r))) (operand_reads source) }
-    {
-        match source {
-            Operand::Constant(_) => false,
-            Operand::Register(r) => self.lacks(r),
+        match register {
+            None => false,
+            Some(register) => matches!(self.value(register), Value::Unset),
         }
     }
 
     /// Whether a register that an instruction reads is unset.
     fn reads_unset(&self, insn: &Insn) -> bool
-        ensures { result ≡ list_any (λ r. is_unset (value_at self.now.regs (reg_number r))) (reads insn.now) }
+        ensures { result ≡ list_any (λ r. is_unset (value_at self.now.regs (reg_number r)))
+            (reads insn.now) }
     {
-        match *insn {
-            Insn::Alu(_, AluOp::Mov, _, source) => self.lacks_operand(source),
-            Insn::Alu(_, _, d, source) => self.lacks(d) || self.lacks_operand(source),
-            Insn::Neg(_, d) => self.lacks(d),
-            Insn::MovSx(_, _, source) => self.lacks(source),
-            Insn::ByteSwap(_, _, d) => self.lacks(d),
-            Insn::Load(_, _, place) => self.lacks(place.base),
-            Insn::LoadSx(_, _, place) => self.lacks(place.base),
-            Insn::StoreConstant(_, place, _) => self.lacks(place.base),
-            Insn::Store(_, place, source) => self.lacks(place.base) || self.lacks(source),
-            Insn::Atomic(_, _, _, place, source) => self.lacks(place.base) || self.lacks(source),
-            Insn::Exchange(_, place, source) => self.lacks(place.base) || self.lacks(source),
-            Insn::CompareExchange(_, place, source) => {
-                self.lacks(place.base) || self.lacks(source) || self.lacks(Reg::R0)
-            }
-            Insn::JumpIf(cond, _) => self.lacks(cond.register) || self.lacks_operand(cond.operand),
-            Insn::LoadNumber(_, _)
-            | Insn::Jump(_)
-            | Insn::JumpLong(_)
-            | Insn::CallLocal(_)
-            | Insn::Exit => false,
-        }
+        let (first, second, third) = insn.read();
+        self.lacks(first) || self.lacks(second) || self.lacks(third)
     }
 
     /// What an instruction other than EXIT does, once its registers are set.

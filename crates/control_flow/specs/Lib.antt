@@ -3,3 +3,4 @@ pub mod Functions
 pub mod Searches
 pub mod Flows
 pub mod FlowLaws
+pub mod Messages

@@ -41,6 +41,7 @@ fn test_all(alloc: Global, image: &Image) -> Result<(), (FlowError, usize)>
     ensures good { IfOk result (λ _. IsFlow image.now) }
     ensures refused { IfErr result (λ refusal. IsRefusal image.now refusal.0 refusal.1) }
 {
+    // For the proof only: this call says that the program is an image's.
     let _slots = image.slots();
     if let Some(slot) = first_outside(image) {
         return Err((FlowError::TargetOutside, slot));
@@ -92,9 +93,9 @@ impl<'a> Flow<'a> {
         is_marked(&self.joins, slot)
     }
 
-    /// The registers whose values may still be read from this slot on, r0 in the lowest bit.
-    ///
-    /// It is advice, on which no proof rests. For now it is all registers.
+    /// The registers whose values may still be read from this slot on, r0 in the lowest bit: all
+    /// ten. A verifier may forget the other ones where paths meet; `explorer` keeps them all, and
+    /// does not ask yet.
     pub fn live(&self, _slot: usize) -> u16
         ensures { result ≡ 1023 }
     {

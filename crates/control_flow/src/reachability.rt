@@ -40,6 +40,7 @@ impl Search {
         requires leads { (to : ℕ) → Leads image.now slot to → to < length self.old.found.items }
         ensures { OnOk result (Extends (Leads image.now slot) self.old.found.items self.old.frontier.items self.new.found.items self.new.frontier.items) }
     {
+        // For the proof only: this call says that the program is an image's.
         let _slots = image.slots();
         self.find(fall_target(image, slot))?;
         self.find(jump_target(image, slot))?;

@@ -1,2 +1,3 @@
 pub mod Hexadecimal
 pub mod SlotText
+pub mod Parts

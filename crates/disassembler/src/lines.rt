@@ -1,10 +1,11 @@
 //! The lines of canonical text, one function for each form.
 
-ghost use Rattle.std.specs.Prelude.{◌≡◌, true, false};
+ghost use Rattle.std.specs.Prelude.{◌≡◌, ◌≤◌, length, true, false};
 ghost use Rattle.isa_model.specs.Text.CanonicalText.{line_of, row_line};
+ghost use Rattle.disassembler.specs.Parts.{fetch_text};
 
 use super::numbers::{Line, push_distance, push_hex, push_number, push_signed};
-use super::parts::{push_operand, push_place, push_reg};
+use super::parts::{push_memory, push_operand, push_place, push_reg};
 use super::words::{
     atomic_sign, comparison_sign, extension_width, extension_word, fetch_word, kind_word,
     narrow_word, op_sign, order_word, size_word, span_word, width_word,
@@ -88,11 +89,9 @@ fn load_line(size: Size, destination: Reg, place: Place) -> Line
 {
     let mut line = Line::new();
     push_reg(&mut line, Width::Full64, destination);
-    line.push_str(" = *(");
-    line.push_str(size_word(size));
-    line.push_str(" *)(");
-    push_place(&mut line, place);
-    line.push_str(")\n");
+    line.push_str(" = ");
+    push_memory(&mut line, size_word(size), place);
+    line.push_str("\n");
     line
 }
 
@@ -102,11 +101,9 @@ fn signed_load_line(size: Narrow, destination: Reg, place: Place) -> Line
 {
     let mut line = Line::new();
     push_reg(&mut line, Width::Full64, destination);
-    line.push_str(" = *(");
-    line.push_str(narrow_word(size));
-    line.push_str(" *)(");
-    push_place(&mut line, place);
-    line.push_str(")\n");
+    line.push_str(" = ");
+    push_memory(&mut line, narrow_word(size), place);
+    line.push_str("\n");
     line
 }
 
@@ -115,11 +112,8 @@ fn constant_store_line(size: Size, place: Place, number: i32) -> Line
     ensures { result.bytes ≡ line_of (Insn.StoreConstant size place number) }
 {
     let mut line = Line::new();
-    line.push_str("*(");
-    line.push_str(size_word(size));
-    line.push_str(" *)(");
-    push_place(&mut line, place);
-    line.push_str(") = ");
+    push_memory(&mut line, size_word(size), place);
+    line.push_str(" = ");
     push_signed(&mut line, number);
     line.push_str("\n");
     line
@@ -130,11 +124,8 @@ fn store_line(size: Size, place: Place, source: Reg) -> Line
     ensures { result.bytes ≡ line_of (Insn.Store size place source) }
 {
     let mut line = Line::new();
-    line.push_str("*(");
-    line.push_str(size_word(size));
-    line.push_str(" *)(");
-    push_place(&mut line, place);
-    line.push_str(") = ");
+    push_memory(&mut line, size_word(size), place);
+    line.push_str(" = ");
     push_reg(&mut line, Width::Full64, source);
     line.push_str("\n");
     line
@@ -145,11 +136,9 @@ fn atomic_line(width: Width, op: AtomicOp, place: Place, source: Reg) -> Line
     ensures { result.bytes ≡ line_of (Insn.Atomic width op false place source) }
 {
     let mut line = Line::new();
-    line.push_str("lock *(");
-    line.push_str(size_word(width.size()));
-    line.push_str(" *)(");
-    push_place(&mut line, place);
-    line.push_str(") ");
+    line.push_str("lock ");
+    push_memory(&mut line, size_word(width.size()), place);
+    line.push_str(" ");
     line.push_str(atomic_sign(op));
     line.push_str(" ");
     push_reg(&mut line, Width::Full64, source);
@@ -157,30 +146,15 @@ fn atomic_line(width: Width, op: AtomicOp, place: Place, source: Reg) -> Line
     line
 }
 
-#[tactic(auto, unfolding(isa_model::specs::Text::CanonicalText::line_of))]
-fn fetch_line(width: Width, op: AtomicOp, place: Place, source: Reg) -> Line
-    ensures { result.bytes ≡ line_of (Insn.Atomic width op true place source) }
+// `r1 = NAME64(r10 - 8, r1)`: an atomic instruction that answers the old number in its source.
+fn fetch_line(name: &str, width: Width, place: Place, source: Reg) -> Line
+    requires { length name.now ≤ 17 }
+    ensures { result.bytes ≡ fetch_text name.now width place source }
 {
     let mut line = Line::new();
     push_reg(&mut line, Width::Full64, source);
     line.push_str(" = ");
-    line.push_str(fetch_word(op));
-    line.push_str(width_word(width));
-    line.push_str("(");
-    push_place(&mut line, place);
-    line.push_str(", ");
-    push_reg(&mut line, Width::Full64, source);
-    line.push_str(")\n");
-    line
-}
-
-#[tactic(auto, unfolding(isa_model::specs::Text::CanonicalText::line_of))]
-fn exchange_line(width: Width, place: Place, source: Reg) -> Line
-    ensures { result.bytes ≡ line_of (Insn.Exchange width place source) }
-{
-    let mut line = Line::new();
-    push_reg(&mut line, Width::Full64, source);
-    line.push_str(" = xchg_");
+    line.push_str(name);
     line.push_str(width_word(width));
     line.push_str("(");
     push_place(&mut line, place);
@@ -265,6 +239,7 @@ fn exit_line() -> Line
 }
 
 /// The line of an instruction.
+#[tactic(auto, unfolding(isa_model::specs::Text::CanonicalText::line_of))]
 pub fn line_of(insn: &Insn) -> Line
     ensures { result.bytes ≡ line_of insn.now }
 {
@@ -281,8 +256,13 @@ pub fn line_of(insn: &Insn) -> Line
         Insn::StoreConstant(size, place, number) => constant_store_line(size, place, number),
         Insn::Store(size, place, source) => store_line(size, place, source),
         Insn::Atomic(width, op, false, place, source) => atomic_line(width, op, place, source),
-        Insn::Atomic(width, op, true, place, source) => fetch_line(width, op, place, source),
-        Insn::Exchange(width, place, source) => exchange_line(width, place, source),
+        Insn::Atomic(width, op, true, place, source) => fetch_line(
+            fetch_word(op),
+            width,
+            place,
+            source,
+        ),
+        Insn::Exchange(width, place, source) => fetch_line("xchg_", width, place, source),
         Insn::CompareExchange(width, place, source) => compare_exchange_line(width, place, source),
         Insn::Jump(distance) => jump_line(distance),
         Insn::JumpLong(distance) => long_jump_line(distance),

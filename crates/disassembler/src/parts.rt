@@ -1,8 +1,9 @@
 //! The parts of an instruction, appended to a line.
 
-ghost use Rattle.std.specs.Prelude.{◌≡◌, ◌+◌, ◌≤◌, ◌++◌};
+ghost use Rattle.std.specs.Prelude.{◌≡◌, ◌+◌, ◌≤◌, ◌++◌, length};
 ghost use Rattle.arrayvec.specs.ArrayString.{array_string_len};
 ghost use Rattle.isa_model.specs.Text.CanonicalText.{reg_text, operand_text, place_text};
+ghost use Rattle.disassembler.specs.Parts.{memory_text};
 
 use super::numbers::{Line, push_offset, push_signed};
 use super::words::reg_digits;
@@ -42,4 +43,18 @@ pub fn push_place(line: &mut Line, place: Place)
     push_reg(line, Width::Full64, place.base);
     line.push_str(" ");
     push_offset(line, place.offset);
+}
+
+/// Appends memory of a size, `size` in words: `*(u32 *)(r10 - 8)`.
+pub fn push_memory(line: &mut Line, size: &str, place: Place)
+    requires short { length size.now ≤ 3 }
+    requires room { array_string_len line.old + 36 ≤ 96 }
+    ensures bytes { line.new.bytes ≡ line.old.bytes ++ memory_text size.now place }
+    ensures len { array_string_len line.new ≤ array_string_len line.old + 36 }
+{
+    line.push_str("*(");
+    line.push_str(size);
+    line.push_str(" *)(");
+    push_place(line, place);
+    line.push_str(")");
 }

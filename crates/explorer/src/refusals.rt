@@ -1,24 +1,62 @@
 //! Why a program is refused.
 
+ghost use Rattle.std.specs.Prelude.{◌≡◌, Some};
+ghost use Rattle.explorer.specs.Messages.{code_of, sentence_of};
+
 use control_flow::FlowError;
-use thiserror::Error;
+use std::error::Error;
+use std::fmt;
 
 /// Why a program is refused; each comes with a slot, and the refusal for memory with slot 0.
-#[derive(Clone, Copy, PartialEq, Eq, Debug, Error)]
+#[derive(Clone, Copy, PartialEq, Eq, Debug)]
 pub enum Refusal {
     /// Its control flow is not good.
-    #[error("{0}")]
     Flow(FlowError),
     /// An instruction is not safe in a state that leads to it.
-    #[error("{0}")]
     Step(transfer::Refusal),
     /// A path comes back to a state that it has been in.
-    #[error("V18")]
     Repeats,
     /// More instructions than `MAX_EXPLORED` would have to be explored.
-    #[error("V19")]
     TooLong,
     /// Memory ran out.
-    #[error("V0")]
     Memory,
 }
+
+impl Refusal {
+    /// Its number in the documents, such as `V18`.
+    pub fn code(self) -> &'static str
+        ensures { result.now ≡ code_of self }
+    {
+        match self {
+            Refusal::Flow(error) => error.code(),
+            Refusal::Step(refusal) => refusal.code(),
+            Refusal::Repeats => "V18",
+            Refusal::TooLong => "V19",
+            Refusal::Memory => "V0",
+        }
+    }
+
+    /// What is wrong, in a sentence.
+    pub fn sentence(self) -> &'static str
+        ensures { result.now ≡ sentence_of self }
+    {
+        match self {
+            Refusal::Flow(error) => error.sentence(),
+            Refusal::Step(refusal) => refusal.sentence(),
+            Refusal::Repeats => "a path comes back to a state that it was in: the loop has no end",
+            Refusal::TooLong => "more than 1000000 instructions would have to be explored",
+            Refusal::Memory => "out of memory",
+        }
+    }
+}
+
+/// Writes the sentence.
+impl fmt::Display for Refusal {
+    ghost output = { λ error. Some (sentence_of error) };
+
+    fn fmt<W: fmt::Write>(&self, f: &mut fmt::Formatter<W>) -> fmt::Result {
+        f.write_str(self.sentence())
+    }
+}
+
+impl Error for Refusal {}

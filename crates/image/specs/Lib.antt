@@ -3,3 +3,4 @@ pub mod Refusals
 pub mod ImageLaws
 pub mod Programs
 pub mod CodeLaws
+pub mod Messages

@@ -1,26 +1,67 @@
 //! Why bytes are no instruction.
 
-use thiserror::Error;
+ghost use Rattle.std.specs.Prelude.{◌≡◌, Some};
+ghost use Rattle.insn_codec.specs.Messages.{code_of, sentence_of};
+
+use std::error::Error;
+use std::fmt;
 
 /// Why no front of the bytes spells an instruction: the first of these tests that fails.
-#[derive(Clone, Copy, PartialEq, Eq, Debug, Error)]
+#[derive(Clone, Copy, PartialEq, Eq, Debug)]
 pub enum CodecError {
     /// Fewer than 8 bytes.
-    #[error("C1")]
     Short,
     /// An opcode of no form.
-    #[error("C2")]
     UnknownOpcode,
     /// A register field over 10.
-    #[error("C3")]
     UnknownRegister,
     /// A field that the form does not use is not zero.
-    #[error("C4")]
     UnusedField,
     /// A selector has a value of no form.
-    #[error("C5")]
     UnknownSelector,
     /// The second slot of a wide load is missing, or its reserved bits are not zero.
-    #[error("C6")]
     SecondSlot,
 }
+
+impl CodecError {
+    /// Its number in the documents, such as `C1`.
+    pub fn code(self) -> &'static str
+        ensures { result.now ≡ code_of self }
+    {
+        match self {
+            CodecError::Short => "C1",
+            CodecError::UnknownOpcode => "C2",
+            CodecError::UnknownRegister => "C3",
+            CodecError::UnusedField => "C4",
+            CodecError::UnknownSelector => "C5",
+            CodecError::SecondSlot => "C6",
+        }
+    }
+
+    /// What is wrong, in a sentence.
+    pub fn sentence(self) -> &'static str
+        ensures { result.now ≡ sentence_of self }
+    {
+        match self {
+            CodecError::Short => "fewer than 8 bytes are left for the instruction",
+            CodecError::UnknownOpcode => "the opcode is unknown",
+            CodecError::UnknownRegister => "a register number is over 10",
+            CodecError::UnusedField => "a field that the instruction does not use is not 0",
+            CodecError::UnknownSelector =>
+                "the selector is unknown; helper calls and map loads are not supported yet",
+            CodecError::SecondSlot =>
+                "the second slot of the wide load is missing, or its low four bytes are not 0",
+        }
+    }
+}
+
+/// Writes the sentence.
+impl fmt::Display for CodecError {
+    ghost output = { λ error. Some (sentence_of error) };
+
+    fn fmt<W: fmt::Write>(&self, f: &mut fmt::Formatter<W>) -> fmt::Result {
+        f.write_str(self.sentence())
+    }
+}
+
+impl Error for CodecError {}

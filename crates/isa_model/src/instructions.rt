@@ -2,8 +2,10 @@
 //!
 //! The parts' types admit only what can be spelled, so each value is an instruction.
 
-ghost use Rattle.std.specs.Prelude.{◌≡◌};
-ghost use Rattle.isa_model.specs.Code.Instructions.{slots_of, writes, is_frame_pointer};
+ghost use Rattle.std.specs.Prelude.{◌≡◌, ◌++◌};
+ghost use Rattle.std.specs.Option.{option_to_list};
+ghost use Rattle.isa_model.specs.Code.Instructions.{slots_of, operand_reads, reads, writes};
+ghost use Rattle.isa_model.specs.Code.Instructions.{is_frame_pointer};
 
 use crate::registers::Reg;
 use crate::sizes::{ByteOrder, Extension, Narrow, Size, Span, Width};
@@ -32,6 +34,18 @@ pub enum AluOp {
 pub enum Operand {
     Constant(i32),
     Register(Reg),
+}
+
+impl Operand {
+    /// The register, if it is one.
+    pub fn register(self) -> Option<Reg>
+        ensures { option_to_list result ≡ operand_reads self }
+    {
+        match self {
+            Operand::Constant(_) => None,
+            Operand::Register(register) => Some(register),
+        }
+    }
 }
 
 /// The comparisons of conditional jumps, the destination register on the left.
@@ -123,6 +137,35 @@ impl Insn {
         match self {
             Insn::LoadNumber(_, _) => 2,
             _ => 1,
+        }
+    }
+
+    /// The registers that it reads, at most three: they have to be set. An exit decides about r0 itself, and a call
+    /// hands over r1 to r5 as they are.
+    pub fn read(&self) -> (Option<Reg>, Option<Reg>, Option<Reg>)
+        ensures { option_to_list result.0 ++ option_to_list result.1 ++ option_to_list result.2
+            ≡ reads self.now }
+    {
+        match *self {
+            Insn::Alu(_, AluOp::Mov, _, source) => (source.register(), None, None),
+            Insn::Alu(_, _, d, source) => (Some(d), source.register(), None),
+            Insn::Neg(_, d) | Insn::ByteSwap(_, _, d) => (Some(d), None, None),
+            Insn::MovSx(_, _, source) => (Some(source), None, None),
+            Insn::Load(_, _, place) => (Some(place.base), None, None),
+            Insn::LoadSx(_, _, place) => (Some(place.base), None, None),
+            Insn::StoreConstant(_, place, _) => (Some(place.base), None, None),
+            Insn::Store(_, place, source) => (Some(place.base), Some(source), None),
+            Insn::Atomic(_, _, _, place, source) => (Some(place.base), Some(source), None),
+            Insn::Exchange(_, place, source) => (Some(place.base), Some(source), None),
+            Insn::CompareExchange(_, place, source) => {
+                (Some(place.base), Some(source), Some(Reg::R0))
+            }
+            Insn::JumpIf(cond, _) => (Some(cond.register), cond.operand.register(), None),
+            Insn::LoadNumber(_, _)
+            | Insn::Jump(_)
+            | Insn::JumpLong(_)
+            | Insn::CallLocal(_)
+            | Insn::Exit => (None, None, None),
         }
     }
 

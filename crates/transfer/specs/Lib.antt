@@ -4,3 +4,4 @@ pub mod Exact
 pub mod Refusing
 pub mod ResultLaws
 pub mod ExactLaws
+pub mod Messages

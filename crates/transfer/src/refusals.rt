@@ -1,67 +1,123 @@
 //! Why no step is made.
 
-ghost use Rattle.std.specs.Prelude.{◌≡◌};
+ghost use Rattle.std.specs.Prelude.{◌≡◌, Some};
+ghost use Rattle.transfer.specs.Messages.{code_of, sentence_of};
 
-use thiserror::Error;
+use std::error::Error;
+use std::fmt;
 
 /// The test that an abstract state fails at an instruction; of several, the one of the lowest number.
-#[derive(Clone, Copy, PartialEq, Eq, Debug, Error)]
+#[derive(Clone, Copy, PartialEq, Eq, Debug)]
 pub enum Refusal {
     /// A register is read that may be unset.
-    #[error("V1")]
     UnsetRegister,
     /// r10 is written.
-    #[error("V2")]
     ReadOnlyRegister,
     /// A pointer in arithmetic that is not defined on it, or as an operand of an atomic instruction.
-    #[error("V3")]
     PointerOperand,
     /// A pointer's offset may leave the limit, or a frame pointer moves by a number that is not constant.
-    #[error("V4")]
     PointerOffset,
     /// An access through a number, a map or the packet's end.
-    #[error("V5")]
     NotMemory,
     /// Stack bytes out of the frame, or not aligned.
-    #[error("V6")]
     StackPlace,
     /// Stack bytes that may be unset are read, or a stored pointer otherwise than whole.
-    #[error("V7")]
     StackBytes,
     /// An access of the context that is none of the loads of its fields.
-    #[error("V8")]
     ContextAccess,
     /// Packet bytes that are not proved to be there.
-    #[error("V9")]
     PacketBytes,
     /// Bytes that are not proved to be in the map's value.
-    #[error("V10")]
     MapValueBytes,
     /// What a lookup answered is used before its null test.
-    #[error("V11")]
     NullNotTested,
     /// A pointer is stored otherwise than whole into the innermost frame.
-    #[error("V12")]
     PointerStored,
     /// A comparison that is not defined on its operands.
-    #[error("V13")]
     Comparison,
     /// No such helper, or an argument of another kind than it takes.
-    #[error("V14")]
     HelperArgument,
     /// Key or value bytes of a helper that are not all written number bytes in bounds.
-    #[error("V15")]
     HelperBytes,
     /// A call at the deepest frame.
-    #[error("V16")]
     TooManyFrames,
     /// The last exit without a number in r0, or an exit with a pointer into the frame that ends.
-    #[error("V17")]
     ExitValue,
     /// An atomic instruction on the context or the packet.
-    #[error("V20")]
     PacketAtomic,
     /// A step that cannot be judged yet.
-    #[error("not built")]
     NotBuilt,
 }
+
+impl Refusal {
+    /// Its number in the documents, such as `V1`.
+    pub fn code(self) -> &'static str
+        ensures { result.now ≡ code_of self }
+    {
+        match self {
+            Refusal::UnsetRegister => "V1",
+            Refusal::ReadOnlyRegister => "V2",
+            Refusal::PointerOperand => "V3",
+            Refusal::PointerOffset => "V4",
+            Refusal::NotMemory => "V5",
+            Refusal::StackPlace => "V6",
+            Refusal::StackBytes => "V7",
+            Refusal::ContextAccess => "V8",
+            Refusal::PacketBytes => "V9",
+            Refusal::MapValueBytes => "V10",
+            Refusal::NullNotTested => "V11",
+            Refusal::PointerStored => "V12",
+            Refusal::Comparison => "V13",
+            Refusal::HelperArgument => "V14",
+            Refusal::HelperBytes => "V15",
+            Refusal::TooManyFrames => "V16",
+            Refusal::ExitValue => "V17",
+            Refusal::PacketAtomic => "V20",
+            Refusal::NotBuilt => "not built",
+        }
+    }
+
+    /// What is wrong, in a sentence.
+    pub fn sentence(self) -> &'static str
+        ensures { result.now ≡ sentence_of self }
+    {
+        match self {
+            Refusal::UnsetRegister => "a register is read that may be unset",
+            Refusal::ReadOnlyRegister => "r10 is written, and it is read-only",
+            Refusal::PointerOperand => "the operation is not defined for a pointer",
+            Refusal::PointerOffset =>
+                "the offset may leave its limit, or a frame pointer moves by a variable number",
+            Refusal::NotMemory => "the load or store does not go through a pointer to memory",
+            Refusal::StackPlace => "loads and stores on the stack are not verified yet",
+            Refusal::StackBytes =>
+                "stack bytes are read that may be unset, or a part of a stored pointer",
+            Refusal::ContextAccess =>
+                "only 4-byte loads of the context at 12 and 16 are verified so far",
+            Refusal::PacketBytes => "the packet bytes are not proved to be there",
+            Refusal::MapValueBytes => "the bytes are not proved to be in the map's value",
+            Refusal::NullNotTested => "the pointer may be null, and is used before its null test",
+            Refusal::PointerStored => "a pointer is not stored whole into the innermost frame",
+            Refusal::Comparison =>
+                "a pointer is compared, and only comparisons of numbers are verified so far",
+            Refusal::HelperArgument =>
+                "there is no such helper, or it does not take such an argument",
+            Refusal::HelperBytes =>
+                "the helper's key or value bytes are not all written and in bounds",
+            Refusal::TooManyFrames => "calls are not verified yet",
+            Refusal::ExitValue => "r0 is unset or a pointer at the exit",
+            Refusal::PacketAtomic => "the atomic instruction is on the context or the packet",
+            Refusal::NotBuilt => "the instruction is not verified yet",
+        }
+    }
+}
+
+/// Writes the sentence.
+impl fmt::Display for Refusal {
+    ghost output = { λ error. Some (sentence_of error) };
+
+    fn fmt<W: fmt::Write>(&self, f: &mut fmt::Formatter<W>) -> fmt::Result {
+        f.write_str(self.sentence())
+    }
+}
+
+impl Error for Refusal {}

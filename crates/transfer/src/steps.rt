@@ -2,10 +2,11 @@
 
 ghost use Rattle.std.specs.Prelude.{false, ◌≡◌, ◌≢◌, ◌+◌, ◌<◌, ◌^◌, IfOk, IfErr, IsOk, length};
 ghost use Rattle.std.specs.List.{list_any};
-ghost use Rattle.isa_model.specs.Code.Instructions.{Program, slots_of, operand_reads, reads};
+ghost use Rattle.std.specs.Option.{option_to_list};
+ghost use Rattle.isa_model.specs.Code.Instructions.{Program, slots_of};
 ghost use Rattle.isa_model.specs.Code.Instructions.{writes, is_frame_pointer};
 ghost use Rattle.stack_state.specs.Places.{kind_of};
-ghost use Rattle.transfer.specs.Refusing.{is_unset, is_unset_in, reads_unset, SetRefused, Refused};
+ghost use Rattle.transfer.specs.Refusing.{is_unset_in, reads_unset, SetRefused, Refused};
 ghost use Rattle.transfer.specs.Exact.{IsOperand, Puts, Sets, Makes, IsComputed, IsAccepted};
 
 use crate::Ways;
@@ -15,24 +16,18 @@ use crate::jumps::jump_if;
 use crate::memory::{access_refusal, atomic_refusal, exchange_refusal, load};
 use crate::refusals::Refusal;
 use isa_model::numbers::unsigned;
-use isa_model::{AluOp, Insn, Operand, Reg, Width, destination};
+use isa_model::{Insn, Operand, Reg, Width, destination};
 use reg_state::Kind;
 use stack_state::State;
 
 // ---- the tests of the registers
 
-fn is_unset(state: &State, register: Reg) -> bool
-    ensures { result ≡ is_unset_in state.now register }
+fn is_unset(state: &State, register: Option<Reg>) -> bool
+    ensures { result ≡ list_any (is_unset_in state.now) (option_to_list register) }
 {
-    matches!(state.kind_of(register), Kind::Unset)
-}
-
-fn is_operand_unset(state: &State, source: Operand) -> bool
-    ensures { result ≡ list_any (is_unset_in state.now) (operand_reads source) }
-{
-    match source {
-        Operand::Constant(_) => false,
-        Operand::Register(register) => is_unset(state, register),
+    match register {
+        None => false,
+        Some(register) => matches!(state.kind_of(register), Kind::Unset),
     }
 }
 
@@ -40,32 +35,8 @@ fn is_operand_unset(state: &State, source: Operand) -> bool
 pub fn reads_unset(state: &State, insn: &Insn) -> bool
     ensures { result ≡ reads_unset state.now insn.now }
 {
-    match *insn {
-        Insn::Alu(_, AluOp::Mov, _, source) => is_operand_unset(state, source),
-        Insn::Alu(_, _, d, source) => is_unset(state, d) || is_operand_unset(state, source),
-        Insn::Neg(_, d) => is_unset(state, d),
-        Insn::MovSx(_, _, source) => is_unset(state, source),
-        Insn::ByteSwap(_, _, d) => is_unset(state, d),
-        Insn::Load(_, _, place) => is_unset(state, place.base),
-        Insn::LoadSx(_, _, place) => is_unset(state, place.base),
-        Insn::StoreConstant(_, place, _) => is_unset(state, place.base),
-        Insn::Store(_, place, source) => is_unset(state, place.base) || is_unset(state, source),
-        Insn::Atomic(_, _, _, place, source) => {
-            is_unset(state, place.base) || is_unset(state, source)
-        }
-        Insn::Exchange(_, place, source) => is_unset(state, place.base) || is_unset(state, source),
-        Insn::CompareExchange(_, place, source) => {
-            is_unset(state, place.base) || is_unset(state, source) || is_unset(state, Reg::R0)
-        }
-        Insn::JumpIf(cond, _) => {
-            is_unset(state, cond.register) || is_operand_unset(state, cond.operand)
-        }
-        Insn::LoadNumber(_, _)
-        | Insn::Jump(_)
-        | Insn::JumpLong(_)
-        | Insn::CallLocal(_)
-        | Insn::Exit => false,
-    }
+    let (first, second, third) = insn.read();
+    is_unset(state, first) || is_unset(state, second) || is_unset(state, third)
 }
 
 // ---- registers set

@@ -45,9 +45,13 @@ recheck = command (codes "recheck") (codes "image" ∷ codes "table" ∷ [])
 abbrev pub with_command : App → App → App
 with_command program command = with_subcommand program command.top
 
--- the program wants one of its commands
+-- the program has a version
+abbrev pub versioned_program : App
+versioned_program = on_top (λ s. record s { has_version = true }) (new_app (codes "xdpvm"))
+
+-- and wants one of its commands
 abbrev pub empty_program : App
-empty_program = on_top (λ s. record s { subcommand_required = true }) (new_app (codes "xdpvm"))
+empty_program = on_top (λ s. record s { subcommand_required = true }) versioned_program
 
 unfoldable pub program : App
 program = fold with_command empty_program (asm ∷ dis ∷ verify ∷ run ∷ trace ∷ prove ∷ recheck ∷ [])

@@ -7,6 +7,9 @@ ghost use Rattle.words.specs.CommandLine.{wanted, limit, command, program};
 use clap::{Arg, ArgAction, Command};
 use std::alloc::{AllocError, Global};
 
+/// The version of the program, which `--version` prints.
+pub const VERSION: &str = "0.1.0";
+
 // An argument that is wanted, and takes one value.
 fn wanted<'a>(alloc: Global, name: &'static str) -> Arg<'a>
     ensures rule { rule_of result ≡ wanted name.now }
@@ -53,6 +56,7 @@ pub fn program<'a>(alloc: Global) -> Result<Command<'a>, AllocError>
     let prove = command(alloc, "prove", &["image", "table"])?;
     let recheck = command(alloc, "recheck", &["image", "table"])?;
     Command::new(alloc, "xdpvm")
+        .version(VERSION)
         .subcommand_required(true)
         .subcommand(asm)?
         .subcommand(dis)?

@@ -1,11 +1,11 @@
-//! Loads, stores and atomic instructions.
+//! Loads and stores.
 
 ghost use Rattle.std.specs.Prelude.{◌≡◌, ◌+◌, ◌<◌, ◌^◌};
 ghost use Rattle.checked_vm.specs.Machine.{KeepsFrames, Performs};
 
 use crate::core_state::Core;
 use isa_model::numbers::unsigned;
-use isa_model::{AtomicOp, Insn, Narrow, Place, Reg, Size, TrapReason, Value, Width};
+use isa_model::{Insn, Narrow, Place, Reg, Size, TrapReason, Value, Width};
 
 impl Core {
     /// LDX MEM.
@@ -78,62 +78,6 @@ impl Core {
     {
         let value = self.value(source);
         self.store(packet, size, self.value(place.base), place, value)?;
-        self.slot += 1;
-        Ok(())
-    }
-
-    /// ADD, OR, AND and XOR on memory, with FETCH (`fetched`) or without.
-    #[tactic(auto, unfolding(isa_model::specs::Machine::Steps::act))]
-    pub fn do_atomic(
-        &mut self,
-        packet: &mut [u8],
-        width: Width,
-        op: AtomicOp,
-        fetched: bool,
-        place: Place,
-        source: Reg,
-    ) -> Result<(), TrapReason>
-        requires { self.old.slot + 1 < 2 ^ 64 }
-        ensures kept { KeepsFrames self.old self.new }
-        ensures done { Performs (Insn.Atomic width op fetched place source) result self.old packet.old self.new packet.new }
-    {
-        self.combine(packet, width, op, fetched, place, source)?;
-        self.slot += 1;
-        Ok(())
-    }
-
-    /// XCHG.
-    #[tactic(auto, unfolding(isa_model::specs::Machine::Steps::act))]
-    pub fn do_exchange(
-        &mut self,
-        packet: &mut [u8],
-        width: Width,
-        place: Place,
-        source: Reg,
-    ) -> Result<(), TrapReason>
-        requires { self.old.slot + 1 < 2 ^ 64 }
-        ensures kept { KeepsFrames self.old self.new }
-        ensures done { Performs (Insn.Exchange width place source) result self.old packet.old self.new packet.new }
-    {
-        self.exchange(packet, width, place, source)?;
-        self.slot += 1;
-        Ok(())
-    }
-
-    /// CMPXCHG.
-    #[tactic(auto, unfolding(isa_model::specs::Machine::Steps::act))]
-    pub fn do_compare_exchange(
-        &mut self,
-        packet: &mut [u8],
-        width: Width,
-        place: Place,
-        source: Reg,
-    ) -> Result<(), TrapReason>
-        requires { self.old.slot + 1 < 2 ^ 64 }
-        ensures kept { KeepsFrames self.old self.new }
-        ensures done { Performs (Insn.CompareExchange width place source) result self.old packet.old self.new packet.new }
-    {
-        self.compare_exchange(packet, width, place, source)?;
         self.slot += 1;
         Ok(())
     }

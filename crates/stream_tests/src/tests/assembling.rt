@@ -57,7 +57,7 @@ fn prints_refusals(rt: HostRuntime) -> Result<(), Fail> {
     };
     assert_eq!(rt;
         format!(in rt.alloc(); "{error}")?.as_str(),
-        "A5 line 1 column 6"
+        "the name is not defined, line 1 column 6"
     );
     Ok(())
 }

@@ -355,8 +355,8 @@ fn refuses_in_order(rt: HostRuntime) {
 }
 
 #[test]
-fn prints_refusals(rt: HostRuntime) -> Result<(), AllocError> {
-    for (error, text) in [
+fn names_refusals(rt: HostRuntime) -> Result<(), AllocError> {
+    for (error, code) in [
         (CodecError::Short, "C1"),
         (CodecError::UnknownOpcode, "C2"),
         (CodecError::UnknownRegister, "C3"),
@@ -364,7 +364,12 @@ fn prints_refusals(rt: HostRuntime) -> Result<(), AllocError> {
         (CodecError::UnknownSelector, "C5"),
         (CodecError::SecondSlot, "C6"),
     ] {
-        assert_eq!(rt; error.to_string(rt.alloc())?.as_str(), text);
+        assert_eq!(rt; error.code(), code);
     }
+    let error = CodecError::UnknownRegister;
+    assert_eq!(rt;
+        error.to_string(rt.alloc())?.as_str(),
+        "a register number is over 10"
+    );
     Ok(())
 }

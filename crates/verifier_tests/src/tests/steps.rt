@@ -157,7 +157,7 @@ fn both_sides_of_a_jump_are_narrowed(rt: HostRuntime) -> Result<(), Fail> {
 }
 
 #[test]
-fn refusals_are_named(rt: HostRuntime) -> Result<(), Fail> {
+fn refusals_are_named(rt: HostRuntime) {
     for (refusal, name) in [
         (Refusal::UnsetRegister, "V1"),
         (Refusal::ReadOnlyRegister, "V2"),
@@ -165,8 +165,6 @@ fn refusals_are_named(rt: HostRuntime) -> Result<(), Fail> {
         (Refusal::ExitValue, "V17"),
         (Refusal::PacketAtomic, "V20"),
     ] {
-        let printed = format!(in rt.alloc(); "{refusal}")?;
-        assert_eq!(rt; printed.as_str(), name);
+        assert_eq!(rt; refusal.code(), name);
     }
-    Ok(())
 }

@@ -44,7 +44,8 @@ returns c =
     let prove-is : app_of c.in_ok-prove.prove ≡ line.prove = c.in_ok-prove.ensures in
     let recheck-is : app_of c.in_ok-recheck.recheck ≡ line.recheck = c.in_ok-recheck.ensures in
     let trace-is : app_of c.in_ok-trace.trace ≡ line.trace = c.in_ok-trace.ensures ∙ ap (λ (a : App). with_rule a line.limit) c.in_ok-unlimited.ensures in
-    let start : app_of c.subcommand_required.result ≡ line.empty_program = ap app_of_fields c.subcommand_required.ensures ∙ ap (on_top (λ s. record s { subcommand_required = true })) c.new.ensures.app in
+    let versioned : app_of c.version.result ≡ line.versioned_program = ap app_of_fields c.version.ensures ∙ ap (on_top (λ s. record s { has_version = true })) c.new.ensures.app in
+    let start : app_of c.subcommand_required.result ≡ line.empty_program = ap app_of_fields c.subcommand_required.ensures ∙ ap (on_top (λ s. record s { subcommand_required = true })) versioned in
     let with-asm = command-more _ _ _ _ line.asm c.in_ok-subcommand.ensures start asm-is asm-plain in
     let with-dis = command-more _ _ _ _ line.dis c.in_ok-subcommand-2.ensures with-asm dis-is dis-plain in
     let with-verify = command-more _ _ _ _ line.verify c.in_ok-subcommand-3.ensures with-dis verify-is verify-plain in

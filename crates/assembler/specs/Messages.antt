@@ -1,0 +1,24 @@
+-- The code of each refusal, and the sentence that says what is wrong.
+use Rattle.std.specs.Prelude.{ℕ, List, codes}
+use Rattle.assembler.specs.declared.errors.AsmErrorKind.{AsmErrorKind}
+use Rattle.assembler.specs.declared.errors.AsmErrorKind.TheVariants.{UnknownByte, NoForm, OutOfRange, DefinedTwice, NotDefined, TooFar, Memory, SlotCount}
+
+abbrev pub code_of : AsmErrorKind → List ℕ
+code_of UnknownByte = codes "A1"
+code_of NoForm = codes "A2"
+code_of OutOfRange = codes "A3"
+code_of DefinedTwice = codes "A4"
+code_of NotDefined = codes "A5"
+code_of TooFar = codes "A6"
+code_of Memory = codes "A8"
+code_of SlotCount = codes "A9"
+
+abbrev pub sentence_of : AsmErrorKind → List ℕ
+sentence_of UnknownByte = codes "the byte begins no token"
+sentence_of NoForm = codes "no form fits the statement"
+sentence_of OutOfRange = codes "the number is out of range"
+sentence_of DefinedTwice = codes "the name is defined already"
+sentence_of NotDefined = codes "the name is not defined"
+sentence_of TooFar = codes "the name is too far away for the jump"
+sentence_of Memory = codes "out of memory"
+sentence_of SlotCount = codes "the text has no instruction, or more than 4096 slots"

@@ -1,0 +1,20 @@
+-- The code of each refusal, and the sentence that says what is wrong.
+use Rattle.std.specs.Prelude.{ℕ, List, codes}
+use Rattle.insn_codec.specs.declared.errors.CodecError.{CodecError}
+use Rattle.insn_codec.specs.declared.errors.CodecError.TheVariants.{Short, UnknownOpcode, UnknownRegister, UnusedField, UnknownSelector, SecondSlot}
+
+abbrev pub code_of : CodecError → List ℕ
+code_of Short = codes "C1"
+code_of UnknownOpcode = codes "C2"
+code_of UnknownRegister = codes "C3"
+code_of UnusedField = codes "C4"
+code_of UnknownSelector = codes "C5"
+code_of SecondSlot = codes "C6"
+
+abbrev pub sentence_of : CodecError → List ℕ
+sentence_of Short = codes "fewer than 8 bytes are left for the instruction"
+sentence_of UnknownOpcode = codes "the opcode is unknown"
+sentence_of UnknownRegister = codes "a register number is over 10"
+sentence_of UnusedField = codes "a field that the instruction does not use is not 0"
+sentence_of UnknownSelector = codes "the selector is unknown; helper calls and map loads are not supported yet"
+sentence_of SecondSlot = codes "the second slot of the wide load is missing, or its low four bytes are not 0"
