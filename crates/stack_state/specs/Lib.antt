@@ -13,3 +13,5 @@ pub mod FillLaws
 pub mod FrameLaws
 pub mod Effects
 pub mod EffectLaws
+pub mod Calls
+pub mod CallLaws
