@@ -1,6 +1,6 @@
 //! What is known of a frame, place by place.
 
-ghost use Rattle.std.specs.Prelude.{◌≡◌, ◌++◌, OnOk, IsTrue, slice_set, option_to_list};
+ghost use Rattle.std.specs.Prelude.{◌≡◌, ◌++◌, OnOk, IsTrue, length, slice_set, option_to_list};
 ghost use Rattle.explorer.specs.Keeping.{register_part, slot_part, register_parts, slot_parts};
 ghost use Rattle.explorer.specs.Keeping.{written, IsPartOf};
 
@@ -55,7 +55,8 @@ fn push_part(parts: &mut Vec<Part>, part: Option<Part>) -> Result<(), AllocError
 
 /// Puts the registers that are set after the parts.
 pub fn push_registers(parts: &mut Vec<Part>, registers: &[Kind; 10]) -> Result<(), AllocError>
-    ensures { OnOk result (parts.new.items ≡ parts.old.items ++ register_parts 0 registers.now) }
+    ensures pushed { OnOk result (parts.new.items ≡ parts.old.items ++ register_parts 0 registers.now) }
+    ensures ten { length registers.now ≡ 10 }
 {
     for index in 0..10 {
         let part = register_part(index as u8, registers[index]);
@@ -66,7 +67,8 @@ pub fn push_registers(parts: &mut Vec<Part>, registers: &[Kind; 10]) -> Result<(
 
 /// Puts the slots of which something is known after the parts.
 pub fn push_slots(parts: &mut Vec<Part>, slots: &[Slot; 64]) -> Result<(), AllocError>
-    ensures { OnOk result (parts.new.items ≡ parts.old.items ++ slot_parts 0 slots.now) }
+    ensures pushed { OnOk result (parts.new.items ≡ parts.old.items ++ slot_parts 0 slots.now) }
+    ensures wide { length slots.now ≡ 64 }
 {
     for index in 0..64 {
         let part = slot_part(index as u8, slots[index]);

@@ -15,5 +15,6 @@ mod numbers;
 mod precision;
 mod runs;
 mod scalars;
+mod stacks_covered;
 mod steps;
 mod verdicts;

@@ -24,7 +24,6 @@ fn cond(comparison: Comparison, width: Width, operand: Operand) -> Cond {
 }
 
 // A start with numbers in r2 and r3.
-#[tactic(auto, using(stack_state::specs::Starts::depth_start))]
 fn start_with(left: Scalar, right: Scalar) -> State
     ensures { 0 < depth result }
 {
@@ -101,7 +100,6 @@ fn constants_go_one_way(rt: HostRuntime) -> Result<(), Fail> {
 }
 
 #[test]
-#[tactic(auto, using(stack_state::specs::Starts::depth_start))]
 fn pointers_stay(rt: HostRuntime) -> Result<(), Fail> {
     let state = State::start();
     let mut context = cond(Comparison::Equal, FULL, Operand::Constant(0));

@@ -25,9 +25,6 @@ fn program(rt: &HostRuntime, slots: &[[u8; 8]]) -> Result<Image, Fail> {
 
 /// The step, where an instruction begins at the state's slot.
 fn stepped(image: &Image, state: &State) -> Option<Result<Successors, Refusal>> {
-    if state.frames.is_empty() {
-        return None;
-    }
     match image.at(state.slot) {
         None => None,
         Some(_) => Some(step(image, state)),

@@ -7,6 +7,6 @@ loop-index-preserved c =
     slot_parts-more c.loop-index.parts.items c.push_part.new.parts.items _ c.args.slots.now c.loop-index.index c.index-slots-index.result
     c.slot_part-part.result (omega arith) c.slot_part-part.ensures c.in_ok-push_part.ensures c.loop-index.invariant
 
-pub returns : goal.returns
-returns c =
+pub returns-clause-pushed : goal.returns-clause-pushed
+returns-clause-pushed c =
     slot_parts-all c.loop-index.parts.items _ c.args.slots.now c.loop-index.index (omega arith) c.loop-index.invariant
