@@ -20,9 +20,9 @@ use Rattle.reg_state.specs.Scalars.{Has, IsConstant}
 use Rattle.reg_state.specs.Constants.{bits_constant_has, range_constant_has}
 use Rattle.reg_state.specs.Kinds.{Assigned, Allows}
 use Rattle.stack_state.specs.declared.states.State.{State}
-use Rattle.stack_state.specs.Meaning.{MeansBy, depth}
+use Rattle.stack_state.specs.Meaning.{MeansBy}
 use Rattle.stack_state.specs.Places.{kind_of, with_register}
-use Rattle.stack_state.specs.MeaningLaws.{depth_positive, reg_allowed, MeansBy-narrow, depth-with, returns-with, frame_of-with}
+use Rattle.stack_state.specs.MeaningLaws.{reg_allowed, MeansBy-narrow}
 use Rattle.stack_state.specs.PlaceLaws.{same_or_other, kind_of-with_same, kind_of-with_other}
 use Rattle.branch_refine.specs.Refining.{IsNumber, IsNumberOperand, IsJust, IsJustOperand, Keeps, Narrows, KeepsOthers}
 use Rattle.branch_refine.specs.Numbers.{numbers_in, AreNumbersOf, with_operand, with_compared}
@@ -81,7 +81,7 @@ operand_allowed : (p : Program) (e : Assigned) (a : State) (s : Machine.State) (
     → MeansBy p e a s → AreNumbersOf a w operand (Some numbers) → Allows e (Number numbers) (operand_value s w operand)
 operand_allowed p e a s w (Constant k) numbers m h = (unsigned w k, refl, h.0)
 operand_allowed p e a s w (Register r) numbers m h =
-    subst (λ k. Allows e k (reg s r)) (kind_is (kind_of a r) numbers h) (reg_allowed p e a s m (depth_positive p e a s m) r)
+    subst (λ k. Allows e k (reg s r)) (kind_is (kind_of a r) numbers h) (reg_allowed p e a s m r)
 
 operand_narrowed : (p : Program) (e : Assigned) (a : State) (s : Machine.State) (w : Width) (operand : Operand) (new : Scalar)
     → operand ≢ Register R10 → Allows e (Number new) (operand_value s w operand) → MeansBy p e a s
@@ -106,7 +106,7 @@ compared : (p : Program) (e : Assigned) (a : State) (s : Machine.State) (cond : 
 compared p e a s cond left right taken is_left is_right m says =
     let l : Allows e (Number left) (reg s cond.register) =
     subst (λ k. Allows e k (reg s cond.register)) (kind_is (kind_of a cond.register) left is_left)
-    (reg_allowed p e a s m (depth_positive p e a s m) cond.register) in
+    (reg_allowed p e a s m cond.register) in
     let r : Allows e (Number right) (operand_value s cond.width cond.operand) =
     operand_allowed p e a s cond.width cond.operand right m is_right in
     record {
@@ -156,77 +156,73 @@ Keeps-none cond taken a left right is_left is_right none = λ p e s m says.
 pub Narrows-same : (a : State) → Narrows a a
 Narrows-same a = record {
   slot = refl;
-  depths = refl;
+  callers = refl;
   returns = refl;
-  callers = λ j h. refl;
+  stack = refl;
   registers = λ e r v h. h;
   constants = λ r x h. h;
 }
 
 -- a register whose numbers become fewer
-Narrows-with : (a b : State) (r : Reg) (old new : Scalar) → Narrows a b → 0 < depth a → r ≢ R10 → kind_of a r ≡ Number old
+Narrows-with : (a b : State) (r : Reg) (old new : Scalar) → Narrows a b → r ≢ R10 → kind_of a r ≡ Number old
     → ((x : ℕ) → Has new x → Has old x) → ((x : ℕ) → Has old x → IsConstant old x → Has new x × IsConstant new x)
     → Narrows a (with_register b r (Number new))
-Narrows-with a b r old new n called own is fewer constant =
-    let deep = n.depths in
-    let within : 0 < depth b = omega arith in
+Narrows-with a b r old new n own is fewer constant =
     record {
       slot = n.slot;
-      depths = depth-with b r (Number new) ∙ n.depths;
-      returns = returns-with b r (Number new) ∙ n.returns;
-      callers = λ j h. frame_of-with b r (Number new) j (omega arith) ∙ n.callers j h;
+      callers = n.callers;
+      returns = n.returns;
+      stack = n.stack;
       registers = λ e q v.
           let P : Kind → Type 0 = λ k. Allows e k v → Allows e (kind_of a r) v in
           elim (same_or_other q r) [
             | inl same ↦ subst (λ q. Allows e (kind_of (with_register b r (Number new)) q) v → Allows e (kind_of a q) v) (sym same)
-                (kind_of-with_same P b r (Number new) own within
+                (kind_of-with_same P b r (Number new) own
                 (λ h. subst (λ k. Allows e k v) (sym is) (h.0, h.1, fewer h.0 h.2)) (n.registers e r v))
-            | inr other ↦ subst (λ k. Allows e k v → Allows e (kind_of a q) v) (sym (kind_of-with_other b r q (Number new) within other))
+            | inr other ↦ subst (λ k. Allows e k v → Allows e (kind_of a q) v) (sym (kind_of-with_other b r q (Number new) other))
                 (n.registers e q v)
           ];
       constants = λ q x.
           let P : Kind → Type 0 = λ k. IsJust (kind_of a r) x → IsJust k x in
           elim (same_or_other q r) [
             | inl same ↦ subst (λ q. IsJust (kind_of a q) x → IsJust (kind_of (with_register b r (Number new)) q) x) (sym same)
-                (kind_of-with_same P b r (Number new) own within
+                (kind_of-with_same P b r (Number new) own
                 (λ h. let just = subst (λ k. IsJust k x) is h in constant x just.0 just.1) (n.constants r x))
-            | inr other ↦ subst (λ k. IsJust (kind_of a q) x → IsJust k x) (sym (kind_of-with_other b r q (Number new) within other))
+            | inr other ↦ subst (λ k. IsJust (kind_of a q) x → IsJust k x) (sym (kind_of-with_other b r q (Number new) other))
                 (n.constants q x)
           ];
     }
 
-Narrows-operand : (a b : State) (w : Width) (operand : Operand) (old new : Scalar) → Narrows a b → 0 < depth a
-    → AreNumbersOf a w operand (Some old)
+Narrows-operand : (a b : State) (w : Width) (operand : Operand) (old new : Scalar) → Narrows a b → AreNumbersOf a w operand (Some old)
     → ((x : ℕ) → Has new x → Has old x) → ((x : ℕ) → Has old x → IsConstant old x → Has new x × IsConstant new x)
     → Narrows a (with_operand b operand new)
-Narrows-operand a b w (Constant k) old new n called is fewer constant = n
-Narrows-operand a b w (Register r) old new n called is fewer constant =
-    Narrows-with a b r old new n called (holder a r old is) (kind_is (kind_of a r) old is) fewer constant
+Narrows-operand a b w (Constant k) old new n is fewer constant = n
+Narrows-operand a b w (Register r) old new n is fewer constant =
+    Narrows-with a b r old new n (holder a r old is) (kind_is (kind_of a r) old is) fewer constant
 
 kept_constant : (old new : Scalar) → ((x : ℕ) → IsConstant old x → IsConstant new x) → (x : ℕ) → Has old x → IsConstant old x
     → Has new x × IsConstant new x
 kept_constant old new kept x has c = (constant_has new x has.0.below (kept x c), kept x c)
 
-pub Narrows-compared : (a : State) (cond : Cond) (left right new_left new_right : Scalar) → 0 < depth a
+pub Narrows-compared : (a : State) (cond : Cond) (left right new_left new_right : Scalar)
     → Some left ≡ numbers_in (kind_of a cond.register) → AreNumbersOf a cond.width cond.operand (Some right)
     → ((x : ℕ) → Has new_left x → Has left x) → ((y : ℕ) → Has new_right y → Has right y)
     → ((x : ℕ) → IsConstant left x → IsConstant new_left x) → ((y : ℕ) → IsConstant right y → IsConstant new_right y)
     → Narrows a (with_compared a cond new_left new_right)
-Narrows-compared a cond left right new_left new_right called is_left is_right fewer_left fewer_right kept_left kept_right =
+Narrows-compared a cond left right new_left new_right is_left is_right fewer_left fewer_right kept_left kept_right =
     Narrows-operand a (with_register a cond.register (Number new_left)) cond.width cond.operand right new_right
-    (Narrows-with a a cond.register left new_left (Narrows-same a) called (holder a cond.register left is_left)
+    (Narrows-with a a cond.register left new_left (Narrows-same a) (holder a cond.register left is_left)
     (kind_is (kind_of a cond.register) left is_left) fewer_left (kept_constant left new_left kept_left))
-    called is_right fewer_right (kept_constant right new_right kept_right)
+    is_right fewer_right (kept_constant right new_right kept_right)
 
-others_operand : (a : State) (operand : Operand) (new : Scalar) (q : Reg) → 0 < depth a → (operand ≡ Register q → ⊥)
+others_operand : (a : State) (operand : Operand) (new : Scalar) (q : Reg) → (operand ≡ Register q → ⊥)
     → kind_of (with_operand a operand new) q ≡ kind_of a q
-others_operand a (Constant k) new q called unnamed = refl
-others_operand a (Register r) new q called unnamed =
-    kind_of-with_other a r q (Number new) called (λ same. unnamed (ap Register (sym same)))
+others_operand a (Constant k) new q unnamed = refl
+others_operand a (Register r) new q unnamed =
+    kind_of-with_other a r q (Number new) (λ same. unnamed (ap Register (sym same)))
 
-pub others_compared : (a : State) (cond : Cond) (new_left new_right : Scalar) → 0 < depth a
+pub others_compared : (a : State) (cond : Cond) (new_left new_right : Scalar)
     → KeepsOthers cond a (with_compared a cond new_left new_right)
-others_compared a cond new_left new_right called q unnamed =
-    let deep = depth-with a cond.register (Number new_left) in
-    others_operand (with_register a cond.register (Number new_left)) cond.operand new_right q (omega arith) (λ h. unnamed (inr h))
-    ∙ kind_of-with_other a cond.register q (Number new_left) called (λ same. unnamed (inl (sym same)))
+others_compared a cond new_left new_right q unnamed =
+    others_operand (with_register a cond.register (Number new_left)) cond.operand new_right q (λ h. unnamed (inr h))
+    ∙ kind_of-with_other a cond.register q (Number new_left) (λ same. unnamed (inl (sym same)))

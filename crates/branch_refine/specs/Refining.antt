@@ -1,6 +1,6 @@
 -- What is kept of an abstract state on one way of a conditional jump.
 -- Linux, Documentation/bpf/verifier.rst (how the verifier narrows registers at conditional jumps).
-use Rattle.std.specs.Prelude.{◌≡◌, ℕ, suc, ◌<◌, ◌⊎◌, Bool, IsTrue, Some, Ok, map}
+use Rattle.std.specs.Prelude.{◌≡◌, ℕ, ◌⊎◌, Bool, IsTrue, Some, Ok}
 use Rattle.isa_model.specs.declared.sizes.Width.{Width}
 use Rattle.isa_model.specs.declared.registers.Reg.{Reg}
 use Rattle.isa_model.specs.declared.instructions.Cond.{Cond}
@@ -18,8 +18,8 @@ use Rattle.reg_state.specs.Scalars.{Has, IsConstant}
 use Rattle.reg_state.specs.Shown.{Shows}
 use Rattle.reg_state.specs.Kinds.{Assigned, Allows}
 use Rattle.stack_state.specs.declared.states.State.{State}
-use Rattle.stack_state.specs.Meaning.{MeansBy, depth}
-use Rattle.stack_state.specs.Places.{frame_of, kind_of}
+use Rattle.stack_state.specs.Meaning.{MeansBy}
+use Rattle.stack_state.specs.Places.{kind_of}
 use Rattle.branch_refine.specs.Numbers.{numbers_in, AreNumbersOf, with_compared}
 use Rattle.branch_refine.specs.declared.Branch.{Branch}
 use Rattle.branch_refine.specs.declared.Branch.TheVariants.{Never, Goes}
@@ -63,9 +63,9 @@ Names cond r = (cond.register ≡ r) ⊎ (cond.operand ≡ Register r)
 -- b is a but for kinds in registers: no wider ones, and a constant is still that constant
 pub record Narrows (a b : State) : Type 0 where
   pub slot : b.slot ≡ a.slot
-  pub depths : depth b ≡ depth a
-  pub returns : map (λ f. f.return_slot) b.frames.items ≡ map (λ f. f.return_slot) a.frames.items
-  pub callers : (j : ℕ) → suc j < depth a → frame_of b j ≡ frame_of a j
+  pub callers : b.callers ≡ a.callers
+  pub returns : b.innermost.return_slot ≡ a.innermost.return_slot
+  pub stack : b.innermost.stack ≡ a.innermost.stack
   pub registers : (e : Assigned) (r : Reg) (v : Value) → Allows e (kind_of b r) v → Allows e (kind_of a r) v
   pub constants : (r : Reg) (x : ℕ) → IsJust (kind_of a r) x → IsJust (kind_of b r) x
 

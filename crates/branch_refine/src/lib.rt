@@ -1,9 +1,8 @@
 //! What the test of a conditional jump shows of an abstract state.
 #![tactic(auto)]
 
-ghost use Rattle.std.specs.Prelude.{◌≡◌, ◌≢◌, ℕ, ◌<◌, IsTrue, false};
+ghost use Rattle.std.specs.Prelude.{◌≡◌, ◌≢◌, ℕ, IsTrue, false};
 ghost use Rattle.isa_model.specs.Code.Numbers.{holds};
-ghost use Rattle.stack_state.specs.Meaning.{depth};
 ghost use Rattle.stack_state.specs.Places.{kind_of};
 ghost use Rattle.branch_refine.specs.Refining.{IsJust, IsJustOperand, AreCompared, Keeps, Narrows, KeepsOthers, Refined, IfGoes, KeepsIn};
 
@@ -24,7 +23,6 @@ pub enum Branch {
 
 /// What is left where the test comes out this way.
 pub fn refine(cond: Cond, taken: bool, state: &State) -> Branch
-    requires { 0 < depth state.now }
     ensures kept { KeepsIn cond taken state.now result }
     ensures narrowed { IfGoes result (λ left. Narrows state.now left) }
     ensures others { IfGoes result (λ left. KeepsOthers cond state.now left) }
@@ -48,7 +46,6 @@ pub fn refine(cond: Cond, taken: bool, state: &State) -> Branch
 
 /// Leaves of a state what goes this way. No: nothing does, and it stays as it is.
 pub fn refine_in_place(cond: Cond, taken: bool, state: &mut State) -> bool
-    requires { 0 < depth state.old }
     ensures kept { Keeps cond taken state.old result state.new }
     ensures narrowed { Narrows state.old state.new }
     ensures others { KeepsOthers cond state.old state.new }

@@ -1,7 +1,6 @@
 //! The numbers that a condition compares.
 
-ghost use Rattle.std.specs.Prelude.{◌≡◌, ◌≢◌, ◌<◌};
-ghost use Rattle.stack_state.specs.Meaning.{depth};
+ghost use Rattle.std.specs.Prelude.{◌≡◌, ◌≢◌};
 ghost use Rattle.stack_state.specs.Places.{kind_of};
 ghost use Rattle.branch_refine.specs.Numbers.{numbers_in, AreNumbersOf, with_operand};
 
@@ -32,8 +31,7 @@ pub fn operand_numbers(state: &State, width: Width, operand: Operand) -> Option<
 
 /// Sets what is known of an operand; a constant stays one.
 pub fn set_operand(state: &mut State, operand: Operand, numbers: Scalar)
-    requires register { operand ≢ Operand.Register Reg.R10 }
-    requires called { 0 < depth state.old }
+    requires { operand ≢ Operand.Register Reg.R10 }
     ensures { state.new ≡ with_operand state.old operand numbers }
 {
     if let Operand::Register(register) = operand {

@@ -4,3 +4,4 @@ pub mod Steps
 pub mod Unfinished
 pub mod Walking
 pub mod Counting
+pub mod Keeping

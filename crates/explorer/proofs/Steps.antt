@@ -10,7 +10,7 @@ use Rattle.isa_model.specs.Running.Runs.{start_state}
 use Rattle.stack_state.specs.Starts.{start, Means-start}
 use Rattle.stack_state.specs.declared.states.State.{State}
 use Rattle.isa_model.specs.Running.Outcomes.{StartsEnd}
-use Rattle.stack_state.specs.Meaning.{Within, depth}
+use Rattle.stack_state.specs.Meaning.{Within}
 use Rattle.isa_model.specs.Machine.Successors.{Follows}
 use Rattle.control_flow.specs.Flows.{IsFlow}
 use Rattle.control_flow.specs.FlowLaws.{IsFlow-Follows}
@@ -140,15 +140,15 @@ step_on p m old new a path visit child n rest at current whole fine last on_path
 -- ---- a visit that begins
 
 -- where control flow is good an instruction begins after each step
-IsReady-next : (p : Program) (slot : ℕ) (next : State) → IsFlow p → Follows p slot next.slot → 0 < depth next → IsReady p next
-IsReady-next p slot next flow follows called = record { begins = IsFlow-Follows p slot next.slot flow follows; called = called }
+IsReady-next : (p : Program) (slot : ℕ) (next : State) → IsFlow p → Follows p slot next.slot → IsReady p next
+IsReady-next p slot next flow follows = IsFlow-Follows p slot next.slot flow follows
 
 some_there : (o : Option Insn) → IsSome o → (i : Insn) × (o ≡ Some i)
 some_there (Some i) h = (i, refl)
 some_there None h = absurd (cc)
 
 pub fetched : (p : Program) (s : State) → IsReady p s → (i : Insn) × (fetch p s.slot ≡ Some i)
-fetched p s ready = some_there (fetch p s.slot) ready.begins
+fetched p s ready = some_there (fetch p s.slot) ready
 
 -- the instruction's state waits for the state after it
 pub record Begins (p : Program) (m : ℕ) (table : List Stored) (visit : Visit) (s next : State) : Type 0 where
@@ -157,33 +157,31 @@ pub record Begins (p : Program) (m : ℕ) (table : List Stored) (visit : Visit) 
   pub spends : Spends p visit s next 1
 
 pub one_way : (p q : Program) (m : ℕ) (table : List Stored) (stored : Option ℕ) (s a b : State) (w : Ways) (pending : Option State) → p ≡ q → IsFlow p → IsReady p s → StoredAt table stored s
-    → LeadsTo q s w a b → ((i : Insn) → fetch q s.slot ≡ Some i → Makes q s i w a b) → EachWay w a b (λ next. Follows q s.slot next.slot) → EachWay w a b (λ next. 0 < depth next) → w ≡ ways.One → pending ≡ None
+    → LeadsTo q s w a b → ((i : Insn) → fetch q s.slot ≡ Some i → Makes q s i w a b) → EachWay w a b (λ next. Follows q s.slot next.slot) → w ≡ ways.One → pending ≡ None
     → Begins p m table (record { pending = pending; best = 0; stored = stored }) s a
-one_way p q m table stored s a b w pending same flow ready at leads makes follows called is none =
+one_way p q m table stored s a b w pending same flow ready at leads makes follows is none =
     let (i, here) = fetched p s ready in
     let leads' = subst (λ x. LeadsTo x s ways.One a b) (sym same) (subst (λ x. LeadsTo q s x a b) is leads) in
     let follows' : Follows p s.slot a.slot = subst (λ x. Follows x s.slot a.slot) (sym same) (subst (λ x. EachWay x a b (λ next. Follows q s.slot next.slot)) is follows) in
     let into = into_by p q s a b w ways.One same makes i here is in
-    let called' : 0 < depth a = subst (λ x. EachWay x a b (λ next. 0 < depth next)) is called in
     subst (λ x. Begins p m table (record { pending = x; best = 0; stored = stored }) s a) (sym none) (record {
       waiting = record { waits = Waits-one p s a b stored leads'; awaits = Awaits-one p s a b stored into; steps = steps_by p q s a b a w ways.One same makes i here is refl; steps_aside = tt; best = omega arith; stored = at; ready = tt };
-      ready = IsReady-next p s.slot a flow follows' called';
+      ready = IsReady-next p s.slot a flow follows';
       spends = Spends-one p s a b stored into;
     })
 
 pub two_ways : (p q : Program) (m : ℕ) (table : List Stored) (stored : Option ℕ) (s a b : State) (w : Ways) (pending : Option State) → p ≡ q → IsFlow p → IsReady p s → StoredAt table stored s
-    → LeadsTo q s w a b → ((i : Insn) → fetch q s.slot ≡ Some i → Makes q s i w a b) → EachWay w a b (λ next. Follows q s.slot next.slot) → EachWay w a b (λ next. 0 < depth next) → w ≡ ways.Two → pending ≡ Some b
+    → LeadsTo q s w a b → ((i : Insn) → fetch q s.slot ≡ Some i → Makes q s i w a b) → EachWay w a b (λ next. Follows q s.slot next.slot) → w ≡ ways.Two → pending ≡ Some b
     → Begins p m table (record { pending = pending; best = 0; stored = stored }) s a
-two_ways p q m table stored s a b w pending same flow ready at leads makes follows called is some =
+two_ways p q m table stored s a b w pending same flow ready at leads makes follows is some =
     let (i, here) = fetched p s ready in
     let leads' = subst (λ x. LeadsTo x s ways.Two a b) (sym same) (subst (λ x. LeadsTo q s x a b) is leads) in
     let follows' : Follows p s.slot a.slot × Follows p s.slot b.slot =
     subst (λ x. Follows x s.slot a.slot × Follows x s.slot b.slot) (sym same) (subst (λ x. EachWay x a b (λ next. Follows q s.slot next.slot)) is follows) in
     let into = into_by p q s a b w ways.Two same makes i here is in
-    let called' : 0 < depth a × 0 < depth b = subst (λ x. EachWay x a b (λ next. 0 < depth next)) is called in
     subst (λ x. Begins p m table (record { pending = x; best = 0; stored = stored }) s a) (sym some) (record {
-      waiting = record { waits = Waits-two p s a b stored leads'; awaits = Awaits-two p s a b stored into; steps = steps_by p q s a b a w ways.Two same makes i here is (inl refl); steps_aside = steps_by p q s a b b w ways.Two same makes i here is (inr refl); best = omega arith; stored = at; ready = IsReady-next p s.slot b flow follows'.1 called'.1 };
-      ready = IsReady-next p s.slot a flow follows'.0 called'.0;
+      waiting = record { waits = Waits-two p s a b stored leads'; awaits = Awaits-two p s a b stored into; steps = steps_by p q s a b a w ways.Two same makes i here is (inl refl); steps_aside = steps_by p q s a b b w ways.Two same makes i here is (inr refl); best = omega arith; stored = at; ready = IsReady-next p s.slot b flow follows'.1 };
+      ready = IsReady-next p s.slot a flow follows'.0;
       spends = Spends-two p s a b stored into;
     })
 
@@ -224,7 +222,7 @@ start_ready : (p : Program) → IsImage p → IsReady p start
 unfolding start
 start_ready p image =
     let first = fetch-zero p image in
-    record { begins = subst (λ (o : Option Insn). IsSome o) (sym first.1) refl; called = omega arith }
+    subst (λ (o : Option Insn). IsSome o) (sym first.1) refl
 
 pub starts_ready : (p q : Program) (s : State) → p ≡ q → IsImage q → s ≡ start → IsReady p s
 starts_ready p q s same image e = subst (IsReady p) (sym e) (start_ready p (subst IsImage (sym same) image))

@@ -1,14 +1,15 @@
 -- What a search knows: the numbers of the stored states, and the path.
-use Rattle.std.specs.Prelude.{◌≡◌, ℕ, zero, suc, ◌+◌, ◌<◌, ◌≤◌, ◌⊎◌, max, IsSome, List, [], ◌∷◌, ◌++◌, Option, Some, None, map, length, vec_len}
+use Rattle.std.specs.Prelude.{◌≡◌, ℕ, zero, suc, ◌+◌, ◌<◌, ◌≤◌, ◌⊎◌, max, List, [], ◌∷◌, ◌++◌, Option, Some, None, map, length, vec_len}
 use Rattle.std.specs.List.{All}
-use Rattle.isa_model.specs.Code.Instructions.{Program, fetch}
+use Rattle.isa_model.specs.Code.Instructions.{Program}
 use Rattle.isa_model.specs.Machine.States as Machine
 use Rattle.isa_model.specs.Machine.Steps.{step}
 use Rattle.isa_model.specs.Running.Ends.{Ends, After}
 use Rattle.isa_model.specs.Machine.MachineStates.{IsClock}
 use Rattle.stack_state.specs.declared.states.State.{State}
-use Rattle.stack_state.specs.Meaning.{Means, Within, depth}
+use Rattle.stack_state.specs.Meaning.{Means, Within}
 use Rattle.stack_state.specs.Starts.{start}
+use Rattle.control_flow.specs.Graph.{BeginsInsn}
 use Rattle.control_flow.specs.Flows.{IsJoin}
 use Rattle.explorer.specs.declared.verified.TheConstants.{MAX_EXPLORED}
 use Rattle.explorer.specs.declared.refusals.Refusal.{Refusal}
@@ -85,10 +86,9 @@ IsFine p finished e = 0 < e.number → Settles p e.state e.number × (e.number �
 unfoldable pub AllFine : Program → ℕ → List Stored → Type 0
 AllFine p finished table = All (IsFine p finished) table
 
--- an instruction begins at the state's slot, in a frame
-pub record IsReady (p : Program) (s : State) : Type 0 where
-  pub begins : IsSome (fetch p s.slot)
-  pub called : 0 < depth s
+-- an instruction begins at the state's slot
+abbrev pub IsReady : Program → State → Type 0
+IsReady p s = BeginsInsn p s.slot
 
 abbrev pub IfReady : Program → Option State → Type 0
 IfReady p None = Unit {0}

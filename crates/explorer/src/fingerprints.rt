@@ -4,7 +4,7 @@
 //! are numbers: a search by fingerprint proposes states, and `covers` decides.
 
 use reg_state::{Kind, Scalar};
-use stack_state::State;
+use stack_state::{AbstractFrame, Slot, State};
 
 /// A fingerprint and one more word.
 pub fn mixed(print: u64, word: u64) -> u64 {
@@ -57,14 +57,30 @@ fn with_kind(print: u64, kind: &Kind) -> u64 {
     }
 }
 
+fn with_slot(print: u64, place: usize, slot: &Slot) -> u64 {
+    match slot {
+        Slot::Written(0) => print,
+        Slot::Written(marks) => mixed(mixed(print, place as u64), u64::from(*marks)),
+        Slot::Spilled(kind) => with_kind(mixed(print, place as u64), kind),
+    }
+}
+
+fn with_frame(print: u64, frame: &AbstractFrame) -> u64 {
+    let mut print = mixed(print, frame.return_slot as u64);
+    for kind in &frame.registers {
+        print = with_kind(print, kind);
+    }
+    for place in 0..64 {
+        print = with_slot(print, place, &frame.stack.slots[place]);
+    }
+    print
+}
+
 /// The fingerprint of a state.
 pub fn fingerprint_of(state: &State) -> u64 {
     let mut print = state.slot as u64;
-    for frame in state.frames.as_slice() {
-        print = mixed(print, frame.return_slot as u64);
-        for kind in &frame.registers {
-            print = with_kind(print, kind);
-        }
+    for frame in state.callers.as_slice() {
+        print = with_frame(print, frame);
     }
-    print
+    with_frame(print, &state.innermost)
 }

@@ -7,6 +7,7 @@
 mod fingerprints;
 mod index;
 mod kept;
+mod parts;
 pub mod refusals;
 mod search;
 mod shapes;

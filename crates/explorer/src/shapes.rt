@@ -21,11 +21,10 @@ impl Shape {
     /// The shape of a state.
     pub fn of(state: &State) -> Shape {
         let mut unknown = [u64::MAX; REGISTERS];
-        if let Some(frame) = state.frames.last() {
-            for index in 0..REGISTERS {
-                if let Kind::Number(numbers) = &frame.registers[index] {
-                    unknown[index] = numbers.bits.mask;
-                }
+        let registers = &state.innermost.registers;
+        for index in 0..REGISTERS {
+            if let Kind::Number(numbers) = &registers[index] {
+                unknown[index] = numbers.bits.mask;
             }
         }
         Shape { unknown }
@@ -34,12 +33,12 @@ impl Shape {
     /// A fingerprint of the bits that are known in the shape, as they are in a state. There is none where the state
     /// does not know them all.
     pub fn known_of(&self, state: &State) -> Option<u64> {
-        let frame = state.frames.last()?;
+        let registers = &state.innermost.registers;
         let mut print = state.slot as u64;
         for index in 0..REGISTERS {
             let unknown = self.unknown[index];
             if unknown != u64::MAX {
-                let Kind::Number(numbers) = &frame.registers[index] else {
+                let Kind::Number(numbers) = &registers[index] else {
                     return None;
                 };
                 if numbers.bits.mask & !unknown != 0 {

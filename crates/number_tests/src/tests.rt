@@ -8,3 +8,4 @@ mod limits;
 mod numbers;
 mod scalars;
 mod stacks;
+mod stacks_covered;

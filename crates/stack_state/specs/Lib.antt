@@ -11,3 +11,7 @@ pub mod CellLaws
 pub mod StackLaws
 pub mod FillLaws
 pub mod FrameLaws
+pub mod Effects
+pub mod EffectLaws
+pub mod Calls
+pub mod CallLaws

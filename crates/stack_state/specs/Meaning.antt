@@ -1,8 +1,8 @@
 -- What abstract states mean: the machine states that they stand for.
-use Rattle.std.specs.Prelude.{◌≡◌, ℕ, suc, ◌+◌, ◌-◌, ◌<◌, pos, List, [], map, length, slice_index_or}
+use Rattle.std.specs.Prelude.{◌≡◌, ℕ, suc, ◌+◌, ◌<◌, pos, List, [], ◌∷◌, ◌++◌, map, length, slice_index_or}
 use Rattle.isa_model.specs.declared.registers.Reg.TheVariants.{R10}
 use Rattle.isa_model.specs.Code.Instructions.{Program}
-use Rattle.isa_model.specs.Machine.States.{Entries, value_at, reg, frame_pointer, frame_at}
+use Rattle.isa_model.specs.Machine.States.{value_at, reg, frame_pointer, frame_at}
 use Rattle.isa_model.specs.Machine.States as Machine
 use Rattle.isa_model.specs.Machine.Calls.{innermost}
 use Rattle.isa_model.specs.Running.Ends.{Ends}
@@ -10,22 +10,45 @@ use Rattle.isa_model.specs.Machine.MachineStates.{IsState, IsClock}
 use Rattle.reg_state.specs.declared.kinds.Kind.{Kind}
 use Rattle.reg_state.specs.declared.kinds.Kind.TheVariants.{Unset}
 use Rattle.reg_state.specs.Kinds.{Assigned, Allows}
+use Rattle.stack_state.specs.declared.slots.Slot.{Slot}
+use Rattle.stack_state.specs.declared.states.AbstractFrame.{AbstractFrame}
 use Rattle.stack_state.specs.declared.states.State.{State}
+use Rattle.stack_state.specs.StackMeaning.{StackMeans}
+
+-- ---- frames
+
+-- the live frames, the outermost first
+abbrev pub frames_of : State → List AbstractFrame
+frames_of a = a.callers.items ++ a.innermost ∷ []
+
+-- how many there are
+abbrev pub depth : State → ℕ
+depth a = length a.callers.items + 1
+
+abbrev pub no_frame : AbstractFrame
+no_frame = record { return_slot = 0; registers = []; stack = record { slots = [] } }
+
+-- a frame, counted from the outermost, 0
+abbrev pub frame_of : State → ℕ → AbstractFrame
+frame_of a j = slice_index_or (frames_of a) j no_frame
+
+-- its registers
+abbrev pub kinds_of : State → ℕ → List Kind
+kinds_of a j = (frame_of a j).registers
+
+-- and its slots
+abbrev pub slots_of : State → ℕ → List Slot
+slots_of a j = (frame_of a j).stack.slots
+
+-- the registers as they are
+abbrev pub registers_of : State → List Kind
+registers_of a = a.innermost.registers
 
 -- the kind of a list of registers
 abbrev pub kind_at : List Kind → ℕ → Kind
 kind_at kinds k = slice_index_or kinds k Unset
 
--- the registers of a frame, counted from the outermost, 0
-abbrev pub kinds_of : State → ℕ → List Kind
-kinds_of a j = slice_index_or (map (λ f. f.registers) a.frames.items) j []
-
-abbrev pub depth : State → ℕ
-depth a = length a.frames.items
-
--- the registers as they are
-abbrev pub registers_of : State → List Kind
-registers_of a = kinds_of a (depth a - 1)
+-- ---- meaning
 
 -- the assignment speaks of this machine state
 pub record IsOf (e : Assigned) (s : Machine.State) : Type 0 where
@@ -39,12 +62,14 @@ pub record MeansBy (p : Program) (e : Assigned) (a : State) (s : Machine.State) 
   pub is_state : IsState p s
   pub assigned : IsOf e s
   pub slot_is : s.slot ≡ a.slot
-  pub returns : map (λ f. f.return_slot) s.frames ≡ map (λ f. f.return_slot) a.frames.items
+  pub returns : map (λ f. f.return_slot) s.frames ≡ map (λ f. f.return_slot) (frames_of a)
   pub pointer : reg s R10 ≡ frame_pointer (innermost s.frames).serial
   pub registers : (k : ℕ) → Allows e (kind_at (registers_of a) k) (value_at s.regs k)
   -- the registers that a call kept for the frame stand in the one that it pushed
   pub kept : (j k : ℕ) → suc j < depth a → k < 4
       → Allows e (kind_at (kinds_of a j) (6 + k)) (value_at (frame_at s.frames (suc j)).saved k)
+  -- each live frame's slots stand for its cells
+  pub stacks : (j : ℕ) → j < depth a → StackMeans e (slots_of a j) (frame_at s.frames j).cells
 
 -- one assignment serves the whole state
 unfoldable pub Means : Program → State → Machine.State → Type 0

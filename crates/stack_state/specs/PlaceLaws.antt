@@ -1,5 +1,5 @@
 -- What a register's kind is after one was set.
-use Rattle.std.specs.Prelude.{◌≡◌, ◌≢◌, ℕ, zero, suc, ◌-◌, ◌<◌, ◌⊎◌, pos, List, [], ◌∷◌, slice_set, Some, refl}
+use Rattle.std.specs.Prelude.{◌≡◌, ◌≢◌, ℕ, zero, suc, ◌⊎◌, List, [], ◌∷◌, slice_set, Some, refl}
 use Rattle.std.proofs.Common.{sym, ap, ◌∙◌, subst, inl, inr}
 use Rattle.std.proofs.lemmas.Bool.{cases_eq}
 use Rattle.std.proofs.lemmas.List.{get_or-set_other}
@@ -7,11 +7,10 @@ use Rattle.isa_model.specs.declared.registers.Reg.{Reg}
 use Rattle.isa_model.specs.declared.registers.Reg.TheVariants.{R0, R1, R2, R3, R4, R5, R6, R7, R8, R9, R10}
 use Rattle.isa_model.specs.Code.Registers.{reg_number, reg_numbered}
 use Rattle.reg_state.specs.declared.kinds.Kind.{Kind}
-use Rattle.reg_state.specs.declared.kinds.Kind.TheVariants.{Unset, Stack}
+use Rattle.reg_state.specs.declared.kinds.Kind.TheVariants.{Unset}
 use Rattle.stack_state.specs.declared.states.State.{State}
-use Rattle.stack_state.specs.Meaning.{kind_at, registers_of, depth}
+use Rattle.stack_state.specs.Meaning.{kind_at, registers_of}
 use Rattle.stack_state.specs.Places.{kind_of, with_register}
-use Rattle.stack_state.specs.MeaningLaws.{depth-with, registers_of-with}
 
 -- ---- registers, told apart by their numbers
 
@@ -53,20 +52,17 @@ set_place P (x ∷ ks) zero k new old = new
 set_place P (x ∷ ks) (suc n) k new old = set_place P ks n k new old
 
 -- what holds of the new kind holds of the register's, if it did before
-pub kind_of-with_same : (P : Kind → Type 0) (a : State) (r : Reg) (k : Kind) → r ≢ R10 → 0 < depth a → P k → P (kind_of a r)
+pub kind_of-with_same : (P : Kind → Type 0) (a : State) (r : Reg) (k : Kind) → r ≢ R10 → P k → P (kind_of a r)
     → P (kind_of (with_register a r k) r)
-kind_of-with_same P a r k own called new old =
-    let before = kind_of-registers a r own in
-    let after = kind_of-registers (with_register a r k) r own ∙ ap (λ ks. kind_at ks (reg_number r)) (registers_of-with a r k called) in
-    subst P (sym after) (set_place P (registers_of a) (reg_number r) k new (subst P before old))
+kind_of-with_same P a r k own new old =
+    subst P (sym (kind_of-registers (with_register a r k) r own))
+    (set_place P (registers_of a) (reg_number r) k new (subst P (kind_of-registers a r own) old))
 
-pub kind_of-with_other : (a : State) (r q : Reg) (k : Kind) → 0 < depth a → q ≢ r → kind_of (with_register a r k) q ≡ kind_of a q
-kind_of-with_other a r q k called other =
+pub kind_of-with_other : (a : State) (r q : Reg) (k : Kind) → q ≢ r → kind_of (with_register a r k) q ≡ kind_of a q
+kind_of-with_other a r q k other =
     elim (same_or_other q R10) [
-      | inl end ↦ subst (λ q. kind_of (with_register a r k) q ≡ kind_of a q) (sym end)
-          (ap (λ n. Stack (n - 1) (pos 0)) (depth-with a r k))
+      | inl end ↦ subst (λ q. kind_of (with_register a r k) q ≡ kind_of a q) (sym end) refl
       | inr own ↦ kind_of-registers (with_register a r k) q own
-          ∙ ap (λ ks. kind_at ks (reg_number q)) (registers_of-with a r k called)
           ∙ get_or-set_other (registers_of a) (reg_number r) (reg_number q) k Unset (λ h. other (same_number q r h))
           ∙ sym (kind_of-registers a q own)
     ]

@@ -14,6 +14,11 @@ use Rattle.stack_state.specs.declared.slots.Slot.TheVariants.{Written, Spilled}
 abbrev pub slot_at : List Slot → ℕ → Slot
 slot_at slots k = slice_index_or slots k (Written 0)
 
+-- the kind of the value that was spilled there; Unset where none was
+abbrev pub kind_in : Slot → Kind
+kind_in (Written marks) = Unset
+kind_in (Spilled k) = k
+
 -- ---- marks
 
 -- all bytes of a spilled number are number bytes; of what may be a pointer none is known to be one

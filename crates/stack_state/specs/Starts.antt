@@ -1,29 +1,35 @@
 -- The abstract state in which every run begins.
-use Rattle.std.specs.Prelude.{◌≡◌, ℕ, zero, suc, pos, List, [], ◌∷◌, None, refl, length}
+use Rattle.std.specs.Prelude.{◌≡◌, ℕ, zero, suc, ◌<◌, pos, List, [], ◌∷◌, None, refl, length, replicate}
 use Rattle.std.proofs.Common.{arith}
+use Rattle.std.proofs.lemmas.List.{length-replicate}
+use Rattle.isa_model.specs.declared.values.Value.{Value}
+use Rattle.isa_model.specs.declared.values.Cell.TheVariants.{Unwritten}
 use Rattle.isa_model.specs.declared.frames.FrameHead.{FrameHead}
 use Rattle.isa_model.specs.Code.Instructions.{Program}
-use Rattle.isa_model.specs.Machine.States.{Entries, value_at, new_frame}
+use Rattle.isa_model.specs.Machine.States.{Entries, value_at, new_frame, frame_at}
 use Rattle.isa_model.specs.Running.Runs.{count_values, numbered_maps, start_regs, start_state}
 use Rattle.isa_model.specs.Machine.MachineStates.{IsProgram, IsGiven}
 use Rattle.isa_model.specs.Machine.StepLaws.{start_is_state}
+use Rattle.reg_state.specs.declared.kinds.Kind.{Kind}
 use Rattle.reg_state.specs.declared.kinds.Kind.TheVariants.{Unset, Context}
 use Rattle.reg_state.specs.Kinds.{Assigned, Allows}
-use Rattle.stack_state.specs.declared.states.AbstractFrame.{AbstractFrame}
+use Rattle.stack_state.specs.declared.slots.Slot.TheVariants.{Written}
 use Rattle.stack_state.specs.declared.states.State.{State}
-use Rattle.stack_state.specs.Meaning.{kind_at, depth, MeansBy, Means}
+use Rattle.stack_state.specs.Meaning.{kind_at, slots_of, MeansBy, Means}
+use Rattle.stack_state.specs.StackMeaning.{StackMeans}
+use Rattle.stack_state.specs.StackLaws.{StackMeans-new}
 
--- r1 points to the context, and the rest is unset
-abbrev pub first_frame : AbstractFrame
-first_frame =
-    record {
-      return_slot = 0;
-      registers = Unset ∷ Context ∷ Unset ∷ Unset ∷ Unset ∷ Unset ∷ Unset ∷ Unset ∷ Unset ∷ Unset ∷ [];
-    }
+abbrev pub first_registers : List Kind
+first_registers = Unset ∷ Context ∷ Unset ∷ Unset ∷ Unset ∷ Unset ∷ Unset ∷ Unset ∷ Unset ∷ Unset ∷ []
 
--- slot 0 in one frame
+-- slot 0 in one frame: r1 points to the context, and the rest and all bytes are unset
 unfoldable pub start : State
-start = record { slot = 0; frames = record { items = first_frame ∷ [] } }
+start =
+    record {
+      slot = 0;
+      callers = record { items = [] };
+      innermost = record { return_slot = 0; registers = first_registers; stack = record { slots = replicate 64 (Written 0) } };
+    }
 
 -- nothing has an identity yet
 abbrev pub at_start : List ℕ → List Entries → Assigned
@@ -36,18 +42,25 @@ at_start packet contents =
       maps = numbered_maps 0 contents;
     }
 
-first_registers : (e : Assigned) (serial k : ℕ) → Allows e (kind_at first_frame.registers k) (value_at (start_regs serial) k)
-first_registers e serial zero = tt
-first_registers e serial (suc zero) = refl
-first_registers e serial (suc (suc zero)) = tt
-first_registers e serial (suc (suc (suc zero))) = tt
-first_registers e serial (suc (suc (suc (suc zero)))) = tt
-first_registers e serial (suc (suc (suc (suc (suc zero))))) = tt
-first_registers e serial (suc (suc (suc (suc (suc (suc zero)))))) = tt
-first_registers e serial (suc (suc (suc (suc (suc (suc (suc zero))))))) = tt
-first_registers e serial (suc (suc (suc (suc (suc (suc (suc (suc zero)))))))) = tt
-first_registers e serial (suc (suc (suc (suc (suc (suc (suc (suc (suc zero))))))))) = tt
-first_registers e serial (suc (suc (suc (suc (suc (suc (suc (suc (suc (suc k)))))))))) = tt
+first_allowed : (e : Assigned) (serial k : ℕ) → Allows e (kind_at first_registers k) (value_at (start_regs serial) k)
+first_allowed e serial zero = tt
+first_allowed e serial (suc zero) = refl
+first_allowed e serial (suc (suc zero)) = tt
+first_allowed e serial (suc (suc (suc zero))) = tt
+first_allowed e serial (suc (suc (suc (suc zero)))) = tt
+first_allowed e serial (suc (suc (suc (suc (suc zero))))) = tt
+first_allowed e serial (suc (suc (suc (suc (suc (suc zero)))))) = tt
+first_allowed e serial (suc (suc (suc (suc (suc (suc (suc zero))))))) = tt
+first_allowed e serial (suc (suc (suc (suc (suc (suc (suc (suc zero)))))))) = tt
+first_allowed e serial (suc (suc (suc (suc (suc (suc (suc (suc (suc zero))))))))) = tt
+first_allowed e serial (suc (suc (suc (suc (suc (suc (suc (suc (suc (suc k)))))))))) = tt
+
+-- all bytes of the first frame are unset
+first_stack : (e : Assigned) (serial j : ℕ) (saved : List Value) → j < 1
+    → StackMeans e (slots_of start j) (frame_at (new_frame serial 0 saved ∷ []) j).cells
+unfolding start new_frame
+first_stack e serial zero saved below = StackMeans-new e (replicate 512 Unwritten) (length-replicate 512 Unwritten)
+first_stack e serial (suc j) saved below = absurd (omega arith)
 
 -- it means every state in which a run begins
 pub Means-start : (p : Program) (head : FrameHead) (packet : List ℕ) (contents : List Entries) → IsProgram p
@@ -62,10 +75,8 @@ Means-start p head packet contents program given = (at_start packet contents, me
       slot_is = refl;
       returns = refl;
       pointer = refl;
-      registers = λ k. first_registers (at_start packet contents) (count_values contents) k;
+      registers = λ k. first_allowed (at_start packet contents) (count_values contents) k;
       kept = λ j k below within. absurd (omega arith);
+      stacks = λ j below. first_stack (at_start packet contents) (count_values contents) j _ below;
     }
 
-pub depth_start : depth start ≡ 1
-unfolding start
-depth_start = refl

@@ -3,8 +3,8 @@
 ghost use Rattle.std.specs.Prelude.{◌≡◌, ℕ, ◌+◌, ◌-◌, ◌*◌, ◌^◌, ◌<◌, ◌≤◌, ◌↔◌, IsTrue};
 ghost use Rattle.isa_model.specs.Code.Sizes.{size_bytes};
 ghost use Rattle.reg_state.specs.Scalars.{Has};
-ghost use Rattle.stack_state.specs.Slots.{marks_of, mask_of, IsAny, AreAll, ArePart, AreSpilled};
-ghost use Rattle.stack_state.specs.Slots.{AreNumbers, IsSpill, IsFill, forgotten_slot};
+ghost use Rattle.stack_state.specs.Slots.{marks_of, kind_in, mask_of, IsAny, AreAll, ArePart};
+ghost use Rattle.stack_state.specs.Slots.{AreSpilled, AreNumbers, IsSpill, IsFill, forgotten_slot};
 
 use isa_model::{Size, Width};
 use reg_state::{Domain, Kind, Scalar};
@@ -18,14 +18,26 @@ pub enum Slot {
     Spilled(Kind),
 }
 
-/// The bytes of the slot that are written number bytes.
-pub(crate) fn marks(slot: Slot) -> u8
-    ensures { result ≡ marks_of slot }
-{
-    match slot {
-        Slot::Written(marks) => marks,
-        Slot::Spilled(Kind::Number(_)) => 255,
-        Slot::Spilled(_) => 0,
+impl Slot {
+    /// The bytes of the slot that are written number bytes: bit i for byte i.
+    pub fn marks(&self) -> u8
+        ensures { result ≡ marks_of self.now }
+    {
+        match self {
+            Slot::Written(marks) => *marks,
+            Slot::Spilled(Kind::Number(_)) => 255,
+            Slot::Spilled(_) => 0,
+        }
+    }
+
+    /// The kind of the value that was spilled there; Unset where none was.
+    pub fn kind(&self) -> Kind
+        ensures { result ≡ kind_in self.now }
+    {
+        match self {
+            Slot::Written(_) => Kind::Unset,
+            Slot::Spilled(kind) => *kind,
+        }
     }
 }
 

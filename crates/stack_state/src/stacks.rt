@@ -11,15 +11,23 @@ ghost use Rattle.stack_state.specs.Slots.{IsSpill, IsFill};
 ghost use Rattle.stack_state.specs.StackMeaning.{StackMeans, Stores, Spills, Loads, Fills};
 ghost use Rattle.stack_state.specs.StackMeaning.{AreBytes, Forgets};
 
-use crate::slots::{Slot, filled, forgotten, marks, mask, numbers, spilled};
+use crate::slots::{Slot, filled, forgotten, mask, numbers, spilled};
 use isa_model::Size;
 use reg_state::{Kind, Scalar};
 
 /// What is known of the 512 bytes of a call frame: slot 0 is the one at offset -512 from the
 /// frame's end.
-#[derive(Clone, Copy, PartialEq, Eq, Debug)]
+#[derive(Clone, Copy, PartialEq, Eq, Debug, Drop)]
 pub struct StackState {
     pub slots: [Slot; 64],
+}
+
+impl Default for StackState {
+    fn default() -> Self
+        ensures { result.slots ≡ replicate 64 (Slot.Written 0) }
+    {
+        StackState::new()
+    }
 }
 
 impl StackState {
@@ -34,6 +42,13 @@ impl StackState {
         }
     }
 
+    /// Nothing is known of it any longer.
+    pub fn clear(&mut self)
+        ensures { self.new.slots ≡ replicate 64 (Slot.Written 0) }
+    {
+        self.slots = [Slot::Written(0); 64];
+    }
+
     /// Bytes of a number are written.
     pub fn store(&mut self, at: usize, size: Size)
         requires inside { at < 512 }
@@ -42,7 +57,7 @@ impl StackState {
         ensures meant { Stores self.old.slots at size self.new.slots }
     {
         let slot = self.slots[at / 8];
-        let written = marks(slot) | mask(at % 8, size.bytes());
+        let written = slot.marks() | mask(at % 8, size.bytes());
         self.slots[at / 8] = Slot::Written(written);
     }
 
@@ -87,7 +102,7 @@ impl StackState {
         requires { at < 512 }
         ensures { IsTrue result ↔ IsMarked self.now.slots at }
     {
-        (marks(self.slots[at / 8]) >> (at % 8)) & 1 == 1
+        (self.slots[at / 8].marks() >> (at % 8)) & 1 == 1
     }
 
     /// Whether the bytes are all written number bytes.

@@ -2,10 +2,10 @@
 
 ghost use Rattle.std.specs.Prelude.{◌≡◌, ◌≢◌, ◌<◌};
 ghost use Rattle.isa_model.specs.Code.Registers.{reg_number};
-ghost use Rattle.stack_state.specs.Meaning.{depth};
 ghost use Rattle.stack_state.specs.Places.{kind_of, with_register};
 ghost use Rattle.stack_state.specs.Starts.{start};
 
+use crate::stacks::StackState;
 use arrayvec::ArrayVec;
 use isa_model::Reg;
 use reg_state::Kind;
@@ -15,8 +15,9 @@ use reg_state::Kind;
 pub struct AbstractFrame {
     /// The slot to which its exit leads; 0 in the first frame.
     pub return_slot: usize,
-    /// r0 to r9: of the innermost frame as they are, of an outer one r6 to r9 as its call kept them.
+    /// r0 to r9: of the innermost frame as they are, of a caller's r6 to r9 as its call kept them.
     pub registers: [Kind; 10],
+    pub stack: StackState,
 }
 
 /// What is known of a run when it comes to an instruction.
@@ -24,8 +25,10 @@ pub struct AbstractFrame {
 pub struct State {
     /// The slot of the instruction.
     pub slot: usize,
-    /// The live call frames, the innermost last.
-    pub frames: ArrayVec<AbstractFrame, 8>,
+    /// The live frames but for the innermost, the outermost first.
+    pub callers: ArrayVec<AbstractFrame, 7>,
+    /// The frame in which the instruction runs.
+    pub innermost: AbstractFrame,
 }
 
 /// The place of a register in a frame's list; r10 has none.
@@ -48,12 +51,15 @@ impl State {
     {
         let mut registers = [Kind::Unset; 10];
         registers[1] = Kind::Context;
-        let mut frames = ArrayVec::new();
-        frames.push(AbstractFrame {
-            return_slot: 0,
-            registers,
-        });
-        State { slot: 0, frames }
+        State {
+            slot: 0,
+            callers: ArrayVec::new(),
+            innermost: AbstractFrame {
+                return_slot: 0,
+                registers,
+                stack: StackState::new(),
+            },
+        }
     }
 
     /// Another one like it.
@@ -62,19 +68,27 @@ impl State {
     {
         let mut copy = State {
             slot: self.slot,
-            frames: ArrayVec::new(),
+            callers: ArrayVec::new(),
+            innermost: self.innermost,
         };
-        copy.copy_from(self);
+        copy.copy_callers(self);
         copy
     }
 
-    /// Becomes like the other one.
+    /// Becomes like the other one. Live frames only are copied.
     pub fn copy_from(&mut self, other: &State)
         ensures { self.new ≡ other.now }
     {
         self.slot = other.slot;
-        self.frames.clear();
-        let Ok(()) = self.frames.try_extend_from_slice(&other.frames) else {
+        self.copy_callers(other);
+        self.innermost = other.innermost;
+    }
+
+    fn copy_callers(&mut self, other: &State)
+        ensures { self.new ≡ record self.old { callers = other.now.callers } }
+    {
+        self.callers.clear();
+        let Ok(()) = self.callers.try_extend_from_slice(&other.callers) else {
             unreachable!()
         };
     }
@@ -83,28 +97,20 @@ impl State {
     pub fn kind_of(&self, register: Reg) -> Kind
         ensures { result ≡ kind_of self.now register }
     {
-        let innermost = self.frames.len().saturating_sub(1);
         match register {
             Reg::R10 => Kind::Stack {
-                frame: innermost as u8,
+                frame: self.callers.len() as u8,
                 offset: 0,
             },
-            _ => match self.frames.last() {
-                None => Kind::Unset,
-                Some(frame) => frame.registers[place_of(register)],
-            },
+            _ => self.innermost.registers[place_of(register)],
         }
     }
 
     /// Sets what is known of a register of the innermost frame.
     pub fn set_register(&mut self, register: Reg, kind: Kind)
-        requires register { register ≢ Reg.R10 }
-        requires called { 0 < depth self.old }
+        requires { register ≢ Reg.R10 }
         ensures { self.new ≡ with_register self.old register kind }
     {
-        let frames = self.frames.as_mut_slice();
-        let innermost = frames.len() - 1;
-        let frame = &mut frames[innermost];
-        frame.registers[place_of(register)] = kind;
+        self.innermost.registers[place_of(register)] = kind;
     }
 }

@@ -1,15 +1,23 @@
 -- Where each frame covers the other state's, what the other state means is meant.
-use Rattle.std.proofs.Common.{◌≡◌, ◌∙◌, ℕ, zero, suc, ◌+◌, ◌-◌, ◌<◌, ◌≤◌, inl, inr, List, [], ◌∷◌, length, map, get_or, refl, sym, ap, arith}
+use Rattle.std.proofs.Common.{◌≡◌, ◌∙◌, ℕ, zero, suc, ◌<◌, ◌≤◌, ◌++◌, inl, inr, List, [], ◌∷◌, length, map, get_or, refl, sym, ap, arith}
 use Rattle.std.proofs.lemmas.List.{get_or_past}
 use Rattle.std.proofs.lemmas.Bool.{cases_lt}
+use Rattle.isa_model.specs.declared.values.Cell.{Cell}
 use Rattle.isa_model.specs.Code.Instructions.{Program}
 use Rattle.reg_state.specs.declared.kinds.Kind.{Kind}
 use Rattle.reg_state.specs.declared.kinds.Kind.TheVariants.{Unset}
+use Rattle.reg_state.specs.Kinds.{Assigned}
 use Rattle.reg_state.specs.KindCover.{KindCovers, Allows-covered, renamed}
+use Rattle.stack_state.specs.declared.slots.Slot.{Slot}
+use Rattle.stack_state.specs.declared.slots.Slot.TheVariants.{Written, Spilled}
 use Rattle.stack_state.specs.declared.states.AbstractFrame.{AbstractFrame}
 use Rattle.stack_state.specs.declared.states.State.{State}
-use Rattle.stack_state.specs.Meaning.{Covers, Means, kind_at, kinds_of, depth, registers_of}
-use Rattle.state_cover.specs.FrameCover.{FrameCovers, KindsCover}
+use Rattle.stack_state.specs.Slots.{slot_at}
+use Rattle.stack_state.specs.StackMeaning.{SlotMeans}
+use Rattle.stack_state.specs.StackLaws.{SlotMeans-spilled, SlotMeans-marks}
+use Rattle.stack_state.specs.Meaning.{Covers, Means, MeansBy, kind_at, frames_of, no_frame, frame_of}
+use Rattle.stack_state.specs.MeaningLaws.{FrameKeeps, MeansBy-change}
+use Rattle.state_cover.specs.FrameCover.{FrameCovers, KindsCover, SlotCovers, SlotsCover}
 
 -- past the last register a kind is Unset, which covers every kind
 kind_covers_past : (packet null : ℕ → ℕ) (xs ys : List Kind) (k : ℕ) → length xs ≤ k
@@ -20,6 +28,8 @@ pub KindsCover-from : (packet null : ℕ → ℕ) (xs ys : List Kind) (n : ℕ) 
     → ((k : ℕ) → k < n → KindCovers packet null (kind_at xs k) (kind_at ys k)) → KindsCover packet null xs ys
 KindsCover-from packet null xs ys n all below = λ k.
     elim (cases_lt k n) [ inl l ↦ below k l | inr h ↦ kind_covers_past packet null xs ys k (omega arith) ]
+
+-- ---- frames
 
 -- each frame covers the other's
 abbrev pub AllCover : (ℕ → ℕ) → (ℕ → ℕ) → List AbstractFrame → List AbstractFrame → Type 0
@@ -36,11 +46,13 @@ AllCover-from packet null (f ∷ fs) [] same h = absurd (omega arith)
 AllCover-from packet null (f ∷ fs) (g ∷ gs) same h =
     (h 0 f g (omega arith), AllCover-from packet null fs gs (omega arith) (λ j d e l. h (suc j) d e (omega arith)))
 
-same_depth : (packet null : ℕ → ℕ) (fs gs : List AbstractFrame) → AllCover packet null fs gs → length fs ≡ length gs
-same_depth packet null [] [] c = refl
-same_depth packet null [] (g ∷ gs) c = absurd c
-same_depth packet null (f ∷ fs) [] c = absurd c
-same_depth packet null (f ∷ fs) (g ∷ gs) c = let rest = same_depth packet null fs gs c.1 in omega arith
+-- one frame more, after the others
+pub AllCover-push : (packet null : ℕ → ℕ) (fs gs : List AbstractFrame) (f g : AbstractFrame) → AllCover packet null fs gs
+    → FrameCovers packet null f g → AllCover packet null (fs ++ f ∷ []) (gs ++ g ∷ [])
+AllCover-push packet null [] [] f g c last = (last, tt)
+AllCover-push packet null [] (y ∷ gs) f g c last = absurd c
+AllCover-push packet null (x ∷ fs) [] f g c last = absurd c
+AllCover-push packet null (x ∷ fs) (y ∷ gs) f g c last = (c.0, AllCover-push packet null fs gs f g c.1 last)
 
 same_returns : (packet null : ℕ → ℕ) (fs gs : List AbstractFrame) → AllCover packet null fs gs
     → map (λ f. f.return_slot) fs ≡ map (λ f. f.return_slot) gs
@@ -49,40 +61,45 @@ same_returns packet null [] (g ∷ gs) c = absurd c
 same_returns packet null (f ∷ fs) [] c = absurd c
 same_returns packet null (f ∷ fs) (g ∷ gs) c = rw (c.0.returns, same_returns packet null fs gs c.1) refl
 
--- the kind in a register of a frame
-abbrev kind_in : List AbstractFrame → ℕ → ℕ → Kind
-kind_in fs j k = kind_at (get_or (map (λ f. f.registers) fs) j []) k
+no_frame_covers : (packet null : ℕ → ℕ) → FrameCovers packet null no_frame no_frame
+no_frame_covers packet null = record { returns = refl; registers = λ k. tt; slots = λ k inside i within bit. bit }
 
-kinds_cover : (packet null : ℕ → ℕ) (fs gs : List AbstractFrame) (j k : ℕ) → AllCover packet null fs gs
-    → KindCovers packet null (kind_in fs j k) (kind_in gs j k)
-kinds_cover packet null [] [] j k c = tt
-kinds_cover packet null [] (g ∷ gs) j k c = absurd c
-kinds_cover packet null (f ∷ fs) [] j k c = absurd c
-kinds_cover packet null (f ∷ fs) (g ∷ gs) zero k c = c.0.registers k
-kinds_cover packet null (f ∷ fs) (g ∷ gs) (suc j) k c = kinds_cover packet null fs gs j k c.1
+frame_covers_at : (packet null : ℕ → ℕ) (fs gs : List AbstractFrame) (j : ℕ) → AllCover packet null fs gs
+    → FrameCovers packet null (get_or fs j no_frame) (get_or gs j no_frame)
+frame_covers_at packet null [] [] j c = no_frame_covers packet null
+frame_covers_at packet null [] (g ∷ gs) j c = absurd c
+frame_covers_at packet null (f ∷ fs) [] j c = absurd c
+frame_covers_at packet null (f ∷ fs) (g ∷ gs) zero c = c.0
+frame_covers_at packet null (f ∷ fs) (g ∷ gs) (suc j) c = frame_covers_at packet null fs gs j c.1
+
+-- ---- what a frame covers it allows
+
+SlotMeans-covered : (packet null : ℕ → ℕ) (e : Assigned) (s t : Slot) (cs : List Cell) → SlotCovers packet null s t
+    → SlotMeans e t cs → SlotMeans (renamed packet null e) s cs
+SlotMeans-covered packet null e (Written marks) t cs c h = SlotMeans-marks e (renamed packet null e) t marks cs c h
+SlotMeans-covered packet null e (Spilled k) (Spilled l) cs c h =
+    SlotMeans-spilled e (renamed packet null e) l k cs (λ v. Allows-covered packet null e k l v c) h
+SlotMeans-covered packet null e (Spilled k) (Written marks) cs c h = absurd c
+
+FrameKeeps-covered : (packet null : ℕ → ℕ) (e : Assigned) (f g : AbstractFrame) → FrameCovers packet null f g
+    → FrameKeeps e (renamed packet null e) g f
+FrameKeeps-covered packet null e f g c = record {
+  registers = λ k v. Allows-covered packet null e (kind_at f.registers k) (kind_at g.registers k) v (c.registers k);
+  slots = λ k cs inside. SlotMeans-covered packet null e (slot_at f.stack.slots k) (slot_at g.stack.slots k) cs (c.slots k inside);
+}
 
 pub Covers-from : (p : Program) (a b : State) (packet null : ℕ → ℕ) → packet 0 ≡ 0 → a.slot ≡ b.slot
-    → AllCover packet null a.frames.items b.frames.items → Covers p a b
+    → AllCover packet null (frames_of a) (frames_of b) → Covers p a b
 unfolding Covers Means
 Covers-from p a b packet null none slot frames = λ s means.
     let e = means.0 in
     let m = means.1 in
-    let same : depth a ≡ depth b = same_depth packet null a.frames.items b.frames.items frames in (
+    let of = m.assigned in (
       renamed packet null e,
-      record {
-        is_state = m.is_state;
-        assigned = record {
-          none = ap e.offset none ∙ m.assigned.none;
-          length_is = m.assigned.length_is;
-          serials = m.assigned.serials;
-          contents = m.assigned.contents;
-        };
-        slot_is = m.slot_is ∙ sym slot;
-        returns = m.returns ∙ sym (same_returns packet null a.frames.items b.frames.items frames);
-        pointer = m.pointer;
-        registers = λ k. Allows-covered packet null e (kind_at (registers_of a) k) (kind_at (registers_of b) k) _
-            (rw same (kinds_cover packet null a.frames.items b.frames.items (depth b - 1) k frames)) (m.registers k);
-        kept = λ j k outer saved. Allows-covered packet null e (kind_at (kinds_of a j) (6 + k)) (kind_at (kinds_of b j) (6 + k)) _
-            (kinds_cover packet null a.frames.items b.frames.items j (6 + k) frames) (m.kept j k (omega arith) saved);
-      },
+      MeansBy-change p e (renamed packet null e) b a s
+          (record { none = ap e.offset none ∙ of.none; length_is = of.length_is; serials = of.serials; contents = of.contents }) slot
+          (same_returns packet null (frames_of a) (frames_of b) frames)
+          (λ j below. FrameKeeps-covered packet null e (frame_of a j) (frame_of b j)
+          (frame_covers_at packet null (frames_of a) (frames_of b) j frames))
+          m,
     )

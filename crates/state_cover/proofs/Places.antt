@@ -1,11 +1,13 @@
 -- The first place of two lists of kinds, or of frames, that passes a test.
-use Rattle.std.proofs.Common.{◌≡◌, ℕ, ◌+◌, ◌<◌, suc, List, Bool, cond, Some, length, get_or, drop, drop-cons, add-one, refl}
+use Rattle.std.proofs.Common.{◌≡◌, ◌∙◌, ℕ, ◌+◌, ◌<◌, suc, List, [], ◌∷◌, ◌++◌, append_assoc, Bool, cond, Option, Some, None, length, get_or, drop, drop-cons, add-one, sym, ap, refl, arith}
 use Rattle.std.specs.List.{find, zip}
 use Rattle.std.specs.Option.{option_or}
 use Rattle.std.proofs.lemmas.List.Folds.{find-append}
 use Rattle.reg_state.specs.declared.kinds.Kind.{Kind}
+use Rattle.stack_state.specs.declared.slots.Slot.{Slot}
 use Rattle.stack_state.specs.declared.states.AbstractFrame.{AbstractFrame}
-use Rattle.state_cover.specs.Names.{places}
+use Rattle.stack_state.specs.Slots.{kind_in}
+use Rattle.state_cover.specs.Names.{spilled_kinds, frame_places, places}
 
 -- one place more, of two lists of kinds
 pub find-zip : (p : Kind × Kind → Bool) (xs ys : List Kind) (n : ℕ) (x y : Kind)
@@ -13,11 +15,41 @@ pub find-zip : (p : Kind × Kind → Bool) (xs ys : List Kind) (n : ℕ) (x y : 
     → find p (zip (drop n xs) (drop n ys)) ≡ cond (p (x, y)) (Some (x, y)) (find p (zip (drop (n + 1) xs) (drop (n + 1) ys)))
 find-zip p xs ys n x y in_xs in_ys at_x at_y = rw (add-one, drop-cons xs n x, drop-cons ys n y, ← at_x, ← at_y) refl
 
+-- one slot more
+pub find-slots : (p : Kind × Kind → Bool) (xs ys : List Slot) (n : ℕ) (x y : Slot)
+    → n < length xs → n < length ys → x ≡ get_or xs n x → y ≡ get_or ys n y
+    → find p (zip (spilled_kinds (drop n xs)) (spilled_kinds (drop n ys)))
+    ≡ cond (p (kind_in x, kind_in y)) (Some (kind_in x, kind_in y))
+    (find p (zip (spilled_kinds (drop (n + 1) xs)) (spilled_kinds (drop (n + 1) ys))))
+find-slots p xs ys n x y in_xs in_ys at_x at_y = rw (add-one, drop-cons xs n x, drop-cons ys n y, ← at_x, ← at_y) refl
+
 -- one frame more
 pub find-places : (p : Kind × Kind → Bool) (fs gs : List AbstractFrame) (n : ℕ) (f g : AbstractFrame)
     → n < length fs → n < length gs → f ≡ get_or fs n f → g ≡ get_or gs n g
     → find p (places (drop n fs) (drop n gs))
-    ≡ option_or (find p (zip f.registers g.registers)) (find p (places (drop (n + 1) fs) (drop (n + 1) gs)))
+    ≡ option_or (find p (frame_places f g)) (find p (places (drop (n + 1) fs) (drop (n + 1) gs)))
 find-places p fs gs n f g in_fs in_gs at_f at_g =
     rw (add-one, drop-cons fs n f, drop-cons gs n g, ← at_f, ← at_g)
-    (find-append p (zip f.registers g.registers) (places (drop (suc n) fs) (drop (suc n) gs)))
+    (find-append p (frame_places f g) (places (drop (suc n) fs) (drop (suc n) gs)))
+
+-- one frame more, after the others
+places-push : (fs gs : List AbstractFrame) (f g : AbstractFrame) → length fs ≡ length gs
+    → places (fs ++ f ∷ []) (gs ++ g ∷ []) ≡ places fs gs ++ (frame_places f g ++ [])
+places-push [] [] f g same = refl
+places-push [] (y ∷ gs) f g same = absurd (omega arith)
+places-push (x ∷ fs) [] f g same = absurd (omega arith)
+places-push (x ∷ fs) (y ∷ gs) f g same =
+    let rest : length fs ≡ length gs = omega arith in
+    ap (λ ps. frame_places x y ++ ps) (places-push fs gs f g rest)
+    ∙ sym (append_assoc (frame_places x y) (places fs gs) (frame_places f g ++ []))
+
+option_or-none : (o : Option (Kind × Kind)) → option_or o None ≡ o
+option_or-none None = refl
+option_or-none (Some place) = refl
+
+pub find-places_push : (p : Kind × Kind → Bool) (fs gs : List AbstractFrame) (f g : AbstractFrame) → length fs ≡ length gs
+    → find p (places (fs ++ f ∷ []) (gs ++ g ∷ [])) ≡ option_or (find p (places fs gs)) (find p (frame_places f g))
+find-places_push p fs gs f g same =
+    ap (find p) (places-push fs gs f g same)
+    ∙ find-append p (places fs gs) (frame_places f g ++ [])
+    ∙ ap (option_or (find p (places fs gs))) (find-append p (frame_places f g) [] ∙ option_or-none (find p (frame_places f g)))

@@ -1,22 +1,26 @@
 -- Where some maps of identities serve, the names that stand at the first places do too.
-use Rattle.std.proofs.Common.{◌≡◌, ◌∙◌, ℕ, zero, suc, ◌<◌, List, [], ◌∷◌, Bool, true, false, cond, length, map, get_or, Option, Some, None, refl, sym, ap, subst, arith}
-use Rattle.std.specs.Prelude.{IfSome, IsSome, nat_eq, if◌then◌else◌}
+use Rattle.std.proofs.Common.{◌≡◌, ◌∙◌, ℕ, zero, suc, ◌<◌, inl, inr, List, [], ◌∷◌, Bool, true, false, cond, length, map, get_or, Option, Some, None, refl, sym, ap, subst, arith}
+use Rattle.std.specs.Prelude.{◌⊎◌, IfSome, IsSome, nat_eq, if◌then◌else◌}
 use Rattle.std.specs.List.{zip}
 use Rattle.std.specs.Option.{option_or}
-use Rattle.std.proofs.lemmas.List.{length-map}
+use Rattle.std.proofs.lemmas.List.{length-map, get_or_default}
 use Rattle.std.proofs.lemmas.List.Folds.{find-append}
 use Rattle.std.proofs.lemmas.Bool.Decides.{nat_tests}
 use Rattle.std.proofs.lemmas.Int.{ints}
 use Rattle.reg_state.specs.declared.kinds.Kind.{Kind}
 use Rattle.reg_state.specs.declared.kinds.Kind.TheVariants.{Unset, Number, Context, Stack, Packet, PacketEnd, Map, MapValue, MapValueOrNull}
 use Rattle.reg_state.specs.KindCover.{packet_identity_of, null_identity_of, KindEncloses}
+use Rattle.stack_state.specs.declared.slots.Slot.{Slot}
+use Rattle.stack_state.specs.declared.slots.Slot.TheVariants.{Written, Spilled}
 use Rattle.stack_state.specs.declared.states.AbstractFrame.{AbstractFrame}
 use Rattle.stack_state.specs.declared.states.State.{State}
-use Rattle.stack_state.specs.Meaning.{kind_at, kinds_of}
+use Rattle.stack_state.specs.Slots.{slot_at, kind_in}
+use Rattle.stack_state.specs.Meaning.{frames_of, no_frame, frame_of, kind_at, kinds_of, slots_of}
+use Rattle.stack_state.specs.MeaningLaws.{length-frames_of, frame_of-caller, frame_of-innermost}
 use Rattle.state_cover.specs.declared.names.Sort.{Sort}
 use Rattle.state_cover.specs.declared.names.Sort.TheVariants as sort
-use Rattle.state_cover.specs.Names.{identity_of, is_number, is_named, places, first_named, name_at, name_of, packet_name, null_name}
-use Rattle.state_cover.specs.FrameCover.{KindCoversPlainly, CoversPlainly, KindsEnclose, Encloses}
+use Rattle.state_cover.specs.Names.{identity_of, is_number, is_named, spilled_kinds, frame_places, places, first_named, name_at, name_of, packet_name, null_name}
+use Rattle.state_cover.specs.FrameCover.{SlotEncloses, KindsEnclose, SlotsEnclose, Encloses}
 
 -- ---- one place
 
@@ -41,6 +45,10 @@ number_is (Some j) i h = let same : j ≡ i = grind (arith, nat_tests) in ap Som
 is_own_number : (o : Option ℕ) (i : ℕ) → o ≡ Some i → is_number o i ≡ true
 is_own_number None i h = absurd (cc)
 is_own_number (Some j) i h = let same : j ≡ i = cc in grind (arith, nat_tests)
+
+unset_opposite : (s : Sort) (m : ℕ → ℕ) (y : Kind) → IsOpposite s m Unset y
+unset_opposite sort.Packet m y = tt
+unset_opposite sort.Null m y = tt
 
 unset_names : (s : Sort) (i : ℕ) → identity_of s Unset ≡ Some i → ⊥
 unset_names sort.Packet i h = cc
@@ -104,35 +112,91 @@ some_registers s m i (x ∷ xs) (y ∷ ys) zero h e =
 some_registers s m i (x ∷ xs) (y ∷ ys) (suc k) h e =
     some_later (is_named s i x) (x, y) (first_named s i (zip xs ys)) (some_registers s m i xs ys k (λ k. h (suc k)) e)
 
+-- ---- slots
+
+opposite_in_slot : (s : Sort) (m : ℕ → ℕ) (packet null : ℕ → ℕ) (x y : Slot) → ((k l : Kind) → KindEncloses packet null k l → IsOpposite s m k l)
+    → SlotEncloses packet null x y → IsOpposite s m (kind_in x) (kind_in y)
+opposite_in_slot s m packet null (Written marks) y each c = unset_opposite s m (kind_in y)
+opposite_in_slot s m packet null (Spilled k) (Spilled l) each c = each k l c
+opposite_in_slot s m packet null (Spilled k) (Written marks) each c = absurd c
+
+-- the kinds in two lists of slots
+kind_in_slot : (slots : List Slot) (k : ℕ) → kind_at (spilled_kinds slots) k ≡ kind_in (slot_at slots k)
+kind_in_slot [] k = refl
+kind_in_slot (x ∷ slots) zero = refl
+kind_in_slot (x ∷ slots) (suc k) = kind_in_slot slots k
+
+opposite_slots : (s : Sort) (m : ℕ → ℕ) (packet null : ℕ → ℕ) (xs ys : List Slot) → ((k l : Kind) → KindEncloses packet null k l → IsOpposite s m k l)
+    → SlotsEnclose packet null xs ys → AreOpposite s m (spilled_kinds xs) (spilled_kinds ys)
+opposite_slots s m packet null xs ys each c = λ k.
+    rw (kind_in_slot xs k, kind_in_slot ys k) (opposite_in_slot s m packet null (slot_at xs k) (slot_at ys k) each (c k))
+
 -- ---- frames
 
--- the registers of a frame, counted from the outermost, 0
-abbrev registers_in : List AbstractFrame → ℕ → List Kind
-registers_in fs j = get_or (map (λ f. f.registers) fs) j []
+-- the kinds in registers and slots stand opposite those of the other frame
+record FramesOpposite (s : Sort) (m : ℕ → ℕ) (f g : AbstractFrame) : Type 0 where
+  registers : AreOpposite s m f.registers g.registers
+  slots : AreOpposite s m (spilled_kinds f.stack.slots) (spilled_kinds g.stack.slots)
 
-stands_frames : (s : Sort) (m : ℕ → ℕ) (i : ℕ) (fs gs : List AbstractFrame)
-    → ((j : ℕ) → AreOpposite s m (registers_in fs j) (registers_in gs j)) → StandsAt s m i (first_named s i (places fs gs))
+-- the identity is named in a register or in a slot
+abbrev NamedIn : Sort → AbstractFrame → ℕ → Type 0
+NamedIn s f i =
+    ((k : ℕ) × (identity_of s (kind_at f.registers k) ≡ Some i))
+    ⊎ ((k : ℕ) × (identity_of s (kind_at (spilled_kinds f.stack.slots) k) ≡ Some i))
+
+stands_frame : (s : Sort) (m : ℕ → ℕ) (i : ℕ) (f g : AbstractFrame) → FramesOpposite s m f g
+    → StandsAt s m i (first_named s i (frame_places f g))
+stands_frame s m i f g h =
+    rw (find-append (λ place. is_named s i place.0) (zip f.registers g.registers) (zip (spilled_kinds f.stack.slots) (spilled_kinds g.stack.slots)))
+    (stands_or s m i (first_named s i (zip f.registers g.registers)) (first_named s i (zip (spilled_kinds f.stack.slots) (spilled_kinds g.stack.slots)))
+    (stands_registers s m i f.registers g.registers h.registers)
+    (stands_registers s m i (spilled_kinds f.stack.slots) (spilled_kinds g.stack.slots) h.slots))
+
+some_frame : (s : Sort) (m : ℕ → ℕ) (i : ℕ) (f g : AbstractFrame) → FramesOpposite s m f g → NamedIn s f i
+    → IsSome (first_named s i (frame_places f g))
+some_frame s m i f g h (inl named) =
+    rw (find-append (λ place. is_named s i place.0) (zip f.registers g.registers) (zip (spilled_kinds f.stack.slots) (spilled_kinds g.stack.slots)))
+    (or_first (first_named s i (zip f.registers g.registers)) (first_named s i (zip (spilled_kinds f.stack.slots) (spilled_kinds g.stack.slots)))
+    (some_registers s m i f.registers g.registers named.0 h.registers named.1))
+some_frame s m i f g h (inr named) =
+    rw (find-append (λ place. is_named s i place.0) (zip f.registers g.registers) (zip (spilled_kinds f.stack.slots) (spilled_kinds g.stack.slots)))
+    (or_later (first_named s i (zip f.registers g.registers)) (first_named s i (zip (spilled_kinds f.stack.slots) (spilled_kinds g.stack.slots)))
+    (some_registers s m i (spilled_kinds f.stack.slots) (spilled_kinds g.stack.slots) named.0 h.slots named.1))
+
+-- of each frame
+abbrev AllOpposite : Sort → (ℕ → ℕ) → List AbstractFrame → List AbstractFrame → Type 0
+AllOpposite s m fs gs = (j : ℕ) → FramesOpposite s m (get_or fs j no_frame) (get_or gs j no_frame)
+
+stands_frames : (s : Sort) (m : ℕ → ℕ) (i : ℕ) (fs gs : List AbstractFrame) → AllOpposite s m fs gs
+    → StandsAt s m i (first_named s i (places fs gs))
 stands_frames s m i [] gs h = tt
 stands_frames s m i (f ∷ fs) [] h = tt
 stands_frames s m i (f ∷ fs) (g ∷ gs) h =
-    rw (find-append (λ place. is_named s i place.0) (zip f.registers g.registers) (places fs gs))
-    (stands_or s m i (first_named s i (zip f.registers g.registers)) (first_named s i (places fs gs))
-    (stands_registers s m i f.registers g.registers (h 0)) (stands_frames s m i fs gs (λ j. h (suc j))))
+    rw (find-append (λ place. is_named s i place.0) (frame_places f g) (places fs gs))
+    (stands_or s m i (first_named s i (frame_places f g)) (first_named s i (places fs gs))
+    (stands_frame s m i f g (h 0)) (stands_frames s m i fs gs (λ j. h (suc j))))
 
-some_frames : (s : Sort) (m : ℕ → ℕ) (i : ℕ) (fs gs : List AbstractFrame) (j k : ℕ)
-    → ((j : ℕ) → AreOpposite s m (registers_in fs j) (registers_in gs j)) → identity_of s (kind_at (registers_in fs j) k) ≡ Some i
-    → IsSome (first_named s i (places fs gs))
-some_frames s m i [] gs j k h e = absurd (unset_names s i e)
-some_frames s m i (f ∷ fs) [] j k h e =
-    absurd (unset_names s (m i) (opposite_named s m i (kind_at (registers_in (f ∷ fs) j) k) Unset (h j k) e))
-some_frames s m i (f ∷ fs) (g ∷ gs) zero k h e =
-    rw (find-append (λ place. is_named s i place.0) (zip f.registers g.registers) (places fs gs))
-    (or_first (first_named s i (zip f.registers g.registers)) (first_named s i (places fs gs))
-    (some_registers s m i f.registers g.registers k (h 0) e))
-some_frames s m i (f ∷ fs) (g ∷ gs) (suc j) k h e =
-    rw (find-append (λ place. is_named s i place.0) (zip f.registers g.registers) (places fs gs))
-    (or_later (first_named s i (zip f.registers g.registers)) (first_named s i (places fs gs))
-    (some_frames s m i fs gs j k (λ j. h (suc j)) e))
+no_frame_names : (s : Sort) (i : ℕ) → NamedIn s no_frame i → ⊥
+no_frame_names s i (inl named) = unset_names s i named.1
+no_frame_names s i (inr named) = unset_names s i named.1
+
+-- what stands opposite nothing names nothing
+none_opposite : (s : Sort) (m : ℕ → ℕ) (i : ℕ) (f : AbstractFrame) → FramesOpposite s m f no_frame → NamedIn s f i → ⊥
+none_opposite s m i f h (inl named) =
+    unset_names s (m i) (opposite_named s m i (kind_at f.registers named.0) Unset (h.registers named.0) named.1)
+none_opposite s m i f h (inr named) =
+    unset_names s (m i) (opposite_named s m i (kind_at (spilled_kinds f.stack.slots) named.0) Unset (h.slots named.0) named.1)
+
+some_frames : (s : Sort) (m : ℕ → ℕ) (i : ℕ) (fs gs : List AbstractFrame) (j : ℕ) → AllOpposite s m fs gs
+    → NamedIn s (get_or fs j no_frame) i → IsSome (first_named s i (places fs gs))
+some_frames s m i [] gs j h named = absurd (no_frame_names s i named)
+some_frames s m i (f ∷ fs) [] j h named = absurd (none_opposite s m i (get_or (f ∷ fs) j no_frame) (h j) named)
+some_frames s m i (f ∷ fs) (g ∷ gs) zero h named =
+    rw (find-append (λ place. is_named s i place.0) (frame_places f g) (places fs gs))
+    (or_first (first_named s i (frame_places f g)) (first_named s i (places fs gs)) (some_frame s m i f g (h 0) named))
+some_frames s m i (f ∷ fs) (g ∷ gs) (suc j) h named =
+    rw (find-append (λ place. is_named s i place.0) (frame_places f g) (places fs gs))
+    (or_later (first_named s i (frame_places f g)) (first_named s i (places fs gs)) (some_frames s m i fs gs j (λ j. h (suc j)) named))
 
 -- ---- names
 
@@ -141,18 +205,18 @@ name_at-stands : (s : Sort) (m : ℕ → ℕ) (i : ℕ) (found : Option (Kind ×
 name_at-stands s m i None some h = absurd (cc)
 name_at-stands s m i (Some place) some h = rw h refl
 
--- an identity that a register names has the name that the map gives
-name_of-opposite : (s : Sort) (m : ℕ → ℕ) (i : ℕ) (fs gs : List AbstractFrame) (j k : ℕ)
-    → ((j : ℕ) → AreOpposite s m (registers_in fs j) (registers_in gs j)) → identity_of s (kind_at (registers_in fs j) k) ≡ Some i
-    → name_of s fs gs i ≡ m i
+-- an identity that a frame names has the name that the map gives
+name_of-opposite : (s : Sort) (m : ℕ → ℕ) (i : ℕ) (a b : State) (j : ℕ) → AllOpposite s m (frames_of a) (frames_of b)
+    → NamedIn s (frame_of a j) i → name_of s a b i ≡ m i
 unfolding name_of
-name_of-opposite s m i fs gs j k h e =
-    name_at-stands s m i (first_named s i (places fs gs)) (some_frames s m i fs gs j k h e) (stands_frames s m i fs gs h)
+name_of-opposite s m i a b j h named =
+    name_at-stands s m i (first_named s i (places (frames_of a) (frames_of b))) (some_frames s m i (frames_of a) (frames_of b) j h named)
+    (stands_frames s m i (frames_of a) (frames_of b) h)
 
-packet_name-is : (fs gs : List AbstractFrame) (packet : ℕ → ℕ) (i : ℕ) → packet 0 ≡ 0 → name_of sort.Packet fs gs i ≡ packet i
-    → packet_name fs gs i ≡ packet i
-packet_name-is fs gs packet i none same =
-    elim (nat_eq i 0) as (λ b. nat_eq i 0 ≡ b → (if b then 0 else name_of sort.Packet fs gs i) ≡ packet i) [
+packet_name-is : (a b : State) (packet : ℕ → ℕ) (i : ℕ) → packet 0 ≡ 0 → name_of sort.Packet a b i ≡ packet i
+    → packet_name a b i ≡ packet i
+packet_name-is a b packet i none same =
+    elim (nat_eq i 0) as (λ z. nat_eq i 0 ≡ z → (if z then 0 else name_of sort.Packet a b i) ≡ packet i) [
       | true ↦ λ e. let zero_is : i ≡ 0 = grind (arith, nat_tests) in sym (ap packet zero_is ∙ none)
       | false ↦ λ e. same
     ]
@@ -175,24 +239,53 @@ renamed_kind packet null names nulls (MapValue m l g) (MapValue m' l' g') packet
 renamed_kind packet null names nulls (MapValueOrNull m i) (MapValueOrNull m' i') packets values c = (c.0, values ∙ c.1)
 renamed_kind packet null names nulls x y packets values c = absurd c
 
+-- the two names agree with the maps on what a kind names
+record AgreeOn (packet null names nulls : ℕ → ℕ) (x : Kind) : Type 0 where
+  packets : IfSome (packet_identity_of x) (λ i. names i ≡ packet i)
+  values : IfSome (null_identity_of x) (λ i. nulls i ≡ null i)
+
+renamed_slot : (packet null names nulls : ℕ → ℕ) (x y : Slot) → AgreeOn packet null names nulls (kind_in x) → SlotEncloses packet null x y
+    → SlotEncloses names nulls x y
+renamed_slot packet null names nulls (Written marks) y agree c = c
+renamed_slot packet null names nulls (Spilled k) (Spilled l) agree c = renamed_kind packet null names nulls k l agree.packets agree.values c
+renamed_slot packet null names nulls (Spilled k) (Written marks) agree c = absurd c
+
+all_opposite_packet : (packet null : ℕ → ℕ) (a b : State) → Encloses packet null a b → AllOpposite sort.Packet packet (frames_of a) (frames_of b)
+all_opposite_packet packet null a b c = λ j. record {
+  registers = λ k. opposite_packet packet null (kind_at (kinds_of a j) k) (kind_at (kinds_of b j) k) (c.registers j k);
+  slots = opposite_slots sort.Packet packet packet null (slots_of a j) (slots_of b j) (opposite_packet packet null) (c.slots j);
+}
+
+all_opposite_null : (packet null : ℕ → ℕ) (a b : State) → Encloses packet null a b → AllOpposite sort.Null null (frames_of a) (frames_of b)
+all_opposite_null packet null a b c = λ j. record {
+  registers = λ k. opposite_null packet null (kind_at (kinds_of a j) k) (kind_at (kinds_of b j) k) (c.registers j k);
+  slots = opposite_slots sort.Null null packet null (slots_of a j) (slots_of b j) (opposite_null packet null) (c.slots j);
+}
+
+agree : (packet null : ℕ → ℕ) (a b : State) (j : ℕ) (x : Kind) → Encloses packet null a b
+    → ((s : Sort) (i : ℕ) → identity_of s x ≡ Some i → NamedIn s (frame_of a j) i)
+    → AgreeOn packet null (packet_name a b) (null_name a b) x
+agree packet null a b j x c named = record {
+  packets = if_named (packet_identity_of x) (λ i. packet_name a b i ≡ packet i) (λ i e. packet_name-is a b packet i c.none
+      (name_of-opposite sort.Packet packet i a b j (all_opposite_packet packet null a b c) (named sort.Packet i e)));
+  values = if_named (null_identity_of x) (λ i. null_name a b i ≡ null i) (λ i e.
+      name_of-opposite sort.Null null i a b j (all_opposite_null packet null a b c) (named sort.Null i e));
+}
+
 -- the names at the first places serve where other maps do
-pub Encloses-names : (packet null : ℕ → ℕ) (a b : State) → Encloses packet null a b
-    → Encloses (packet_name a.frames.items b.frames.items) (null_name a.frames.items b.frames.items) a b
-Encloses-names packet null a b c =
-    let fs : List AbstractFrame = a.frames.items in
-    let gs : List AbstractFrame = b.frames.items in
-    record {
-      none = refl;
-      slot = c.slot;
-      returns = c.returns;
-      registers = λ j k. renamed_kind packet null (packet_name fs gs) (null_name fs gs) (kind_at (kinds_of a j) k) (kind_at (kinds_of b j) k)
-          (if_named (packet_identity_of (kind_at (kinds_of a j) k)) (λ i. packet_name fs gs i ≡ packet i)
-          (λ i e. packet_name-is fs gs packet i c.none
-          (name_of-opposite sort.Packet packet i fs gs j k (λ j k. opposite_packet packet null (kind_at (kinds_of a j) k) (kind_at (kinds_of b j) k) (c.registers j k)) e)))
-          (if_named (null_identity_of (kind_at (kinds_of a j) k)) (λ i. null_name fs gs i ≡ null i)
-          (λ i e. name_of-opposite sort.Null null i fs gs j k (λ j k. opposite_null packet null (kind_at (kinds_of a j) k) (kind_at (kinds_of b j) k) (c.registers j k)) e))
-          (c.registers j k);
-    }
+pub Encloses-names : (packet null : ℕ → ℕ) (a b : State) → Encloses packet null a b → Encloses (packet_name a b) (null_name a b) a b
+Encloses-names packet null a b c = record {
+  none = refl;
+  slot = c.slot;
+  returns = c.returns;
+  registers = λ j k. let x : Kind = kind_at (kinds_of a j) k in
+      let here = agree packet null a b j x c (λ s i e. inl (k, e)) in
+      renamed_kind packet null (packet_name a b) (null_name a b) x (kind_at (kinds_of b j) k) here.packets here.values (c.registers j k);
+  slots = λ j k. let x : Slot = slot_at (slots_of a j) k in
+      renamed_slot packet null (packet_name a b) (null_name a b) x (slot_at (slots_of b j) k)
+      (agree packet null a b j (kind_in x) c
+      (λ s i e. inr (k, ap (identity_of s) (kind_in_slot (slots_of a j) k) ∙ e))) (c.slots j k);
+}
 
 -- ---- equal states
 
@@ -207,74 +300,71 @@ own_kind (Map m) = refl
 own_kind (MapValue m l g) = (refl, omega (arith, ints), omega (arith, ints))
 own_kind (MapValueOrNull m i) = (refl, refl)
 
+own_slot : (x : Slot) → SlotEncloses (λ i. i) (λ i. i) x x
+own_slot (Written marks) = λ i within bit. bit
+own_slot (Spilled k) = own_kind k
+
 pub Encloses-own : (a : State) → Encloses (λ i. i) (λ i. i) a a
-Encloses-own a = record { none = refl; slot = refl; returns = refl; registers = λ j k. own_kind (kind_at (kinds_of a j) k) }
-
--- ---- where numbers are the same
-
-same_kind : (packet null : ℕ → ℕ) (x y : Kind) → KindCoversPlainly packet null x y → KindEncloses packet null x y
-same_kind packet null (Number numbers) y c = subst (λ y. KindEncloses packet null (Number numbers) y) c (own_kind (Number numbers))
-same_kind packet null x y c = c
-
-pub Encloses-plainly : (packet null : ℕ → ℕ) (a b : State) → CoversPlainly packet null a b → Encloses packet null a b
-Encloses-plainly packet null a b c =
-    record {
-      none = c.none;
-      slot = c.slot;
-      returns = c.returns;
-      registers = λ j k. same_kind packet null (kind_at (kinds_of a j) k) (kind_at (kinds_of b j) k) (c.registers j k);
-    }
-
--- ---- a frame
-
-return_slot_at : (fs gs : List AbstractFrame) (n : ℕ) (f g : AbstractFrame) → map (λ f. f.return_slot) fs ≡ map (λ f. f.return_slot) gs
-    → n < length fs → n < length gs → f ≡ get_or fs n f → g ≡ get_or gs n g → f.return_slot ≡ g.return_slot
-return_slot_at [] gs n f g same in_fs in_gs at_f at_g = absurd (omega arith)
-return_slot_at (x ∷ fs) [] n f g same in_fs in_gs at_f at_g = absurd (omega arith)
-return_slot_at (x ∷ fs) (y ∷ gs) zero f g same in_fs in_gs at_f at_g =
-    let first : x.return_slot ≡ y.return_slot = cc (same) in
-    ap (λ f. f.return_slot) at_f ∙ first ∙ sym (ap (λ f. f.return_slot) at_g)
-return_slot_at (x ∷ fs) (y ∷ gs) (suc n) f g same in_fs in_gs at_f at_g =
-    let rest : map (λ f. f.return_slot) fs ≡ map (λ f. f.return_slot) gs = cc (same) in
-    return_slot_at fs gs n f g rest (omega arith) (omega arith) at_f at_g
-
-registers_at : (fs : List AbstractFrame) (n : ℕ) (f : AbstractFrame) → n < length fs → f ≡ get_or fs n f → registers_in fs n ≡ f.registers
-registers_at [] n f inside at = absurd (omega arith)
-registers_at (x ∷ fs) zero f inside at = ap (λ f. f.registers) (sym at)
-registers_at (x ∷ fs) (suc n) f inside at = registers_at fs n f (omega arith) at
-
-pub depth-same : (a b : State) (packet null : ℕ → ℕ) → Encloses packet null a b → length a.frames.items ≡ length b.frames.items
-depth-same a b packet null c =
-    sym (length-map a.frames.items (λ f. f.return_slot)) ∙ ap length c.returns ∙ length-map b.frames.items (λ f. f.return_slot)
-
--- what the test of a frame has to find
-abbrev pub AreFound : List AbstractFrame → List AbstractFrame → AbstractFrame → AbstractFrame → Type 0
-AreFound fs gs f g =
-    (f.return_slot ≡ g.return_slot) × KindsEnclose (packet_name fs gs) (null_name fs gs) f.registers g.registers
-
-frame_at : (a b : State) (packet null : ℕ → ℕ) (n : ℕ) (f g : AbstractFrame) → Encloses packet null a b
-    → n < length a.frames.items → n < length b.frames.items → f ≡ get_or a.frames.items n f → g ≡ get_or b.frames.items n g
-    → AreFound a.frames.items b.frames.items f g
-frame_at a b packet null n f g c in_a in_b at_f at_g =
-    let fs : List AbstractFrame = a.frames.items in
-    let gs : List AbstractFrame = b.frames.items in
-    let named = (Encloses-names packet null a b c).registers n in
-    let left : KindsEnclose (packet_name fs gs) (null_name fs gs) f.registers (kinds_of b n) =
-    subst (λ ks. KindsEnclose (packet_name fs gs) (null_name fs gs) ks (kinds_of b n)) (registers_at fs n f in_a at_f) named in (
-      return_slot_at fs gs n f g c.returns in_a in_b at_f at_g,
-      subst (λ ks. KindsEnclose (packet_name fs gs) (null_name fs gs) f.registers ks) (registers_at gs n g in_b at_g) left,
-    )
-
-pub frame_found : (a b : State) (fs gs : List AbstractFrame) (packet null : ℕ → ℕ) (n : ℕ) (f g : AbstractFrame) → fs ≡ a.frames.items
-    → gs ≡ b.frames.items → Encloses packet null a b → n < length fs → n < length gs → f ≡ get_or fs n f → g ≡ get_or gs n g
-    → AreFound fs gs f g
-frame_found a b fs gs packet null n f g is_a is_b c in_a in_b at_f at_g =
-    let found : AreFound a.frames.items b.frames.items f g =
-    frame_at a b packet null n f g c (rw is_a at in_a) (rw is_b at in_b) (rw is_a at at_f) (rw is_b at at_g) in
-    let left : AreFound fs b.frames.items f g = subst (λ fs. AreFound fs b.frames.items f g) (sym is_a) found in
-    subst (λ gs. AreFound fs gs f g) (sym is_b) left
+Encloses-own a = record {
+  none = refl;
+  slot = refl;
+  returns = refl;
+  registers = λ j k. own_kind (kind_at (kinds_of a j) k);
+  slots = λ j k. own_slot (slot_at (slots_of a j) k);
+}
 
 -- an equal state is found where all is that can be
 pub own_found : (a b : State) (P : Type 0) → ((packet null : ℕ → ℕ) → Encloses packet null a b → P) → a ≡ b → P
 own_found a b P found same =
     found (λ i. i) (λ i. i) (subst (λ b. Encloses (λ i. i) (λ i. i) a b) same (Encloses-own a))
+
+-- ---- a frame
+
+returns_at : (fs gs : List AbstractFrame) (j : ℕ) → map (λ f. f.return_slot) fs ≡ map (λ f. f.return_slot) gs
+    → (get_or fs j no_frame).return_slot ≡ (get_or gs j no_frame).return_slot
+returns_at [] [] j same = refl
+returns_at [] (g ∷ gs) j same = absurd (cc (same))
+returns_at (f ∷ fs) [] j same = absurd (cc (same))
+returns_at (f ∷ fs) (g ∷ gs) zero same = let first : f.return_slot ≡ g.return_slot = cc (same) in first
+returns_at (f ∷ fs) (g ∷ gs) (suc j) same =
+    let rest : map (λ f. f.return_slot) fs ≡ map (λ f. f.return_slot) gs = cc (same) in
+    returns_at fs gs j rest
+
+pub callers-same : (a b : State) (packet null : ℕ → ℕ) → Encloses packet null a b → length a.callers.items ≡ length b.callers.items
+callers-same a b packet null c =
+    let same : length (frames_of a) ≡ length (frames_of b) =
+    sym (length-map (frames_of a) (λ f. f.return_slot)) ∙ ap length c.returns ∙ length-map (frames_of b) (λ f. f.return_slot) in
+    let left = length-frames_of a in
+    let right = length-frames_of b in
+    omega arith
+
+-- what the test of a frame has to find
+pub record IsFound (a b : State) (f g : AbstractFrame) : Type 0 where
+  pub returns : f.return_slot ≡ g.return_slot
+  pub registers : KindsEnclose (packet_name a b) (null_name a b) f.registers g.registers
+  pub slots : SlotsEnclose (packet_name a b) (null_name a b) f.stack.slots g.stack.slots
+
+found_at : (a b : State) (packet null : ℕ → ℕ) (j : ℕ) → Encloses packet null a b → IsFound a b (frame_of a j) (frame_of b j)
+found_at a b packet null j c =
+    let named = Encloses-names packet null a b c in
+    record { returns = returns_at (frames_of a) (frames_of b) j c.returns; registers = named.registers j; slots = named.slots j }
+
+pub innermost_found : (a b : State) (packet null : ℕ → ℕ) → Encloses packet null a b → IsFound a b a.innermost b.innermost
+innermost_found a b packet null c =
+    let same = callers-same a b packet null c in
+    subst (λ f. IsFound a b f b.innermost) (frame_of-innermost a)
+    (subst (λ g. IsFound a b (frame_of a (length a.callers.items)) g) (ap (frame_of b) same ∙ frame_of-innermost b)
+    (found_at a b packet null (length a.callers.items) c))
+
+-- a caller's frame
+pub caller_found : (a b : State) (fs gs : List AbstractFrame) (packet null : ℕ → ℕ) (n : ℕ) (f g : AbstractFrame) → fs ≡ a.callers.items
+    → gs ≡ b.callers.items → Encloses packet null a b → n < length fs → n < length gs → f ≡ get_or fs n f → g ≡ get_or gs n g
+    → IsFound a b f g
+caller_found a b fs gs packet null n f g is_a is_b c in_a in_b at_f at_g =
+    let of_a : n < length a.callers.items = rw is_a at in_a in
+    let of_b : n < length b.callers.items = rw is_b at in_b in
+    let left : f ≡ frame_of a n =
+    at_f ∙ get_or_default fs n f no_frame in_a ∙ ap (λ fs. get_or fs n no_frame) is_a ∙ sym (frame_of-caller a n (omega arith)) in
+    let right : g ≡ frame_of b n =
+    at_g ∙ get_or_default gs n g no_frame in_b ∙ ap (λ gs. get_or gs n no_frame) is_b ∙ sym (frame_of-caller b n (omega arith)) in
+    subst (λ f. IsFound a b f g) (sym left) (subst (λ g. IsFound a b (frame_of a n) g) (sym right) (found_at a b packet null n c))

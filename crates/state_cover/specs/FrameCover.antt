@@ -1,43 +1,65 @@
--- When a frame covers another, under maps of identities; and when a test by registers has to find that a state does.
-use Rattle.std.specs.Prelude.{◌≡◌, ℕ, List, map}
+-- When a frame covers another, under maps of identities; and when a test by registers and slots has to find that a state
+-- does.
+use Rattle.std.specs.Prelude.{◌≡◌, ℕ, ◌<◌, List, map}
+use Rattle.std.specs.Int.{bit_at}
 use Rattle.reg_state.specs.declared.kinds.Kind.{Kind}
-use Rattle.reg_state.specs.declared.kinds.Kind.TheVariants.{Number}
 use Rattle.reg_state.specs.KindCover.{KindCovers, KindEncloses}
-use Rattle.stack_state.specs.Meaning.{kind_at, kinds_of}
+use Rattle.stack_state.specs.declared.slots.Slot.{Slot}
+use Rattle.stack_state.specs.declared.slots.Slot.TheVariants.{Written, Spilled}
+use Rattle.stack_state.specs.Slots.{slot_at, marks_of}
+use Rattle.stack_state.specs.Meaning.{frames_of, kind_at, kinds_of, slots_of}
 use Rattle.stack_state.specs.declared.states.AbstractFrame.{AbstractFrame}
 use Rattle.stack_state.specs.declared.states.State.{State}
+
+-- ---- slots
+
+-- each of the marks is one of the others
+abbrev pub AreAmong : ℕ → ℕ → Type 0
+AreAmong marks others = (i : ℕ) → i < 8 → bit_at marks i ≡ 1 → bit_at others i ≡ 1
+
+-- the bytes that are known to be written in a are in b, where a spilled number is eight written bytes; a spilled value
+-- covers a spilled one
+abbrev pub SlotCovers : (ℕ → ℕ) → (ℕ → ℕ) → Slot → Slot → Type 0
+SlotCovers packet null (Written marks) b = AreAmong marks (marks_of b)
+SlotCovers packet null (Spilled k) (Spilled l) = KindCovers packet null k l
+SlotCovers packet null (Spilled k) (Written marks) = ⊥
+
+-- a covers b, and of numbers what is written of them shows it: their bits and their limits
+abbrev pub SlotEncloses : (ℕ → ℕ) → (ℕ → ℕ) → Slot → Slot → Type 0
+SlotEncloses packet null (Written marks) b = AreAmong marks (marks_of b)
+SlotEncloses packet null (Spilled k) (Spilled l) = KindEncloses packet null k l
+SlotEncloses packet null (Spilled k) (Written marks) = ⊥
+
+-- ---- frames
 
 -- of each register
 abbrev pub KindsCover : (ℕ → ℕ) → (ℕ → ℕ) → List Kind → List Kind → Type 0
 KindsCover packet null xs ys = (k : ℕ) → KindCovers packet null (kind_at xs k) (kind_at ys k)
 
+-- of each slot
+abbrev pub SlotsCover : (ℕ → ℕ) → (ℕ → ℕ) → List Slot → List Slot → Type 0
+SlotsCover packet null xs ys = (k : ℕ) → k < 64 → SlotCovers packet null (slot_at xs k) (slot_at ys k)
+
 pub record FrameCovers (packet null : ℕ → ℕ) (f g : AbstractFrame) : Type 0 where
   pub returns : f.return_slot ≡ g.return_slot
   pub registers : KindsCover packet null f.registers g.registers
-
--- a covers b, and their numbers are the same
-abbrev pub KindCoversPlainly : (ℕ → ℕ) → (ℕ → ℕ) → Kind → Kind → Type 0
-KindCoversPlainly packet null (Number numbers) b = Number numbers ≡ b
-KindCoversPlainly packet null a b = KindCovers packet null a b
-
--- of each register
-abbrev pub KindsCoverPlainly : (ℕ → ℕ) → (ℕ → ℕ) → List Kind → List Kind → Type 0
-KindsCoverPlainly packet null xs ys = (k : ℕ) → KindCoversPlainly packet null (kind_at xs k) (kind_at ys k)
-
--- the two differ in names of identities, and in kinds that cover what stands opposite, but not in numbers
-pub record CoversPlainly (packet null : ℕ → ℕ) (a b : State) : Type 0 where
-  pub none : packet 0 ≡ 0
-  pub slot : a.slot ≡ b.slot
-  pub returns : map (λ f. f.return_slot) a.frames.items ≡ map (λ f. f.return_slot) b.frames.items
-  pub registers : (j : ℕ) → KindsCoverPlainly packet null (kinds_of a j) (kinds_of b j)
+  pub slots : SlotsCover packet null f.stack.slots g.stack.slots
 
 -- of each register
 abbrev pub KindsEnclose : (ℕ → ℕ) → (ℕ → ℕ) → List Kind → List Kind → Type 0
 KindsEnclose packet null xs ys = (k : ℕ) → KindEncloses packet null (kind_at xs k) (kind_at ys k)
 
--- the two differ in names of identities, and in kinds that cover what stands opposite, numbers by their bits and limits
+-- of each slot
+abbrev pub SlotsEnclose : (ℕ → ℕ) → (ℕ → ℕ) → List Slot → List Slot → Type 0
+SlotsEnclose packet null xs ys = (k : ℕ) → SlotEncloses packet null (slot_at xs k) (slot_at ys k)
+
+-- ---- states
+
+-- the two differ in names of identities, and in registers and slots that cover what stands opposite, numbers by their bits
+-- and limits
 pub record Encloses (packet null : ℕ → ℕ) (a b : State) : Type 0 where
   pub none : packet 0 ≡ 0
   pub slot : a.slot ≡ b.slot
-  pub returns : map (λ f. f.return_slot) a.frames.items ≡ map (λ f. f.return_slot) b.frames.items
+  pub returns : map (λ f. f.return_slot) (frames_of a) ≡ map (λ f. f.return_slot) (frames_of b)
   pub registers : (j : ℕ) → KindsEnclose packet null (kinds_of a j) (kinds_of b j)
+  pub slots : (j : ℕ) → SlotsEnclose packet null (slots_of a j) (slots_of b j)

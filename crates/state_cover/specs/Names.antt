@@ -1,9 +1,13 @@
 -- What one state calls the identities of another: what stands in it at the first place where the other names them.
-use Rattle.std.specs.Prelude.{ℕ, List, [], ◌∷◌, ◌++◌, Bool, false, Option, Some, None, nat_eq, unwrap_or, if◌then◌else◌}
+use Rattle.std.specs.Prelude.{ℕ, List, [], ◌∷◌, ◌++◌, map, Bool, false, Option, Some, None, nat_eq, unwrap_or, if◌then◌else◌}
 use Rattle.std.specs.List.{find, zip}
 use Rattle.reg_state.specs.declared.kinds.Kind.{Kind}
 use Rattle.reg_state.specs.KindCover.{packet_identity_of, null_identity_of}
+use Rattle.stack_state.specs.declared.slots.Slot.{Slot}
 use Rattle.stack_state.specs.declared.states.AbstractFrame.{AbstractFrame}
+use Rattle.stack_state.specs.declared.states.State.{State}
+use Rattle.stack_state.specs.Meaning.{frames_of}
+use Rattle.stack_state.specs.Slots.{kind_in}
 use Rattle.state_cover.specs.declared.names.Sort.{Sort}
 use Rattle.state_cover.specs.declared.names.Sort.TheVariants.{Packet, Null}
 
@@ -18,11 +22,19 @@ is_number (Some j) i = nat_eq j i
 abbrev pub is_named : Sort → ℕ → Kind → Bool
 is_named sort i k = is_number (identity_of sort k) i
 
--- the kinds of two lists of frames, place by place
+-- the kinds of spilled values, slot by slot
+abbrev pub spilled_kinds : List Slot → List Kind
+spilled_kinds slots = map kind_in slots
+
+-- the kinds of two frames, place by place: registers, then slots
+abbrev pub frame_places : AbstractFrame → AbstractFrame → List (Kind × Kind)
+frame_places f g = zip f.registers g.registers ++ zip (spilled_kinds f.stack.slots) (spilled_kinds g.stack.slots)
+
+-- the same of two lists of frames
 abbrev pub places : List AbstractFrame → List AbstractFrame → List (Kind × Kind)
 places [] gs = []
 places (f ∷ fs) [] = []
-places (f ∷ fs) (g ∷ gs) = zip f.registers g.registers ++ places fs gs
+places (f ∷ fs) (g ∷ gs) = frame_places f g ++ places fs gs
 
 -- the first place whose first kind names the identity
 abbrev pub first_named : Sort → ℕ → List (Kind × Kind) → Option (Kind × Kind)
@@ -33,12 +45,12 @@ abbrev pub name_at : Sort → ℕ → Option (Kind × Kind) → ℕ
 name_at sort i None = i
 name_at sort i (Some place) = unwrap_or (identity_of sort place.1) i
 
-unfoldable pub name_of : Sort → List AbstractFrame → List AbstractFrame → ℕ → ℕ
-name_of sort fs gs i = name_at sort i (first_named sort i (places fs gs))
+unfoldable pub name_of : Sort → State → State → ℕ → ℕ
+name_of sort a b i = name_at sort i (first_named sort i (places (frames_of a) (frames_of b)))
 
 -- packet identity 0 is none in every state
-abbrev pub packet_name : List AbstractFrame → List AbstractFrame → ℕ → ℕ
-packet_name fs gs i = if nat_eq i 0 then 0 else name_of Packet fs gs i
+abbrev pub packet_name : State → State → ℕ → ℕ
+packet_name a b i = if nat_eq i 0 then 0 else name_of Packet a b i
 
-abbrev pub null_name : List AbstractFrame → List AbstractFrame → ℕ → ℕ
-null_name fs gs i = name_of Null fs gs i
+abbrev pub null_name : State → State → ℕ → ℕ
+null_name a b i = name_of Null a b i

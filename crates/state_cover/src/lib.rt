@@ -1,76 +1,77 @@
 //! A test that one abstract state covers another.
 #![tactic(auto)]
 
-ghost use Rattle.std.specs.Prelude.{◌≡◌, ℕ, IsTrue, length};
+ghost use Rattle.std.specs.Prelude.{◌≡◌, ℕ, ◌↔◌, IsTrue, length};
 ghost use Rattle.isa_model.specs.Code.Instructions.{Program};
 ghost use Rattle.reg_state.specs.KindCover.{KindCovers, KindEncloses};
 ghost use Rattle.stack_state.specs.Meaning.{Covers};
+ghost use Rattle.stack_state.specs.Slots.{marks_of};
 ghost use Rattle.state_cover.specs.Names.{packet_name, null_name};
-ghost use Rattle.state_cover.specs.FrameCover.{FrameCovers, KindsCover, KindsEnclose, CoversPlainly, Encloses};
+ghost use Rattle.state_cover.specs.FrameCover.{FrameCovers, KindsCover, KindsEnclose, Encloses};
+ghost use Rattle.state_cover.specs.FrameCover.{AreAmong, SlotCovers, SlotEncloses, SlotsCover};
+ghost use Rattle.state_cover.specs.FrameCover.{SlotsEnclose};
 
 mod names;
 
 use names::name_in;
 use reg_state::Kind;
-use stack_state::{AbstractFrame, State};
+use stack_state::{AbstractFrame, Slot, State};
 
 /// A yes says that all that `b` means `a` means too.
 pub fn covers(a: &State, b: &State) -> bool
     ensures yes { IsTrue result → (p : Program) → Covers p a.now b.now }
     ensures slot { IsTrue result → a.now.slot ≡ b.now.slot }
 
-    // It finds what can be found by registers, whatever b calls the identities of a, and by bits and limits of
-    // numbers.
+    // It finds what can be found by registers and slots, whatever b calls the identities of a, and
+    // by bits and limits of numbers.
     ensures encloses { (packet null : ℕ → ℕ) → Encloses packet null a.now b.now → IsTrue result }
-    ensures plain { (packet null : ℕ → ℕ) → CoversPlainly packet null a.now b.now → IsTrue result }
     ensures equal { a.now ≡ b.now → IsTrue result }
 {
     if a.slot != b.slot {
         return false;
     }
-    let left = a.frames.as_slice();
-    let right = b.frames.as_slice();
+    let left = a.callers.as_slice();
+    let right = b.callers.as_slice();
     if left.len() != right.len() {
         return false;
     }
     for index in 0..left.len() {
-        if !frame_covers(&left[index], &right[index], left, right) {
+        if !frame_covers(&left[index], &right[index], a, b) {
             return false;
         }
     }
-    true
+    frame_covers(&a.innermost, &b.innermost, a, b)
 }
 
-// Does a frame of a cover one of b, by the names that the frames of b have for the identities of a?
-fn frame_covers(
-    left: &AbstractFrame,
-    right: &AbstractFrame,
-    a: &[AbstractFrame],
-    b: &[AbstractFrame],
-) -> bool
-    requires { length a.now ≡ length b.now }
+// Does a frame of a cover one of b, by the names that b has for the identities of a?
+fn frame_covers(left: &AbstractFrame, right: &AbstractFrame, a: &State, b: &State) -> bool
+    requires { length a.now.callers.items ≡ length b.now.callers.items }
     ensures yes { IsTrue result
         → FrameCovers (packet_name a.now b.now) (null_name a.now b.now) left.now right.now }
     ensures no { left.now.return_slot ≡ right.now.return_slot
-        → KindsEnclose (packet_name a.now b.now) (null_name a.now b.now) left.now.registers right.now.registers
+        → KindsEnclose (packet_name a.now b.now)
+        (null_name a.now b.now) left.now.registers right.now.registers
+        → SlotsEnclose (packet_name a.now b.now)
+        (null_name a.now b.now) left.now.stack.slots right.now.stack.slots
         → IsTrue result }
 {
     if left.return_slot != right.return_slot {
         return false;
     }
-    registers_cover(&left.registers, &right.registers, a, b)
+    if !registers_cover(&left.registers, &right.registers, a, b) {
+        return false;
+    }
+    slots_cover(&left.stack.slots, &right.stack.slots, a, b)
 }
 
-// All ten are compared in an outer frame too: r0 to r5 are Unset there, which covers what stands there in b.
-fn registers_cover(
-    left: &[Kind; 10],
-    right: &[Kind; 10],
-    a: &[AbstractFrame],
-    b: &[AbstractFrame],
-) -> bool
-    requires { length a.now ≡ length b.now }
-    ensures yes { IsTrue result → KindsCover (packet_name a.now b.now) (null_name a.now b.now) left.now right.now }
-    ensures no { KindsEnclose (packet_name a.now b.now) (null_name a.now b.now) left.now right.now → IsTrue result }
+// All ten are compared in a caller's frame too: r0 to r5 are Unset there, which covers what stands
+// there in b.
+fn registers_cover(left: &[Kind; 10], right: &[Kind; 10], a: &State, b: &State) -> bool
+    requires { length a.now.callers.items ≡ length b.now.callers.items }
+    ensures yes { IsTrue result
+        → KindsCover (packet_name a.now b.now) (null_name a.now b.now) left.now right.now }
+    ensures no { KindsEnclose (packet_name a.now b.now) (null_name a.now b.now) left.now right.now
+        → IsTrue result }
 {
     for index in 0..10 {
         if !kind_covers(left[index], right[index], a, b) {
@@ -80,10 +81,51 @@ fn registers_cover(
     true
 }
 
-fn kind_covers(left: Kind, right: Kind, a: &[AbstractFrame], b: &[AbstractFrame]) -> bool
-    requires { length a.now ≡ length b.now }
-    ensures yes { IsTrue result → KindCovers (packet_name a.now b.now) (null_name a.now b.now) left right }
-    ensures no { KindEncloses (packet_name a.now b.now) (null_name a.now b.now) left right → IsTrue result }
+fn slots_cover(left: &[Slot; 64], right: &[Slot; 64], a: &State, b: &State) -> bool
+    requires { length a.now.callers.items ≡ length b.now.callers.items }
+    ensures yes { IsTrue result
+        → SlotsCover (packet_name a.now b.now) (null_name a.now b.now) left.now right.now }
+    ensures no { SlotsEnclose (packet_name a.now b.now) (null_name a.now b.now) left.now right.now
+        → IsTrue result }
+{
+    for index in 0..64 {
+        if !slot_covers(&left[index], &right[index], a, b) {
+            return false;
+        }
+    }
+    true
+}
+
+fn slot_covers(left: &Slot, right: &Slot, a: &State, b: &State) -> bool
+    requires { length a.now.callers.items ≡ length b.now.callers.items }
+    ensures yes { IsTrue result
+        → SlotCovers (packet_name a.now b.now) (null_name a.now b.now) left.now right.now }
+    ensures no { SlotEncloses (packet_name a.now b.now) (null_name a.now b.now) left.now right.now
+        → IsTrue result }
+{
+    match left {
+        Slot::Written(marks) => are_written(*marks, right),
+        Slot::Spilled(kind) => match right {
+            Slot::Spilled(other) => kind_covers(*kind, *other, a, b),
+            Slot::Written(_) => false,
+        },
+    }
+}
+
+// Are the bytes that the marks name written in the slot?
+fn are_written(marks: u8, slot: &Slot) -> bool
+    ensures { IsTrue result ↔ AreAmong marks (marks_of slot.now) }
+{
+    let others = slot.marks();
+    others & marks == marks
+}
+
+fn kind_covers(left: Kind, right: Kind, a: &State, b: &State) -> bool
+    requires { length a.now.callers.items ≡ length b.now.callers.items }
+    ensures yes { IsTrue result
+        → KindCovers (packet_name a.now b.now) (null_name a.now b.now) left right }
+    ensures no { KindEncloses (packet_name a.now b.now) (null_name a.now b.now) left right
+        → IsTrue result }
 {
     left.covers(right, name_in(left, a, b))
 }

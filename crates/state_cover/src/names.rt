@@ -3,10 +3,13 @@
 ghost use Rattle.std.specs.Prelude.{◌≡◌, length};
 ghost use Rattle.std.specs.List.{zip};
 ghost use Rattle.reg_state.specs.KindCover.{IsCalled};
-ghost use Rattle.state_cover.specs.Names.{identity_of, is_named, places, first_named, name_of, packet_name, null_name};
+ghost use Rattle.stack_state.specs.Meaning.{frames_of};
+ghost use Rattle.state_cover.specs.Names.{identity_of, is_named, spilled_kinds, frame_places};
+ghost use Rattle.state_cover.specs.Names.{places};
+ghost use Rattle.state_cover.specs.Names.{first_named, name_of, packet_name, null_name};
 
 use reg_state::Kind;
-use stack_state::AbstractFrame;
+use stack_state::{AbstractFrame, Slot, State};
 
 /// The two sorts of identities, which are numbered apart.
 #[derive(Clone, Copy)]
@@ -53,19 +56,41 @@ impl Sort {
         None
     }
 
+    // The same of what is spilled.
+    fn find_in_slots(
+        self,
+        identity: u32,
+        left: &[Slot; 64],
+        right: &[Slot; 64],
+    ) -> Option<(Kind, Kind)>
+        ensures { result
+            ≡ first_named self identity (zip (spilled_kinds left.now) (spilled_kinds right.now)) }
+    {
+        for index in 0..64 {
+            let kind = left[index].kind();
+            let opposite = right[index].kind();
+            if self.is_named(identity, kind) {
+                return Some((kind, opposite));
+            }
+        }
+        None
+    }
+
     fn find_in_frame(
         self,
         identity: u32,
         left: &AbstractFrame,
         right: &AbstractFrame,
     ) -> Option<(Kind, Kind)>
-        ensures { result ≡ first_named self identity (zip left.now.registers right.now.registers) }
+        ensures { result ≡ first_named self identity (frame_places left.now right.now) }
     {
-        self.find_in_registers(identity, &left.registers, &right.registers)
+        if let Some(place) = self.find_in_registers(identity, &left.registers, &right.registers) {
+            return Some(place);
+        }
+        self.find_in_slots(identity, &left.stack.slots, &right.stack.slots)
     }
 
-    // The same, over all frames.
-    fn find(
+    fn find_in_frames(
         self,
         identity: u32,
         left: &[AbstractFrame],
@@ -82,32 +107,45 @@ impl Sort {
         None
     }
 
+    // The same, over all frames.
+    fn find(self, identity: u32, a: &State, b: &State) -> Option<(Kind, Kind)>
+        requires { length a.now.callers.items ≡ length b.now.callers.items }
+        ensures { result ≡ first_named self identity (places (frames_of a.now) (frames_of b.now)) }
+    {
+        let left = a.callers.as_slice();
+        let right = b.callers.as_slice();
+        if let Some(place) = self.find_in_frames(identity, left, right) {
+            return Some(place);
+        }
+        self.find_in_frame(identity, &a.innermost, &b.innermost)
+    }
+
     // The name that stands opposite; the identity itself, where there is none.
     #[tactic(auto, unfolding(crate::specs::Names::name_of))]
-    fn name_of(self, identity: u32, left: &[AbstractFrame], right: &[AbstractFrame]) -> u32
-        requires { length left.now ≡ length right.now }
-        ensures { result ≡ name_of self left.now right.now identity }
+    fn name_of(self, identity: u32, a: &State, b: &State) -> u32
+        requires { length a.now.callers.items ≡ length b.now.callers.items }
+        ensures { result ≡ name_of self a.now b.now identity }
     {
-        match self.find(identity, left, right) {
+        match self.find(identity, a, b) {
             Some((_, opposite)) => self.identity_of(opposite).unwrap_or(identity),
             None => identity,
         }
     }
 }
 
-/// What the right frames call the identity that a kind of the left ones names; any number, if it names none.
-pub(crate) fn name_in(kind: Kind, left: &[AbstractFrame], right: &[AbstractFrame]) -> u32
-    requires { length left.now ≡ length right.now }
-    ensures { IsCalled (packet_name left.now right.now) (null_name left.now right.now) kind result }
+/// What b calls the identity that a kind of a names; any number, if it names none.
+pub(crate) fn name_in(kind: Kind, a: &State, b: &State) -> u32
+    requires { length a.now.callers.items ≡ length b.now.callers.items }
+    ensures { IsCalled (packet_name a.now b.now) (null_name a.now b.now) kind result }
 {
     match kind {
         Kind::Packet { identity, .. } => {
             if identity == 0 {
                 return 0;
             }
-            Sort::Packet.name_of(identity, left, right)
+            Sort::Packet.name_of(identity, a, b)
         }
-        Kind::MapValueOrNull { identity, .. } => Sort::Null.name_of(identity, left, right),
+        Kind::MapValueOrNull { identity, .. } => Sort::Null.name_of(identity, a, b),
         _ => 0,
     }
 }

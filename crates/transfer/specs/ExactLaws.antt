@@ -40,7 +40,7 @@ use Rattle.reg_state.specs.Arithmetic.{IsNegated, IsReordered, IsSignExtended}
 use Rattle.stack_state.specs.declared.states.State.{State}
 use Rattle.stack_state.specs.Meaning.{depth, MeansBy, Means}
 use Rattle.stack_state.specs.Places.{kind_of, with_register, go_to}
-use Rattle.stack_state.specs.MeaningLaws.{reg_allowed, depth_is_length, depth_positive, MeansBy-go_to, MeansBy-set, depth-with}
+use Rattle.stack_state.specs.MeaningLaws.{reg_allowed, depth_is_length, MeansBy-go_to, MeansBy-set}
 use Rattle.branch_refine.specs.Refining.{IsNumber, IsJust, IsNumberOperand, AreCompared, Keeps, Narrows}
 use Rattle.transfer.specs.declared.refusals.Refusal.{Refusal}
 use Rattle.transfer.specs.declared.refusals.Refusal.TheVariants.{UnsetRegister, ReadOnlyRegister}
@@ -83,7 +83,7 @@ none_unset p e a s m [] h = refl
 none_unset p e a s m (r ∷ rs) h =
     let (first, rest) = neither (is_unset_in a r) (list_any (is_unset_in a) rs) h in
     let here : unset_in s r ≡ false =
-    set_is_set e (kind_of a r) (reg s r) first (reg_allowed p e a s m (depth_positive p e a s m) r) in
+    set_is_set e (kind_of a r) (reg s r) first (reg_allowed p e a s m r) in
     rw here (none_unset p e a s m rs rest)
 
 tests_pass : (x y : Bool) (u v : Refusal) → (if x then Some u else if y then Some v else None) ≡ None → (x ≡ false) × (y ≡ false)
@@ -102,7 +102,7 @@ operand_allowed : (p : Program) (e : Assigned) (a : State) (s : Machine.State) (
 operand_allowed p e a s w (Constant k) (kind.Number c) m h = (unsigned w k, refl, h.0)
 operand_allowed p e a s w (Constant k) b m h = absurd h
 operand_allowed p e a s w (Register r) b m h =
-    subst (λ x. Allows e x (reg s r)) (sym h) (reg_allowed p e a s m (depth_positive p e a s m) r)
+    subst (λ x. Allows e x (reg s r)) (sym h) (reg_allowed p e a s m r)
 
 operand_fits : (p : Program) (s : Machine.State) (w : Width) (source : Operand) → OperandFits source → IsState p s
     → IsValue (length p.maps) s.next_serial (operand_value s w source)
@@ -134,28 +134,28 @@ puts_yields p clock e a s (Alu w op x source) d k fits m set written h =
       ap (λ y. sets s (Alu w op x source) y result) same,
       arithmetic_yields e (length p.maps) s.next_serial op w (kind_of a x) b k (reg s x) (operand_value s w source) gives
           (operand_fits p s w source fits m.is_state) (alu_operand_set s w op x source set)
-          (reg_allowed p e a s m (depth_positive p e a s m) x) (operand_allowed p e a s w source b m operand),
+          (reg_allowed p e a s m x) (operand_allowed p e a s w source b m operand),
     )
 puts_yields p clock e a s (Neg w x) d k fits m set written h =
     let same : x ≡ d = cc in (
       on_number (negated w) (reg s x),
       ap (λ y. sets s (Neg w x) y (on_number (negated w) (reg s x))) same,
       on_number_yields e (negated w) (IsNegated w) (kind_of a x) k (reg s x) (λ b c is. is.contains) h
-          (reg_allowed p e a s m (depth_positive p e a s m) x),
+          (reg_allowed p e a s m x),
     )
 puts_yields p clock e a s (MovSx by x r) d k fits m set written h =
     let same : x ≡ d = cc in (
       on_number (sign_extended by) (reg s r),
       ap (λ y. sets s (MovSx by x r) y (on_number (sign_extended by) (reg s r))) same,
       on_number_yields e (sign_extended by) (IsSignExtended by) (kind_of a r) k (reg s r) (λ b c is. is.contains) h
-          (reg_allowed p e a s m (depth_positive p e a s m) r),
+          (reg_allowed p e a s m r),
     )
 puts_yields p clock e a s (ByteSwap order span x) d k fits m set written h =
     let same : x ≡ d = cc in (
       on_number (reordered order span) (reg s x),
       ap (λ y. sets s (ByteSwap order span x) y (on_number (reordered order span) (reg s x))) same,
       on_number_yields e (reordered order span) (IsReordered order span) (kind_of a x) k (reg s x) (λ b c is. is.contains) h
-          (reg_allowed p e a s m (depth_positive p e a s m) x),
+          (reg_allowed p e a s m x),
     )
 puts_yields p clock e a s (LoadNumber x n) d k fits m set written h =
     let same : x ≡ d = cc in
@@ -170,7 +170,7 @@ puts_yields p clock e a s (Load size x place) d k fits m set written h =
       result,
       ap (λ y. sets s (Load size x place) y result) same,
       load_yields e s size (kind_of a place.base) k place.offset (base_of s place) h m.is_state.interface m.is_state.queue
-          (reg_allowed p e a s m (depth_positive p e a s m) place.base),
+          (reg_allowed p e a s m place.base),
     )
 puts_yields p clock e a s i d k fits m set written h = absurd h
 
@@ -226,12 +226,11 @@ number_there e k v h allowed = absurd h
 tested_there : (p : Program) (e : Assigned) (a : State) (s : Machine.State) (cond : Cond) (source : Operand) → MeansBy p e a s
     → IsNumber (kind_of a cond.register) → IsNumberOperand a source → (t : Bool) × (tested s cond source ≡ Ok t)
 tested_there p e a s cond (Constant k) m left right =
-    let (x, is) = number_there e (kind_of a cond.register) (reg s cond.register) left (reg_allowed p e a s m (depth_positive p e a s m) cond.register) in
+    let (x, is) = number_there e (kind_of a cond.register) (reg s cond.register) left (reg_allowed p e a s m cond.register) in
     (holds cond.comparison cond.width x (unsigned cond.width k), ap (λ v. compared_constant cond.comparison cond.width v k) is)
 tested_there p e a s cond (Register r) m left right =
-    let called = depth_positive p e a s m in
-    let (x, is) = number_there e (kind_of a cond.register) (reg s cond.register) left (reg_allowed p e a s m called cond.register) in
-    let (y, is_other) = number_there e (kind_of a r) (reg s r) right (reg_allowed p e a s m called r) in (
+    let (x, is) = number_there e (kind_of a cond.register) (reg s cond.register) left (reg_allowed p e a s m cond.register) in
+    let (y, is_other) = number_there e (kind_of a r) (reg s r) right (reg_allowed p e a s m r) in (
       holds cond.comparison cond.width x y,
       ap (λ v. compared (length s.packet) cond.comparison cond.width v (reg s r)) is
           ∙ ap (compared (length s.packet) cond.comparison cond.width (value.Num x)) is_other,
@@ -275,7 +274,7 @@ finishes_after P v n is = subst (λ v. After P (finishes v)) (sym is) tt
 exits_in : (p : Program) (e : Assigned) (a : State) (s : Machine.State) (w : Ways) (b c : State) → MeansBy p e a s
     → depth a ≡ 1 → IsNumber (kind_of a R0) → After (InSome p w b c) (exits s)
 exits_in p e a s w b c m one number =
-    let (x, is) = number_there e (kind_of a R0) (reg s R0) number (reg_allowed p e a s m (depth_positive p e a s m) R0) in
+    let (x, is) = number_there e (kind_of a R0) (reg s R0) number (reg_allowed p e a s m R0) in
     let same : length s.frames ≡ 1 = depth_is_length p e a s m ∙ one in
     let first : (length s.frames == 1) ≡ true = grind (arith, nat_tests) in
     rw first (finishes_after (InSome p w b c) (reg s R0) x is)
@@ -339,17 +338,3 @@ Makes-follows p a (JumpIf cond by) w b c here h =
 Makes-follows p a Exit w b c here h = subst (λ v. EachWay v b c (λ next. Follows p a.slot next.slot)) (sym h.0) tt
 Makes-follows p a (CallLocal by) w b c here h = let none : None ≡ Some h.1.register = h.1.written in absurd (cc)
 Makes-follows p a i w b c here h = sets_follows p a i w b c here refl h.0 h.1
-
-pub Makes-called : (p : Program) (a : State) (i : Insn) (w : Ways) (b c : State) → 0 < depth a → Makes p a i w b c
-    → EachWay w b c (λ next. 0 < depth next)
-Makes-called p a (Jump by) w b c called h = each_one w b c (λ next. 0 < depth next) h.0 (subst (λ next. 0 < depth next) (sym h.1) called)
-Makes-called p a (JumpLong by) w b c called h = each_one w b c (λ next. 0 < depth next) h.0 (subst (λ next. 0 < depth next) (sym h.1) called)
-Makes-called p a (JumpIf cond by) w b c called h =
-    let stay = h.narrows_stay.depths in
-    let go = h.narrows_go.depths in
-    each_side h.stays h.goes (go_to h.stay (a.slot + 1)) (go_to h.go (destination p a.slot by)) w b c (λ next. 0 < depth next) h.sides
-    (omega arith) (omega arith)
-Makes-called p a Exit w b c called h = subst (λ v. EachWay v b c (λ next. 0 < depth next)) (sym h.0) tt
-Makes-called p a i w b c called h =
-    each_one w b c (λ next. 0 < depth next) h.0
-    (subst (λ next. 0 < depth next) (sym h.1.next) (subst (λ n. 0 < n) (sym (depth-with a h.1.register h.1.kind)) called))

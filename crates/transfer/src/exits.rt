@@ -17,7 +17,7 @@ pub fn exit(state: &State) -> Result<(), Refusal>
     ensures accepts { depth state.now ≡ 1 → IsNumber (kind_of state.now Reg.R0) → IsOk result }
     ensures refused { IfErr result (λ e. e ≡ exit_refusal (depth state.now)) }
 {
-    if state.frames.len() != 1 {
+    if !state.callers.is_empty() {
         return Err(Refusal::NotBuilt);
     }
     match state.kind_of(Reg::R0) {

@@ -3,7 +3,6 @@
 ghost use Rattle.std.specs.Prelude.{◌≡◌, ◌+◌, ◌<◌, ◌^◌, ◌↔◌, IfOk, IfErr, IsOk, IsTrue, length, unwrap_or};
 ghost use Rattle.isa_model.specs.Code.Instructions.{Program};
 ghost use Rattle.isa_model.specs.Machine.Steps.{target};
-ghost use Rattle.stack_state.specs.Meaning.{depth};
 ghost use Rattle.stack_state.specs.Places.{kind_of, go_to};
 ghost use Rattle.branch_refine.specs.Refining.{IsNumber, IsNumberOperand, AreCompared};
 ghost use Rattle.transfer.specs.Exact.{Sides, Branches};
@@ -56,8 +55,7 @@ pub fn jump_if(
     state: &mut State,
     other: &mut State,
 ) -> Result<Ways, Refusal>
-    requires slot { state.old.slot < 2 ^ 63 }
-    requires called { 0 < depth state.old }
+    requires { state.old.slot < 2 ^ 63 }
     ensures branches { IfOk result (λ ways. (p : Program) → length p.insns ≡ slots
         → Branches p state.old cond by ways state.new other.new) }
     ensures accepts { AreCompared state.old cond → IsOk result }

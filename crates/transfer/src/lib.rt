@@ -5,7 +5,6 @@ ghost use Rattle.std.specs.Prelude.{◌≡◌, ◌<◌, Some, IfOk, IfErr, IsOk,
 ghost use Rattle.isa_model.specs.declared.instructions.Insn.{Insn};
 ghost use Rattle.isa_model.specs.Code.Instructions.{fetch};
 ghost use Rattle.isa_model.specs.Machine.Successors.{Follows};
-ghost use Rattle.stack_state.specs.Meaning.{depth};
 ghost use Rattle.transfer.specs.Leading.{Given, LeadsTo, EachWay};
 ghost use Rattle.transfer.specs.Refusing.{register_refusal, Decides, Refuses};
 ghost use Rattle.transfer.specs.Exact.{Makes, IsAccepted};
@@ -46,8 +45,7 @@ pub enum Successors {
 /// What the instruction at the state's slot leads to: on each member it does not trap, and exits or goes into a
 /// successor.
 pub fn step(image: &Image, state: &State) -> Result<Successors, Refusal>
-    requires begins { IsSome (fetch image.now state.now.slot) }
-    requires called { 0 < depth state.now }
+    requires { IsSome (fetch image.now state.now.slot) }
     ensures leads { IfOk result (λ next. Given next (λ ways a b. LeadsTo image.now state.now ways a b)) }
     ensures makes { (i : Insn) → fetch image.now state.now.slot ≡ Some i
         → IfOk result (λ next. Given next (λ ways a b. Makes image.now state.now i ways a b)) }
@@ -69,11 +67,9 @@ pub fn step(image: &Image, state: &State) -> Result<Successors, Refusal>
 
 /// The same in place. After a refusal the two states may hold anything.
 pub fn step_in_place(image: &Image, state: &mut State, other: &mut State) -> Result<Ways, Refusal>
-    requires begins { IsSome (fetch image.now state.old.slot) }
-    requires called { 0 < depth state.old }
+    requires { IsSome (fetch image.now state.old.slot) }
     ensures leads { IfOk result (λ ways. LeadsTo image.now state.old ways state.new other.new) }
     ensures follows { IfOk result (λ ways. EachWay ways state.new other.new (λ next. Follows image.now state.old.slot next.slot)) }
-    ensures depths { IfOk result (λ ways. EachWay ways state.new other.new (λ next. 0 < depth next)) }
 
     // The successors, exactly; numbers are never refused, and the tests of the registers come first.
     ensures makes { (i : Insn) → fetch image.now state.old.slot ≡ Some i

@@ -5,7 +5,6 @@ ghost use Rattle.std.specs.List.{list_any};
 ghost use Rattle.std.specs.Option.{option_to_list};
 ghost use Rattle.isa_model.specs.Code.Instructions.{Program, slots_of};
 ghost use Rattle.isa_model.specs.Code.Instructions.{writes, is_frame_pointer};
-ghost use Rattle.stack_state.specs.Meaning.{depth};
 ghost use Rattle.stack_state.specs.Places.{kind_of};
 ghost use Rattle.transfer.specs.Refusing.{is_unset_in, reads_unset, SetRefused, Refused};
 ghost use Rattle.transfer.specs.Exact.{IsOperand, Puts, Sets, Makes, IsComputed, IsAccepted};
@@ -87,7 +86,6 @@ fn result_kind(state: &State, insn: &Insn) -> Result<Kind, Refusal>
 /// Sets the register that a form writes, and goes on to the next instruction.
 fn set(state: &mut State, insn: &Insn) -> Result<(), Refusal>
     requires writable { is_frame_pointer (writes insn.now) ≡ false }
-    requires called { 0 < depth state.old }
     requires slot { state.old.slot + slots_of insn.now < 2 ^ 63 }
     ensures sets { IfOk result (λ _. Sets state.old insn.now state.new) }
     ensures accepts { IsComputed state.old insn.now → IsOk result }
@@ -112,7 +110,6 @@ pub fn perform(
     other: &mut State,
 ) -> Result<Ways, Refusal>
     requires writable { is_frame_pointer (writes insn.now) ≡ false }
-    requires called { 0 < depth state.old }
     requires slot { state.old.slot + slots_of insn.now < 2 ^ 63 }
     ensures makes { IfOk result (λ ways. (p : Program) → length p.insns ≡ slots
         → Makes p state.old insn.now ways state.new other.new) }

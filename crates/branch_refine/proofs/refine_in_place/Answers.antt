@@ -26,7 +26,7 @@ pub returns-clause-narrowed : goal.returns-clause-narrowed
 returns-clause-narrowed c =
     rw (c.set_operand.ensures, c.set_register.ensures)
     (Narrows-compared c.args.state.now c.args.cond c.in-Some.left c.in-Some-operand_numbers.right
-    c.in-Some-refine.new_left c.in-Some-refine.new_right c.requires
+    c.in-Some-refine.new_left c.in-Some-refine.new_right
     c.in-Some.ensures c.in-Some-operand_numbers.ensures
     c.in-Some-refine.ensures.left c.in-Some-refine.ensures.right
     c.in-Some-refine.ensures.left_constant c.in-Some-refine.ensures.right_constant)
@@ -34,7 +34,7 @@ returns-clause-narrowed c =
 pub returns-clause-others : goal.returns-clause-others
 returns-clause-others c =
     rw (c.set_operand.ensures, c.set_register.ensures)
-    (others_compared c.args.state.now c.args.cond c.in-Some-refine.new_left c.in-Some-refine.new_right c.requires)
+    (others_compared c.args.state.now c.args.cond c.in-Some-refine.new_left c.in-Some-refine.new_right)
 
 pub returns-in_default-refine-clause-constants_go : goal.returns-in_default-refine-clause-constants_go
 returns-in_default-refine-clause-constants_go c = λ x y left right goes.

@@ -1,8 +1,5 @@
 //! How precise the answers about conditional jumps are.
 
-ghost use Rattle.std.specs.Prelude.{◌<◌};
-ghost use Rattle.stack_state.specs.Meaning.{depth};
-
 use branch_refine::{Branch, refine};
 use isa_model::{Comparison, Cond, Operand, Reg, Width};
 use reg_state::{Domain, Kind, Scalar};
@@ -123,7 +120,6 @@ fn limits_of(kind: Kind) -> Option<Limits> {
 }
 
 /// What is left of a start with these numbers in r2 and r3.
-#[tactic(auto, using(stack_state::specs::Starts::depth_start))]
 fn left_of(cond: Cond, taken: bool, before: &[Limits; 2]) -> Branch {
     let mut state = State::start();
     state.set_register(Reg::R2, numbers(before[0]));
@@ -154,7 +150,6 @@ fn registers_narrow(rt: HostRuntime) -> Result<(), Fail> {
 }
 
 #[test]
-#[tactic(auto, using(stack_state::specs::Starts::depth_start))]
 fn pointers_stay(rt: HostRuntime) -> Result<(), Fail> {
     let state = State::start();
     let context_is_0 = Cond {

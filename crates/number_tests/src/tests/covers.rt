@@ -5,7 +5,7 @@ use isa_model::Width;
 use known_bits::Bits;
 use ranges::Range;
 use reg_state::{Kind, Scalar};
-use stack_state::{AbstractFrame, State};
+use stack_state::{AbstractFrame, StackState, State};
 use state_cover::covers;
 use std::test::Fail;
 
@@ -31,26 +31,30 @@ fn registers(second: Kind, third: Kind) -> [Kind; 10] {
     registers
 }
 
-fn state(slot: usize, registers: [Kind; 10]) -> State {
-    let mut frames = ArrayVec::new();
-    frames.push(AbstractFrame {
-        return_slot: 0,
+fn frame(return_slot: usize, registers: [Kind; 10]) -> AbstractFrame {
+    AbstractFrame {
+        return_slot,
         registers,
-    });
-    State { slot, frames }
+        stack: StackState::new(),
+    }
+}
+
+fn state(slot: usize, registers: [Kind; 10]) -> State {
+    State {
+        slot,
+        callers: ArrayVec::new(),
+        innermost: frame(0, registers),
+    }
 }
 
 fn in_call(return_slot: usize, outer: [Kind; 10], inner: [Kind; 10]) -> State {
-    let mut frames = ArrayVec::new();
-    frames.push(AbstractFrame {
-        return_slot: 0,
-        registers: outer,
-    });
-    frames.push(AbstractFrame {
-        return_slot,
-        registers: inner,
-    });
-    State { slot: 3, frames }
+    let mut callers = ArrayVec::new();
+    callers.push(frame(0, outer));
+    State {
+        slot: 3,
+        callers,
+        innermost: frame(return_slot, inner),
+    }
 }
 
 #[test]

@@ -5,7 +5,7 @@ use Rattle.stack_state.specs.declared.states.State.{State}
 use Rattle.image.specs.Programs.{IsProgram-IsImage}
 use Rattle.transfer.specs.Refusing.{reads_unset, register_refusal}
 use Rattle.transfer.specs.Exact.{Makes}
-use Rattle.transfer.specs.ExactLaws.{Makes-leads, Makes-follows, Makes-called}
+use Rattle.transfer.specs.ExactLaws.{Makes-leads, Makes-follows}
 use Rattle.transfer.proofs.step_in_place.Goals as goal
 
 pub returns-clause-leads : goal.returns-clause-leads
@@ -23,11 +23,6 @@ pub returns-clause-follows : goal.returns-clause-follows
 returns-clause-follows c =
     Makes-follows c.args.image.now c.args.state.now c.in-Some.insn.now c.in_ok-ways.ways c.perform.new.state c.perform.new.other
     (sym c.in-Some.ensures) (c.in_ok-ways.ensures.makes c.args.image.now (sym c.slots.ensures.count))
-
-pub returns-clause-depths : goal.returns-clause-depths
-returns-clause-depths c =
-    Makes-called c.args.image.now c.args.state.now c.in-Some.insn.now c.in_ok-ways.ways c.perform.new.state c.perform.new.other
-    c.requires.called (c.in_ok-ways.ensures.makes c.args.image.now (sym c.slots.ensures.count))
 
 pub returns-clause-makes : goal.returns-clause-makes
 returns-clause-makes c = λ i here.

@@ -10,9 +10,6 @@ use transfer::{Refusal, Successors, step};
 
 /// The step, where an instruction begins at the state's slot.
 fn stepped(image: &Image, state: &State) -> Option<Result<Successors, Refusal>> {
-    if state.frames.is_empty() {
-        return None;
-    }
     match image.at(state.slot) {
         None => None,
         Some(_) => Some(step(image, state)),

@@ -23,9 +23,9 @@ descend-requires-clause-entered c =
     let at = c.requires.at in
     let begins : Begins p m table (record { pending = c.match-ways.pending; best = 0; stored = c.args.stored }) s a = elim c.match-ways.branch [
       | in-One w ↦ one_way p q m table c.args.stored s a b c.in-Ok.ways c.match-ways.pending
-          c.requires.image c.requires.good at.ready at.stored_at c.in-Ok.ensures.leads c.in-Ok.ensures.makes c.in-Ok.ensures.follows c.in-Ok.ensures.depths w.in-One.is w.pending-is
+          c.requires.image c.requires.good at.ready at.stored_at c.in-Ok.ensures.leads c.in-Ok.ensures.makes c.in-Ok.ensures.follows w.in-One.is w.pending-is
       | in-Two+in-Ok-of w ↦ two_ways p q m table c.args.stored s a b c.in-Ok.ways c.match-ways.pending
-          c.requires.image c.requires.good at.ready at.stored_at c.in-Ok.ensures.leads c.in-Ok.ensures.makes c.in-Ok.ensures.follows c.in-Ok.ensures.depths w.in-Two.is (w.pending-is ∙ ap Some w.in-Ok-of.ensures)
+          c.requires.image c.requires.good at.ready at.stored_at c.in-Ok.ensures.leads c.in-Ok.ensures.makes c.in-Ok.ensures.follows w.in-Two.is (w.pending-is ∙ ap Some w.in-Ok-of.ensures)
     ] in
     record { state = s; at = record { fine = at.at.fine; path = at.at.path }; on_path = at.on_path; waiting = begins.waiting; spent = at.spent; spends = begins.spends; ready = begins.ready }
 
@@ -37,7 +37,7 @@ unwind-requires-clause-at c =
     let into = into_by p c.args.image.now s c.step_in_place.new.state c.step_in_place.new.other c.in-Ok.ways ways.None c.requires.image c.in-Ok.ensures.makes i here c.in-None.is in
     let back = step_ends c.args.flow.now c.args.image.now c.args.self.now.finished c.args.self.now.table.entries.items c.finish.new.self.entries.items start c.args.self.now.path.items c.args.stored c.args.self.now.current c.step_in_place.new.state c.step_in_place.new.other c.in-Ok.ways
     refl c.requires.image c.requires.at.at.fine c.requires.at.at.path c.requires.at.stored_at c.requires.at.on_path c.in-Ok.ensures.leads into c.in-None.is c.finish.ensures in
-    record { state = back.state; at = record { fine = back.fine; path = back.before }; on_path = back.on_path; within = back.within; spent = spent_here p c.args.self.now.path.items s (c.args.self.now.finished + vec_len c.args.self.now.path) 1 (c.args.self.now.finished + 1 + vec_len c.args.self.now.path) c.requires.at.spent (ItsOwn s 1 c.requires.at.ready.begins refl) (omega arith); some = omega arith; most = back.most }
+    record { state = back.state; at = record { fine = back.fine; path = back.before }; on_path = back.on_path; within = back.within; spent = spent_here p c.args.self.now.path.items s (c.args.self.now.finished + vec_len c.args.self.now.path) 1 (c.args.self.now.finished + 1 + vec_len c.args.self.now.path) c.requires.at.spent (ItsOwn s 1 c.requires.at.ready refl) (omega arith); some = omega arith; most = back.most }
 
 pub returns-in-Err-clause-stops : goal.returns-in-Err-clause-stops
 returns-in-Err-clause-stops c =
@@ -52,7 +52,7 @@ returns-in-Err-clause-stops c =
       steps = length c.args.self.now.path.items;
       leads = Path-leads p c.args.self.now.finished c.args.self.now.table.entries.items c.args.self.now.path.items start s at.at.path;
       slot_is = refl;
-      begins = at.ready.begins;
+      begins = at.ready;
       insn = i;
       here = here;
       refused = c.in-Err.ensures.refuses i there;

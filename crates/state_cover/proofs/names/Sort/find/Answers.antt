@@ -1,14 +1,20 @@
-use Rattle.std.proofs.Common.{◌∙◌, sym, arith}
+use Rattle.std.proofs.Common.{◌∙◌, sym}
 use Rattle.state_cover.specs.Names.{is_named}
-use Rattle.state_cover.proofs.Places.{find-places}
+use Rattle.state_cover.proofs.Places.{find-places_push}
 use Rattle.state_cover.proofs.names.Sort.find.Goals as goal
 
 pub returns-in-Some : goal.returns-in-Some
 returns-in-Some c =
-    let step = find-places (λ place. is_named c.args.self c.args.identity place.0) c.args.left.now c.args.right.now c.loop-index.index c.index-left-index.result c.index-right-index.result (omega arith) (omega arith) c.index-left-index.is c.index-right-index.is in
-    sym (rw (← c.in-Some.ensures) at step) ∙ c.loop-index.invariant
+    let a = c.args.a.now in
+    let b = c.args.b.now in
+    let step = find-places_push (λ place. is_named c.args.self c.args.identity place.0) a.callers.items b.callers.items a.innermost b.innermost c.requires in
+    let found = rw (c.as_slice-left.ensures.value, c.as_slice-right.ensures.value) at c.in-Some.ensures in
+    sym (rw (← found) at step)
 
-pub loop-index-preserved : goal.loop-index-preserved
-loop-index-preserved c =
-    let step = find-places (λ place. is_named c.args.self c.args.identity place.0) c.args.left.now c.args.right.now c.loop-index.index c.index-left-index.result c.index-right-index.result (omega arith) (omega arith) c.index-left-index.is c.index-right-index.is in
-    sym (rw (← c.in_default.ensures) at step) ∙ c.loop-index.invariant
+pub returns : goal.returns
+returns c =
+    let a = c.args.a.now in
+    let b = c.args.b.now in
+    let step = find-places_push (λ place. is_named c.args.self c.args.identity place.0) a.callers.items b.callers.items a.innermost b.innermost c.requires in
+    let none = rw (c.as_slice-left.ensures.value, c.as_slice-right.ensures.value) at c.in_default.ensures in
+    c.find_in_frame.ensures ∙ sym (rw (← none) at step)

@@ -1,6 +1,6 @@
 use Rattle.std.proofs.Common.{◌≡◌, drop}
 use Rattle.state_cover.specs.Names.{first_named, places}
-use Rattle.state_cover.proofs.names.Sort.find.Given as goal
+use Rattle.state_cover.proofs.names.Sort.find_in_frames.Given as goal
 
 -- none of the places before it
 abbrev pub invariant-loop-index : goal.invariant-loop-index

@@ -1,0 +1,12 @@
+use Rattle.std.proofs.Common.{arith}
+use Rattle.explorer.proofs.Keeping.{slot_parts-more, slot_parts-all}
+use Rattle.explorer.proofs.parts.push_slots.Goals as goal
+
+pub loop-index-preserved : goal.loop-index-preserved
+loop-index-preserved c =
+    slot_parts-more c.loop-index.parts.items c.push_part.new.parts.items _ c.args.slots.now c.loop-index.index c.index-slots-index.result
+    c.slot_part-part.result (omega arith) c.slot_part-part.ensures c.in_ok-push_part.ensures c.loop-index.invariant
+
+pub returns-clause-pushed : goal.returns-clause-pushed
+returns-clause-pushed c =
+    slot_parts-all c.loop-index.parts.items _ c.args.slots.now c.loop-index.index (omega arith) c.loop-index.invariant

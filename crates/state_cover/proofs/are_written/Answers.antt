@@ -1,0 +1,12 @@
+use Rattle.std.proofs.Common.{ℕ, bit_and, subst, arith}
+use Rattle.std.specs.Prelude.{IsTrue, ◌↔◌, nat_eq}
+use Rattle.state_cover.specs.FrameCover.{AreAmong}
+use Rattle.state_cover.proofs.Marks.{among-test}
+use Rattle.state_cover.proofs.are_written.Goals as goal
+
+pub returns : goal.returns
+returns c =
+    let marks : ℕ = c.args.marks in
+    let others : ℕ = c.marks-others.result in
+    subst (λ (r : ℕ). IsTrue (nat_eq (bit_and others marks) marks) ↔ AreAmong marks r) c.marks-others.ensures
+    (among-test marks others (omega arith))
