@@ -5,7 +5,8 @@ ghost use Rattle.isa_model.specs.Code.Instructions.{Program};
 ghost use Rattle.isa_model.specs.Text.CanonicalText.{canonical_text};
 ghost use Rattle.image.specs.Images.{IsImage};
 ghost use Rattle.assembler.specs.declared.errors.AsmErrorKind.TheVariants as AsmErrorKind;
-ghost use Rattle.assembler.specs.Assembling.{start, read_on, finished, program_in, assembled, Answers};
+ghost use Rattle.assembler.specs.Assembling.{start, read_on, finished, program_in, assembled};
+ghost use Rattle.assembler.specs.Assembling.{Answers};
 ghost use Rattle.assembler.specs.Drafts.{progress_of};
 
 use super::code::Code;
@@ -103,10 +104,12 @@ fn image_of(alloc: Global, text: &[u8]) -> Result<Image, Refusal>
 pub fn assemble(alloc: Global, text: &[u8]) -> Result<Image, AsmError>
     // The image is the program that the text spells, and the error says why it spells none, or
     // memory runs out.
-    ensures exact { MatchResult result (λ image. assembled text.now ≡ Ok image) (λ e. (e.kind ≡ AsmErrorKind.Memory) ⊎ (assembled text.now ≡ Err e)) }
+    ensures exact { MatchResult result (λ image. assembled text.now ≡ Ok image)
+        (λ e. (e.kind ≡ AsmErrorKind.Memory) ⊎ (assembled text.now ≡ Err e)) }
 
     // The canonical text of an image gives that image, or memory runs out.
-    ensures round_trip { (p : Program) → IsImage p → text.now ≡ canonical_text p → MatchResult result (λ image. image ≡ p) (λ e. e.kind ≡ AsmErrorKind.Memory) }
+    ensures round_trip { (p : Program) → IsImage p → text.now ≡ canonical_text p
+        → MatchResult result (λ image. image ≡ p) (λ e. e.kind ≡ AsmErrorKind.Memory) }
 {
     match image_of(alloc, text) {
         Ok(image) => Ok(image),

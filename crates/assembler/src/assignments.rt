@@ -2,7 +2,10 @@
 
 ghost use Rattle.std.specs.Prelude.{◌≡◌, ◌+◌, ◌<◌};
 ghost use Rattle.std.specs.Option.{option_copied};
-ghost use Rattle.assembler.specs.Statements.{plain, arithmetic, is_wide, wide, number_or_wide, negated, extended, load_of, loaded, swapped, exchanged_place, fetched, exchanged, compared, moved_word, moved, assigned_by, assigned, wide_at};
+ghost use Rattle.assembler.specs.Statements.{plain, arithmetic, is_wide, wide, number_or_wide};
+ghost use Rattle.assembler.specs.Statements.{negated, extended, load_of, loaded, swapped};
+ghost use Rattle.assembler.specs.Statements.{exchanged_place, fetched, exchanged, compared};
+ghost use Rattle.assembler.specs.Statements.{moved_word, moved, assigned_by, assigned, wide_at};
 
 use super::operands::{
     again_at, argument_at, memory_at, operand_at, register_at, same_register, wide_within,

@@ -1,10 +1,12 @@
 //! A program while its text is read.
 
-ghost use Rattle.std.specs.Prelude.{◌≡◌, ◌≤◌, ◌++◌, ◌∷◌, [], length, map, drop, Some, IfErr, OnOk, is_ok, slice_get};
+ghost use Rattle.std.specs.Prelude.{◌≡◌, ◌≤◌, ◌++◌, ◌∷◌, [], length, map, drop, Some, IfErr, OnOk};
+ghost use Rattle.std.specs.Prelude.{is_ok, slice_get};
 ghost use Rattle.lexer.specs.declared.tokens.Lexeme.TheVariants as Lexeme;
 ghost use Rattle.assembler.specs.declared.errors.AsmErrorKind.TheVariants as AsmErrorKind;
 ghost use Rattle.assembler.specs.Labelled.{label_length, has_form};
-ghost use Rattle.assembler.specs.Assembling.{start, accept, closed, added, named, with_use, refusal_of, offset_or, Answers};
+ghost use Rattle.assembler.specs.Assembling.{start, accept, closed, added, named, with_use};
+ghost use Rattle.assembler.specs.Assembling.{refusal_of, offset_or, Answers};
 ghost use Rattle.assembler.specs.Drafts.{place_of, progress_of};
 ghost use Rattle.assembler.specs.Naming.{use_of};
 
@@ -53,7 +55,8 @@ impl<'a> Draft<'a> {
 
     /// Takes what stands next in the text.
     pub fn accept(&mut self, lexeme: Lexeme, span: Span<'a>) -> Result<(), Refusal>
-        ensures { Answers (λ _. progress_of self.new) result (accept (progress_of self.old) lexeme (place_of span.entry)) }
+        ensures { Answers (λ _. progress_of self.new) result
+            (accept (progress_of self.old) lexeme (place_of span.entry)) }
     {
         match lexeme {
             Lexeme::Blank => Ok(()),
@@ -63,8 +66,11 @@ impl<'a> Draft<'a> {
     }
 
     fn take(&mut self, token: Token, span: Span<'a>) -> Result<(), Refusal>
-        ensures exact { Answers (λ _. progress_of self.new) result (accept (progress_of self.old) (Lexeme.Solid token) (place_of span.entry)) }
-        ensures place { IfErr result (λ e. e.offset ≡ offset_or (slice_get (map place_of self.old.spans.items) 0) span.entry.offset) }
+        ensures exact { Answers (λ _. progress_of self.new) result
+            (accept (progress_of self.old) (Lexeme.Solid token) (place_of span.entry)) }
+        ensures place { IfErr result
+            (λ e. e.offset
+            ≡ offset_or (slice_get (map place_of self.old.spans.items) 0) span.entry.offset) }
     {
         let offset = self.offset_of(0, span.offset);
         match (self.spans.push(span), self.tokens.push(token)) {
@@ -100,8 +106,10 @@ impl<'a> Draft<'a> {
 
     // Adds the instruction of the statement, whose tokens were read after that many others.
     fn add(&mut self, reading: Reading, skipped: usize) -> Result<(), Refusal>
-        ensures exact { Answers (λ _. progress_of self.new) result (added (progress_of self.old) skipped reading) }
-        ensures place { IfErr result (λ e. e.offset ≡ offset_or (slice_get (map place_of self.old.spans.items) 0) 0) }
+        ensures exact { Answers (λ _. progress_of self.new) result
+            (added (progress_of self.old) skipped reading) }
+        ensures place { IfErr result
+            (λ e. e.offset ≡ offset_or (slice_get (map place_of self.old.spans.items) 0) 0) }
     {
         let offset = self.offset_of(0, 0);
         if let Some(index) = reading.name {
@@ -119,9 +127,16 @@ impl<'a> Draft<'a> {
 
     // Notes that the next instruction uses the name at that token.
     fn note_use(&mut self, index: usize) -> Result<(), Refusal>
-        ensures place { IfErr result (λ e. (e.kind ≡ AsmErrorKind.Memory) × (e.offset ≡ offset_or (slice_get (map place_of self.old.spans.items) 0) 0)) }
-        ensures rest { (self.new.tokens.items ≡ self.old.tokens.items) × (self.new.spans.items ≡ self.old.spans.items) × (self.new.code ≡ self.old.code) × (self.new.labels ≡ self.old.labels) }
-        ensures noted { OnOk result (map use_of self.new.uses.items ≡ with_use (progress_of self.old) (slice_get (map place_of self.old.spans.items) index)) }
+        ensures place { IfErr result
+            (λ e. (e.kind ≡ AsmErrorKind.Memory)
+            × (e.offset ≡ offset_or (slice_get (map place_of self.old.spans.items) 0) 0)) }
+        ensures rest { (self.new.tokens.items ≡ self.old.tokens.items)
+            × (self.new.spans.items ≡ self.old.spans.items) × (self.new.code ≡ self.old.code)
+            × (self.new.labels ≡ self.old.labels) }
+        ensures noted { OnOk result
+            (map use_of self.new.uses.items
+            ≡ with_use (progress_of self.old)
+            (slice_get (map place_of self.old.spans.items) index)) }
     {
         let offset = self.offset_of(0, 0);
         let Some(span) = self.spans.get(index).copied() else {
@@ -206,7 +221,8 @@ impl<'a> Draft<'a> {
 
     // Where the token at the index begins; else that offset.
     fn offset_of(&self, index: usize, otherwise: usize) -> usize
-        ensures { result ≡ offset_or (slice_get (map place_of self.now.spans.items) index) otherwise }
+        ensures { result ≡ offset_or
+            (slice_get (map place_of self.now.spans.items) index) otherwise }
     {
         match self.spans.get(index) {
             Some(span) => span.offset,

@@ -31,7 +31,8 @@ fn slot_of(labels: &Labels<'_>, name: &[u8]) -> Option<u16>
 
 /// Defines a name, unless it is defined.
 pub fn define<'a>(labels: &mut Labels<'a>, name: &'a [u8], slot: u16) -> Result<(), AsmErrorKind>
-    ensures { Makes (λ _. map label_of labels.new.entries) result (with_label (map label_of labels.old.entries) name.now slot) }
+    ensures { Makes (λ _. map label_of labels.new.entries) result
+        (with_label (map label_of labels.old.entries) name.now slot) }
 {
     match slot_of(labels, name) {
         Some(_) => Err(AsmErrorKind::DefinedTwice),
@@ -71,7 +72,8 @@ fn aimed(insn: Insn, by: i32) -> Option<Insn>
 
 // What the instruction at a use becomes.
 fn aim(labels: &Labels<'_>, used: &Use<'_>, insn: Insn) -> Result<Insn, AsmErrorKind>
-    ensures { result ≡ aim (slot_in (map label_of labels.now.entries) used.now.name.now) used.now.slot insn }
+    ensures { result ≡ aim
+        (slot_in (map label_of labels.now.entries) used.now.name.now) used.now.slot insn }
 {
     let Some(to) = slot_of(labels, used.name) else {
         return Err(AsmErrorKind::NotDefined);
@@ -82,11 +84,14 @@ fn aim(labels: &Labels<'_>, used: &Use<'_>, insn: Insn) -> Result<Insn, AsmError
     }
 }
 
-/// Puts the distances of names into the instructions that use them. The first use that is wrong is refused, at its place.
+/// Puts the distances of names into the instructions that use them. The first use that is wrong is
+/// refused, at its place.
 pub fn resolve(insns: &mut Vec<Insn>, labels: &Labels<'_>, uses: &[Use<'_>]) -> Result<(), Refusal>
     ensures { MatchResult result
-        (λ _. resolved (slot_in (map label_of labels.now.entries)) (map use_of uses.now) insns.old.items ≡ Ok insns.new.items)
-        (λ e. resolved (slot_in (map label_of labels.now.entries)) (map use_of uses.now) insns.old.items ≡ Err e) }
+        (λ _. resolved (slot_in (map label_of labels.now.entries))
+        (map use_of uses.now) insns.old.items ≡ Ok insns.new.items)
+        (λ e. resolved (slot_in (map label_of labels.now.entries))
+        (map use_of uses.now) insns.old.items ≡ Err e) }
 {
     for used in uses {
         let Some(insn) = insns.get_mut(used.index) else {

@@ -1,7 +1,10 @@
 //! Single tokens of a statement.
 
 ghost use Rattle.std.specs.Prelude.{◌≡◌};
-ghost use Rattle.assembler.specs.Statements.{token_at, sign_at, number_at, word_at, is_sign, expect_at, is_minus, op_of, atomic_op_of, comparison_of, width_of, extension_of, as_size, as_narrow, is_full};
+ghost use Rattle.assembler.specs.Statements.{token_at, sign_at, number_at, word_at, is_sign};
+ghost use Rattle.assembler.specs.Statements.{expect_at, is_minus, op_of, atomic_op_of};
+ghost use Rattle.assembler.specs.Statements.{comparison_of, width_of, extension_of, as_size};
+ghost use Rattle.assembler.specs.Statements.{as_narrow, is_full};
 ghost use Rattle.assembler.specs.Labelled.{zeroed};
 
 use super::wrong::Wrong;

@@ -1,7 +1,9 @@
 //! The instruction that a statement's tokens spell.
 
 ghost use Rattle.std.specs.Prelude.{◌≡◌, ◌+◌, ◌≤◌, ◌<◌};
-ghost use Rattle.assembler.specs.Statements.{stored_token, stored, locked, jump, long_jump, is_goto, goto_at, condition, tested, called_word, by_word, by_token, statement_of};
+ghost use Rattle.assembler.specs.Statements.{stored_token, stored, locked, jump, long_jump};
+ghost use Rattle.assembler.specs.Statements.{is_goto, goto_at, condition, tested, called_word};
+ghost use Rattle.assembler.specs.Statements.{by_word, by_token, statement_of};
 ghost use Rattle.assembler.specs.Labelled.{spelled};
 
 use super::assignments::{assigned, plain};
@@ -170,7 +172,8 @@ fn by_token(tokens: &[Token], token: Token) -> Result<Reading, Wrong>
 
 /// The instruction that the tokens of a statement without a label spell.
 ///
-/// Forms are tried from left to right. `Wrong::Range` may come of tokens that no form fits whatever their numbers are.
+/// Forms are tried from left to right. `Wrong::Range` may come of tokens that no form fits whatever
+/// their numbers are.
 #[tactic(auto, unfolding(crate::specs::Statements::statement_of))]
 pub fn statement_of(tokens: &[Token]) -> Result<Reading, Wrong>
     ensures { result ≡ statement_of tokens.now }

@@ -4,7 +4,8 @@
 ghost use Rattle.std.specs.Prelude.{◌≡◌, ◌≢◌, ℕ, IsTrue, false};
 ghost use Rattle.isa_model.specs.Code.Numbers.{holds};
 ghost use Rattle.stack_state.specs.Places.{kind_of};
-ghost use Rattle.branch_refine.specs.Refining.{IsJust, IsJustOperand, AreCompared, Keeps, Narrows, KeepsOthers, Refined, IfGoes, KeepsIn};
+ghost use Rattle.branch_refine.specs.Refining.{IsJust, IsJustOperand, AreCompared, Keeps, Narrows};
+ghost use Rattle.branch_refine.specs.Refining.{KeepsOthers, Refined, IfGoes, KeepsIn};
 
 mod operands;
 
@@ -49,14 +50,16 @@ pub fn refine_in_place(cond: Cond, taken: bool, state: &mut State) -> bool
     ensures kept { Keeps cond taken state.old result state.new }
     ensures narrowed { Narrows state.old state.new }
     ensures others { KeepsOthers cond state.old state.new }
-    ensures shown { AreCompared state.old cond → IsTrue result → Refined cond taken state.old state.new }
+    ensures shown { AreCompared state.old cond → IsTrue result
+        → Refined cond taken state.old state.new }
     ensures constants { (x y : ℕ) → IsJust (kind_of state.old cond.register) x
         → IsJustOperand state.old cond.width cond.operand y
         → holds cond.comparison cond.width x y ≢ taken → result ≡ false }
     ensures constants_go { (x y : ℕ) → IsJust (kind_of state.old cond.register) x
         → IsJustOperand state.old cond.width cond.operand y
         → holds cond.comparison cond.width x y ≡ taken → IsTrue result }
-    ensures not_numbers { (AreCompared state.old cond → ⊥) → IsTrue result × (state.new ≡ state.old) }
+    ensures not_numbers { (AreCompared state.old cond → ⊥)
+        → IsTrue result × (state.new ≡ state.old) }
     ensures never { result ≡ false → state.new ≡ state.old }
 {
     let Some(left) = number_of(state, cond.register) else {

@@ -1,6 +1,7 @@
 //! The machine's fields: slot, registers and call frames.
 
-ghost use Rattle.std.specs.Prelude.{◌≡◌, ◌≤◌, ℕ, List, [], length, slice_set, IfOk, vec_len, vec_capacity};
+ghost use Rattle.std.specs.Prelude.{◌≡◌, ◌≤◌, ℕ, List, [], length, slice_set, IfOk, vec_len};
+ghost use Rattle.std.specs.Prelude.{vec_capacity};
 ghost use Rattle.isa_model.specs.Code.Registers.{reg_number};
 ghost use Rattle.isa_model.specs.Machine.States.{value_at, new_frame};
 ghost use Rattle.isa_model.specs.Machine.Memory.{frame_index};
@@ -65,7 +66,8 @@ impl Core {
     #[tactic(auto, unfolding(isa_model::specs::Running::Runs::start_state))]
     pub fn start(&mut self, head: FrameHead)
         requires { most_frames ≤ vec_capacity self.old.frames }
-        ensures state { (packet : List ℕ) → state_of self.new packet [] ≡ start_state head packet [] }
+        ensures state { (packet : List ℕ)
+            → state_of self.new packet [] ≡ start_state head packet [] }
         ensures frames { vec_len self.new.frames ≡ 1 }
         ensures room { vec_capacity self.new.frames ≡ vec_capacity self.old.frames }
         ensures serial { self.new.next_serial ≡ 1 }
@@ -103,7 +105,10 @@ impl Core {
 
     /// Sets a register, r10 too: whether it may be written is tested before.
     pub fn set(&mut self, r: Reg, value: Value)
-        ensures { self.new ≡ record self.old { regs = slice_set self.old.regs (reg_number r) value } }
+        ensures { self.new ≡ record self.old {
+          regs = slice_set self.old.regs
+              (reg_number r) value;
+        } }
     {
         self.regs[r.number()] = value;
     }

@@ -1,4 +1,5 @@
-//! A machine with tagged values: it runs any program, and stops at the first undefined use with its reason.
+//! A machine with tagged values: it runs any program, and stops at the first undefined use with its
+//! reason.
 //!
 //! `checked` is the machine that callers see. Under it stand whole runs (`runs`), single steps with
 //! the tests before them (`steps`), one function for each form of instruction (`forms`), what these

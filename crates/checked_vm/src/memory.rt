@@ -1,6 +1,7 @@
 //! Loads and stores in call frames, the packet and the context.
 
-ghost use Rattle.std.specs.Prelude.{◌≡◌, ◌+◌, ◌<◌, ◌≤◌, ℕ, ◌+ℤ◌, List, [], length, map, slice_index, Some, Ok, Err, MatchResult, vec_len};
+ghost use Rattle.std.specs.Prelude.{◌≡◌, ◌+◌, ◌<◌, ◌≤◌, ℕ, ◌+ℤ◌, List, [], length, map};
+ghost use Rattle.std.specs.Prelude.{slice_index, Some, Ok, Err, MatchResult, vec_len};
 ghost use Rattle.isa_model.specs.Code.Numbers.{number_from};
 ghost use Rattle.isa_model.specs.Code.Sizes.{narrow_size, narrow_extension};
 ghost use Rattle.isa_model.specs.Machine.States.{frame_at};
@@ -48,7 +49,8 @@ fn number_from(bytes: &[u8]) -> u64
 fn read_packet(packet: &[u8], at: Option<usize>, n: usize) -> Result<&[u8], TrapReason>
     requires { n ≤ 8 }
     ensures { MatchResult result
-        (λ bs. (core : Core) → read (state_of core packet.now []) Region.Packet at n ≡ Ok (map Cell.Byte bs.now))
+        (λ bs. (core : Core)
+        → read (state_of core packet.now []) Region.Packet at n ≡ Ok (map Cell.Byte bs.now))
         (λ e. (core : Core) → read (state_of core packet.now []) Region.Packet at n ≡ Err e) }
 {
     match at {
@@ -61,8 +63,12 @@ fn read_packet(packet: &[u8], at: Option<usize>, n: usize) -> Result<&[u8], Trap
 fn write_packet(packet: &mut [u8], at: Option<usize>, new: &[u8]) -> Result<(), TrapReason>
     requires { length new.now ≤ 8 }
     ensures { MatchResult result
-        (λ _. (core : Core) → write (state_of core packet.old []) Region.Packet at (map Cell.Byte new.now) ≡ Ok (state_of core packet.new []))
-        (λ e. ((core : Core) → write (state_of core packet.old []) Region.Packet at (map Cell.Byte new.now) ≡ Err e) × (packet.new ≡ packet.old)) }
+        (λ _. (core : Core)
+        → write (state_of core packet.old []) Region.Packet at (map Cell.Byte new.now)
+        ≡ Ok (state_of core packet.new []))
+        (λ e. ((core : Core)
+        → write (state_of core packet.old []) Region.Packet at (map Cell.Byte new.now) ≡ Err e)
+        × (packet.new ≡ packet.old)) }
 {
     match at {
         Some(i) if i <= packet.len() && i + new.len() <= packet.len() => {
@@ -129,8 +135,10 @@ impl Core {
             (λ p. (frame_index self.now.frames.items serial ≡ Some p.0)
             × (p.0 < vec_len self.now.frames)
             × (p.1 + n ≤ length (frame_at self.now.frames.items p.0).cells)
-            × ((packet : List ℕ) → place_of (state_of self.now packet []) (Region.Frame serial) at n ≡ Ok p.1))
-            (λ e. (packet : List ℕ) → place_of (state_of self.now packet []) (Region.Frame serial) at n ≡ Err e) }
+            × ((packet : List ℕ)
+            → place_of (state_of self.now packet []) (Region.Frame serial) at n ≡ Ok p.1))
+            (λ e. (packet : List ℕ)
+            → place_of (state_of self.now packet []) (Region.Frame serial) at n ≡ Err e) }
     {
         match self.frame_index(serial) {
             Some(frame) => {
@@ -146,8 +154,10 @@ impl Core {
     fn read_frame(&self, serial: u64, at: Option<usize>, n: usize) -> Result<&[Cell], TrapReason>
         requires { n ≤ 8 }
         ensures { MatchResult result
-            (λ cs. (packet : List ℕ) → read (state_of self.now packet []) (Region.Frame serial) at n ≡ Ok cs.now)
-            (λ e. (packet : List ℕ) → read (state_of self.now packet []) (Region.Frame serial) at n ≡ Err e) }
+            (λ cs. (packet : List ℕ)
+            → read (state_of self.now packet []) (Region.Frame serial) at n ≡ Ok cs.now)
+            (λ e. (packet : List ℕ)
+            → read (state_of self.now packet []) (Region.Frame serial) at n ≡ Err e) }
     {
         let (frame, i) = self.place_in_frame(serial, at, n)?;
         let cells: &[Cell] = &self.frames[frame].cells;
@@ -274,8 +284,12 @@ impl Core {
         ensures kept { KeepsFrames self.old self.new }
         ensures slot { self.new.slot ≡ self.old.slot }
         ensures wrote { MatchResult result
-            (λ _. (packet : List ℕ) → write (state_of self.old packet []) (Region.Frame serial) at new.now ≡ Ok (state_of self.new packet []))
-            (λ e. ((packet : List ℕ) → write (state_of self.old packet []) (Region.Frame serial) at new.now ≡ Err e) × (self.new ≡ self.old)) }
+            (λ _. (packet : List ℕ)
+            → write (state_of self.old packet []) (Region.Frame serial) at new.now
+            ≡ Ok (state_of self.new packet []))
+            (λ e. ((packet : List ℕ)
+            → write (state_of self.old packet []) (Region.Frame serial) at new.now ≡ Err e)
+            × (self.new ≡ self.old)) }
     {
         let (frame, i) = self.place_in_frame(serial, at, new.len())?;
         cells::put_cells(&mut self.frames[frame].cells, i, new);
@@ -294,8 +308,10 @@ impl Core {
         ensures kept { KeepsFrames self.old self.new }
         ensures slot { self.new.slot ≡ self.old.slot }
         ensures wrote { MatchResult result
-            (λ _. store_number (state_of self.old packet.old []) size base place.offset n ≡ Ok (state_of self.new packet.new []))
-            (λ e. (store_number (state_of self.old packet.old []) size base place.offset n ≡ Err e) × (self.new ≡ self.old) × (packet.new ≡ packet.old)) }
+            (λ _. store_number (state_of self.old packet.old []) size base place.offset n
+            ≡ Ok (state_of self.new packet.new []))
+            (λ e. (store_number (state_of self.old packet.old []) size base place.offset n ≡ Err e)
+            × (self.new ≡ self.old) × (packet.new ≡ packet.old)) }
     {
         let Value::Ptr(region, offset) = base else {
             return Err(TrapReason::BadAccess);
@@ -324,8 +340,12 @@ impl Core {
         ensures kept { KeepsFrames self.old self.new }
         ensures slot { self.new.slot ≡ self.old.slot }
         ensures wrote { MatchResult result
-            (λ _. (packet : List ℕ) → store_pointer (state_of self.old packet []) size base place.offset region offset ≡ Ok (state_of self.new packet []))
-            (λ e. ((packet : List ℕ) → store_pointer (state_of self.old packet []) size base place.offset region offset ≡ Err e) × (self.new ≡ self.old)) }
+            (λ _. (packet : List ℕ)
+            → store_pointer (state_of self.old packet []) size base place.offset region offset
+            ≡ Ok (state_of self.new packet []))
+            (λ e. ((packet : List ℕ)
+            → store_pointer (state_of self.old packet []) size base place.offset region offset
+            ≡ Err e) × (self.new ≡ self.old)) }
     {
         match (size, base) {
             (Size::U64, Value::Ptr(Region::Frame(serial), at)) => self.write_frame(
@@ -349,8 +369,10 @@ impl Core {
         ensures kept { KeepsFrames self.old self.new }
         ensures slot { self.new.slot ≡ self.old.slot }
         ensures wrote { MatchResult result
-            (λ _. store (state_of self.old packet.old []) size base place.offset value ≡ Ok (state_of self.new packet.new []))
-            (λ e. (store (state_of self.old packet.old []) size base place.offset value ≡ Err e) × (self.new ≡ self.old) × (packet.new ≡ packet.old)) }
+            (λ _. store (state_of self.old packet.old []) size base place.offset value
+            ≡ Ok (state_of self.new packet.new []))
+            (λ e. (store (state_of self.old packet.old []) size base place.offset value ≡ Err e)
+            × (self.new ≡ self.old) × (packet.new ≡ packet.old)) }
     {
         match value {
             Value::Num(n) => self.store_number(packet, size, base, place, n),

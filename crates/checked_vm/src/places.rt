@@ -5,7 +5,8 @@ ghost use Rattle.isa_model.specs.Machine.Memory.{index_from, index_at, place_in}
 
 use isa_model::{Cell, Place, Region, TrapReason};
 
-/// The index of the cell at a pointer's offset plus the instruction's, if it is not before the first.
+/// The index of the cell at a pointer's offset plus the instruction's, if it is not before the
+/// first.
 pub fn index_at(region: Region, offset: i64, place: Place) -> Option<usize>
     ensures { result ≡ index_at region (offset +ℤ place.offset) }
 {

@@ -98,7 +98,9 @@ impl Core {
     fn exit(&mut self) -> Stepped
         requires { IsRunning self.old }
         ensures stays { StaysRunning self.old self.new }
-        ensures step { (packet : List ℕ) (p : Program) (clock : ℕ → ℕ) → IsStep (act p clock (state_of self.old packet []) Insn.Exit) result (state_of self.old packet []) (state_of self.new packet []) }
+        ensures step { (packet : List ℕ) (p : Program) (clock : ℕ → ℕ)
+            → IsStep (act p clock (state_of self.old packet []) Insn.Exit) result
+            (state_of self.old packet []) (state_of self.new packet []) }
     {
         if self.depth() == 1 {
             match self.value(Reg::R0) {

@@ -6,8 +6,8 @@ ghost use Rattle.control_flow.specs.Messages.{code_of, sentence_of};
 use std::error::Error;
 use std::fmt;
 
-/// Why the control flow is refused: the first of these that is found, in this order and for each at the lowest slot.
-/// G6 may come at any of these, with slot 0.
+/// Why the control flow is refused: the first of these that is found, in this order and for each at
+/// the lowest slot. G6 may come at any of these, with slot 0.
 #[derive(Clone, Copy, PartialEq, Eq, Debug)]
 pub enum FlowError {
     /// The target of a jump or a call is outside the code.

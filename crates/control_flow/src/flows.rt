@@ -15,8 +15,8 @@ use std::marker::Model;
 /// A mask of all registers, r0 in its lowest bit.
 const ALL_REGISTERS: u16 = 0x3ff;
 
-/// An image whose control flow is good: jumps stay in their functions, calls lead to instructions, nothing falls off
-/// an end, and each instruction can be reached.
+/// An image whose control flow is good: jumps stay in their functions, calls lead to instructions,
+/// nothing falls off an end, and each instruction can be reached.
 ///
 /// Contracts see its program.
 #[derive(Drop)]

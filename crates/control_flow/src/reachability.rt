@@ -52,7 +52,8 @@ impl Search {
 /// Marks the slots that paths from slot 0 lead to.
 pub fn reached(alloc: Global, image: &Image) -> Result<Vec<bool>, AllocError>
     requires { (slot to : ℕ) → Leads image.now slot to → to < length image.now.insns }
-    ensures { IfOk result (λ marks. (slot : ℕ) → IsMarked marks.items slot ↔ Reached image.now slot) }
+    ensures { IfOk result (λ marks. (slot : ℕ) → IsMarked marks.items slot
+        ↔ Reached image.now slot) }
 {
     let mut search = Search {
         found: vec![in alloc; false; image.slots()]?,

@@ -16,7 +16,8 @@ use std::io::Write;
 
 // Writes a map row's line.
 fn write_row<W: Write>(out: &mut W, row: &MapDef) -> io::Result<()>
-    ensures ok { OnOk result (Appends (W.contents out.old) (W.contents out.new) (row_line row.now)) }
+    ensures ok { OnOk result
+        (Appends (W.contents out.old) (W.contents out.new) (row_line row.now)) }
     ensures err { OnErr result
         (AppendsBeginning (W.contents out.old) (W.contents out.new) (row_line row.now)) }
 {
@@ -25,7 +26,8 @@ fn write_row<W: Write>(out: &mut W, row: &MapDef) -> io::Result<()>
 
 /// Writes an instruction's line, as `disassemble` does.
 pub fn write_insn<W: Write>(out: &mut W, insn: &Insn) -> io::Result<()>
-    ensures ok { OnOk result (Appends (W.contents out.old) (W.contents out.new) (line_of insn.now)) }
+    ensures ok { OnOk result
+        (Appends (W.contents out.old) (W.contents out.new) (line_of insn.now)) }
     ensures err { OnErr result
         (AppendsBeginning (W.contents out.old) (W.contents out.new) (line_of insn.now)) }
 {
@@ -34,7 +36,8 @@ pub fn write_insn<W: Write>(out: &mut W, insn: &Insn) -> io::Result<()>
 
 // Writes the map rows' lines.
 fn write_rows<W: Write>(out: &mut W, rows: &[MapDef]) -> io::Result<()>
-    ensures ok { OnOk result (Appends (W.contents out.old) (W.contents out.new) (rows_text rows.now)) }
+    ensures ok { OnOk result
+        (Appends (W.contents out.old) (W.contents out.new) (rows_text rows.now)) }
     ensures err { OnErr result
         (AppendsBeginning (W.contents out.old) (W.contents out.new) (rows_text rows.now)) }
 {
@@ -49,7 +52,8 @@ fn write_code<W: Write>(out: &mut W, slots: &[Option<Insn>]) -> io::Result<()>
     ensures ok { OnOk result
         (Appends (W.contents out.old) (W.contents out.new) (flat_map slot_text slots.now)) }
     ensures err { OnErr result
-        (AppendsBeginning (W.contents out.old) (W.contents out.new) (flat_map slot_text slots.now)) }
+        (AppendsBeginning (W.contents out.old) (W.contents out.new)
+        (flat_map slot_text slots.now)) }
 {
     for slot in slots {
         if let Some(insn) = slot {
@@ -61,7 +65,8 @@ fn write_code<W: Write>(out: &mut W, slots: &[Option<Insn>]) -> io::Result<()>
 
 /// Writes the canonical text of the image's program.
 ///
-/// The writer's first error, of any kind, is the failure and is handed on; a write of no byte is the failure
+/// The writer's first error, of any kind, is the failure and is handed on; a write of no byte is
+/// the failure
 /// `ErrorKind::WriteZero`. Nothing is tried again.
 pub fn disassemble<W: Write>(image: &Image, out: &mut W) -> io::Result<()>
     ensures ok { OnOk result

@@ -119,9 +119,9 @@ impl Model for Kept {
     ghost Value = { State };
 
     ghost view = { λ kept. record {
-        slot = kept.frames.value.slot;
-        callers = record { items = kept.frames.value.callers.items };
-        innermost = kept.frames.value.innermost;
+      slot = kept.frames.value.slot;
+      callers = record { items = kept.frames.value.callers.items };
+      innermost = kept.frames.value.innermost;
     } };
 
     ghost invariant = { λ kept. length kept.frames.value.callers.items ≤ 7 };

@@ -2,7 +2,8 @@
 ghost use Rattle.std.specs.Prelude.{◌≡◌, ◌+◌, ◌*◌, ◌≤◌, Option};
 ghost use Rattle.isa_model.specs.Machine.MachineStates.{AreBytes};
 ghost use Rattle.isa_model.specs.Reporting.Streams.{Position, Fresh, At};
-ghost use Rattle.frames.specs.Reading.{finding_of, next_position, Reads, HasRoom, FitsBuffer, StaysDone};
+ghost use Rattle.frames.specs.Reading.{finding_of, next_position, Reads, HasRoom, FitsBuffer};
+ghost use Rattle.frames.specs.Reading.{StaysDone};
 ghost use Rattle.frames.specs.Stages.{ReadsMagic, MayFail, HasRoomFor, IsStageAfter};
 
 use super::heads::decode_head;
@@ -18,12 +19,13 @@ pub enum Next {
     Frame(FrameHead, usize),
     /// The end of the stream.
     End,
-    /// What is wrong, and the offset in bytes of the record in which it was found (0 while the magic is read).
+    /// What is wrong, and the offset in bytes of the record in which it was found (0 while the
+    /// magic is read).
     Fault(Fault, u64),
 }
 
-// Where a reader stands: before the magic, before a record with this number and offset, or past all that it
-// will read.
+// Where a reader stands: before the magic, before a record with this number and offset, or past all
+// that it will read.
 #[derive(Clone, Copy)]
 enum Stage {
     Fresh,
@@ -62,11 +64,11 @@ impl<R: Read> FrameReader<R> {
         }
     }
 
-    /// Finds the next record, and puts its body at the front of the buffer. The rest of the buffer, and all of
-    /// it where no record was found, may then hold any bytes.
+    /// Finds the next record, and puts its body at the front of the buffer. The rest of the buffer,
+    /// and all of it where no record was found, may then hold any bytes.
     ///
-    /// The source's first error, of any kind, is the fault F5, and nothing is tried again. After the end or a
-    /// fault each further call answers the same and reads nothing.
+    /// The source's first error, of any kind, is the fault F5, and nothing is tried again. After
+    /// the end or a fault each further call answers the same and reads nothing.
     pub fn next(&mut self, buffer: &mut [u8; 4096]) -> Next
         ensures bytes { Reads self.old.position (R.remaining self.old.source)
             (R.remaining self.new.source) (finding_of result buffer.new) }

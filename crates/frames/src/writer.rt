@@ -15,7 +15,8 @@ use std::io::Write;
 /// The body has at most 4,096 bytes: a caller must see to that, as by a buffer of that size, since
 /// no reader takes a record with a longer one (F3).
 ///
-/// The writer's first error, of any kind, is the failure and is handed on; a write of no byte is the failure
+/// The writer's first error, of any kind, is the failure and is handed on; a write of no byte is
+/// the failure
 /// `ErrorKind::WriteZero`. Nothing is tried again.
 pub fn write_frame<W: Write>(writer: &mut W, head: &FrameHead, body: &[u8]) -> io::Result<()>
     requires { length body.now ≤ max_body }

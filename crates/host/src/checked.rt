@@ -39,11 +39,13 @@ impl Runner for CheckedRunner {
     }
 }
 
-/// Runs an image's program, with every access tested, on the frames of the stream that a source gives, at most
+/// Runs an image's program, with every access tested, on the frames of the stream that a source
+/// gives, at most
 /// `limit` steps a frame. The report goes to one writer, and the frames that are sent on to the other.
 ///
-/// Every answer of a frame's clock is the frame's time. Memory is taken before the first byte is written, and none
-/// after that. Nothing is tried again, and after a failure nothing is written to either output.
+/// Every answer of a frame's clock is the frame's time. Memory is taken before the first byte is
+/// written, and none after that. Nothing is tried again, and after a failure nothing is written to
+/// either output.
 pub fn run_checked<R: Read + Drop, W1: Write, W2: Write>(
     alloc: Global,
     image: Image,
@@ -54,8 +56,10 @@ pub fn run_checked<R: Read + Drop, W1: Write, W2: Write>(
 ) -> Result<Tally, HostError>
     requires some { 1 ≤ limit }
     requires most { limit ≤ max_steps }
-    ensures report_untouched { result ≡ Err HostError.Memory → W1.contents report.new ≡ W1.contents report.old }
-    ensures out_untouched { result ≡ Err HostError.Memory → W2.contents out.new ≡ W2.contents out.old }
+    ensures report_untouched { result ≡ Err HostError.Memory
+        → W1.contents report.new ≡ W1.contents report.old }
+    ensures out_untouched { result ≡ Err HostError.Memory
+        → W2.contents out.new ≡ W2.contents out.old }
     ensures reports { result ≢ Err HostError.Memory
         → Reports (R.remaining source) (checked_report image limit)
         record { report = W1.contents report.old; frames = W2.contents out.old }

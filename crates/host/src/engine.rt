@@ -87,8 +87,8 @@ fn end_run<W1: Write>(number: u32, finish: Finish, report: &mut W1) -> Result<Ta
     }
 }
 
-/// Runs the frames of the stream that a source gives. The report goes to one writer, and the frames that are sent
-/// on to the other.
+/// Runs the frames of the stream that a source gives. The report goes to one writer, and the frames
+/// that are sent on to the other.
 ///
 /// No machine has maps yet, so there are no lines of maps.
 pub fn run_frames<M: Runner, R: Read + Drop, W1: Write, W2: Write>(
@@ -100,7 +100,8 @@ pub fn run_frames<M: Runner, R: Read + Drop, W1: Write, W2: Write>(
 ) -> Result<Tally, HostError>
     requires { M.rows machine.old ≡ [] }
     ensures reports { Reports (R.remaining source)
-        (λ found. report_of limit (M.rows machine.old) (M.rule machine.old) (M.contents machine.old) found)
+        (λ found. report_of limit (M.rows machine.old) (M.rule machine.old)
+        (M.contents machine.old) found)
         record { report = W1.contents report.old; frames = W2.contents out.old }
         record { report = W1.contents report.new; frames = W2.contents out.new } result }
     ensures memory { result ≢ Err HostError.Memory }

@@ -20,7 +20,8 @@ fn push_number(line: &mut Line, number: u64)
     line.push_str(buffer.format(number));
 }
 
-/// The line of the frame with this number, by how its run within the limit ended and how many bytes it has.
+/// The line of the frame with this number, by how its run within the limit ended and how many bytes
+/// it has.
 #[tactic(auto, unfolding(isa_model::specs::Reporting::Reports::frame_line))]
 pub fn line_of_frame(limit: u32, number: u32, end: End, size: usize) -> Line
     ensures { result.bytes ≡ frame_line limit number end size }

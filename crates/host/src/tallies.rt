@@ -7,7 +7,7 @@ use isa_model::Fault;
 pub struct Tally {
     /// How many frames were run.
     pub frames: u32,
-    /// The fault that ended the stream, and the offset in bytes of the record in which it was found; `None` at the
-    /// stream's end.
+    /// The fault that ended the stream, and the offset in bytes of the record in which it was
+    /// found; `None` at the stream's end.
     pub fault: Option<(Fault, u64)>,
 }

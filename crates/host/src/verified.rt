@@ -35,8 +35,8 @@ impl Runner for MachineRunner {
     }
 }
 
-/// Runs an accepted program on the frames of the stream that a source gives. The report goes to one writer, and the
-/// frames that are sent on to the other.
+/// Runs an accepted program on the frames of the stream that a source gives. The report goes to one
+/// writer, and the frames that are sent on to the other.
 ///
 /// What is written is exactly the report of the program and those frames; in every frame's run the
 /// step by step meaning of the program meets no trap, and it exits within the bound. Nothing is
@@ -44,8 +44,9 @@ impl Runner for MachineRunner {
 /// at most 4,294,967,295 frames are run. Where the source tells its bytes, the frames are those
 /// that they spell, from the first on; where it does not, as a file, they are those of some bytes.
 ///
-/// Every answer of a frame's clock is the frame's time. Memory is taken before the first byte is written, and none
-/// after that. Nothing is tried again, and after a failure nothing is written to either output.
+/// Every answer of a frame's clock is the frame's time. Memory is taken before the first byte is
+/// written, and none after that. Nothing is tried again, and after a failure nothing is written to
+/// either output.
 pub fn run<R: Read + Drop, W1: Write, W2: Write>(
     alloc: Global,
     verified: Verified,
@@ -53,8 +54,10 @@ pub fn run<R: Read + Drop, W1: Write, W2: Write>(
     report: &mut W1,
     out: &mut W2,
 ) -> Result<Tally, HostError>
-    ensures report_untouched { result ≡ Err HostError.Memory → W1.contents report.new ≡ W1.contents report.old }
-    ensures out_untouched { result ≡ Err HostError.Memory → W2.contents out.new ≡ W2.contents out.old }
+    ensures report_untouched { result ≡ Err HostError.Memory
+        → W1.contents report.new ≡ W1.contents report.old }
+    ensures out_untouched { result ≡ Err HostError.Memory
+        → W2.contents out.new ≡ W2.contents out.old }
     ensures reports { result ≢ Err HostError.Memory → ReportsRun verified (R.remaining source)
         record { report = W1.contents report.old; frames = W2.contents out.old }
         record { report = W1.contents report.new; frames = W2.contents out.new } result }

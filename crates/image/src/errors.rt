@@ -8,8 +8,9 @@ use std::alloc::{AllocError, AllocFailed};
 use std::error::Error;
 use std::fmt;
 
-/// Why the bytes are no image: the first of these that is found, in the order I2, I1, I4, I6 for the 8 bytes of
-/// the head, then I2, I3 for the whole length, and then I8 slot by slot. I9 may come at any of these.
+/// Why the bytes are no image: the first of these that is found, in the order I2, I1, I4, I6 for
+/// the 8 bytes of the head, then I2, I3 for the whole length, and then I8 slot by slot. I9 may come
+/// at any of these.
 #[derive(Clone, Copy, PartialEq, Eq, Debug)]
 pub enum ImageError {
     /// Another magic than `XBP1`.

@@ -44,10 +44,12 @@ impl Image {
         // The bytes of an image are accepted, and no others.
         ensures found { IfOk result (λ image. bytes.now ≡ image_bytes image) }
         ensures fits { IfOk result IsImage }
-        ensures only { (p : Program) → IsImage p → bytes.now ≡ image_bytes p → MatchResult result (λ image. image ≡ p) (λ e. e ≡ ImageError.Memory) }
+        ensures only { (p : Program) → IsImage p → bytes.now ≡ image_bytes p
+            → MatchResult result (λ image. image ≡ p) (λ e. e ≡ ImageError.Memory) }
 
         // All others get the first refusal, running out of memory aside.
-        ensures refused { MatchResult result (λ _. refusal_of bytes.now ≡ None) (λ e. (e ≡ ImageError.Memory) ⊎ (refusal_of bytes.now ≡ Some e)) }
+        ensures refused { MatchResult result (λ _. refusal_of bytes.now ≡ None)
+            (λ e. (e ≡ ImageError.Memory) ⊎ (refusal_of bytes.now ≡ Some e)) }
     {
         decoding_laws();
         if let Some(error) = size_refusal(bytes) {
@@ -68,7 +70,8 @@ impl Image {
         ensures fits { IfOk result IsImage }
 
         // The only refusals are that there are no slots or too many, and that memory ran out.
-        ensures refused { MatchResult result (λ _. count_refusal (length (slots insns.now)) ≡ None) (λ e. (e ≡ ImageError.Memory) ⊎ (count_refusal (length (slots insns.now)) ≡ Some e)) }
+        ensures refused { MatchResult result (λ _. count_refusal (length (slots insns.now)) ≡ None)
+            (λ e. (e ≡ ImageError.Memory) ⊎ (count_refusal (length (slots insns.now)) ≡ Some e)) }
     {
         let slots = by_slot(alloc, insns)?;
         if let Some(error) = count_refusal(slots.len()) {
@@ -82,13 +85,15 @@ impl Image {
 
     /// Writes the bytes of the image.
     ///
-    /// The writer's first error, of any kind, is the failure and is handed on; a write of no byte is the failure
+    /// The writer's first error, of any kind, is the failure and is handed on; a write of no byte
+    /// is the failure
     /// `ErrorKind::WriteZero`. Nothing is tried again.
     pub fn write<W: Write>(&self, writer: &mut W) -> io::Result<()>
         ensures ok { OnOk result
             (Appends (W.contents writer.old) (W.contents writer.new) (image_bytes self.now)) }
         ensures err { OnErr result
-            (AppendsBeginning (W.contents writer.old) (W.contents writer.new) (image_bytes self.now)) }
+            (AppendsBeginning (W.contents writer.old) (W.contents writer.new)
+            (image_bytes self.now)) }
     {
         write_bytes(
             writer,

@@ -1,7 +1,9 @@
 //! What forms mean with their fields.
 
 ghost use Rattle.std.specs.Prelude.{◌≡◌};
-ghost use Rattle.insn_codec.specs.Decoding.{op_selected, extension_selected, span_selected, arithmetic, moved, swapped, atomic, wide, called, meaning, slot_meaning};
+ghost use Rattle.insn_codec.specs.Decoding.{op_selected, extension_selected, span_selected};
+ghost use Rattle.insn_codec.specs.Decoding.{arithmetic, moved, swapped, atomic, wide, called};
+ghost use Rattle.insn_codec.specs.Decoding.{meaning, slot_meaning};
 
 use crate::errors::CodecError;
 use crate::fields::Fields;

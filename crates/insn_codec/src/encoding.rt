@@ -229,14 +229,16 @@ fn constant_slot(opcode: u8, dst: Reg, imm: u32) -> Slot
 
 /// The slot of an instruction that loads a register from a place.
 fn load_slot(opcode: u8, dst: Reg, place: Place) -> Slot
-    ensures { result ≡ slot opcode (reg_number dst) (reg_number place.base) (offset16 place.offset) 0 }
+    ensures { result ≡ slot opcode (reg_number dst) (reg_number place.base)
+        (offset16 place.offset) 0 }
 {
     register_slot(opcode, dst, place.base, place.offset.cast_unsigned())
 }
 
 /// The slot of an instruction that stores a register at a place.
 fn store_slot(opcode: u8, place: Place, src: Reg, imm: u32) -> Slot
-    ensures { result ≡ slot opcode (reg_number place.base) (reg_number src) (offset16 place.offset) imm }
+    ensures { result ≡ slot opcode (reg_number place.base) (reg_number src)
+        (offset16 place.offset) imm }
 {
     let offset = place.offset.cast_unsigned();
     slot(

@@ -7,7 +7,8 @@ ghost use Rattle.insn_codec.specs.Decoding.{place_in, constant_in, distance_in};
 use crate::forms::Uses;
 use isa_model::{Operand, Place, Reg};
 
-/// A slot's fields, the opcode aside, once both registers are known. `offset` and `imm` are unsigned.
+/// A slot's fields, the opcode aside, once both registers are known. `offset` and `imm` are
+/// unsigned.
 #[derive(Clone, Copy, PartialEq, Eq, Debug)]
 pub struct Fields {
     pub dst: Reg,

@@ -1,11 +1,15 @@
 //! The forms that opcodes name. RFC 9669, sections 4 and 5.
 
 ghost use Rattle.std.specs.Prelude.{◌≡◌};
-ghost use Rattle.insn_codec.specs.Forms.{alu_code_numbered, has_selector, comparison_numbered, size_numbered, narrow_numbered, swap_form, arithmetic_form, jump_form, full_only, load_form, store_constant_form, store_form, form_of, uses};
+ghost use Rattle.insn_codec.specs.Forms.{alu_code_numbered, has_selector, comparison_numbered};
+ghost use Rattle.insn_codec.specs.Forms.{size_numbered, narrow_numbered, swap_form};
+ghost use Rattle.insn_codec.specs.Forms.{arithmetic_form, jump_form, full_only, load_form};
+ghost use Rattle.insn_codec.specs.Forms.{store_constant_form, store_form, form_of, uses};
 
 use isa_model::{ByteOrder, Comparison, Narrow, Size, Width};
 
-/// The operations by their codes in an opcode. A selector tells the signed divisions from the others.
+/// The operations by their codes in an opcode. A selector tells the signed divisions from the
+/// others.
 #[derive(Clone, Copy, PartialEq, Eq, Debug)]
 pub enum AluCode {
     Add,
@@ -203,8 +207,8 @@ fn store_form(code: u8) -> Option<Form>
 }
 
 impl Form {
-    /// The form that an opcode names: the class is in the low three bits, and in arithmetic and jumps the
-    /// source bit is above them.
+    /// The form that an opcode names: the class is in the low three bits, and in arithmetic and
+    /// jumps the source bit is above them.
     pub fn of(opcode: u8) -> Option<Self>
         ensures { result ≡ form_of opcode }
     {

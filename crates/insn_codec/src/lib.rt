@@ -39,7 +39,8 @@ pub fn decode(bytes: &[u8]) -> Result<(Insn, usize), CodecError>
     ensures fits { IfOk result (λ f. InsnFits f.0) }
 
     // What is spelled so is decoded, whatever follows it.
-    ensures only { (i : Insn) (rest : List ℕ) → InsnFits i → bytes.now ≡ spelling_of i ++ rest → result ≡ Ok (i, 8 * slots_of i) }
+    ensures only { (i : Insn) (rest : List ℕ) → InsnFits i → bytes.now ≡ spelling_of i ++ rest
+        → result ≡ Ok (i, 8 * slots_of i) }
 
     // Which refusal it is.
     ensures exact { result ≡ sized (decoded bytes.now) }
@@ -64,7 +65,10 @@ pub fn encode(insn: &Insn, out: &mut [u8; 16]) -> usize
 
 /// The laws of decoding, for proofs about many instructions in a row.
 pub fn decoding_laws()
-    ensures found { (bytes : List ℕ) (i : Insn) → EachByte bytes → decoded bytes ≡ Ok i → take (8 * slots_of i) bytes ≡ spelling_of i }
-    ensures fits { (bytes : List ℕ) (i : Insn) → EachByte bytes → decoded bytes ≡ Ok i → InsnFits i }
-    ensures again { (i : Insn) (rest : List ℕ) → InsnFits i → decoded (spelling_of i ++ rest) ≡ Ok i }
+    ensures found { (bytes : List ℕ) (i : Insn) → EachByte bytes → decoded bytes ≡ Ok i
+        → take (8 * slots_of i) bytes ≡ spelling_of i }
+    ensures fits { (bytes : List ℕ) (i : Insn) → EachByte bytes → decoded bytes ≡ Ok i
+        → InsnFits i }
+    ensures again { (i : Insn) (rest : List ℕ) → InsnFits i
+        → decoded (spelling_of i ++ rest) ≡ Ok i }
 {}

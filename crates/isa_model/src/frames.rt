@@ -4,8 +4,8 @@ ghost use Rattle.std.specs.Prelude.{◌≡◌, ◌≤◌, length};
 ghost use Rattle.isa_model.specs.Reporting.Frames.{action_of};
 ghost use Rattle.isa_model.specs.Reporting.Reports.{action_name, is_forwarded};
 
-/// What a frame's record says beside its bytes: a time in nanoseconds, and the interface and queue that it
-/// came in by.
+/// What a frame's record says beside its bytes: a time in nanoseconds, and the interface and queue
+/// that it came in by.
 #[derive(Clone, Copy, PartialEq, Eq, Debug)]
 pub struct FrameHead {
     pub time: u64,

@@ -140,8 +140,8 @@ impl Insn {
         }
     }
 
-    /// The registers that it reads, at most three: they have to be set. An exit decides about r0 itself, and a call
-    /// hands over r1 to r5 as they are.
+    /// The registers that it reads, at most three: they have to be set. An exit decides about r0
+    /// itself, and a call hands over r1 to r5 as they are.
     pub fn read(&self) -> (Option<Reg>, Option<Reg>, Option<Reg>)
         ensures { option_to_list result.0 ++ option_to_list result.1 ++ option_to_list result.2
             ≡ reads self.now }

@@ -94,7 +94,8 @@ pub fn negate(width: Width, a: u64) -> u64
     compute(AluOp::Sub, width, 0, a)
 }
 
-/// The low bits, sign-extended to the extension's width; a 32-bit result has an upper half of zeros.
+/// The low bits, sign-extended to the extension's width; a 32-bit result has an upper half of
+/// zeros.
 #[tactic(auto, unfolding(crate::specs::Code::Numbers::sign_extended))]
 pub fn sign_extend(extension: Extension, a: u64) -> u64
     ensures { result ≡ sign_extended extension a }

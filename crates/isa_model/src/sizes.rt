@@ -80,8 +80,9 @@ pub enum Span {
     B64,
 }
 
-/// What a byte swap instruction does with the low bytes: `le` keeps their order, `be` and `bswap` reverse it.
-/// On a little-endian machine `be` and `bswap` give the same number; they are spelled apart.
+/// What a byte swap instruction does with the low bytes: `le` keeps their order, `be` and `bswap`
+/// reverse it. On a little-endian machine `be` and `bswap` give the same number; they are spelled
+/// apart.
 #[derive(Clone, Copy, PartialEq, Eq, Debug)]
 pub enum ByteOrder {
     Little,

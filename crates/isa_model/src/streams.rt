@@ -37,8 +37,8 @@ impl Fault {
     }
 }
 
-/// How a stream ends: at its end, or by a fault in the record that begins at an offset in bytes (0 while the
-/// magic is read).
+/// How a stream ends: at its end, or by a fault in the record that begins at an offset in bytes (0
+/// while the magic is read).
 #[derive(Clone, Copy, PartialEq, Eq, Debug)]
 pub enum Finish {
     End,

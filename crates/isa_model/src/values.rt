@@ -1,7 +1,7 @@
 //! What registers and the bytes of stack frames hold in the meaning: tagged values.
 
-/// What a pointer points into. The serials of call frames and of map values are never used again, so a
-/// pointer to one that is gone is dead for ever.
+/// What a pointer points into. The serials of call frames and of map values are never used again,
+/// so a pointer to one that is gone is dead for ever.
 #[derive(Clone, Copy, PartialEq, Eq, Debug)]
 pub enum Region {
     /// The context, `struct xdp_md`.

@@ -10,7 +10,8 @@ use isa_model::{AluOp, ByteOrder, Extension, Span, Width, numbers};
 
 impl Bits {
     ghost use Rattle.isa_model.specs.Code.Numbers.{alu};
-    ghost use Rattle.known_bits.specs.Bits.{Has, IsConstant, IsSharp, IsPrecise, greatest_of, KnowsProduct};
+    ghost use Rattle.known_bits.specs.Bits.{Has, IsConstant, IsSharp, IsPrecise, greatest_of};
+    ghost use Rattle.known_bits.specs.Bits.{KnowsProduct};
 
     /// What the operation gives on the numbers of both.
     pub fn alu(op: AluOp, width: Width, a: Self, b: Self) -> Self
@@ -19,7 +20,8 @@ impl Bits {
         ensures product { op ≡ AluOp.Mul
             → KnowsProduct (greatest_of a % 2 ^ width_bits width)
             (greatest_of b % 2 ^ width_bits width) (Has result) }
-        ensures exact { (u v : ℕ) → IsConstant a u → IsConstant b v → IsConstant result (alu op width u v) }
+        ensures exact { (u v : ℕ) → IsConstant a u → IsConstant b v
+            → IsConstant result (alu op width u v) }
         ensures fits { (x : ℕ) → Has result x → x < 2 ^ width_bits width }
     {
         if a.mask == 0 && b.mask == 0 {

@@ -1,6 +1,7 @@
 //! Pairs of numbers between which a relation holds, one of each set: what is left of either.
 
-ghost use Rattle.std.specs.Prelude.{◌≡◌, ◌≢◌, ℕ, ◌<◌, ◌≤◌, ◌<ℤ◌, ◌≤ℤ◌, ◌^◌, IsSomeAnd, IfSome, bit_and, bit_or};
+ghost use Rattle.std.specs.Prelude.{◌≡◌, ◌≢◌, ℕ, ◌<◌, ◌≤◌, ◌<ℤ◌, ◌≤ℤ◌, ◌^◌, IsSomeAnd, IfSome};
+ghost use Rattle.std.specs.Prelude.{bit_and, bit_or};
 ghost use Rattle.std.specs.Int.{w64, cast_signed, bit_at};
 
 use crate::bits::Bits;
@@ -46,11 +47,13 @@ impl Bits {
 
     /// Those below some number of the other, and those above one, read as signed numbers.
     pub fn signed_below(self, other: Self) -> Option<(Self, Self)>
-        ensures common { (x y : ℕ) → Has self x → Has other y → cast_signed w64 x <ℤ cast_signed w64 y
+        ensures common { (x y : ℕ) → Has self x → Has other y
+            → cast_signed w64 x <ℤ cast_signed w64 y
             → IsSomeAnd result (λ p. Has p.0 x × Has p.1 y) }
         ensures left { IfSome result (λ p. (x : ℕ) → Has p.0 x → Has self x) }
         ensures right { IfSome result (λ p. (y : ℕ) → Has p.1 y → Has other y) }
-        ensures found { IfSome result (λ p. SomePair self other (λ x y. cast_signed w64 x <ℤ cast_signed w64 y)) }
+        ensures found { IfSome result
+            (λ p. SomePair self other (λ x y. cast_signed w64 x <ℤ cast_signed w64 y)) }
     {
         if self.signed_least() < other.signed_greatest() {
             Some((self, other))
@@ -61,11 +64,13 @@ impl Bits {
 
     /// Those at most some number of the other, and those at least one, read as signed numbers.
     pub fn signed_at_most(self, other: Self) -> Option<(Self, Self)>
-        ensures common { (x y : ℕ) → Has self x → Has other y → cast_signed w64 x ≤ℤ cast_signed w64 y
+        ensures common { (x y : ℕ) → Has self x → Has other y
+            → cast_signed w64 x ≤ℤ cast_signed w64 y
             → IsSomeAnd result (λ p. Has p.0 x × Has p.1 y) }
         ensures left { IfSome result (λ p. (x : ℕ) → Has p.0 x → Has self x) }
         ensures right { IfSome result (λ p. (y : ℕ) → Has p.1 y → Has other y) }
-        ensures found { IfSome result (λ p. SomePair self other (λ x y. cast_signed w64 x ≤ℤ cast_signed w64 y)) }
+        ensures found { IfSome result
+            (λ p. SomePair self other (λ x y. cast_signed w64 x ≤ℤ cast_signed w64 y)) }
     {
         if self.signed_least() <= other.signed_greatest() {
             Some((self, other))
@@ -111,9 +116,11 @@ impl Bits {
         ensures left { IfSome result (λ p. (x : ℕ) → Has p.0 x → Has self x) }
         ensures right { IfSome result (λ p. (y : ℕ) → Has p.1 y → Has other y) }
         ensures found { IfSome result (λ p. SomePair self other (λ x y. bit_and x y ≢ 0)) }
-        ensures left_only { IfSome result (λ p. (x i : ℕ) → bit_and (bit_or self.value self.mask) (bit_or other.value other.mask) ≡ 2 ^ i
+        ensures left_only { IfSome result (λ p. (x i : ℕ)
+            → bit_and (bit_or self.value self.mask) (bit_or other.value other.mask) ≡ 2 ^ i
             → Has p.0 x → bit_at x i ≡ 1) }
-        ensures right_only { IfSome result (λ p. (y i : ℕ) → bit_and (bit_or self.value self.mask) (bit_or other.value other.mask) ≡ 2 ^ i
+        ensures right_only { IfSome result (λ p. (y i : ℕ)
+            → bit_and (bit_or self.value self.mask) (bit_or other.value other.mask) ≡ 2 ^ i
             → Has p.1 y → bit_at y i ≡ 1) }
     {
         let shared = (self.value | self.mask) & (other.value | other.mask);

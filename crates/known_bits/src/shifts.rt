@@ -58,8 +58,10 @@ impl Bits {
     }
 
     pub(crate) fn shift_left_at(self, width: Width, other: Self) -> Self
-        ensures contains { (x y : ℕ) → Has self x → Has other y → Has result (result_of AluOp.Lsh width x y) }
-        ensures sharp { other.mask ≡ 0 → IsSharp self other (result_of AluOp.Lsh width) result.mask }
+        ensures contains { (x y : ℕ) → Has self x → Has other y
+            → Has result (result_of AluOp.Lsh width x y) }
+        ensures sharp { other.mask ≡ 0
+            → IsSharp self other (result_of AluOp.Lsh width) result.mask }
         ensures fits { (x : ℕ) → Has result x → x < 2 ^ width_bits width }
     {
         if other.mask != 0 {
@@ -85,7 +87,8 @@ impl Bits {
 
     // The shift that keeps the sign moves the bits of the value and of the mask alike.
     pub(crate) fn shift_signed_at(self, width: Width, other: Self) -> Self
-        ensures contains { (x y : ℕ) → Has self x → Has other y → Has result (alu AluOp.Arsh width x y) }
+        ensures contains { (x y : ℕ) → Has self x → Has other y
+            → Has result (alu AluOp.Arsh width x y) }
         ensures sharp { other.mask ≡ 0 → IsSharp self other (alu AluOp.Arsh width) result.mask }
         ensures fits { (x : ℕ) → Has result x → x < 2 ^ width_bits width }
     {

@@ -11,7 +11,8 @@ use isa_model::{AluOp, Width};
 impl Bits {
     ghost use Rattle.known_bits.specs.Bits.{Has, IsSharp};
 
-    // A bit is unknown where an operand's is, or where the carries of the least and the greatest sum differ. Linux,
+    // A bit is unknown where an operand's is, or where the carries of the least and the greatest
+    // sum differ. Linux,
     // `tnum_add`.
     pub(crate) fn add(self, other: Self) -> Self
         ensures contains { (x y : ℕ) → Has self x → Has other y → Has result ((x + y) % 2 ^ 64) }
@@ -28,7 +29,8 @@ impl Bits {
 
     // The complement of a difference is the complement of the first number plus the second.
     pub(crate) fn sub(self, other: Self) -> Self
-        ensures contains { (x y : ℕ) → Has self x → Has other y → Has result ((x + (2 ^ 64 - y)) % 2 ^ 64) }
+        ensures contains { (x y : ℕ) → Has self x → Has other y
+            → Has result ((x + (2 ^ 64 - y)) % 2 ^ 64) }
         ensures sharp { IsSharp self other (λ x y. (x + (2 ^ 64 - y)) % 2 ^ 64) result.mask }
     {
         let flipped = self.not();
@@ -37,7 +39,8 @@ impl Bits {
     }
 
     pub(crate) fn add_at(self, width: Width, other: Self) -> Self
-        ensures contains { (x y : ℕ) → Has self x → Has other y → Has result (result_of AluOp.Add width x y) }
+        ensures contains { (x y : ℕ) → Has self x → Has other y
+            → Has result (result_of AluOp.Add width x y) }
         ensures sharp { IsSharp self other (result_of AluOp.Add width) result.mask }
         ensures fits { (x : ℕ) → Has result x → x < 2 ^ width_bits width }
     {

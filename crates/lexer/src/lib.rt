@@ -1,7 +1,7 @@
 //! The tokens of program text, of which docs/TEXT.md tells.
 //!
-//! A text begins with a word, a number, a sign, a blank, a comment or the end of a statement. `specs/Lexing.antt`
-//! defines which, and how long it is.
+//! A text begins with a word, a number, a sign, a blank, a comment or the end of a statement.
+//! `specs/Lexing.antt` defines which, and how long it is.
 #![tactic(auto)]
 
 pub mod lexemes;

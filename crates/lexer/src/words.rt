@@ -1,7 +1,8 @@
 //! What words stand for.
 
 ghost use Rattle.std.specs.Prelude.{◌≡◌, bytes_eq};
-ghost use Rattle.lexer.specs.Words.{reg_of, register_word, word_of, key_word, size_word, swap_word, atomic_word};
+ghost use Rattle.lexer.specs.Words.{reg_of, register_word, word_of, key_word, size_word, swap_word};
+ghost use Rattle.lexer.specs.Words.{atomic_word};
 
 use super::tokens::Word;
 use isa_model::{AtomicOp, ByteOrder, Narrow, Reg, Size, Span, Width};

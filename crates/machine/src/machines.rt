@@ -27,7 +27,8 @@ pub struct Exit {
     pub steps: u32,
 }
 
-/// A machine that runs an accepted program. Every run exits within the program's bound, and none is refused.
+/// A machine that runs an accepted program. Every run exits within the program's bound, and none is
+/// refused.
 ///
 /// Contracts see its program with the bound, and the maps' contents between runs.
 #[derive(Drop)]

@@ -10,12 +10,14 @@ use isa_model::{AluOp, ByteOrder, Span, Width, numbers};
 
 impl Range {
     ghost use Rattle.isa_model.specs.Code.Numbers.{alu};
-    ghost use Rattle.ranges.specs.Ranges.{Has, IsConstant, IsBetween, IsSignedBetween, KeepsLimits, KeepsSignedLimits};
+    ghost use Rattle.ranges.specs.Ranges.{Has, IsConstant, IsBetween, IsSignedBetween, KeepsLimits};
+    ghost use Rattle.ranges.specs.Ranges.{KeepsSignedLimits};
 
     /// What the operation gives on the numbers of both.
     pub fn alu(op: AluOp, width: Width, a: Self, b: Self) -> Self
         ensures contains { (x y : ℕ) → Has a x → Has b y → Has result (alu op width x y) }
-        ensures exact { (u v : ℕ) → IsConstant a u → IsConstant b v → IsConstant result (alu op width u v) }
+        ensures exact { (u v : ℕ) → IsConstant a u → IsConstant b v
+            → IsConstant result (alu op width u v) }
         ensures fits { result.greatest < 2 ^ width_bits width }
         ensures limits { a.greatest < 2 ^ width_bits width → b.greatest < 2 ^ width_bits width
             → KeepsLimits op width a b (IsBetween result) }
@@ -48,7 +50,8 @@ impl Range {
         ensures contains { (x : ℕ) → Has a x → Has result (negated width x) }
         ensures exact { (u : ℕ) → IsConstant a u → IsConstant result (negated width u) }
         ensures fits { result.greatest < 2 ^ width_bits width }
-        ensures signed { (x : ℕ) → Has a x → width ≡ Width.Full64 → FitsSigned w64 (pos 0 -ℤ a.signed_least)
+        ensures signed { (x : ℕ) → Has a x → width ≡ Width.Full64
+            → FitsSigned w64 (pos 0 -ℤ a.signed_least)
             → IsSignedBetween result (pos 0 -ℤ a.signed_greatest) (pos 0 -ℤ a.signed_least) }
     {
         Range::alu(AluOp::Sub, width, Range::constant(0), a)
@@ -59,7 +62,8 @@ impl Range {
         ensures contains { (x : ℕ) → Has a x → Has result (reordered order span x) }
         ensures exact { (u : ℕ) → IsConstant a u → IsConstant result (reordered order span u) }
         ensures fits { result.greatest < 2 ^ span_bits span }
-        ensures little { order ≡ ByteOrder.Little → a.greatest < 2 ^ span_bits span → IsBetween result a.least a.greatest }
+        ensures little { order ≡ ByteOrder.Little → a.greatest < 2 ^ span_bits span
+            → IsBetween result a.least a.greatest }
     {
         if a.least == a.greatest {
             return Range::constant(numbers::reorder(order, span, a.least));

@@ -17,7 +17,8 @@ impl Range {
         ensures contains { (x : ℕ) → Has a x → Has result (sign_extended extension x) }
         ensures exact { (u : ℕ) → IsConstant a u → IsConstant result (sign_extended extension u) }
         ensures fits { result.greatest < 2 ^ width_bits (extension_width extension) }
-        ensures small { a.greatest + a.greatest < 2 ^ extension_bits extension → IsBetween result a.least a.greatest }
+        ensures small { a.greatest + a.greatest < 2 ^ extension_bits extension
+            → IsBetween result a.least a.greatest }
         ensures signed { (x : ℕ) → Has a x → extension_width extension ≡ Width.Full64
             → IsSignedOf (extension_signed extension) result }
         ensures kept { (x : ℕ) → Has a x → extension_width extension ≡ Width.Full64
@@ -38,8 +39,10 @@ impl Range {
     fn is_extended(self, extension: Extension) -> bool
         ensures sound { IsTrue result → (x : ℕ) → Has self x → sign_extended extension x ≡ x }
         ensures fits { IsTrue result → self.greatest < 2 ^ width_bits (extension_width extension) }
-        ensures small { self.greatest + self.greatest < 2 ^ extension_bits extension → IsTrue result }
-        ensures signed { extension_width extension ≡ Width.Full64 → IsSignedOf (extension_signed extension) self
+        ensures small { self.greatest + self.greatest < 2 ^ extension_bits extension
+            → IsTrue result }
+        ensures signed { extension_width extension ≡ Width.Full64
+            → IsSignedOf (extension_signed extension) self
             → IsTrue result }
     {
         if self.greatest < half_read(extension) {
@@ -60,7 +63,8 @@ fn all_extended(extension: Extension) -> Range
     ensures contains { (x : ℕ) → Has result (sign_extended extension x) }
     ensures fits { result.greatest < 2 ^ width_bits (extension_width extension) }
     ensures signed { extension_width extension ≡ Width.Full64 → (z : ℤ)
-        → ((result.signed_least ≤ℤ z) × (z ≤ℤ result.signed_greatest) ↔ FitsSigned (extension_signed extension) z) }
+        → ((result.signed_least ≤ℤ z) × (z ≤ℤ result.signed_greatest)
+        ↔ FitsSigned (extension_signed extension) z) }
 {
     match extension {
         Extension::Full8 => Range::signed_between(-0x80, 0x7f),

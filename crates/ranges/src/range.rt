@@ -1,13 +1,14 @@
 //! Ranges: the type, common numbers and inclusion.
 
-ghost use Rattle.std.specs.Prelude.{◌≡◌, ℕ, ◌+◌, ◌^◌, ◌<◌, ◌≤◌, ◌≤ℤ◌, ◌↔◌, Some, IsSomeAnd, IfSome, IsTrue};
+ghost use Rattle.std.specs.Prelude.{◌≡◌, ℕ, ◌+◌, ◌^◌, ◌<◌, ◌≤◌, ◌≤ℤ◌, ◌↔◌, Some, IsSomeAnd, IfSome};
+ghost use Rattle.std.specs.Prelude.{IsTrue};
 ghost use Rattle.std.specs.Int.{w64, cast_signed, cast_unsigned};
 ghost use Rattle.isa_model.specs.Code.Sizes.{width_bits};
 
 use isa_model::Width;
 
-/// The numbers within both pairs of limits: as unsigned and as signed numbers of 64 bits. Linux calls them umin,
-/// umax, smin and smax. There may be none.
+/// The numbers within both pairs of limits: as unsigned and as signed numbers of 64 bits. Linux
+/// calls them umin, umax, smin and smax. There may be none.
 #[derive(Clone, Copy, PartialEq, Eq, Debug)]
 pub struct Range {
     pub least: u64,
@@ -62,7 +63,8 @@ impl Range {
         ensures members { (x : ℕ) → (Has result x ↔ ((least ≤ x) × (x ≤ greatest))) }
         ensures limits { (result.least ≡ least) × (result.greatest ≡ greatest) }
         ensures signed { cast_signed w64 least ≤ℤ cast_signed w64 greatest
-            → (result.signed_least ≡ cast_signed w64 least) × (result.signed_greatest ≡ cast_signed w64 greatest) }
+            → (result.signed_least ≡ cast_signed w64 least)
+            × (result.signed_greatest ≡ cast_signed w64 greatest) }
     {
         if greatest < SIGN || least >= SIGN {
             Range {
@@ -88,7 +90,8 @@ impl Range {
             ↔ ((x < 2 ^ 64) × (least ≤ℤ cast_signed w64 x) × (cast_signed w64 x ≤ℤ greatest))) }
         ensures limits { (result.signed_least ≡ least) × (result.signed_greatest ≡ greatest) }
         ensures unsigned { cast_unsigned w64 least ≤ cast_unsigned w64 greatest
-            → (result.least ≡ cast_unsigned w64 least) × (result.greatest ≡ cast_unsigned w64 greatest) }
+            → (result.least ≡ cast_unsigned w64 least)
+            × (result.greatest ≡ cast_unsigned w64 greatest) }
     {
         if least >= 0 || greatest < 0 {
             Range {
@@ -119,7 +122,8 @@ impl Range {
         both.tightened()
     }
 
-    // The same numbers, by the narrowest limits: those of the two halves, in each of which both readings have one order.
+    // The same numbers, by the narrowest limits: those of the two halves, in each of which both
+    // readings have one order.
     fn tightened(self) -> Option<Self>
         ensures common { (x : ℕ) → Has self x → IsSomeAnd result (λ m. Has m x) }
         ensures left { IfSome result (λ m. (x : ℕ) → Has m x → Has self x) }

@@ -1,6 +1,7 @@
 //! Pairs of numbers between which a relation holds, one of each range: what is left of either.
 
-ghost use Rattle.std.specs.Prelude.{◌≡◌, ◌≢◌, ◌⊎◌, ℕ, ◌<◌, ◌≤◌, ◌<ℤ◌, ◌≤ℤ◌, None, IsSomeAnd, IfSome, bit_and};
+ghost use Rattle.std.specs.Prelude.{◌≡◌, ◌≢◌, ◌⊎◌, ℕ, ◌<◌, ◌≤◌, ◌<ℤ◌, ◌≤ℤ◌, None, IsSomeAnd};
+ghost use Rattle.std.specs.Prelude.{IfSome, bit_and};
 ghost use Rattle.std.specs.Int.{w64, cast_signed};
 
 use crate::range::Range;
@@ -41,12 +42,15 @@ impl Range {
 
     /// Those below some number of the other, and those above one, read as signed numbers.
     pub fn signed_below(self, other: Self) -> Option<(Self, Self)>
-        ensures common { (x y : ℕ) → Has self x → Has other y → cast_signed w64 x <ℤ cast_signed w64 y
+        ensures common { (x y : ℕ) → Has self x → Has other y
+            → cast_signed w64 x <ℤ cast_signed w64 y
             → IsSomeAnd result (λ p. Has p.0 x × Has p.1 y) }
         ensures left { IfSome result (λ p. (x : ℕ) → Has p.0 x → Has self x) }
         ensures right { IfSome result (λ p. (y : ℕ) → Has p.1 y → Has other y) }
-        ensures left_limit { IfSome result (λ p. (x : ℕ) → Has p.0 x → cast_signed w64 x <ℤ other.signed_greatest) }
-        ensures right_limit { IfSome result (λ p. (y : ℕ) → Has p.1 y → self.signed_least <ℤ cast_signed w64 y) }
+        ensures left_limit { IfSome result (λ p. (x : ℕ) → Has p.0 x
+            → cast_signed w64 x <ℤ other.signed_greatest) }
+        ensures right_limit { IfSome result (λ p. (y : ℕ) → Has p.1 y
+            → self.signed_least <ℤ cast_signed w64 y) }
     {
         if other.signed_greatest == i64::MIN || self.signed_least == i64::MAX {
             return None;
@@ -58,12 +62,15 @@ impl Range {
 
     /// Those at most some number of the other, and those at least one, read as signed numbers.
     pub fn signed_at_most(self, other: Self) -> Option<(Self, Self)>
-        ensures common { (x y : ℕ) → Has self x → Has other y → cast_signed w64 x ≤ℤ cast_signed w64 y
+        ensures common { (x y : ℕ) → Has self x → Has other y
+            → cast_signed w64 x ≤ℤ cast_signed w64 y
             → IsSomeAnd result (λ p. Has p.0 x × Has p.1 y) }
         ensures left { IfSome result (λ p. (x : ℕ) → Has p.0 x → Has self x) }
         ensures right { IfSome result (λ p. (y : ℕ) → Has p.1 y → Has other y) }
-        ensures left_limit { IfSome result (λ p. (x : ℕ) → Has p.0 x → cast_signed w64 x ≤ℤ other.signed_greatest) }
-        ensures right_limit { IfSome result (λ p. (y : ℕ) → Has p.1 y → self.signed_least ≤ℤ cast_signed w64 y) }
+        ensures left_limit { IfSome result (λ p. (x : ℕ) → Has p.0 x
+            → cast_signed w64 x ≤ℤ other.signed_greatest) }
+        ensures right_limit { IfSome result (λ p. (y : ℕ) → Has p.1 y
+            → self.signed_least ≤ℤ cast_signed w64 y) }
     {
         let left = self.meet(Range::signed_between(i64::MIN, other.signed_greatest))?;
         let right = other.meet(Range::signed_between(self.signed_least, i64::MAX))?;
@@ -76,22 +83,25 @@ impl Range {
             → IsSomeAnd result (λ p. Has p.0 x × Has p.1 y) }
         ensures left { IfSome result (λ p. (x : ℕ) → Has p.0 x → Has self x) }
         ensures right { IfSome result (λ p. (y : ℕ) → Has p.1 y → Has other y) }
-        ensures left_limit { IfSome result (λ p. (v : ℕ) → IsConstant other v → (self.least ≡ v) ⊎ (self.greatest ≡ v) → Has p.0 v → ⊥) }
-        ensures right_limit { IfSome result (λ p. (u : ℕ) → IsConstant self u → (other.least ≡ u) ⊎ (other.greatest ≡ u) → Has p.1 u → ⊥) }
+        ensures left_limit { IfSome result (λ p. (v : ℕ) → IsConstant other v
+            → (self.least ≡ v) ⊎ (self.greatest ≡ v) → Has p.0 v → ⊥) }
+        ensures right_limit { IfSome result (λ p. (u : ℕ) → IsConstant self u
+            → (other.least ≡ u) ⊎ (other.greatest ≡ u) → Has p.1 u → ⊥) }
     {
         let left = self.apart_from(other)?;
         let right = other.apart_from(self)?;
         Some((left, right))
     }
 
-    /// Those that have no bit in common with some number of the other, and the other way round. Limits show that of
-    /// two constants only.
+    /// Those that have no bit in common with some number of the other, and the other way round.
+    /// Limits show that of two constants only.
     pub fn disjoint(self, other: Self) -> Option<(Self, Self)>
         ensures common { (x y : ℕ) → Has self x → Has other y → bit_and x y ≡ 0
             → IsSomeAnd result (λ p. Has p.0 x × Has p.1 y) }
         ensures left { IfSome result (λ p. (x : ℕ) → Has p.0 x → Has self x) }
         ensures right { IfSome result (λ p. (y : ℕ) → Has p.1 y → Has other y) }
-        ensures constants { (u v : ℕ) → IsConstant self u → IsConstant other v → bit_and u v ≢ 0 → result ≡ None }
+        ensures constants { (u v : ℕ) → IsConstant self u → IsConstant other v → bit_and u v ≢ 0
+            → result ≡ None }
     {
         match (self.number(), other.number()) {
             (Some(a), Some(b)) if a & b != 0 => None,
@@ -99,7 +109,8 @@ impl Range {
         }
     }
 
-    /// Those that have a bit in common with some number of the other, and the other way round: not 0.
+    /// Those that have a bit in common with some number of the other, and the other way round: not
+    /// 0.
     pub fn overlapping(self, other: Self) -> Option<(Self, Self)>
         ensures common { (x y : ℕ) → Has self x → Has other y → bit_and x y ≢ 0
             → IsSomeAnd result (λ p. Has p.0 x × Has p.1 y) }
@@ -115,9 +126,11 @@ impl Range {
 
     // Those that differ from some number of the other.
     fn apart_from(self, other: Self) -> Option<Self>
-        ensures common { (x y : ℕ) → Has self x → Has other y → x ≢ y → IsSomeAnd result (λ r. Has r x) }
+        ensures common { (x y : ℕ) → Has self x → Has other y → x ≢ y
+            → IsSomeAnd result (λ r. Has r x) }
         ensures left { IfSome result (λ r. (x : ℕ) → Has r x → Has self x) }
-        ensures limit { IfSome result (λ r. (v : ℕ) → IsConstant other v → (self.least ≡ v) ⊎ (self.greatest ≡ v) → Has r v → ⊥) }
+        ensures limit { IfSome result (λ r. (v : ℕ) → IsConstant other v
+            → (self.least ≡ v) ⊎ (self.greatest ≡ v) → Has r v → ⊥) }
     {
         match other.number() {
             Some(number) => self.without(number),
@@ -129,7 +142,8 @@ impl Range {
     fn without(self, number: u64) -> Option<Self>
         ensures common { (x : ℕ) → Has self x → x ≢ number → IsSomeAnd result (λ r. Has r x) }
         ensures left { IfSome result (λ r. (x : ℕ) → Has r x → Has self x) }
-        ensures limit { IfSome result (λ r. (self.least ≡ number) ⊎ (self.greatest ≡ number) → Has r number → ⊥) }
+        ensures limit { IfSome result (λ r. (self.least ≡ number) ⊎ (self.greatest ≡ number)
+            → Has r number → ⊥) }
     {
         if self.least == number {
             if number == u64::MAX {

@@ -9,7 +9,8 @@ use crate::range::Range;
 use isa_model::{AluOp, Span, Width};
 
 impl Range {
-    ghost use Rattle.ranges.specs.Ranges.{Has, IsBetween, IsSignedBetween, KeepsLimits, KeepsSignedLimits};
+    ghost use Rattle.ranges.specs.Ranges.{Has, IsBetween, IsSignedBetween, KeepsLimits};
+    ghost use Rattle.ranges.specs.Ranges.{KeepsSignedLimits};
 
     pub(crate) fn truncate(self, width: Width) -> Self
         ensures contains { (x : ℕ) → Has self x → Has result (x % 2 ^ width_bits width) }
@@ -78,7 +79,8 @@ impl Range {
     fn shift_right(self, by: u64) -> Self
         requires { by < 64 }
         ensures contains { (x : ℕ) → Has self x → Has result (x / 2 ^ by) }
-        ensures limits { (result.least ≡ self.least / 2 ^ by) × (result.greatest ≡ self.greatest / 2 ^ by) }
+        ensures limits { (result.least ≡ self.least / 2 ^ by)
+            × (result.greatest ≡ self.greatest / 2 ^ by) }
     {
         Range::between(self.least >> by, self.greatest >> by)
     }
@@ -109,7 +111,8 @@ impl Range {
     }
 
     pub(crate) fn shift_left_at(self, width: Width, other: Self) -> Self
-        ensures contains { (x y : ℕ) → Has self x → Has other y → Has result (result_of AluOp.Lsh width x y) }
+        ensures contains { (x y : ℕ) → Has self x → Has other y
+            → Has result (result_of AluOp.Lsh width x y) }
         ensures fits { result.greatest < 2 ^ width_bits width }
         ensures limits { KeepsLimits AluOp.Lsh width self other (IsBetween result) }
     {
@@ -122,7 +125,8 @@ impl Range {
 
     // A shift to the right, however far, makes no number greater.
     pub(crate) fn shift_right_at(self, width: Width, other: Self) -> Self
-        ensures contains { (x y : ℕ) → Has self x → Has other y → Has result (result_of AluOp.Rsh width x y) }
+        ensures contains { (x y : ℕ) → Has self x → Has other y
+            → Has result (result_of AluOp.Rsh width x y) }
         ensures limits { KeepsLimits AluOp.Rsh width self other (IsBetween result) }
     {
         if other.least != other.greatest {
@@ -135,7 +139,8 @@ impl Range {
         ensures contains { (x y : ℕ) → x < 2 ^ width_bits width → Has self x → Has other y
             → Has result (result_of AluOp.Arsh width x y) }
         ensures fits { result.greatest < 2 ^ width_bits width }
-        ensures signed { width ≡ Width.Full64 → KeepsSignedLimits AluOp.Arsh self other (IsSignedBetween result) }
+        ensures signed { width ≡ Width.Full64
+            → KeepsSignedLimits AluOp.Arsh self other (IsSignedBetween result) }
     {
         if other.least != other.greatest {
             return Range::any(width);

@@ -8,7 +8,8 @@ use crate::range::Range;
 use isa_model::{AluOp, Width};
 
 impl Range {
-    ghost use Rattle.ranges.specs.Ranges.{Has, IsBetween, IsSignedBetween, KeepsLimits, KeepsSignedLimits};
+    ghost use Rattle.ranges.specs.Ranges.{Has, IsBetween, IsSignedBetween, KeepsLimits};
+    ghost use Rattle.ranges.specs.Ranges.{KeepsSignedLimits};
 
     fn add_unsigned(self, other: Self) -> Self
         ensures contains { (x y : ℕ) → Has self x → Has other y → Has result ((x + y) % 2 ^ 64) }
@@ -40,7 +41,8 @@ impl Range {
     }
 
     fn sub_unsigned(self, other: Self) -> Self
-        ensures contains { (x y : ℕ) → Has self x → Has other y → Has result ((x + (2 ^ 64 - y)) % 2 ^ 64) }
+        ensures contains { (x y : ℕ) → Has self x → Has other y
+            → Has result ((x + (2 ^ 64 - y)) % 2 ^ 64) }
         ensures limits { KeepsLimits AluOp.Sub Width.Full64 self other (IsBetween result) }
     {
         if self.least >= other.greatest || self.greatest < other.least {
@@ -54,7 +56,8 @@ impl Range {
     }
 
     fn sub_signed(self, other: Self) -> Self
-        ensures contains { (x y : ℕ) → Has self x → Has other y → Has result ((x + (2 ^ 64 - y)) % 2 ^ 64) }
+        ensures contains { (x y : ℕ) → Has self x → Has other y
+            → Has result ((x + (2 ^ 64 - y)) % 2 ^ 64) }
         ensures limits { KeepsSignedLimits AluOp.Sub self other (IsSignedBetween result) }
     {
         let Some(least) = self.signed_least.checked_sub(other.signed_greatest) else {
@@ -77,7 +80,8 @@ impl Range {
     }
 
     pub(crate) fn add_at(self, width: Width, other: Self) -> Self
-        ensures contains { (x y : ℕ) → Has self x → Has other y → Has result (result_of AluOp.Add width x y) }
+        ensures contains { (x y : ℕ) → Has self x → Has other y
+            → Has result (result_of AluOp.Add width x y) }
         ensures fits { result.greatest < 2 ^ width_bits width }
         ensures limits { KeepsLimits AluOp.Add width self other (IsBetween result) }
         ensures signed { (x y : ℕ) → Has self x → Has other y → width ≡ Width.Full64
@@ -92,7 +96,8 @@ impl Range {
         ensures contains { (x y : ℕ) → y ≤ 2 ^ width_bits width → Has self x → Has other y
             → Has result (result_of AluOp.Sub width x y) }
         ensures fits { result.greatest < 2 ^ width_bits width }
-        ensures limits { self.greatest < 2 ^ width_bits width → KeepsLimits AluOp.Sub width self other (IsBetween result) }
+        ensures limits { self.greatest < 2 ^ width_bits width
+            → KeepsLimits AluOp.Sub width self other (IsBetween result) }
         ensures signed { (x y : ℕ) → Has self x → Has other y → width ≡ Width.Full64
             → KeepsSignedLimits AluOp.Sub self other (IsSignedBetween result) }
     {
@@ -102,7 +107,8 @@ impl Range {
     }
 
     pub(crate) fn mul_at(self, width: Width, other: Self) -> Self
-        ensures contains { (x y : ℕ) → Has self x → Has other y → Has result (result_of AluOp.Mul width x y) }
+        ensures contains { (x y : ℕ) → Has self x → Has other y
+            → Has result (result_of AluOp.Mul width x y) }
         ensures fits { result.greatest < 2 ^ width_bits width }
         ensures limits { KeepsLimits AluOp.Mul width self other (IsBetween result) }
     {

@@ -52,7 +52,8 @@ impl Domain for Bits {
 
     fn alu(op: AluOp, width: Width, a: Bits, b: Bits) -> Bits
         ensures contains { (x y : ℕ) → Has a x → Has b y → Has result (alu op width x y) }
-        ensures exact { (u v : ℕ) → IsConstant a u → IsConstant b v → IsConstant result (alu op width u v) }
+        ensures exact { (u v : ℕ) → IsConstant a u → IsConstant b v
+            → IsConstant result (alu op width u v) }
         ensures fits { (x : ℕ) → Has result x → x < 2 ^ width_bits width }
         ensures sharp { IsPrecise op b → IsSharp a b (alu op width) result.mask }
     {

@@ -1,6 +1,7 @@
 //! What a conditional jump shows of the numbers that it compares.
 
-ghost use Rattle.std.specs.Prelude.{◌≡◌, ◌≢◌, ℕ, ◌^◌, ◌<◌, None, IsSomeAnd, IfSome, IsTrue, bit_and};
+ghost use Rattle.std.specs.Prelude.{◌≡◌, ◌≢◌, ℕ, ◌^◌, ◌<◌, None, IsSomeAnd, IfSome, IsTrue};
+ghost use Rattle.std.specs.Prelude.{bit_and};
 ghost use Rattle.isa_model.specs.Code.Numbers.{holds};
 ghost use Rattle.reg_state.specs.Relations.{Goes, reads_signed, low_half};
 ghost use Rattle.reg_state.specs.Reach.{MayGo, MayShare, exchanged};
@@ -8,7 +9,8 @@ ghost use Rattle.reg_state.specs.Reach.{MayGo, MayShare, exchanged};
 use crate::domains::Domain;
 use isa_model::{AluOp, Comparison, Extension, Width, numbers};
 
-/// What is left of two sets where the comparison of a member of each goes this way. None: it never does.
+/// What is left of two sets where the comparison of a member of each goes this way. None: it never
+/// does.
 pub fn refine<D: Domain>(
     comparison: Comparison,
     width: Width,
@@ -21,15 +23,19 @@ pub fn refine<D: Domain>(
     ensures left { IfSome result (λ p. (x : ℕ) → D.has p.0 x → D.has a x) }
     ensures right { IfSome result (λ p. (y : ℕ) → D.has p.1 y → D.has b y) }
     ensures left_constant { (u : ℕ) → D.is_constant a u → IfSome result (λ p. D.is_constant p.0 u) }
-    ensures right_constant { (v : ℕ) → D.is_constant b v → IfSome result (λ p. D.is_constant p.1 v) }
+    ensures right_constant { (v : ℕ) → D.is_constant b v
+        → IfSome result (λ p. D.is_constant p.1 v) }
     ensures stays { (u v : ℕ) → u < 2 ^ 64 → v < 2 ^ 64 → D.is_constant a u → D.is_constant b v
-        → holds comparison width u v ≡ taken → IsSomeAnd result (λ p. D.is_constant p.0 u × D.is_constant p.1 v) }
-    ensures never { (u v : ℕ) → D.is_constant a u → D.is_constant b v → holds comparison width u v ≢ taken
+        → holds comparison width u v ≡ taken
+        → IsSomeAnd result (λ p. D.is_constant p.0 u × D.is_constant p.1 v) }
+    ensures never { (u v : ℕ) → D.is_constant a u → D.is_constant b v
+        → holds comparison width u v ≢ taken
         → result ≡ None }
     ensures left_limits { width ≡ Width.Full64 → (u v : ℕ) → D.has a u → D.has a v → u ≢ v
         → IfSome result (λ p. (x : ℕ) → D.has p.0 x → MayGo comparison taken (D.limits b) x) }
     ensures right_limits { width ≡ Width.Full64 → (u v : ℕ) → D.has b u → D.has b v → u ≢ v
-        → IfSome result (λ p. (y : ℕ) → D.has p.1 y → MayGo (exchanged comparison) taken (D.limits a) y) }
+        → IfSome result (λ p. (y : ℕ) → D.has p.1 y
+        → MayGo (exchanged comparison) taken (D.limits a) y) }
     ensures left_bits { width ≡ Width.Full64 → (u v : ℕ) → D.has a u → D.has a v → u ≢ v
         → IfSome result (λ p. (x : ℕ) → D.has p.0 x
         → MayShare comparison taken (D.ones b) (bit_and (D.possible a) (D.possible b)) x) }
@@ -46,8 +52,10 @@ pub fn refine<D: Domain>(
 
 // Whether both sets have one number and the comparison of the two goes the other way.
 fn never_goes<D: Domain>(comparison: Comparison, width: Width, taken: bool, a: D, b: D) -> bool
-    ensures sound { IsTrue result → (x y : ℕ) → D.has a x → D.has b y → holds comparison width x y ≢ taken }
-    ensures exact { (u v : ℕ) → D.is_constant a u → D.is_constant b v → holds comparison width u v ≢ taken
+    ensures sound { IsTrue result → (x y : ℕ) → D.has a x → D.has b y
+        → holds comparison width x y ≢ taken }
+    ensures exact { (u v : ℕ) → D.is_constant a u → D.is_constant b v
+        → holds comparison width u v ≢ taken
         → IsTrue result }
 {
     let Some(x) = a.number() else {
@@ -62,7 +70,8 @@ fn never_goes<D: Domain>(comparison: Comparison, width: Width, taken: bool, a: D
 // The new set, but a constant as it was.
 fn kept<D: Domain>(old: D, new: D) -> D
     ensures contains { (x : ℕ) → D.has old x → D.has new x → D.has result x }
-    ensures narrower { ((x : ℕ) → D.has new x → D.has old x) → (x : ℕ) → D.has result x → D.has old x }
+    ensures narrower { ((x : ℕ) → D.has new x → D.has old x) → (x : ℕ) → D.has result x
+        → D.has old x }
     ensures constant { (u : ℕ) → D.is_constant old u → D.is_constant result u }
     ensures changed { (u v : ℕ) → D.has old u → D.has old v → u ≢ v → result ≡ new }
 {
@@ -86,7 +95,8 @@ fn narrowed<D: Domain>(
     ensures left_limits { width ≡ Width.Full64
         → IfSome result (λ p. (x : ℕ) → D.has p.0 x → MayGo comparison taken (D.limits b) x) }
     ensures right_limits { width ≡ Width.Full64
-        → IfSome result (λ p. (y : ℕ) → D.has p.1 y → MayGo (exchanged comparison) taken (D.limits a) y) }
+        → IfSome result (λ p. (y : ℕ) → D.has p.1 y
+        → MayGo (exchanged comparison) taken (D.limits a) y) }
     ensures left_bits { width ≡ Width.Full64 → IfSome result (λ p. (x : ℕ) → D.has p.0 x
         → MayShare comparison taken (D.ones b) (bit_and (D.possible a) (D.possible b)) x) }
     ensures right_bits { width ≡ Width.Full64 → IfSome result (λ p. (y : ℕ) → D.has p.1 y
@@ -104,8 +114,10 @@ fn related<D: Domain>(comparison: Comparison, taken: bool, a: D, b: D) -> Option
         → IsSomeAnd result (λ p. D.has p.0 x × D.has p.1 y) }
     ensures left { IfSome result (λ p. (x : ℕ) → D.has p.0 x → D.has a x) }
     ensures right { IfSome result (λ p. (y : ℕ) → D.has p.1 y → D.has b y) }
-    ensures left_limits { IfSome result (λ p. (x : ℕ) → D.has p.0 x → MayGo comparison taken (D.limits b) x) }
-    ensures right_limits { IfSome result (λ p. (y : ℕ) → D.has p.1 y → MayGo (exchanged comparison) taken (D.limits a) y) }
+    ensures left_limits { IfSome result (λ p. (x : ℕ) → D.has p.0 x
+        → MayGo comparison taken (D.limits b) x) }
+    ensures right_limits { IfSome result (λ p. (y : ℕ) → D.has p.1 y
+        → MayGo (exchanged comparison) taken (D.limits a) y) }
     ensures left_bits { IfSome result (λ p. (x : ℕ) → D.has p.0 x
         → MayShare comparison taken (D.ones b) (bit_and (D.possible a) (D.possible b)) x) }
     ensures right_bits { IfSome result (λ p. (y : ℕ) → D.has p.1 y
@@ -146,8 +158,8 @@ fn related<D: Domain>(comparison: Comparison, taken: bool, a: D, b: D) -> Option
     }
 }
 
-// At 32 bits the low halves are compared, extended by the comparison's sign. What this shows of them is taken up
-// only by members that are their own low halves.
+// At 32 bits the low halves are compared, extended by the comparison's sign. What this shows of
+// them is taken up only by members that are their own low halves.
 fn related_low<D: Domain>(comparison: Comparison, taken: bool, a: D, b: D) -> Option<(D, D)>
     ensures common { (x y : ℕ) → D.has a x → D.has b y → holds comparison Width.Low32 x y ≡ taken
         → IsSomeAnd result (λ p. D.has p.0 x × D.has p.1 y) }
@@ -173,7 +185,8 @@ fn low_halves<D: Domain>(comparison: Comparison, a: D) -> D
 }
 
 fn with_low_halves<D: Domain>(comparison: Comparison, a: D, low: D) -> Option<D>
-    ensures common { (x : ℕ) → D.has a x → D.has low (low_half comparison x) → IsSomeAnd result (λ m. D.has m x) }
+    ensures common { (x : ℕ) → D.has a x → D.has low (low_half comparison x)
+        → IsSomeAnd result (λ m. D.has m x) }
     ensures narrower { IfSome result (λ m. (x : ℕ) → D.has m x → D.has a x) }
 {
     if are_low_halves(comparison, a) {

@@ -1,6 +1,7 @@
 //! What every domain of numbers offers.
 
-ghost use Rattle.std.specs.Prelude.{◌≡◌, ◌≢◌, ℕ, ◌^◌, ◌<◌, ◌≤◌, ◌<ℤ◌, ◌≤ℤ◌, ◌↔◌, Some, IsSomeAnd, IfSome, IsTrue, bit_and, pos};
+ghost use Rattle.std.specs.Prelude.{◌≡◌, ◌≢◌, ℕ, ◌^◌, ◌<◌, ◌≤◌, ◌<ℤ◌, ◌≤ℤ◌, ◌↔◌, Some, IsSomeAnd};
+ghost use Rattle.std.specs.Prelude.{IfSome, IsTrue, bit_and, pos};
 ghost use Rattle.std.specs.Int.{w64, cast_signed, bit_at};
 ghost use Rattle.isa_model.specs.Code.Sizes.{width_bits, span_bits};
 ghost use Rattle.isa_model.specs.Code.Numbers.{alu, negated, sign_extended, reordered};
@@ -10,10 +11,11 @@ ghost use Rattle.reg_state.specs.Reach.{IsInside};
 
 use isa_model::{AluOp, ByteOrder, Extension, Span, Width};
 
-/// Sets of numbers below 2^64, each of which a register may hold. `has` says which numbers are members; `is_constant`
-/// that a set is written as the one of a single number, `encloses` that what is written of one set shows that it
-/// contains the other, `limits` between which limits the members are known to be, `ones` which bits each of them is known
-/// to have, and `possible` which bits any of them may have.
+/// Sets of numbers below 2^64, each of which a register may hold. `has` says which numbers are
+/// members; `is_constant` that a set is written as the one of a single number, `encloses` that what
+/// is written of one set shows that it contains the other, `limits` between which limits the
+/// members are known to be, `ones` which bits each of them is known to have, and `possible` which
+/// bits any of them may have.
 pub trait Domain: Copy {
     ghost has: { Self → ℕ → Type 0 };
 
@@ -52,7 +54,8 @@ pub trait Domain: Copy {
     /// What the operation gives on the members of both.
     fn alu(op: AluOp, width: Width, a: Self, b: Self) -> Self
         ensures contains { (x y : ℕ) → has a x → has b y → has result (alu op width x y) }
-        ensures exact { (u v : ℕ) → is_constant a u → is_constant b v → is_constant result (alu op width u v) }
+        ensures exact { (u v : ℕ) → is_constant a u → is_constant b v
+            → is_constant result (alu op width u v) }
         ensures fits { (x : ℕ) → has result x → x < 2 ^ width_bits width };
 
     /// The members with their signs changed.
@@ -91,8 +94,10 @@ pub trait Domain: Copy {
             → IsSomeAnd result (λ p. has p.0 x × has p.1 y) }
         ensures left { IfSome result (λ p. (x : ℕ) → has p.0 x → has self x) }
         ensures right { IfSome result (λ p. (y : ℕ) → has p.1 y → has other y) }
-        ensures left_limit { IfSome result (λ p. (x : ℕ) → has p.0 x → pos x <ℤ (limits other).greatest) }
-        ensures right_limit { IfSome result (λ p. (y : ℕ) → has p.1 y → (limits self).least <ℤ pos y) };
+        ensures left_limit { IfSome result (λ p. (x : ℕ) → has p.0 x
+            → pos x <ℤ (limits other).greatest) }
+        ensures right_limit { IfSome result (λ p. (y : ℕ) → has p.1 y
+            → (limits self).least <ℤ pos y) };
 
     /// Those at most some member of the other, and those at least one.
     fn at_most(self, other: Self) -> Option<(Self, Self)>
@@ -100,26 +105,34 @@ pub trait Domain: Copy {
             → IsSomeAnd result (λ p. has p.0 x × has p.1 y) }
         ensures left { IfSome result (λ p. (x : ℕ) → has p.0 x → has self x) }
         ensures right { IfSome result (λ p. (y : ℕ) → has p.1 y → has other y) }
-        ensures left_limit { IfSome result (λ p. (x : ℕ) → has p.0 x → pos x ≤ℤ (limits other).greatest) }
-        ensures right_limit { IfSome result (λ p. (y : ℕ) → has p.1 y → (limits self).least ≤ℤ pos y) };
+        ensures left_limit { IfSome result (λ p. (x : ℕ) → has p.0 x
+            → pos x ≤ℤ (limits other).greatest) }
+        ensures right_limit { IfSome result (λ p. (y : ℕ) → has p.1 y
+            → (limits self).least ≤ℤ pos y) };
 
     /// Those below some member of the other, and those above one, read as signed numbers.
     fn signed_below(self, other: Self) -> Option<(Self, Self)>
-        ensures common { (x y : ℕ) → has self x → has other y → cast_signed w64 x <ℤ cast_signed w64 y
+        ensures common { (x y : ℕ) → has self x → has other y
+            → cast_signed w64 x <ℤ cast_signed w64 y
             → IsSomeAnd result (λ p. has p.0 x × has p.1 y) }
         ensures left { IfSome result (λ p. (x : ℕ) → has p.0 x → has self x) }
         ensures right { IfSome result (λ p. (y : ℕ) → has p.1 y → has other y) }
-        ensures left_limit { IfSome result (λ p. (x : ℕ) → has p.0 x → cast_signed w64 x <ℤ (limits other).signed_greatest) }
-        ensures right_limit { IfSome result (λ p. (y : ℕ) → has p.1 y → (limits self).signed_least <ℤ cast_signed w64 y) };
+        ensures left_limit { IfSome result (λ p. (x : ℕ) → has p.0 x
+            → cast_signed w64 x <ℤ (limits other).signed_greatest) }
+        ensures right_limit { IfSome result (λ p. (y : ℕ) → has p.1 y
+            → (limits self).signed_least <ℤ cast_signed w64 y) };
 
     /// Those at most some member of the other, and those at least one, read as signed numbers.
     fn signed_at_most(self, other: Self) -> Option<(Self, Self)>
-        ensures common { (x y : ℕ) → has self x → has other y → cast_signed w64 x ≤ℤ cast_signed w64 y
+        ensures common { (x y : ℕ) → has self x → has other y
+            → cast_signed w64 x ≤ℤ cast_signed w64 y
             → IsSomeAnd result (λ p. has p.0 x × has p.1 y) }
         ensures left { IfSome result (λ p. (x : ℕ) → has p.0 x → has self x) }
         ensures right { IfSome result (λ p. (y : ℕ) → has p.1 y → has other y) }
-        ensures left_limit { IfSome result (λ p. (x : ℕ) → has p.0 x → cast_signed w64 x ≤ℤ (limits other).signed_greatest) }
-        ensures right_limit { IfSome result (λ p. (y : ℕ) → has p.1 y → (limits self).signed_least ≤ℤ cast_signed w64 y) };
+        ensures left_limit { IfSome result (λ p. (x : ℕ) → has p.0 x
+            → cast_signed w64 x ≤ℤ (limits other).signed_greatest) }
+        ensures right_limit { IfSome result (λ p. (y : ℕ) → has p.1 y
+            → (limits self).signed_least ≤ℤ cast_signed w64 y) };
 
     /// Those that differ from some member of the other, and the other way round.
     fn apart(self, other: Self) -> Option<(Self, Self)>
@@ -143,9 +156,11 @@ pub trait Domain: Copy {
             → IsSomeAnd result (λ p. has p.0 x × has p.1 y) }
         ensures left { IfSome result (λ p. (x : ℕ) → has p.0 x → has self x) }
         ensures right { IfSome result (λ p. (y : ℕ) → has p.1 y → has other y) }
-        ensures left_only { IfSome result (λ p. (x i : ℕ) → bit_and (possible self) (possible other) ≡ 2 ^ i
+        ensures left_only { IfSome result (λ p. (x i : ℕ)
+            → bit_and (possible self) (possible other) ≡ 2 ^ i
             → has p.0 x → bit_at x i ≡ 1) }
-        ensures right_only { IfSome result (λ p. (y i : ℕ) → bit_and (possible self) (possible other) ≡ 2 ^ i
+        ensures right_only { IfSome result (λ p. (y i : ℕ)
+            → bit_and (possible self) (possible other) ≡ 2 ^ i
             → has p.1 y → bit_at y i ≡ 1) };
 
     // every member is a number of a register

@@ -7,8 +7,8 @@ use crate::scalars::Scalar;
 
 /// What is known of the value of a register or of a stack slot. Offsets are in bytes.
 ///
-/// An identity ties together values that were copied from one another: what a test shows of one of them holds of all.
-/// Identity 0 of a packet pointer is none: its variable part is 0.
+/// An identity ties together values that were copied from one another: what a test shows of one of
+/// them holds of all. Identity 0 of a packet pointer is none: its variable part is 0.
 #[derive(Clone, Copy, PartialEq, Eq, Debug, Default)]
 pub enum Kind {
     /// Nothing: it may be unset.
@@ -17,7 +17,8 @@ pub enum Kind {
     Number(Scalar),
     /// The context, `struct xdp_md`.
     Context,
-    /// A pointer into a call frame, counted from the outermost, 0; the offset is from the frame's end.
+    /// A pointer into a call frame, counted from the outermost, 0; the offset is from the frame's
+    /// end.
     Stack {
         frame: u8,
         offset: i32,
@@ -42,7 +43,8 @@ pub enum Kind {
         least: i32,
         greatest: i32,
     },
-    /// What a lookup answered: a pointer to a live value of the map, or 0, as all values of the identity are.
+    /// What a lookup answered: a pointer to a live value of the map, or 0, as all values of the
+    /// identity are.
     MapValueOrNull {
         index: u8,
         identity: u32,
@@ -50,7 +52,8 @@ pub enum Kind {
 }
 
 impl Kind {
-    ghost use Rattle.reg_state.specs.KindCover.{packet_identity_of, null_identity_of, IsCalled, KindCovers, KindEncloses, IsNoNumber};
+    ghost use Rattle.reg_state.specs.KindCover.{packet_identity_of, null_identity_of, IsCalled};
+    ghost use Rattle.reg_state.specs.KindCover.{KindCovers, KindEncloses, IsNoNumber};
 
     /// The packet identity that it names, 0 included, if it names one.
     pub fn packet_identity(self) -> Option<u32>
@@ -72,7 +75,8 @@ impl Kind {
         }
     }
 
-    /// Whether it allows what `other` does, where `identity` is what `other`'s state calls the identity that it names.
+    /// Whether it allows what `other` does, where `identity` is what `other`'s state calls the
+    /// identity that it names.
     pub fn covers(self, other: Kind, identity: u32) -> bool
         ensures yes { IsTrue result → (packet null : ℕ → ℕ) → IsCalled packet null self identity
             → KindCovers packet null self other }

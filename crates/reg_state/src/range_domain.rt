@@ -9,7 +9,8 @@ use ranges::Range;
 impl Domain for Range {
     ghost use Rattle.ranges.specs.Ranges.{Has, IsConstant, Encloses};
     ghost use Rattle.reg_state.specs.Limits.{range_limits};
-    ghost use Rattle.reg_state.specs.Constants.{range_inside, range_constant_has, range_constant_only};
+    ghost use Rattle.reg_state.specs.Constants.{range_inside, range_constant_has};
+    ghost use Rattle.reg_state.specs.Constants.{range_constant_only};
 
     ghost has = { Has };
 

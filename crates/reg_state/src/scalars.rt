@@ -100,10 +100,13 @@ impl Scalar {
 
     // Two sets from their parts.
     fn joined(bits: (Bits, Bits), ranges: (Range, Range)) -> Option<(Scalar, Scalar)>
-        ensures common { (x y : ℕ) → B.Has bits.0 x → R.Has ranges.0 x → B.Has bits.1 y → R.Has ranges.1 y
+        ensures common { (x y : ℕ) → B.Has bits.0 x → R.Has ranges.0 x → B.Has bits.1 y
+            → R.Has ranges.1 y
             → IsSomeAnd result (λ p. Has p.0 x × Has p.1 y) }
-        ensures left { IfSome result (λ p. (x : ℕ) → Has p.0 x → B.Has bits.0 x × R.Has ranges.0 x) }
-        ensures right { IfSome result (λ p. (y : ℕ) → Has p.1 y → B.Has bits.1 y × R.Has ranges.1 y) }
+        ensures left { IfSome result (λ p. (x : ℕ) → Has p.0 x
+            → B.Has bits.0 x × R.Has ranges.0 x) }
+        ensures right { IfSome result (λ p. (y : ℕ) → Has p.1 y
+            → B.Has bits.1 y × R.Has ranges.1 y) }
     {
         let left = Scalar {
             bits: bits.0,
@@ -131,7 +134,8 @@ impl Domain for Scalar {
     ghost use Rattle.ranges.specs.Ranges as R;
     ghost use Rattle.ranges.specs.Ranges.{IsSignedOf, extension_signed};
     ghost use Rattle.reg_state.specs.Limits.{range_limits};
-    ghost use Rattle.reg_state.specs.Constants.{range_inside, bits_constant_has, bits_constant_only, range_constant_has};
+    ghost use Rattle.reg_state.specs.Constants.{range_inside, bits_constant_has};
+    ghost use Rattle.reg_state.specs.Constants.{bits_constant_only, range_constant_has};
 
     ghost has = { Has };
 
@@ -183,7 +187,8 @@ impl Domain for Scalar {
 
     fn alu(op: AluOp, width: Width, a: Scalar, b: Scalar) -> Scalar
         ensures contains { (x y : ℕ) → Has a x → Has b y → Has result (alu op width x y) }
-        ensures exact { (u v : ℕ) → IsConstant a u → IsConstant b v → IsConstant result (alu op width u v) }
+        ensures exact { (u v : ℕ) → IsConstant a u → IsConstant b v
+            → IsConstant result (alu op width u v) }
         ensures fits { (x : ℕ) → Has result x → x < 2 ^ width_bits width }
         ensures limits { a.range.greatest < 2 ^ width_bits width
             → b.range.greatest < 2 ^ width_bits width

@@ -47,7 +47,8 @@ fn load_image<'a, R: Files, W: Write>(
 ) -> Result<Image, Outcome<'a>>
     ensures ok { OnOk result (W.contents out.new ≡ W.contents out.old) }
     ensures fits { IfOk result IsImage }
-    ensures none { IfErr result (λ ended. LoadsNone path.now (W.contents out.old) (W.contents out.new) ended) }
+    ensures none { IfErr result
+        (λ ended. LoadsNone path.now (W.contents out.old) (W.contents out.new) ended) }
 {
     let bytes = match read_start(rt, alloc, path, PAST_ANY_IMAGE) {
         Ok(bytes) => bytes,
@@ -58,7 +59,9 @@ fn load_image<'a, R: Files, W: Write>(
 
 // Opens the frames, and then the frames out.
 fn open_streams<'a, R: Files>(rt: &R, paths: Paths<'a>) -> Result<(R::File, R::File), Outcome<'a>>
-    ensures { IfErr result (λ ended. IsReadFailure paths.entry.frames.now ended ⊎ IsMakeFailure paths.entry.out.now ended) }
+    ensures { IfErr result
+        (λ ended. IsReadFailure paths.entry.frames.now ended
+        ⊎ IsMakeFailure paths.entry.out.now ended) }
 {
     let source = match fs::open(rt, paths.frames) {
         Ok(source) => source,
@@ -68,8 +71,8 @@ fn open_streams<'a, R: Files>(rt: &R, paths: Paths<'a>) -> Result<(R::File, R::F
     Ok((source, file))
 }
 
-/// Runs a program on a frame stream with checks: the image is read and judged, then the frames are opened, then the
-/// frames out. The report goes to standard output as it comes.
+/// Runs a program on a frame stream with checks: the image is read and judged, then the frames are
+/// opened, then the frames out. The report goes to standard output as it comes.
 pub fn trace<'a, R: Files, W: Write>(
     rt: &R,
     alloc: Global,
@@ -77,7 +80,8 @@ pub fn trace<'a, R: Files, W: Write>(
     limit: StepLimit,
     out: &mut W,
 ) -> Outcome<'a>
-    ensures { TracesFile (files_of paths.entry) limit.steps (W.contents out.old) (W.contents out.new) result }
+    ensures { TracesFile (files_of paths.entry) limit.steps (W.contents out.old)
+        (W.contents out.new) result }
 {
     let image = match load_image(rt, alloc, paths.image, out) {
         Ok(image) => image,
@@ -91,8 +95,8 @@ pub fn trace<'a, R: Files, W: Write>(
     }
 }
 
-/// Verifies a program and runs it on a frame stream: the image is read and judged, then the frames are opened, then
-/// the frames out. The report goes to standard output as it comes.
+/// Verifies a program and runs it on a frame stream: the image is read and judged, then the frames
+/// are opened, then the frames out. The report goes to standard output as it comes.
 pub fn run_verified<'a, R: Files, W: Write>(
     rt: &R,
     alloc: Global,
@@ -115,7 +119,8 @@ pub fn run_verified<'a, R: Files, W: Write>(
     }
 }
 
-/// Verifies a program: its image is read and judged, and standard output says the most steps of a run.
+/// Verifies a program: its image is read and judged, and standard output says the most steps of a
+/// run.
 pub fn verify_file<'a, R: Files, W: Write>(
     rt: &R,
     alloc: Global,
@@ -147,15 +152,16 @@ pub fn disassemble_file<'a, R: Files, W: Write>(
     say_text(&image, out)
 }
 
-/// Makes the image of a text: the text is read and judged, then the image is written, and then standard output says
-/// how large it is. Where memory runs out no file is opened for the image.
+/// Makes the image of a text: the text is read and judged, then the image is written, and then
+/// standard output says how large it is. Where memory runs out no file is opened for the image.
 pub fn assemble_file<'a, R: Files, W: Write>(
     rt: &R,
     alloc: Global,
     paths: Assembly<'a>,
     out: &mut W,
 ) -> Outcome<'a>
-    ensures { AssemblesFile paths.entry.text.now paths.entry.image.now (W.contents out.old) (W.contents out.new) result }
+    ensures { AssemblesFile paths.entry.text.now paths.entry.image.now (W.contents out.old)
+        (W.contents out.new) result }
 {
     let text = match read_file(rt, alloc, paths.text) {
         Ok(text) => text,

@@ -98,7 +98,8 @@ impl<'a> Outcome<'a> {
 
     // Says what went wrong.
     fn say<W: Write>(self, err: &mut W) -> io::Result<()>
-        ensures ok { OnOk result (Appends (W.contents err.old) (W.contents err.new) (message_of self.entry)) }
+        ensures ok { OnOk result
+            (Appends (W.contents err.old) (W.contents err.new) (message_of self.entry)) }
         ensures err { OnErr result
             (AppendsBeginning (W.contents err.old) (W.contents err.new) (message_of self.entry)) }
         ensures unsaid { is_unsaid self.entry ≡ true → W.contents err.new ≡ W.contents err.old }
@@ -128,11 +129,12 @@ impl<'a> Outcome<'a> {
         }
     }
 
-    /// Says on standard error what went wrong, and answers the program's status. Nothing can be said of a failure of
-    /// standard error.
+    /// Says on standard error what went wrong, and answers the program's status. Nothing can be
+    /// said of a failure of standard error.
     pub fn tell<W: Write>(self, err: &mut W) -> u8
         ensures status { result ≡ status_of self.entry }
-        ensures said { AppendsPart (W.contents err.old) (W.contents err.new) (message_of self.entry) }
+        ensures said { AppendsPart (W.contents err.old) (W.contents err.new)
+            (message_of self.entry) }
         ensures unsaid { is_unsaid self.entry ≡ true → W.contents err.new ≡ W.contents err.old }
     {
         let _ = self.say(err);

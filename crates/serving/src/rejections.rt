@@ -40,7 +40,8 @@ impl Rejection {
 
     // Writes where it is refused.
     fn say_place<W: Write>(self, err: &mut W) -> io::Result<()>
-        ensures ok { OnOk result (Appends (W.contents err.old) (W.contents err.new) (place_of self)) }
+        ensures ok { OnOk result
+            (Appends (W.contents err.old) (W.contents err.new) (place_of self)) }
         ensures err { OnErr result
             (AppendsBeginning (W.contents err.old) (W.contents err.new) (place_of self)) }
     {
@@ -55,7 +56,8 @@ impl Rejection {
 
     /// Writes the sentence, and in the next line the place.
     pub fn say<W: Write>(self, err: &mut W) -> io::Result<()>
-        ensures ok { OnOk result (Appends (W.contents err.old) (W.contents err.new) (reason_of self)) }
+        ensures ok { OnOk result
+            (Appends (W.contents err.old) (W.contents err.new) (reason_of self)) }
         ensures err { OnErr result
             (AppendsBeginning (W.contents err.old) (W.contents err.new) (reason_of self)) }
     {

@@ -27,8 +27,8 @@ fn outcome_of<'a>(path: &'a str, ended: Result<Tally, HostError>) -> Outcome<'a>
     }
 }
 
-/// Runs a program on a frame stream with checks. The report goes to `out` as it comes, and the frames out to a file
-/// that was opened by this path.
+/// Runs a program on a frame stream with checks. The report goes to `out` as it comes, and the
+/// frames out to a file that was opened by this path.
 pub fn trace_stream<'a, R: Read + Drop, W1: Write, W2: Write>(
     alloc: Global,
     image: Image,
@@ -48,8 +48,8 @@ pub fn trace_stream<'a, R: Read + Drop, W1: Write, W2: Write>(
     )
 }
 
-/// Runs an accepted program on a frame stream. The report goes to `out` as it comes, and the frames out to a file that
-/// was opened by this path.
+/// Runs an accepted program on a frame stream. The report goes to `out` as it comes, and the frames
+/// out to a file that was opened by this path.
 pub fn run_stream<'a, R: Read + Drop, W1: Write, W2: Write>(
     alloc: Global,
     verified: Verified,

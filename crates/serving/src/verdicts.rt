@@ -47,7 +47,9 @@ fn say_made<'a, W: Write>(
     out: &mut W,
 ) -> Outcome<'a>
     requires { is_silent ended ≡ false }
-    ensures { MatchResult line (λ text. Says (W.contents out.old) (W.contents out.new) (string_bytes text) ended.entry result)
+    ensures { MatchResult line
+        (λ text. Says (W.contents out.old) (W.contents out.new)
+        (string_bytes text) ended.entry result)
         (λ _. LacksMemory (W.contents out.old) (W.contents out.new) result) }
 {
     match line {
@@ -65,8 +67,10 @@ pub fn image_of<'a, W: Write>(
     ensures ok { OnOk result (W.contents out.new ≡ W.contents out.old) }
     ensures found { IfOk result (λ image. bytes.now ≡ image_bytes image) }
     ensures fits { IfOk result IsImage }
-    ensures only { (p : Program) → IsImage p → bytes.now ≡ image_bytes p → MatchResult result (λ image. image ≡ p) (λ ended. ended ≡ Outcome.NoMemory) }
-    ensures refused { IfErr result (λ ended. RefusesImage bytes.now (W.contents out.old) (W.contents out.new) ended) }
+    ensures only { (p : Program) → IsImage p → bytes.now ≡ image_bytes p
+        → MatchResult result (λ image. image ≡ p) (λ ended. ended ≡ Outcome.NoMemory) }
+    ensures refused { IfErr result
+        (λ ended. RefusesImage bytes.now (W.contents out.old) (W.contents out.new) ended) }
 {
     match Image::parse(alloc, bytes) {
         Ok(image) => Ok(image),
@@ -116,7 +120,8 @@ pub fn judge<'a, W: Write>(
     ensures ok { OnOk result (W.contents out.new ≡ W.contents out.old) }
     ensures program { IfOk result (λ verified. verified.program ≡ image) }
     ensures verified { IfOk result IsVerified }
-    ensures refused { IfErr result (λ ended. RefusesProgram image (W.contents out.old) (W.contents out.new) ended) }
+    ensures refused { IfErr result
+        (λ ended. RefusesProgram image (W.contents out.old) (W.contents out.new) ended) }
 {
     // a copy, since the verifier takes the image
     let Ok(code) = Vec::from_slice(alloc, image.code()) else {
@@ -151,7 +156,8 @@ pub fn say_verdict<'a, W: Write>(alloc: Global, image: Image, out: &mut W) -> Ou
 
 /// Writes the text of an image.
 pub fn say_text<'a, W: Write>(image: &Image, out: &mut W) -> Outcome<'a>
-    ensures { Says (W.contents out.old) (W.contents out.new) (canonical_text image.now) Outcome.Done result }
+    ensures { Says (W.contents out.old) (W.contents out.new)
+        (canonical_text image.now) Outcome.Done result }
 {
     match disassemble(image, out) {
         Ok(()) => Outcome::Done,
@@ -159,16 +165,19 @@ pub fn say_text<'a, W: Write>(image: &Image, out: &mut W) -> Outcome<'a>
     }
 }
 
-/// The image of a text, or how the task ends without it: a refusal is said, with its line and column.
+/// The image of a text, or how the task ends without it: a refusal is said, with its line and
+/// column.
 pub fn assembled<'a, W: Write>(
     alloc: Global,
     text: &[u8],
     out: &mut W,
 ) -> Result<Image, Outcome<'a>>
     ensures ok { OnOk result (W.contents out.new ≡ W.contents out.old) }
-    ensures round_trip { (p : Program) → IsImage p → text.now ≡ canonical_text p → MatchResult result (λ image. image ≡ p) (λ ended. ended ≡ Outcome.NoMemory) }
+    ensures round_trip { (p : Program) → IsImage p → text.now ≡ canonical_text p
+        → MatchResult result (λ image. image ≡ p) (λ ended. ended ≡ Outcome.NoMemory) }
     ensures found { IfOk result (λ image. spells.assembled text.now ≡ Ok image) }
-    ensures refused { IfErr result (λ ended. RefusesText text.now (W.contents out.old) (W.contents out.new) ended) }
+    ensures refused { IfErr result
+        (λ ended. RefusesText text.now (W.contents out.old) (W.contents out.new) ended) }
 {
     match assemble(alloc, text) {
         Ok(image) => Ok(image),

@@ -79,4 +79,3 @@ Means-start p head packet contents program given = (at_start packet contents, me
       kept = λ j k below within. absurd (omega arith);
       stacks = λ j below. first_stack (at_start packet contents) (count_values contents) j _ below;
     }
-

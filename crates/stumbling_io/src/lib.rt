@@ -1,8 +1,9 @@
-//! Readers and writers for tests, which move a few bytes at a time and stumble once. What stands above them has to
-//! take what comes, and must not try again.
+//! Readers and writers for tests, which move a few bytes at a time and stumble once. What stands
+//! above them has to take what comes, and must not try again.
 #![tactic(auto)]
 
-ghost use Rattle.std.specs.Prelude.{◌≡◌, ◌≤◌, [], ◌++◌, length, take, drop, min, None, Some, IfOk, IsErr, OnErr, IfErr, MatchResult};
+ghost use Rattle.std.specs.Prelude.{◌≡◌, ◌≤◌, [], ◌++◌, length, take, drop, min, None, Some, IfOk};
+ghost use Rattle.std.specs.Prelude.{IsErr, OnErr, IfErr, MatchResult};
 ghost use Rattle.std.specs.IoError.{error_kind};
 ghost use Rattle.std.specs.Io.{ReadsAtMost, WritesAtMost};
 ghost use Rattle.std.specs.Io.KnownBytes.{ReadConsumes, WriteAppends};
@@ -19,7 +20,8 @@ pub enum Stumble {
     Nothing,
 }
 
-/// The stumbles that callers must tell apart, or must not: an error that some callers try again after is among them.
+/// The stumbles that callers must tell apart, or must not: an error that some callers try again
+/// after is among them.
 pub const STUMBLES: [Stumble; 3] = [
     Stumble::Error(ErrorKind::BrokenPipe),
     Stumble::Error(ErrorKind::Interrupted),
@@ -27,7 +29,8 @@ pub const STUMBLES: [Stumble; 3] = [
 ];
 
 fn answer_of(stumble: Stumble) -> io::Result<usize>
-    ensures { MatchResult result (λ count. (stumble ≡ Stumble.Nothing) × (count ≡ 0)) (λ e. stumble ≡ Stumble.Error (error_kind e)) }
+    ensures { MatchResult result (λ count. (stumble ≡ Stumble.Nothing) × (count ≡ 0))
+        (λ e. stumble ≡ Stumble.Error (error_kind e)) }
 {
     match stumble {
         Stumble::Error(kind) => Err(io::Error::from(kind)),
@@ -35,8 +38,8 @@ fn answer_of(stumble: Stumble) -> io::Result<usize>
     }
 }
 
-/// Takes at most `step` bytes at a call. Where it is to stumble it does so once, after `room` bytes, and would then
-/// take more.
+/// Takes at most `step` bytes at a call. Where it is to stumble it does so once, after `room`
+/// bytes, and would then take more.
 #[derive(Drop)]
 pub struct Writer {
     pub taken: Vec<u8>,
@@ -67,12 +70,17 @@ impl Write for Writer {
 
     fn write(&mut self, buf: &[u8]) -> io::Result<usize>
         ensures bound { WritesAtMost result buf.now }
-        ensures bytes { WriteAppends (Some self.old.taken.items) (Some self.new.taken.items) result buf.now }
-        ensures count { IfOk result (λ n. n ≡ count_of (length buf.now) self.old.step self.old.room self.old.stumble) }
-        ensures due { (kind : ErrorKind) → self.old.stumble ≡ Some (Stumble.Error kind) → self.old.room ≡ 0 → IsErr result }
-        ensures room { IfOk result (λ n. self.new.room ≡ room_after n self.old.room self.old.stumble) }
+        ensures bytes { WriteAppends (Some self.old.taken.items)
+            (Some self.new.taken.items) result buf.now }
+        ensures count { IfOk result
+            (λ n. n ≡ count_of (length buf.now) self.old.step self.old.room self.old.stumble) }
+        ensures due { (kind : ErrorKind) → self.old.stumble ≡ Some (Stumble.Error kind)
+            → self.old.room ≡ 0 → IsErr result }
+        ensures room { IfOk result
+            (λ n. self.new.room ≡ room_after n self.old.room self.old.stumble) }
         ensures waits { 1 ≤ self.old.room → self.new.stumble ≡ self.old.stumble }
-        ensures once { (stumble : Stumble) → self.old.stumble ≡ Some stumble → self.old.room ≡ 0 → self.new.stumble ≡ None }
+        ensures once { (stumble : Stumble) → self.old.stumble ≡ Some stumble → self.old.room ≡ 0
+            → self.new.stumble ≡ None }
         ensures step { self.new.step ≡ self.old.step }
     {
         let mut count = buf.len().min(self.step);
@@ -93,8 +101,8 @@ impl Write for Writer {
     }
 }
 
-/// Gives at most `step` bytes at a call. Where it is to stumble it does so once, after `room` bytes, and would then
-/// give more.
+/// Gives at most `step` bytes at a call. Where it is to stumble it does so once, after `room`
+/// bytes, and would then give more.
 #[derive(Drop)]
 pub struct Reader<'a> {
     pub left: &'a [u8],
@@ -111,15 +119,22 @@ impl Read for Reader<'_> {
         // The bytes come from the front of what is left, and are gone from it.
         ensures given { IfOk result (λ n. buf.new ≡ take n self.old.left.now ++ drop n buf.old) }
         ensures left { IfOk result (λ n. self.new.left.now ≡ drop n self.old.left.now) }
-        ensures count { IfOk result (λ n. n ≡ count_of (min (length buf.old) (length self.old.left.now)) self.old.step self.old.room self.old.stumble) }
+        ensures count { IfOk result
+            (λ n. n ≡ count_of
+            (min (length buf.old)
+            (length self.old.left.now)) self.old.step self.old.room self.old.stumble) }
 
         // The stumble is answered, and nothing is lost by it.
-        ensures error { IfErr result (λ e. (self.old.stumble ≡ Some (Stumble.Error (error_kind e))) × (self.old.room ≡ 0)) }
+        ensures error { IfErr result
+            (λ e. (self.old.stumble ≡ Some (Stumble.Error (error_kind e))) × (self.old.room ≡ 0)) }
         ensures kept { OnErr result (self.new.left.now ≡ self.old.left.now) }
-        ensures due { (kind : ErrorKind) → self.old.stumble ≡ Some (Stumble.Error kind) → self.old.room ≡ 0 → IsErr result }
-        ensures room { IfOk result (λ n. self.new.room ≡ room_after n self.old.room self.old.stumble) }
+        ensures due { (kind : ErrorKind) → self.old.stumble ≡ Some (Stumble.Error kind)
+            → self.old.room ≡ 0 → IsErr result }
+        ensures room { IfOk result
+            (λ n. self.new.room ≡ room_after n self.old.room self.old.stumble) }
         ensures waits { 1 ≤ self.old.room → self.new.stumble ≡ self.old.stumble }
-        ensures once { (stumble : Stumble) → self.old.stumble ≡ Some stumble → self.old.room ≡ 0 → self.new.stumble ≡ None }
+        ensures once { (stumble : Stumble) → self.old.stumble ≡ Some stumble → self.old.room ≡ 0
+            → self.new.stumble ≡ None }
         ensures step { self.new.step ≡ self.old.step }
     {
         let mut count = buf.len().min(self.left.len()).min(self.step);

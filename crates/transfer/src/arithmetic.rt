@@ -3,7 +3,8 @@
 ghost use Rattle.std.specs.Prelude.{◌≡◌, IfOk, IfErr, IsOk};
 ghost use Rattle.reg_state.specs.Arithmetic.{IsNegated, IsSignExtended, IsReordered};
 ghost use Rattle.branch_refine.specs.Refining.{IsNumber, IsJust};
-ghost use Rattle.transfer.specs.Refusing.{number_refusal, pointer_and_refusal, combined_refusal, arithmetic_refusal};
+ghost use Rattle.transfer.specs.Refusing.{number_refusal, pointer_and_refusal, combined_refusal};
+ghost use Rattle.transfer.specs.Refusing.{arithmetic_refusal};
 ghost use Rattle.transfer.specs.Results.{OfNumber, IsLowWord, NumberAnd, PointerAnd, Combined};
 ghost use Rattle.transfer.specs.Results.{Copied, Arithmetic, IsNumberAnd, IsPointerAnd, IsCombined};
 ghost use Rattle.transfer.specs.Results.{IsCopied, IsArithmetic};

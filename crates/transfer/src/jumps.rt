@@ -1,6 +1,7 @@
 //! Jumps.
 
-ghost use Rattle.std.specs.Prelude.{◌≡◌, ◌+◌, ◌<◌, ◌^◌, ◌↔◌, IfOk, IfErr, IsOk, IsTrue, length, unwrap_or};
+ghost use Rattle.std.specs.Prelude.{◌≡◌, ◌+◌, ◌<◌, ◌^◌, ◌↔◌, IfOk, IfErr, IsOk, IsTrue, length};
+ghost use Rattle.std.specs.Prelude.{unwrap_or};
 ghost use Rattle.isa_model.specs.Code.Instructions.{Program};
 ghost use Rattle.isa_model.specs.Machine.Steps.{target};
 ghost use Rattle.stack_state.specs.Places.{kind_of, go_to};
@@ -32,7 +33,8 @@ fn is_number_operand(state: &State, source: Operand) -> bool
     }
 }
 
-/// Joins the two sides of a conditional jump: the fall-through in `stay`, the jump's target in `go`.
+/// Joins the two sides of a conditional jump: the fall-through in `stay`, the jump's target in
+/// `go`.
 fn joined(stays: bool, goes: bool, stay: &mut State, go: &State) -> Ways
     ensures { Sides stays goes stay.old go.now result stay.new go.now }
 {

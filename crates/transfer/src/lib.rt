@@ -42,16 +42,19 @@ pub enum Successors {
     Two(State, State),
 }
 
-/// What the instruction at the state's slot leads to: on each member it does not trap, and exits or goes into a
-/// successor.
+/// What the instruction at the state's slot leads to: on each member it does not trap, and exits or
+/// goes into a successor.
 pub fn step(image: &Image, state: &State) -> Result<Successors, Refusal>
     requires { IsSome (fetch image.now state.now.slot) }
-    ensures leads { IfOk result (λ next. Given next (λ ways a b. LeadsTo image.now state.now ways a b)) }
+    ensures leads { IfOk result
+        (λ next. Given next (λ ways a b. LeadsTo image.now state.now ways a b)) }
     ensures makes { (i : Insn) → fetch image.now state.now.slot ≡ Some i
         → IfOk result (λ next. Given next (λ ways a b. Makes image.now state.now i ways a b)) }
-    ensures accepts { (i : Insn) → fetch image.now state.now.slot ≡ Some i → register_refusal state.now i ≡ None
+    ensures accepts { (i : Insn) → fetch image.now state.now.slot ≡ Some i
+        → register_refusal state.now i ≡ None
         → IsAccepted state.now i → IsOk result }
-    ensures decides { (i : Insn) → fetch image.now state.now.slot ≡ Some i → Decides state.now i (register_refusal state.now i) result }
+    ensures decides { (i : Insn) → fetch image.now state.now.slot ≡ Some i
+        → Decides state.now i (register_refusal state.now i) result }
     ensures refuses { (i : Insn) → fetch image.now state.now.slot ≡ Some i
         → IfErr result (Refuses state.now i) }
 {
@@ -69,14 +72,19 @@ pub fn step(image: &Image, state: &State) -> Result<Successors, Refusal>
 pub fn step_in_place(image: &Image, state: &mut State, other: &mut State) -> Result<Ways, Refusal>
     requires { IsSome (fetch image.now state.old.slot) }
     ensures leads { IfOk result (λ ways. LeadsTo image.now state.old ways state.new other.new) }
-    ensures follows { IfOk result (λ ways. EachWay ways state.new other.new (λ next. Follows image.now state.old.slot next.slot)) }
+    ensures follows { IfOk result
+        (λ ways. EachWay ways state.new other.new
+        (λ next. Follows image.now state.old.slot next.slot)) }
 
-    // The successors, exactly; numbers are never refused, and the tests of the registers come first.
+    // The successors, exactly; numbers are never refused, and the tests of the registers come
+    // first.
     ensures makes { (i : Insn) → fetch image.now state.old.slot ≡ Some i
         → IfOk result (λ ways. Makes image.now state.old i ways state.new other.new) }
-    ensures accepts { (i : Insn) → fetch image.now state.old.slot ≡ Some i → register_refusal state.old i ≡ None
+    ensures accepts { (i : Insn) → fetch image.now state.old.slot ≡ Some i
+        → register_refusal state.old i ≡ None
         → IsAccepted state.old i → IsOk result }
-    ensures decides { (i : Insn) → fetch image.now state.old.slot ≡ Some i → Decides state.old i (register_refusal state.old i) result }
+    ensures decides { (i : Insn) → fetch image.now state.old.slot ≡ Some i
+        → Decides state.old i (register_refusal state.old i) result }
     ensures refuses { (i : Insn) → fetch image.now state.old.slot ≡ Some i
         → IfErr result (Refuses state.old i) }
 {

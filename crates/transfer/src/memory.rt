@@ -1,7 +1,9 @@
-//! Access to memory: the two loads of the context's fields that give numbers, and why there is no other yet.
+//! Access to memory: the two loads of the context's fields that give numbers, and why there is no
+//! other yet.
 
 ghost use Rattle.std.specs.Prelude.{◌≡◌, IfOk, IfErr, IsOk};
-ghost use Rattle.transfer.specs.Refusing.{access_refusal, at_place, atomic_refusal, exchange_refusal};
+ghost use Rattle.transfer.specs.Refusing.{access_refusal, at_place, atomic_refusal};
+ghost use Rattle.transfer.specs.Refusing.{exchange_refusal};
 ghost use Rattle.transfer.specs.Results.{IsWord, IsLoaded, Loads};
 
 use crate::refusals::Refusal;

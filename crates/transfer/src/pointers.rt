@@ -1,9 +1,11 @@
 //! Arithmetic on pointers.
 
-ghost use Rattle.std.specs.Prelude.{◌≡◌, nat_le, unsigned_abs, if◌then◌else◌, Ok, Err, IfOk, IfErr, IsOk};
+ghost use Rattle.std.specs.Prelude.{◌≡◌, nat_le, unsigned_abs, if◌then◌else◌, Ok, Err, IfOk, IfErr};
+ghost use Rattle.std.specs.Prelude.{IsOk};
 ghost use Rattle.isa_model.specs.Machine.Pointers.{offset_limit};
 ghost use Rattle.transfer.specs.Refusing.{moved_refusal, pointer_refusal, number_refusal};
-ghost use Rattle.transfer.specs.Results.{moved_offset, Moves, PointerAndNumber, NumberAndPointer, IsMoved, IsPointerAndNumber, IsNumberAndPointer};
+ghost use Rattle.transfer.specs.Results.{moved_offset, Moves, PointerAndNumber, NumberAndPointer};
+ghost use Rattle.transfer.specs.Results.{IsMoved, IsPointerAndNumber, IsNumberAndPointer};
 
 use crate::refusals::Refusal;
 use isa_model::{AluOp, Width};
@@ -26,7 +28,8 @@ fn moved_offset(back: bool, offset: i32, number: u64) -> i128
 
 /// The frame pointer at an offset.
 fn frame_pointer(frame: u8, offset: i128) -> Result<Kind, Refusal>
-    ensures { result ≡ (if nat_le (unsigned_abs offset) offset_limit then Ok (Kind.Stack frame offset) else Err Refusal.PointerOffset) }
+    ensures { result ≡ (if nat_le (unsigned_abs offset) offset_limit then Ok
+        (Kind.Stack frame offset) else Err Refusal.PointerOffset) }
 {
     if -OFFSET_LIMIT <= offset && offset <= OFFSET_LIMIT {
         Ok(Kind::Stack {

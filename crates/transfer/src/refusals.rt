@@ -6,16 +6,19 @@ ghost use Rattle.transfer.specs.Messages.{code_of, sentence_of};
 use std::error::Error;
 use std::fmt;
 
-/// The test that an abstract state fails at an instruction; of several, the one of the lowest number.
+/// The test that an abstract state fails at an instruction; of several, the one of the lowest
+/// number.
 #[derive(Clone, Copy, PartialEq, Eq, Debug)]
 pub enum Refusal {
     /// A register is read that may be unset.
     UnsetRegister,
     /// r10 is written.
     ReadOnlyRegister,
-    /// A pointer in arithmetic that is not defined on it, or as an operand of an atomic instruction.
+    /// A pointer in arithmetic that is not defined on it, or as an operand of an atomic
+    /// instruction.
     PointerOperand,
-    /// A pointer's offset may leave the limit, or a frame pointer moves by a number that is not constant.
+    /// A pointer's offset may leave the limit, or a frame pointer moves by a number that is not
+    /// constant.
     PointerOffset,
     /// An access through a number, a map or the packet's end.
     NotMemory,

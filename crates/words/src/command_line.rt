@@ -24,7 +24,8 @@ fn command<'a>(
     name: &'static str,
     arguments: &[&'static str],
 ) -> Result<Command<'a>, AllocError>
-    ensures { IfOk result (λ made. app_of made ≡ command name.now (map (λ argument. argument.now) arguments.now)) }
+    ensures { IfOk result
+        (λ made. app_of made ≡ command name.now (map (λ argument. argument.now) arguments.now)) }
 {
     let mut command = Command::new(alloc, name);
     for argument in arguments {

@@ -1,6 +1,7 @@
 //! xdpvm: runs BPF programs of the XDP kind on streams of packet frames.
 //!
-//! The program calls one function, `execute`, which says what is done by each command and with which status.
+//! The program calls one function, `execute`, which says what is done by each command and with
+//! which status.
 #![tactic(auto)]
 
 use commands::execute;

@@ -14,14 +14,19 @@ impl Core {
     /// Sets a register and goes on, that many slots.
     pub fn set_and_go_on(&mut self, d: Reg, value: Value, slots: usize)
         requires { self.old.slot + slots < 2 ^ 64 }
-        ensures { self.new ≡ record self.old { slot = self.old.slot + slots; regs = slice_set self.old.regs (reg_number d) value } }
+        ensures { self.new ≡ record self.old {
+          slot = self.old.slot
+              + slots;
+          regs = slice_set self.old.regs (reg_number d) value;
+        } }
     {
         self.set(d, value);
         self.slot += slots;
     }
 
     fn operand(&self, width: Width, source: Operand) -> Value
-        ensures { (packet : List ℕ) → result ≡ operand_value (state_of self.now packet []) width source }
+        ensures { (packet : List ℕ)
+            → result ≡ operand_value (state_of self.now packet []) width source }
     {
         match source {
             Operand::Constant(k) => Value::Num(unsigned(width, k)),

@@ -14,7 +14,8 @@ impl Core {
         requires room { most_frames ≤ vec_capacity self.old.frames }
         requires slot { self.old.slot < 2 ^ 63 }
         requires serial { self.old.next_serial < 2 ^ 63 }
-        ensures state { (packet : List ℕ) → state_of self.new packet [] ≡ enter (state_of self.old packet []) target }
+        ensures state { (packet : List ℕ)
+            → state_of self.new packet [] ≡ enter (state_of self.old packet []) target }
         ensures frames { vec_len self.new.frames ≡ vec_len self.old.frames + 1 }
         ensures room { vec_capacity self.new.frames ≡ vec_capacity self.old.frames }
         ensures serial { self.new.next_serial ≡ self.old.next_serial + 1 }
@@ -43,7 +44,8 @@ impl Core {
     /// Leaves the innermost frame, which is not the first.
     pub fn leave(&mut self)
         requires { 2 ≤ vec_len self.old.frames }
-        ensures state { (packet : List ℕ) → state_of self.new packet [] ≡ leave (state_of self.old packet []) }
+        ensures state { (packet : List ℕ)
+            → state_of self.new packet [] ≡ leave (state_of self.old packet []) }
         ensures frames { vec_len self.new.frames + 1 ≡ vec_len self.old.frames }
         ensures room { vec_capacity self.new.frames ≡ vec_capacity self.old.frames }
         ensures serial { self.new.next_serial ≡ self.old.next_serial }

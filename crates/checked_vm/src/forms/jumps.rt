@@ -20,7 +20,8 @@ impl Core {
     /// What the test of a conditional jump says, in a run on a packet of this length.
     fn test(&self, cond: Cond, len: usize) -> Result<bool, TrapReason>
         requires { len < 2 ^ 63 }
-        ensures { (packet : List ℕ) → length packet ≡ len → result ≡ test_of (state_of self.now packet []) cond }
+        ensures { (packet : List ℕ) → length packet ≡ len
+            → result ≡ test_of (state_of self.now packet []) cond }
     {
         let value = self.value(cond.register);
         match cond.operand {
@@ -46,7 +47,8 @@ impl Core {
     ) -> Result<(), TrapReason>
         requires { self.old.slot < 2 ^ 63 }
         ensures kept { KeepsFrames self.old self.new }
-        ensures done { PerformsIn slots (Insn.JumpIf cond by) result self.old packet.now self.new packet.now }
+        ensures done { PerformsIn slots
+            (Insn.JumpIf cond by) result self.old packet.now self.new packet.now }
     {
         if self.test(cond, packet.len())? {
             self.jump(i32::from(by), slots);
