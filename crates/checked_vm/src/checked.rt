@@ -2,7 +2,7 @@
 
 ghost use Rattle.std.specs.Prelude.{◌≡◌, ◌+◌, ◌≤◌, ℕ, [], length, IfOk};
 ghost use Rattle.isa_model.specs.Reporting.Streams.{max_body};
-ghost use Rattle.isa_model.specs.Running.Runs.{turn};
+ghost use Rattle.isa_model.specs.Running.Runs.{max_steps, turn};
 ghost use Rattle.isa_model.specs.Reporting.Reports.{starting_contents};
 
 use crate::core_state::Core;
@@ -70,7 +70,7 @@ impl Checked {
     ) -> End
         requires short { length packet.old ≤ max_body }
         requires some { 1 ≤ limit }
-        requires most { limit ≤ 1000000 }
+        requires most { limit ≤ max_steps }
         ensures ends { result
             ≡ (turn self.old.program limit (C.at clock.old) head packet.old self.old.contents).ends }
         ensures packet { packet.new
