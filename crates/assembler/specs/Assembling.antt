@@ -2,6 +2,7 @@
 use Rattle.std.specs.Prelude.{◌≡◌, ℕ, zero, suc, ◌+◌, ◌-◌, ◌==◌, nat_lt, not, Bool, if◌then◌else◌, is_none, List, [], ◌∷◌, ◌++◌, length, take, drop, slice_get, Option, Some, None, ok_or, Result, Ok, Err, ◌⊎◌}
 use Rattle.isa_model.specs.declared.instructions.Insn.{Insn}
 use Rattle.isa_model.specs.Code.Instructions.{Program, slots}
+use Rattle.isa_model.specs.Machine.MachineStates.{max_slots}
 use Rattle.image.specs.Images.{code_alone}
 use Rattle.image.specs.Refusals.{count_refusal}
 use Rattle.assembler.specs.declared.errors.AsmErrorKind.{AsmErrorKind}
@@ -69,7 +70,7 @@ unless_wrong s k (Err wrong) = Err (refusal_of s k wrong)
 
 -- whether the instructions fill no more slots than an image has
 abbrev pub has_room : List Insn → Bool
-has_room insns = not (nat_lt 4096 (length (slots insns)))
+has_room insns = not (nat_lt max_slots (length (slots insns)))
 
 -- one more instruction, unless its slots are too many
 abbrev pub with_insn : List Insn → Insn → Result (List Insn) AsmErrorKind

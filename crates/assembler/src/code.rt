@@ -2,6 +2,7 @@
 
 ghost use Rattle.std.specs.Prelude.{◌≡◌, ◌≤◌, ◌+◌, ◌++◌, ◌∷◌, [], length};
 ghost use Rattle.isa_model.specs.Code.Instructions.{slots};
+ghost use Rattle.isa_model.specs.Machine.MachineStates.{max_slots};
 
 use super::errors::AsmErrorKind;
 use image::MAX_SLOTS;
@@ -14,7 +15,7 @@ pub struct Code {
     pub insns: Vec<Insn>,
     count: u16,
     ghost counted: { count ≡ length (slots insns.items) },
-    ghost few: { count ≤ 4096 },
+    ghost few: { count ≤ max_slots },
 }
 
 impl Code {

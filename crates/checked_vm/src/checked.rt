@@ -2,7 +2,7 @@
 
 ghost use Rattle.std.specs.Prelude.{◌≡◌, ◌+◌, ◌≤◌, ℕ, [], length, IfOk};
 ghost use Rattle.isa_model.specs.Reporting.Streams.{max_body};
-ghost use Rattle.isa_model.specs.Running.Runs.{turn};
+ghost use Rattle.isa_model.specs.Running.Runs.{max_steps, turn};
 ghost use Rattle.isa_model.specs.Reporting.Reports.{starting_contents};
 
 use crate::core_state::Core;
@@ -70,16 +70,20 @@ impl Checked {
     ) -> End
         requires short { length packet.old ≤ max_body }
         requires some { 1 ≤ limit }
-        requires most { limit ≤ 1000000 }
+        requires most { limit ≤ max_steps }
         ensures ends { result
-            ≡ (turn self.old.program limit (C.at clock.old) head packet.old self.old.contents).ends }
+            ≡ (turn self.old.program limit (C.at clock.old) head packet.old
+            self.old.contents).ends }
         ensures packet { packet.new
-            ≡ (turn self.old.program limit (C.at clock.old) head packet.old self.old.contents).packet }
+            ≡ (turn self.old.program limit (C.at clock.old) head packet.old
+            self.old.contents).packet }
         ensures contents { self.new.contents
-            ≡ (turn self.old.program limit (C.at clock.old) head packet.old self.old.contents).contents }
+            ≡ (turn self.old.program limit (C.at clock.old) head packet.old
+            self.old.contents).contents }
         ensures program { self.new.program ≡ self.old.program }
         ensures clock { (k : ℕ) → C.at clock.new k
-            ≡ C.at clock.old ((turn self.old.program limit (C.at clock.old) head packet.old self.old.contents).clock_calls + k) }
+            ≡ C.at clock.old ((turn self.old.program limit (C.at clock.old) head packet.old
+            self.old.contents).clock_calls + k) }
     {
         self.core.run(self.image.code(), head, packet, clock, limit)
     }

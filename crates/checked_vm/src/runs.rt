@@ -20,7 +20,8 @@ impl Core {
         requires serial { self.old.next_serial < 2 ^ 63 }
         ensures stays { StaysRunning self.old self.new }
         ensures step { (p : Program) (clock : ℕ → ℕ) → p.insns ≡ insns.now →
-            IsStep (step p clock (state_of self.old packet.old [])) result (state_of self.old packet.old []) (state_of self.new packet.new []) }
+            IsStep (step p clock (state_of self.old packet.old [])) result
+            (state_of self.old packet.old []) (state_of self.new packet.new []) }
     {
         match insns.get(self.slot) {
             Some(Some(insn)) => self.perform(insn, insns.len(), packet),
@@ -35,7 +36,8 @@ impl Core {
         ensures clock { self.new.clock_calls ≡ self.old.clock_calls }
         ensures room { most_frames ≤ vec_capacity self.new.frames }
         ensures turn { (p : Program) (clock : ℕ → ℕ) → p.insns ≡ insns.now →
-            turn_of (progress p clock limit (state_of self.old packet.old [])) ≡ left result (state_of self.new packet.new []) }
+            turn_of (progress p clock limit (state_of self.old packet.old []))
+            ≡ left result (state_of self.new packet.new []) }
     {
         for done in 0..limit {
             match self.step(insns, packet) {
@@ -59,7 +61,13 @@ impl Core {
     ) -> End
         requires { most_frames ≤ vec_capacity self.old.frames }
         ensures turn { (p : Program) → p.insns ≡ insns.now →
-            turn p limit (C.at clock.old) head packet.old [] ≡ record { ends = result; packet = packet.new; contents = []; clock_calls = self.new.clock_calls } }
+            turn p limit (C.at clock.old) head packet.old []
+            ≡ record {
+              ends = result;
+              packet = packet.new;
+              contents = [];
+              clock_calls = self.new.clock_calls;
+            } }
         ensures clock { (k : ℕ) → C.at clock.new k ≡ C.at clock.old (self.new.clock_calls + k) }
         ensures room { most_frames ≤ vec_capacity self.new.frames }
     {

@@ -120,7 +120,8 @@ impl Core {
         requires serial { self.old.next_serial < 2 ^ 63 }
         ensures stays { StaysRunning self.old self.new }
         ensures step { (p : Program) (clock : ℕ → ℕ) → length p.insns ≡ slots →
-            IsStep (performed p clock (state_of self.old packet.old []) insn.now) result (state_of self.old packet.old []) (state_of self.new packet.new []) }
+            IsStep (performed p clock (state_of self.old packet.old []) insn.now) result
+            (state_of self.old packet.old []) (state_of self.new packet.new []) }
     {
         if self.reads_unset(insn) {
             return Stepped::Stopped(TrapReason::UnsetRead);

@@ -1,7 +1,7 @@
 //! The control flow of programs: which slots follow which, in which functions.
 //!
-//! `specs/Graph.antt` has the graph, `specs/Functions.antt` the functions, and `specs/Flows.antt` which programs are
-//! good.
+//! `specs/Graph.antt` has the graph, `specs/Functions.antt` the functions, and `specs/Flows.antt`
+//! which programs are good.
 #![tactic(auto)]
 
 pub mod errors;

@@ -23,7 +23,9 @@ impl Search {
     /// Finds a slot, if there is one.
     fn find(&mut self, slot: Option<usize>) -> Result<(), AllocError>
         requires { (k : ℕ) → slot ≡ Some k → k < length self.old.found.items }
-        ensures { OnOk result (Extends (λ k. slot ≡ Some k) self.old.found.items self.old.frontier.items self.new.found.items self.new.frontier.items) }
+        ensures { OnOk result (Extends (λ k. slot ≡ Some k)
+            self.old.found.items self.old.frontier.items
+            self.new.found.items self.new.frontier.items) }
     {
         if let Some(slot) = slot {
             if !self.found[slot] {
@@ -38,7 +40,9 @@ impl Search {
     fn go_on(&mut self, image: &Image, slot: usize) -> Result<(), AllocError>
         requires inside { slot < length image.now.insns }
         requires leads { (to : ℕ) → Leads image.now slot to → to < length self.old.found.items }
-        ensures { OnOk result (Extends (Leads image.now slot) self.old.found.items self.old.frontier.items self.new.found.items self.new.frontier.items) }
+        ensures { OnOk result (Extends (Leads image.now slot)
+            self.old.found.items self.old.frontier.items
+            self.new.found.items self.new.frontier.items) }
     {
         // For the proof only: this call says that the program is an image's.
         let _slots = image.slots();

@@ -8,7 +8,7 @@ ghost use Rattle.frames.specs.Stages.{ReadsMagic, MayFail, HasRoomFor, IsStageAf
 
 use super::heads::decode_head;
 use exact_io::{Filled, fill};
-use isa_model::{Fault, Finish, FrameHead};
+use isa_model::{Fault, Finish, FrameHead, MAX_BODY};
 use std::io::Read;
 use std::marker::Model;
 
@@ -69,7 +69,7 @@ impl<R: Read> FrameReader<R> {
     ///
     /// The source's first error, of any kind, is the fault F5, and nothing is tried again. After
     /// the end or a fault each further call answers the same and reads nothing.
-    pub fn next(&mut self, buffer: &mut [u8; 4096]) -> Next
+    pub fn next(&mut self, buffer: &mut [u8; MAX_BODY]) -> Next
         ensures bytes { Reads self.old.position (R.remaining self.old.source)
             (R.remaining self.new.source) (finding_of result buffer.new) }
         ensures room { HasRoom self.old.position (finding_of result buffer.new) }
@@ -141,7 +141,12 @@ fn in_range(body: &[u8])
 }
 
 // Reads the record with this number, which begins at this offset.
-fn read_record<R: Read>(source: &mut R, number: u32, offset: u64, buffer: &mut [u8; 4096]) -> Next
+fn read_record<R: Read>(
+    source: &mut R,
+    number: u32,
+    offset: u64,
+    buffer: &mut [u8; MAX_BODY],
+) -> Next
     ensures bytes { Reads (At number offset) (R.remaining source.old) (R.remaining source.new)
         (finding_of result buffer.new) }
     ensures room { HasRoom (At number offset) (finding_of result buffer.new) }
@@ -162,10 +167,10 @@ fn read_record<R: Read>(source: &mut R, number: u32, offset: u64, buffer: &mut [
         Filled::Failed(_) => return Next::Fault(Fault::F5, offset),
     }
     let (frame_head, length) = decode_head(&head);
-    if length > 4096 {
+    let length = length as usize;
+    if length > MAX_BODY {
         return Next::Fault(Fault::F3, offset);
     }
-    let length = length as usize;
     let body = &mut buffer[..length];
     match fill(source, body) {
         Filled::Whole => {

@@ -14,7 +14,7 @@ use super::runners::Runner;
 use super::tallies::Tally;
 use exact_io::write_bytes;
 use frames::{FrameReader, Next, write_frame};
-use isa_model::{Action, End, Finish, FrameHead};
+use isa_model::{Action, End, Finish, FrameHead, MAX_BODY};
 use std::io::{Read, Write};
 
 // Whether a frame is written out.
@@ -111,7 +111,7 @@ pub fn run_frames<M: Runner, R: Read + Drop, W1: Write, W2: Write>(
         Err(_) => return Err(HostError::Frames),
     }
     let mut reader = FrameReader::new(source);
-    let mut buffer = [0; 4096];
+    let mut buffer = [0; MAX_BODY];
     let mut number = 0u32;
     'turns: loop {
         match reader.next(&mut buffer) {

@@ -33,7 +33,10 @@ impl Model for Image {
 
     ghost view = { λ image. record { insns = image.slots.items; maps = image.maps.items } };
 
-    ghost invariant = { λ image. IsImage (record { insns = image.slots.items; maps = image.maps.items }) };
+    ghost invariant = { λ image. IsImage (record {
+      insns = image.slots.items;
+      maps = image.maps.items;
+    }) };
 }
 
 impl Image {

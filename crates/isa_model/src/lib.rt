@@ -19,8 +19,8 @@ pub mod streams;
 pub mod values;
 
 pub use clocks::Clock;
-pub use ends::{End, TrapReason};
-pub use frames::{Action, FrameHead};
+pub use ends::{End, MAX_STEPS, TrapReason};
+pub use frames::{Action, FrameHead, MAX_BODY};
 pub use instructions::{AluOp, AtomicOp, Comparison, Cond, Insn, Operand, Place};
 pub use jumps::destination;
 pub use map_defs::{MapDef, MapKind};

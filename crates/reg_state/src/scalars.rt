@@ -314,7 +314,10 @@ impl Domain for Scalar {
 
     ghost inside = { λ d x h. range_inside d.range x h.1 };
 
-    ghost contains_constant = { λ d u h c. (bits_constant_has d.bits u h c.0, range_constant_has d.range u h c.1) };
+    ghost contains_constant = { λ d u h c. (
+      bits_constant_has d.bits u h c.0,
+      range_constant_has d.range u h c.1,
+    ) };
 
     ghost only_constant = { λ d u x c h. bits_constant_only d.bits u x c.0 h.0 };
 }

@@ -3,6 +3,7 @@
 #![tactic(auto)]
 
 ghost use Rattle.std.specs.Prelude.{◌≤◌};
+ghost use Rattle.isa_model.specs.Running.Runs.{max_steps};
 
 use std::alloc::AllocError;
 
@@ -28,7 +29,7 @@ pub enum Task<'a> {
 pub struct StepLimit {
     pub steps: u32,
     ghost some: { 1 ≤ steps },
-    ghost most: { steps ≤ 1000000 },
+    ghost most: { steps ≤ max_steps },
 }
 
 /// The files of a run: the image and the frames that are read, and the frames out.

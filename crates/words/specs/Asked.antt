@@ -12,6 +12,7 @@ use Rattle.tasks.specs.declared.Task.{Task}
 use Rattle.tasks.specs.declared.WordsError.{WordsError}
 use Rattle.tasks.specs.declared.WordsError.TheVariants.{Wrong, Memory}
 use Rattle.tasks.specs.Requests.{Request, RunFiles, Trace, Run, Verify, Assemble, Disassemble, NotBuilt, request_of}
+use Rattle.isa_model.specs.Running.Runs.{max_steps}
 use Rattle.words.specs.CommandLine.{program}
 
 -- ---- what the arguments of a command ask for
@@ -23,7 +24,7 @@ files_in rows = option_and_then (λ image. option_and_then (λ frames. option_ma
 
 abbrev pub is_limit : List ℕ → Bool
 is_limit text = nat_lt 0 (length text) && (list_all is_ascii_digit text
-    && (nat_le 1 (digits_value 10 text) && nat_le (digits_value 10 text) 1000000))
+    && (nat_le 1 (digits_value 10 text) && nat_le (digits_value 10 text) max_steps))
 
 -- a limit: decimal digits that write a number from 1 to 1,000,000
 abbrev pub limit_of : List ℕ → Option ℕ
@@ -31,7 +32,7 @@ limit_of text = if is_limit text then Some (digits_value 10 text) else None
 
 -- the limit that is given, or the most
 abbrev pub limit_or_most : Option (List ℕ) → Option ℕ
-limit_or_most None = Some 1000000
+limit_or_most None = Some max_steps
 limit_or_most (Some text) = limit_of text
 
 abbrev pub limit_in : List Row → Option ℕ

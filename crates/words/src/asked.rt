@@ -12,10 +12,9 @@ ghost use Rattle.words.specs.Asked.{request_by, trace_of};
 use super::command_line::program;
 use clap::ArgMatches;
 use clap::error::ErrorKind;
+use isa_model::MAX_STEPS;
 use std::alloc::Global;
 use tasks::{Assembly, Paths, StepLimit, Task, WordsError};
-
-const MAX_STEPS: u32 = 1_000_000;
 
 // What is wrong with the words, where clap takes them and a command does not.
 const NO_LIMIT: &str = "error: the value of --limit is no number from 1 to 1000000\n";

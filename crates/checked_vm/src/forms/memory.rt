@@ -19,7 +19,8 @@ impl Core {
     ) -> Result<(), TrapReason>
         requires { self.old.slot + 1 < 2 ^ 64 }
         ensures kept { KeepsFrames self.old self.new }
-        ensures done { Performs (Insn.Load size d place) result self.old packet.now self.new packet.now }
+        ensures done { Performs (Insn.Load size d place)
+            result self.old packet.now self.new packet.now }
     {
         let value = self.load(packet, size, self.value(place.base), place)?;
         self.set_and_go_on(d, value, 1);
@@ -37,7 +38,8 @@ impl Core {
     ) -> Result<(), TrapReason>
         requires { self.old.slot + 1 < 2 ^ 64 }
         ensures kept { KeepsFrames self.old self.new }
-        ensures done { Performs (Insn.LoadSx size d place) result self.old packet.now self.new packet.now }
+        ensures done { Performs (Insn.LoadSx size d place)
+            result self.old packet.now self.new packet.now }
     {
         let value = self.load_signed(packet, size, self.value(place.base), place)?;
         self.set_and_go_on(d, value, 1);
@@ -55,7 +57,8 @@ impl Core {
     ) -> Result<(), TrapReason>
         requires { self.old.slot + 1 < 2 ^ 64 }
         ensures kept { KeepsFrames self.old self.new }
-        ensures done { Performs (Insn.StoreConstant size place k) result self.old packet.old self.new packet.new }
+        ensures done { Performs (Insn.StoreConstant size place k)
+            result self.old packet.old self.new packet.new }
     {
         let value = Value::Num(unsigned(Width::Full64, k));
         self.store(packet, size, self.value(place.base), place, value)?;
@@ -74,7 +77,8 @@ impl Core {
     ) -> Result<(), TrapReason>
         requires { self.old.slot + 1 < 2 ^ 64 }
         ensures kept { KeepsFrames self.old self.new }
-        ensures done { Performs (Insn.Store size place source) result self.old packet.old self.new packet.new }
+        ensures done { Performs (Insn.Store size place source)
+            result self.old packet.old self.new packet.new }
     {
         let value = self.value(source);
         self.store(packet, size, self.value(place.base), place, value)?;

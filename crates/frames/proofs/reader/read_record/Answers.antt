@@ -20,8 +20,8 @@ returns-in-Ended-fill-clause-bytes g c = record_cut _ _ _ _ _ _ (search rules) (
 pub returns-in-Failed-fill-clause-bytes : goal.returns-in-Failed-fill-clause-bytes
 returns-in-Failed-fill-clause-bytes g c = record_failed _ _ _ _ _ _ (λ last. search rules) (search rules) c.in-Failed-fill.ensures.0 c.in-Failed-fill.ensures.1
 
-pub returns-then-length-gt4096-clause-bytes : goal.returns-then-length-gt4096-clause-bytes
-returns-then-length-gt4096-clause-bytes g c = record_long _ _ _ _ _ (search rules) c.fill-2.auto.buffer (omega arith) c.in-Whole-fill.ensures
+pub returns-then-length-gt-MAX_BODY-clause-bytes : goal.returns-then-length-gt-MAX_BODY-clause-bytes
+returns-then-length-gt-MAX_BODY-clause-bytes g c = record_long _ _ _ _ _ (search rules) c.fill-2.auto.buffer (omega arith) c.in-Whole-fill.ensures
 
 pub returns-in-Whole-fill-2-clause-bytes : goal.returns-in-Whole-fill-2-clause-bytes
 returns-in-Whole-fill-2-clause-bytes g c = record_whole _ _ _ _ _ _ _ _ _ _ c.decode_head-length.ensures.spelled (search rules) c.in-Whole-fill.ensures c.in-Whole-fill-2.ensures
@@ -50,8 +50,8 @@ returns-in-Ended-fill-clause-room g c = can_be_cut _ _ (search rules)
 pub returns-in-Failed-fill-clause-room : goal.returns-in-Failed-fill-clause-room
 returns-in-Failed-fill-clause-room g c = can_fail _ _
 
-pub returns-then-length-gt4096-clause-room : goal.returns-then-length-gt4096-clause-room
-returns-then-length-gt4096-clause-room g c = can_be_long _ _ c.fill-2.new.buffer (search rules) c.fill-2.auto.buffer (omega arith)
+pub returns-then-length-gt-MAX_BODY-clause-room : goal.returns-then-length-gt-MAX_BODY-clause-room
+returns-then-length-gt-MAX_BODY-clause-room g c = can_be_long _ _ c.fill-2.new.buffer (search rules) c.fill-2.auto.buffer (omega arith)
 
 pub returns-in-Ended-fill-2-clause-room : goal.returns-in-Ended-fill-2-clause-room
 returns-in-Ended-fill-2-clause-room g c = can_lack_body _ _ c.fill-2.new.buffer _ _ (search rules) c.fill-2.auto.buffer (omega arith) (search rules) c.in-Ended-fill-2.ensures.0
