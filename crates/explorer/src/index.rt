@@ -5,84 +5,106 @@
 ghost use Rattle.std.specs.Prelude.{◌≡◌, IfOk, vec_len};
 ghost use Rattle.std.specs.Iterator.{at_most};
 
-use crate::fingerprints::{fingerprint_of, mixed};
 use crate::shapes::Shape;
-use stack_state::State;
+use crate::sketches::{Sketch, mixed};
 use std::alloc::{AllocError, Global};
 use std::mem;
 
-/// How many lists the entries are spread over, the finished and the unfinished ones.
-const LISTS: usize = 1 << 16;
+/// How many lists there are at first, for the finished entries and for the unfinished ones. There are always a power of
+/// two, and as many again once there are more entries.
+const LISTS: usize = 64;
 
 /// Where an entry stands in the index. It is in one list at a time.
 #[derive(Clone, Copy, Drop)]
 struct Link {
     fingerprint: u64,
-    /// Its list when it is finished.
-    list: usize,
-    /// The last entry of that list when this one was stored.
-    before: Option<usize>,
+    /// Its shape, and what is known in it.
+    known: u64,
+    /// The one after it in its list.
+    next: Option<u32>,
+    /// The last finished entry of its list when it was stored.
+    before: Option<u32>,
+    is_finished: bool,
 }
 
 /// The first and the last entry of a list.
 #[derive(Clone, Copy, Drop)]
 struct Ends {
-    first: Option<usize>,
-    last: Option<usize>,
+    first: Option<u32>,
+    last: Option<u32>,
+}
+
+/// A shape that stored states have, and the next one of its slot.
+#[derive(Drop)]
+struct ShapeLink {
+    shape: Shape,
+    next: Option<u32>,
 }
 
 /// The lists of the stored entries, which go by their places in the table.
 #[derive(Drop)]
 pub struct Index {
     links: Vec<Link>,
-    /// Of each entry the one after it in its list.
-    behind: Vec<Option<usize>>,
-    /// The shapes that stored states have, and of each the next one of its slot.
-    shapes: Vec<Shape>,
-    shape_behind: Vec<Option<usize>>,
+    shapes: Vec<ShapeLink>,
     /// By slot, the first of its shapes.
-    first_shapes: Vec<Option<usize>>,
+    first_shapes: Vec<Option<u32>>,
     /// By shape and what is known in it, the finished entries in the order in which they were stored.
     finished: Vec<Ends>,
     /// By fingerprint, the unfinished entries, the newest first.
-    unfinished: Vec<Option<usize>>,
+    unfinished: Vec<Option<u32>>,
 }
 
-/// A list, given by its first place and by the place after each.
+/// Entries of a list.
 #[derive(Drop)]
-pub struct Places<'a> {
-    behind: &'a [Option<usize>],
-    next: Option<usize>,
+pub struct Entries<'a> {
+    links: &'a [Link],
+    next: Option<u32>,
     left: usize,
 }
 
-impl<'a> Iterator for Places<'a> {
+impl<'a> Iterator for Entries<'a> {
     type Item = usize;
 
-    ghost remaining = { λ places. at_most places.left };
+    ghost remaining = { λ entries. at_most entries.left };
 
     fn next(&mut self) -> Option<usize> {
         if self.left == 0 {
             return None;
         }
-        let place = self.next?;
-        self.next = *self.behind.get(place)?;
+        let place = self.next? as usize;
+        self.next = self.links.get(place)?.next;
         self.left -= 1;
         Some(place)
     }
 }
 
-fn places_from(behind: &[Option<usize>], first: Option<usize>) -> Places<'_> {
-    Places {
-        behind,
-        next: first,
-        left: behind.len(),
+/// The shapes of a slot.
+#[derive(Drop)]
+pub struct ShapesAt<'a> {
+    shapes: &'a [ShapeLink],
+    next: Option<u32>,
+    left: usize,
+}
+
+impl<'a> Iterator for ShapesAt<'a> {
+    type Item = usize;
+
+    ghost remaining = { λ shapes. at_most shapes.left };
+
+    fn next(&mut self) -> Option<usize> {
+        if self.left == 0 {
+            return None;
+        }
+        let place = self.next? as usize;
+        self.next = self.shapes.get(place)?.next;
+        self.left -= 1;
+        Some(place)
     }
 }
 
-/// The list of a fingerprint.
-fn list_of(fingerprint: u64) -> usize {
-    (fingerprint >> 16) as usize % LISTS
+/// The list of a fingerprint, among that many.
+fn list_of(fingerprint: u64, lists: usize) -> usize {
+    (fingerprint >> 16) as usize & lists.wrapping_sub(1)
 }
 
 impl Index {
@@ -96,9 +118,7 @@ impl Index {
         };
         Ok(Index {
             links: Vec::new(alloc),
-            behind: Vec::new(alloc),
             shapes: Vec::new(alloc),
-            shape_behind: Vec::new(alloc),
             first_shapes: vec![in alloc; None; slots]?,
             finished: vec![in alloc; none; LISTS]?,
             unfinished: vec![in alloc; None; LISTS]?,
@@ -106,30 +126,43 @@ impl Index {
     }
 
     /// The shapes that the stored states of a slot have.
-    pub fn shapes_at(&self, slot: usize) -> Places<'_> {
-        let first = self.first_shapes.get(slot).copied().flatten();
-        places_from(&self.shape_behind, first)
+    pub fn shapes_at(&self, slot: usize) -> ShapesAt<'_> {
+        ShapesAt {
+            shapes: &self.shapes,
+            next: self.first_shapes.get(slot).copied().flatten(),
+            left: self.shapes.len(),
+        }
     }
 
-    /// The list in which the finished entries of a shape stand that may cover the state, if there can be any.
-    pub fn list_for(&self, shape: usize, state: &State) -> Option<usize> {
-        let known = self.shapes.get(shape)?.known_of(state)?;
-        Some(list_of(mixed(known, shape as u64)))
+    /// What is known of a state in a shape, if it is all that the shape knows.
+    pub fn known_in(&self, shape: usize, sketch: &Sketch) -> Option<u64> {
+        let known = self.shapes.get(shape)?.shape.known_of(sketch)?;
+        Some(mixed(known, shape as u64))
     }
 
-    /// The finished entries of a list, in the order in which they were stored.
-    pub fn finished_in(&self, list: usize) -> Places<'_> {
-        let first = match self.finished.get(list) {
+    /// Finished entries, all of those with this shape and what is known in it among them, in the order in which they
+    /// were stored.
+    pub fn finished_like(&self, known: u64) -> Entries<'_> {
+        let list = list_of(known, self.finished.len());
+        let next = match self.finished.get(list) {
             Some(ends) => ends.first,
             None => None,
         };
-        places_from(&self.behind, first)
+        Entries {
+            links: &self.links,
+            next,
+            left: self.links.len(),
+        }
     }
 
     /// Unfinished entries, all of the fingerprint among them.
-    pub fn unfinished_like(&self, fingerprint: u64) -> Places<'_> {
-        let first = self.unfinished.get(list_of(fingerprint)).copied().flatten();
-        places_from(&self.behind, first)
+    pub fn unfinished_like(&self, fingerprint: u64) -> Entries<'_> {
+        let list = list_of(fingerprint, self.unfinished.len());
+        Entries {
+            links: &self.links,
+            next: self.unfinished.get(list).copied().flatten(),
+            left: self.links.len(),
+        }
     }
 
     /// Whether an entry has the fingerprint.
@@ -140,75 +173,133 @@ impl Index {
         }
     }
 
+    /// Whether this is known of an entry in its shape.
+    pub fn is_known(&self, index: usize, known: u64) -> bool {
+        match self.links.get(index) {
+            Some(link) => link.known == known,
+            None => false,
+        }
+    }
+
     /// The number of a state's shape, which is a new one where no stored state of its slot has it.
-    fn shape_of(&mut self, state: &State) -> Result<usize, AllocError> {
-        let shape = Shape::of(state);
-        for number in self.shapes_at(state.slot) {
-            if self.shapes.get(number) == Some(&shape) {
+    fn shape_of(&mut self, alloc: Global, slot: usize, sketch: &Sketch) -> Result<usize, AllocError> {
+        for number in self.shapes_at(slot) {
+            if self.has_shape(number, sketch) {
                 return Ok(number);
             }
         }
         let number = self.shapes.len();
-        self.shapes.push(shape)?;
         let mut next = None;
-        if let Some(first) = self.first_shapes.get_mut(state.slot) {
-            next = mem::replace(first, Some(number));
+        if let Some(first) = self.first_shapes.get_mut(slot) {
+            next = mem::replace(first, u32::try_from(number).ok());
         }
-        self.shape_behind.push(next)?;
+        let shape = Shape::of(alloc, sketch)?;
+        self.shapes.push(ShapeLink { shape, next })?;
         Ok(number)
     }
 
+    fn has_shape(&self, number: usize, sketch: &Sketch) -> bool {
+        match self.shapes.get(number) {
+            Some(link) => link.shape.is_of(sketch),
+            None => false,
+        }
+    }
+
     /// Adds an entry that is unfinished.
-    pub fn add(&mut self, state: &State) -> Result<(), AllocError> {
+    pub fn add(&mut self, alloc: Global, slot: usize, sketch: &Sketch) -> Result<(), AllocError> {
+        if self.links.len() >= self.finished.len() {
+            self.spread(alloc)?;
+        }
+        let shape = self.shape_of(alloc, slot, sketch)?;
+        let known = self.known_in(shape, sketch).unwrap_or(0);
         let index = self.links.len();
-        let fingerprint = fingerprint_of(state);
-        let shape = self.shape_of(state)?;
-        let list = self.list_for(shape, state).unwrap_or(0);
-        let before = match self.finished.get(list) {
+        self.links.push(Link {
+            fingerprint: sketch.fingerprint,
+            known,
+            next: None,
+            before: None,
+            is_finished: false,
+        })?;
+        self.list(index);
+        Ok(())
+    }
+
+    /// Spreads the entries over twice as many lists.
+    fn spread(&mut self, alloc: Global) -> Result<(), AllocError> {
+        let none = Ends {
+            first: None,
+            last: None,
+        };
+        let lists = self.finished.len().saturating_mul(2);
+        self.finished = vec![in alloc; none; lists]?;
+        self.unfinished = vec![in alloc; None; lists]?;
+        for index in 0..self.links.len() {
+            self.list(index);
+        }
+        Ok(())
+    }
+
+    /// Puts an entry into its list; all that were stored before it are in theirs, and those after it are not.
+    fn list(&mut self, index: usize) {
+        let Some(link) = self.links.get(index).copied() else {
+            return;
+        };
+        let place = u32::try_from(index).ok();
+        let list = list_of(link.known, self.finished.len());
+        let last = match self.finished.get(list) {
             Some(ends) => ends.last,
             None => None,
         };
-        let mut next = None;
-        if let Some(first) = self.unfinished.get_mut(list_of(fingerprint)) {
-            next = mem::replace(first, Some(index));
+        if link.is_finished {
+            self.put_after(list, last, place);
+            return;
         }
-        self.links.push(Link {
-            fingerprint,
-            list,
-            before,
-        })?;
-        self.behind.push(next)?;
-        Ok(())
+        let list = list_of(link.fingerprint, self.unfinished.len());
+        let mut next = None;
+        if let Some(first) = self.unfinished.get_mut(list) {
+            next = mem::replace(first, place);
+        }
+        if let Some(link) = self.links.get_mut(index) {
+            link.next = next;
+            link.before = last;
+        }
     }
 
     /// Moves an entry to the finished ones of its list; all that were stored after it are finished.
     pub fn finish(&mut self, index: usize) {
-        let Some(link) = self.links.get(index).copied() else {
+        let Some(link) = self.links.get_mut(index) else {
             return;
         };
-        let next = self.behind.get(index).copied().flatten();
-        if let Some(first) = self.unfinished.get_mut(list_of(link.fingerprint)) {
-            *first = next;
+        link.is_finished = true;
+        let link = *link;
+        let list = list_of(link.fingerprint, self.unfinished.len());
+        if let Some(first) = self.unfinished.get_mut(list) {
+            *first = link.next;
         }
-        let next = self.put_behind(link, index);
-        if let Some(behind) = self.behind.get_mut(index) {
-            *behind = next;
-        }
+        let list = list_of(link.known, self.finished.len());
+        self.put_after(list, link.before, u32::try_from(index).ok());
     }
 
-    /// Makes the entry the one after the last of its list when it was stored, and answers the one
-    /// that was.
-    fn put_behind(&mut self, link: Link, index: usize) -> Option<usize> {
-        let ends = self.finished.get_mut(link.list)?;
-        if ends.last == link.before {
-            ends.last = Some(index);
+    /// Makes the entry the one after another finished one of the list, or the first.
+    fn put_after(&mut self, list: usize, before: Option<u32>, place: Option<u32>) {
+        let Some(ends) = self.finished.get_mut(list) else {
+            return;
+        };
+        if ends.last == before {
+            ends.last = place;
         }
-        match link.before {
-            None => mem::replace(&mut ends.first, Some(index)),
-            Some(before) => {
-                let behind = self.behind.get_mut(before)?;
-                mem::replace(behind, Some(index))
-            }
+        let next = match before {
+            None => mem::replace(&mut ends.first, place),
+            Some(before) => match self.links.get_mut(before as usize) {
+                Some(link) => mem::replace(&mut link.next, place),
+                None => None,
+            },
+        };
+        let Some(place) = place else {
+            return;
+        };
+        if let Some(link) = self.links.get_mut(place as usize) {
+            link.next = next;
         }
     }
 }

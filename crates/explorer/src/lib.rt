@@ -4,13 +4,13 @@
 //! stored, and a path ends at a state that a finished one covers. `specs/Search.antt` says what a search knows.
 #![tactic(auto)]
 
-mod fingerprints;
 mod index;
 mod kept;
 mod parts;
 pub mod refusals;
 mod search;
 mod shapes;
+mod sketches;
 mod table;
 pub mod verified;
 

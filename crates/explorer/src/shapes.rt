@@ -1,52 +1,90 @@
-//! Shapes of states: which bits of their registers are known.
+//! Shapes of states: which bits of the numbers in their registers and slots are known.
 //!
 //! A state covers another one only where the other knows each bit that it knows itself, and with the same value. So
 //! stored states are told apart by their shape, and by the bits that are known in it. No contract rests on that: a
 //! search by shape proposes states, and `covers` decides.
 
-use crate::fingerprints::mixed;
-use reg_state::Kind;
-use stack_state::State;
+use crate::parts::Part;
+use crate::sketches::{Sketch, mixed};
+use reg_state::{Kind, Scalar};
+use stack_state::Slot;
+use std::alloc::{AllocError, Global};
 
-/// The registers that shapes speak of: r0 to r9 of the innermost frame.
-const REGISTERS: usize = 10;
+/// A register or a slot that is known to hold a number.
+#[derive(Clone, Copy, Drop)]
+struct Known {
+    /// Registers come first, then slots.
+    place: u64,
+    /// The bits that are not known.
+    unknown: u64,
+}
 
-/// The bits of each register that are not known: all of them where it is no number.
-#[derive(Clone, Copy, PartialEq, Eq, Drop)]
+/// The numbers in the innermost frame of a state, in the order of their places.
+#[derive(Drop)]
 pub struct Shape {
-    unknown: [u64; REGISTERS],
+    numbers: Vec<Known>,
+}
+
+/// The place and the number of a part, if it is known to be one.
+fn number_in(part: &Part) -> Option<(u64, &Scalar)> {
+    match part {
+        Part::InRegister(place, Kind::Number(numbers)) => Some((u64::from(*place), numbers)),
+        Part::InSlot(place, Slot::Spilled(Kind::Number(numbers))) => {
+            Some((16 + u64::from(*place), numbers))
+        }
+        _ => None,
+    }
 }
 
 impl Shape {
     /// The shape of a state.
-    pub fn of(state: &State) -> Shape {
-        let mut unknown = [u64::MAX; REGISTERS];
-        let registers = &state.innermost.registers;
-        for index in 0..REGISTERS {
-            if let Kind::Number(numbers) = &registers[index] {
-                unknown[index] = numbers.bits.mask;
+    pub fn of(alloc: Global, sketch: &Sketch) -> Result<Self, AllocError> {
+        let mut known = Vec::new(alloc);
+        for part in &sketch.parts {
+            if let Some((place, numbers)) = number_in(part) {
+                let unknown = numbers.bits.mask;
+                known.push(Known { place, unknown })?;
             }
         }
-        Shape { unknown }
+        Ok(Shape { numbers: known })
+    }
+
+    /// Whether it is the shape of a state.
+    pub fn is_of(&self, sketch: &Sketch) -> bool {
+        let mut rest = self.numbers.as_slice();
+        for part in &sketch.parts {
+            if let Some((place, numbers)) = number_in(part) {
+                let [first, others @ ..] = rest else {
+                    return false;
+                };
+                if first.place != place || first.unknown != numbers.bits.mask {
+                    return false;
+                }
+                rest = others;
+            }
+        }
+        rest.is_empty()
     }
 
     /// A fingerprint of the bits that are known in the shape, as they are in a state. There is none where the state
     /// does not know them all.
-    pub fn known_of(&self, state: &State) -> Option<u64> {
-        let registers = &state.innermost.registers;
-        let mut print = state.slot as u64;
-        for index in 0..REGISTERS {
-            let unknown = self.unknown[index];
-            if unknown != u64::MAX {
-                let Kind::Number(numbers) = &registers[index] else {
-                    return None;
-                };
-                if numbers.bits.mask & !unknown != 0 {
-                    return None;
+    pub fn known_of(&self, sketch: &Sketch) -> Option<u64> {
+        let mut rest = self.numbers.as_slice();
+        let mut print = 0;
+        for part in &sketch.parts {
+            let [first, others @ ..] = rest else {
+                return Some(print);
+            };
+            if let Some((place, numbers)) = number_in(part) {
+                if first.place == place {
+                    if numbers.bits.mask & !first.unknown != 0 {
+                        return None;
+                    }
+                    print = mixed(print, numbers.bits.value & !first.unknown);
+                    rest = others;
                 }
-                print = mixed(print, numbers.bits.value & !unknown);
             }
         }
-        Some(print)
+        if rest.is_empty() { Some(print) } else { None }
     }
 }

@@ -4,9 +4,9 @@ ghost use Rattle.std.specs.Prelude.{◌≡◌, ℕ, ◌<◌, ◌++◌, ◌∷◌
 ghost use Rattle.stack_state.specs.declared.states.State.{State as TheState};
 ghost use Rattle.explorer.specs.Table.{IsStored, IsCovered, IsRepeated, StoredAt, IsNumbered};
 
-use crate::fingerprints::fingerprint_of;
 use crate::index::Index;
 use crate::kept::Kept;
+use crate::sketches::Sketch;
 use stack_state::State;
 use state_cover::covers;
 use std::alloc::{AllocError, Global};
@@ -23,6 +23,8 @@ pub struct Stored {
 pub struct Table {
     pub entries: Vec<Stored>,
     index: Index,
+    /// Of the state that is looked for.
+    sketch: Sketch,
 }
 
 impl Table {
@@ -32,10 +34,19 @@ impl Table {
         ensures room { IfOk result (λ table. vec_len table.index.first_shapes ≡ slots) }
     {
         let index = Index::new(alloc, slots)?;
+        let sketch = Sketch::new(alloc)?;
         Ok(Table {
             entries: Vec::new(alloc),
             index,
+            sketch,
         })
+    }
+
+    /// Turns to a state, which is then looked for and stored.
+    pub fn turn_to(&mut self, state: &State) -> Result<(), AllocError>
+        ensures { self.new.entries.items ≡ self.old.entries.items }
+    {
+        self.sketch.draw(state)
     }
 
     /// The number of an entry that is finished and covers the state.
@@ -54,23 +65,25 @@ impl Table {
         Some(entry.number)
     }
 
-    /// The first of a list's finished states that covers this one, if it was stored before another one: its place and
-    /// its number.
-    fn first_in(
+    /// The first finished state that covers this one, of those of which this is known in their shape, if it was stored
+    /// before another one: its place and its number.
+    fn first_known(
         &self,
-        list: usize,
+        known: u64,
         other: Option<(usize, u32)>,
         state: &State,
         scratch: &mut State,
     ) -> Option<(usize, u32)>
         ensures { IfSome result (λ r. IsCovered self.now.entries.items state.now r.1) }
     {
-        for index in self.index.finished_in(list) {
+        for index in self.index.finished_like(known) {
             if other.is_some_and(|(place, _)| place < index) {
                 return None;
             }
-            if let Some(number) = self.covering(index, state, scratch) {
-                return Some((index, number));
+            if self.index.is_known(index, known) {
+                if let Some(number) = self.covering(index, state, scratch) {
+                    return Some((index, number));
+                }
             }
         }
         None
@@ -82,8 +95,8 @@ impl Table {
     {
         let mut first = None;
         for shape in self.index.shapes_at(state.slot) {
-            if let Some(list) = self.index.list_for(shape, state) {
-                if let Some(found) = self.first_in(list, first, state, scratch) {
+            if let Some(known) = self.index.known_in(shape, &self.sketch) {
+                if let Some(found) = self.first_known(known, first, state, scratch) {
                     first = Some(found);
                 }
             }
@@ -114,7 +127,7 @@ impl Table {
     pub fn repeats(&self, state: &State, scratch: &mut State) -> bool
         ensures { IsTrue result → IsRepeated self.now.entries.items state.now }
     {
-        let fingerprint = fingerprint_of(state);
+        let fingerprint = self.sketch.fingerprint;
         for index in self.index.unfinished_like(fingerprint) {
             if self.index.is_like(index, fingerprint) && self.is_equal(index, state, scratch) {
                 return true;
@@ -130,7 +143,7 @@ impl Table {
         ensures err { OnErr result (self.new.entries.items ≡ self.old.entries.items) }
     {
         let index = self.entries.len();
-        self.index.add(state)?;
+        self.index.add(alloc, state.slot, &self.sketch)?;
         let state = Kept::of(alloc, state)?;
         self.entries.push(Stored { state, number: 0 })?;
         Ok(index)

@@ -1,13 +1,13 @@
 -- Local calls and exits of abstract states: a frame pushed, and popped.
-use Rattle.std.specs.Prelude.{ℕ, ◌+◌, List, [], ◌∷◌, ◌++◌, replicate}
+use Rattle.std.specs.Prelude.{ℕ, ◌+◌, ◌-◌, ◌==◌, List, [], ◌∷◌, ◌++◌, take, length, replicate, if◌then◌else◌}
 use Rattle.reg_state.specs.declared.kinds.Kind.{Kind}
-use Rattle.reg_state.specs.declared.kinds.Kind.TheVariants.{Unset}
+use Rattle.reg_state.specs.declared.kinds.Kind.TheVariants.{Unset, Stack}
 use Rattle.reg_state.specs.Kinds.{Assigned}
 use Rattle.stack_state.specs.declared.slots.Slot.{Slot}
 use Rattle.stack_state.specs.declared.slots.Slot.TheVariants.{Written}
 use Rattle.stack_state.specs.declared.states.AbstractFrame.{AbstractFrame}
 use Rattle.stack_state.specs.declared.states.State.{State}
-use Rattle.stack_state.specs.Meaning.{kind_at}
+use Rattle.stack_state.specs.Meaning.{kind_at, frame_of, registers_of}
 
 -- ---- calls
 
@@ -45,3 +45,33 @@ entered a target =
 -- the assignment with one frame more
 abbrev pub with_new_frame : Assigned → ℕ → Assigned
 with_new_frame e serial = record e { frames = e.frames ++ serial ∷ [] }
+
+-- ---- exits
+
+-- r0 as the callee leaves it, and r6 to r9 as they were kept
+abbrev pub left_kinds : Kind → List Kind → List Kind
+left_kinds answer ks =
+    answer ∷ Unset ∷ Unset ∷ Unset ∷ Unset ∷ Unset ∷ kind_at ks 6 ∷ kind_at ks 7 ∷ kind_at ks 8 ∷ kind_at ks 9 ∷ []
+
+-- the frame of the caller that goes on
+abbrev pub resumed_of : AbstractFrame → Kind → AbstractFrame
+resumed_of f answer = record f { registers = left_kinds answer f.registers }
+
+-- the exit of the innermost frame to its caller
+abbrev pub left : State → State
+left a =
+    let n = length a.callers.items - 1 in
+    record {
+      slot = a.innermost.return_slot;
+      callers = record { items = take n a.callers.items };
+      innermost = resumed_of (frame_of a n) (kind_at (registers_of a) 0);
+    }
+
+-- the assignment without the innermost frame
+abbrev pub without_last : Assigned → Assigned
+without_last e = record e { frames = take (length e.frames - 1) e.frames }
+
+-- a pointer into the nth frame is forgotten
+abbrev pub without_frame : ℕ → Kind → Kind
+without_frame n (Stack f z) = if f == n then Unset else Stack f z
+without_frame n k = k

@@ -15,3 +15,4 @@ pub mod Effects
 pub mod EffectLaws
 pub mod Calls
 pub mod CallLaws
+pub mod ExitLaws

@@ -1,0 +1,117 @@
+//! Sketches of states: what an index goes by.
+//!
+//! Identities are left out, since they may have other names in another state. No contract says more than that these are
+//! numbers: an index proposes states, and `covers` decides.
+
+use crate::parts::{Part, push_registers, push_slots};
+use reg_state::{Kind, Scalar};
+use stack_state::{AbstractFrame, Slot, State};
+use std::alloc::{AllocError, Global};
+
+/// The parts of a state's innermost frame, and the fingerprint of all its frames: two states that cover one another have
+/// the same one.
+#[derive(Drop)]
+pub struct Sketch {
+    pub parts: Vec<Part>,
+    pub fingerprint: u64,
+}
+
+impl Sketch {
+    /// A sketch of nothing, with room for all parts of a frame.
+    pub fn new(alloc: Global) -> Result<Self, AllocError> {
+        Ok(Sketch {
+            parts: Vec::with_capacity(alloc, 74)?,
+            fingerprint: 0,
+        })
+    }
+
+    /// Becomes the sketch of the state.
+    pub fn draw(&mut self, state: &State) -> Result<(), AllocError> {
+        let mut print = state.slot as u64;
+        for frame in state.callers.as_slice() {
+            self.draw_frame(frame)?;
+            print = with_parts(mixed(print, frame.return_slot as u64), &self.parts);
+        }
+        self.draw_frame(&state.innermost)?;
+        let print = mixed(print, state.innermost.return_slot as u64);
+        self.fingerprint = with_parts(print, &self.parts);
+        Ok(())
+    }
+
+    fn draw_frame(&mut self, frame: &AbstractFrame) -> Result<(), AllocError> {
+        self.parts.clear();
+        push_registers(&mut self.parts, &frame.registers)?;
+        push_slots(&mut self.parts, &frame.stack.slots)?;
+        Ok(())
+    }
+}
+
+/// A fingerprint and one more word.
+pub fn mixed(print: u64, word: u64) -> u64 {
+    (print ^ word)
+        .wrapping_mul(0x9e37_79b9_7f4a_7c15)
+        .rotate_left(29)
+}
+
+fn with_signed(print: u64, number: i32) -> u64 {
+    mixed(print, u64::from(number.cast_unsigned()))
+}
+
+fn with_numbers(print: u64, numbers: &Scalar) -> u64 {
+    let bits = mixed(mixed(print, numbers.bits.value), numbers.bits.mask);
+    mixed(mixed(bits, numbers.range.least), numbers.range.greatest)
+}
+fn with_kind(print: u64, kind: &Kind) -> u64 {
+    match kind {
+        Kind::Unset => mixed(print, 1),
+        Kind::Number(numbers) => with_numbers(mixed(print, 2), numbers),
+        Kind::Context => mixed(print, 3),
+        Kind::Stack { frame, offset } => {
+            with_signed(mixed(mixed(print, 4), u64::from(*frame)), *offset)
+        }
+        Kind::Packet {
+            fixed,
+            least,
+            greatest,
+            proved,
+            ..
+        } => {
+            let limits = with_signed(
+                with_signed(with_signed(mixed(print, 5), *fixed), *least),
+                *greatest,
+            );
+            mixed(limits, u64::from(*proved))
+        }
+        Kind::PacketEnd => mixed(print, 6),
+        Kind::Map { index } => mixed(mixed(print, 7), u64::from(*index)),
+        Kind::MapValue {
+            index,
+            least,
+            greatest,
+        } => with_signed(
+            with_signed(mixed(mixed(print, 8), u64::from(*index)), *least),
+            *greatest,
+        ),
+        Kind::MapValueOrNull { index, .. } => mixed(mixed(print, 9), u64::from(*index)),
+    }
+}
+
+fn with_part(print: u64, part: &Part) -> u64 {
+    match part {
+        Part::InRegister(place, kind) => with_kind(mixed(print, u64::from(*place)), kind),
+        Part::InSlot(place, Slot::Written(marks)) => {
+            mixed(mixed(print, 128 + u64::from(*place)), u64::from(*marks))
+        }
+        Part::InSlot(place, Slot::Spilled(kind)) => {
+            with_kind(mixed(print, 64 + u64::from(*place)), kind)
+        }
+    }
+}
+
+fn with_parts(print: u64, parts: &[Part]) -> u64 {
+    let mut print = print;
+    for part in parts {
+        print = with_part(print, part);
+    }
+    print
+}
