@@ -1,7 +1,7 @@
 //! Which stacks cover which, on examples.
 
 use arrayvec::ArrayVec;
-use reg_state::{Kind, Scalar};
+use reg_state::{Domain, Kind, Scalar};
 use stack_state::{AbstractFrame, Slot, StackState, State};
 use state_cover::covers;
 use std::test::Fail;
