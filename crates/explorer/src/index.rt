@@ -182,7 +182,12 @@ impl Index {
     }
 
     /// The number of a state's shape, which is a new one where no stored state of its slot has it.
-    fn shape_of(&mut self, alloc: Global, slot: usize, sketch: &Sketch) -> Result<usize, AllocError> {
+    fn shape_of(
+        &mut self,
+        alloc: Global,
+        slot: usize,
+        sketch: &Sketch,
+    ) -> Result<usize, AllocError> {
         for number in self.shapes_at(slot) {
             if self.has_shape(number, sketch) {
                 return Ok(number);

@@ -61,6 +61,7 @@ fn with_numbers(print: u64, numbers: &Scalar) -> u64 {
     let bits = mixed(mixed(print, numbers.bits.value), numbers.bits.mask);
     mixed(mixed(bits, numbers.range.least), numbers.range.greatest)
 }
+
 fn with_kind(print: u64, kind: &Kind) -> u64 {
     match kind {
         Kind::Unset => mixed(print, 1),

@@ -167,9 +167,18 @@ fn names_of_identities_do_not_count(rt: HostRuntime) -> Result<(), Fail> {
     assert_ne!(rt; fingerprint_of(alloc, &state_at(1, packet(1, 10)))?, one);
     let value = |index, identity| Slot::Spilled(Kind::MapValueOrNull { index, identity });
     let one = fingerprint_of(alloc, &state_holding(1, 9, value(0, 1)))?;
-    assert_eq!(rt; fingerprint_of(alloc, &state_holding(1, 9, value(0, 2)))?, one);
-    assert_ne!(rt; fingerprint_of(alloc, &state_holding(1, 9, value(1, 1)))?, one);
-    assert_ne!(rt; fingerprint_of(alloc, &state_holding(1, 8, value(0, 1)))?, one);
+    assert_eq!(rt;
+        fingerprint_of(alloc, &state_holding(1, 9, value(0, 2)))?,
+        one
+    );
+    assert_ne!(rt;
+        fingerprint_of(alloc, &state_holding(1, 9, value(1, 1)))?,
+        one
+    );
+    assert_ne!(rt;
+        fingerprint_of(alloc, &state_holding(1, 8, value(0, 1)))?,
+        one
+    );
     Ok(())
 }
 
@@ -183,7 +192,10 @@ fn are_apart(alloc: Global, five: &State, six: &State) -> Result<bool, Fail> {
     }
     index.finish(1);
     index.finish(0);
-    let found = (proposed(alloc, &index, five)?, proposed(alloc, &index, six)?);
+    let found = (
+        proposed(alloc, &index, five)?,
+        proposed(alloc, &index, six)?,
+    );
     Ok(found == (1, 2))
 }
 
@@ -240,7 +252,10 @@ fn bits_and_limits_count(rt: HostRuntime) -> Result<(), Fail> {
     let any = Scalar::any(Width::Full64);
     let bits = Bits::between(0, 1023);
     let range = Range::between(0, 900);
-    let print = |bits, range| fingerprint_of(alloc, &state_at(1, Kind::Number(Scalar { bits, range })));
+    let print = |bits, range| fingerprint_of(
+        alloc,
+        &state_at(1, Kind::Number(Scalar { bits, range })),
+    );
     assert_ne!(rt; print(bits, range)?, print(any.bits, range)?);
     assert_ne!(rt; print(bits, range)?, print(bits, Range::between(0, 901))?);
     assert_ne!(rt; print(bits, range)?, print(bits, Range::between(1, 900))?);
