@@ -6,19 +6,29 @@ use stack_state::{AbstractFrame, Slot, StackState, State};
 use state_cover::covers;
 use std::test::Fail;
 
+fn unset() -> StackState {
+    StackState::new()
+}
+
+fn with_slot(stack: StackState, place: usize, slot: Slot) -> StackState {
+    let mut stack = stack;
+    if place < 64 {
+        stack.slots[place] = slot;
+    }
+    stack
+}
+
 // The registers are Unset, and the slots are given.
 fn frame(slots: &[(usize, Slot)]) -> AbstractFrame {
-    let mut frame = AbstractFrame {
+    let mut stack = unset();
+    for (place, slot) in slots {
+        stack = with_slot(stack, *place, *slot);
+    }
+    AbstractFrame {
         return_slot: 0,
         registers: [Kind::Unset; 10],
-        stack: StackState::new(),
-    };
-    for (place, slot) in slots {
-        if *place < 64 {
-            frame.stack.slots[*place] = *slot;
-        }
+        stack,
     }
-    frame
 }
 
 fn state(slots: &[(usize, Slot)]) -> State {
