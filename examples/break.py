@@ -89,11 +89,11 @@ def of_read(words, found, good):
 
 
 def of_write(words, found, good):
-    if good.err:
-        same = (found.status, found.out, found.made) == (good.status, good.out, good.made)
-        return "status unchanged, nothing said" if same else None
     is_named = found.message() in (b"cannot write standard output", b"cannot write made")
-    return "status 4" if found.status == 4 and is_named and found.begins(good) else None
+    if found.status == 4 and is_named and found.begins(good):
+        return "status 4"
+    same = (found.status, found.out, found.made) == (good.status, good.out, good.made)
+    return "status unchanged, nothing said" if good.err and same else None
 
 
 def of_short(words, found, good):
