@@ -51,7 +51,7 @@ def measured(words):
     """Runs a command: its status, its output's last line, its seconds and its peak memory in megabytes."""
     out = tempfile.TemporaryFile()
     begin = time.monotonic()
-    child = subprocess.Popen(words, stdout=out, stderr=subprocess.STDOUT)
+    child = subprocess.Popen(words, stdout=out, stderr=subprocess.DEVNULL)
     _, status, usage = os.wait4(child.pid, 0)
     seconds = time.monotonic() - begin
     child.returncode = os.waitstatus_to_exitcode(status)
