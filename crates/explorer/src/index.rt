@@ -10,8 +10,8 @@ use crate::sketches::{Sketch, mixed};
 use std::alloc::{AllocError, Global};
 use std::mem;
 
-/// How many lists there are at first, for the finished entries and for the unfinished ones. There are always a power of
-/// two, and as many again once there are more entries.
+/// How many lists there are at first, for the finished entries and for the unfinished ones. There
+/// are always a power of two, and as many again once there are more entries.
 const LISTS: usize = 64;
 
 /// Where an entry stands in the index. It is in one list at a time.
@@ -48,7 +48,8 @@ pub struct Index {
     shapes: Vec<ShapeLink>,
     /// By slot, the first of its shapes.
     first_shapes: Vec<Option<u32>>,
-    /// By shape and what is known in it, the finished entries in the order in which they were stored.
+    /// By shape and what is known in it, the finished entries in the order in which they were
+    /// stored.
     finished: Vec<Ends>,
     /// By fingerprint, the unfinished entries, the newest first.
     unfinished: Vec<Option<u32>>,
@@ -140,8 +141,8 @@ impl Index {
         Some(mixed(known, shape as u64))
     }
 
-    /// Finished entries, all of those with this shape and what is known in it among them, in the order in which they
-    /// were stored.
+    /// Finished entries, all of those with this shape and what is known in it among them, in the
+    /// order in which they were stored.
     pub fn finished_like(&self, known: u64) -> Entries<'_> {
         let list = list_of(known, self.finished.len());
         let next = match self.finished.get(list) {
@@ -244,7 +245,8 @@ impl Index {
         Ok(())
     }
 
-    /// Puts an entry into its list; all that were stored before it are in theirs, and those after it are not.
+    /// Puts an entry into its list; all that were stored before it are in theirs, and those after
+    /// it are not.
     fn list(&mut self, index: usize) {
         let Some(link) = self.links.get(index).copied() else {
             return;

@@ -1,7 +1,8 @@
 //! The verifier: it looks for a bound on the steps of every run of a program.
 //!
-//! It explores abstract states from the start, depth first and the fall-through first. Where paths may meet, states are
-//! stored, and a path ends at a state that a finished one covers. `specs/Search.antt` says what a search knows.
+//! It explores abstract states from the start, depth first and the fall-through first. Where paths
+//! may meet, states are stored, and a path ends at a state that a finished one covers.
+//! `specs/Search.antt` says what a search knows.
 #![tactic(auto)]
 
 mod index;

@@ -1,15 +1,15 @@
 //! Sketches of states: what an index goes by.
 //!
-//! Identities are left out, since they may have other names in another state. No contract says more than that these are
-//! numbers: an index proposes states, and `covers` decides.
+//! Identities are left out, since they may have other names in another state. No contract says more
+//! than that these are numbers: an index proposes states, and `covers` decides.
 
 use crate::parts::{Part, push_registers, push_slots};
 use reg_state::{Kind, Scalar};
 use stack_state::{AbstractFrame, Slot, State};
 use std::alloc::{AllocError, Global};
 
-/// The parts of a state's innermost frame, and the fingerprint of all its frames: two states that cover one another have
-/// the same one.
+/// The parts of a state's innermost frame, and the fingerprint of all its frames: two states that
+/// cover one another have the same one.
 #[derive(Drop)]
 pub struct Sketch {
     pub parts: Vec<Part>,

@@ -74,7 +74,8 @@ fn unfinished(alloc: Global, index: &Index, state: &State) -> Result<usize, Fail
     Ok(number)
 }
 
-/// The finished entries that are proposed for a state, counted from 1, as decimal digits, shape by shape.
+/// The finished entries that are proposed for a state, counted from 1, as decimal digits, shape by
+/// shape.
 fn proposed(alloc: Global, index: &Index, state: &State) -> Result<usize, Fail> {
     let sketch = sketch_of(alloc, state)?;
     let mut number = 0usize;
@@ -199,8 +200,8 @@ fn are_apart(alloc: Global, five: &State, six: &State) -> Result<bool, Fail> {
     Ok(found == (1, 2))
 }
 
-/// A state whose number is another one in one register or slot only, in its low or its high half, is not
-/// looked at.
+/// A state whose number is another one in one register or slot only, in its low or its high half,
+/// is not looked at.
 #[test]
 fn each_place_counts(rt: HostRuntime) -> Result<(), Fail> {
     let alloc = rt.alloc();

@@ -17,8 +17,8 @@ use std::marker::Model;
 /// The most instructions that are explored.
 pub const MAX_EXPLORED: u32 = 1_000_000;
 
-/// A program each of whose runs meets no trap and exits within the bound, whatever packet, context, map contents and
-/// clock it is given.
+/// A program each of whose runs meets no trap and exits within the bound, whatever packet, context,
+/// map contents and clock it is given.
 ///
 /// Contracts see the program and the bound.
 #[derive(Drop)]
