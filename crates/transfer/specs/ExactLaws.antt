@@ -41,16 +41,15 @@ use Rattle.stack_state.specs.declared.states.State.{State}
 use Rattle.stack_state.specs.Meaning.{depth, MeansBy, Means}
 use Rattle.stack_state.specs.Places.{kind_of, with_register, go_to}
 use Rattle.stack_state.specs.MeaningLaws.{reg_allowed, depth_is_length, MeansBy-go_to, MeansBy-set}
-use Rattle.branch_refine.specs.Refining.{IsNumber, IsJust, IsNumberOperand, AreCompared, Keeps, Narrows}
+use Rattle.branch_refine.specs.Refining.{IsNumber, IsJust, IsNumberOperand, Keeps}
 use Rattle.transfer.specs.declared.refusals.Refusal.{Refusal}
-use Rattle.transfer.specs.declared.refusals.Refusal.TheVariants.{UnsetRegister, ReadOnlyRegister}
+use Rattle.transfer.specs.declared.refusals.Refusal.TheVariants.{UnsetRegister, ReadOnlyRegister, NotBuilt}
 use Rattle.transfer.specs.declared.Ways.{Ways}
 use Rattle.transfer.specs.declared.Ways.TheVariants as ways
 use Rattle.transfer.specs.Leading.{EachWay, InSome, LeadsTo}
 use Rattle.transfer.specs.Refusing.{is_unset as is_unset_kind, is_unset_in, reads_unset, register_refusal}
-use Rattle.transfer.specs.Results.{Arithmetic, Loads}
 use Rattle.transfer.specs.ResultLaws.{Yields, on_number_yields, arithmetic_yields, load_yields}
-use Rattle.transfer.specs.Exact.{IsOperand, Puts, Sets, Sides, Branches, JumpsTo, Makes}
+use Rattle.transfer.specs.Exact.{IsOperand, Puts, Sets, Sides, Branches, JumpsTo, answered, exited, Performs, Tested, Steps}
 
 -- ---- the tests of the registers
 
@@ -86,11 +85,6 @@ none_unset p e a s m (r ∷ rs) h =
     set_is_set e (kind_of a r) (reg s r) first (reg_allowed p e a s m r) in
     rw here (none_unset p e a s m rs rest)
 
-tests_pass : (x y : Bool) (u v : Refusal) → (if x then Some u else if y then Some v else None) ≡ None → (x ≡ false) × (y ≡ false)
-tests_pass true y u v h = absurd (cc)
-tests_pass false true u v h = absurd (cc)
-tests_pass false false u v h = (refl, refl)
-
 performed_acts : (p : Program) (clock : ℕ → ℕ) (s : Machine.State) (i : Insn) → list_any (unset_in s) (reads i) ≡ false
     → is_frame_pointer (writes i) ≡ false → performed p clock s i ≡ act p clock s i
 performed_acts p clock s i set own = rw (set, own) refl
@@ -123,7 +117,7 @@ alu_operand_set s w op d source h = operand_set s w source (neither (unset_in s 
 
 -- what a form puts into its register is there, and its kind allows it
 puts_yields : (p : Program) (clock : ℕ → ℕ) (e : Assigned) (a : State) (s : Machine.State) (i : Insn) (d : Reg) (k : Kind) → InsnFits i
-    → MeansBy p e a s → list_any (unset_in s) (reads i) ≡ false → writes i ≡ Some d → Puts a i k
+    → MeansBy p e a s → list_any (unset_in s) (reads i) ≡ false → writes i ≡ Some d → Puts a i (Ok k)
     → (r : Result Value TrapReason) × (act p clock s i ≡ sets s i d r) × Yields e k r
 unfolding act
 puts_yields p clock e a s (Alu w op x source) d k fits m set written h =
@@ -159,7 +153,9 @@ puts_yields p clock e a s (ByteSwap order span x) d k fits m set written h =
     )
 puts_yields p clock e a s (LoadNumber x n) d k fits m set written h =
     let same : x ≡ d = cc in
-    (Ok (value.Num n), ap (λ y. sets s (LoadNumber x n) y (Ok (value.Num n))) same, just_allowed e k n h)
+    let (b, just, is) = h in
+    let kind : k ≡ b = cc in
+    (Ok (value.Num n), ap (λ y. sets s (LoadNumber x n) y (Ok (value.Num n))) same, rw kind (just_allowed e b n just))
   where
     just_allowed : (e : Assigned) (k : Kind) (n : ℕ) → IsJust k n → Allows e k (value.Num n)
     just_allowed e (kind.Number c) n h = (n, refl, h.0)
@@ -172,7 +168,7 @@ puts_yields p clock e a s (Load size x place) d k fits m set written h =
       load_yields e s size (kind_of a place.base) k place.offset (base_of s place) h m.is_state.interface m.is_state.queue
           (reg_allowed p e a s m place.base),
     )
-puts_yields p clock e a s i d k fits m set written h = absurd h
+puts_yields p clock e a s i d k fits m set written h = absurd (cc)
 
 below_eleven : (r : Reg) → reg_number r < 11
 below_eleven R0 = omega arith
@@ -213,10 +209,10 @@ sets_in p clock e a s i w b c fits inside m set one h =
 -- ---- jumps
 
 jumps_in : (p : Program) (e : Assigned) (a : State) (s : Machine.State) (by : ℤ) (w : Ways) (b c : State)
-    → IfNext (jumps s p by) (IsState p) → MeansBy p e a s → JumpsTo p a by w b → After (InSome p w b c) (jumps s p by)
+    → IfNext (jumps s p by) (IsState p) → MeansBy p e a s → JumpsTo p a by (Ok w) b → After (InSome p w b c) (jumps s p by)
 jumps_in p e a s by w b c is m h =
     let n : ℕ = destination p s.slot by in
-    one_means p e w b c (go_to a (destination p a.slot by)) (Machine.go_to s n) h.0 h.1
+    one_means p e w b c (go_to a (destination p a.slot by)) (Machine.go_to s n) (cc h.0) h.1
     (subst (λ m. MeansBy p e (go_to a (destination p m by)) (Machine.go_to s n)) m.slot_is (MeansBy-go_to p e a s n is.slot m))
 
 number_there : (e : Assigned) (k : Kind) (v : Value) → IsNumber k → Allows e k v → (n : ℕ) × (v ≡ value.Num n)
@@ -256,12 +252,12 @@ branches_in : (p : Program) (e : Assigned) (a : State) (s : Machine.State) (cond
     → After (InSome p w b c) (branches s p by (Ok t))
 unfolding Keeps
 branches_in p e a s cond by w b c true says is m h =
-    let (some, kept) = h.kept_go p e s m says in
+    let (some, kept) = h.taken_there.kept p e s m says in
     let n : ℕ = destination p s.slot by in
     go_means p e h.stays h.goes (go_to h.stay (a.slot + 1)) (go_to h.go (destination p a.slot by)) w b c (Machine.go_to s n) h.sides some
     (subst (λ m. MeansBy p e (go_to h.go (destination p m by)) (Machine.go_to s n)) m.slot_is (MeansBy-go_to p e h.go s n is.slot kept))
 branches_in p e a s cond by w b c false says is m h =
-    let (some, kept) = h.kept_stay p e s m says in
+    let (some, kept) = h.left_there.kept p e s m says in
     let n : ℕ = s.slot + 1 in
     stay_means p e h.stays h.goes (go_to h.stay (a.slot + 1)) (go_to h.go (destination p a.slot by)) w b c (Machine.go_to s n) h.sides some
     (subst (λ m. MeansBy p e (go_to h.stay (m + 1)) (Machine.go_to s n)) m.slot_is (MeansBy-go_to p e h.stay s n is.slot kept))
@@ -271,9 +267,21 @@ branches_in p e a s cond by w b c false says is m h =
 finishes_after : (P : Machine.State → Type 0) (v : Value) (n : ℕ) → v ≡ value.Num n → After P (finishes v)
 finishes_after P v n is = subst (λ v. After P (finishes v)) (sym is) tt
 
+answered_number : (k : Kind) (w : Ways) → Ok w ≡ answered k → IsNumber k
+answered_number (kind.Number numbers) w h = tt
+answered_number k w h = absurd (cc)
+
+exited_one : (frames : ℕ) (k : Kind) (w : Ways) → Ok w ≡ exited frames k → (frames ≡ 1) × IsNumber k
+exited_one frames k w h =
+    elim (frames == 1) as (λ b. (frames == 1) ≡ b → Ok w ≡ (if b then answered k else Err NotBuilt) → (frames ≡ 1) × IsNumber k) [
+      | true ↦ λ test h. (grind (arith, nat_tests), answered_number k w h)
+      | false ↦ λ test h. absurd (cc)
+    ] refl h
+
 exits_in : (p : Program) (e : Assigned) (a : State) (s : Machine.State) (w : Ways) (b c : State) → MeansBy p e a s
-    → depth a ≡ 1 → IsNumber (kind_of a R0) → After (InSome p w b c) (exits s)
-exits_in p e a s w b c m one number =
+    → Ok w ≡ exited (depth a) (kind_of a R0) → After (InSome p w b c) (exits s)
+exits_in p e a s w b c m h =
+    let (one, number) = exited_one (depth a) (kind_of a R0) w h in
     let (x, is) = number_there e (kind_of a R0) (reg s R0) number (reg_allowed p e a s m R0) in
     let same : length s.frames ≡ 1 = depth_is_length p e a s m ∙ one in
     let first : (length s.frames == 1) ≡ true = grind (arith, nat_tests) in
@@ -281,33 +289,42 @@ exits_in p e a s w b c m one number =
 
 -- ---- instructions
 
-makes_in : (p : Program) (clock : ℕ → ℕ) (e : Assigned) (a : State) (s : Machine.State) (i : Insn) (w : Ways) (b c : State)
+performs_in : (p : Program) (clock : ℕ → ℕ) (e : Assigned) (a : State) (s : Machine.State) (i : Insn) (w : Ways) (b c : State)
     → InsnFits i → s.slot + slots_of i ≤ length p.insns → MeansBy p e a s → list_any (unset_in s) (reads i) ≡ false
-    → IfNext (act p clock s i) (IsState p) → Makes p a i w b c → After (InSome p w b c) (act p clock s i)
+    → IfNext (act p clock s i) (IsState p) → Performs p a i (Ok w) b c → After (InSome p w b c) (act p clock s i)
 unfolding act
-makes_in p clock e a s (Jump by) w b c fits inside m set is h = jumps_in p e a s by w b c is m h
-makes_in p clock e a s (JumpLong by) w b c fits inside m set is h = jumps_in p e a s by w b c is m h
-makes_in p clock e a s (JumpIf cond by) w b c fits inside m set is h =
+performs_in p clock e a s (Jump by) w b c fits inside m set is h = jumps_in p e a s by w b c is m h
+performs_in p clock e a s (JumpLong by) w b c fits inside m set is h = jumps_in p e a s by w b c is m h
+performs_in p clock e a s (JumpIf cond by) w b c fits inside m set is h =
     let (t, says) = tested_there p e a s cond cond.operand m h.compared.0 h.compared.1 in
     subst (λ r. After (InSome p w b c) (branches s p by r)) (sym says)
     (branches_in p e a s cond by w b c t says (subst (λ r. IfNext (branches s p by r) (IsState p)) says is) m h)
-makes_in p clock e a s Exit w b c fits inside m set is h = exits_in p e a s w b c m h.1 h.2
-makes_in p clock e a s i w b c fits inside m set is h = sets_in p clock e a s i w b c fits inside m set h.0 h.1
+performs_in p clock e a s (CallLocal by) w b c fits inside m set is h = absurd (cc)
+performs_in p clock e a s Exit w b c fits inside m set is h = exits_in p e a s w b c m h
+performs_in p clock e a s i w b c fits inside m set is h = sets_in p clock e a s i w b c fits inside m set h.0 h.1
 
--- once the tests of its registers pass, no machine state that is meant traps, and each goes into a successor
-pub Makes-leads : (p : Program) (a : State) (i : Insn) (w : Ways) (b c : State) → IsProgram p → fetch p a.slot ≡ Some i
-    → register_refusal a i ≡ None → Makes p a i w b c → LeadsTo p a w b c
+-- a step that is made passed the tests
+tested_rest : (x y : Bool) (u v : Refusal) (w : Ways) (Rest : Type 0) → Tested (if x then Some u else if y then Some v else None) (Ok w) Rest
+    → (x ≡ false) × (y ≡ false) × Rest
+tested_rest true y u v w Rest h = absurd (cc)
+tested_rest false true u v w Rest h = absurd (cc)
+tested_rest false false u v w Rest h = (refl, refl, h)
+
+-- no machine state that is meant traps, and each goes into a successor
+pub Steps-leads : (p : Program) (a : State) (i : Insn) (w : Ways) (b c : State) → IsProgram p → fetch p a.slot ≡ Some i
+    → Steps p a i (Ok w) b c → LeadsTo p a w b c
 unfolding LeadsTo Means step
-Makes-leads p a i w b c program here pass h = λ clock _ s means.
+Steps-leads p a i w b c program here h = λ clock _ s means.
     let (e, m) = means in
-    let (known, own) = tests_pass (reads_unset a i) (is_frame_pointer (writes i)) UnsetRegister ReadOnlyRegister pass in
+    let (known, own, performs) =
+    tested_rest (reads_unset a i) (is_frame_pointer (writes i)) UnsetRegister ReadOnlyRegister w (Performs p a i (Ok w) b c) h in
     let set = none_unset p e a s m (reads i) known in
     let at : fetch p s.slot ≡ Some i = ap (fetch p) m.slot_is ∙ here in
     let fits = program.fits s.slot i at in
     let inside = program.inside s.slot i at in
     let acts : performed_at p clock s (fetch p s.slot) ≡ act p clock s i = ap (performed_at p clock s) at ∙ performed_acts p clock s i set own in
     subst (After (InSome p w b c)) (sym acts)
-    (makes_in p clock e a s i w b c fits inside m set (act_keeps p clock s i fits inside m.is_state) h)
+    (performs_in p clock e a s i w b c fits inside m set (act_keeps p clock s i fits inside m.is_state) performs)
 
 -- ---- where it leads
 
@@ -321,20 +338,37 @@ each_side true false stay go w b c P h x y = each_one w b c P h.0 (subst P (sym 
 each_side false true stay go w b c P h x y = each_one w b c P h.0 (subst P (sym h.1) y)
 each_side false false stay go w b c P h x y = subst (λ v. EachWay v b c P) (sym h) tt
 
+answered_none : (k : Kind) (w : Ways) → Ok w ≡ answered k → w ≡ ways.None
+answered_none (kind.Number numbers) w h = cc
+answered_none k w h = absurd (cc)
+
+exits_nowhere : (frames : ℕ) (k : Kind) (w : Ways) (b c : State) (P : State → Type 0) → Ok w ≡ exited frames k → EachWay w b c P
+exits_nowhere frames k w b c P h =
+    elim (frames == 1) as (λ x. Ok w ≡ (if x then answered k else Err NotBuilt) → EachWay w b c P)
+    [ true ↦ λ h. subst (λ v. EachWay v b c P) (sym (answered_none k w h)) tt | false ↦ λ h. absurd (cc) ] h
+
 sets_follows : (p : Program) (a : State) (i : Insn) (w : Ways) (b c : State) → fetch p a.slot ≡ Some i → falls_through i ≡ true
     → w ≡ ways.One → Sets a i b → EachWay w b c (λ next. Follows p a.slot next.slot)
 sets_follows p a i w b c here falls one h =
     each_one w b c (λ next. Follows p a.slot next.slot) one (i, here, inl (falls, ap (λ next. next.slot) h.next))
 
-pub Makes-follows : (p : Program) (a : State) (i : Insn) (w : Ways) (b c : State) → fetch p a.slot ≡ Some i → Makes p a i w b c
+performs_follows : (p : Program) (a : State) (i : Insn) (w : Ways) (b c : State) → fetch p a.slot ≡ Some i → Performs p a i (Ok w) b c
     → EachWay w b c (λ next. Follows p a.slot next.slot)
-Makes-follows p a (Jump by) w b c here h =
-    each_one w b c (λ next. Follows p a.slot next.slot) h.0 (Jump by, here, inr (by, refl, ap (λ next. next.slot) h.1))
-Makes-follows p a (JumpLong by) w b c here h =
-    each_one w b c (λ next. Follows p a.slot next.slot) h.0 (JumpLong by, here, inr (by, refl, ap (λ next. next.slot) h.1))
-Makes-follows p a (JumpIf cond by) w b c here h =
+performs_follows p a (Jump by) w b c here h =
+    each_one w b c (λ next. Follows p a.slot next.slot) (cc h.0) (Jump by, here, inr (by, refl, ap (λ next. next.slot) h.1))
+performs_follows p a (JumpLong by) w b c here h =
+    each_one w b c (λ next. Follows p a.slot next.slot) (cc h.0) (JumpLong by, here, inr (by, refl, ap (λ next. next.slot) h.1))
+performs_follows p a (JumpIf cond by) w b c here h =
     each_side h.stays h.goes (go_to h.stay (a.slot + 1)) (go_to h.go (destination p a.slot by)) w b c (λ next. Follows p a.slot next.slot) h.sides
     (JumpIf cond by, here, inl (refl, refl)) (JumpIf cond by, here, inr (by, refl, refl))
-Makes-follows p a Exit w b c here h = subst (λ v. EachWay v b c (λ next. Follows p a.slot next.slot)) (sym h.0) tt
-Makes-follows p a (CallLocal by) w b c here h = let none : None ≡ Some h.1.register = h.1.written in absurd (cc)
-Makes-follows p a i w b c here h = sets_follows p a i w b c here refl h.0 h.1
+performs_follows p a (CallLocal by) w b c here h = absurd (cc)
+performs_follows p a Exit w b c here h = exits_nowhere (depth a) (kind_of a R0) w b c (λ next. Follows p a.slot next.slot) h
+performs_follows p a i w b c here h = sets_follows p a i w b c here refl h.0 h.1
+
+-- each successor is at a slot that follows
+pub Steps-follows : (p : Program) (a : State) (i : Insn) (w : Ways) (b c : State) → fetch p a.slot ≡ Some i → Steps p a i (Ok w) b c
+    → EachWay w b c (λ next. Follows p a.slot next.slot)
+Steps-follows p a i w b c here h =
+    let (known, own, performs) =
+    tested_rest (reads_unset a i) (is_frame_pointer (writes i)) UnsetRegister ReadOnlyRegister w (Performs p a i (Ok w) b c) h in
+    performs_follows p a i w b c here performs

@@ -1,10 +1,10 @@
 //! Access to memory: the two loads of the context's fields that give numbers, and why there is no
 //! other yet.
 
-ghost use Rattle.std.specs.Prelude.{◌≡◌, IfOk, IfErr, IsOk};
+ghost use Rattle.std.specs.Prelude.{◌≡◌};
 ghost use Rattle.transfer.specs.Refusing.{access_refusal, at_place, atomic_refusal};
 ghost use Rattle.transfer.specs.Refusing.{exchange_refusal};
-ghost use Rattle.transfer.specs.Results.{IsWord, IsLoaded, Loads};
+ghost use Rattle.transfer.specs.Results.{IsWord, LoadsContext, Loads};
 
 use crate::refusals::Refusal;
 use isa_model::{Size, Width};
@@ -62,9 +62,7 @@ pub fn exchange_refusal(compared: Kind, base: Kind, source: Kind) -> Refusal
 
 /// A load of the context: the interface and the queue of the frame.
 fn context_load(size: Size, offset: i16) -> Result<Kind, Refusal>
-    ensures loads { IfOk result (Loads size Kind.Context offset) }
-    ensures accepts { IsLoaded size Kind.Context offset → IsOk result }
-    ensures refused { IfErr result (λ e. e ≡ Refusal.ContextAccess) }
+    ensures { LoadsContext size offset result }
 {
     match size {
         Size::U32 => {
@@ -79,9 +77,7 @@ fn context_load(size: Size, offset: i16) -> Result<Kind, Refusal>
 
 /// What a load gives.
 pub fn load(size: Size, base: Kind, offset: i16) -> Result<Kind, Refusal>
-    ensures loads { IfOk result (Loads size base offset) }
-    ensures accepts { IsLoaded size base offset → IsOk result }
-    ensures refused { IfErr result (λ e. e ≡ access_refusal base) }
+    ensures { Loads size base offset result }
 {
     match base {
         Kind::Context => context_load(size, offset),

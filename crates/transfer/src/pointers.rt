@@ -1,11 +1,8 @@
 //! Arithmetic on pointers.
 
-ghost use Rattle.std.specs.Prelude.{◌≡◌, nat_le, unsigned_abs, if◌then◌else◌, Ok, Err, IfOk, IfErr};
-ghost use Rattle.std.specs.Prelude.{IsOk};
-ghost use Rattle.isa_model.specs.Machine.Pointers.{offset_limit};
-ghost use Rattle.transfer.specs.Refusing.{moved_refusal, pointer_refusal, number_refusal};
-ghost use Rattle.transfer.specs.Results.{moved_offset, Moves, PointerAndNumber, NumberAndPointer};
-ghost use Rattle.transfer.specs.Results.{IsMoved, IsPointerAndNumber, IsNumberAndPointer};
+ghost use Rattle.std.specs.Prelude.{◌≡◌};
+ghost use Rattle.transfer.specs.Results.{moved_offset, frame_pointer, Moves, PointerAndNumber};
+ghost use Rattle.transfer.specs.Results.{NumberAndPointer};
 
 use crate::refusals::Refusal;
 use isa_model::{AluOp, Width};
@@ -28,8 +25,7 @@ fn moved_offset(back: bool, offset: i32, number: u64) -> i128
 
 /// The frame pointer at an offset.
 fn frame_pointer(frame: u8, offset: i128) -> Result<Kind, Refusal>
-    ensures { result ≡ (if nat_le (unsigned_abs offset) offset_limit then Ok
-        (Kind.Stack frame offset) else Err Refusal.PointerOffset) }
+    ensures { result ≡ frame_pointer frame offset }
 {
     if -OFFSET_LIMIT <= offset && offset <= OFFSET_LIMIT {
         Ok(Kind::Stack {
@@ -43,9 +39,7 @@ fn frame_pointer(frame: u8, offset: i128) -> Result<Kind, Refusal>
 
 /// A pointer that a number moves, back or on.
 fn moved(back: bool, pointer: Kind, by: Scalar) -> Result<Kind, Refusal>
-    ensures moves { IfOk result (Moves back pointer by) }
-    ensures accepts { IsMoved back pointer by → IsOk result }
-    ensures refused { IfErr result (λ e. e ≡ moved_refusal pointer) }
+    ensures { Moves back pointer by result }
 {
     match pointer {
         Kind::Stack { frame, offset } => {
@@ -68,9 +62,7 @@ pub fn pointer_and_number(
     pointer: Kind,
     by: Scalar,
 ) -> Result<Kind, Refusal>
-    ensures gives { IfOk result (PointerAndNumber op width pointer by) }
-    ensures accepts { IsPointerAndNumber op width pointer by → IsOk result }
-    ensures refused { IfErr result (λ e. e ≡ pointer_refusal op width pointer) }
+    ensures { PointerAndNumber op width pointer by result }
 {
     match (op, width) {
         (AluOp::Add, Width::Full64) => moved(false, pointer, by),
@@ -86,9 +78,7 @@ pub fn number_and_pointer(
     by: Scalar,
     pointer: Kind,
 ) -> Result<Kind, Refusal>
-    ensures gives { IfOk result (NumberAndPointer op width by pointer) }
-    ensures accepts { IsNumberAndPointer op width by pointer → IsOk result }
-    ensures refused { IfErr result (λ e. e ≡ number_refusal op width pointer) }
+    ensures { NumberAndPointer op width by pointer result }
 {
     match (op, width) {
         (AluOp::Add, Width::Full64) => moved(false, pointer, by),

@@ -1,13 +1,12 @@
 //! What an instruction makes of a state.
 
-ghost use Rattle.std.specs.Prelude.{false, ◌≡◌, ◌≢◌, ◌+◌, ◌<◌, ◌^◌, IfOk, IfErr, IsOk, length};
+ghost use Rattle.std.specs.Prelude.{false, ◌≡◌, ◌+◌, ◌<◌, ◌^◌, length};
 ghost use Rattle.std.specs.List.{list_any};
 ghost use Rattle.std.specs.Option.{option_to_list};
 ghost use Rattle.isa_model.specs.Code.Instructions.{Program, slots_of};
 ghost use Rattle.isa_model.specs.Code.Instructions.{writes, is_frame_pointer};
-ghost use Rattle.stack_state.specs.Places.{kind_of};
-ghost use Rattle.transfer.specs.Refusing.{is_unset_in, reads_unset, SetRefused, Refused};
-ghost use Rattle.transfer.specs.Exact.{IsOperand, Puts, Sets, Makes, IsComputed, IsAccepted};
+ghost use Rattle.transfer.specs.Refusing.{is_unset_in, reads_unset};
+ghost use Rattle.transfer.specs.Exact.{IsOperand, Puts, SetsOr, Performs};
 
 use crate::Ways;
 use crate::arithmetic::{arithmetic, constant, negated, reordered, sign_extended};
@@ -51,11 +50,9 @@ fn operand(state: &State, width: Width, source: Operand) -> Kind
     }
 }
 
-/// The kind that a form puts into its register.
+/// The kind that a form puts into its register, or why it does not.
 fn result_kind(state: &State, insn: &Insn) -> Result<Kind, Refusal>
-    ensures puts { IfOk result (Puts state.now insn.now) }
-    ensures accepts { IsComputed state.now insn.now → IsOk result }
-    ensures refused { IfErr result (SetRefused state.now insn.now) }
+    ensures { Puts state.now insn.now result }
 {
     match *insn {
         Insn::Alu(width, op, d, source) => {
@@ -84,12 +81,10 @@ fn result_kind(state: &State, insn: &Insn) -> Result<Kind, Refusal>
 }
 
 /// Sets the register that a form writes, and goes on to the next instruction.
-fn set(state: &mut State, insn: &Insn) -> Result<(), Refusal>
+fn set(state: &mut State, insn: &Insn) -> Result<Ways, Refusal>
     requires writable { is_frame_pointer (writes insn.now) ≡ false }
     requires slot { state.old.slot + slots_of insn.now < 2 ^ 63 }
-    ensures sets { IfOk result (λ _. Sets state.old insn.now state.new) }
-    ensures accepts { IsComputed state.old insn.now → IsOk result }
-    ensures refused { IfErr result (SetRefused state.old insn.now) }
+    ensures { SetsOr state.old insn.now result state.new }
 {
     let kind = result_kind(state, insn)?;
     let Some(register) = insn.written() else {
@@ -97,7 +92,7 @@ fn set(state: &mut State, insn: &Insn) -> Result<(), Refusal>
     };
     state.set_register(register, kind);
     state.slot += insn.slots();
-    Ok(())
+    Ok(Ways::One)
 }
 
 // ---- all forms
@@ -111,10 +106,8 @@ pub fn perform(
 ) -> Result<Ways, Refusal>
     requires writable { is_frame_pointer (writes insn.now) ≡ false }
     requires slot { state.old.slot + slots_of insn.now < 2 ^ 63 }
-    ensures makes { IfOk result (λ ways. (p : Program) → length p.insns ≡ slots
-        → Makes p state.old insn.now ways state.new other.new) }
-    ensures accepts { IsAccepted state.old insn.now → IsOk result }
-    ensures refused { IfErr result (Refused state.old insn.now) }
+    ensures { (p : Program) → length p.insns ≡ slots
+        → Performs p state.old insn.now result state.new other.new }
 {
     match *insn {
         Insn::Jump(by) => {
@@ -127,13 +120,7 @@ pub fn perform(
         }
         Insn::JumpIf(cond, by) => jump_if(cond, i32::from(by), slots, state, other),
         Insn::CallLocal(_) => Err(Refusal::TooManyFrames),
-        Insn::Exit => {
-            exit(state)?;
-            Ok(Ways::None)
-        }
-        _ => match set(state, insn) {
-            Ok(()) => Ok(Ways::One),
-            Err(refusal) => Err(refusal),
-        },
+        Insn::Exit => exit(state),
+        _ => set(state, insn),
     }
 }
