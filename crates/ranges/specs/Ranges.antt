@@ -1,5 +1,5 @@
 -- What the contracts of `Range` cite.
-use Rattle.std.specs.Prelude.{ℕ, ℤ, ◌≡◌, ◌+◌, ◌-◌, ◌*◌, ◌/◌, ◌%◌, ◌^◌, ◌<◌, ◌≤◌, ◌==◌, ◌+ℤ◌, ◌-ℤ◌, ◌≤ℤ◌, FitsSigned, ⊤, if◌then◌else◌, Option, Some, None}
+use Rattle.std.specs.Prelude.{ℕ, ℤ, ◌≡◌, ◌+◌, ◌-◌, ◌*◌, ◌/◌, ◌%◌, ◌^◌, ◌<◌, ◌≤◌, ◌+ℤ◌, ◌-ℤ◌, ◌≤ℤ◌, FitsSigned, ⊤}
 use Rattle.std.specs.Int.{Width as IntWidth, w8, w16, w32, w64, cast_signed, cast_unsigned, int_shr}
 use Rattle.isa_model.specs.declared.sizes.Width.{Width}
 use Rattle.isa_model.specs.declared.sizes.Extension.{Extension}
@@ -21,9 +21,9 @@ IsConstant r x =
     (r.least ≡ x) × (r.greatest ≡ x)
     × (r.signed_least ≡ cast_signed w64 x) × (r.signed_greatest ≡ cast_signed w64 x)
 
--- the number, where the unsigned limits leave one only
-abbrev pub only_number : Range → Option ℕ
-only_number r = if r.least == r.greatest then Some r.least else None
+-- the unsigned limits leave x only
+abbrev pub LeavesOnly : Range → ℕ → Type 0
+LeavesOnly r x = (r.least ≡ x) × (r.greatest ≡ x)
 
 -- the unsigned limits are no wider than from one number to another
 abbrev pub IsBetween : Range → ℕ → ℕ → Type 0

@@ -1,6 +1,5 @@
 -- The laws of constants and of limits, for known bits and for ranges.
-use Rattle.std.proofs.Common.{ℕ, ◌≡◌, ◌^◌, ◌<◌, ◌==◌, ◌∙◌, true, false, if◌then◌else◌, Some, None, refl, ap, arith}
-use Rattle.std.proofs.lemmas.Bool.Decides.{nat_tests}
+use Rattle.std.proofs.Common.{ℕ, ◌≡◌, ◌^◌, ◌<◌, ◌∙◌, inl, inr, arith}
 use Rattle.std.proofs.lemmas.Int.{ints}
 use Rattle.std.proofs.lemmas.Nat.{and_mask}
 use Rattle.known_bits.specs.Member.{IsMember}
@@ -12,7 +11,7 @@ use Rattle.isa_model.specs.Code.NumberLemmas.{signed_equation}
 use Rattle.reg_state.specs.Limits.{range_limits, no_limits}
 use Rattle.reg_state.specs.Reach.{IsInside}
 use Rattle.reg_state.specs.declared.scalars.Scalar.{Scalar}
-use Rattle.reg_state.specs.Scalars.{Has, IsConstant, only_number}
+use Rattle.reg_state.specs.Scalars.{Has, IsNumber}
 
 one_has : (x : ℕ) → x < 2 ^ 64 → IsMember x 0 x
 one_has x h = record { below = h; known = and_mask x 64 ∙ omega arith }
@@ -33,6 +32,11 @@ range_constant_has d u h c =
 pub range_constant_only : (d : Range) (u x : ℕ) → R.IsConstant d u → R.Has d x → x ≡ u
 range_constant_only d u x c h = omega arith
 
+-- a Scalar that leaves one number has no other
+pub IsNumber-only : (s : Scalar) (n x : ℕ) → IsNumber s n → Has s x → x ≡ n
+IsNumber-only s n x (inl bits) h = bits_constant_only s.bits n x bits h.0
+IsNumber-only s n x (inr alone) h = let from = h.1.from in let to = h.1.to in let limits = alone.1 in omega arith
+
 pub any_inside : (x : ℕ) → x < 2 ^ 64 → IsInside no_limits x
 any_inside x h =
     let e = signed_equation x h in
@@ -40,34 +44,3 @@ any_inside x h =
 
 pub range_inside : (d : Range) (x : ℕ) → R.Has d x → IsInside (range_limits d) x
 range_inside d x h = record { from = omega (arith, ints); to = omega (arith, ints); signed_from = h.signed_from; signed_to = h.signed_to }
-
--- ---- the one number that is left
-
--- a Scalar of which one number is left has no other
-pub only_number-only : (s : Scalar) (x n : ℕ) → only_number s ≡ Some n → Has s x → x ≡ n
-only_number-only s x n is h =
-    elim (s.bits.mask == 0) as (λ b. (s.bits.mask == 0) ≡ b → (if b then Some s.bits.value else R.only_number s.range) ≡ Some n → x ≡ n) [
-      | true ↦ λ test is.
-          let none : s.bits.mask ≡ 0 = grind (arith, nat_tests) in
-          let value : s.bits.value ≡ n = cc in
-          one_only s.bits.value x (rw none at h.0) ∙ value
-      | false ↦ λ test is. only_between s.range x n is h.1
-    ] refl is
-  where
-    only_between : (d : Range) (x n : ℕ) → R.only_number d ≡ Some n → R.Has d x → x ≡ n
-    only_between d x n is h =
-        elim (d.least == d.greatest) as (λ b. (d.least == d.greatest) ≡ b → (if b then Some d.least else None) ≡ Some n → x ≡ n) [
-          | true ↦ λ test is.
-              let same : d.least ≡ d.greatest = grind (arith, nat_tests) in
-              let value : d.least ≡ n = cc in
-              let from = h.from in
-              let to = h.to in
-              omega arith
-          | false ↦ λ test is. absurd (cc)
-        ] refl is
-
--- a constant is the one number that is left
-pub only_number-constant : (s : Scalar) (n : ℕ) → IsConstant s n → only_number s ≡ Some n
-only_number-constant s n h =
-    let test : (s.bits.mask == 0) ≡ true = let none = h.0.1 in grind (arith, nat_tests) in
-    rw test (ap Some h.0.0)

@@ -1,5 +1,5 @@
 -- What the contracts of `Scalar` cite.
-use Rattle.std.specs.Prelude.{ℕ, ◌==◌, if◌then◌else◌, Option, Some}
+use Rattle.std.specs.Prelude.{ℕ, ◌≢◌, ◌⊎◌}
 use Rattle.known_bits.specs.Bits as B
 use Rattle.ranges.specs.Ranges as R
 use Rattle.reg_state.specs.declared.scalars.Scalar.{Scalar}
@@ -16,6 +16,6 @@ Encloses a b = ((x : ℕ) → B.Has b.bits x → B.Has a.bits x) × R.Encloses a
 abbrev pub IsConstant : Scalar → ℕ → Type 0
 IsConstant s x = B.IsConstant s.bits x × R.IsConstant s.range x
 
--- the number, where the bits or the unsigned limits leave one only
-abbrev pub only_number : Scalar → Option ℕ
-only_number s = if s.bits.mask == 0 then Some s.bits.value else R.only_number s.range
+-- the bits leave x only, or some bit is not known and the limits leave x only
+abbrev pub IsNumber : Scalar → ℕ → Type 0
+IsNumber s x = B.IsConstant s.bits x ⊎ ((s.bits.mask ≢ 0) × R.LeavesOnly s.range x)
