@@ -13,7 +13,7 @@ use std::io::Write;
 /// Writes a record, without the magic that stands before the first one.
 ///
 /// The body has at most 4,096 bytes: a caller must see to that, as by a buffer of that size, since
-/// no reader takes a record with a longer one (F3).
+/// no reader takes a record with a longer one (`TooLong`).
 ///
 /// The writer's first error, of any kind, is the failure and is handed on; a write of no byte is
 /// the failure
