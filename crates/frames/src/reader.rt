@@ -67,8 +67,8 @@ impl<R: Read> FrameReader<R> {
     /// Finds the next record, and puts its body at the front of the buffer. The rest of the buffer,
     /// and all of it where no record was found, may then hold any bytes.
     ///
-    /// The source's first error, of any kind, is the fault `ReadFailed`, and nothing is tried again. After
-    /// the end or a fault each further call answers the same and reads nothing.
+    /// The source's first error, of any kind, is the fault `ReadFailed`, and nothing is tried
+    /// again. After the end or a fault each further call answers the same and reads nothing.
     pub fn next(&mut self, buffer: &mut [u8; MAX_BODY]) -> Next
         ensures bytes { Reads self.old.position (R.remaining self.old.source)
             (R.remaining self.new.source) (finding_of result buffer.new) }
