@@ -1,3 +1,4 @@
+pub mod Messages
 pub mod Machine
 pub mod Outcomes
 pub mod Machines

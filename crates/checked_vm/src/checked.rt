@@ -6,24 +6,11 @@ ghost use Rattle.isa_model.specs.Running.Runs.{max_steps, turn};
 ghost use Rattle.isa_model.specs.Reporting.Reports.{starting_contents};
 
 use crate::core_state::Core;
+use crate::errors::VmError;
 use image::Image;
 use isa_model::{Clock, End, FrameHead};
-use std::alloc::{AllocError, Global};
+use std::alloc::Global;
 use std::marker::Model;
-use thiserror::Error;
-
-/// Why a machine was not made.
-#[derive(Clone, Copy, PartialEq, Eq, Debug, Error)]
-pub enum VmError {
-    #[error("out of memory")]
-    Memory,
-}
-
-impl From<AllocError> for VmError {
-    fn from(_error: AllocError) -> VmError {
-        VmError::Memory
-    }
-}
 
 /// A machine that runs an image's program with every access tested.
 ///

@@ -12,6 +12,7 @@ mod cells;
 pub mod checked;
 mod comparisons;
 mod core_state;
+pub mod errors;
 mod forms;
 mod memory;
 mod places;
@@ -19,4 +20,5 @@ mod runs;
 mod steps;
 mod values;
 
-pub use checked::{Checked, VmError};
+pub use checked::Checked;
+pub use errors::VmError;

@@ -3,46 +3,46 @@ use Rattle.std.proofs.Common.{◌≡◌, ◌≢◌, ℕ, ◌+◌, ◌<◌, ◌�
 use Rattle.std.proofs.lemmas.List.{get_or_append_left}
 use Rattle.std.proofs.lemmas.Bool.Decides.{nat_tests}
 use Rattle.std.specs.List.{starts_with}
-use Rattle.isa_model.specs.declared.streams.Fault.TheVariants.{F1, F2, F3, F4, F5, F6}
+use Rattle.isa_model.specs.declared.streams.Fault.TheVariants.{BadMagic, TruncatedHead, TooLong, TruncatedBody, ReadFailed, TooManyRecords}
 use Rattle.isa_model.specs.declared.streams.Finish.TheVariants as finish
 use Rattle.isa_model.specs.Reporting.Streams.{magic, max_body, max_frames, cut_by, length_field, Ending, ByError, stop_at, stop_from, Fresh}
 
 -- a part of a head
 pub stop_at-cut : (number offset : ℕ) (bytes : List ℕ) (e : Ending) → number ≢ max_frames → 0 < length bytes → length bytes < 20
-    → stop_at number offset bytes e ≡ Some (finish.Fault (cut_by e F2) offset)
+    → stop_at number offset bytes e ≡ Some (finish.Fault (cut_by e TruncatedHead) offset)
 unfolding stop_at
 stop_at-cut number offset [] e n p q = absurd (omega arith)
 stop_at-cut number offset (b ∷ bytes) e n p q = grind (arith, nat_tests)
 
 -- a part of a head, or none of it, and then an error
 pub stop_at-read : (number offset : ℕ) (bytes : List ℕ) → number ≢ max_frames → length bytes < 20
-    → stop_at number offset bytes ByError ≡ Some (finish.Fault F5 offset)
+    → stop_at number offset bytes ByError ≡ Some (finish.Fault ReadFailed offset)
 unfolding stop_at
 stop_at-read number offset [] n q = refl
 stop_at-read number offset (b ∷ bytes) n q = grind (arith, nat_tests)
 
 -- an error in a record's place
-pub stop_at-nothing_read : (number offset : ℕ) → stop_at number offset [] ByError ≡ Some (finish.Fault F5 offset)
+pub stop_at-nothing_read : (number offset : ℕ) → stop_at number offset [] ByError ≡ Some (finish.Fault ReadFailed offset)
 unfolding stop_at
 stop_at-nothing_read number offset = refl
 
 -- a byte after the last record
 pub stop_at-many : (offset : ℕ) (bytes : List ℕ) (e : Ending) → 0 < length bytes
-    → stop_at max_frames offset bytes e ≡ Some (finish.Fault F6 offset)
+    → stop_at max_frames offset bytes e ≡ Some (finish.Fault TooManyRecords offset)
 unfolding stop_at
 stop_at-many offset [] e p = absurd (omega arith)
 stop_at-many offset (b ∷ bytes) e p = refl
 
 -- a length that no body has
 pub stop_at-long : (number offset : ℕ) (bytes : List ℕ) (e : Ending) → number ≢ max_frames → 20 ≤ length bytes → max_body < length_field bytes
-    → stop_at number offset bytes e ≡ Some (finish.Fault F3 offset)
+    → stop_at number offset bytes e ≡ Some (finish.Fault TooLong offset)
 unfolding stop_at
 stop_at-long number offset [] e n p q = absurd (omega arith)
 stop_at-long number offset (b ∷ bytes) e n p q = grind (arith, nat_tests)
 
 -- a head and a part of its body
 pub stop_at-body : (number offset : ℕ) (bytes : List ℕ) (e : Ending) → number ≢ max_frames → 20 ≤ length bytes → length_field bytes ≤ max_body
-    → length bytes < 20 + length_field bytes → stop_at number offset bytes e ≡ Some (finish.Fault (cut_by e F4) offset)
+    → length bytes < 20 + length_field bytes → stop_at number offset bytes e ≡ Some (finish.Fault (cut_by e TruncatedBody) offset)
 unfolding stop_at
 stop_at-body number offset [] e n p q r = absurd (omega arith)
 stop_at-body number offset (b ∷ bytes) e n p q r = grind (arith, nat_tests)
@@ -59,12 +59,12 @@ length_field-append xs ys h =
 -- ---- the magic
 
 -- a part of the magic
-pub stop_from-short : (bytes : List ℕ) (e : Ending) → length bytes < 4 → stop_from Fresh bytes e ≡ Some (finish.Fault (cut_by e F1) 0)
+pub stop_from-short : (bytes : List ℕ) (e : Ending) → length bytes < 4 → stop_from Fresh bytes e ≡ Some (finish.Fault (cut_by e BadMagic) 0)
 unfolding stop_from
 stop_from-short bytes e h = grind (arith, nat_tests)
 
 -- another magic
-pub stop_from-other : (bytes : List ℕ) (e : Ending) → 4 ≤ length bytes → starts_with nat_eq bytes magic ≡ false → stop_from Fresh bytes e ≡ Some (finish.Fault F1 0)
+pub stop_from-other : (bytes : List ℕ) (e : Ending) → 4 ≤ length bytes → starts_with nat_eq bytes magic ≡ false → stop_from Fresh bytes e ≡ Some (finish.Fault BadMagic 0)
 unfolding stop_from
 stop_from-other bytes e h p = let long : nat_lt (length bytes) 4 ≡ false = le-ltb _ _ h in rw (long, p) refl
 

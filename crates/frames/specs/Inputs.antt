@@ -2,7 +2,7 @@
 use Rattle.std.proofs.Common.{◌≡◌, ℕ, ◌+◌, length, arith, ◌++◌, ◌∷◌, List, [], Option, Some, None, IfSome, refl, sym, ap, ◌∙◌, subst, append_assoc, append-nil}
 use Rattle.std.specs.Io.KnownBytes.{Consumes}
 use Rattle.std.proofs.KnownBytes.{Consumes-trans, Consumes-nil}
-use Rattle.isa_model.specs.declared.streams.Fault.TheVariants.{F1, F2, F3, F4, F5, F6}
+use Rattle.isa_model.specs.declared.streams.Fault.TheVariants.{BadMagic, TruncatedHead, TooLong, TruncatedBody, ReadFailed, TooManyRecords}
 use Rattle.isa_model.specs.declared.streams.Finish.{Finish}
 use Rattle.isa_model.specs.declared.streams.Finish.TheVariants as finish
 use Rattle.isa_model.specs.Reporting.Streams.{Frame, Input, Ending, ByEnd, ByError, Position, Fresh, At, Done, opening, frame_bytes, stop_at, stop_from, after_frame, position_after, number_of, bytes_from, IsOpen, AreOpen, stream_of}
@@ -10,12 +10,12 @@ use Rattle.isa_model.specs.Reporting.StreamLaws.{number_of-position_after, posit
 use Rattle.frames.specs.Reading.{Found, Stopped, Stops, Reads, CanStop, next_position}
 
 -- The input was read from a source with these bytes: all of them and then the end, or the first of them and then an
--- error. An error is read only where the stream's fault is F5.
+-- error. An error is read only where the stream's fault is ReadFailed.
 pub record IsReadFrom (bytes : List ℕ) (input : Input) : Type 0 where
   pub unread : List ℕ
   pub split : bytes ≡ input.bytes ++ unread
   pub all : input.ending ≡ ByEnd → unread ≡ []
-  pub error : input.ending ≡ ByError → (offset : ℕ) × ((stream_of input).1 ≡ finish.Fault F5 offset)
+  pub error : input.ending ≡ ByError → (offset : ℕ) × ((stream_of input).1 ≡ finish.Fault ReadFailed offset)
 
 -- These frames, and then this end or fault, were read from the source: they are the stream of an input, and where the
 -- bytes of the source are known, of an input that was read from those bytes.
@@ -70,24 +70,24 @@ record ReadsStop (p : Position) (rest : List ℕ) (stop : Finish) : Type 0 where
   ending : Ending
   split : rest ≡ read ++ unread
   all : ending ≡ ByEnd → unread ≡ []
-  error : ending ≡ ByError → (offset : ℕ) × (stop ≡ finish.Fault F5 offset)
+  error : ending ≡ ByError → (offset : ℕ) × (stop ≡ finish.Fault ReadFailed offset)
   stops : stop_from p read ending ≡ Some stop
 
 whole_stop : (p : Position) (rest : List ℕ) (stop : Finish) → stop_from p rest ByEnd ≡ Some stop → ReadsStop p rest stop
 whole_stop p rest stop h = record { read = rest; unread = []; ending = ByEnd; split = sym (append-nil rest); all = λ _. refl; error = λ e. cc; stops = h }
 
-read_error : (p : Position) (rest : List ℕ) (new : Option (List ℕ)) (offset : ℕ) → Stops p rest new (finish.Fault F5 offset) → ReadsStop p rest (finish.Fault F5 offset)
+read_error : (p : Position) (rest : List ℕ) (new : Option (List ℕ)) (offset : ℕ) → Stops p rest new (finish.Fault ReadFailed offset) → ReadsStop p rest (finish.Fault ReadFailed offset)
 read_error p rest None offset h = absurd h.1
 read_error p rest (Some left) offset h = record { read = h.0; unread = left; ending = ByError; split = h.1; all = λ e. cc; error = λ _. (offset, refl); stops = h.2 }
 
 read_stop : (p : Position) (rest : List ℕ) (new : Option (List ℕ)) (stop : Finish) → Stops p rest new stop → ReadsStop p rest stop
 read_stop p rest new finish.End h = whole_stop p rest finish.End h
-read_stop p rest new (finish.Fault F1 o) h = whole_stop p rest (finish.Fault F1 o) h
-read_stop p rest new (finish.Fault F2 o) h = whole_stop p rest (finish.Fault F2 o) h
-read_stop p rest new (finish.Fault F3 o) h = whole_stop p rest (finish.Fault F3 o) h
-read_stop p rest new (finish.Fault F4 o) h = whole_stop p rest (finish.Fault F4 o) h
-read_stop p rest new (finish.Fault F5 o) h = read_error p rest new o h
-read_stop p rest new (finish.Fault F6 o) h = whole_stop p rest (finish.Fault F6 o) h
+read_stop p rest new (finish.Fault BadMagic o) h = whole_stop p rest (finish.Fault BadMagic o) h
+read_stop p rest new (finish.Fault TruncatedHead o) h = whole_stop p rest (finish.Fault TruncatedHead o) h
+read_stop p rest new (finish.Fault TooLong o) h = whole_stop p rest (finish.Fault TooLong o) h
+read_stop p rest new (finish.Fault TruncatedBody o) h = whole_stop p rest (finish.Fault TruncatedBody o) h
+read_stop p rest new (finish.Fault ReadFailed o) h = read_error p rest new o h
+read_stop p rest new (finish.Fault TooManyRecords o) h = whole_stop p rest (finish.Fault TooManyRecords o) h
 
 -- Where the reader stops, the frames that it found and that end or fault were read.
 pub HasFound-stops : (frames : List Frame) (old known new : Option (List ℕ)) (p : Position) (stop : Finish) → HasFound frames old known p → Reads p known new (Stopped stop)
@@ -124,11 +124,11 @@ offset_of (Done stop) = 0
 
 -- the fault of a stream that breaks off after these records
 abbrev pub broken_off : List Frame → Finish
-broken_off frames = finish.Fault F5 (offset_of (position_after Fresh frames))
+broken_off frames = finish.Fault ReadFailed (offset_of (position_after Fresh frames))
 
 -- an error after a record, or after others that follow it
 breaks_after : (number offset : ℕ) (frames : List Frame)
-    → stop_from (position_after (At number offset) frames) [] ByError ≡ Some (finish.Fault F5 (offset_of (position_after (At number offset) frames)))
+    → stop_from (position_after (At number offset) frames) [] ByError ≡ Some (finish.Fault ReadFailed (offset_of (position_after (At number offset) frames)))
 unfolding stop_from stop_at
 breaks_after number offset [] = refl
 breaks_after number offset (f ∷ frames) = breaks_after (number + 1) (offset + (20 + length f.body)) frames

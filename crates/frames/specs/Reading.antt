@@ -1,7 +1,7 @@
 -- What a call of a frame reader finds, and what it does to the bytes that its source has left.
 use Rattle.std.specs.Prelude.{◌≡◌, ℕ, ◌≤◌, List, ◌++◌, take, Option, Some, None}
 use Rattle.std.specs.Io.KnownBytes.{Consumes}
-use Rattle.isa_model.specs.declared.streams.Fault.TheVariants.{F5}
+use Rattle.isa_model.specs.declared.streams.Fault.TheVariants.{ReadFailed}
 use Rattle.isa_model.specs.declared.streams.Finish.{Finish}
 use Rattle.isa_model.specs.declared.streams.Finish.TheVariants as finish
 use Rattle.isa_model.specs.Reporting.Streams.{Frame, max_body, frame_bytes, IsOpen, Ending, ByEnd, ByError, Position, Done, stop_from, opening, after_frame}
@@ -26,10 +26,10 @@ next_position position (Found f) = after_frame position f
 next_position position (Stopped stop) = Done stop
 
 -- The stream stops at a position, where the source has these bytes left before the call and those after it. Only
--- for F5 did the source answer an error, after the bytes that it lost.
+-- for ReadFailed did the source answer an error, after the bytes that it lost.
 abbrev pub Stops : Position → List ℕ → Option (List ℕ) → Finish → Type 0
-Stops position bytes new (finish.Fault F5 offset) =
-    (read : List ℕ) × Consumes (Some bytes) new read × (stop_from position read ByError ≡ Some (finish.Fault F5 offset))
+Stops position bytes new (finish.Fault ReadFailed offset) =
+    (read : List ℕ) × Consumes (Some bytes) new read × (stop_from position read ByError ≡ Some (finish.Fault ReadFailed offset))
 Stops position bytes new stop = stop_from position bytes ByEnd ≡ Some stop
 
 -- What a call does where the source's bytes are known: the bytes of the record that it finds are gone, or the

@@ -1,8 +1,8 @@
 //! Reads and writes streams of packet frames: the magic `XPF1`, and then records of a head of 20
 //! bytes and a body of at most 4,096. No call takes memory.
 //!
-//! `isa_model`'s `specs/Streams.antt` defines which frames a stream has and how it ends, and
-//! `specs/Inputs.antt` here has the law that a reader gives just these.
+//! `isa_model`'s `specs/Reporting/Streams.antt` defines which frames a stream has and how it ends,
+//! and `specs/Inputs.antt` here has the law that a reader gives just these.
 #![tactic(auto)]
 
 mod heads;

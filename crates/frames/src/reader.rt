@@ -67,8 +67,8 @@ impl<R: Read> FrameReader<R> {
     /// Finds the next record, and puts its body at the front of the buffer. The rest of the buffer,
     /// and all of it where no record was found, may then hold any bytes.
     ///
-    /// The source's first error, of any kind, is the fault F5, and nothing is tried again. After
-    /// the end or a fault each further call answers the same and reads nothing.
+    /// The source's first error, of any kind, is the fault `ReadFailed`, and nothing is tried
+    /// again. After the end or a fault each further call answers the same and reads nothing.
     pub fn next(&mut self, buffer: &mut [u8; MAX_BODY]) -> Next
         ensures bytes { Reads self.old.position (R.remaining self.old.source)
             (R.remaining self.new.source) (finding_of result buffer.new) }
@@ -125,11 +125,11 @@ fn read_magic<R: Read>(source: &mut R) -> Option<Fault>
             if magic == *b"XPF1" {
                 None
             } else {
-                Some(Fault::F1)
+                Some(Fault::BadMagic)
             }
         }
-        Filled::Ended(_) => Some(Fault::F1),
-        Filled::Failed(_) => Some(Fault::F5),
+        Filled::Ended(_) => Some(Fault::BadMagic),
+        Filled::Failed(_) => Some(Fault::ReadFailed),
     }
 }
 
@@ -155,21 +155,21 @@ fn read_record<R: Read>(
     let mut head = [0; 20];
     if number == u32::MAX {
         return match fill(source, &mut head[..1]) {
-            Filled::Whole => Next::Fault(Fault::F6, offset),
+            Filled::Whole => Next::Fault(Fault::TooManyRecords, offset),
             Filled::Ended(_) => Next::End,
-            Filled::Failed(_) => Next::Fault(Fault::F5, offset),
+            Filled::Failed(_) => Next::Fault(Fault::ReadFailed, offset),
         };
     }
     match fill(source, &mut head) {
         Filled::Whole => {}
         Filled::Ended(0) => return Next::End,
-        Filled::Ended(_) => return Next::Fault(Fault::F2, offset),
-        Filled::Failed(_) => return Next::Fault(Fault::F5, offset),
+        Filled::Ended(_) => return Next::Fault(Fault::TruncatedHead, offset),
+        Filled::Failed(_) => return Next::Fault(Fault::ReadFailed, offset),
     }
     let (frame_head, length) = decode_head(&head);
     let length = length as usize;
     if length > MAX_BODY {
-        return Next::Fault(Fault::F3, offset);
+        return Next::Fault(Fault::TooLong, offset);
     }
     let body = &mut buffer[..length];
     match fill(source, body) {
@@ -177,7 +177,7 @@ fn read_record<R: Read>(
             in_range(body);
             Next::Frame(frame_head, length)
         }
-        Filled::Ended(_) => Next::Fault(Fault::F4, offset),
-        Filled::Failed(_) => Next::Fault(Fault::F5, offset),
+        Filled::Ended(_) => Next::Fault(Fault::TruncatedBody, offset),
+        Filled::Failed(_) => Next::Fault(Fault::ReadFailed, offset),
     }
 }

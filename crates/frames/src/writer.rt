@@ -13,10 +13,9 @@ use std::io::Write;
 /// Writes a record, without the magic that stands before the first one.
 ///
 /// The body has at most 4,096 bytes: a caller must see to that, as by a buffer of that size, since
-/// no reader takes a record with a longer one (F3).
+/// no reader takes a record with a longer one (`TooLong`).
 ///
-/// The writer's first error, of any kind, is the failure and is handed on; a write of no byte is
-/// the failure
+/// The writer's first error, of any kind, is handed on; a write of no byte is the error
 /// `ErrorKind::WriteZero`. Nothing is tried again.
 pub fn write_frame<W: Write>(writer: &mut W, head: &FrameHead, body: &[u8]) -> io::Result<()>
     requires { length body.now ≤ max_body }

@@ -1,3 +1,4 @@
+pub mod Messages
 pub mod Tallies
 pub mod Writing
 pub mod Reported

@@ -40,9 +40,8 @@ impl Runner for CheckedRunner {
 }
 
 /// Runs an image's program, with every access tested, on the frames of the stream that a source
-/// gives, at most
-/// `limit` steps a frame. The report goes to one writer, and the frames that are sent on to the
-/// other.
+/// gives, at most `limit` steps a frame. The report goes to one writer, and the frames that are
+/// sent on to the other.
 ///
 /// Every answer of a frame's clock is the frame's time. Memory is taken before the first byte is
 /// written, and none after that. Nothing is tried again, and after a failure nothing is written to

@@ -1,17 +1,53 @@
 //! Why a run over a stream did not come to its end.
 
-use thiserror::Error;
+ghost use Rattle.std.specs.Prelude.{◌≡◌, Some};
+ghost use Rattle.host.specs.Messages.{code_of, sentence_of};
+
+use std::error::Error;
+use std::fmt;
 
 /// Why a run over a stream did not come to its last line.
-#[derive(Clone, Copy, PartialEq, Eq, Debug, Error)]
+#[derive(Clone, Copy, PartialEq, Eq, Debug)]
 pub enum HostError {
-    /// H1: memory ran out, before any byte was written.
-    #[error("out of memory")]
+    /// Out of memory, before any byte was written.
     Memory,
-    /// H2: the report's writer answered an error, or took no byte of those that it was given.
-    #[error("the report cannot be written")]
+    /// The report's writer answered an error, or took no byte of those that it was given.
     Report,
-    /// H3: the same of the writer of the frames out.
-    #[error("the frames out cannot be written")]
+    /// The same of the writer of the frames out.
     Frames,
 }
+
+impl HostError {
+    /// Its number in the documents, such as `H1`.
+    pub fn code(self) -> &'static str
+        ensures { result.now ≡ code_of self }
+    {
+        match self {
+            HostError::Memory => "H1",
+            HostError::Report => "H2",
+            HostError::Frames => "H3",
+        }
+    }
+
+    /// What is wrong, in a sentence.
+    pub fn sentence(self) -> &'static str
+        ensures { result.now ≡ sentence_of self }
+    {
+        match self {
+            HostError::Memory => "out of memory",
+            HostError::Report => "the report cannot be written",
+            HostError::Frames => "the frames out cannot be written",
+        }
+    }
+}
+
+/// Writes the sentence.
+impl fmt::Display for HostError {
+    ghost output = { λ error. Some (sentence_of error) };
+
+    fn fmt<W: fmt::Write>(&self, f: &mut fmt::Formatter<W>) -> fmt::Result {
+        f.write_str(self.sentence())
+    }
+}
+
+impl Error for HostError {}

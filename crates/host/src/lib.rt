@@ -1,6 +1,6 @@
 //! Runs a program over a stream of packet frames, and writes the report and the frames out.
 //!
-//! `isa_model`'s `specs/Reports.antt` defines what is written, as pieces in their order;
+//! `isa_model`'s `specs/Reporting/Reports.antt` defines what is written, as pieces in their order;
 //! `specs/Writing.antt` says what the outputs hold after a run, also after one that failed.
 #![tactic(auto)]
 

@@ -69,7 +69,7 @@ pub fn line_of_finish(frames: u32, finish: Finish) -> Line
         }
         Finish::Fault(fault, offset) => {
             line.push_str("fault ");
-            line.push_str(fault.name());
+            line.push_str(fault.code());
             line.push_str(" at ");
             push_number(&mut line, offset);
         }

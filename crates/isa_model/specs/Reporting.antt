@@ -2,5 +2,6 @@
 pub mod Frames
 pub mod Streams
 pub mod StreamLaws
+pub mod Messages
 pub mod Reports
 pub mod ReportLaws

@@ -1,41 +1,69 @@
 //! How streams of packet frames end.
 
-ghost use Rattle.std.specs.Prelude.{◌≡◌, ◌≤◌, length};
-ghost use Rattle.isa_model.specs.Reporting.Reports.{fault_name};
+ghost use Rattle.std.specs.Prelude.{◌≡◌, ◌≤◌, Some, length};
+ghost use Rattle.isa_model.specs.Reporting.Messages.{code_of, sentence_of};
+
+use std::error::Error;
+use std::fmt;
 
 /// What is wrong with a frame stream.
 #[derive(Clone, Copy, PartialEq, Eq, Debug)]
 pub enum Fault {
-    /// Fewer than 4 bytes, or another magic.
-    F1,
+    /// Fewer than 4 bytes, or another magic than `XPF1`.
+    BadMagic,
     /// 1 to 19 bytes of a record's head.
-    F2,
+    TruncatedHead,
     /// A length over 4,096.
-    F3,
+    TooLong,
     /// Fewer bytes of the body than the length.
-    F4,
+    TruncatedBody,
     /// The reader answered an error.
-    F5,
+    ReadFailed,
     /// A record begins after 4,294,967,295 records.
-    F6,
+    TooManyRecords,
 }
 
 impl Fault {
-    /// Its name in a report.
-    pub fn name(self) -> &'static str
-        ensures name { result.now ≡ fault_name self }
+    /// Its number in the documents and in reports, such as `F1`.
+    pub fn code(self) -> &'static str
+        ensures code { result.now ≡ code_of self }
         ensures short { length result.now ≤ 8 }
     {
         match self {
-            Fault::F1 => "F1",
-            Fault::F2 => "F2",
-            Fault::F3 => "F3",
-            Fault::F4 => "F4",
-            Fault::F5 => "F5",
-            Fault::F6 => "F6",
+            Fault::BadMagic => "F1",
+            Fault::TruncatedHead => "F2",
+            Fault::TooLong => "F3",
+            Fault::TruncatedBody => "F4",
+            Fault::ReadFailed => "F5",
+            Fault::TooManyRecords => "F6",
+        }
+    }
+
+    /// What is wrong, in a sentence.
+    pub fn sentence(self) -> &'static str
+        ensures { result.now ≡ sentence_of self }
+    {
+        match self {
+            Fault::BadMagic => "the stream does not begin with XPF1",
+            Fault::TruncatedHead => "the stream ends within the head of a record",
+            Fault::TooLong => "the frame is longer than 4096 bytes",
+            Fault::TruncatedBody => "the stream ends within the bytes of a frame",
+            Fault::ReadFailed => "the stream cannot be read",
+            Fault::TooManyRecords => "the stream has more than 4294967295 records",
         }
     }
 }
+
+/// Writes the sentence.
+impl fmt::Display for Fault {
+    ghost output = { λ fault. Some (sentence_of fault) };
+
+    fn fmt<W: fmt::Write>(&self, f: &mut fmt::Formatter<W>) -> fmt::Result {
+        f.write_str(self.sentence())
+    }
+}
+
+impl Error for Fault {}
 
 /// How a stream ends: at its end, or by a fault in the record that begins at an offset in bytes (0
 /// while the magic is read).

@@ -1,6 +1,8 @@
 //! The machine for programs that were accepted: it refuses no run.
 #![tactic(auto)]
 
+pub mod errors;
 pub mod machines;
 
-pub use machines::{Exit, Machine, VmError};
+pub use errors::VmError;
+pub use machines::{Exit, Machine};

@@ -6,19 +6,12 @@ ghost use Rattle.isa_model.specs.Machine.MachineStates.{AreBytes};
 ghost use Rattle.isa_model.specs.Reporting.Reports.{starting_contents};
 ghost use Rattle.machine.specs.Running.{Answers, IsRunning};
 
+use super::errors::VmError;
 use checked_vm::Checked;
 use explorer::Verified;
 use isa_model::{Clock, End, FrameHead};
 use std::alloc::Global;
 use std::marker::Model;
-use thiserror::Error;
-
-/// Why a machine was not made.
-#[derive(Clone, Copy, PartialEq, Eq, Debug, Error)]
-pub enum VmError {
-    #[error("out of memory")]
-    Memory,
-}
 
 /// How a run ended: its result, and how many instructions it had.
 #[derive(Clone, Copy, PartialEq, Eq, Debug)]

@@ -1,12 +1,12 @@
 -- The report of a program all of whose runs exit: it is the report of its outcomes.
-use Rattle.std.specs.Prelude.{◌≡◌, ℕ, zero, suc, ◌+◌, ◌<◌, ◌≤◌, ◌^◌, List, [], ◌∷◌, ◌++◌, drop, length, nat_lt, nat_eq, if◌then◌else◌, Bool, true, false, All, Option, Some, None, refl}
+use Rattle.std.specs.Prelude.{◌≡◌, ℕ, zero, suc, ◌+◌, ◌<◌, ◌≤◌, List, [], ◌∷◌, ◌++◌, drop, length, nat_lt, nat_eq, if◌then◌else◌, Bool, true, false, All, Option, Some, None, refl}
 use Rattle.std.specs.List.{starts_with}
 use Rattle.std.proofs.Common.{sym, ap, ◌∙◌, subst, arith}
 use Rattle.std.proofs.lemmas.List.{length-take}
 use Rattle.std.proofs.lemmas.Bool.Decides.{nat_tests}
 use Rattle.std.proofs.lemmas.List.Elements.{All-nil, All-cons, All-head, All-tail, All-take, All-drop}
 use Rattle.byteorder.specs.Numbers.{little_from-lt}
-use Rattle.isa_model.specs.declared.streams.Fault.TheVariants.{F1}
+use Rattle.isa_model.specs.declared.streams.Fault.TheVariants.{BadMagic}
 use Rattle.isa_model.specs.declared.streams.Finish.{Finish}
 use Rattle.isa_model.specs.declared.streams.Finish.TheVariants as finish
 use Rattle.isa_model.specs.Code.Instructions.{Program}
@@ -51,7 +51,7 @@ unfolding stop_from
 length_field-stop_from Fresh bytes e h = fresh (nat_lt (length bytes) 4) (starts_with nat_eq bytes magic) h
   where
     fresh : (short begins : Bool)
-        → (if short then Some (finish.Fault (cut_by e F1) 0) else if begins then stop_at 0 4 (drop 4 bytes) e else Some (finish.Fault F1 0)) ≡ None
+        → (if short then Some (finish.Fault (cut_by e BadMagic) 0) else if begins then stop_at 0 4 (drop 4 bytes) e else Some (finish.Fault BadMagic 0)) ≡ None
         → length_field (drop 4 bytes) ≤ max_body
     fresh true begins h = absurd (cc)
     fresh false false h = absurd (cc)

@@ -13,8 +13,6 @@ use Rattle.isa_model.specs.declared.map_defs.MapDef.{MapDef}
 use Rattle.isa_model.specs.declared.frames.FrameHead.{FrameHead}
 use Rattle.isa_model.specs.declared.frames.Action.{Action}
 use Rattle.isa_model.specs.declared.frames.Action.TheVariants as action
-use Rattle.isa_model.specs.declared.streams.Fault.{Fault}
-use Rattle.isa_model.specs.declared.streams.Fault.TheVariants.{F1, F2, F3, F4, F5, F6}
 use Rattle.isa_model.specs.declared.streams.Finish.{Finish}
 use Rattle.isa_model.specs.declared.streams.Finish.TheVariants as finish
 use Rattle.isa_model.specs.declared.ends.TrapReason.{TrapReason}
@@ -25,6 +23,7 @@ use Rattle.isa_model.specs.Reporting.Frames.{action_of}
 use Rattle.isa_model.specs.Code.Instructions.{Program}
 use Rattle.isa_model.specs.Machine.States.{Entries}
 use Rattle.isa_model.specs.Reporting.Streams.{Frame, magic, frame_bytes}
+use Rattle.isa_model.specs.Reporting.Messages.{code_of}
 use Rattle.isa_model.specs.Running.Runs.{Outcome, HasOutcome, Turn, turn}
 
 -- ---- names
@@ -49,14 +48,6 @@ reason_name BadHelper = codes "helper"
 reason_name TooManyFrames = codes "frames"
 reason_name NoResult = codes "exit"
 
-abbrev pub fault_name : Fault → List ℕ
-fault_name F1 = codes "F1"
-fault_name F2 = codes "F2"
-fault_name F3 = codes "F3"
-fault_name F4 = codes "F4"
-fault_name F5 = codes "F5"
-fault_name F6 = codes "F6"
-
 -- ---- lines, each ended by one line feed
 
 -- a frame's line, by the limit of steps, the frame's number, how its run ended, and the length of its body
@@ -76,7 +67,7 @@ map_line index e =
 -- the last line, by the number of frames and how the stream ended
 unfoldable pub last_line : ℕ → Finish → List ℕ
 last_line number finish.End = codes "end " ++ decimal number ++ codes "\n"
-last_line number (finish.Fault f offset) = codes "fault " ++ fault_name f ++ codes " at " ++ decimal offset ++ codes "\n"
+last_line number (finish.Fault f offset) = codes "fault " ++ code_of f ++ codes " at " ++ decimal offset ++ codes "\n"
 
 -- ---- pieces: each is written whole, or a beginning of it is the last that is written
 

@@ -5,7 +5,7 @@ use Rattle.std.specs.List.{starts_with}
 use Rattle.byteorder.specs.Endian.{little_bytes, little_from}
 use Rattle.isa_model.specs.declared.frames.FrameHead.{FrameHead}
 use Rattle.isa_model.specs.declared.streams.Fault.{Fault}
-use Rattle.isa_model.specs.declared.streams.Fault.TheVariants.{F1, F2, F3, F4, F5, F6}
+use Rattle.isa_model.specs.declared.streams.Fault.TheVariants.{BadMagic, TruncatedHead, TooLong, TruncatedBody, ReadFailed, TooManyRecords}
 use Rattle.isa_model.specs.declared.streams.Finish.{Finish}
 use Rattle.isa_model.specs.declared.streams.Finish.TheVariants as finish
 
@@ -56,10 +56,10 @@ pub record Input : Type 0 where
 abbrev pub max_frames : ℕ
 max_frames = 4294967295
 
--- where something is cut off, an end makes it the fault f and an error F5
+-- where something is cut off, an end makes it the fault f and an error ReadFailed
 abbrev pub cut_by : Ending → Fault → Fault
 cut_by ByEnd f = f
-cut_by ByError f = F5
+cut_by ByError f = ReadFailed
 
 -- the length that a record's head gives
 abbrev pub length_field : List ℕ → ℕ
@@ -68,13 +68,13 @@ length_field bytes = little_from 16 4 bytes
 -- why no record begins with these bytes, after that many records and at this offset, if none does
 unfoldable pub stop_at : ℕ → ℕ → List ℕ → Ending → Option Finish
 stop_at number offset [] ByEnd = Some finish.End
-stop_at number offset [] ByError = Some (finish.Fault F5 offset)
+stop_at number offset [] ByError = Some (finish.Fault ReadFailed offset)
 stop_at number offset (b ∷ bytes) ending =
     let all = b ∷ bytes in
-    if number == max_frames then Some (finish.Fault F6 offset)
-    else if nat_lt (length all) 20 then Some (finish.Fault (cut_by ending F2) offset)
-    else if nat_lt max_body (length_field all) then Some (finish.Fault F3 offset)
-    else if nat_lt (length all) (20 + length_field all) then Some (finish.Fault (cut_by ending F4) offset)
+    if number == max_frames then Some (finish.Fault TooManyRecords offset)
+    else if nat_lt (length all) 20 then Some (finish.Fault (cut_by ending TruncatedHead) offset)
+    else if nat_lt max_body (length_field all) then Some (finish.Fault TooLong offset)
+    else if nat_lt (length all) (20 + length_field all) then Some (finish.Fault (cut_by ending TruncatedBody) offset)
     else None
 
 -- where a reader stands: before the magic, before a record with this number and offset, or past all that it will read
@@ -86,9 +86,9 @@ pub data Position : Type 0 where
 -- why no record follows at a position, if none does
 unfoldable pub stop_from : Position → List ℕ → Ending → Option Finish
 stop_from Fresh bytes ending =
-    if nat_lt (length bytes) 4 then Some (finish.Fault (cut_by ending F1) 0)
+    if nat_lt (length bytes) 4 then Some (finish.Fault (cut_by ending BadMagic) 0)
     else if starts_with nat_eq bytes magic then stop_at 0 4 (drop 4 bytes) ending
-    else Some (finish.Fault F1 0)
+    else Some (finish.Fault BadMagic 0)
 stop_from (At number offset) bytes ending = stop_at number offset bytes ending
 stop_from (Done stop) bytes ending = Some stop
 

@@ -11,7 +11,7 @@ use Rattle.isa_model.specs.declared.map_defs.MapDef.{MapDef}
 use Rattle.isa_model.specs.declared.frames.Action.TheVariants as action
 use Rattle.isa_model.specs.declared.ends.End.TheVariants.{Exit, Trap, Limit}
 use Rattle.isa_model.specs.declared.ends.TrapReason.TheVariants.{NoCode, UnsetRead, ReadOnly, BadPointer, OutOfRange, BadAccess, BadCompare, BadHelper, TooManyFrames, NoResult}
-use Rattle.isa_model.specs.declared.streams.Fault.TheVariants.{F1, F2, F3, F4, F5, F6}
+use Rattle.isa_model.specs.declared.streams.Fault.TheVariants.{BadMagic, TruncatedHead, TooLong, TruncatedBody, ReadFailed, TooManyRecords}
 use Rattle.isa_model.specs.declared.streams.Finish.TheVariants as finish
 use Rattle.isa_model.specs.Code.Numbers.{alu}
 use Rattle.isa_model.specs.Reporting.Frames.{action_of}
@@ -111,7 +111,7 @@ pub line_at_the_limit : frame_line 1000000 12 Limit 60 ≡ codes "12 LIMIT 60 10
 unfolding frame_line digits
 line_at_the_limit = refl
 
-pub last_lines : last_line 7 finish.End ∷ map (λ f. last_line 7 (finish.Fault f 24)) (F1 ∷ F2 ∷ F3 ∷ F4 ∷ F5 ∷ F6 ∷ [])
+pub last_lines : last_line 7 finish.End ∷ map (λ f. last_line 7 (finish.Fault f 24)) (BadMagic ∷ TruncatedHead ∷ TooLong ∷ TruncatedBody ∷ ReadFailed ∷ TooManyRecords ∷ [])
     ≡ codes "end 7\n" ∷ codes "fault F1 at 24\n" ∷ codes "fault F2 at 24\n" ∷ codes "fault F3 at 24\n" ∷ codes "fault F4 at 24\n" ∷ codes "fault F5 at 24\n" ∷ codes "fault F6 at 24\n" ∷ []
 unfolding last_line digits
 last_lines = refl
@@ -170,7 +170,7 @@ remembers head body contents = record {
 
 -- contents are carried from frame to frame, also where a run traps, and then each map's lines come, map by map
 pub contents_carried_along : report_bytes (report_of 100 rows remembers (starting_contents rows)
-    (map (λ body. record { head = record { time = 0; interface = 0; queue = 0 }; body = body }) ((8 ∷ []) ∷ (9 ∷ 10 ∷ []) ∷ []), finish.Fault F5 70))
+    (map (λ body. record { head = record { time = 0; interface = 0; queue = 0 }; body = body }) ((8 ∷ []) ∷ (9 ∷ 10 ∷ []) ∷ []), finish.Fault ReadFailed 70))
     ≡ codes "0 TRAP code 1 5\n1 TRAP code 2 5\nmap 0 00000000 000000\nmap 0 01000000 000000\nmap 1 08 08\nmap 1 09 090a\nfault F5 at 70\n"
 unfolding frame_pieces frame_line map_line last_line encode_with digits
 contents_carried_along = refl

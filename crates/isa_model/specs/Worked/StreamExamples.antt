@@ -2,7 +2,7 @@
 use Rattle.std.specs.Prelude.{◌≡◌, ℕ, List, [], ◌∷◌, ◌++◌, length, map, take, replicate, codes, Some, None, refl}
 use Rattle.std.specs.List.{range_with_len}
 use Rattle.byteorder.specs.Endian.{little_bytes}
-use Rattle.isa_model.specs.declared.streams.Fault.TheVariants.{F1, F2, F3, F4, F5, F6}
+use Rattle.isa_model.specs.declared.streams.Fault.TheVariants.{BadMagic, TruncatedHead, TooLong, TruncatedBody, ReadFailed, TooManyRecords}
 use Rattle.isa_model.specs.declared.streams.Finish.{Finish}
 use Rattle.isa_model.specs.declared.streams.Finish.TheVariants as finish
 use Rattle.isa_model.specs.Reporting.Streams.{Frame, magic, max_frames, Ending, ByEnd, ByError, head_bytes, frame_bytes, stop_at, stop_from, frames_from, stream_of}
@@ -18,24 +18,24 @@ summary_of bytes ending = let found = stream_of (record { bytes = bytes; ending 
 
 -- the two records cut after 0, 1, .. 44 bytes
 pub cuts_by_an_end : map (λ n. summary_of (take n two_empty_records) ByEnd) (range_with_len 0 45)
-    ≡ replicate 4 (0, finish.Fault F1 0) ++ (0, finish.End) ∷ replicate 19 (0, finish.Fault F2 4)
-    ++ (1, finish.End) ∷ replicate 19 (1, finish.Fault F2 24) ++ (2, finish.End) ∷ []
+    ≡ replicate 4 (0, finish.Fault BadMagic 0) ++ (0, finish.End) ∷ replicate 19 (0, finish.Fault TruncatedHead 4)
+    ++ (1, finish.End) ∷ replicate 19 (1, finish.Fault TruncatedHead 24) ++ (2, finish.End) ∷ []
 unfolding frames_from stop_from stop_at
 cuts_by_an_end = refl
 
 -- and by an error of the reader
 pub cuts_by_an_error : map (λ n. summary_of (take n two_empty_records) ByError) (range_with_len 0 45)
-    ≡ replicate 4 (0, finish.Fault F5 0) ++ replicate 20 (0, finish.Fault F5 4)
-    ++ replicate 20 (1, finish.Fault F5 24) ++ (2, finish.Fault F5 44) ∷ []
+    ≡ replicate 4 (0, finish.Fault ReadFailed 0) ++ replicate 20 (0, finish.Fault ReadFailed 4)
+    ++ replicate 20 (1, finish.Fault ReadFailed 24) ++ (2, finish.Fault ReadFailed 44) ∷ []
 unfolding frames_from stop_from stop_at
 cuts_by_an_error = refl
 
 -- another byte at each place of the magic, also where an error follows
-pub other_magic : map (λ text. summary_of (text ++ zeros 20) ByEnd) (codes "xPF1" ∷ codes "XpF1" ∷ codes "XPf1" ∷ codes "XPF2" ∷ []) ≡ replicate 4 (0, finish.Fault F1 0)
+pub other_magic : map (λ text. summary_of (text ++ zeros 20) ByEnd) (codes "xPF1" ∷ codes "XpF1" ∷ codes "XPf1" ∷ codes "XPF2" ∷ []) ≡ replicate 4 (0, finish.Fault BadMagic 0)
 unfolding frames_from stop_from stop_at
 other_magic = refl
 
-pub other_magic_and_an_error : summary_of (codes "XPF2") ByError ≡ (0, finish.Fault F1 0)
+pub other_magic_and_an_error : summary_of (codes "XPF2") ByError ≡ (0, finish.Fault BadMagic 0)
 unfolding frames_from stop_from stop_at
 other_magic_and_an_error = refl
 
@@ -65,25 +65,25 @@ head_of n = zeros 16 ++ little_bytes 4 n
 
 -- a length over 4,096 counts as soon as the head is whole, whatever follows; 4,096 is none
 pub lengths : map (λ n. stop_at 0 4 (head_of n) ByEnd) (4096 ∷ 4097 ∷ 65536 ∷ 4294967295 ∷ [])
-    ≡ Some (finish.Fault F4 4) ∷ Some (finish.Fault F3 4) ∷ Some (finish.Fault F3 4) ∷ Some (finish.Fault F3 4) ∷ []
+    ≡ Some (finish.Fault TruncatedBody 4) ∷ Some (finish.Fault TooLong 4) ∷ Some (finish.Fault TooLong 4) ∷ Some (finish.Fault TooLong 4) ∷ []
 unfolding stop_at
 lengths = refl
 
-pub length_before_an_error : stop_at 0 4 (head_of 4097) ByError ∷ stop_at 0 4 (head_of 4096) ByError ∷ [] ≡ Some (finish.Fault F3 4) ∷ Some (finish.Fault F5 4) ∷ []
+pub length_before_an_error : stop_at 0 4 (head_of 4097) ByError ∷ stop_at 0 4 (head_of 4096) ByError ∷ [] ≡ Some (finish.Fault TooLong 4) ∷ Some (finish.Fault ReadFailed 4) ∷ []
 unfolding stop_at
 length_before_an_error = refl
 
 -- a body of three bytes, cut after 0 to 3
-pub bodies_cut_by_an_end : map (λ n. stop_at 7 24 (head_of 3 ++ zeros n) ByEnd) (0 ∷ 1 ∷ 2 ∷ 3 ∷ []) ≡ replicate 3 (Some (finish.Fault F4 24)) ++ None ∷ []
+pub bodies_cut_by_an_end : map (λ n. stop_at 7 24 (head_of 3 ++ zeros n) ByEnd) (0 ∷ 1 ∷ 2 ∷ 3 ∷ []) ≡ replicate 3 (Some (finish.Fault TruncatedBody 24)) ++ None ∷ []
 unfolding stop_at
 bodies_cut_by_an_end = refl
 
-pub bodies_cut_by_an_error : map (λ n. stop_at 7 24 (head_of 3 ++ zeros n) ByError) (0 ∷ 1 ∷ 2 ∷ 3 ∷ []) ≡ replicate 3 (Some (finish.Fault F5 24)) ++ None ∷ []
+pub bodies_cut_by_an_error : map (λ n. stop_at 7 24 (head_of 3 ++ zeros n) ByError) (0 ∷ 1 ∷ 2 ∷ 3 ∷ []) ≡ replicate 3 (Some (finish.Fault ReadFailed 24)) ++ None ∷ []
 unfolding stop_at
 bodies_cut_by_an_error = refl
 
 -- a record is read whole before an error after it
-pub error_behind_a_record : summary_of (magic ++ head_of 3 ++ zeros 3) ByError ≡ (1, finish.Fault F5 27)
+pub error_behind_a_record : summary_of (magic ++ head_of 3 ++ zeros 3) ByError ≡ (1, finish.Fault ReadFailed 27)
 unfolding frames_from stop_from stop_at
 error_behind_a_record = refl
 
@@ -91,11 +91,11 @@ error_behind_a_record = refl
 
 -- after the last one that may be there: one byte more, whatever it begins and however the bytes end; no byte more
 pub one_record_too_many : stop_at max_frames 24 (0 ∷ []) ByEnd ∷ stop_at max_frames 24 (0 ∷ []) ByError ∷ stop_at max_frames 24 (head_of 4097) ByEnd ∷ []
-    ≡ replicate 3 (Some (finish.Fault F6 24))
+    ≡ replicate 3 (Some (finish.Fault TooManyRecords 24))
 unfolding stop_at
 one_record_too_many = refl
 
 pub no_record_too_many : stop_at max_frames 24 [] ByEnd ∷ stop_at max_frames 24 [] ByError ∷ stop_at 4294967294 24 (zeros 20) ByEnd ∷ []
-    ≡ Some finish.End ∷ Some (finish.Fault F5 24) ∷ None ∷ []
+    ≡ Some finish.End ∷ Some (finish.Fault ReadFailed 24) ∷ None ∷ []
 unfolding stop_at
 no_record_too_many = refl

@@ -43,12 +43,12 @@ fn cut(rt: HostRuntime) {
     for step in [1, 2, 3, 7usize] {
         for n in 0..45usize {
             let (count, stop) = match n {
-                0..4 => (0, Next::Fault(Fault::F1, 0)),
+                0..4 => (0, Next::Fault(Fault::BadMagic, 0)),
                 4 => (0, Next::End),
                 24 => (1, Next::End),
                 44 => (2, Next::End),
-                5..24 => (0, Next::Fault(Fault::F2, 4)),
-                _ => (1, Next::Fault(Fault::F2, 24)),
+                5..24 => (0, Next::Fault(Fault::TruncatedHead, 4)),
+                _ => (1, Next::Fault(Fault::TruncatedHead, 24)),
             };
             let source = Reader {
                 left: &TWO[..n],
@@ -60,7 +60,7 @@ fn cut(rt: HostRuntime) {
         }
     }
     for n in 24..29usize {
-        let stop = Next::Fault(Fault::F4, 4);
+        let stop = Next::Fault(Fault::TruncatedBody, 4);
         assert_eq!(rt; stop_of(&RECORD[..n]), (0, stop, stop), "{n} bytes");
     }
 }
@@ -76,7 +76,7 @@ fn broken(rt: HostRuntime) {
                     24..44 => (1, 24),
                     _ => (2, 44),
                 };
-                let stop = Next::Fault(Fault::F5, offset);
+                let stop = Next::Fault(Fault::ReadFailed, offset);
                 let source = Reader {
                     left: &TWO,
                     step,
@@ -86,7 +86,7 @@ fn broken(rt: HostRuntime) {
                 assert_eq!(rt; stop_of(source), (count, stop, stop), "{n} bytes");
             }
             for n in 24..29usize {
-                let stop = Next::Fault(Fault::F5, 4);
+                let stop = Next::Fault(Fault::ReadFailed, 4);
                 let source = Reader {
                     left: &RECORD,
                     step,
@@ -103,13 +103,13 @@ fn broken(rt: HostRuntime) {
 #[test]
 fn damaged(rt: HostRuntime) {
     for (place, byte, count, stop) in [
-        (3, 50, 0, Next::Fault(Fault::F1, 0)),
+        (3, 50, 0, Next::Fault(Fault::BadMagic, 0)),
         (20, 20, 1, Next::End),
-        (20, 21, 0, Next::Fault(Fault::F4, 4)),
-        (21, 16, 0, Next::Fault(Fault::F4, 4)),
-        (41, 16, 1, Next::Fault(Fault::F4, 24)),
-        (41, 17, 1, Next::Fault(Fault::F3, 24)),
-        (23, 1, 0, Next::Fault(Fault::F3, 4)),
+        (20, 21, 0, Next::Fault(Fault::TruncatedBody, 4)),
+        (21, 16, 0, Next::Fault(Fault::TruncatedBody, 4)),
+        (41, 16, 1, Next::Fault(Fault::TruncatedBody, 24)),
+        (41, 17, 1, Next::Fault(Fault::TooLong, 24)),
+        (23, 1, 0, Next::Fault(Fault::TooLong, 4)),
     ] {
         let mut bytes = TWO;
         bytes[place] = byte;
@@ -122,7 +122,7 @@ fn damaged(rt: HostRuntime) {
     let mut long = TWO;
     long[20] = 1;
     long[21] = 16;
-    let stop = Next::Fault(Fault::F3, 4);
+    let stop = Next::Fault(Fault::TooLong, 4);
     assert_eq!(rt; stop_of(long.as_slice()), (0, stop, stop));
 }
 
@@ -174,7 +174,7 @@ fn many_records(rt: HostRuntime) -> Result<(), Fail> {
         let want = Next::Frame(head, time as usize % 6);
         assert_eq!(rt; reader.next(&mut buffer), want, "record {time}");
     }
-    let stop = Next::Fault(Fault::F2, 4 + 300 * 20 + 750);
+    let stop = Next::Fault(Fault::TruncatedHead, 4 + 300 * 20 + 750);
     assert_eq!(rt; reader.next(&mut buffer), stop);
     Ok(())
 }

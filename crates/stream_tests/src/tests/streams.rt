@@ -226,11 +226,11 @@ fn faults(rt: HostRuntime) -> Result<(), Fail> {
     let alloc = rt.alloc();
     for n in 0..45usize {
         let (frames, fault) = match n {
-            0..4 => (0, Some((Fault::F1, 0))),
+            0..4 => (0, Some((Fault::BadMagic, 0))),
             4 => (0, None),
-            5..24 => (0, Some((Fault::F2, 4))),
+            5..24 => (0, Some((Fault::TruncatedHead, 4))),
             24 => (1, None),
-            25..44 => (1, Some((Fault::F2, 24))),
+            25..44 => (1, Some((Fault::TruncatedHead, 24))),
             _ => (2, None),
         };
         let mut report = make_writer(alloc, 0, None);
@@ -248,7 +248,7 @@ fn faults(rt: HostRuntime) -> Result<(), Fail> {
         let mut report = make_writer(alloc, 0, None);
         let mut out = make_writer(alloc, 0, None);
         let result = checked(alloc, PASSES, 100, left, &mut report, &mut out)?;
-        let fault = Some((Fault::F5, place));
+        let fault = Some((Fault::ReadFailed, place));
         assert_eq!(rt; result, Ok(Tally { frames, fault }), "{n} bytes");
     }
     Ok(())
