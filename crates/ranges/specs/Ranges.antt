@@ -1,5 +1,5 @@
 -- What the contracts of `Range` cite.
-use Rattle.std.specs.Prelude.{ℕ, ℤ, ◌≡◌, ◌+◌, ◌-◌, ◌*◌, ◌/◌, ◌%◌, ◌^◌, ◌<◌, ◌≤◌, ◌+ℤ◌, ◌-ℤ◌, ◌≤ℤ◌, FitsSigned, ⊤}
+use Rattle.std.specs.Prelude.{ℕ, ℤ, ◌≡◌, ◌+◌, ◌-◌, ◌*◌, ◌/◌, ◌%◌, ◌^◌, ◌<◌, ◌≤◌, ◌+ℤ◌, ◌-ℤ◌, ◌≤ℤ◌, ◌⊎◌, FitsSigned, ⊤}
 use Rattle.std.specs.Int.{Width as IntWidth, w8, w16, w32, w64, cast_signed, cast_unsigned, int_shr}
 use Rattle.isa_model.specs.declared.sizes.Width.{Width}
 use Rattle.isa_model.specs.declared.sizes.Extension.{Extension}
@@ -24,6 +24,12 @@ IsConstant r x =
 -- the unsigned limits leave x only
 abbrev pub LeavesOnly : Range → ℕ → Type 0
 LeavesOnly r x = (r.least ≡ x) × (r.greatest ≡ x)
+
+-- x is one of the limits, of the unsigned or of the signed ones
+abbrev pub IsLimit : Range → ℕ → Type 0
+IsLimit r x =
+    ((r.least ≡ x) ⊎ (r.greatest ≡ x))
+    ⊎ ((r.signed_least ≡ cast_signed w64 x) ⊎ (r.signed_greatest ≡ cast_signed w64 x))
 
 -- the unsigned limits are no wider than from one number to another
 abbrev pub IsBetween : Range → ℕ → ℕ → Type 0

@@ -7,7 +7,7 @@ ghost use Rattle.std.specs.Int.{w64, cast_signed};
 use crate::range::Range;
 
 impl Range {
-    ghost use Rattle.ranges.specs.Ranges.{Has, IsConstant};
+    ghost use Rattle.ranges.specs.Ranges.{Has, IsConstant, IsLimit, LeavesOnly, Encloses};
 
     /// Those below some number of the other, and those above one. None: there is no such pair.
     pub fn below(self, other: Self) -> Option<(Self, Self)>
@@ -83,10 +83,10 @@ impl Range {
             → IsSomeAnd result (λ p. Has p.0 x × Has p.1 y) }
         ensures left { IfSome result (λ p. (x : ℕ) → Has p.0 x → Has self x) }
         ensures right { IfSome result (λ p. (y : ℕ) → Has p.1 y → Has other y) }
-        ensures left_limit { IfSome result (λ p. (v : ℕ) → IsConstant other v
-            → (self.least ≡ v) ⊎ (self.greatest ≡ v) → Has p.0 v → ⊥) }
-        ensures right_limit { IfSome result (λ p. (u : ℕ) → IsConstant self u
-            → (other.least ≡ u) ⊎ (other.greatest ≡ u) → Has p.1 u → ⊥) }
+        ensures left_limit { IfSome result (λ p. (v : ℕ) → LeavesOnly other v → IsLimit self v
+            → Has p.0 v → ⊥) }
+        ensures right_limit { IfSome result (λ p. (u : ℕ) → LeavesOnly self u → IsLimit other u
+            → Has p.1 u → ⊥) }
     {
         let left = self.apart_from(other)?;
         let right = other.apart_from(self)?;
@@ -129,8 +129,8 @@ impl Range {
         ensures common { (x y : ℕ) → Has self x → Has other y → x ≢ y
             → IsSomeAnd result (λ r. Has r x) }
         ensures left { IfSome result (λ r. (x : ℕ) → Has r x → Has self x) }
-        ensures limit { IfSome result (λ r. (v : ℕ) → IsConstant other v
-            → (self.least ≡ v) ⊎ (self.greatest ≡ v) → Has r v → ⊥) }
+        ensures limit { IfSome result (λ r. (v : ℕ) → LeavesOnly other v → IsLimit self v
+            → Has r v → ⊥) }
     {
         match other.number() {
             Some(number) => self.without(number),
@@ -138,10 +138,22 @@ impl Range {
         }
     }
 
-    // Those that are not this number, where it is an unsigned limit.
+    // Those that are not this number, where it is one of the limits.
     fn without(self, number: u64) -> Option<Self>
         ensures common { (x : ℕ) → Has self x → x ≢ number → IsSomeAnd result (λ r. Has r x) }
         ensures left { IfSome result (λ r. (x : ℕ) → Has r x → Has self x) }
+        ensures limit { IfSome result (λ r. IsLimit self number → Has r number → ⊥) }
+    {
+        let unsigned = self.without_unsigned(number)?;
+        let left = unsigned.without_signed(number)?;
+        Some(left)
+    }
+
+    // Those that are not this number, where it is an unsigned limit.
+    fn without_unsigned(self, number: u64) -> Option<Self>
+        ensures common { (x : ℕ) → Has self x → x ≢ number → IsSomeAnd result (λ r. Has r x) }
+        ensures left { IfSome result (λ r. (x : ℕ) → Has r x → Has self x) }
+        ensures enclosed { IfSome result (Encloses self) }
         ensures limit { IfSome result (λ r. (self.least ≡ number) ⊎ (self.greatest ≡ number)
             → Has r number → ⊥) }
     {
@@ -155,6 +167,30 @@ impl Range {
                 return None;
             }
             self.meet(Range::between(0, number - 1))
+        } else {
+            Some(self)
+        }
+    }
+
+    // Those that are not this number, where it is a signed limit.
+    fn without_signed(self, number: u64) -> Option<Self>
+        ensures common { (x : ℕ) → Has self x → x ≢ number → IsSomeAnd result (λ r. Has r x) }
+        ensures left { IfSome result (λ r. (x : ℕ) → Has r x → Has self x) }
+        ensures limit { IfSome result (λ r. (self.signed_least ≡ cast_signed w64 number)
+            ⊎ (self.signed_greatest ≡ cast_signed w64 number)
+            → Has r number → ⊥) }
+    {
+        let signed = number.cast_signed();
+        if self.signed_least == signed {
+            if signed == i64::MAX {
+                return None;
+            }
+            self.meet(Range::signed_between(signed + 1, i64::MAX))
+        } else if self.signed_greatest == signed {
+            if signed == i64::MIN {
+                return None;
+            }
+            self.meet(Range::signed_between(i64::MIN, signed - 1))
         } else {
             Some(self)
         }

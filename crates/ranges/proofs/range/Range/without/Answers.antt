@@ -1,0 +1,22 @@
+use Rattle.std.proofs.Common.{◌≡◌, inl, inr, arith}
+use Rattle.std.specs.Int.{w64, cast_signed}
+use Rattle.std.proofs.lemmas.Int.{ints}
+use Rattle.ranges.proofs.range.Range.without.Goals as goal
+
+pub returns-clause-limit : goal.returns-clause-limit
+returns-clause-limit c = λ is h.
+    let unsigned = c.in_ok-unsigned.unsigned in
+    let signed = cast_signed w64 c.args.number in
+    let within = c.in_ok-left.ensures.left c.args.number h in
+    let enclosed = c.in_ok-unsigned.ensures.enclosed in
+    elim is [
+      | inl plain ↦ c.in_ok-unsigned.ensures.limit plain within
+      | inr limit ↦ elim limit [
+          | inl least ↦
+              let same : unsigned.signed_least ≡ signed = omega (arith, ints, within.signed_from, enclosed.2) in
+              c.in_ok-left.ensures.limit (inl same) h
+          | inr greatest ↦
+              let same : unsigned.signed_greatest ≡ signed = omega (arith, ints, within.signed_to, enclosed.3) in
+              c.in_ok-left.ensures.limit (inr same) h
+        ]
+    ]

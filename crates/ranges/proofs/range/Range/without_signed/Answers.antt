@@ -1,0 +1,21 @@
+use Rattle.std.proofs.Common.{ℕ, ◌≡◌, ◌≢◌, ◌<◌, ◌^◌, sym, ap, ◌∙◌, arith}
+use Rattle.std.specs.Int.{w64, cast_signed, cast_unsigned}
+use Rattle.std.proofs.lemmas.Int.{ints, of_z-to_z}
+use Rattle.ranges.proofs.range.Range.without_signed.Goals as goal
+
+-- numbers that differ do so read with a sign
+cast_signed-apart : (x n : ℕ) → x < 2 ^ 64 → n < 2 ^ 64 → x ≢ n → cast_signed w64 x ≢ cast_signed w64 n
+cast_signed-apart x n x_in n_in differs same =
+    differs (sym (of_z-to_z w64 x x_in) ∙ ap (cast_unsigned w64) same ∙ of_z-to_z w64 n n_in)
+
+pub returns-else-signed-eq9223372036854775807-clause-common :
+    goal.returns-else-signed-eq9223372036854775807-clause-common
+returns-else-signed-eq9223372036854775807-clause-common c = λ x h differs.
+    let apart = cast_signed-apart x c.args.number h.below (omega arith) differs in
+    c.meet.ensures.common x h ((c.signed_between.ensures.members x).1 (h.below, omega (arith, ints), omega (arith, ints)))
+
+pub returns-else-signed-clause-common : goal.returns-else-signed-clause-common
+returns-else-signed-clause-common c = λ x h differs.
+    let apart = cast_signed-apart x c.args.number h.below (omega arith) differs in
+    c.meet-then-self-signed-2.ensures.common x h
+    ((c.signed_between-then-self-signed-2.ensures.members x).1 (h.below, omega (arith, ints), omega (arith, ints)))
