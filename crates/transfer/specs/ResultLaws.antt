@@ -24,12 +24,12 @@ use Rattle.isa_model.specs.Machine.Memory.{load}
 use Rattle.reg_state.specs.declared.scalars.Scalar.{Scalar}
 use Rattle.reg_state.specs.declared.kinds.Kind.{Kind}
 use Rattle.reg_state.specs.declared.kinds.Kind.TheVariants.{Unset, Number, Context, Stack, Packet, PacketEnd, Map, MapValue, MapValueOrNull}
-use Rattle.reg_state.specs.Scalars.{Has, only_number}
+use Rattle.reg_state.specs.Scalars.{Has}
 use Rattle.reg_state.specs.Kinds.{Assigned, Allows}
-use Rattle.reg_state.specs.Constants.{only_number-only}
+use Rattle.reg_state.specs.Constants.{IsNumber-only}
 use Rattle.transfer.specs.declared.refusals.Refusal.{Refusal}
 use Rattle.transfer.specs.declared.refusals.Refusal.TheVariants.{PointerOffset}
-use Rattle.transfer.specs.Results.{IsWord, IsLowWord, OfNumber, moved_offset, frame_pointer, moved_frame, Moves, PointerAndNumber, NumberAndPointer, NumberAnd, PointerAnd, Combined, Copied, Arithmetic, IsNumberField, Loads}
+use Rattle.transfer.specs.Results.{IsWord, IsLowWord, OfNumber, moved_offset, frame_pointer, LeavesNumber, moved_frame, Moves, PointerAndNumber, NumberAndPointer, NumberAnd, PointerAnd, Combined, Copied, Arithmetic, IsNumberField, Loads}
 
 -- the value is there, and the kind allows it
 abbrev pub Yields : Assigned → Kind → Result Value TrapReason → Type 0
@@ -62,22 +62,23 @@ frame_there : (frame : ℕ) (z : ℤ) (k : Kind) (b : Bool) → nat_le (unsigned
 frame_there frame z k true test is = (cc, grind (arith, nat_tests))
 frame_there frame z k false test is = absurd (cc)
 
-frame_moves : (e : Assigned) (back : Bool) (frame : ℕ) (offset : ℤ) (k : Kind) (x n : ℕ) (o : Option ℕ) → ((m : ℕ) → o ≡ Some m → x ≡ m)
+frame_moves : (e : Assigned) (back : Bool) (frame : ℕ) (offset : ℤ) (by : Scalar) (k : Kind) (x n : ℕ) (o : Option ℕ) → LeavesNumber by o → Has by x
     → Ok k ≡ moved_frame back frame offset o → slice_get e.frames frame ≡ Some n
     → Yields e k (moved_to (region.Frame n) (moved_offset back offset x))
-frame_moves e back frame offset k x n (Some m) only h found =
+frame_moves e back frame offset by k x n (Some m) only member h found =
     let to : ℤ = moved_offset back offset m in
     let (is, within) = frame_there frame to k (nat_le (unsigned_abs to) offset_limit) refl h in
     let there = pointer_at_within (region.Frame n) to within in
-    rw (only m refl, there, is) (n, found, refl)
-frame_moves e back frame offset k x n None only h found = absurd (cc)
+    rw (IsNumber-only by m x only member, there, is) (n, found, refl)
+frame_moves e back frame offset by k x n None only member h found = absurd (cc)
 
 moves_yields : (e : Assigned) (back : Bool) (pointer : Kind) (by : Scalar) (k : Kind) (x : ℕ) (v : Value) → Moves back pointer by (Ok k)
     → Has by x → Allows e pointer v
     → (n : ℕ) × (offset : ℤ) × (v ≡ value.Ptr (region.Frame n) offset) × Yields e k (moved_to (region.Frame n) (moved_offset back offset x))
 moves_yields e back (Stack frame offset) by k x v h member allowed =
     let (n, found, is) = allowed in
-    (n, offset, is, frame_moves e back frame offset k x n (only_number by) (λ m is. only_number-only by x m is member) h found)
+    let (o, only, left) = h in
+    (n, offset, is, frame_moves e back frame offset by k x n o only member left found)
 moves_yields e back pointer by k x v h member allowed = absurd (cc)
 
 -- pointer and number

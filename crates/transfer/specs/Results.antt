@@ -11,7 +11,7 @@ use Rattle.isa_model.specs.Machine.Pointers.{offset_limit}
 use Rattle.reg_state.specs.declared.scalars.Scalar.{Scalar}
 use Rattle.reg_state.specs.declared.kinds.Kind.{Kind}
 use Rattle.reg_state.specs.declared.kinds.Kind.TheVariants.{Number, Context, Stack, Packet, MapValue, MapValueOrNull}
-use Rattle.reg_state.specs.Scalars.{Has, only_number}
+use Rattle.reg_state.specs.Scalars.{Has, IsNumber}
 use Rattle.reg_state.specs.Arithmetic.{IsAlu}
 use Rattle.transfer.specs.declared.refusals.Refusal.{Refusal}
 use Rattle.transfer.specs.declared.refusals.Refusal.TheVariants.{PointerOperand, PointerOffset, ContextAccess, NullNotTested, NotBuilt}
@@ -45,13 +45,18 @@ moved_offset false z n = z +ℤ signed Full64 n
 abbrev pub frame_pointer : ℕ → ℤ → Result Kind Refusal
 frame_pointer frame z = if nat_le (unsigned_abs z) offset_limit then Ok (Stack frame z) else Err PointerOffset
 
+-- the one number that is left, if there is one
+abbrev pub LeavesNumber : Scalar → Option ℕ → Type 0
+LeavesNumber by (Some n) = IsNumber by n
+LeavesNumber by None = (n : ℕ) → ¬ IsNumber by n
+
 -- it moves where one number only is left
 abbrev pub moved_frame : Bool → ℕ → ℤ → Option ℕ → Result Kind Refusal
 moved_frame back frame offset (Some n) = frame_pointer frame (moved_offset back offset n)
 moved_frame back frame offset None = Err PointerOffset
 
 abbrev pub Moves : Bool → Kind → Scalar → Result Kind Refusal → Type 0
-Moves back (Stack frame offset) by result = result ≡ moved_frame back frame offset (only_number by)
+Moves back (Stack frame offset) by result = (o : Option ℕ) × LeavesNumber by o × (result ≡ moved_frame back frame offset o)
 Moves back (Packet fixed identity least greatest proved) by result = result ≡ Err NotBuilt
 Moves back (MapValue index least greatest) by result = result ≡ Err NotBuilt
 Moves back (MapValueOrNull index identity) by result = result ≡ Err NullNotTested

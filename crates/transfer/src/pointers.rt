@@ -1,8 +1,8 @@
 //! Arithmetic on pointers.
 
 ghost use Rattle.std.specs.Prelude.{◌≡◌};
-ghost use Rattle.transfer.specs.Results.{moved_offset, frame_pointer, Moves, PointerAndNumber};
-ghost use Rattle.transfer.specs.Results.{NumberAndPointer};
+ghost use Rattle.transfer.specs.Results.{moved_offset, frame_pointer, moved_frame, Moves};
+ghost use Rattle.transfer.specs.Results.{PointerAndNumber, NumberAndPointer};
 
 use crate::refusals::Refusal;
 use isa_model::{AluOp, Width};
@@ -37,18 +37,22 @@ fn frame_pointer(frame: u8, offset: i128) -> Result<Kind, Refusal>
     }
 }
 
+/// The frame pointer that the one number left moves, back or on.
+fn moved_frame(back: bool, frame: u8, offset: i32, number: Option<u64>) -> Result<Kind, Refusal>
+    ensures { result ≡ moved_frame back frame offset number }
+{
+    match number {
+        Some(number) => frame_pointer(frame, moved_offset(back, offset, number)),
+        None => Err(Refusal::PointerOffset),
+    }
+}
+
 /// A pointer that a number moves, back or on.
 fn moved(back: bool, pointer: Kind, by: Scalar) -> Result<Kind, Refusal>
     ensures { Moves back pointer by result }
 {
     match pointer {
-        Kind::Stack { frame, offset } => {
-            let Some(number) = by.number() else {
-                return Err(Refusal::PointerOffset);
-            };
-            let kind = frame_pointer(frame, moved_offset(back, offset, number))?;
-            Ok(kind)
-        }
+        Kind::Stack { frame, offset } => moved_frame(back, frame, offset, by.number()),
         Kind::Packet { .. } | Kind::MapValue { .. } => Err(Refusal::NotBuilt),
         Kind::MapValueOrNull { .. } => Err(Refusal::NullNotTested),
         _ => Err(Refusal::PointerOperand),
