@@ -5,3 +5,5 @@ pub mod Exact
 pub mod ResultLaws
 pub mod ExactLaws
 pub mod Messages
+pub mod StackAccesses
+pub mod StackAccessLaws
