@@ -7,6 +7,7 @@ ghost use Rattle.transfer.specs.Results.{PointerAndNumber, NumberAndPointer};
 use crate::refusals::Refusal;
 use isa_model::{AluOp, Width};
 use reg_state::{Domain, Kind, Scalar};
+use stack_state::State;
 
 /// The greatest offset of a pointer, and the least one with its sign changed.
 const OFFSET_LIMIT: i128 = 0x2000_0000;
@@ -48,8 +49,8 @@ fn moved_frame(back: bool, frame: u8, offset: i32, number: Option<u64>) -> Resul
 }
 
 /// A pointer that a number moves, back or on.
-fn moved(back: bool, pointer: Kind, by: Scalar) -> Result<Kind, Refusal>
-    ensures { Moves back pointer by result }
+fn moved(state: &State, back: bool, pointer: Kind, by: Scalar) -> Result<Kind, Refusal>
+    ensures { Moves state.now back pointer by result }
 {
     match pointer {
         Kind::Stack { frame, offset } => moved_frame(back, frame, offset, by.number()),
@@ -61,31 +62,33 @@ fn moved(back: bool, pointer: Kind, by: Scalar) -> Result<Kind, Refusal>
 
 /// A pointer on the left and a number on the right.
 pub fn pointer_and_number(
+    state: &State,
     op: AluOp,
     width: Width,
     pointer: Kind,
     by: Scalar,
 ) -> Result<Kind, Refusal>
-    ensures { PointerAndNumber op width pointer by result }
+    ensures { PointerAndNumber state.now op width pointer by result }
 {
     match (op, width) {
-        (AluOp::Add, Width::Full64) => moved(false, pointer, by),
-        (AluOp::Sub, Width::Full64) => moved(true, pointer, by),
+        (AluOp::Add, Width::Full64) => moved(state, false, pointer, by),
+        (AluOp::Sub, Width::Full64) => moved(state, true, pointer, by),
         _ => Err(Refusal::PointerOperand),
     }
 }
 
 /// A number on the left and a pointer on the right.
 pub fn number_and_pointer(
+    state: &State,
     op: AluOp,
     width: Width,
     by: Scalar,
     pointer: Kind,
 ) -> Result<Kind, Refusal>
-    ensures { NumberAndPointer op width by pointer result }
+    ensures { NumberAndPointer state.now op width by pointer result }
 {
     match (op, width) {
-        (AluOp::Add, Width::Full64) => moved(false, pointer, by),
+        (AluOp::Add, Width::Full64) => moved(state, false, pointer, by),
         _ => Err(Refusal::PointerOperand),
     }
 }
