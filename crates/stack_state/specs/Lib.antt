@@ -14,6 +14,8 @@ pub mod FillLaws
 pub mod FrameLaws
 pub mod Effects
 pub mod EffectLaws
+pub mod FramePlaces
+pub mod FramePlaceLaws
 pub mod Calls
 pub mod CallLaws
 pub mod ExitLaws

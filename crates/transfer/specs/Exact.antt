@@ -1,11 +1,14 @@
 -- What an instruction makes of an abstract state, and why it is refused, exactly.
 use Rattle.std.specs.Prelude.{◌≡◌, ◌≢◌, ℕ, ◌+◌, ◌==◌, ℤ, Bool, true, false, if◌then◌else◌, Option, Some, None, Result, Ok, Err}
 use Rattle.isa_model.specs.declared.sizes.Width.{Width}
+use Rattle.isa_model.specs.declared.sizes.Width.TheVariants.{Full64}
+use Rattle.isa_model.specs.declared.sizes.Size.{Size}
 use Rattle.isa_model.specs.declared.registers.Reg.{Reg}
 use Rattle.isa_model.specs.declared.registers.Reg.TheVariants.{R0, R10}
 use Rattle.isa_model.specs.declared.instructions.Cond.{Cond}
 use Rattle.isa_model.specs.declared.instructions.Operand.{Operand}
 use Rattle.isa_model.specs.declared.instructions.Operand.TheVariants.{Constant, Register}
+use Rattle.isa_model.specs.declared.instructions.Place.{Place}
 use Rattle.isa_model.specs.declared.instructions.Insn.{Insn}
 use Rattle.isa_model.specs.declared.instructions.Insn.TheVariants.{Alu, Neg, MovSx, ByteSwap, LoadNumber, Load, LoadSx, StoreConstant, Store, Atomic, Exchange, CompareExchange, Jump, JumpLong, JumpIf, CallLocal, Exit}
 use Rattle.isa_model.specs.Code.Numbers.{unsigned}
@@ -22,8 +25,9 @@ use Rattle.transfer.specs.declared.Ways.{Ways}
 use Rattle.transfer.specs.declared.Ways.TheVariants as ways
 use Rattle.transfer.specs.declared.refusals.Refusal.{Refusal}
 use Rattle.transfer.specs.declared.refusals.Refusal.TheVariants.{Comparison, TooManyFrames, ExitValue, NotBuilt}
-use Rattle.transfer.specs.Refusing.{register_refusal, access_refusal, atomic_refusal, exchange_refusal}
-use Rattle.transfer.specs.Results.{OfNumber, Arithmetic, Loads}
+use Rattle.transfer.specs.Refusing.{register_refusal, atomic_refusal, exchange_refusal}
+use Rattle.transfer.specs.Results.{OfNumber, Arithmetic}
+use Rattle.transfer.specs.Accesses.{Loads, LoadsSigned, Stores}
 
 -- ---- registers set
 
@@ -34,15 +38,13 @@ IsOperand a w (Register r) b = b ≡ kind_of a r
 
 -- the kind that a form puts into its register, or why it does not
 abbrev pub Puts : State → Insn → Result Kind Refusal → Type 0
-Puts a (Alu w op d source) result = (b : Kind) × IsOperand a w source b × Arithmetic op w (kind_of a d) b result
+Puts a (Alu w op d source) result = (b : Kind) × IsOperand a w source b × Arithmetic a op w (kind_of a d) b result
 Puts a (Neg w d) result = OfNumber (IsNegated w) (kind_of a d) result
 Puts a (MovSx e d r) result = OfNumber (IsSignExtended e) (kind_of a r) result
 Puts a (ByteSwap order span d) result = OfNumber (IsReordered order span) (kind_of a d) result
 Puts a (LoadNumber d n) result = (k : Kind) × IsJust k n × (result ≡ Ok k)
-Puts a (Load size d place) result = Loads size (kind_of a place.base) place.offset result
-Puts a (LoadSx size d place) result = result ≡ Err (access_refusal (kind_of a place.base))
-Puts a (StoreConstant size place k) result = result ≡ Err (access_refusal (kind_of a place.base))
-Puts a (Store size place r) result = result ≡ Err (access_refusal (kind_of a place.base))
+Puts a (Load size d place) result = Loads a size (kind_of a place.base) place.offset result
+Puts a (LoadSx size d place) result = LoadsSigned a size (kind_of a place.base) place.offset result
 Puts a (Atomic w op fetched place r) result = result ≡ Err (atomic_refusal (kind_of a place.base) (kind_of a r))
 Puts a (Exchange w place r) result = result ≡ Err (atomic_refusal (kind_of a place.base) (kind_of a r))
 Puts a (CompareExchange w place r) result = result ≡ Err (exchange_refusal (kind_of a R0) (kind_of a place.base) (kind_of a r))
@@ -60,6 +62,22 @@ pub record Sets (a : State) (i : Insn) (b : State) : Type 0 where
 abbrev pub SetsOr : State → Insn → Result Ways Refusal → State → Type 0
 SetsOr a i (Ok w) b = (w ≡ ways.One) × Sets a i b
 SetsOr a i (Err e) b = Puts a i (Err e)
+
+-- ---- stores
+
+-- the next instruction, with what a store leaves
+pub record StoresInto (a : State) (size : Size) (base : Kind) (by : ℤ) (source : Kind) (b : State) : Type 0 where
+  pub left : State
+  pub stores : Stores a size base by source left (Ok tt)
+  pub next : b ≡ go_to left (a.slot + 1)
+
+abbrev pub StoresOr : State → Size → Place → Kind → Result Ways Refusal → State → Type 0
+StoresOr a size place source (Ok w) b = (w ≡ ways.One) × StoresInto a size (kind_of a place.base) place.offset source b
+StoresOr a size place source (Err e) b = (left : State) × Stores a size (kind_of a place.base) place.offset source left (Err e)
+
+-- a constant of the instruction is sign-extended
+abbrev pub StoresConstant : State → Size → Place → ℤ → Result Ways Refusal → State → Type 0
+StoresConstant a size place k result b = (source : Kind) × IsJust source (unsigned Full64 k) × StoresOr a size place source result b
 
 -- ---- jumps
 
@@ -104,6 +122,8 @@ exited frames k = if frames == 1 then answered k else Err NotBuilt
 
 -- once the tests of its registers pass
 abbrev pub Performs : Program → State → Insn → Result Ways Refusal → State → State → Type 0
+Performs p a (StoreConstant size place k) result b c = StoresConstant a size place k result b
+Performs p a (Store size place r) result b c = StoresOr a size place (kind_of a r) result b
 Performs p a (Jump by) result b c = JumpsTo p a by result b
 Performs p a (JumpLong by) result b c = JumpsTo p a by result b
 Performs p a (JumpIf cond by) result b c = BranchesOr p a cond by result b c

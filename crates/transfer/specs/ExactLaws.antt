@@ -1,10 +1,12 @@
 -- What an instruction makes of an abstract state means what the machine does.
-use Rattle.std.specs.Prelude.{◌≡◌, ◌≢◌, ℕ, ◌+◌, ◌-◌, ◌<◌, ◌≤◌, ◌==◌, ℤ, Bool, true, false, ◌||◌, if◌then◌else◌, List, [], ◌∷◌, length, Option, Some, None, Result, Ok, Err, refl}
+use Rattle.std.specs.Prelude.{◌≡◌, ◌≢◌, ℕ, ◌+◌, ◌<◌, ◌≤◌, ◌==◌, ℤ, Bool, true, false, ◌||◌, if◌then◌else◌, List, [], ◌∷◌, length, Option, Some, None, Result, Ok, Err, refl}
 use Rattle.std.specs.List.{list_any}
 use Rattle.std.proofs.Common.{inl, inr, sym, ap, ◌∙◌, subst, arith}
 use Rattle.std.proofs.lemmas.Bool.Decides.{nat_tests}
 use Rattle.std.proofs.lemmas.List.{get_or-set_same}
 use Rattle.isa_model.specs.declared.sizes.Width.{Width}
+use Rattle.isa_model.specs.declared.sizes.Width.TheVariants.{Full64}
+use Rattle.isa_model.specs.declared.sizes.Size.{Size}
 use Rattle.isa_model.specs.declared.registers.Reg.{Reg}
 use Rattle.isa_model.specs.declared.registers.Reg.TheVariants.{R0, R10}
 use Rattle.isa_model.specs.declared.instructions.AluOp.{AluOp}
@@ -12,12 +14,12 @@ use Rattle.isa_model.specs.declared.instructions.AluOp.TheVariants.{Mov}
 use Rattle.isa_model.specs.declared.instructions.Cond.{Cond}
 use Rattle.isa_model.specs.declared.instructions.Operand.{Operand}
 use Rattle.isa_model.specs.declared.instructions.Operand.TheVariants.{Constant, Register}
+use Rattle.isa_model.specs.declared.instructions.Place.{Place}
 use Rattle.isa_model.specs.declared.instructions.Insn.{Insn}
-use Rattle.isa_model.specs.declared.instructions.Insn.TheVariants.{Alu, Neg, MovSx, ByteSwap, LoadNumber, Load, LoadSx, StoreConstant, Store, Atomic, Exchange, CompareExchange, Jump, JumpLong, JumpIf, CallLocal, Exit}
+use Rattle.isa_model.specs.declared.instructions.Insn.TheVariants.{Alu, Neg, MovSx, ByteSwap, LoadNumber, Load, LoadSx, StoreConstant, Store, Jump, JumpLong, JumpIf, CallLocal, Exit}
 use Rattle.isa_model.specs.declared.values.Value.{Value}
 use Rattle.isa_model.specs.declared.values.Value.TheVariants as value
 use Rattle.isa_model.specs.declared.ends.TrapReason.{TrapReason}
-use Rattle.isa_model.specs.declared.ends.TrapReason.TheVariants.{UnsetRead, ReadOnly}
 use Rattle.isa_model.specs.Code.Registers.{reg_number}
 use Rattle.isa_model.specs.Code.Numbers.{unsigned, negated, sign_extended, reordered, holds}
 use Rattle.isa_model.specs.Code.Spelling.{InsnFits, OperandFits}
@@ -25,11 +27,11 @@ use Rattle.isa_model.specs.Code.Instructions.{Program, fetch, slots_of, operand_
 use Rattle.isa_model.specs.Machine.Pointers.{arithmetic, on_number, compared, compared_constant}
 use Rattle.isa_model.specs.Machine.States.{reg, set_reg, value_at}
 use Rattle.isa_model.specs.Machine.States as Machine
-use Rattle.isa_model.specs.Machine.Memory.{load}
-use Rattle.isa_model.specs.Machine.Steps.{StepResult, Next, Finished, Trapped, operand_value, base_of, destination, sets, jumps, branches, tested, test_of, finishes, exits, act, is_unset, performed, performed_at, step}
+use Rattle.isa_model.specs.Machine.Memory.{load, load_signed, store}
+use Rattle.isa_model.specs.Machine.Steps.{operand_value, base_of, destination, sets, goes_on, jumps, branches, tested, test_of, finishes, exits, act, is_unset, performed, performed_at, step}
 use Rattle.isa_model.specs.Running.Ends.{After, After-weaker}
 use Rattle.isa_model.specs.Machine.Successors.{Follows, falls_through}
-use Rattle.isa_model.specs.Machine.MachineStates.{IsProgram, IsState, IsValue, IsSlot}
+use Rattle.isa_model.specs.Machine.MachineStates.{IsProgram, IsState, IsValue}
 use Rattle.isa_model.specs.Machine.ValueLaws.{unsigned_fits}
 use Rattle.isa_model.specs.Machine.StateLaws.{reg_fits}
 use Rattle.isa_model.specs.Machine.StepLaws.{IfNext, act_keeps}
@@ -47,9 +49,11 @@ use Rattle.transfer.specs.declared.refusals.Refusal.TheVariants.{UnsetRegister, 
 use Rattle.transfer.specs.declared.Ways.{Ways}
 use Rattle.transfer.specs.declared.Ways.TheVariants as ways
 use Rattle.transfer.specs.Leading.{EachWay, InSome, LeadsTo}
-use Rattle.transfer.specs.Refusing.{is_unset as is_unset_kind, is_unset_in, reads_unset, register_refusal}
-use Rattle.transfer.specs.ResultLaws.{Yields, on_number_yields, arithmetic_yields, load_yields}
-use Rattle.transfer.specs.Exact.{IsOperand, Puts, Sets, Sides, Branches, JumpsTo, answered, exited, Performs, Tested, Steps}
+use Rattle.transfer.specs.Refusing.{is_unset as is_unset_kind, is_unset_in, reads_unset}
+use Rattle.transfer.specs.ResultLaws.{Yields, YieldsIn, on_number_yields, arithmetic_yields}
+use Rattle.transfer.specs.StackAccessLaws.{GoesInto}
+use Rattle.transfer.specs.AccessLaws.{load_yields, load_signed_yields, store_goes}
+use Rattle.transfer.specs.Exact.{IsOperand, Puts, Sets, StoresOr, Sides, Branches, JumpsTo, answered, exited, Performs, Tested, Steps}
 
 -- ---- the tests of the registers
 
@@ -115,10 +119,18 @@ alu_operand_set s w op d source h = operand_set s w source (neither (unset_in s 
 
 -- ---- registers set
 
+yields_in : (p : Program) (e : Assigned) (a : State) (s : Machine.State) (k : Kind) (r : Result Value TrapReason) → MeansBy p e a s → Yields e k r → YieldsIn p a s k r
+yields_in p e a s k r m yields = record { assigned = e; means = m; yields = yields }
+
+-- a constant is allowed
+just_allowed : (e : Assigned) (k : Kind) (n : ℕ) → IsJust k n → Allows e k (value.Num n)
+just_allowed e (kind.Number c) n h = (n, refl, h.0)
+just_allowed e k n h = absurd h
+
 -- what a form puts into its register is there, and its kind allows it
 puts_yields : (p : Program) (clock : ℕ → ℕ) (e : Assigned) (a : State) (s : Machine.State) (i : Insn) (d : Reg) (k : Kind) → InsnFits i
     → MeansBy p e a s → list_any (unset_in s) (reads i) ≡ false → writes i ≡ Some d → Puts a i (Ok k)
-    → (r : Result Value TrapReason) × (act p clock s i ≡ sets s i d r) × Yields e k r
+    → (r : Result Value TrapReason) × (act p clock s i ≡ sets s i d r) × YieldsIn p a s k r
 unfolding act
 puts_yields p clock e a s (Alu w op x source) d k fits m set written h =
     let same : x ≡ d = cc in
@@ -126,7 +138,7 @@ puts_yields p clock e a s (Alu w op x source) d k fits m set written h =
     let result : Result Value TrapReason = arithmetic op w (reg s x) (operand_value s w source) in (
       result,
       ap (λ y. sets s (Alu w op x source) y result) same,
-      arithmetic_yields e (length p.maps) s.next_serial op w (kind_of a x) b k (reg s x) (operand_value s w source) gives
+      arithmetic_yields p e a s op w (kind_of a x) b k (reg s x) (operand_value s w source) m gives
           (operand_fits p s w source fits m.is_state) (alu_operand_set s w op x source set)
           (reg_allowed p e a s m x) (operand_allowed p e a s w source b m operand),
     )
@@ -134,39 +146,41 @@ puts_yields p clock e a s (Neg w x) d k fits m set written h =
     let same : x ≡ d = cc in (
       on_number (negated w) (reg s x),
       ap (λ y. sets s (Neg w x) y (on_number (negated w) (reg s x))) same,
-      on_number_yields e (negated w) (IsNegated w) (kind_of a x) k (reg s x) (λ b c is. is.contains) h
-          (reg_allowed p e a s m x),
+      yields_in p e a s k _ m (on_number_yields e (negated w) (IsNegated w) (kind_of a x) k (reg s x) (λ b c is. is.contains) h
+          (reg_allowed p e a s m x)),
     )
 puts_yields p clock e a s (MovSx by x r) d k fits m set written h =
     let same : x ≡ d = cc in (
       on_number (sign_extended by) (reg s r),
       ap (λ y. sets s (MovSx by x r) y (on_number (sign_extended by) (reg s r))) same,
-      on_number_yields e (sign_extended by) (IsSignExtended by) (kind_of a r) k (reg s r) (λ b c is. is.contains) h
-          (reg_allowed p e a s m r),
+      yields_in p e a s k _ m (on_number_yields e (sign_extended by) (IsSignExtended by) (kind_of a r) k (reg s r) (λ b c is. is.contains) h
+          (reg_allowed p e a s m r)),
     )
 puts_yields p clock e a s (ByteSwap order span x) d k fits m set written h =
     let same : x ≡ d = cc in (
       on_number (reordered order span) (reg s x),
       ap (λ y. sets s (ByteSwap order span x) y (on_number (reordered order span) (reg s x))) same,
-      on_number_yields e (reordered order span) (IsReordered order span) (kind_of a x) k (reg s x) (λ b c is. is.contains) h
-          (reg_allowed p e a s m x),
+      yields_in p e a s k _ m (on_number_yields e (reordered order span) (IsReordered order span) (kind_of a x) k (reg s x) (λ b c is. is.contains) h
+          (reg_allowed p e a s m x)),
     )
 puts_yields p clock e a s (LoadNumber x n) d k fits m set written h =
     let same : x ≡ d = cc in
     let (b, just, is) = h in
     let kind : k ≡ b = cc in
-    (Ok (value.Num n), ap (λ y. sets s (LoadNumber x n) y (Ok (value.Num n))) same, rw kind (just_allowed e b n just))
-  where
-    just_allowed : (e : Assigned) (k : Kind) (n : ℕ) → IsJust k n → Allows e k (value.Num n)
-    just_allowed e (kind.Number c) n h = (n, refl, h.0)
-    just_allowed e k n h = absurd h
+    (Ok (value.Num n), ap (λ y. sets s (LoadNumber x n) y (Ok (value.Num n))) same, yields_in p e a s k _ m (rw kind (just_allowed e b n just)))
 puts_yields p clock e a s (Load size x place) d k fits m set written h =
     let same : x ≡ d = cc in
     let result : Result Value TrapReason = load s size (base_of s place) place.offset in (
       result,
       ap (λ y. sets s (Load size x place) y result) same,
-      load_yields e s size (kind_of a place.base) k place.offset (base_of s place) h m.is_state.interface m.is_state.queue
-          (reg_allowed p e a s m place.base),
+      yields_in p e a s k result m (load_yields p e a s size (kind_of a place.base) k place.offset (base_of s place) m h (reg_allowed p e a s m place.base)),
+    )
+puts_yields p clock e a s (LoadSx size x place) d k fits m set written h =
+    let same : x ≡ d = cc in
+    let result : Result Value TrapReason = load_signed s size (base_of s place) place.offset in (
+      result,
+      ap (λ y. sets s (LoadSx size x place) y result) same,
+      yields_in p e a s k result m (load_signed_yields p e a s size (kind_of a place.base) k place.offset (base_of s place) m h (reg_allowed p e a s m place.base)),
     )
 puts_yields p clock e a s i d k fits m set written h = absurd (cc)
 
@@ -201,10 +215,33 @@ sets_in : (p : Program) (clock : ℕ → ℕ) (e : Assigned) (a : State) (s : Ma
     → InsnFits i → s.slot + slots_of i ≤ length p.insns → MeansBy p e a s → list_any (unset_in s) (reads i) ≡ false
     → w ≡ ways.One → Sets a i b → After (InSome p w b c) (act p clock s i)
 sets_in p clock e a s i w b c fits inside m set one h =
-    let (r, is, yields) = puts_yields p clock e a s i h.register h.kind fits m set h.written h.puts in
+    let (r, is, y) = puts_yields p clock e a s i h.register h.kind fits m set h.written h.puts in
     let next : State = go_to (with_register a h.register h.kind) (a.slot + slots_of i) in
-    After-weaker (MeansBy p e next) (InSome p w b c) (act p clock s i) (λ t means. one_means p e w b c next t one h.next means)
-    (sets_goes p clock e a s i h.register h.kind r fits inside m h.own is yields)
+    After-weaker (MeansBy p y.assigned next) (InSome p w b c) (act p clock s i) (λ t means. one_means p y.assigned w b c next t one h.next means)
+    (sets_goes p clock y.assigned a s i h.register h.kind r fits inside y.means h.own is y.yields)
+
+-- ---- stores
+
+-- the machine goes on with what is left
+left_goes : (p : Program) (e : Assigned) (a : State) (s : Machine.State) (i : Insn) (went : Result Machine.State TrapReason) (w : Ways) (b c left : State)
+    → slots_of i ≡ 1 → IfNext (goes_on s i went) (IsState p) → MeansBy p e a s → GoesInto p e left went → w ≡ ways.One → b ≡ go_to left (a.slot + 1)
+    → After (InSome p w b c) (goes_on s i went)
+left_goes p e a s i (Ok t) w b c left one is m goes way next =
+    let n : ℕ = s.slot + slots_of i in
+    let gone = MeansBy-go_to p e left t n is.slot goes in
+    let same : n ≡ a.slot + 1 = ap (λ k. s.slot + k) one ∙ ap (λ k. k + 1) m.slot_is in
+    one_means p e w b c (go_to left (a.slot + 1)) (Machine.go_to t n) way next
+    (subst (λ k. MeansBy p e (go_to left k) (Machine.go_to t n)) same gone)
+left_goes p e a s i (Err reason) w b c left one is m goes way next = absurd goes
+
+stores_in : (p : Program) (e : Assigned) (a : State) (s : Machine.State) (i : Insn) (size : Size) (place : Place) (source : Kind) (u : Value) (w : Ways) (b c : State)
+    → slots_of i ≡ 1 → MeansBy p e a s → Allows e source u → IsValue (length p.maps) s.next_serial u
+    → IfNext (goes_on s i (store s size (base_of s place) place.offset u)) (IsState p) → StoresOr a size place source (Ok w) b
+    → After (InSome p w b c) (goes_on s i (store s size (base_of s place) place.offset u))
+stores_in p e a s i size place source u w b c one m allowed fits is h =
+    let goes = store_goes p e a s size (kind_of a place.base) source place.offset (base_of s place) u h.1.left m h.1.stores
+    (reg_allowed p e a s m place.base) allowed fits in
+    left_goes p e a s i (store s size (base_of s place) place.offset u) w b c h.1.left one is m goes h.0 h.1.next
 
 -- ---- jumps
 
@@ -293,6 +330,13 @@ performs_in : (p : Program) (clock : ℕ → ℕ) (e : Assigned) (a : State) (s 
     → InsnFits i → s.slot + slots_of i ≤ length p.insns → MeansBy p e a s → list_any (unset_in s) (reads i) ≡ false
     → IfNext (act p clock s i) (IsState p) → Performs p a i (Ok w) b c → After (InSome p w b c) (act p clock s i)
 unfolding act
+performs_in p clock e a s (StoreConstant size place k) w b c fits inside m set is h =
+    let (source, just, stores) = h in
+    stores_in p e a s (StoreConstant size place k) size place source (value.Num (unsigned Full64 k)) w b c refl m
+    (just_allowed e source (unsigned Full64 k) just) (unsigned_fits Full64 k fits.1) is stores
+performs_in p clock e a s (Store size place r) w b c fits inside m set is h =
+    stores_in p e a s (Store size place r) size place (kind_of a r) (reg s r) w b c refl m
+    (reg_allowed p e a s m r) (reg_fits p s r m.is_state) is h
 performs_in p clock e a s (Jump by) w b c fits inside m set is h = jumps_in p e a s by w b c is m h
 performs_in p clock e a s (JumpLong by) w b c fits inside m set is h = jumps_in p e a s by w b c is m h
 performs_in p clock e a s (JumpIf cond by) w b c fits inside m set is h =
@@ -363,6 +407,11 @@ performs_follows p a (JumpIf cond by) w b c here h =
     (JumpIf cond by, here, inl (refl, refl)) (JumpIf cond by, here, inr (by, refl, refl))
 performs_follows p a (CallLocal by) w b c here h = absurd (cc)
 performs_follows p a Exit w b c here h = exits_nowhere (depth a) (kind_of a R0) w b c (λ next. Follows p a.slot next.slot) h
+performs_follows p a (StoreConstant size place k) w b c here h =
+    let (source, just, stores) = h in
+    each_one w b c (λ next. Follows p a.slot next.slot) stores.0 (StoreConstant size place k, here, inl (refl, ap (λ next. next.slot) stores.1.next))
+performs_follows p a (Store size place r) w b c here h =
+    each_one w b c (λ next. Follows p a.slot next.slot) h.0 (Store size place r, here, inl (refl, ap (λ next. next.slot) h.1.next))
 performs_follows p a i w b c here h = sets_follows p a i w b c here refl h.0 h.1
 
 -- each successor is at a slot that follows

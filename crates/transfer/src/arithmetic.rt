@@ -9,6 +9,7 @@ use crate::pointers::{number_and_pointer, pointer_and_number};
 use crate::refusals::Refusal;
 use isa_model::{AluOp, ByteOrder, Extension, Span, Width};
 use reg_state::{Domain, Kind, Scalar};
+use stack_state::State;
 
 /// The kind of a constant.
 pub fn constant(number: u64) -> Kind
@@ -68,41 +69,41 @@ fn copied(width: Width, source: Kind) -> Result<Kind, Refusal>
 }
 
 /// A number on the left.
-fn number_and(op: AluOp, width: Width, a: Scalar, b: Kind) -> Result<Kind, Refusal>
-    ensures { NumberAnd op width a b result }
+fn number_and(state: &State, op: AluOp, width: Width, a: Scalar, b: Kind) -> Result<Kind, Refusal>
+    ensures { NumberAnd state.now op width a b result }
 {
     match b {
         Kind::Number(number) => Ok(Kind::Number(Scalar::alu(op, width, a, number))),
-        _ => number_and_pointer(op, width, a, b),
+        _ => number_and_pointer(state, op, width, a, b),
     }
 }
 
 /// A pointer on the left.
-fn pointer_and(op: AluOp, width: Width, a: Kind, b: Kind) -> Result<Kind, Refusal>
-    ensures { PointerAnd op width a b result }
+fn pointer_and(state: &State, op: AluOp, width: Width, a: Kind, b: Kind) -> Result<Kind, Refusal>
+    ensures { PointerAnd state.now op width a b result }
 {
     match b {
-        Kind::Number(number) => pointer_and_number(op, width, a, number),
+        Kind::Number(number) => pointer_and_number(state, op, width, a, number),
         _ => Err(Refusal::PointerOperand),
     }
 }
 
 /// Every operation but MOV.
-fn combined(op: AluOp, width: Width, a: Kind, b: Kind) -> Result<Kind, Refusal>
-    ensures { Combined op width a b result }
+fn combined(state: &State, op: AluOp, width: Width, a: Kind, b: Kind) -> Result<Kind, Refusal>
+    ensures { Combined state.now op width a b result }
 {
     match a {
-        Kind::Number(number) => number_and(op, width, number, b),
-        _ => pointer_and(op, width, a, b),
+        Kind::Number(number) => number_and(state, op, width, number, b),
+        _ => pointer_and(state, op, width, a, b),
     }
 }
 
-/// What an arithmetic instruction gives on two operands.
-pub fn arithmetic(op: AluOp, width: Width, a: Kind, b: Kind) -> Result<Kind, Refusal>
-    ensures { Arithmetic op width a b result }
+/// What an arithmetic instruction gives on two operands in a state.
+pub fn arithmetic(state: &State, op: AluOp, width: Width, a: Kind, b: Kind) -> Result<Kind, Refusal>
+    ensures { Arithmetic state.now op width a b result }
 {
     match op {
         AluOp::Mov => copied(width, b),
-        _ => combined(op, width, a, b),
+        _ => combined(state, op, width, a, b),
     }
 }

@@ -14,6 +14,7 @@ mod jumps;
 mod memory;
 mod pointers;
 pub mod refusals;
+mod stacks;
 mod steps;
 
 use crate::steps::{perform, reads_unset};

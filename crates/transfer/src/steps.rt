@@ -6,16 +6,16 @@ ghost use Rattle.std.specs.Option.{option_to_list};
 ghost use Rattle.isa_model.specs.Code.Instructions.{Program, slots_of};
 ghost use Rattle.isa_model.specs.Code.Instructions.{writes, is_frame_pointer};
 ghost use Rattle.transfer.specs.Refusing.{is_unset_in, reads_unset};
-ghost use Rattle.transfer.specs.Exact.{IsOperand, Puts, SetsOr, Performs};
+ghost use Rattle.transfer.specs.Exact.{IsOperand, Puts, SetsOr, StoresOr, Performs};
 
 use crate::Ways;
 use crate::arithmetic::{arithmetic, constant, negated, reordered, sign_extended};
 use crate::exits::exit;
 use crate::jumps::jump_if;
-use crate::memory::{access_refusal, atomic_refusal, exchange_refusal, load};
+use crate::memory::{atomic_refusal, exchange_refusal, load, load_signed, store};
 use crate::refusals::Refusal;
 use isa_model::numbers::unsigned;
-use isa_model::{Insn, Operand, Reg, Width, destination};
+use isa_model::{Insn, Operand, Place, Reg, Size, Width, destination};
 use reg_state::Kind;
 use stack_state::State;
 
@@ -56,16 +56,21 @@ fn result_kind(state: &State, insn: &Insn) -> Result<Kind, Refusal>
 {
     match *insn {
         Insn::Alu(width, op, d, source) => {
-            arithmetic(op, width, state.kind_of(d), operand(state, width, source))
+            arithmetic(
+                state,
+                op,
+                width,
+                state.kind_of(d),
+                operand(state, width, source),
+            )
         }
         Insn::Neg(width, d) => negated(width, state.kind_of(d)),
         Insn::MovSx(extension, _, source) => sign_extended(extension, state.kind_of(source)),
         Insn::ByteSwap(order, span, d) => reordered(order, span, state.kind_of(d)),
         Insn::LoadNumber(_, number) => Ok(constant(number)),
-        Insn::Load(size, _, place) => load(size, state.kind_of(place.base), place.offset),
-        Insn::LoadSx(_, _, place) => Err(access_refusal(state.kind_of(place.base))),
-        Insn::StoreConstant(_, place, _) | Insn::Store(_, place, _) => {
-            Err(access_refusal(state.kind_of(place.base)))
+        Insn::Load(size, _, place) => { load(state, size, state.kind_of(place.base), place.offset) }
+        Insn::LoadSx(size, _, place) => {
+            load_signed(state, size, state.kind_of(place.base), place.offset)
         }
         Insn::Atomic(_, _, _, place, source) | Insn::Exchange(_, place, source) => {
             let base = state.kind_of(place.base);
@@ -95,6 +100,19 @@ fn set(state: &mut State, insn: &Insn) -> Result<Ways, Refusal>
     Ok(Ways::One)
 }
 
+// ---- stores
+
+/// Stores a value, and goes on to the next instruction.
+fn store_at(state: &mut State, size: Size, place: Place, source: Kind) -> Result<Ways, Refusal>
+    requires { state.old.slot + 1 < 2 ^ 63 }
+    ensures { StoresOr state.old size place source result state.new }
+{
+    let base = state.kind_of(place.base);
+    store(state, size, base, place.offset, source)?;
+    state.slot += 1;
+    Ok(Ways::One)
+}
+
 // ---- all forms
 
 /// What an instruction does, once the tests of its registers pass.
@@ -110,6 +128,13 @@ pub fn perform(
         → Performs p state.old insn.now result state.new other.new }
 {
     match *insn {
+        Insn::StoreConstant(size, place, k) => {
+            store_at(state, size, place, constant(unsigned(Width::Full64, k)))
+        }
+        Insn::Store(size, place, register) => {
+            let source = state.kind_of(register);
+            store_at(state, size, place, source)
+        }
         Insn::Jump(by) => {
             state.slot = destination(state.slot, i32::from(by), slots);
             Ok(Ways::One)

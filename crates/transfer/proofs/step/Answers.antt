@@ -1,4 +1,3 @@
-use Rattle.std.proofs.Common.{◌≡◌}
 use Rattle.transfer.proofs.step.Goals as goal
 
 pub returns-in-Ok-None-clause-steps : goal.returns-in-Ok-None-clause-steps

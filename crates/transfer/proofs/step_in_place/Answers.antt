@@ -1,10 +1,7 @@
-use Rattle.std.proofs.Common.{◌≡◌, ◌∙◌, Ok, refl, sym, subst, Some, None, false}
-use Rattle.isa_model.specs.declared.instructions.Insn.{Insn}
-use Rattle.isa_model.specs.Code.Instructions.{fetch, writes, is_frame_pointer}
-use Rattle.stack_state.specs.declared.states.State.{State}
+use Rattle.std.proofs.Common.{◌≡◌, ◌∙◌, sym, false}
+use Rattle.isa_model.specs.Code.Instructions.{writes, is_frame_pointer}
 use Rattle.image.specs.Programs.{IsProgram-IsImage}
 use Rattle.transfer.specs.Refusing.{reads_unset}
-use Rattle.transfer.specs.Exact.{Steps}
 use Rattle.transfer.specs.ExactLaws.{Steps-leads, Steps-follows}
 use Rattle.transfer.proofs.step_in_place.Goals as goal
 

@@ -1,4 +1,3 @@
-use Rattle.std.proofs.Common.{◌≡◌}
 use Rattle.transfer.proofs.arithmetic.reordered.Goals as goal
 
 pub returns-in-Number : goal.returns-in-Number

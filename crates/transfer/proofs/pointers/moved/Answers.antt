@@ -1,0 +1,19 @@
+use Rattle.std.proofs.Common.{◌≡◌, ℕ, ◌↔◌, Option, Some, None, rules, refl}
+use Rattle.std.proofs.lemmas.Int.{to_z-of_z}
+use Rattle.std.proofs.lemmas.Option.{none-some}
+use mir.Val.{SFits}
+use mir.Syntax.{w32}
+use Rattle.reg_state.specs.declared.scalars.Scalar.{Scalar}
+use Rattle.reg_state.specs.Scalars.{IsNumber}
+use Rattle.transfer.specs.Results.{LeavesNumber}
+use Rattle.transfer.proofs.pointers.moved.Goals as goal
+
+leaves : (by : Scalar) (o : Option ℕ) → ((n : ℕ) → ((o ≡ Some n) ↔ IsNumber by n)) → LeavesNumber by o
+leaves by (Some n) says = (says n).0 refl
+leaves by None says = λ n is. none-some n ((says n).1 is)
+
+pub returns-in-Stack : goal.returns-in-Stack
+returns-in-Stack c =
+    let narrow : SFits w32 c.in-Stack.offset = search rules in
+    let made = simp to_z-of_z at c.moved_frame.ensures in
+    rw c.in-Stack.is (c.number.result, leaves c.args.by c.number.result c.number.ensures.value, made)
