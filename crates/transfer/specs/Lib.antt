@@ -7,3 +7,5 @@ pub mod ExactLaws
 pub mod Messages
 pub mod StackAccesses
 pub mod StackAccessLaws
+pub mod Atomics
+pub mod AtomicLaws

@@ -10,6 +10,7 @@ ghost use Rattle.transfer.specs.Refusing.{register_refusal, Decides, Refuses};
 ghost use Rattle.transfer.specs.Exact.{Makes, IsAccepted};
 
 mod arithmetic;
+mod atomics;
 mod exits;
 mod jumps;
 mod memory;
