@@ -5,7 +5,7 @@ ghost use Rattle.std.specs.Prelude.{◌≡◌, ◌≢◌, ℕ, IsTrue, false};
 ghost use Rattle.isa_model.specs.Code.Numbers.{holds};
 ghost use Rattle.stack_state.specs.Places.{kind_of};
 ghost use Rattle.branch_refine.specs.Refining.{IsJust, IsJustOperand, AreCompared, Keeps, Narrows};
-ghost use Rattle.branch_refine.specs.Refining.{KeepsOthers, Refined, IfGoes, KeepsIn};
+ghost use Rattle.branch_refine.specs.Refining.{KeepsOthers, Refined, Refines, IsRefined};
 
 mod operands;
 
@@ -24,18 +24,7 @@ pub enum Branch {
 
 /// What is left where the test comes out this way.
 pub fn refine(cond: Cond, taken: bool, state: &State) -> Branch
-    ensures kept { KeepsIn cond taken state.now result }
-    ensures narrowed { IfGoes result (λ left. Narrows state.now left) }
-    ensures others { IfGoes result (λ left. KeepsOthers cond state.now left) }
-    ensures shown { AreCompared state.now cond
-        → IfGoes result (λ left. Refined cond taken state.now left) }
-    ensures constants { (x y : ℕ) → IsJust (kind_of state.now cond.register) x
-        → IsJustOperand state.now cond.width cond.operand y
-        → holds cond.comparison cond.width x y ≢ taken → result ≡ Branch.Never }
-    ensures constants_go { (x y : ℕ) → IsJust (kind_of state.now cond.register) x
-        → IsJustOperand state.now cond.width cond.operand y
-        → holds cond.comparison cond.width x y ≡ taken → result ≢ Branch.Never }
-    ensures not_numbers { (AreCompared state.now cond → ⊥) → result ≡ Branch.Goes state.now }
+    ensures { IsRefined cond taken state.now result }
 {
     let mut left = state.copy();
     if refine_in_place(cond, taken, &mut left) {
@@ -47,6 +36,13 @@ pub fn refine(cond: Cond, taken: bool, state: &State) -> Branch
 
 /// Leaves of a state what goes this way. No: nothing does, and it stays as it is.
 pub fn refine_in_place(cond: Cond, taken: bool, state: &mut State) -> bool
+    ensures refines { Refines cond taken state.old result state.new }
+{
+    refine_numbers(cond, taken, state)
+}
+
+// The same, where two numbers are compared; else the state stays as it is.
+fn refine_numbers(cond: Cond, taken: bool, state: &mut State) -> bool
     ensures kept { Keeps cond taken state.old result state.new }
     ensures narrowed { Narrows state.old state.new }
     ensures others { KeepsOthers cond state.old state.new }

@@ -1,8 +1,12 @@
 pub mod Leading
-pub mod Results
-pub mod Exact
 pub mod Refusing
+pub mod Results
+pub mod StackAccesses
+pub mod Accesses
+pub mod Exact
 pub mod ResultLaws
+pub mod StackAccessLaws
+pub mod AccessLaws
 pub mod ExactLaws
 pub mod Messages
 pub mod StackAccesses

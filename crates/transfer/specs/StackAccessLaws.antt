@@ -1,5 +1,5 @@
 -- What loads and stores through frame pointers give and leave is what the machine does.
-use Rattle.std.specs.Prelude.{◌≡◌, ◌≢◌, ℕ, suc, ◌+◌, ◌*◌, ◌/◌, ◌==◌, ℤ, ◌+ℤ◌, Bool, true, false, if◌then◌else◌, length, slice_get, Option, Some, None, Result, Ok, Err, IfOk, refl}
+use Rattle.std.specs.Prelude.{◌≡◌, ◌≢◌, ℕ, suc, ◌*◌, ◌/◌, ◌==◌, ℤ, ◌+ℤ◌, Bool, true, false, if◌then◌else◌, length, slice_get, Option, Some, None, Result, Ok, Err, IfOk, refl}
 use Rattle.std.proofs.Common.{sym, subst, arith}
 use Rattle.isa_model.specs.declared.sizes.Size.{Size}
 use Rattle.isa_model.specs.declared.sizes.Size.TheVariants.{U8, U16, U32, U64}

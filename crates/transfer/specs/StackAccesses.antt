@@ -1,5 +1,5 @@
 -- Loads and stores through frame pointers: what they give, what they leave, and why they are refused.
-use Rattle.std.specs.Prelude.{◌≡◌, ℕ, suc, ◌+◌, ◌/◌, ◌<◌, ◌==◌, ℤ, List, Option, Some, None, Result, Ok, Err, if◌then◌else◌}
+use Rattle.std.specs.Prelude.{◌≡◌, ℕ, suc, ◌/◌, ◌<◌, ◌==◌, ℤ, List, Option, Some, None, Result, Ok, Err, if◌then◌else◌}
 use Rattle.isa_model.specs.declared.sizes.Size.{Size}
 use Rattle.isa_model.specs.declared.sizes.Size.TheVariants.{U64}
 use Rattle.isa_model.specs.declared.sizes.Narrow.{Narrow}

@@ -1,12 +1,10 @@
 //! Jumps.
 
-ghost use Rattle.std.specs.Prelude.{◌≡◌, ◌+◌, ◌<◌, ◌^◌, ◌↔◌, IfOk, IfErr, IsOk, IsTrue, length};
-ghost use Rattle.std.specs.Prelude.{unwrap_or};
+ghost use Rattle.std.specs.Prelude.{◌≡◌, ◌+◌, ◌<◌, ◌^◌, ◌↔◌, IsTrue, length};
 ghost use Rattle.isa_model.specs.Code.Instructions.{Program};
-ghost use Rattle.isa_model.specs.Machine.Steps.{target};
-ghost use Rattle.stack_state.specs.Places.{kind_of, go_to};
-ghost use Rattle.branch_refine.specs.Refining.{IsNumber, IsNumberOperand, AreCompared};
-ghost use Rattle.transfer.specs.Exact.{Sides, Branches};
+ghost use Rattle.stack_state.specs.Places.{kind_of};
+ghost use Rattle.branch_refine.specs.Refining.{IsNumber, IsNumberOperand};
+ghost use Rattle.transfer.specs.Exact.{Sides, BranchesOr};
 
 use crate::Ways;
 use crate::refusals::Refusal;
@@ -58,10 +56,8 @@ pub fn jump_if(
     other: &mut State,
 ) -> Result<Ways, Refusal>
     requires { state.old.slot < 2 ^ 63 }
-    ensures branches { IfOk result (λ ways. (p : Program) → length p.insns ≡ slots
-        → Branches p state.old cond by ways state.new other.new) }
-    ensures accepts { AreCompared state.old cond → IsOk result }
-    ensures refused { IfErr result (λ e. e ≡ Refusal.Comparison) }
+    ensures { (p : Program) → length p.insns ≡ slots
+        → BranchesOr p state.old cond by result state.new other.new }
 {
     if !is_number(state, cond.register) || !is_number_operand(state, cond.operand) {
         return Err(Refusal::Comparison);

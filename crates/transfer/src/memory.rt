@@ -1,14 +1,16 @@
-//! Access to memory: the two loads of the context's fields that give numbers, and why there is no
-//! other yet.
+//! Access to memory: loads and stores by what the base points to, and why there is none.
 
-ghost use Rattle.std.specs.Prelude.{◌≡◌, IfOk, IfErr, IsOk};
+ghost use Rattle.std.specs.Prelude.{◌≡◌};
+ghost use Rattle.transfer.specs.Accesses.{LoadsContext, Loads, LoadsSigned, Stores};
 ghost use Rattle.transfer.specs.Refusing.{access_refusal, at_place, atomic_refusal};
 ghost use Rattle.transfer.specs.Refusing.{exchange_refusal};
-ghost use Rattle.transfer.specs.Results.{IsWord, IsLoaded, Loads};
+ghost use Rattle.transfer.specs.Results.{IsWord};
 
 use crate::refusals::Refusal;
-use isa_model::{Size, Width};
+use crate::stacks::{stack_load, stack_load_signed, stack_store};
+use isa_model::{Narrow, Size, Width};
 use reg_state::{Domain, Kind, Scalar};
+use stack_state::State;
 
 /// Any number of 32 bits.
 fn word() -> Kind
@@ -62,9 +64,7 @@ pub fn exchange_refusal(compared: Kind, base: Kind, source: Kind) -> Refusal
 
 /// A load of the context: the interface and the queue of the frame.
 fn context_load(size: Size, offset: i16) -> Result<Kind, Refusal>
-    ensures loads { IfOk result (Loads size Kind.Context offset) }
-    ensures accepts { IsLoaded size Kind.Context offset → IsOk result }
-    ensures refused { IfErr result (λ e. e ≡ Refusal.ContextAccess) }
+    ensures { LoadsContext size offset result }
 {
     match size {
         Size::U32 => {
@@ -78,13 +78,38 @@ fn context_load(size: Size, offset: i16) -> Result<Kind, Refusal>
 }
 
 /// What a load gives.
-pub fn load(size: Size, base: Kind, offset: i16) -> Result<Kind, Refusal>
-    ensures loads { IfOk result (Loads size base offset) }
-    ensures accepts { IsLoaded size base offset → IsOk result }
-    ensures refused { IfErr result (λ e. e ≡ access_refusal base) }
+pub fn load(state: &State, size: Size, base: Kind, by: i16) -> Result<Kind, Refusal>
+    ensures { Loads state.now size base by result }
 {
     match base {
-        Kind::Context => context_load(size, offset),
+        Kind::Context => context_load(size, by),
+        Kind::Stack { frame, offset } => stack_load(state, frame, offset, by, size),
+        _ => Err(access_refusal(base)),
+    }
+}
+
+/// What a sign-extending load gives.
+pub fn load_signed(state: &State, size: Narrow, base: Kind, by: i16) -> Result<Kind, Refusal>
+    ensures { LoadsSigned state.now size base by result }
+{
+    match base {
+        Kind::Stack { frame, offset } => stack_load_signed(state, frame, offset, by, size),
+        _ => Err(access_refusal(base)),
+    }
+}
+
+/// Stores a value.
+pub fn store(
+    state: &mut State,
+    size: Size,
+    base: Kind,
+    by: i16,
+    source: Kind,
+) -> Result<(), Refusal>
+    ensures { Stores state.old size base by source state.new result }
+{
+    match base {
+        Kind::Stack { frame, offset } => stack_store(state, frame, offset, by, size, source),
         _ => Err(access_refusal(base)),
     }
 }

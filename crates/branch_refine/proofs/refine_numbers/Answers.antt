@@ -1,7 +1,7 @@
 use Rattle.std.proofs.Common.{refl, sym, ◌∙◌}
 use Rattle.stack_state.specs.Places.{kind_of}
 use Rattle.branch_refine.proofs.Kept.{Keeps-same, Keeps-none, Keeps-compared, Narrows-compared, others_compared, no_number, no_operand, just_number, just_operand}
-use Rattle.branch_refine.proofs.refine_in_place.Goals as goal
+use Rattle.branch_refine.proofs.refine_numbers.Goals as goal
 
 pub returns-in_default-clause-kept : goal.returns-in_default-clause-kept
 returns-in_default-clause-kept c = Keeps-same c.args.cond c.args.taken c.args.state.now
