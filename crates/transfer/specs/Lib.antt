@@ -9,3 +9,7 @@ pub mod StackAccessLaws
 pub mod AccessLaws
 pub mod ExactLaws
 pub mod Messages
+pub mod StackAccesses
+pub mod StackAccessLaws
+pub mod Atomics
+pub mod AtomicLaws
