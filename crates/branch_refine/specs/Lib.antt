@@ -1,2 +1,4 @@
 pub mod Numbers
+pub mod Comparing
+pub mod ComparingLaws
 pub mod Refining

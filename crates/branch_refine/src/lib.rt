@@ -7,8 +7,10 @@ ghost use Rattle.stack_state.specs.Places.{kind_of};
 ghost use Rattle.branch_refine.specs.Refining.{IsJust, IsJustOperand, AreCompared, Keeps, Narrows};
 ghost use Rattle.branch_refine.specs.Refining.{KeepsOthers, Refined, Refines, IsRefined};
 
+mod comparing;
 mod operands;
 
+pub use crate::comparing::{Compared, compared_by};
 use crate::operands::{number_of, operand_numbers, set_operand};
 use isa_model::{Cond, Reg};
 use reg_state::Kind;
