@@ -1,5 +1,5 @@
 -- The laws of constants and of limits, for known bits and for ranges.
-use Rattle.std.proofs.Common.{ℕ, ◌≡◌, ◌^◌, ◌<◌, ◌∙◌, arith}
+use Rattle.std.proofs.Common.{ℕ, ◌≡◌, ◌^◌, ◌<◌, ◌∙◌, inl, inr, arith}
 use Rattle.std.proofs.lemmas.Int.{ints}
 use Rattle.std.proofs.lemmas.Nat.{and_mask}
 use Rattle.known_bits.specs.Member.{IsMember}
@@ -9,7 +9,7 @@ use Rattle.ranges.specs.declared.range.Range.{Range}
 use Rattle.ranges.specs.Ranges as R
 use Rattle.isa_model.specs.Code.NumberLemmas.{signed_equation}
 use Rattle.reg_state.specs.Limits.{range_limits, no_limits}
-use Rattle.reg_state.specs.Reach.{IsInside}
+use Rattle.reg_state.specs.Reach.{IsInside, IsLimit}
 
 one_has : (x : ℕ) → x < 2 ^ 64 → IsMember x 0 x
 one_has x h = record { below = h; known = and_mask x 64 ∙ omega arith }
@@ -37,3 +37,20 @@ any_inside x h =
 
 pub range_inside : (d : Range) (x : ℕ) → R.Has d x → IsInside (range_limits d) x
 range_inside d x h = record { from = omega (arith, ints); to = omega (arith, ints); signed_from = h.signed_from; signed_to = h.signed_to }
+
+-- no number of a register is one of them
+pub no_limits-IsLimit : (n : ℕ) → n < 2 ^ 64 → IsLimit no_limits n → ⊥
+no_limits-IsLimit n h is =
+    let e = signed_equation n h in
+    elim is [
+      | inl plain ↦ elim plain [ inl least ↦ omega (arith, ints) | inr greatest ↦ omega (arith, ints) ]
+      | inr signed ↦ elim signed [ inl least ↦ omega (arith, ints) | inr greatest ↦ omega (arith, ints) ]
+    ]
+
+-- a range's limits are its own
+pub range_limits-IsLimit : (r : Range) (n : ℕ) → IsLimit (range_limits r) n → R.IsLimit r n
+range_limits-IsLimit r n is =
+    elim is [
+      | inl plain ↦ elim plain [ inl least ↦ inl (inl (omega (arith, ints))) | inr greatest ↦ inl (inr (omega (arith, ints))) ]
+      | inr signed ↦ inr signed
+    ]
