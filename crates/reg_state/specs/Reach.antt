@@ -21,10 +21,9 @@ IsLimit l n =
     ((l.least ≡ pos n) ⊎ (l.greatest ≡ pos n))
     ⊎ ((l.signed_least ≡ cast_signed w64 n) ⊎ (l.signed_greatest ≡ cast_signed w64 n))
 
--- x, which is between the limits `own`, may be compared with this outcome to a number of another set: of that set, `has`
--- says which numbers it has, `is_one` which one it is written as, and `l` between which limits they are. x is one of the
--- same numbers, or it is not the one from which it differs, if that is a limit, or the limit of the other set that is best
--- for the outcome does not rule x out. Of single bits limits say nothing
+-- what it says of x that a comparison with some number of another set comes out so. Equal: x is in that set, as `has` tells.
+-- They differ: where the set is one number, as `is_one` tells, and that is a limit of `own`, between which x is known to be,
+-- x is another. An order: the limit of `l`, the set's, that is best for it does not rule x out. Bit tests: see `MayShare`
 abbrev pub MayGo : Comparison → Bool → (ℕ → Type 0) → (ℕ → Type 0) → Limits → Limits → ℕ → Type 0
 MayGo Equal true has is_one l own x = has x
 MayGo NotEqual false has is_one l own x = has x
