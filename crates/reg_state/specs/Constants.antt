@@ -9,9 +9,13 @@ use Rattle.ranges.specs.declared.range.Range.{Range}
 use Rattle.ranges.specs.Ranges as R
 use Rattle.isa_model.specs.Code.NumberLemmas.{signed_equation}
 use Rattle.reg_state.specs.Limits.{range_limits, no_limits}
+<<<<<<< HEAD
 use Rattle.reg_state.specs.Reach.{IsInside}
 use Rattle.reg_state.specs.declared.scalars.Scalar.{Scalar}
 use Rattle.reg_state.specs.Scalars.{Has, IsNumber}
+=======
+use Rattle.reg_state.specs.Reach.{IsInside, IsLimit}
+>>>>>>> 3ab77e6ea2a6a0a476599e0d383e52a1b38a00af
 
 one_has : (x : ℕ) → x < 2 ^ 64 → IsMember x 0 x
 one_has x h = record { below = h; known = and_mask x 64 ∙ omega arith }
@@ -44,3 +48,20 @@ any_inside x h =
 
 pub range_inside : (d : Range) (x : ℕ) → R.Has d x → IsInside (range_limits d) x
 range_inside d x h = record { from = omega (arith, ints); to = omega (arith, ints); signed_from = h.signed_from; signed_to = h.signed_to }
+
+-- no number of a register is one of them
+pub no_limits-IsLimit : (n : ℕ) → n < 2 ^ 64 → IsLimit no_limits n → ⊥
+no_limits-IsLimit n h is =
+    let e = signed_equation n h in
+    elim is [
+      | inl plain ↦ elim plain [ inl least ↦ omega (arith, ints) | inr greatest ↦ omega (arith, ints) ]
+      | inr signed ↦ elim signed [ inl least ↦ omega (arith, ints) | inr greatest ↦ omega (arith, ints) ]
+    ]
+
+-- a range's limits are its own
+pub range_limits-IsLimit : (r : Range) (n : ℕ) → IsLimit (range_limits r) n → R.IsLimit r n
+range_limits-IsLimit r n is =
+    elim is [
+      | inl plain ↦ elim plain [ inl least ↦ inl (inl (omega (arith, ints))) | inr greatest ↦ inl (inr (omega (arith, ints))) ]
+      | inr signed ↦ inr signed
+    ]

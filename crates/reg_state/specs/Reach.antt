@@ -1,9 +1,12 @@
--- What limits show of a comparison: the numbers that may go its way with some number between them.
-use Rattle.std.specs.Prelude.{ℕ, ◌≡◌, ◌^◌, pos, ◌<ℤ◌, ◌≤ℤ◌, Bool, true, false, ⊤, bit_and}
+-- What is known of two sets shows of a comparison: which numbers of one may go its way with some number of the other.
+use Rattle.std.specs.Prelude.{ℕ, ◌≡◌, ◌≢◌, ◌⊎◌, ◌<◌, ◌^◌, pos, ◌<ℤ◌, ◌≤ℤ◌, Bool, true, false, ⊤, bit_and}
 use Rattle.std.specs.Int.{w64, cast_signed, bit_at}
+use Rattle.isa_model.specs.declared.sizes.Width.{Width}
+use Rattle.isa_model.specs.declared.sizes.Width.TheVariants.{Low32, Full64}
 use Rattle.isa_model.specs.declared.instructions.Comparison.{Comparison}
 use Rattle.isa_model.specs.declared.instructions.Comparison.TheVariants.{Equal, NotEqual, Greater, GreaterEqual, Less, LessEqual, AnyBit, SignedGreater, SignedGreaterEqual, SignedLess, SignedLessEqual}
 use Rattle.reg_state.specs.Limits.{Limits}
+use Rattle.reg_state.specs.Relations.{low_half_limit}
 
 -- x is between the limits, read without and with a sign
 pub record IsInside (l : Limits) (x : ℕ) : Type 0 where
@@ -12,28 +15,37 @@ pub record IsInside (l : Limits) (x : ℕ) : Type 0 where
   pub signed_from : l.signed_least ≤ℤ cast_signed w64 x
   pub signed_to : cast_signed w64 x ≤ℤ l.signed_greatest
 
--- the comparison of x with a number between the limits may have this outcome: the limit that is best for it does not
--- rule x out. Of single bits, and of numbers that differ, limits say nothing
-abbrev pub MayGo : Comparison → Bool → Limits → ℕ → Type 0
-MayGo Equal true l x = IsInside l x
-MayGo NotEqual false l x = IsInside l x
-MayGo Less true l x = pos x <ℤ l.greatest
-MayGo GreaterEqual false l x = pos x <ℤ l.greatest
-MayGo LessEqual true l x = pos x ≤ℤ l.greatest
-MayGo Greater false l x = pos x ≤ℤ l.greatest
-MayGo Greater true l x = l.least <ℤ pos x
-MayGo LessEqual false l x = l.least <ℤ pos x
-MayGo GreaterEqual true l x = l.least ≤ℤ pos x
-MayGo Less false l x = l.least ≤ℤ pos x
-MayGo SignedLess true l x = cast_signed w64 x <ℤ l.signed_greatest
-MayGo SignedGreaterEqual false l x = cast_signed w64 x <ℤ l.signed_greatest
-MayGo SignedLessEqual true l x = cast_signed w64 x ≤ℤ l.signed_greatest
-MayGo SignedGreater false l x = cast_signed w64 x ≤ℤ l.signed_greatest
-MayGo SignedGreater true l x = l.signed_least <ℤ cast_signed w64 x
-MayGo SignedLessEqual false l x = l.signed_least <ℤ cast_signed w64 x
-MayGo SignedGreaterEqual true l x = l.signed_least ≤ℤ cast_signed w64 x
-MayGo SignedLess false l x = l.signed_least ≤ℤ cast_signed w64 x
-MayGo c t l x = ⊤
+-- the number is one of the limits, of the unsigned or of the signed ones
+abbrev pub IsLimit : Limits → ℕ → Type 0
+IsLimit l n =
+    ((l.least ≡ pos n) ⊎ (l.greatest ≡ pos n))
+    ⊎ ((l.signed_least ≡ cast_signed w64 n) ⊎ (l.signed_greatest ≡ cast_signed w64 n))
+
+-- what it says of x that a comparison with some number of another set comes out so. Equal: x is in that set, as `has` tells.
+-- They differ: where the set is one number, as `is_one` tells, and that is a limit of `own`, between which x is known to be,
+-- x is another. An order: the limit of `l`, the set's, that is best for it does not rule x out. Bit tests: see `MayShare`
+abbrev pub MayGo : Comparison → Bool → (ℕ → Type 0) → (ℕ → Type 0) → Limits → Limits → ℕ → Type 0
+MayGo Equal true has is_one l own x = has x
+MayGo NotEqual false has is_one l own x = has x
+MayGo Equal false has is_one l own x = (n : ℕ) → is_one n → IsLimit own n → x ≢ n
+MayGo NotEqual true has is_one l own x = (n : ℕ) → is_one n → IsLimit own n → x ≢ n
+MayGo Less true has is_one l own x = pos x <ℤ l.greatest
+MayGo GreaterEqual false has is_one l own x = pos x <ℤ l.greatest
+MayGo LessEqual true has is_one l own x = pos x ≤ℤ l.greatest
+MayGo Greater false has is_one l own x = pos x ≤ℤ l.greatest
+MayGo Greater true has is_one l own x = l.least <ℤ pos x
+MayGo LessEqual false has is_one l own x = l.least <ℤ pos x
+MayGo GreaterEqual true has is_one l own x = l.least ≤ℤ pos x
+MayGo Less false has is_one l own x = l.least ≤ℤ pos x
+MayGo SignedLess true has is_one l own x = cast_signed w64 x <ℤ l.signed_greatest
+MayGo SignedGreaterEqual false has is_one l own x = cast_signed w64 x <ℤ l.signed_greatest
+MayGo SignedLessEqual true has is_one l own x = cast_signed w64 x ≤ℤ l.signed_greatest
+MayGo SignedGreater false has is_one l own x = cast_signed w64 x ≤ℤ l.signed_greatest
+MayGo SignedGreater true has is_one l own x = l.signed_least <ℤ cast_signed w64 x
+MayGo SignedLessEqual false has is_one l own x = l.signed_least <ℤ cast_signed w64 x
+MayGo SignedGreaterEqual true has is_one l own x = l.signed_least ≤ℤ cast_signed w64 x
+MayGo SignedLess false has is_one l own x = l.signed_least ≤ℤ cast_signed w64 x
+MayGo c t has is_one l own x = ⊤
 
 -- the test of x's bits against a number that has the bits `ones` may have this outcome, where `shared` are the bits that
 -- both may have: on the one side x has none of those, on the other it has the shared bit, if there is only one
@@ -53,3 +65,9 @@ exchanged SignedGreaterEqual = SignedLessEqual
 exchanged SignedLess = SignedGreater
 exchanged SignedLessEqual = SignedGreaterEqual
 exchanged c = c
+
+-- the comparison reads numbers whole: at 64 bits all, at 32 bits those that the limits, or the bits that they may have,
+-- show to be their own low halves
+abbrev pub ReadsWhole : Comparison → Width → Limits → ℕ → Type 0
+ReadsWhole c Full64 l possible = ⊤
+ReadsWhole c Low32 l possible = (l.greatest <ℤ pos (low_half_limit c)) ⊎ (possible < low_half_limit c)

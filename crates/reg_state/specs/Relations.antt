@@ -50,6 +50,10 @@ reads_signed _ = false
 abbrev pub low_half : Comparison → ℕ → ℕ
 low_half c n = if reads_signed c then sign_extended Full32 n else low Low32 n
 
+-- numbers below it are their own low halves: where the sign counts, those without a sign bit
+abbrev pub low_half_limit : Comparison → ℕ
+low_half_limit c = if reads_signed c then 2 ^ 31 else 2 ^ 32
+
 -- ---- 64 bits
 
 tells : (c : Comparison) (t : Bool) (x y : ℕ) → compares c Full64 x y ≡ t → Goes c t x y
@@ -118,11 +122,20 @@ holds_low SignedLessEqual x y = both int_le (signs x) (signs y)
 pub goes_low : (c : Comparison) (t : Bool) (x y : ℕ) → low_half c x < 2 ^ 64 → low_half c y < 2 ^ 64 → holds c Low32 x y ≡ t → Goes c t (low_half c x) (low_half c y)
 goes_low c t x y x_in y_in e = goes c t (low_half c x) (low_half c y) x_in y_in (sym (holds_low c x y) ∙ e)
 
-pub low_half_signed : (c : Comparison) (x : ℕ) → reads_signed c ≡ true → x < 2 ^ 31 → low_half c x ≡ x
-low_half_signed c x e h = ap (λ b. if b then sign_extended Full32 x else low Low32 x) e ∙ sign_extended-small Full32 x (2 ^ 31) refl h
+low_half_below : (signed : Bool) (x : ℕ) → x < (if signed then 2 ^ 31 else 2 ^ 32)
+    → (if signed then sign_extended Full32 x else low Low32 x) ≡ x
+low_half_below true x h = sign_extended-small Full32 x (2 ^ 31) refl h
+low_half_below false x h = low_same Low32 x h
 
-pub low_half_unsigned : (c : Comparison) (x : ℕ) → reads_signed c ≡ false → x < 2 ^ 32 → low_half c x ≡ x
-low_half_unsigned c x e h = ap (λ b. if b then sign_extended Full32 x else low Low32 x) e ∙ low_same Low32 x h
+-- a number below the limit is its own low half
+pub low_half-small : (c : Comparison) (x : ℕ) → x < low_half_limit c → low_half c x ≡ x
+low_half-small c x h = low_half_below (reads_signed c) x h
+
+-- a comparison at 32 bits says of numbers that are their own low halves what it says at 64 bits
+pub goes_whole : (c : Comparison) (t : Bool) (x y : ℕ) → x < 2 ^ 64 → y < 2 ^ 64 → low_half c x ≡ x → low_half c y ≡ y
+    → holds c Low32 x y ≡ t → Goes c t x y
+goes_whole c t x y x_in y_in left right e =
+    goes c t x y x_in y_in (both (holds c Full64) (sym left) (sym right) ∙ sym (holds_low c x y) ∙ e)
 
 -- moved at 32 bits, a number is its low half
 pub moved_low_half : (c : Comparison) (x : ℕ) → reads_signed c ≡ false → alu Mov Low32 x x ≡ low_half c x

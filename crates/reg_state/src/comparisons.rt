@@ -1,10 +1,10 @@
 //! What a conditional jump shows of the numbers that it compares.
 
 ghost use Rattle.std.specs.Prelude.{◌≡◌, ◌≢◌, ℕ, ◌^◌, ◌<◌, None, IsSomeAnd, IfSome, IsTrue};
-ghost use Rattle.std.specs.Prelude.{bit_and};
+ghost use Rattle.std.specs.Prelude.{Bool, false, bit_and};
 ghost use Rattle.isa_model.specs.Code.Numbers.{holds};
-ghost use Rattle.reg_state.specs.Relations.{Goes, reads_signed, low_half};
-ghost use Rattle.reg_state.specs.Reach.{MayGo, MayShare, exchanged};
+ghost use Rattle.reg_state.specs.Relations.{Goes, reads_signed, low_half, low_half_limit};
+ghost use Rattle.reg_state.specs.Reach.{MayGo, MayShare, ReadsWhole, exchanged};
 
 use crate::domains::Domain;
 use isa_model::{AluOp, Comparison, Extension, Width, numbers};
@@ -31,15 +31,25 @@ pub fn refine<D: Domain>(
     ensures never { (u v : ℕ) → D.is_constant a u → D.is_constant b v
         → holds comparison width u v ≢ taken
         → result ≡ None }
-    ensures left_limits { width ≡ Width.Full64 → (u v : ℕ) → D.has a u → D.has a v → u ≢ v
-        → IfSome result (λ p. (x : ℕ) → D.has p.0 x → MayGo comparison taken (D.limits b) x) }
-    ensures right_limits { width ≡ Width.Full64 → (u v : ℕ) → D.has b u → D.has b v → u ≢ v
+    ensures left_limits { ReadsWhole comparison width (D.limits a) (D.possible a)
+        → ReadsWhole comparison width (D.limits b) (D.possible b)
+        → (u v : ℕ) → D.has a u → D.has a v → u ≢ v
+        → IfSome result (λ p. (x : ℕ) → D.has p.0 x
+        → MayGo comparison taken (D.has b) (D.is_constant b) (D.limits b) (D.limits a) x) }
+    ensures right_limits { ReadsWhole comparison width (D.limits a) (D.possible a)
+        → ReadsWhole comparison width (D.limits b) (D.possible b)
+        → (u v : ℕ) → D.has b u → D.has b v → u ≢ v
         → IfSome result (λ p. (y : ℕ) → D.has p.1 y
-        → MayGo (exchanged comparison) taken (D.limits a) y) }
-    ensures left_bits { width ≡ Width.Full64 → (u v : ℕ) → D.has a u → D.has a v → u ≢ v
+        → MayGo (exchanged comparison) taken (D.has a) (D.is_constant a) (D.limits a)
+        (D.limits b) y) }
+    ensures left_bits { ReadsWhole comparison width (D.limits a) (D.possible a)
+        → ReadsWhole comparison width (D.limits b) (D.possible b)
+        → (u v : ℕ) → D.has a u → D.has a v → u ≢ v
         → IfSome result (λ p. (x : ℕ) → D.has p.0 x
         → MayShare comparison taken (D.ones b) (bit_and (D.possible a) (D.possible b)) x) }
-    ensures right_bits { width ≡ Width.Full64 → (u v : ℕ) → D.has b u → D.has b v → u ≢ v
+    ensures right_bits { ReadsWhole comparison width (D.limits a) (D.possible a)
+        → ReadsWhole comparison width (D.limits b) (D.possible b)
+        → (u v : ℕ) → D.has b u → D.has b v → u ≢ v
         → IfSome result (λ p. (y : ℕ) → D.has p.1 y
         → MayShare comparison taken (D.ones a) (bit_and (D.possible a) (D.possible b)) y) }
 {
@@ -92,32 +102,57 @@ fn narrowed<D: Domain>(
         → IsSomeAnd result (λ p. D.has p.0 x × D.has p.1 y) }
     ensures left { IfSome result (λ p. (x : ℕ) → D.has p.0 x → D.has a x) }
     ensures right { IfSome result (λ p. (y : ℕ) → D.has p.1 y → D.has b y) }
-    ensures left_limits { width ≡ Width.Full64
-        → IfSome result (λ p. (x : ℕ) → D.has p.0 x → MayGo comparison taken (D.limits b) x) }
-    ensures right_limits { width ≡ Width.Full64
+    ensures left_limits { ReadsWhole comparison width (D.limits a) (D.possible a)
+        → ReadsWhole comparison width (D.limits b) (D.possible b)
+        → IfSome result (λ p. (x : ℕ) → D.has p.0 x
+        → MayGo comparison taken (D.has b) (D.is_constant b) (D.limits b) (D.limits a) x) }
+    ensures right_limits { ReadsWhole comparison width (D.limits a) (D.possible a)
+        → ReadsWhole comparison width (D.limits b) (D.possible b)
         → IfSome result (λ p. (y : ℕ) → D.has p.1 y
-        → MayGo (exchanged comparison) taken (D.limits a) y) }
-    ensures left_bits { width ≡ Width.Full64 → IfSome result (λ p. (x : ℕ) → D.has p.0 x
+        → MayGo (exchanged comparison) taken (D.has a) (D.is_constant a) (D.limits a)
+        (D.limits b) y) }
+    ensures left_bits { ReadsWhole comparison width (D.limits a) (D.possible a)
+        → ReadsWhole comparison width (D.limits b) (D.possible b)
+        → IfSome result (λ p. (x : ℕ) → D.has p.0 x
         → MayShare comparison taken (D.ones b) (bit_and (D.possible a) (D.possible b)) x) }
-    ensures right_bits { width ≡ Width.Full64 → IfSome result (λ p. (y : ℕ) → D.has p.1 y
+    ensures right_bits { ReadsWhole comparison width (D.limits a) (D.possible a)
+        → ReadsWhole comparison width (D.limits b) (D.possible b)
+        → IfSome result (λ p. (y : ℕ) → D.has p.1 y
         → MayShare comparison taken (D.ones a) (bit_and (D.possible a) (D.possible b)) y) }
 {
-    match width {
-        Width::Full64 => related(comparison, taken, a, b),
-        Width::Low32 => related_low(comparison, taken, a, b),
+    if reads_whole(comparison, width, a, b) {
+        related(comparison, taken, a, b)
+    } else {
+        related_low(comparison, taken, a, b)
     }
 }
 
-// At 64 bits: each outcome of a comparison is a relation, perhaps of the operands exchanged.
+// Whether the comparison is known to read the members whole.
+fn reads_whole<D: Domain>(comparison: Comparison, width: Width, a: D, b: D) -> bool
+    ensures sound { IsTrue result → (x y : ℕ) → D.has a x → D.has b y → (taken : Bool)
+        → holds comparison width x y ≡ taken → Goes comparison taken x y }
+    ensures found { ReadsWhole comparison width (D.limits a) (D.possible a)
+        → ReadsWhole comparison width (D.limits b) (D.possible b)
+        → IsTrue result }
+    ensures not { result ≡ false → width ≡ Width.Low32 }
+{
+    match width {
+        Width::Full64 => true,
+        Width::Low32 => are_low_halves(comparison, a) && are_low_halves(comparison, b),
+    }
+}
+
+// Of whole numbers: each outcome of a comparison is a relation, perhaps of the operands exchanged.
 fn related<D: Domain>(comparison: Comparison, taken: bool, a: D, b: D) -> Option<(D, D)>
     ensures common { (x y : ℕ) → D.has a x → D.has b y → Goes comparison taken x y
         → IsSomeAnd result (λ p. D.has p.0 x × D.has p.1 y) }
     ensures left { IfSome result (λ p. (x : ℕ) → D.has p.0 x → D.has a x) }
     ensures right { IfSome result (λ p. (y : ℕ) → D.has p.1 y → D.has b y) }
     ensures left_limits { IfSome result (λ p. (x : ℕ) → D.has p.0 x
-        → MayGo comparison taken (D.limits b) x) }
+        → MayGo comparison taken (D.has b) (D.is_constant b) (D.limits b) (D.limits a) x) }
     ensures right_limits { IfSome result (λ p. (y : ℕ) → D.has p.1 y
-        → MayGo (exchanged comparison) taken (D.limits a) y) }
+        → MayGo (exchanged comparison) taken (D.has a) (D.is_constant a) (D.limits a)
+        (D.limits b) y) }
     ensures left_bits { IfSome result (λ p. (x : ℕ) → D.has p.0 x
         → MayShare comparison taken (D.ones b) (bit_and (D.possible a) (D.possible b)) x) }
     ensures right_bits { IfSome result (λ p. (y : ℕ) → D.has p.1 y
@@ -198,12 +233,19 @@ fn with_low_halves<D: Domain>(comparison: Comparison, a: D, low: D) -> Option<D>
 
 // Whether the members are known to be their own low halves.
 fn are_low_halves<D: Domain>(comparison: Comparison, a: D) -> bool
-    ensures { IsTrue result → (x : ℕ) → D.has a x → low_half comparison x ≡ x }
+    ensures sound { IsTrue result → (x : ℕ) → D.has a x → low_half comparison x ≡ x }
+    ensures found { ReadsWhole comparison Width.Low32 (D.limits a) (D.possible a) → IsTrue result }
+{
+    a.greatest() < low_half_limit(comparison)
+}
+
+fn low_half_limit(comparison: Comparison) -> u64
+    ensures { result ≡ low_half_limit comparison }
 {
     if is_signed(comparison) {
-        a.greatest() <= 0x7fff_ffff
+        0x8000_0000
     } else {
-        a.greatest() <= 0xffff_ffff
+        0x1_0000_0000
     }
 }
 

@@ -7,7 +7,7 @@ ghost use Rattle.isa_model.specs.Code.Sizes.{width_bits, span_bits};
 ghost use Rattle.isa_model.specs.Code.Numbers.{alu, negated, sign_extended, reordered};
 ghost use Rattle.isa_model.specs.Code.ExtensionLemmas.{extension_width};
 ghost use Rattle.reg_state.specs.Limits.{Limits};
-ghost use Rattle.reg_state.specs.Reach.{IsInside};
+ghost use Rattle.reg_state.specs.Reach.{IsInside, IsLimit};
 
 use isa_model::{AluOp, ByteOrder, Extension, Span, Width};
 
@@ -49,7 +49,9 @@ pub trait Domain: Copy {
     /// A number that no member is greater than.
     fn greatest(self) -> u64
         ensures bound { (x : ℕ) → has self x → x ≤ result }
-        ensures exact { (u : ℕ) → is_constant self u → result ≡ u };
+        ensures exact { (u : ℕ) → is_constant self u → result ≡ u }
+        ensures limit { pos result ≤ℤ (limits self).greatest }
+        ensures possible { result ≤ possible self };
 
     /// What the operation gives on the members of both.
     fn alu(op: AluOp, width: Width, a: Self, b: Self) -> Self
@@ -139,7 +141,11 @@ pub trait Domain: Copy {
         ensures common { (x y : ℕ) → has self x → has other y → x ≢ y
             → IsSomeAnd result (λ p. has p.0 x × has p.1 y) }
         ensures left { IfSome result (λ p. (x : ℕ) → has p.0 x → has self x) }
-        ensures right { IfSome result (λ p. (y : ℕ) → has p.1 y → has other y) };
+        ensures right { IfSome result (λ p. (y : ℕ) → has p.1 y → has other y) }
+        ensures left_limit { IfSome result (λ p. (x : ℕ) → has p.0 x → (n : ℕ)
+            → is_constant other n → IsLimit (limits self) n → x ≢ n) }
+        ensures right_limit { IfSome result (λ p. (y : ℕ) → has p.1 y → (n : ℕ)
+            → is_constant self n → IsLimit (limits other) n → y ≢ n) };
 
     /// Those that have no bit in common with some member of the other, and the other way round.
     fn disjoint(self, other: Self) -> Option<(Self, Self)>

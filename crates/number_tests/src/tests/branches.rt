@@ -32,7 +32,7 @@ const ROWS: [(
     bool,
     [Limits; 2],
     Option<[Limits; 2]>,
-); 9] = [
+); 13] = [
     (
         Comparison::Less,
         FULL,
@@ -75,6 +75,15 @@ const ROWS: [(
         [(7, 100), (5, 10)],
         Some([(7, 9), (8, 10)]),
     ),
+    // Of words the same holds at 32 bits.
+    (
+        Comparison::Less,
+        LOW,
+        R3,
+        true,
+        [(7, 100), (5, 10)],
+        Some([(7, 9), (8, 10)]),
+    ),
     // What a low half shows is kept of a word only.
     (
         Comparison::Less,
@@ -101,6 +110,32 @@ const ROWS: [(
         Some([SEVEN, SEVEN]),
     ),
     (Comparison::Equal, FULL, R3, false, [SEVEN, SEVEN], None),
+    // Equal numbers are in both sets.
+    (
+        Comparison::Equal,
+        FULL,
+        R3,
+        true,
+        [(7, 100), (5, 10)],
+        Some([(7, 10), (7, 10)]),
+    ),
+    // A number that is not 7 is over it, where 7 is the least, and so at 32 bits of a word.
+    (
+        Comparison::Equal,
+        FULL,
+        R3,
+        false,
+        [SEVEN, (7, 100)],
+        Some([SEVEN, (8, 100)]),
+    ),
+    (
+        Comparison::NotEqual,
+        LOW,
+        R3,
+        true,
+        [(5, 7), SEVEN],
+        Some([(5, 6), SEVEN]),
+    ),
 ];
 
 fn numbers(limits: Limits) -> Kind {

@@ -263,8 +263,10 @@ const TEN: Set = Set::One(10);
 
 const ZERO: Set = Set::One(0);
 
+const MINUS_TWO: Set = Set::One(u64::MAX - 1);
+
 /// A relation, two sets, and what it leaves of both.
-const RELATIONS: [(Relation, Set, Set, Option<(Set, Set)>); 14] = [
+const RELATIONS: [(Relation, Set, Set, Option<(Set, Set)>); 15] = [
     (Relation::Below, BYTE, TEN, Some((Set::Between(0, 9), TEN))),
     (
         Relation::Below,
@@ -294,6 +296,12 @@ const RELATIONS: [(Relation, Set, Set, Option<(Set, Set)>); 14] = [
         BYTE,
         ZERO,
         Some((Set::Between(1, 255), ZERO)),
+    ),
+    (
+        Relation::Apart,
+        Set::Signed(-2, 5),
+        MINUS_TWO,
+        Some((Set::Signed(-1, 5), MINUS_TWO)),
     ),
     (Relation::Apart, TEN, TEN, None),
     (

@@ -1,16 +1,19 @@
-use Rattle.std.proofs.Common.{arith, sym, ◌∙◌}
-use Rattle.std.proofs.lemmas.Bool.{leb-true}
-use Rattle.reg_state.specs.Relations.{low_half_signed, low_half_unsigned}
+use Rattle.std.proofs.Common.{◌<◌, inl, inr, arith}
+use Rattle.std.proofs.lemmas.Int.{ints}
+use Rattle.std.proofs.lemmas.Bool.{ltb-true, lt-ltb}
+use Rattle.reg_state.specs.Relations.{low_half-small, low_half_limit}
 use Rattle.reg_state.proofs.comparisons.are_low_halves.Goals as goal
 
-pub returns-then-is_signed : goal.returns-then-is_signed
-returns-then-is_signed g c = λ t x h.
-    let limit = leb-true c.greatest.result _ t in
+pub returns-clause-sound : goal.returns-clause-sound
+returns-clause-sound g c = λ t x h.
+    let small = ltb-true _ _ t in
     let bound = c.greatest.ensures.bound x h in
-    low_half_signed c.args.comparison x (sym c.is_signed.ensures ∙ c.if-is_signed.true) (omega arith)
+    let value = c.low_half_limit.ensures in
+    low_half-small c.args.comparison x (omega arith)
 
-pub returns-else-is_signed : goal.returns-else-is_signed
-returns-else-is_signed g c = λ t x h.
-    let limit = leb-true _ _ t in
-    let bound = c.greatest-else-is_signed.ensures.bound x h in
-    low_half_unsigned c.args.comparison x (sym c.is_signed.ensures ∙ c.if-is_signed.false) (omega arith)
+pub returns-clause-found : goal.returns-clause-found
+returns-clause-found g c = λ small.
+    let value = c.low_half_limit.ensures in
+    let limit = c.greatest.ensures.limit in
+    let possible = c.greatest.ensures.possible in
+    lt-ltb _ _ (elim small [ inl limits ↦ omega (arith, ints) | inr bits ↦ omega (arith, ints) ])

@@ -1,3 +1,7 @@
+use Rattle.std.proofs.Common.{ℕ, subst}
+use Rattle.std.proofs.lemmas.Option.{IfSome_then}
+use Rattle.ranges.specs.Ranges as R
+use Rattle.reg_state.specs.Constants.{range_limits-IsLimit}
 use Rattle.reg_state.proofs.scalars.ScalarDomain.apart.Goals as goal
 
 pub returns-clause-common : goal.returns-clause-common
@@ -5,3 +9,17 @@ returns-clause-common c = λ x y hx hy h.
     let b = c.in_ok-bits.ensures.common x y hx.0 hy.0 h in
     let r = c.in_ok-ranges.ensures.common x y hx.1 hy.1 h in
     c.joined.ensures.common x y b.0 r.0 b.1 r.1
+
+pub returns-clause-left_limit : goal.returns-clause-left_limit
+returns-clause-left_limit c =
+    IfSome_then c.joined.result c.joined.ensures.left
+    (λ p within x h n one limit same.
+    c.in_ok-ranges.ensures.left_limit n (one.1.0, one.1.1) (range_limits-IsLimit c.args.self.range n limit)
+    (subst (λ (m : ℕ). R.Has c.in_ok-ranges.ranges.0 m) same (within x h).1))
+
+pub returns-clause-right_limit : goal.returns-clause-right_limit
+returns-clause-right_limit c =
+    IfSome_then c.joined.result c.joined.ensures.right
+    (λ p within y h n one limit same.
+    c.in_ok-ranges.ensures.right_limit n (one.1.0, one.1.1) (range_limits-IsLimit c.args.other.range n limit)
+    (subst (λ (m : ℕ). R.Has c.in_ok-ranges.ranges.1 m) same (within y h).1))
