@@ -18,27 +18,27 @@ use Rattle.explorer.specs.Keeping.{register_part, slot_part, register_parts, slo
 
 -- ---- one part more
 
-pub register_parts-more : (now new all : List Part) (ks : List Kind) (i : ℕ) (d : Kind) (part : Option Part) → i < length ks
-    → part ≡ register_part i (get_or ks i d) → new ≡ now ++ option_to_list part → now ++ register_parts i (drop i ks) ≡ all
+pub register_parts-more : (now new all : List Part) (ks : List Kind) (i : ℕ) (d : Kind) → i < length ks
+    → new ≡ now ++ option_to_list (register_part i (get_or ks i d)) → now ++ register_parts i (drop i ks) ≡ all
     → new ++ register_parts (i + 1) (drop (i + 1) ks) ≡ all
-register_parts-more now new all ks i d part inside is pushed before =
+register_parts-more now new all ks i d inside pushed before =
     let k : Kind = get_or ks i d in
     let there : drop i ks ≡ k ∷ drop (suc i) ks = drop-cons ks i d inside in
     let next : drop (i + 1) ks ≡ drop (suc i) ks = ap (λ n. drop n ks) (add-one i) in
-    ap (λ l. l ++ register_parts (i + 1) (drop (i + 1) ks)) (pushed ∙ ap (λ o. now ++ option_to_list o) is)
+    ap (λ l. l ++ register_parts (i + 1) (drop (i + 1) ks)) pushed
     ∙ append_assoc now (option_to_list (register_part i k)) (register_parts (i + 1) (drop (i + 1) ks))
     ∙ ap (λ l. now ++ (option_to_list (register_part i k) ++ register_parts (i + 1) l)) next
     ∙ ap (λ l. now ++ register_parts i l) (sym there)
     ∙ before
 
-pub slot_parts-more : (now new all : List Part) (ts : List Slot) (i : ℕ) (d : Slot) (part : Option Part) → i < length ts
-    → part ≡ slot_part i (get_or ts i d) → new ≡ now ++ option_to_list part → now ++ slot_parts i (drop i ts) ≡ all
+pub slot_parts-more : (now new all : List Part) (ts : List Slot) (i : ℕ) (d : Slot) → i < length ts
+    → new ≡ now ++ option_to_list (slot_part i (get_or ts i d)) → now ++ slot_parts i (drop i ts) ≡ all
     → new ++ slot_parts (i + 1) (drop (i + 1) ts) ≡ all
-slot_parts-more now new all ts i d part inside is pushed before =
+slot_parts-more now new all ts i d inside pushed before =
     let t : Slot = get_or ts i d in
     let there : drop i ts ≡ t ∷ drop (suc i) ts = drop-cons ts i d inside in
     let next : drop (i + 1) ts ≡ drop (suc i) ts = ap (λ n. drop n ts) (add-one i) in
-    ap (λ l. l ++ slot_parts (i + 1) (drop (i + 1) ts)) (pushed ∙ ap (λ o. now ++ option_to_list o) is)
+    ap (λ l. l ++ slot_parts (i + 1) (drop (i + 1) ts)) pushed
     ∙ append_assoc now (option_to_list (slot_part i t)) (slot_parts (i + 1) (drop (i + 1) ts))
     ∙ ap (λ l. now ++ (option_to_list (slot_part i t) ++ slot_parts (i + 1) l)) next
     ∙ ap (λ l. now ++ slot_parts i l) (sym there)

@@ -5,3 +5,4 @@ pub mod Unfinished
 pub mod Walking
 pub mod Counting
 pub mod Keeping
+pub mod Trails

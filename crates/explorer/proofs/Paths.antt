@@ -9,7 +9,7 @@ use Rattle.stack_state.specs.Meaning.{Means, Within}
 use Rattle.transfer.specs.declared.Ways.TheVariants as ways
 use Rattle.transfer.specs.Leading.{LeadsTo, InSome}
 use Rattle.explorer.specs.declared.table.Stored.{Stored}
-use Rattle.explorer.specs.declared.search.Visit.{Visit}
+use Rattle.explorer.specs.declared.trail.Visit.{Visit}
 use Rattle.explorer.specs.Table.{StoredAt}
 use Rattle.explorer.specs.Walks.{StepsTo, Leads}
 use Rattle.explorer.specs.Counts.{StepsInto, HasNumber, LeadsToOne, LeadsToTwo}

@@ -19,7 +19,7 @@ use Rattle.transfer.specs.declared.Ways.TheVariants as ways
 use Rattle.transfer.specs.Leading.{LeadsTo, EachWay}
 use Rattle.transfer.specs.Exact.{Makes}
 use Rattle.explorer.specs.declared.table.Stored.{Stored}
-use Rattle.explorer.specs.declared.search.Visit.{Visit}
+use Rattle.explorer.specs.declared.trail.Visit.{Visit}
 use Rattle.explorer.specs.declared.search.Arrival.{Arrival}
 use Rattle.explorer.specs.declared.search.Arrival.TheVariants.{Known, New}
 use Rattle.explorer.specs.Table.{StoredAt, IsNumbered}

@@ -13,7 +13,7 @@ use Rattle.transfer.specs.Exact.{Makes}
 use Rattle.explorer.specs.declared.refusals.Refusal.{Refusal}
 use Rattle.explorer.specs.declared.refusals.Refusal.TheVariants.{Flow, Step, Repeats, TooLong, Memory}
 use Rattle.explorer.specs.declared.table.Stored.{Stored}
-use Rattle.explorer.specs.declared.search.Visit.{Visit}
+use Rattle.explorer.specs.declared.trail.Visit.{Visit}
 use Rattle.explorer.specs.Walks.{IsAmong, StepsTo, Leads, ComesBack}
 use Rattle.explorer.specs.Counts.{StepsInto}
 use Rattle.explorer.specs.Refused.{StopsAt}

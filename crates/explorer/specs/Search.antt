@@ -1,5 +1,5 @@
 -- What a search knows: the numbers of the stored states, and the path.
-use Rattle.std.specs.Prelude.{◌≡◌, ℕ, zero, suc, ◌+◌, ◌<◌, ◌≤◌, ◌⊎◌, max, List, [], ◌∷◌, ◌++◌, Option, Some, None, map, length, vec_len}
+use Rattle.std.specs.Prelude.{◌≡◌, ℕ, zero, suc, ◌+◌, ◌<◌, ◌≤◌, ◌⊎◌, max, List, [], ◌∷◌, ◌++◌, Option, Some, None, map, length}
 use Rattle.std.specs.List.{All}
 use Rattle.isa_model.specs.Code.Instructions.{Program}
 use Rattle.isa_model.specs.Machine.States as Machine
@@ -15,7 +15,7 @@ use Rattle.explorer.specs.declared.verified.TheConstants.{MAX_EXPLORED}
 use Rattle.explorer.specs.declared.refusals.Refusal.{Refusal}
 use Rattle.explorer.specs.declared.refusals.Refusal.TheVariants.{Flow, Step, Repeats, TooLong, Memory}
 use Rattle.explorer.specs.declared.table.Stored.{Stored}
-use Rattle.explorer.specs.declared.search.Visit.{Visit}
+use Rattle.explorer.specs.declared.trail.Visit.{Visit}
 use Rattle.explorer.specs.declared.search.Search.{Search}
 use Rattle.explorer.specs.declared.search.Arrival.{Arrival}
 use Rattle.explorer.specs.declared.search.Arrival.TheVariants.{Known, New}
@@ -208,7 +208,7 @@ pub record HasEnded (p : Program) (search : Search) (n : ℕ) : Type 0 where
   pub at : IsAt p search state
   pub on_path : OnPath search.table.entries.items search.path.items None
   pub within : Settles p state n
-  pub spent : HasSpent p search.path.items (search.finished + vec_len search.path)
+  pub spent : HasSpent p search.path.items (search.finished + length search.path.items)
   pub some : 0 < n
   pub most : n ≤ search.finished
 
@@ -217,7 +217,7 @@ pub record Explores (p : Program) (search : Search) (stored : Option ℕ) : Type
   pub at : IsAt p search search.current
   pub on_path : OnPath search.table.entries.items search.path.items stored
   pub stored_at : StoredAt search.table.entries.items stored search.current
-  pub spent : CountsTo p start search.path.items search.current (search.finished + vec_len search.path)
+  pub spent : CountsTo p start search.path.items search.current (search.finished + length search.path.items)
   pub ready : IsReady p search.current
 
 -- the state that the path leads to is stored there, and waits for the current one and for what is pending
@@ -226,13 +226,13 @@ pub record HasEntered (p : Program) (search : Search) (stored : Option ℕ) (pen
   pub at : IsAt p search state
   pub on_path : OnPath search.table.entries.items search.path.items stored
   pub waiting : Waiting p search.finished search.table.entries.items (record { pending = pending; best = 0; stored = stored }) state search.current
-  pub spent : CountsTo p start search.path.items state (search.finished + vec_len search.path)
+  pub spent : CountsTo p start search.path.items state (search.finished + length search.path.items)
   pub spends : Spends p (record { pending = pending; best = 0; stored = stored }) state search.current 1
   pub ready : IsReady p search.current
 
 -- as many instructions were explored as may be, and the next one is at this slot
 pub record IsFull (search : Search) (slot : ℕ) : Type 0 where
-  pub explored : search.finished + vec_len search.path ≡ MAX_EXPLORED
+  pub explored : search.finished + length search.path.items ≡ MAX_EXPLORED
   pub next : slot ≡ search.current.slot
 
 abbrev pub Goes : Program → Search → Turn → Type 0

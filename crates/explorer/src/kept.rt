@@ -2,7 +2,7 @@
 
 ghost use Rattle.std.specs.Prelude.{◌≡◌, ◌≤◌, IfOk, IsTrue, length};
 
-use crate::parts::{Part, may_cover_place, push_registers, push_slots, write};
+use crate::parts::{Part, may_cover_place, room_for, take_parts, write};
 use arrayvec::ArrayVec;
 use reg_state::Kind;
 use stack_state::{AbstractFrame, State};
@@ -27,17 +27,17 @@ impl Model for KeptFrame {
 
     ghost view = { λ kept. all_written (unset_frame kept.return_slot) kept.parts.items };
 
-    ghost invariant = { λ kept. parts_of (all_written (unset_frame kept.return_slot) kept.parts.items) ≡ kept.parts.items };
+    ghost invariant = { λ k. parts_of (all_written (unset_frame k.return_slot) k.parts.items)
+        ≡ k.parts.items };
 }
 
 impl KeptFrame {
-    /// Keeps a frame.
+    /// Keeps a frame, with no room to spare.
     fn of(alloc: Global, frame: &AbstractFrame) -> Result<Self, AllocError>
         ensures { IfOk result (λ kept. kept ≡ frame.now) }
     {
-        let mut parts = Vec::new(alloc);
-        push_registers(&mut parts, &frame.registers)?;
-        push_slots(&mut parts, &frame.stack.slots)?;
+        let mut parts = Vec::with_capacity(alloc, room_for(frame))?;
+        take_parts(&mut parts, frame)?;
         Ok(KeptFrame {
             return_slot: frame.return_slot,
             parts,
@@ -96,20 +96,14 @@ fn restore_all(kept: &[KeptFrame], frames: &mut ArrayVec<AbstractFrame, 7>)
     }
 }
 
-/// The frames of a state that is kept, and its slot.
-#[derive(Drop)]
-struct Frames {
-    slot: usize,
-    callers: Vec<KeptFrame>,
-    innermost: KeptFrame,
-}
-
 /// A state that is kept for later: its live frames only.
 ///
 /// Contracts see the state.
 #[derive(Drop)]
 pub struct Kept {
-    frames: Box<Frames>,
+    slot: usize,
+    callers: Vec<KeptFrame>,
+    innermost: KeptFrame,
 }
 
 impl Model for Kept {
@@ -119,12 +113,12 @@ impl Model for Kept {
     ghost Value = { State };
 
     ghost view = { λ kept. record {
-      slot = kept.frames.value.slot;
-      callers = record { items = kept.frames.value.callers.items };
-      innermost = kept.frames.value.innermost;
+      slot = kept.slot;
+      callers = record { items = kept.callers.items };
+      innermost = kept.innermost;
     } };
 
-    ghost invariant = { λ kept. length kept.frames.value.callers.items ≤ 7 };
+    ghost invariant = { λ kept. length kept.callers.items ≤ 7 };
 }
 
 impl Kept {
@@ -134,28 +128,26 @@ impl Kept {
     {
         let callers = keep_all(alloc, state.callers.as_slice())?;
         let innermost = KeptFrame::of(alloc, &state.innermost)?;
-        let frames = Frames {
+        Ok(Kept {
             slot: state.slot,
             callers,
             innermost,
-        };
-        let frames = Box::new(alloc, frames)?;
-        Ok(Kept { frames })
+        })
     }
 
     /// A quick test whether the state may be one that this one covers: a no says that it is not.
     pub fn may_cover(&self, state: &State) -> bool
         ensures { self.now ≡ state.now → IsTrue result }
     {
-        self.frames.innermost.may_cover(&state.innermost)
+        self.innermost.may_cover(&state.innermost)
     }
 
     /// Makes the state like the one that was kept.
     pub fn restore(&self, state: &mut State)
         ensures { state.new ≡ self.now }
     {
-        state.slot = self.frames.slot;
-        restore_all(self.frames.callers.as_slice(), &mut state.callers);
-        self.frames.innermost.restore(&mut state.innermost);
+        state.slot = self.slot;
+        restore_all(self.callers.as_slice(), &mut state.callers);
+        self.innermost.restore(&mut state.innermost);
     }
 }

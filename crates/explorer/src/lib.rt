@@ -13,10 +13,8 @@ mod search;
 mod shapes;
 mod sketches;
 mod table;
+mod trail;
 pub mod verified;
 
 pub use refusals::Refusal;
 pub use verified::{MAX_EXPLORED, Verified, verify};
-
-#[cfg(test)]
-mod tests;

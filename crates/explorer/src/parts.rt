@@ -2,7 +2,7 @@
 
 ghost use Rattle.std.specs.Prelude.{◌≡◌, ◌++◌, OnOk, IsTrue, length, slice_set, option_to_list};
 ghost use Rattle.explorer.specs.Keeping.{register_part, slot_part, register_parts, slot_parts};
-ghost use Rattle.explorer.specs.Keeping.{written, IsPartOf};
+ghost use Rattle.explorer.specs.Keeping.{parts_of, written, IsPartOf};
 
 use reg_state::{Domain, Kind};
 use stack_state::{AbstractFrame, Slot};
@@ -19,61 +19,80 @@ pub enum Part {
 
 // ---- from a frame
 
-fn register_part(place: u8, kind: Kind) -> Option<Part>
-    ensures { result ≡ register_part place kind }
+fn push_register(parts: &mut Vec<Part>, place: u8, kind: &Kind) -> Result<(), AllocError>
+    ensures { OnOk result (parts.new.items
+        ≡ parts.old.items ++ option_to_list (register_part place kind.now)) }
 {
     match kind {
-        Kind::Unset => None,
-        kind => Some(Part::InRegister(place, kind)),
+        Kind::Unset => {}
+        kind => parts.push(Part::InRegister(place, *kind))?,
     }
+    Ok(())
 }
 
-fn slot_part(place: u8, slot: Slot) -> Option<Part>
-    ensures { result ≡ slot_part place slot }
+fn push_slot(parts: &mut Vec<Part>, place: u8, slot: &Slot) -> Result<(), AllocError>
+    ensures { OnOk result (parts.new.items
+        ≡ parts.old.items ++ option_to_list (slot_part place slot.now)) }
 {
     match slot {
         Slot::Written(marks) => {
-            if marks == 0 {
-                None
-            } else {
-                Some(Part::InSlot(place, slot))
+            if *marks != 0 {
+                parts.push(Part::InSlot(place, *slot))?;
             }
         }
-        Slot::Spilled(_) => Some(Part::InSlot(place, slot)),
-    }
-}
-
-fn push_part(parts: &mut Vec<Part>, part: Option<Part>) -> Result<(), AllocError>
-    ensures { OnOk result (parts.new.items ≡ parts.old.items ++ option_to_list part) }
-{
-    match part {
-        Some(part) => parts.push(part)?,
-        None => {}
+        Slot::Spilled(_) => parts.push(Part::InSlot(place, *slot))?,
     }
     Ok(())
 }
 
 /// Puts the registers that are set after the parts.
-pub fn push_registers(parts: &mut Vec<Part>, registers: &[Kind; 10]) -> Result<(), AllocError>
-    ensures pushed { OnOk result (parts.new.items ≡ parts.old.items ++ register_parts 0 registers.now) }
+fn push_registers(parts: &mut Vec<Part>, registers: &[Kind; 10]) -> Result<(), AllocError>
+    ensures pushed { OnOk result (parts.new.items
+        ≡ parts.old.items ++ register_parts 0 registers.now) }
     ensures ten { length registers.now ≡ 10 }
 {
     for index in 0..10 {
-        let part = register_part(index as u8, registers[index]);
-        push_part(parts, part)?;
+        push_register(parts, index as u8, &registers[index])?;
     }
     Ok(())
 }
 
 /// Puts the slots of which something is known after the parts.
-pub fn push_slots(parts: &mut Vec<Part>, slots: &[Slot; 64]) -> Result<(), AllocError>
+fn push_slots(parts: &mut Vec<Part>, slots: &[Slot; 64]) -> Result<(), AllocError>
     ensures pushed { OnOk result (parts.new.items ≡ parts.old.items ++ slot_parts 0 slots.now) }
     ensures wide { length slots.now ≡ 64 }
 {
     for index in 0..64 {
-        let part = slot_part(index as u8, slots[index]);
-        push_part(parts, part)?;
+        push_slot(parts, index as u8, &slots[index])?;
     }
+    Ok(())
+}
+
+/// How many parts a frame has.
+pub fn room_for(frame: &AbstractFrame) -> usize {
+    let mut room = 0usize;
+    for kind in &frame.registers {
+        if !matches!(kind, Kind::Unset) {
+            room = room.wrapping_add(1);
+        }
+    }
+    for slot in &frame.stack.slots {
+        if !matches!(slot, Slot::Written(0)) {
+            room = room.wrapping_add(1);
+        }
+    }
+    room
+}
+
+/// Becomes the parts of the frame.
+pub fn take_parts(parts: &mut Vec<Part>, frame: &AbstractFrame) -> Result<(), AllocError>
+    ensures parts { OnOk result (parts.new.items ≡ parts_of frame.now) }
+    ensures ten { OnOk result (length frame.now.registers ≡ 10) }
+    ensures wide { OnOk result (length frame.now.stack.slots ≡ 64) }
+{
+    parts.clear();
+    push_registers(parts, &frame.registers)?;
+    push_slots(parts, &frame.stack.slots)?;
     Ok(())
 }
 

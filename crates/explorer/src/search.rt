@@ -1,17 +1,20 @@
 //! The search through abstract states, depth first.
 
-ghost use Rattle.std.specs.Prelude.{◌≡◌, ◌≢◌, ◌≤◌, ◌+◌, ◌<◌, Some, vec_len, IfOk, IfErr, OnOk, OnErr};
+ghost use Rattle.std.specs.Prelude.{◌≡◌, ◌≢◌, ◌≤◌, ◌+◌, ◌<◌, Some, length, vec_len};
+ghost use Rattle.std.specs.Prelude.{IfOk, IfErr, OnOk, OnErr};
 ghost use Rattle.stack_state.specs.Starts.{start};
 ghost use Rattle.stack_state.specs.Meaning.{Within};
 ghost use Rattle.explorer.specs.Counts.{HasNumber};
 ghost use Rattle.image.specs.Images.{IsImage};
 ghost use Rattle.control_flow.specs.Flows.{IsFlow};
 ghost use Rattle.explorer.specs.Refused.{StopsAt};
-ghost use Rattle.explorer.specs.Search.{Arrives, TurnsBack, IsResumed, IsNew, HasEnded, HasEntered, Goes, IsFull};
+ghost use Rattle.explorer.specs.Search.{Arrives, TurnsBack, IsResumed, IsNew};
+ghost use Rattle.explorer.specs.Search.{HasEnded, HasEntered, Goes, IsFull};
 
 use crate::kept::Kept;
 use crate::refusals::Refusal;
 use crate::table::Table;
+use crate::trail::{Trail, Visit};
 use crate::verified::MAX_EXPLORED;
 use control_flow::Flow;
 use image::Image;
@@ -25,18 +28,8 @@ pub type Refused = (Refusal, usize);
 /// The refusal where memory runs out.
 const NO_MEMORY: Refused = (Refusal::Memory, 0);
 
-/// An instruction on the path, and what is still to be explored after it.
-#[derive(Drop)]
-pub struct Visit {
-    /// The state after the taken jump, until it is explored.
-    pub pending: Option<Kept>,
-    /// The greatest number of the states after it so far, 0 where there is none yet.
-    pub best: u32,
-    /// Where its own state is stored.
-    pub stored: Option<usize>,
-}
-
-/// What is known of a state on arrival: its number, or that it is to be explored and where it is stored.
+/// What is known of a state on arrival: its number, or that it is to be explored and where it is
+/// stored.
 #[derive(Clone, Copy, Drop)]
 pub enum Arrival {
     Known(u32),
@@ -63,7 +56,7 @@ pub enum Resumed {
 #[derive(Drop)]
 pub struct Search {
     pub table: Table,
-    pub path: Vec<Visit>,
+    pub path: Trail,
     /// How many instructions have their number.
     pub finished: u32,
     pub current: State,
@@ -79,8 +72,10 @@ pub fn arrive(
     state: &State,
     scratch: &mut State,
 ) -> Result<Arrival, Refused>
-    ensures arrives { IfOk result (λ a. Arrives flow.now table.old.entries.items state.now a table.new.entries.items) }
-    ensures refused { IfErr result (λ r. TurnsBack flow.now table.old.entries.items state.now r.0 r.1) }
+    ensures arrives { IfOk result (λ a. Arrives flow.now table.old.entries.items
+        state.now a table.new.entries.items) }
+    ensures refused { IfErr result (λ r. TurnsBack flow.now table.old.entries.items
+        state.now r.0 r.1) }
     ensures not_long { IfErr result (λ r. r.0 ≢ Refusal.TooLong) }
     ensures err { OnErr result (table.new.entries.items ≡ table.old.entries.items) }
 {
@@ -112,9 +107,11 @@ fn resume(
     visit: Visit,
     number: u32,
 ) -> Result<Resumed, Refused>
-    ensures resumed { IfOk result (λ r. IsResumed flow.now table.old.entries.items visit number r table.new.entries.items current.new) }
+    ensures resumed { IfOk result (λ r. IsResumed flow.now table.old.entries.items
+        visit number r table.new.entries.items current.new) }
     ensures pending { OnErr result (visit.pending ≡ Some current.new) }
-    ensures refused { IfErr result (λ r. TurnsBack flow.now table.old.entries.items current.new r.0 r.1) }
+    ensures refused { IfErr result (λ r. TurnsBack flow.now table.old.entries.items
+        current.new r.0 r.1) }
     ensures not_long { IfErr result (λ r. r.0 ≢ Refusal.TooLong) }
 {
     let Visit {
@@ -149,7 +146,7 @@ impl Search {
         let table = Table::new(alloc, slots)?;
         Ok(Search {
             table,
-            path: Vec::new(alloc),
+            path: Trail::new(alloc),
             finished: 0,
             current: State::start(),
             scratch: State::start(),
@@ -159,11 +156,12 @@ impl Search {
     /// The search is at a state with this number: goes back along the path to what comes next.
     fn unwind(&mut self, alloc: Global, flow: &Flow<'_>, ended: u32) -> Result<Turn, Refused>
         requires at { HasEnded flow.now self.old ended }
-        requires room { self.old.finished + vec_len self.old.path ≤ MAX_EXPLORED }
+        requires room { self.old.finished + length self.old.path.items ≤ MAX_EXPLORED }
         ensures goes { IfOk result (λ turn. Goes flow.now self.new turn) }
         ensures stops { IfErr result (λ r. StopsAt flow.now r.0 r.1) }
         ensures not_long { IfErr result (λ r. r.0 ≢ Refusal.TooLong) }
-        ensures explored { OnOk result (self.new.finished + vec_len self.new.path ≡ self.old.finished + vec_len self.old.path) }
+        ensures explored { OnOk result (self.new.finished + length self.new.path.items
+            ≡ self.old.finished + length self.old.path.items) }
     {
         let mut number = ended;
         while let Some(visit) = self.path.pop() {
@@ -204,11 +202,12 @@ impl Search {
         requires image { flow.now ≡ image.now }
         requires good { IsFlow flow.now }
         requires at { Goes flow.now self.old (Turn.Explore stored) }
-        requires room { self.old.finished + vec_len self.old.path < MAX_EXPLORED }
+        requires room { self.old.finished + length self.old.path.items < MAX_EXPLORED }
         ensures goes { IfOk result (λ turn. Goes flow.now self.new turn) }
         ensures stops { IfErr result (λ r. StopsAt flow.now r.0 r.1) }
         ensures not_long { IfErr result (λ r. r.0 ≢ Refusal.TooLong) }
-        ensures explored { OnOk result (self.new.finished + vec_len self.new.path ≡ self.old.finished + vec_len self.old.path + 1) }
+        ensures explored { OnOk result (self.new.finished + length self.new.path.items
+            ≡ self.old.finished + length self.old.path.items + 1) }
     {
         let slot = self.current.slot;
         let ways = match step_in_place(image, &mut self.current, &mut self.scratch) {
@@ -240,11 +239,12 @@ impl Search {
         pending: Option<Kept>,
     ) -> Result<Turn, Refused>
         requires entered { HasEntered flow.now self.old stored pending }
-        requires room { self.old.finished + vec_len self.old.path < MAX_EXPLORED }
+        requires room { self.old.finished + length self.old.path.items < MAX_EXPLORED }
         ensures goes { IfOk result (λ turn. Goes flow.now self.new turn) }
         ensures stops { IfErr result (λ r. StopsAt flow.now r.0 r.1) }
         ensures not_long { IfErr result (λ r. r.0 ≢ Refusal.TooLong) }
-        ensures explored { OnOk result (self.new.finished + vec_len self.new.path ≡ self.old.finished + vec_len self.old.path + 1) }
+        ensures explored { OnOk result (self.new.finished + length self.new.path.items
+            ≡ self.old.finished + length self.old.path.items + 1) }
     {
         let visit = Visit {
             pending,

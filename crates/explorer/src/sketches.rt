@@ -3,9 +3,9 @@
 //! Identities are left out, since they may have other names in another state. No contract says more
 //! than that these are numbers: an index proposes states, and `covers` decides.
 
-use crate::parts::{Part, push_registers, push_slots};
+use crate::parts::{Part, take_parts};
 use reg_state::{Kind, Scalar};
-use stack_state::{AbstractFrame, Slot, State};
+use stack_state::{Slot, State};
 use std::alloc::{AllocError, Global};
 
 /// The parts of a state's innermost frame, and the fingerprint of all its frames: two states that
@@ -29,19 +29,12 @@ impl Sketch {
     pub fn draw(&mut self, state: &State) -> Result<(), AllocError> {
         let mut print = state.slot as u64;
         for frame in state.callers.as_slice() {
-            self.draw_frame(frame)?;
+            take_parts(&mut self.parts, frame)?;
             print = with_parts(mixed(print, frame.return_slot as u64), &self.parts);
         }
-        self.draw_frame(&state.innermost)?;
+        take_parts(&mut self.parts, &state.innermost)?;
         let print = mixed(print, state.innermost.return_slot as u64);
         self.fingerprint = with_parts(print, &self.parts);
-        Ok(())
-    }
-
-    fn draw_frame(&mut self, frame: &AbstractFrame) -> Result<(), AllocError> {
-        self.parts.clear();
-        push_registers(&mut self.parts, &frame.registers)?;
-        push_slots(&mut self.parts, &frame.stack.slots)?;
         Ok(())
     }
 }

@@ -1,6 +1,7 @@
 //! The states that were met at joins.
 
-ghost use Rattle.std.specs.Prelude.{◌≡◌, ℕ, ◌<◌, ◌++◌, ◌∷◌, [], Some, length, vec_len, IsTrue, IfSome, IfOk, OnErr};
+ghost use Rattle.std.specs.Prelude.{◌≡◌, ℕ, ◌<◌, ◌++◌, ◌∷◌, [], Some, length, vec_len};
+ghost use Rattle.std.specs.Prelude.{IsTrue, IfSome, IfOk, OnErr};
 ghost use Rattle.stack_state.specs.declared.states.State.{State as TheState};
 ghost use Rattle.explorer.specs.Table.{IsStored, IsCovered, IsRepeated, StoredAt, IsNumbered};
 
@@ -52,7 +53,8 @@ impl Table {
     /// The number of an entry that is finished and covers the state.
     fn covering(&self, index: usize, state: &State, scratch: &mut State) -> Option<u32>
         ensures covered { IfSome result (λ n. IsCovered self.now.entries.items state.now n) }
-        ensures equal { (n : ℕ) → IsStored self.now.entries.items index state.now n → 0 < n → result ≡ Some n }
+        ensures equal { (n : ℕ) → IsStored self.now.entries.items index state.now n → 0 < n
+            → result ≡ Some n }
     {
         let entry = self.entries.get(index)?;
         if entry.number == 0 || !entry.state.may_cover(state) {
@@ -65,8 +67,8 @@ impl Table {
         Some(entry.number)
     }
 
-    /// The first finished state that covers this one, of those of which this is known in their shape, if it was stored
-    /// before another one: its place and its number.
+    /// The first finished state that covers this one, of those of which this is known in their
+    /// shape, if it was stored before another one: its place and its number.
     fn first_known(
         &self,
         known: u64,
@@ -139,7 +141,8 @@ impl Table {
     /// Stores a state, and answers its place.
     pub fn store(&mut self, alloc: Global, state: &State) -> Result<usize, AllocError>
         ensures place { IfOk result (λ k. k ≡ length self.old.entries.items) }
-        ensures stored { IfOk result (λ _. self.new.entries.items ≡ self.old.entries.items ++ record { state = state.now; number = 0 } ∷ []) }
+        ensures stored { IfOk result (λ _. self.new.entries.items
+            ≡ self.old.entries.items ++ record { state = state.now; number = 0 } ∷ []) }
         ensures err { OnErr result (self.new.entries.items ≡ self.old.entries.items) }
     {
         let index = self.entries.len();

@@ -3,6 +3,7 @@
 mod bounds;
 mod covered;
 mod flows;
+mod loops;
 mod precision;
 mod programs;
 mod steps;

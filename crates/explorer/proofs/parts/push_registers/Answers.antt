@@ -4,8 +4,8 @@ use Rattle.explorer.proofs.parts.push_registers.Goals as goal
 
 pub loop-index-preserved : goal.loop-index-preserved
 loop-index-preserved c =
-    register_parts-more c.loop-index.parts.items c.push_part.new.parts.items _ c.args.registers.now c.loop-index.index c.index-registers-index.result
-    c.register_part-part.result (omega arith) c.register_part-part.ensures c.in_ok-push_part.ensures c.loop-index.invariant
+    register_parts-more c.loop-index.parts.items c.push_register.new.parts.items _ c.args.registers.now c.loop-index.index c.index-registers-index.result
+    (omega arith) c.in_ok-push_register.ensures c.loop-index.invariant
 
 pub returns-clause-pushed : goal.returns-clause-pushed
 returns-clause-pushed c =

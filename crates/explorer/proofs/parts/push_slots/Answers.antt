@@ -4,8 +4,8 @@ use Rattle.explorer.proofs.parts.push_slots.Goals as goal
 
 pub loop-index-preserved : goal.loop-index-preserved
 loop-index-preserved c =
-    slot_parts-more c.loop-index.parts.items c.push_part.new.parts.items _ c.args.slots.now c.loop-index.index c.index-slots-index.result
-    c.slot_part-part.result (omega arith) c.slot_part-part.ensures c.in_ok-push_part.ensures c.loop-index.invariant
+    slot_parts-more c.loop-index.parts.items c.push_slot.new.parts.items _ c.args.slots.now c.loop-index.index c.index-slots-index.result
+    (omega arith) c.in_ok-push_slot.ensures c.loop-index.invariant
 
 pub returns-clause-pushed : goal.returns-clause-pushed
 returns-clause-pushed c =

@@ -1,7 +1,7 @@
-use Rattle.std.proofs.Common.{◌≡◌, ◌≤◌, ◌+◌, Some, length, arith, refl, sym, ap, ◌∙◌, subst, vec_len}
+use Rattle.std.proofs.Common.{◌≡◌, ◌≤◌, ◌+◌, Some, length, arith, refl, sym, ap, ◌∙◌, subst}
 use Rattle.isa_model.specs.Code.Instructions.{fetch}
 use Rattle.stack_state.specs.Starts.{start}
-use Rattle.explorer.specs.declared.search.Visit.{Visit}
+use Rattle.explorer.specs.declared.trail.Visit.{Visit}
 use Rattle.explorer.specs.Search.{HasEnded, HasEntered}
 use Rattle.transfer.specs.declared.Ways.TheVariants as ways
 use Rattle.transfer.specs.Exact.{Refuses}
@@ -38,7 +38,7 @@ unwind-requires-clause-at c =
     let into = into_by p c.args.image.now s c.step_in_place.new.state c.step_in_place.new.other c.in-Ok.ways ways.None c.requires.image c.in-Ok.ensures.steps i here c.in-None.is in
     let back = step_ends c.args.flow.now c.args.image.now c.args.self.now.finished c.args.self.now.table.entries.items c.finish.new.self.entries.items start c.args.self.now.path.items c.args.stored c.args.self.now.current c.step_in_place.new.state c.step_in_place.new.other c.in-Ok.ways
     refl c.requires.image c.requires.at.at.fine c.requires.at.at.path c.requires.at.stored_at c.requires.at.on_path c.in-Ok.ensures.leads into c.in-None.is c.finish.ensures in
-    record { state = back.state; at = record { fine = back.fine; path = back.before }; on_path = back.on_path; within = back.within; spent = spent_here p c.args.self.now.path.items s (c.args.self.now.finished + vec_len c.args.self.now.path) 1 (c.args.self.now.finished + 1 + vec_len c.args.self.now.path) c.requires.at.spent (ItsOwn s 1 c.requires.at.ready refl) (omega arith); some = omega arith; most = back.most }
+    record { state = back.state; at = record { fine = back.fine; path = back.before }; on_path = back.on_path; within = back.within; spent = spent_here p c.args.self.now.path.items s (c.args.self.now.finished + length c.args.self.now.path.items) 1 (c.args.self.now.finished + 1 + length c.args.self.now.path.items) c.requires.at.spent (ItsOwn s 1 c.requires.at.ready refl) (omega arith); some = omega arith; most = back.most }
 
 pub returns-in-Err-clause-stops : goal.returns-in-Err-clause-stops
 returns-in-Err-clause-stops c =

@@ -1,7 +1,7 @@
-use Rattle.std.proofs.Common.{◌≡◌, ◌≤◌, ◌+◌, ◌++◌, ◌∷◌, [], ℕ, None, List, length, vec_len, arith, refl, sym, subst}
+use Rattle.std.proofs.Common.{◌≡◌, ◌≤◌, ◌+◌, ◌++◌, ◌∷◌, [], ℕ, None, List, length, arith, refl, sym, subst}
 use Rattle.std.proofs.lemmas.Result.{err_from_is_err_and}
 use Rattle.stack_state.specs.Starts.{start}
-use Rattle.explorer.specs.declared.search.Visit.{Visit}
+use Rattle.explorer.specs.declared.trail.Visit.{Visit}
 use Rattle.explorer.specs.Counts.{Nothing}
 use Rattle.explorer.specs.Search.{AllFine, Path, OnPath, HasEnded, Explores, Arrives, CountsTo}
 use Rattle.explorer.proofs.Counting.{spent_into, spent_here}
@@ -24,11 +24,11 @@ on_path_of : (c : In_ok-number) → OnPath c.args.self.now.table.entries.items c
 on_path_of c =
     OnPath-push c.args.self.now.table.entries.items c.args.self.now.path.items c.push.new.self.items (record { pending = c.args.pending; best = 0; stored = c.args.stored }) c.in-Ok.ensures.items c.requires.entered.on_path
 
-spent_of : (c : In_ok-number) → CountsTo c.args.flow.now start c.push.new.self.items c.args.self.now.current (c.args.self.now.finished + vec_len c.args.self.now.path + 1)
+spent_of : (c : In_ok-number) → CountsTo c.args.flow.now start c.push.new.self.items c.args.self.now.current (c.args.self.now.finished + length c.args.self.now.path.items + 1)
 spent_of c =
     let entered = c.requires.entered in
     spent_into c.args.flow.now c.args.self.now.path.items c.push.new.self.items (record { pending = c.args.pending; best = 0; stored = c.args.stored }) entered.state c.args.self.now.current
-    (c.args.self.now.finished + vec_len c.args.self.now.path) (c.args.self.now.finished + vec_len c.args.self.now.path + 1) c.in-Ok.ensures.items entered.spent entered.spends refl
+    (c.args.self.now.finished + length c.args.self.now.path.items) (c.args.self.now.finished + length c.args.self.now.path.items + 1) c.in-Ok.ensures.items entered.spent entered.spends refl
 
 pub unwind-requires-clause-at : goal.unwind-requires-clause-at
 unwind-requires-clause-at c =
@@ -42,8 +42,8 @@ unwind-requires-clause-at c =
       at = record { fine = at.0; path = at.1 };
       on_path = OnPath-same old c.arrive.new.table.entries.items c.push.new.self.items None arrives.2 (on_path_of w);
       within = known.0;
-      spent = spent_here c.args.flow.now c.push.new.self.items c.args.self.now.current (c.args.self.now.finished + vec_len c.args.self.now.path + 1) 0
-          (c.args.self.now.finished + vec_len c.push.new.self) (spent_of w) (Nothing c.args.self.now.current 0 refl) (omega (arith, c.in-Ok.ensures.len));
+      spent = spent_here c.args.flow.now c.push.new.self.items c.args.self.now.current (c.args.self.now.finished + length c.args.self.now.path.items + 1) 0
+          (c.args.self.now.finished + length c.push.new.self.items) (spent_of w) (Nothing c.args.self.now.current 0 refl) (omega (arith, c.in-Ok.ensures.len));
       some = arrives.1.finished;
       most = known.1;
     }

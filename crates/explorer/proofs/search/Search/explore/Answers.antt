@@ -1,8 +1,8 @@
-use Rattle.std.proofs.Common.{◌≡◌, ◌≤◌, ◌+◌, ◌<◌, ℕ, List, [], arith, refl, vec_len, length, ap, subst}
+use Rattle.std.proofs.Common.{◌≡◌, ◌≤◌, ◌+◌, ◌<◌, ℕ, List, [], arith, refl, length, ap, subst}
 use Rattle.std.proofs.lemmas.Result.{err_from_is_err_and}
 use Rattle.stack_state.specs.declared.states.State.{State}
 use Rattle.stack_state.specs.Starts.{start}
-use Rattle.explorer.specs.declared.search.Visit.{Visit}
+use Rattle.explorer.specs.declared.trail.Visit.{Visit}
 use Rattle.explorer.specs.declared.search.Arrival.TheVariants.{New}
 use Rattle.explorer.specs.Search.{Settles, Goes, Explores, CountsTo}
 use Rattle.explorer.specs.Counts.{Takes, ItsOwn}
@@ -37,11 +37,11 @@ loop-explored-init c =
               };
               on_path = OnPath-arrives p old c.arrive.new.table.entries.items c.args.self.now.path.items s w.in-New.stored arrives on_path;
               stored_at = Arrives-stored p old s w.in-New.stored c.arrive.new.table.entries.items arrives;
-              spent = CountsTo-here p c.args.self.now.path.items _ s (c.args.self.now.finished + vec_len c.args.self.now.path) c.requires.new.path c.requires.new.current (omega (arith, c.requires.new.finished, ap (λ (x : List Visit). length x) c.requires.new.path));
+              spent = CountsTo-here p c.args.self.now.path.items _ s (c.args.self.now.finished + length c.args.self.now.path.items) c.requires.new.path c.requires.new.current (omega (arith, c.requires.new.finished, ap (λ (x : List Visit). length x) c.requires.new.path));
               ready = starts_ready p c.args.image.now s c.requires.image c.requires.whole c.requires.new.current;
             })
       ];
-      explored = omega (arith, c.requires.new.finished, c.args.self.now.path.ok.0, ap (λ (x : List Visit). length x) c.requires.new.path);
+      explored = omega (arith, c.requires.new.finished, ap (λ (x : List Visit). length x) c.requires.new.path);
     }
 
 pub returns-in_err-number-clause-stops : goal.returns-in_err-number-clause-stops
@@ -70,5 +70,5 @@ returns-in-Explore-turn-clause-stops c =
         begins = goes.ready;
       },
       subst (λ n. Takes p start n) (omega (arith, c.loop-explored.invariant.explored))
-          (CountsTo-takes p search.path.items start search.current (search.finished + vec_len search.path) 1 goes.spent (ItsOwn search.current 1 goes.ready refl)),
+          (CountsTo-takes p search.path.items start search.current (search.finished + length search.path.items) 1 goes.spent (ItsOwn search.current 1 goes.ready refl)),
     )

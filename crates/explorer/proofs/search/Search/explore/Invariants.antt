@@ -1,9 +1,9 @@
-use Rattle.std.proofs.Common.{◌≡◌, ◌+◌, vec_len}
+use Rattle.std.proofs.Common.{◌≡◌, ◌+◌, length}
 use Rattle.explorer.specs.Search.{Goes}
 use Rattle.explorer.proofs.search.Search.explore.Given as goal
 
 abbrev pub invariant-loop-explored : goal.invariant-loop-explored
 invariant-loop-explored l = record {
   goes : Goes l.flow l.self l.turn;
-  explored : l.self.finished + vec_len l.self.path ≡ l._explored;
+  explored : l.self.finished + length l.self.path.items ≡ l._explored;
 }

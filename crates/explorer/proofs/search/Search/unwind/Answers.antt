@@ -1,9 +1,9 @@
-use Rattle.std.proofs.Common.{◌≡◌, ◌≤◌, ◌+◌, ◌++◌, ◌∷◌, [], ℕ, None, List, max, arith, refl, ap, vec_len, length, subst}
+use Rattle.std.proofs.Common.{◌≡◌, ◌≤◌, ◌+◌, ◌++◌, ◌∷◌, [], ℕ, None, List, max, arith, refl, ap, length, subst}
 use Rattle.std.proofs.lemmas.Result.{err_from_is_err_and}
 use Rattle.stack_state.specs.declared.states.State.{State}
 use Rattle.stack_state.specs.Starts.{start}
 use Rattle.stack_state.specs.Meaning.{Within}
-use Rattle.explorer.specs.declared.search.Visit.{Visit}
+use Rattle.explorer.specs.declared.trail.Visit.{Visit}
 use Rattle.explorer.specs.declared.search.Resumed.{Resumed}
 use Rattle.explorer.specs.declared.search.Resumed.TheVariants.{Ended, Next}
 use Rattle.explorer.specs.Table.{StoredAt}
@@ -53,11 +53,11 @@ loop-visit-preserved c =
     let resumed : IsResumed c.args.flow.now c.loop-visit.self.table.entries.items c.in-Some.visit c.loop-visit.number (Ended c.in-Ended.best) c.resume.new.table.entries.items c.resume.new.current = rw c.in-Ended.is at c.in_ok-best.ensures.resumed in
     let back = step_back c.args.flow.now c.loop-visit.self.finished c.loop-visit.self.table.entries.items c.resume.new.table.entries.items c.finish.new.self.entries.items start c.pop.new.self.items c.in-Some.visit at.state c.loop-visit.number c.in-Ended.best
     refl at.at.fine last (on_path_of (goal.at.loop-visit-preserved c).In-Some) at.within at.most resumed c.finish.ensures in
-    let same : c.loop-visit.self.finished + vec_len c.loop-visit.self.path ≡ c.loop-visit.self.finished + 1 + vec_len c.pop.new.self = omega (arith, c.in-Some.ensures.len) in
-    let spent = subst (λ n. HasSpent c.args.flow.now c.pop.new.self.items n) same (spent_back c.args.flow.now c.pop.new.self.items c.loop-visit.self.path.items c.in-Some.visit (c.loop-visit.self.finished + vec_len c.loop-visit.self.path) c.in-Some.ensures.items at.spent) in
+    let same : c.loop-visit.self.finished + length c.loop-visit.self.path.items ≡ c.loop-visit.self.finished + 1 + length c.pop.new.self.items = omega (arith, c.in-Some.ensures.cases) in
+    let spent = subst (λ n. HasSpent c.args.flow.now c.pop.new.self.items n) same (spent_back c.args.flow.now c.pop.new.self.items c.loop-visit.self.path.items c.in-Some.visit (c.loop-visit.self.finished + length c.loop-visit.self.path.items) c.in-Some.ensures.items at.spent) in
     record {
       at = record { state = back.state; at = record { fine = back.fine; path = back.before }; on_path = back.on_path; within = back.within; spent = spent; some = omega arith; most = back.most };
-      explored = omega (arith, c.in-Some.ensures.len);
+      explored = omega (arith, c.in-Some.ensures.cases);
     }
 
 pub returns-in-Next-clause-goes : goal.returns-in-Next-clause-goes
@@ -67,16 +67,16 @@ returns-in-Next-clause-goes c =
     let resumed : GoesOn c.args.flow.now c.loop-visit.self.table.entries.items c.in-Some.visit c.loop-visit.number c.in-Next.rest c.in-Next.at c.resume.new.table.entries.items c.resume.new.current = rw c.in-Next.is at c.in_ok-best.ensures.resumed in
     let on = step_on c.args.flow.now c.loop-visit.self.finished c.loop-visit.self.table.entries.items c.resume.new.table.entries.items start c.pop.new.self.items c.in-Some.visit at.state c.loop-visit.number c.in-Next.rest c.in-Next.at c.resume.new.current c.push.new.self.items
     at.at.fine last (on_path_of (goal.at.returns-in-Next-clause-goes c).In-Some) at.within at.most resumed c.in-Ok.ensures.items in
-    let same : c.loop-visit.self.finished + vec_len c.loop-visit.self.path ≡ c.loop-visit.self.finished + vec_len c.push.new.self = omega (arith, c.in-Some.ensures.len, c.in-Ok.ensures.len) in
+    let same : c.loop-visit.self.finished + length c.loop-visit.self.path.items ≡ c.loop-visit.self.finished + length c.push.new.self.items = omega (arith, c.in-Some.ensures.cases, c.in-Ok.ensures.len) in
     let spent = subst (λ n. CountsTo c.args.flow.now start c.push.new.self.items c.resume.new.current n) same
-    (spent_on c.args.flow.now c.pop.new.self.items c.loop-visit.self.path.items c.push.new.self.items c.in-Some.visit c.in-Next.rest c.resume.new.current (c.loop-visit.self.finished + vec_len c.loop-visit.self.path)
+    (spent_on c.args.flow.now c.pop.new.self.items c.loop-visit.self.path.items c.push.new.self.items c.in-Some.visit c.in-Next.rest c.resume.new.current (c.loop-visit.self.finished + length c.loop-visit.self.path.items)
     c.in-Some.ensures.items c.in-Ok.ensures.items resumed.is_pending (ap (λ (v : Visit). v.pending) resumed.rest_is) at.spent) in
     record { at = record { fine = on.fine; path = on.before }; on_path = on.on_path; stored_at = on.stored; spent = spent; ready = on.ready }
 
 pub returns-clause-goes : goal.returns-clause-goes
 returns-clause-goes c =
     let at = c.loop-visit.invariant.at in
-    let same = Path-none c.args.flow.now c.loop-visit.self.finished c.loop-visit.self.table.entries.items c.loop-visit.self.path.items start at.state (omega (arith, c.in_default.ensures.cases.0, c.loop-visit.self.path.ok.0)) at.at.path in
+    let same = Path-none c.args.flow.now c.loop-visit.self.finished c.loop-visit.self.table.entries.items c.loop-visit.self.path.items start at.state (omega (arith, c.in_default.ensures.cases.0)) at.at.path in
     (subst (λ x. Settles c.args.flow.now x c.loop-visit.number) same at.within, at.some, at.most)
 
 pub returns-in_err-best-clause-stops : goal.returns-in_err-best-clause-stops

@@ -1,0 +1,146 @@
+//! The path from the start to the current state.
+
+ghost use Rattle.std.specs.Prelude.{◌≡◌, ◌≤◌, ◌+◌, ◌++◌, ◌∷◌, [], length, MatchOption};
+ghost use Rattle.std.specs.Prelude.{OnOk, OnErr, IfOk, option_to_list, is_some};
+ghost use Rattle.explorer.specs.Trail.{one_if};
+
+use crate::kept::Kept;
+use std::alloc::{AllocError, Global};
+use std::marker::Model;
+
+/// An instruction on the path, and what is still to be explored after it.
+#[derive(Drop)]
+pub struct Visit {
+    /// The state after the taken jump, until it is explored.
+    pub pending: Option<Kept>,
+    /// The greatest number of the states after it so far, 0 where there is none yet.
+    pub best: u32,
+    /// Where its own state is stored.
+    pub stored: Option<usize>,
+}
+
+/// A visit but for its pending state.
+#[derive(Clone, Copy, Drop)]
+struct Step {
+    best: u32,
+    stored: Option<u32>,
+    /// Whether there is a pending state.
+    waits: bool,
+}
+
+/// The visits of a path, the first instruction's first. Most visits of a long path wait for
+/// nothing, so pending states stand apart.
+///
+/// Contracts see the visits.
+#[derive(Drop)]
+pub struct Trail {
+    steps: Vec<Step>,
+    pending: Vec<Kept>,
+}
+
+impl Model for Trail {
+    ghost use Rattle.std.specs.Prelude.{◌≡◌, length};
+    ghost use Rattle.explorer.specs.Trail.{Visits, visits_of, waiting};
+
+    ghost Value = { Visits };
+
+    ghost view = { λ trail. record { items = visits_of trail.steps.items trail.pending.items } };
+
+    ghost invariant = { λ trail. waiting trail.steps.items ≡ length trail.pending.items };
+}
+
+/// The place in half the room, if it has room there.
+fn narrowed(stored: Option<usize>) -> Result<Option<u32>, AllocError>
+    ensures { IfOk result (λ narrow. narrow ≡ stored) }
+{
+    let Some(place) = stored else {
+        return Ok(None);
+    };
+    match u32::try_from(place) {
+        Ok(place) => Ok(Some(place)),
+        Err(_) => Err(AllocError),
+    }
+}
+
+fn widened(stored: Option<u32>) -> Option<usize>
+    ensures { result ≡ stored }
+{
+    match stored {
+        Some(place) => Some(place as usize),
+        None => None,
+    }
+}
+
+fn put_pending(pending: &mut Vec<Kept>, state: Option<Kept>) -> Result<(), AllocError>
+    ensures items { OnOk result (pending.new.items ≡ pending.old.items ++ option_to_list state) }
+    ensures err { OnErr result (pending.new.items ≡ pending.old.items) }
+{
+    if let Some(state) = state {
+        pending.push(state)?;
+    }
+    Ok(())
+}
+
+fn take_pending(pending: &mut Vec<Kept>, waits: bool) -> Option<Kept>
+    requires { one_if waits ≤ length pending.old.items }
+    ensures items { pending.old.items ≡ pending.new.items ++ option_to_list result }
+    ensures waits { waits ≡ is_some result }
+{
+    if waits { pending.pop() } else { None }
+}
+
+impl Trail {
+    /// A path of no instructions.
+    #[tactic(auto, unfolding(crate::specs::Trail::visits_of))]
+    pub fn new(alloc: Global) -> Self
+        ensures { result.items ≡ [] }
+    {
+        Trail {
+            steps: Vec::new(alloc),
+            pending: Vec::new(alloc),
+        }
+    }
+
+    /// Puts a visit after the others.
+    pub fn push(&mut self, visit: Visit) -> Result<(), AllocError>
+        ensures items { OnOk result (self.new.items ≡ self.old.items ++ visit ∷ []) }
+        ensures len { OnOk result (length self.new.items ≡ length self.old.items + 1) }
+    {
+        let Visit {
+            pending,
+            best,
+            stored,
+        } = visit;
+        let stored = narrowed(stored)?;
+        let waits = pending.is_some();
+        put_pending(&mut self.pending, pending)?;
+        let step = Step {
+            best,
+            stored,
+            waits,
+        };
+        let Ok(()) = self.steps.push(step) else {
+            let _state = take_pending(&mut self.pending, waits);
+            return Err(AllocError);
+        };
+        Ok(())
+    }
+
+    /// Takes the last visit.
+    pub fn pop(&mut self) -> Option<Visit>
+        ensures items { self.old.items ≡ self.new.items ++ option_to_list result }
+        ensures cases { MatchOption result
+            (length self.old.items ≡ 0 × length self.new.items ≡ 0)
+            (λ _. length self.new.items + 1 ≡ length self.old.items) }
+    {
+        let Some(step) = self.steps.pop() else {
+            return None;
+        };
+        let pending = take_pending(&mut self.pending, step.waits);
+        Some(Visit {
+            pending,
+            best: step.best,
+            stored: widened(step.stored),
+        })
+    }
+}
