@@ -8,3 +8,8 @@ pub mod ArrayPlaces
 pub mod ArrayLaws
 pub mod Contents
 pub mod ContentLaws
+pub mod LastBelow
+pub mod Chains
+pub mod ChainLaws
+pub mod Hashing
+pub mod ChainIndexes

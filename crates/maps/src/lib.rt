@@ -5,12 +5,16 @@
 #![tactic(auto)]
 
 pub mod arrays;
+pub mod chained;
+mod chains;
+mod hashing;
 pub mod index;
 mod keys;
 pub mod scan;
 pub mod store;
 
 pub use arrays::ArrayIndex;
+pub use chained::ChainIndex;
 pub use index::Index;
 pub use scan::ScanIndex;
-pub use store::{ArrayMap, HashMapScan, MapStore, Store};
+pub use store::{ArrayMap, HashMapChain, HashMapScan, MapStore, Store};

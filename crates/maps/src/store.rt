@@ -9,6 +9,7 @@ ghost use Rattle.maps.specs.Rows.{row_at, with_row};
 ghost use Rattle.maps.specs.Slots.{Places, TakesPlace};
 
 use crate::arrays::ArrayIndex;
+use crate::chained::ChainIndex;
 use crate::index::Index;
 use crate::keys::put_bytes;
 use crate::scan::ScanIndex;
@@ -208,6 +209,37 @@ impl Store<ScanIndex> {
             entries,
         };
         let index = ScanIndex::new(alloc, key_size, entries)?;
+        Store::over(alloc, row, index)
+    }
+}
+
+/// A hash map whose look-ups go through the chain of a key.
+pub type HashMapChain = Store<ChainIndex>;
+
+impl Store<ChainIndex> {
+    /// A hash map without keys.
+    pub fn new(
+        alloc: Global,
+        key_size: u16,
+        value_size: u32,
+        entries: u32,
+    ) -> Result<Self, AllocError>
+        ensures row { IfOk result (λ s. ⟦<Store<ChainIndex> as MapStore>⟧.row s
+            ≡ record {
+              kind = Hash;
+              key_size = key_size;
+              value_size = value_size;
+              entries = entries;
+            }) }
+        ensures empty { IfOk result (λ s. ⟦<Store<ChainIndex> as MapStore>⟧.places s ≡ map.empty) }
+    {
+        let row = MapDef {
+            kind: MapKind::Hash,
+            key_size,
+            value_size,
+            entries,
+        };
+        let index = ChainIndex::new(alloc, key_size, entries)?;
         Store::over(alloc, row, index)
     }
 }

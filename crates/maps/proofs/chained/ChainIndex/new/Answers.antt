@@ -1,0 +1,18 @@
+use Rattle.std.proofs.Common.{ℕ, sym, ap, subst, ◌∙◌}
+use Rattle.slab.specs.Slab.{get}
+use Rattle.maps.specs.Slots.{Slots, places}
+use Rattle.maps.specs.ScanLaws.{places-none}
+use Rattle.maps.specs.Chains.{spot}
+use Rattle.maps.specs.ChainIndexes.{IsChainIndex, chain_index-none}
+use Rattle.maps.proofs.chained.ChainIndex.new.Goals as goal
+
+pub invariant_of-result-clause-index : goal.invariant_of-result-clause-index
+invariant_of-result-clause-index c =
+    let chains = c.in_ok-chains.chains in
+    let free = c.in_ok-free.free in
+    let spots = λ (k : ℕ). spot (get chains.links k) in
+    subst (λ (x : Slots). IsChainIndex x free.items chains.count spots) (sym c.in_ok-keys.ensures.empty)
+    (chain_index-none c.args.entries chains.count free.items spots c.in_ok-free.ensures.len c.in_ok-free.ensures.places (λ k. ap spot (c.in_ok-chains.ensures.empty k)))
+
+pub returns-clause-empty : goal.returns-clause-empty
+returns-clause-empty c = ap (λ (x : Slots). places x) c.in_ok-keys.ensures.empty ∙ places-none c.args.entries
