@@ -2,7 +2,7 @@
 ghost use Rattle.std.specs.Prelude.{◌≡◌, ◌≢◌, ◌≤◌, [], length, OnOk, OnErr, IfOk, IfErr};
 ghost use Rattle.std.specs.Io.KnownBytes.{Appends};
 ghost use Rattle.exact_io.specs.Transfers.{AppendsBeginning};
-ghost use Rattle.isa_model.specs.Reporting.Streams.{max_body};
+ghost use Rattle.isa_model.specs.{max_body};
 ghost use Rattle.isa_model.specs.Reporting.Reports.{frame_pieces, last_line, is_sent, report_of};
 ghost use Rattle.host.specs.Tallies.{tally_of};
 ghost use Rattle.host.specs.Writing.{Writes};

@@ -1,8 +1,7 @@
 //! What runs frames.
 ghost use Rattle.std.specs.Prelude.{◌≡◌, ◌≤◌, length, List};
 ghost use Rattle.isa_model.specs.declared.map_defs.MapDef.{MapDef};
-ghost use Rattle.isa_model.specs.Machine.States.{Entries};
-ghost use Rattle.isa_model.specs.Reporting.Streams.{max_body};
+ghost use Rattle.isa_model.specs.{Entries, max_body};
 ghost use Rattle.isa_model.specs.Reporting.Reports.{Rule};
 
 use isa_model::{End, FrameHead};

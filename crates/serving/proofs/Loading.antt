@@ -1,7 +1,7 @@
 -- What is done with an image that was read, of which standard output got nothing.
 use Rattle.std.proofs.Common.{◌≡◌, ℕ, List, Option, Ok, subst, inl, inr, ◌⊎◌, ◌∙◌}
 use Rattle.assembler.specs.Assembling.{assembled}
-use Rattle.isa_model.specs.Code.Instructions.{Program}
+use Rattle.isa_model.specs.{Program}
 use Rattle.image.specs.Images.{IsImage}
 use Rattle.explorer.specs.Bounds.{Bounded, IsVerified}
 use Rattle.serving.specs.declared.outcomes.Outcome.{Outcome}

@@ -2,7 +2,7 @@
 use Rattle.std.proofs.Common.{◌≡◌, ◌∙◌, ℕ, List, Option, ap, slice_get, subst, inl, inr}
 use Rattle.std.specs.Option.{option_flatten}
 use Rattle.isa_model.specs.declared.instructions.Insn.{Insn}
-use Rattle.isa_model.specs.Code.Instructions.{Program, fetch}
+use Rattle.isa_model.specs.{Program, fetch}
 use Rattle.explorer.specs.declared.refusals.Refusal.{Refusal}
 use Rattle.explorer.specs.Refused.{IsRefused}
 use Rattle.serving.specs.declared.rejections.Rejection.TheVariants as rejection

@@ -1,6 +1,6 @@
 -- What each command does to standard output, on files of which no contract can say what they hold.
 use Rattle.std.specs.Prelude.{◌≡◌, ℕ, List, Option, Some, None, Ok, ◌⊎◌}
-use Rattle.isa_model.specs.Code.Instructions.{Program}
+use Rattle.isa_model.specs.{Program}
 use Rattle.isa_model.specs.Text.CanonicalText.{canonical_text}
 use Rattle.image.specs.Images.{IsImage}
 use Rattle.assembler.specs.Assembling.{assembled}

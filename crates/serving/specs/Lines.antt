@@ -1,6 +1,6 @@
 -- The lines that standard output gets of what was judged. docs/FORMATS.md and docs/TEXT.md say what the words mean.
 use Rattle.std.specs.Prelude.{ℕ, Bool, true, false, List, ◌++◌, length, codes, decimal}
-use Rattle.isa_model.specs.Code.Instructions.{Program}
+use Rattle.isa_model.specs.{Program}
 use Rattle.insn_codec.specs.Messages as codec
 use Rattle.image.specs.declared.errors.ImageError.{ImageError}
 use Rattle.image.specs.declared.errors.ImageError.TheVariants.{Code}

@@ -1,7 +1,7 @@
 -- What a run over a stream writes, and how the task ends then.
 use Rattle.std.specs.Prelude.{◌≡◌, ◌≢◌, ℕ, List, Option, Some, None, Result, Ok, Err}
 use Rattle.isa_model.specs.declared.streams.Fault.{Fault}
-use Rattle.isa_model.specs.Code.Instructions.{Program}
+use Rattle.isa_model.specs.{Program}
 use Rattle.isa_model.specs.Reporting.Reports.{checked_report}
 use Rattle.explorer.specs.Bounds.{Bounded}
 use Rattle.host.specs.declared.errors.HostError.{HostError}

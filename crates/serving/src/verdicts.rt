@@ -4,7 +4,7 @@ ghost use Rattle.std.specs.Prelude.{◌≡◌, false, true, Ok, IfOk, IfErr, OnO
 ghost use Rattle.std.specs.Prelude.{slice_get};
 ghost use Rattle.std.specs.Option.{option_flatten};
 ghost use Rattle.std.specs.String.{string_bytes};
-ghost use Rattle.isa_model.specs.Code.Instructions.{Program};
+ghost use Rattle.isa_model.specs.{Program};
 ghost use Rattle.isa_model.specs.Text.CanonicalText.{canonical_text};
 ghost use Rattle.image.specs.Images.{IsImage, image_bytes};
 ghost use Rattle.explorer.specs.Bounds.{IsVerified};
@@ -123,7 +123,9 @@ pub fn judge<'a, W: Write>(
     ensures refused { IfErr result
         (λ ended. RefusesProgram image (W.contents out.old) (W.contents out.new) ended) }
 {
-    // a copy, since the verifier takes the image
+    // A copy, since the verifier takes the image, and the instruction is shown after a refusal. To
+    // read it again from the image's bytes would keep those as long, and could run out of memory
+    // after the program was judged.
     let Ok(code) = Vec::from_slice(alloc, image.code()) else {
         return Err(Outcome::NoMemory);
     };

@@ -17,7 +17,7 @@ use std::alloc::Global;
 use tasks::{Assembly, Paths, StepLimit, Task, WordsError};
 
 // What is wrong with the words, where clap takes them and a command does not.
-const NO_LIMIT: &str = "error: the value of --limit is no number from 1 to 1000000\n";
+const NO_LIMIT: &str = "error: the value of --limit is not a number from 1 to 1000000\n";
 
 fn has_digits_alone(text: &[u8]) -> bool
     ensures { result ≡ list_all is_ascii_digit text.now }

@@ -6,34 +6,6 @@ use Rattle.words.specs.CommandLine as line
 use Rattle.words.proofs.Words.{command-more}
 use Rattle.words.proofs.command_line.program.Goals as goal
 
-asm-plain : line.asm.top.is_plain ≡ true
-unfolding line.asm
-asm-plain = refl
-
-dis-plain : line.dis.top.is_plain ≡ true
-unfolding line.dis
-dis-plain = refl
-
-verify-plain : line.verify.top.is_plain ≡ true
-unfolding line.verify
-verify-plain = refl
-
-run-plain : line.run.top.is_plain ≡ true
-unfolding line.run
-run-plain = refl
-
-trace-plain : line.trace.top.is_plain ≡ true
-unfolding line.trace
-trace-plain = refl
-
-prove-plain : line.prove.top.is_plain ≡ true
-unfolding line.prove
-prove-plain = refl
-
-recheck-plain : line.recheck.top.is_plain ≡ true
-unfolding line.recheck
-recheck-plain = refl
-
 pub returns : goal.returns
 unfolding line.program line.asm line.dis line.verify line.run line.trace line.prove line.recheck
 returns c =
@@ -46,10 +18,10 @@ returns c =
     let trace-is : app_of c.in_ok-trace.trace ≡ line.trace = c.in_ok-trace.ensures ∙ ap (λ (a : App). with_rule a line.limit) c.in_ok-unlimited.ensures in
     let versioned : app_of c.version.result ≡ line.versioned_program = ap app_of_fields c.version.ensures ∙ ap (on_top (λ s. record s { has_version = true })) c.new.ensures.app in
     let start : app_of c.subcommand_required.result ≡ line.empty_program = ap app_of_fields c.subcommand_required.ensures ∙ ap (on_top (λ s. record s { subcommand_required = true })) versioned in
-    let with-asm = command-more _ _ _ _ line.asm c.in_ok-subcommand.ensures start asm-is asm-plain in
-    let with-dis = command-more _ _ _ _ line.dis c.in_ok-subcommand-2.ensures with-asm dis-is dis-plain in
-    let with-verify = command-more _ _ _ _ line.verify c.in_ok-subcommand-3.ensures with-dis verify-is verify-plain in
-    let with-run = command-more _ _ _ _ line.run c.in_ok-subcommand-4.ensures with-verify run-is run-plain in
-    let with-trace = command-more _ _ _ _ line.trace c.in_ok-subcommand-5.ensures with-run trace-is trace-plain in
-    let with-prove = command-more _ _ _ _ line.prove c.in_ok-subcommand-6.ensures with-trace prove-is prove-plain in
-    IfOk-weaker c.subcommand-7.result _ _ (λ made h. command-more _ _ made _ line.recheck h with-prove recheck-is recheck-plain) c.subcommand-7.ensures
+    let with-asm = command-more _ _ _ _ line.asm c.in_ok-subcommand.ensures start asm-is refl in
+    let with-dis = command-more _ _ _ _ line.dis c.in_ok-subcommand-2.ensures with-asm dis-is refl in
+    let with-verify = command-more _ _ _ _ line.verify c.in_ok-subcommand-3.ensures with-dis verify-is refl in
+    let with-run = command-more _ _ _ _ line.run c.in_ok-subcommand-4.ensures with-verify run-is refl in
+    let with-trace = command-more _ _ _ _ line.trace c.in_ok-subcommand-5.ensures with-run trace-is refl in
+    let with-prove = command-more _ _ _ _ line.prove c.in_ok-subcommand-6.ensures with-trace prove-is refl in
+    IfOk-weaker c.subcommand-7.result _ _ (λ made h. command-more _ _ made _ line.recheck h with-prove recheck-is refl) c.subcommand-7.ensures
