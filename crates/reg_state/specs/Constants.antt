@@ -9,13 +9,9 @@ use Rattle.ranges.specs.declared.range.Range.{Range}
 use Rattle.ranges.specs.Ranges as R
 use Rattle.isa_model.specs.Code.NumberLemmas.{signed_equation}
 use Rattle.reg_state.specs.Limits.{range_limits, no_limits}
-<<<<<<< HEAD
-use Rattle.reg_state.specs.Reach.{IsInside}
+use Rattle.reg_state.specs.Reach.{IsInside, IsLimit}
 use Rattle.reg_state.specs.declared.scalars.Scalar.{Scalar}
 use Rattle.reg_state.specs.Scalars.{Has, IsNumber}
-=======
-use Rattle.reg_state.specs.Reach.{IsInside, IsLimit}
->>>>>>> 3ab77e6ea2a6a0a476599e0d383e52a1b38a00af
 
 one_has : (x : ℕ) → x < 2 ^ 64 → IsMember x 0 x
 one_has x h = record { below = h; known = and_mask x 64 ∙ omega arith }
