@@ -3,9 +3,11 @@ pub mod Refusing
 pub mod Results
 pub mod StackAccesses
 pub mod Accesses
+pub mod Atomics
 pub mod Exact
 pub mod ResultLaws
 pub mod StackAccessLaws
 pub mod AccessLaws
+pub mod AtomicLaws
 pub mod ExactLaws
 pub mod Messages

@@ -39,7 +39,7 @@ use Rattle.transfer.specs.StackAccesses.{IsFramePlace, IsNumberLoad, IsStackLoad
 -- ---- loads
 
 -- bytes that are known to be number bytes answer a number
-number_read : (p : Program) (e : Assigned) (a : State) (s : Machine.State) (frame at serial : ℕ) (z by : ℤ) (size : Size) (c : Scalar)
+pub number_read : (p : Program) (e : Assigned) (a : State) (s : Machine.State) (frame at serial : ℕ) (z by : ℤ) (size : Size) (c : Scalar)
     → MeansBy p e a s → slice_get e.frames frame ≡ Some serial → IsFramePlace a frame (z +ℤ by) size at
     → IsLoad (slots_of a frame) at size (Some c)
     → (n : ℕ) × (load_number s size (value.Ptr (region.Frame serial) z) by ≡ Ok n) × Has c n

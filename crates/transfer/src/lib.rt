@@ -9,6 +9,7 @@ ghost use Rattle.transfer.specs.Leading.{Given, LeadsTo, EachWay};
 ghost use Rattle.transfer.specs.Exact.{Steps};
 
 mod arithmetic;
+mod atomics;
 mod exits;
 mod jumps;
 mod memory;
