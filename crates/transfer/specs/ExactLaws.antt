@@ -51,7 +51,8 @@ use Rattle.transfer.specs.declared.Ways.{Ways}
 use Rattle.transfer.specs.declared.Ways.TheVariants as ways
 use Rattle.transfer.specs.Leading.{EachWay, InSome, LeadsTo}
 use Rattle.transfer.specs.Refusing.{is_unset as is_unset_kind, is_unset_in, reads_unset}
-use Rattle.transfer.specs.ResultLaws.{Yields, YieldsIn, on_number_yields, arithmetic_yields}
+use Rattle.transfer.specs.ResultLaws.{Yields, YieldsUnder, on_number_yields}
+use Rattle.transfer.specs.ArithmeticLaws.{arithmetic_yields}
 use Rattle.transfer.specs.StackAccessLaws.{GoesInto}
 use Rattle.transfer.specs.AccessLaws.{load_yields, load_signed_yields, store_goes}
 use Rattle.transfer.specs.AtomicLaws.{keep_old, swap_goes, compare_and_swap_goes}
@@ -121,8 +122,8 @@ alu_operand_set s w op d source h = operand_set s w source (neither (unset_in s 
 
 -- ---- registers set
 
-yields_in : (p : Program) (e : Assigned) (a : State) (s : Machine.State) (k : Kind) (r : Result Value TrapReason) → MeansBy p e a s → Yields e k r → YieldsIn p a s k r
-yields_in p e a s k r m yields = record { assigned = e; means = m; yields = yields }
+yields_in : (p : Program) (e : Assigned) (a : State) (s : Machine.State) (k : Kind) (r : Result Value TrapReason) → MeansBy p e a s → Yields e k r → YieldsUnder p a s k r
+yields_in p e a s k r m yields = (e, m, yields)
 
 -- a constant is allowed
 just_allowed : (e : Assigned) (k : Kind) (n : ℕ) → IsJust k n → Allows e k (value.Num n)
@@ -132,7 +133,7 @@ just_allowed e k n h = absurd h
 -- what a form puts into its register is there, and its kind allows it
 puts_yields : (p : Program) (clock : ℕ → ℕ) (e : Assigned) (a : State) (s : Machine.State) (i : Insn) (d : Reg) (k : Kind) → InsnFits i
     → MeansBy p e a s → list_any (unset_in s) (reads i) ≡ false → writes i ≡ Some d → Puts a i (Ok k)
-    → (r : Result Value TrapReason) × (act p clock s i ≡ sets s i d r) × YieldsIn p a s k r
+    → (r : Result Value TrapReason) × (act p clock s i ≡ sets s i d r) × YieldsUnder p a s k r
 unfolding act
 puts_yields p clock e a s (Alu w op x source) d k fits m set written h =
     let same : x ≡ d = cc in
@@ -169,7 +170,7 @@ puts_yields p clock e a s (LoadNumber x n) d k fits m set written h =
     let same : x ≡ d = cc in
     let (b, just, is) = h in
     let kind : k ≡ b = cc in
-    (Ok (value.Num n), ap (λ y. sets s (LoadNumber x n) y (Ok (value.Num n))) same, yields_in p e a s k _ m (rw kind (just_allowed e b n just)))
+    (Ok (value.Num n), ap (λ y. sets s (LoadNumber x n) y (Ok (value.Num n))) same, yields_in p e a s k (Ok (value.Num n)) m (rw kind (just_allowed e b n just)))
 puts_yields p clock e a s (Load size x place) d k fits m set written h =
     let same : x ≡ d = cc in
     let result : Result Value TrapReason = load s size (base_of s place) place.offset in (
@@ -219,8 +220,8 @@ sets_in : (p : Program) (clock : ℕ → ℕ) (e : Assigned) (a : State) (s : Ma
 sets_in p clock e a s i w b c fits inside m set one h =
     let (r, is, y) = puts_yields p clock e a s i h.register h.kind fits m set h.written h.puts in
     let next : State = go_to (with_register a h.register h.kind) (a.slot + slots_of i) in
-    After-weaker (MeansBy p y.assigned next) (InSome p w b c) (act p clock s i) (λ t means. one_means p y.assigned w b c next t one h.next means)
-    (sets_goes p clock y.assigned a s i h.register h.kind r fits inside y.means h.own is y.yields)
+    After-weaker (MeansBy p y.0 next) (InSome p w b c) (act p clock s i) (λ t means. one_means p y.0 w b c next t one h.next means)
+    (sets_goes p clock y.0 a s i h.register h.kind r fits inside y.1 h.own is y.2)
 
 -- ---- stores
 

@@ -6,6 +6,7 @@ pub mod Accesses
 pub mod Atomics
 pub mod Exact
 pub mod ResultLaws
+pub mod ArithmeticLaws
 pub mod StackAccessLaws
 pub mod AccessLaws
 pub mod AtomicLaws
