@@ -9,6 +9,7 @@ pub mod StackMeaning
 pub mod SpliceLaws
 pub mod CellLaws
 pub mod StackLaws
+pub mod Facts
 pub mod FillLaws
 pub mod FrameLaws
 pub mod Effects
