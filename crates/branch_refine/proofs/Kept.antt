@@ -64,7 +64,7 @@ just_operand a w (Constant k) numbers y h just = rw just h
 just_operand a w (Register r) numbers y h just = just_number (kind_of a r) numbers y h just
 
 -- a number of 64 bits has its constant
-constant_has : (numbers : Scalar) (x : ℕ) → x < 2 ^ 64 → IsConstant numbers x → Has numbers x
+pub constant_has : (numbers : Scalar) (x : ℕ) → x < 2 ^ 64 → IsConstant numbers x → Has numbers x
 constant_has numbers x h c = (bits_constant_has numbers.bits x h c.0, range_constant_has numbers.range x h c.1)
 
 -- ---- the test of two numbers

@@ -5,7 +5,9 @@ ghost use Rattle.std.specs.Prelude.{◌≡◌, ◌≢◌, ℕ, IsTrue, false};
 ghost use Rattle.isa_model.specs.Code.Numbers.{holds};
 ghost use Rattle.stack_state.specs.Places.{kind_of};
 ghost use Rattle.branch_refine.specs.Refining.{IsJust, IsJustOperand, AreCompared, Keeps, Narrows};
-ghost use Rattle.branch_refine.specs.Refining.{KeepsOthers, Refined, Refines, IsRefined};
+ghost use Rattle.branch_refine.specs.Refining.{KeepsOthers, Refined, Leaves};
+ghost use Rattle.branch_refine.specs.Refining.{Refines, IsRefined};
+ghost use Rattle.branch_refine.specs.Comparing.{same};
 
 mod comparing;
 mod operands;
@@ -13,8 +15,8 @@ mod operands;
 pub use crate::comparing::{Compared, compared_by};
 use crate::operands::{number_of, operand_numbers, set_operand};
 use isa_model::{Cond, Reg};
-use reg_state::Kind;
-use stack_state::State;
+use reg_state::{Domain, Kind, Scalar};
+use stack_state::{Fact, State};
 
 /// What is left of a state on one way of a conditional jump.
 #[derive(Drop)]
@@ -40,7 +42,44 @@ pub fn refine(cond: Cond, taken: bool, state: &State) -> Branch
 pub fn refine_in_place(cond: Cond, taken: bool, state: &mut State) -> bool
     ensures refines { Refines cond taken state.old result state.new }
 {
-    refine_numbers(cond, taken, state)
+    match compared_by(cond, state) {
+        Compared::Numbers => refine_numbers(cond, taken, state),
+        pointers => refine_pointers(pointers, taken, state),
+    }
+}
+
+// The same, where pointers are compared.
+fn refine_pointers(compared: Compared, taken: bool, state: &mut State) -> bool
+    ensures { Leaves compared taken state.old result state.new }
+{
+    match compared {
+        Compared::Packet {
+            identity,
+            shows,
+            bytes,
+        } => {
+            if is_same(taken, shows) {
+                state.learn(Fact::Proved { identity, bytes });
+            }
+            true
+        }
+        Compared::OrNull { identity, null } => {
+            state.learn(Fact::Tested {
+                identity,
+                null: is_same(taken, null),
+                zero: Scalar::constant(0),
+            });
+            true
+        }
+        Compared::Live { null } => !is_same(taken, null),
+        _ => true,
+    }
+}
+
+fn is_same(taken: bool, outcome: bool) -> bool
+    ensures { result ≡ same taken outcome }
+{
+    if taken { outcome } else { !outcome }
 }
 
 // The same, where two numbers are compared; else the state stays as it is.

@@ -11,6 +11,7 @@ use Rattle.isa_model.specs.declared.instructions.Operand.TheVariants.{Constant, 
 use Rattle.isa_model.specs.declared.instructions.Place.{Place}
 use Rattle.isa_model.specs.declared.instructions.Insn.{Insn}
 use Rattle.isa_model.specs.declared.instructions.Insn.TheVariants.{Alu, Neg, MovSx, ByteSwap, LoadNumber, Load, LoadSx, StoreConstant, Store, Atomic, Exchange, CompareExchange, Jump, JumpLong, JumpIf, CallLocal, Exit}
+use Rattle.isa_model.specs.Code.Sizes.{width_size}
 use Rattle.isa_model.specs.Code.Numbers.{unsigned}
 use Rattle.isa_model.specs.Code.Instructions.{Program, slots_of, writes}
 use Rattle.isa_model.specs.Machine.Steps.{destination}
@@ -25,9 +26,10 @@ use Rattle.transfer.specs.declared.Ways.{Ways}
 use Rattle.transfer.specs.declared.Ways.TheVariants as ways
 use Rattle.transfer.specs.declared.refusals.Refusal.{Refusal}
 use Rattle.transfer.specs.declared.refusals.Refusal.TheVariants.{Comparison, TooManyFrames, ExitValue, NotBuilt}
-use Rattle.transfer.specs.Refusing.{register_refusal, atomic_refusal, exchange_refusal}
+use Rattle.transfer.specs.Refusing.{register_refusal}
 use Rattle.transfer.specs.Results.{OfNumber, Arithmetic}
 use Rattle.transfer.specs.Accesses.{Loads, LoadsSigned, Stores}
+use Rattle.transfer.specs.Atomics.{Swaps, Compares}
 
 -- ---- registers set
 
@@ -45,9 +47,6 @@ Puts a (ByteSwap order span d) result = OfNumber (IsReordered order span) (kind_
 Puts a (LoadNumber d n) result = (k : Kind) × IsJust k n × (result ≡ Ok k)
 Puts a (Load size d place) result = Loads a size (kind_of a place.base) place.offset result
 Puts a (LoadSx size d place) result = LoadsSigned a size (kind_of a place.base) place.offset result
-Puts a (Atomic w op fetched place r) result = result ≡ Err (atomic_refusal (kind_of a place.base) (kind_of a r))
-Puts a (Exchange w place r) result = result ≡ Err (atomic_refusal (kind_of a place.base) (kind_of a r))
-Puts a (CompareExchange w place r) result = result ≡ Err (exchange_refusal (kind_of a R0) (kind_of a place.base) (kind_of a r))
 Puts a i result = result ≡ Err NotBuilt
 
 -- the next instruction, with a kind in the register that is written and all else as before
@@ -63,21 +62,27 @@ abbrev pub SetsOr : State → Insn → Result Ways Refusal → State → Type 0
 SetsOr a i (Ok w) b = (w ≡ ways.One) × Sets a i b
 SetsOr a i (Err e) b = Puts a i (Err e)
 
--- ---- stores
+-- ---- memory
 
--- the next instruction, with what a store leaves
-pub record StoresInto (a : State) (size : Size) (base : Kind) (by : ℤ) (source : Kind) (b : State) : Type 0 where
+-- the next instruction, with what a store or an atomic instruction leaves
+pub record GoesOnWith (a : State) (leaves : State → Result (Unit {0}) Refusal → Type 0) (b : State) : Type 0 where
   pub left : State
-  pub stores : Stores a size base by source left (Ok tt)
+  pub leaving : leaves left (Ok tt)
   pub next : b ≡ go_to left (a.slot + 1)
 
-abbrev pub StoresOr : State → Size → Place → Kind → Result Ways Refusal → State → Type 0
-StoresOr a size place source (Ok w) b = (w ≡ ways.One) × StoresInto a size (kind_of a place.base) place.offset source b
-StoresOr a size place source (Err e) b = (left : State) × Stores a size (kind_of a place.base) place.offset source left (Err e)
+abbrev pub GoesOn : State → (State → Result (Unit {0}) Refusal → Type 0) → Result Ways Refusal → State → Type 0
+GoesOn a leaves (Ok w) b = (w ≡ ways.One) × GoesOnWith a leaves b
+GoesOn a leaves (Err e) b = (left : State) × leaves left (Err e)
 
--- a constant of the instruction is sign-extended
-abbrev pub StoresConstant : State → Size → Place → ℤ → Result Ways Refusal → State → Type 0
-StoresConstant a size place k result b = (source : Kind) × IsJust source (unsigned Full64 k) × StoresOr a size place source result b
+abbrev pub StoresAt : State → Size → Place → Kind → State → Result (Unit {0}) Refusal → Type 0
+StoresAt a size place source left result = Stores a size (kind_of a place.base) place.offset source left result
+
+-- with a register, and its kind as it was
+abbrev pub SwapsAtPlace : State → Width → Place → Reg → Option Reg → State → Result (Unit {0}) Refusal → Type 0
+SwapsAtPlace a w place r kept left result = Swaps a (kind_of a r) (kind_of a place.base) place.offset (width_size w) kept left result
+
+abbrev pub ComparesAtPlace : State → Width → Place → Reg → State → Result (Unit {0}) Refusal → Type 0
+ComparesAtPlace a w place r left result = Compares a (kind_of a r) (kind_of a place.base) place.offset (width_size w) left result
 
 -- ---- jumps
 
@@ -122,8 +127,13 @@ exited frames k = if frames == 1 then answered k else Err NotBuilt
 
 -- once the tests of its registers pass
 abbrev pub Performs : Program → State → Insn → Result Ways Refusal → State → State → Type 0
-Performs p a (StoreConstant size place k) result b c = StoresConstant a size place k result b
-Performs p a (Store size place r) result b c = StoresOr a size place (kind_of a r) result b
+Performs p a (StoreConstant size place k) result b c =
+    (source : Kind) × IsJust source (unsigned Full64 k) × GoesOn a (StoresAt a size place source) result b
+Performs p a (Store size place r) result b c = GoesOn a (StoresAt a size place (kind_of a r)) result b
+Performs p a (Atomic w op fetched place r) result b c =
+    GoesOn a (SwapsAtPlace a w place r (writes (Atomic w op fetched place r))) result b
+Performs p a (Exchange w place r) result b c = GoesOn a (SwapsAtPlace a w place r (Some r)) result b
+Performs p a (CompareExchange w place r) result b c = GoesOn a (ComparesAtPlace a w place r) result b
 Performs p a (Jump by) result b c = JumpsTo p a by result b
 Performs p a (JumpLong by) result b c = JumpsTo p a by result b
 Performs p a (JumpIf cond by) result b c = BranchesOr p a cond by result b c

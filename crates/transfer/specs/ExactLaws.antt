@@ -11,24 +11,25 @@ use Rattle.isa_model.specs.declared.registers.Reg.{Reg}
 use Rattle.isa_model.specs.declared.registers.Reg.TheVariants.{R0, R10}
 use Rattle.isa_model.specs.declared.instructions.AluOp.{AluOp}
 use Rattle.isa_model.specs.declared.instructions.AluOp.TheVariants.{Mov}
+use Rattle.isa_model.specs.declared.instructions.AtomicOp.{AtomicOp}
 use Rattle.isa_model.specs.declared.instructions.Cond.{Cond}
 use Rattle.isa_model.specs.declared.instructions.Operand.{Operand}
 use Rattle.isa_model.specs.declared.instructions.Operand.TheVariants.{Constant, Register}
 use Rattle.isa_model.specs.declared.instructions.Place.{Place}
 use Rattle.isa_model.specs.declared.instructions.Insn.{Insn}
-use Rattle.isa_model.specs.declared.instructions.Insn.TheVariants.{Alu, Neg, MovSx, ByteSwap, LoadNumber, Load, LoadSx, StoreConstant, Store, Jump, JumpLong, JumpIf, CallLocal, Exit}
+use Rattle.isa_model.specs.declared.instructions.Insn.TheVariants.{Alu, Neg, MovSx, ByteSwap, LoadNumber, Load, LoadSx, StoreConstant, Store, Atomic, Exchange, CompareExchange, Jump, JumpLong, JumpIf, CallLocal, Exit}
 use Rattle.isa_model.specs.declared.values.Value.{Value}
 use Rattle.isa_model.specs.declared.values.Value.TheVariants as value
 use Rattle.isa_model.specs.declared.ends.TrapReason.{TrapReason}
 use Rattle.isa_model.specs.Code.Registers.{reg_number}
-use Rattle.isa_model.specs.Code.Numbers.{unsigned, negated, sign_extended, reordered, holds}
+use Rattle.isa_model.specs.Code.Numbers.{alu, low, unsigned, atomic_alu, negated, sign_extended, reordered, holds}
 use Rattle.isa_model.specs.Code.Spelling.{InsnFits, OperandFits}
 use Rattle.isa_model.specs.Code.Instructions.{Program, fetch, slots_of, operand_reads, alu_reads, reads, writes, is_frame_pointer}
 use Rattle.isa_model.specs.Machine.Pointers.{arithmetic, on_number, compared, compared_constant}
 use Rattle.isa_model.specs.Machine.States.{reg, set_reg, value_at}
 use Rattle.isa_model.specs.Machine.States as Machine
-use Rattle.isa_model.specs.Machine.Memory.{load, load_signed, store}
-use Rattle.isa_model.specs.Machine.Steps.{operand_value, base_of, destination, sets, goes_on, jumps, branches, tested, test_of, finishes, exits, act, is_unset, performed, performed_at, step}
+use Rattle.isa_model.specs.Machine.Memory.{and_then, load, load_signed, store}
+use Rattle.isa_model.specs.Machine.Steps.{operand_value, base_of, destination, sets, goes_on, jumps, branches, tested, test_of, atomic_number, swaps_in, fetched_into, finishes, exits, act, is_unset, performed, performed_at, step}
 use Rattle.isa_model.specs.Running.Ends.{After, After-weaker}
 use Rattle.isa_model.specs.Machine.Successors.{Follows, falls_through}
 use Rattle.isa_model.specs.Machine.MachineStates.{IsProgram, IsState, IsValue}
@@ -50,10 +51,12 @@ use Rattle.transfer.specs.declared.Ways.{Ways}
 use Rattle.transfer.specs.declared.Ways.TheVariants as ways
 use Rattle.transfer.specs.Leading.{EachWay, InSome, LeadsTo}
 use Rattle.transfer.specs.Refusing.{is_unset as is_unset_kind, is_unset_in, reads_unset}
-use Rattle.transfer.specs.ResultLaws.{Yields, YieldsIn, on_number_yields, arithmetic_yields}
+use Rattle.transfer.specs.ResultLaws.{Yields, YieldsUnder, on_number_yields}
+use Rattle.transfer.specs.ArithmeticLaws.{arithmetic_yields}
 use Rattle.transfer.specs.StackAccessLaws.{GoesInto}
 use Rattle.transfer.specs.AccessLaws.{load_yields, load_signed_yields, store_goes}
-use Rattle.transfer.specs.Exact.{IsOperand, Puts, Sets, StoresOr, Sides, Branches, JumpsTo, answered, exited, Performs, Tested, Steps}
+use Rattle.transfer.specs.AtomicLaws.{keep_old, swap_goes, compare_and_swap_goes}
+use Rattle.transfer.specs.Exact.{IsOperand, Puts, Sets, GoesOn, StoresAt, SwapsAtPlace, ComparesAtPlace, Sides, Branches, JumpsTo, answered, exited, Performs, Tested, Steps}
 
 -- ---- the tests of the registers
 
@@ -119,8 +122,8 @@ alu_operand_set s w op d source h = operand_set s w source (neither (unset_in s 
 
 -- ---- registers set
 
-yields_in : (p : Program) (e : Assigned) (a : State) (s : Machine.State) (k : Kind) (r : Result Value TrapReason) → MeansBy p e a s → Yields e k r → YieldsIn p a s k r
-yields_in p e a s k r m yields = record { assigned = e; means = m; yields = yields }
+yields_in : (p : Program) (e : Assigned) (a : State) (s : Machine.State) (k : Kind) (r : Result Value TrapReason) → MeansBy p e a s → Yields e k r → YieldsUnder p a s k r
+yields_in p e a s k r m yields = (e, m, yields)
 
 -- a constant is allowed
 just_allowed : (e : Assigned) (k : Kind) (n : ℕ) → IsJust k n → Allows e k (value.Num n)
@@ -130,7 +133,7 @@ just_allowed e k n h = absurd h
 -- what a form puts into its register is there, and its kind allows it
 puts_yields : (p : Program) (clock : ℕ → ℕ) (e : Assigned) (a : State) (s : Machine.State) (i : Insn) (d : Reg) (k : Kind) → InsnFits i
     → MeansBy p e a s → list_any (unset_in s) (reads i) ≡ false → writes i ≡ Some d → Puts a i (Ok k)
-    → (r : Result Value TrapReason) × (act p clock s i ≡ sets s i d r) × YieldsIn p a s k r
+    → (r : Result Value TrapReason) × (act p clock s i ≡ sets s i d r) × YieldsUnder p a s k r
 unfolding act
 puts_yields p clock e a s (Alu w op x source) d k fits m set written h =
     let same : x ≡ d = cc in
@@ -167,7 +170,7 @@ puts_yields p clock e a s (LoadNumber x n) d k fits m set written h =
     let same : x ≡ d = cc in
     let (b, just, is) = h in
     let kind : k ≡ b = cc in
-    (Ok (value.Num n), ap (λ y. sets s (LoadNumber x n) y (Ok (value.Num n))) same, yields_in p e a s k _ m (rw kind (just_allowed e b n just)))
+    (Ok (value.Num n), ap (λ y. sets s (LoadNumber x n) y (Ok (value.Num n))) same, yields_in p e a s k (Ok (value.Num n)) m (rw kind (just_allowed e b n just)))
 puts_yields p clock e a s (Load size x place) d k fits m set written h =
     let same : x ≡ d = cc in
     let result : Result Value TrapReason = load s size (base_of s place) place.offset in (
@@ -217,8 +220,8 @@ sets_in : (p : Program) (clock : ℕ → ℕ) (e : Assigned) (a : State) (s : Ma
 sets_in p clock e a s i w b c fits inside m set one h =
     let (r, is, y) = puts_yields p clock e a s i h.register h.kind fits m set h.written h.puts in
     let next : State = go_to (with_register a h.register h.kind) (a.slot + slots_of i) in
-    After-weaker (MeansBy p y.assigned next) (InSome p w b c) (act p clock s i) (λ t means. one_means p y.assigned w b c next t one h.next means)
-    (sets_goes p clock y.assigned a s i h.register h.kind r fits inside y.means h.own is y.yields)
+    After-weaker (MeansBy p y.0 next) (InSome p w b c) (act p clock s i) (λ t means. one_means p y.0 w b c next t one h.next means)
+    (sets_goes p clock y.0 a s i h.register h.kind r fits inside y.1 h.own is y.2)
 
 -- ---- stores
 
@@ -234,14 +237,27 @@ left_goes p e a s i (Ok t) w b c left one is m goes way next =
     (subst (λ k. MeansBy p e (go_to left k) (Machine.go_to t n)) same gone)
 left_goes p e a s i (Err reason) w b c left one is m goes way next = absurd goes
 
+goes_in : (p : Program) (e : Assigned) (a : State) (s : Machine.State) (i : Insn) (leaves : State → Result (Unit {0}) Refusal → Type 0)
+    (went : Result Machine.State TrapReason) (w : Ways) (b c : State) → slots_of i ≡ 1 → MeansBy p e a s
+    → ((left : State) → leaves left (Ok tt) → GoesInto p e left went) → IfNext (goes_on s i went) (IsState p) → GoesOn a leaves (Ok w) b
+    → After (InSome p w b c) (goes_on s i went)
+goes_in p e a s i leaves went w b c one m goes is h =
+    left_goes p e a s i went w b c h.1.left one is m (goes h.1.left h.1.leaving) h.0 h.1.next
+
 stores_in : (p : Program) (e : Assigned) (a : State) (s : Machine.State) (i : Insn) (size : Size) (place : Place) (source : Kind) (u : Value) (w : Ways) (b c : State)
     → slots_of i ≡ 1 → MeansBy p e a s → Allows e source u → IsValue (length p.maps) s.next_serial u
-    → IfNext (goes_on s i (store s size (base_of s place) place.offset u)) (IsState p) → StoresOr a size place source (Ok w) b
+    → IfNext (goes_on s i (store s size (base_of s place) place.offset u)) (IsState p) → GoesOn a (StoresAt a size place source) (Ok w) b
     → After (InSome p w b c) (goes_on s i (store s size (base_of s place) place.offset u))
 stores_in p e a s i size place source u w b c one m allowed fits is h =
-    let goes = store_goes p e a s size (kind_of a place.base) source place.offset (base_of s place) u h.1.left m h.1.stores
-    (reg_allowed p e a s m place.base) allowed fits in
-    left_goes p e a s i (store s size (base_of s place) place.offset u) w b c h.1.left one is m goes h.0 h.1.next
+    goes_in p e a s i (StoresAt a size place source) (store s size (base_of s place) place.offset u) w b c one m
+    (λ left stores. store_goes p e a s size (kind_of a place.base) source place.offset (base_of s place) u left m stores
+    (reg_allowed p e a s m place.base) allowed fits) is h
+
+-- FETCH keeps the old number
+fetches : (w : Width) (op : AtomicOp) (fetched : Bool) (place : Place) (r : Reg)
+    → fetched_into fetched r ≡ keep_old (writes (Atomic w op fetched place r))
+fetches w op true place r = refl
+fetches w op false place r = refl
 
 -- ---- jumps
 
@@ -327,25 +343,43 @@ exits_in p e a s w b c m h =
 -- ---- instructions
 
 performs_in : (p : Program) (clock : ℕ → ℕ) (e : Assigned) (a : State) (s : Machine.State) (i : Insn) (w : Ways) (b c : State)
-    → InsnFits i → s.slot + slots_of i ≤ length p.insns → MeansBy p e a s → list_any (unset_in s) (reads i) ≡ false
+    → is_frame_pointer (writes i) ≡ false → InsnFits i → s.slot + slots_of i ≤ length p.insns → MeansBy p e a s → list_any (unset_in s) (reads i) ≡ false
     → IfNext (act p clock s i) (IsState p) → Performs p a i (Ok w) b c → After (InSome p w b c) (act p clock s i)
 unfolding act
-performs_in p clock e a s (StoreConstant size place k) w b c fits inside m set is h =
+performs_in p clock e a s (StoreConstant size place k) w b c own fits inside m set is h =
     let (source, just, stores) = h in
     stores_in p e a s (StoreConstant size place k) size place source (value.Num (unsigned Full64 k)) w b c refl m
     (just_allowed e source (unsigned Full64 k) just) (unsigned_fits Full64 k fits.1) is stores
-performs_in p clock e a s (Store size place r) w b c fits inside m set is h =
+performs_in p clock e a s (Store size place r) w b c own fits inside m set is h =
     stores_in p e a s (Store size place r) size place (kind_of a r) (reg s r) w b c refl m
     (reg_allowed p e a s m r) (reg_fits p s r m.is_state) is h
-performs_in p clock e a s (Jump by) w b c fits inside m set is h = jumps_in p e a s by w b c is m h
-performs_in p clock e a s (JumpLong by) w b c fits inside m set is h = jumps_in p e a s by w b c is m h
-performs_in p clock e a s (JumpIf cond by) w b c fits inside m set is h =
+performs_in p clock e a s (Atomic v op fetched place r) w b c own fits inside m set is h =
+    goes_in p e a s (Atomic v op fetched place r) (SwapsAtPlace a v place r (writes (Atomic v op fetched place r)))
+    (and_then (atomic_number (reg s r)) (λ y. swaps_in s v place (λ x. alu (atomic_alu op) v x y) (fetched_into fetched r))) w b c refl m
+    (λ left swaps. swap_goes p e a s (kind_of a r) (kind_of a place.base) (reg s r) v place (writes (Atomic v op fetched place r)) left
+    (λ y x. alu (atomic_alu op) v x y) (fetched_into fetched r) m own (reg_allowed p e a s m r) (reg_allowed p e a s m place.base)
+    (fetches v op fetched place r) swaps) is h
+performs_in p clock e a s (Exchange v place r) w b c own fits inside m set is h =
+    goes_in p e a s (Exchange v place r) (SwapsAtPlace a v place r (Some r))
+    (and_then (atomic_number (reg s r)) (λ y. swaps_in s v place (λ x. y) (fetched_into true r))) w b c refl m
+    (λ left swaps. swap_goes p e a s (kind_of a r) (kind_of a place.base) (reg s r) v place (Some r) left
+    (λ y x. y) (fetched_into true r) m own (reg_allowed p e a s m r) (reg_allowed p e a s m place.base) refl swaps) is h
+performs_in p clock e a s (CompareExchange v place r) w b c own fits inside m set is h =
+    goes_in p e a s (CompareExchange v place r) (ComparesAtPlace a v place r)
+    (and_then (atomic_number (reg s r)) (λ y. and_then (atomic_number (reg s R0)) (λ x.
+    swaps_in s v place (λ old. if old == low v x then y else old) (fetched_into true R0)))) w b c refl m
+    (λ left compares. compare_and_swap_goes p e a s (kind_of a r) (kind_of a place.base) (reg s r) v place left
+    (λ y x old. if old == low v x then y else old) (fetched_into true R0) m (reg_allowed p e a s m r) (reg_allowed p e a s m place.base)
+    refl compares) is h
+performs_in p clock e a s (Jump by) w b c own fits inside m set is h = jumps_in p e a s by w b c is m h
+performs_in p clock e a s (JumpLong by) w b c own fits inside m set is h = jumps_in p e a s by w b c is m h
+performs_in p clock e a s (JumpIf cond by) w b c own fits inside m set is h =
     let (t, says) = tested_there p e a s cond cond.operand m h.compared.0 h.compared.1 in
     subst (λ r. After (InSome p w b c) (branches s p by r)) (sym says)
     (branches_in p e a s cond by w b c t says (subst (λ r. IfNext (branches s p by r) (IsState p)) says is) m h)
-performs_in p clock e a s (CallLocal by) w b c fits inside m set is h = absurd (cc)
-performs_in p clock e a s Exit w b c fits inside m set is h = exits_in p e a s w b c m h
-performs_in p clock e a s i w b c fits inside m set is h = sets_in p clock e a s i w b c fits inside m set h.0 h.1
+performs_in p clock e a s (CallLocal by) w b c own fits inside m set is h = absurd (cc)
+performs_in p clock e a s Exit w b c own fits inside m set is h = exits_in p e a s w b c m h
+performs_in p clock e a s i w b c own fits inside m set is h = sets_in p clock e a s i w b c fits inside m set h.0 h.1
 
 -- a step that is made passed the tests
 tested_rest : (x y : Bool) (u v : Refusal) (w : Ways) (Rest : Type 0) → Tested (if x then Some u else if y then Some v else None) (Ok w) Rest
@@ -368,7 +402,7 @@ Steps-leads p a i w b c program here h = λ clock _ s means.
     let inside = program.inside s.slot i at in
     let acts : performed_at p clock s (fetch p s.slot) ≡ act p clock s i = ap (performed_at p clock s) at ∙ performed_acts p clock s i set own in
     subst (After (InSome p w b c)) (sym acts)
-    (performs_in p clock e a s i w b c fits inside m set (act_keeps p clock s i fits inside m.is_state) performs)
+    (performs_in p clock e a s i w b c own fits inside m set (act_keeps p clock s i fits inside m.is_state) performs)
 
 -- ---- where it leads
 
@@ -396,6 +430,13 @@ sets_follows : (p : Program) (a : State) (i : Insn) (w : Ways) (b c : State) →
 sets_follows p a i w b c here falls one h =
     each_one w b c (λ next. Follows p a.slot next.slot) one (i, here, inl (falls, ap (λ next. next.slot) h.next))
 
+goes_follows : (p : Program) (a : State) (i : Insn) (leaves : State → Result (Unit {0}) Refusal → Type 0) (w : Ways) (b c : State)
+    → fetch p a.slot ≡ Some i → falls_through i ≡ true → slots_of i ≡ 1 → GoesOn a leaves (Ok w) b
+    → EachWay w b c (λ next. Follows p a.slot next.slot)
+goes_follows p a i leaves w b c here falls one h =
+    each_one w b c (λ next. Follows p a.slot next.slot) h.0
+    (i, here, inl (falls, ap (λ next. next.slot) h.1.next ∙ ap (λ k. a.slot + k) (sym one)))
+
 performs_follows : (p : Program) (a : State) (i : Insn) (w : Ways) (b c : State) → fetch p a.slot ≡ Some i → Performs p a i (Ok w) b c
     → EachWay w b c (λ next. Follows p a.slot next.slot)
 performs_follows p a (Jump by) w b c here h =
@@ -408,10 +449,11 @@ performs_follows p a (JumpIf cond by) w b c here h =
 performs_follows p a (CallLocal by) w b c here h = absurd (cc)
 performs_follows p a Exit w b c here h = exits_nowhere (depth a) (kind_of a R0) w b c (λ next. Follows p a.slot next.slot) h
 performs_follows p a (StoreConstant size place k) w b c here h =
-    let (source, just, stores) = h in
-    each_one w b c (λ next. Follows p a.slot next.slot) stores.0 (StoreConstant size place k, here, inl (refl, ap (λ next. next.slot) stores.1.next))
-performs_follows p a (Store size place r) w b c here h =
-    each_one w b c (λ next. Follows p a.slot next.slot) h.0 (Store size place r, here, inl (refl, ap (λ next. next.slot) h.1.next))
+    goes_follows p a (StoreConstant size place k) _ w b c here refl refl h.2
+performs_follows p a (Store size place r) w b c here h = goes_follows p a (Store size place r) _ w b c here refl refl h
+performs_follows p a (Atomic v op fetched place r) w b c here h = goes_follows p a (Atomic v op fetched place r) _ w b c here refl refl h
+performs_follows p a (Exchange v place r) w b c here h = goes_follows p a (Exchange v place r) _ w b c here refl refl h
+performs_follows p a (CompareExchange v place r) w b c here h = goes_follows p a (CompareExchange v place r) _ w b c here refl refl h
 performs_follows p a i w b c here h = sets_follows p a i w b c here refl h.0 h.1
 
 -- each successor is at a slot that follows

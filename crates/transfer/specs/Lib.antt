@@ -3,13 +3,12 @@ pub mod Refusing
 pub mod Results
 pub mod StackAccesses
 pub mod Accesses
+pub mod Atomics
 pub mod Exact
 pub mod ResultLaws
+pub mod ArithmeticLaws
 pub mod StackAccessLaws
 pub mod AccessLaws
+pub mod AtomicLaws
 pub mod ExactLaws
 pub mod Messages
-pub mod StackAccesses
-pub mod StackAccessLaws
-pub mod Atomics
-pub mod AtomicLaws

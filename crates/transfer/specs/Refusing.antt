@@ -9,7 +9,7 @@ use Rattle.reg_state.specs.declared.kinds.Kind.TheVariants as kind
 use Rattle.stack_state.specs.declared.states.State.{State}
 use Rattle.stack_state.specs.Places.{kind_of}
 use Rattle.transfer.specs.declared.refusals.Refusal.{Refusal}
-use Rattle.transfer.specs.declared.refusals.Refusal.TheVariants.{UnsetRegister, ReadOnlyRegister, PointerOperand, NotMemory, StackPlace, ContextAccess, NullNotTested, PacketAtomic, NotBuilt}
+use Rattle.transfer.specs.declared.refusals.Refusal.TheVariants.{UnsetRegister, ReadOnlyRegister, NotMemory, StackPlace, ContextAccess, NullNotTested, NotBuilt}
 
 abbrev pub is_unset : Kind → Bool
 is_unset kind.Unset = true
@@ -40,17 +40,3 @@ access_refusal kind.PacketEnd = NotMemory
 access_refusal (kind.Map index) = NotMemory
 access_refusal (kind.MapValue index least greatest) = NotBuilt
 access_refusal (kind.MapValueOrNull index identity) = NullNotTested
-
--- atomic instructions work on numbers, in frames and map values
-abbrev pub at_place : Kind → Refusal
-at_place (kind.Packet fixed identity least greatest proved) = PacketAtomic
-at_place base = access_refusal base
-
-abbrev pub atomic_refusal : Kind → Kind → Refusal
-atomic_refusal base (kind.Number numbers) = at_place base
-atomic_refusal base source = PointerOperand
-
--- r0 has to be a number too where it is compared
-abbrev pub exchange_refusal : Kind → Kind → Kind → Refusal
-exchange_refusal (kind.Number numbers) base source = atomic_refusal base source
-exchange_refusal compared base source = PointerOperand

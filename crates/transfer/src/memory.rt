@@ -2,8 +2,7 @@
 
 ghost use Rattle.std.specs.Prelude.{◌≡◌};
 ghost use Rattle.transfer.specs.Accesses.{LoadsContext, Loads, LoadsSigned, Stores};
-ghost use Rattle.transfer.specs.Refusing.{access_refusal, at_place, atomic_refusal};
-ghost use Rattle.transfer.specs.Refusing.{exchange_refusal};
+ghost use Rattle.transfer.specs.Refusing.{access_refusal};
 ghost use Rattle.transfer.specs.Results.{IsWord};
 
 use crate::refusals::Refusal;
@@ -29,36 +28,6 @@ pub fn access_refusal(base: Kind) -> Refusal
         Kind::Stack { .. } => Refusal::StackPlace,
         Kind::Packet { .. } | Kind::MapValue { .. } => Refusal::NotBuilt,
         Kind::MapValueOrNull { .. } => Refusal::NullNotTested,
-    }
-}
-
-/// Why an atomic instruction on numbers is refused at a place.
-fn at_place(base: Kind) -> Refusal
-    ensures { result ≡ at_place base }
-{
-    match base {
-        Kind::Packet { .. } => Refusal::PacketAtomic,
-        _ => access_refusal(base),
-    }
-}
-
-/// Why an atomic instruction is refused.
-pub fn atomic_refusal(base: Kind, source: Kind) -> Refusal
-    ensures { result ≡ atomic_refusal base source }
-{
-    match source {
-        Kind::Number(_) => at_place(base),
-        _ => Refusal::PointerOperand,
-    }
-}
-
-/// The same where r0 is compared.
-pub fn exchange_refusal(compared: Kind, base: Kind, source: Kind) -> Refusal
-    ensures { result ≡ exchange_refusal compared base source }
-{
-    match compared {
-        Kind::Number(_) => atomic_refusal(base, source),
-        _ => Refusal::PointerOperand,
     }
 }
 

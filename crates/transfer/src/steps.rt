@@ -6,13 +6,15 @@ ghost use Rattle.std.specs.Option.{option_to_list};
 ghost use Rattle.isa_model.specs.Code.Instructions.{Program, slots_of};
 ghost use Rattle.isa_model.specs.Code.Instructions.{writes, is_frame_pointer};
 ghost use Rattle.transfer.specs.Refusing.{is_unset_in, reads_unset};
-ghost use Rattle.transfer.specs.Exact.{IsOperand, Puts, SetsOr, StoresOr, Performs};
+ghost use Rattle.transfer.specs.Exact.{IsOperand, Puts, SetsOr, Performs, GoesOn, StoresAt};
+ghost use Rattle.transfer.specs.Exact.{SwapsAtPlace, ComparesAtPlace};
 
 use crate::Ways;
 use crate::arithmetic::{arithmetic, constant, negated, reordered, sign_extended};
+use crate::atomics::{compare_and_swap, swap};
 use crate::exits::exit;
 use crate::jumps::jump_if;
-use crate::memory::{atomic_refusal, exchange_refusal, load, load_signed, store};
+use crate::memory::{load, load_signed, store};
 use crate::refusals::Refusal;
 use isa_model::numbers::unsigned;
 use isa_model::{Insn, Operand, Place, Reg, Size, Width, destination};
@@ -72,15 +74,6 @@ fn result_kind(state: &State, insn: &Insn) -> Result<Kind, Refusal>
         Insn::LoadSx(size, _, place) => {
             load_signed(state, size, state.kind_of(place.base), place.offset)
         }
-        Insn::Atomic(_, _, _, place, source) | Insn::Exchange(_, place, source) => {
-            let base = state.kind_of(place.base);
-            Err(atomic_refusal(base, state.kind_of(source)))
-        }
-        Insn::CompareExchange(_, place, source) => {
-            let compared = state.kind_of(Reg::R0);
-            let base = state.kind_of(place.base);
-            Err(exchange_refusal(compared, base, state.kind_of(source)))
-        }
         _ => Err(Refusal::NotBuilt),
     }
 }
@@ -100,15 +93,47 @@ fn set(state: &mut State, insn: &Insn) -> Result<Ways, Refusal>
     Ok(Ways::One)
 }
 
-// ---- stores
+// ---- memory
 
 /// Stores a value, and goes on to the next instruction.
 fn store_at(state: &mut State, size: Size, place: Place, source: Kind) -> Result<Ways, Refusal>
     requires { state.old.slot + 1 < 2 ^ 63 }
-    ensures { StoresOr state.old size place source result state.new }
+    ensures { GoesOn state.old (StoresAt state.old size place source) result state.new }
 {
     let base = state.kind_of(place.base);
     store(state, size, base, place.offset, source)?;
+    state.slot += 1;
+    Ok(Ways::One)
+}
+
+/// An atomic instruction that puts the old number into a register, if one is given.
+fn swap_at(
+    state: &mut State,
+    width: Width,
+    place: Place,
+    source: Reg,
+    register: Option<Reg>,
+) -> Result<Ways, Refusal>
+    requires writable { is_frame_pointer register ≡ false }
+    requires slot { state.old.slot + 1 < 2 ^ 63 }
+    ensures { GoesOn state.old
+        (SwapsAtPlace state.old width place source register) result state.new }
+{
+    let base = state.kind_of(place.base);
+    let value = state.kind_of(source);
+    swap(state, value, base, place.offset, width.size(), register)?;
+    state.slot += 1;
+    Ok(Ways::One)
+}
+
+/// CMPXCHG.
+fn compare_at(state: &mut State, width: Width, place: Place, source: Reg) -> Result<Ways, Refusal>
+    requires slot { state.old.slot + 1 < 2 ^ 63 }
+    ensures { GoesOn state.old (ComparesAtPlace state.old width place source) result state.new }
+{
+    let base = state.kind_of(place.base);
+    let value = state.kind_of(source);
+    compare_and_swap(state, value, base, place.offset, width.size())?;
     state.slot += 1;
     Ok(Ways::One)
 }
@@ -135,6 +160,10 @@ pub fn perform(
             let source = state.kind_of(register);
             store_at(state, size, place, source)
         }
+        Insn::Atomic(width, _, _, place, source) | Insn::Exchange(width, place, source) => {
+            swap_at(state, width, place, source, insn.written())
+        }
+        Insn::CompareExchange(width, place, source) => compare_at(state, width, place, source),
         Insn::Jump(by) => {
             state.slot = destination(state.slot, i32::from(by), slots);
             Ok(Ways::One)
@@ -146,6 +175,12 @@ pub fn perform(
         Insn::JumpIf(cond, by) => jump_if(cond, i32::from(by), slots, state, other),
         Insn::CallLocal(_) => Err(Refusal::TooManyFrames),
         Insn::Exit => exit(state),
-        _ => set(state, insn),
+        Insn::Alu(..)
+        | Insn::Neg(..)
+        | Insn::MovSx(..)
+        | Insn::ByteSwap(..)
+        | Insn::LoadNumber(..)
+        | Insn::Load(..)
+        | Insn::LoadSx(..) => set(state, insn),
     }
 }
