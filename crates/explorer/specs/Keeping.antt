@@ -1,5 +1,5 @@
 -- Frames as what is known of them, place by place.
-use Rattle.std.specs.Prelude.{◌≡◌, ℕ, zero, suc, ◌+◌, ◌<◌, ◌==◌, List, [], ◌∷◌, ◌++◌, replicate, slice_set, Option, Some, None, option_to_list, if◌then◌else◌}
+use Rattle.std.specs.Prelude.{◌≡◌, ℕ, zero, suc, ◌+◌, ◌<◌, ◌==◌, List, [], ◌∷◌, ◌++◌, length, replicate, slice_set, Option, Some, None, option_to_list, if◌then◌else◌}
 use Rattle.reg_state.specs.declared.kinds.Kind.{Kind}
 use Rattle.reg_state.specs.declared.kinds.Kind.TheVariants.{Unset}
 use Rattle.stack_state.specs.declared.slots.Slot.{Slot}
@@ -35,6 +35,12 @@ slot_parts n (t ∷ ts) = option_to_list (slot_part n t) ++ slot_parts (n + 1) t
 
 unfoldable pub parts_of : AbstractFrame → List Part
 parts_of f = register_parts 0 f.registers ++ slot_parts 0 f.stack.slots
+
+-- these are the parts of a whole frame
+pub record AreParts (parts : List Part) (f : AbstractFrame) : Type 0 where
+  pub all : parts ≡ parts_of f
+  pub ten : length f.registers ≡ 10
+  pub wide : length f.stack.slots ≡ 64
 
 -- what is known there in the frame
 abbrev pub IsPartOf : AbstractFrame → Part → Type 0

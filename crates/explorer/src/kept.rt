@@ -1,6 +1,7 @@
 //! Abstract states in as little room as they need.
 
 ghost use Rattle.std.specs.Prelude.{◌≡◌, ◌≤◌, IfOk, IsTrue, length};
+ghost use Rattle.explorer.specs.Keeping.{AreParts};
 
 use crate::parts::{Part, may_cover_place, room_for, take_parts, write};
 use arrayvec::ArrayVec;
@@ -32,16 +33,24 @@ impl Model for KeptFrame {
 }
 
 impl KeptFrame {
+    /// A frame that has these parts.
+    fn with_parts(frame: &AbstractFrame, parts: Vec<Part>) -> Self
+        requires { AreParts parts.items frame.now }
+        ensures { result ≡ frame.now }
+    {
+        KeptFrame {
+            return_slot: frame.return_slot,
+            parts,
+        }
+    }
+
     /// Keeps a frame, with no room to spare.
     fn of(alloc: Global, frame: &AbstractFrame) -> Result<Self, AllocError>
         ensures { IfOk result (λ kept. kept ≡ frame.now) }
     {
         let mut parts = Vec::with_capacity(alloc, room_for(frame))?;
         take_parts(&mut parts, frame)?;
-        Ok(KeptFrame {
-            return_slot: frame.return_slot,
-            parts,
-        })
+        Ok(KeptFrame::with_parts(frame, parts))
     }
 
     /// A quick test whether the frame may be one that this one covers: a no says that it is not.
@@ -128,6 +137,21 @@ impl Kept {
     {
         let callers = keep_all(alloc, state.callers.as_slice())?;
         let innermost = KeptFrame::of(alloc, &state.innermost)?;
+        Ok(Kept {
+            slot: state.slot,
+            callers,
+            innermost,
+        })
+    }
+
+    /// Keeps a state, of whose innermost frame these are the parts.
+    pub fn of_parts(alloc: Global, state: &State, parts: &[Part]) -> Result<Self, AllocError>
+        requires { AreParts parts.now state.now.innermost }
+        ensures { IfOk result (λ kept. kept ≡ state.now) }
+    {
+        let callers = keep_all(alloc, state.callers.as_slice())?;
+        let parts = Vec::from_slice(alloc, parts)?;
+        let innermost = KeptFrame::with_parts(&state.innermost, parts);
         Ok(Kept {
             slot: state.slot,
             callers,

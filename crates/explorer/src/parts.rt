@@ -2,7 +2,7 @@
 
 ghost use Rattle.std.specs.Prelude.{◌≡◌, ◌++◌, OnOk, IsTrue, length, slice_set, option_to_list};
 ghost use Rattle.explorer.specs.Keeping.{register_part, slot_part, register_parts, slot_parts};
-ghost use Rattle.explorer.specs.Keeping.{parts_of, written, IsPartOf};
+ghost use Rattle.explorer.specs.Keeping.{AreParts, written, IsPartOf};
 
 use reg_state::{Domain, Kind};
 use stack_state::{AbstractFrame, Slot};
@@ -86,9 +86,7 @@ pub fn room_for(frame: &AbstractFrame) -> usize {
 
 /// Becomes the parts of the frame.
 pub fn take_parts(parts: &mut Vec<Part>, frame: &AbstractFrame) -> Result<(), AllocError>
-    ensures parts { OnOk result (parts.new.items ≡ parts_of frame.now) }
-    ensures ten { OnOk result (length frame.now.registers ≡ 10) }
-    ensures wide { OnOk result (length frame.now.stack.slots ≡ 64) }
+    ensures { OnOk result (AreParts parts.new.items frame.now) }
 {
     parts.clear();
     push_registers(parts, &frame.registers)?;

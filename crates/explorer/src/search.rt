@@ -82,9 +82,9 @@ pub fn arrive(
     if !flow.is_join(state.slot) {
         return Ok(Arrival::New(None));
     }
-    if table.turn_to(state).is_err() {
+    let Ok(()) = table.turn_to(state) else {
         return Err(NO_MEMORY);
-    }
+    };
     if let Some(number) = table.number_of(state, scratch) {
         return Ok(Arrival::Known(number));
     }

@@ -1,7 +1,11 @@
 //! Sketches of states: what an index goes by.
 //!
-//! Identities are left out, since they may have other names in another state. No contract says more
-//! than that these are numbers: an index proposes states, and `covers` decides.
+//! Identities are left out of fingerprints, since they may have other names in another state. No
+//! contract says more of one than that it is a number: an index proposes states, and `covers`
+//! decides.
+
+ghost use Rattle.std.specs.Prelude.{OnOk};
+ghost use Rattle.explorer.specs.Keeping.{AreParts};
 
 use crate::parts::{Part, take_parts};
 use reg_state::{Kind, Scalar};
@@ -26,7 +30,9 @@ impl Sketch {
     }
 
     /// Becomes the sketch of the state.
-    pub fn draw(&mut self, state: &State) -> Result<(), AllocError> {
+    pub fn draw(&mut self, state: &State) -> Result<(), AllocError>
+        ensures { OnOk result (AreParts self.new.parts.items state.now.innermost) }
+    {
         let mut print = state.slot as u64;
         for frame in state.callers.as_slice() {
             take_parts(&mut self.parts, frame)?;

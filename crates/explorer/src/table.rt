@@ -1,8 +1,9 @@
 //! The states that were met at joins.
 
 ghost use Rattle.std.specs.Prelude.{◌≡◌, ℕ, ◌<◌, ◌++◌, ◌∷◌, [], Some, length, vec_len};
-ghost use Rattle.std.specs.Prelude.{IsTrue, IfSome, IfOk, OnErr};
+ghost use Rattle.std.specs.Prelude.{IsTrue, IfSome, IfOk, OnOk, OnErr};
 ghost use Rattle.stack_state.specs.declared.states.State.{State as TheState};
+ghost use Rattle.explorer.specs.Keeping.{AreParts};
 ghost use Rattle.explorer.specs.Table.{IsStored, IsCovered, IsRepeated, StoredAt, IsNumbered};
 
 use crate::index::Index;
@@ -45,7 +46,8 @@ impl Table {
 
     /// Turns to a state, which is then looked for and stored.
     pub fn turn_to(&mut self, state: &State) -> Result<(), AllocError>
-        ensures { self.new.entries.items ≡ self.old.entries.items }
+        ensures same { self.new.entries.items ≡ self.old.entries.items }
+        ensures drawn { OnOk result (AreParts self.new.sketch.parts.items state.now.innermost) }
     {
         self.sketch.draw(state)
     }
@@ -138,8 +140,9 @@ impl Table {
         false
     }
 
-    /// Stores a state, and answers its place.
+    /// Stores the state to which the table turned, and answers its place.
     pub fn store(&mut self, alloc: Global, state: &State) -> Result<usize, AllocError>
+        requires { AreParts self.old.sketch.parts.items state.now.innermost }
         ensures place { IfOk result (λ k. k ≡ length self.old.entries.items) }
         ensures stored { IfOk result (λ _. self.new.entries.items
             ≡ self.old.entries.items ++ record { state = state.now; number = 0 } ∷ []) }
@@ -147,7 +150,7 @@ impl Table {
     {
         let index = self.entries.len();
         self.index.add(alloc, state.slot, &self.sketch)?;
-        let state = Kept::of(alloc, state)?;
+        let state = Kept::of_parts(alloc, state, self.sketch.parts.as_slice())?;
         self.entries.push(Stored { state, number: 0 })?;
         Ok(index)
     }
