@@ -71,3 +71,6 @@ unsaid_faulted (CannotRead path kind) e = absurd (omega arith)
 unsaid_faulted (CannotWrite path cause) e = absurd (omega arith)
 unsaid_faulted (CannotReplace path) e = absurd (omega arith)
 unsaid_faulted NoMemory e = absurd (omega arith)
+
+-- what each status says
+pub ruleset statuses = (silent_words, silent_memory, status_fits, unsaid_done, told_refused, unsaid_faulted)

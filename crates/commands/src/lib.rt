@@ -23,7 +23,7 @@ use words::read_words;
 /// The first word is the program's name. `out` stands for standard output and `err` for standard
 /// error. At status 1 and 5 standard output gets no byte; at 0 and 3 standard error gets none, and
 /// at 2 it gets why something was refused and where.
-#[tactic(auto, using(crate::proofs::Endings::silent_words, crate::proofs::Endings::silent_memory, crate::proofs::Endings::status_fits, crate::proofs::Endings::unsaid_done, crate::proofs::Endings::told_refused, crate::proofs::Endings::unsaid_faulted))]
+#[tactic(auto, using(crate::proofs::Endings::statuses))]
 pub fn execute<R: Files + AllocGlobal, W1: Write, W2: Write>(
     rt: &R,
     words: &[String],
