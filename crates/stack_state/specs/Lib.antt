@@ -1,6 +1,7 @@
 pub mod Meaning
 pub mod Places
 pub mod Identities
+pub mod Marks
 pub mod MeaningLaws
 pub mod PlaceLaws
 pub mod Starts
