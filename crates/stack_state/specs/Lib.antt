@@ -14,6 +14,7 @@ pub mod FillLaws
 pub mod FrameLaws
 pub mod Effects
 pub mod EffectLaws
+pub mod PacketEffects
 pub mod Calls
 pub mod CallLaws
 pub mod ExitLaws

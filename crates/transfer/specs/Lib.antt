@@ -1,7 +1,10 @@
 pub mod Leading
 pub mod Results
+pub mod ContextLoads
+pub mod Packets
 pub mod Exact
 pub mod Refusing
 pub mod ResultLaws
+pub mod PacketLaws
 pub mod ExactLaws
 pub mod Messages

@@ -10,9 +10,11 @@ ghost use Rattle.transfer.specs.Refusing.{register_refusal, Decides, Refuses};
 ghost use Rattle.transfer.specs.Exact.{Makes, IsAccepted};
 
 mod arithmetic;
+mod context;
 mod exits;
 mod jumps;
 mod memory;
+mod packets;
 mod pointers;
 pub mod refusals;
 mod steps;
