@@ -1,6 +1,7 @@
 pub mod Meaning
 pub mod Places
 pub mod Identities
+pub mod Marks
 pub mod MeaningLaws
 pub mod PlaceLaws
 pub mod Starts
@@ -16,6 +17,7 @@ pub mod Effects
 pub mod EffectLaws
 pub mod FramePlaces
 pub mod FramePlaceLaws
+pub mod PacketEffects
 pub mod Calls
 pub mod CallLaws
 pub mod ExitLaws

@@ -2,6 +2,7 @@
 #![tactic(auto)]
 
 pub mod facts;
+pub mod identities;
 pub mod live_frames;
 pub mod slots;
 pub mod stacks;

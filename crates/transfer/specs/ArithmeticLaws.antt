@@ -20,47 +20,55 @@ use Rattle.isa_model.specs.Machine.MachineStates.{IsValue}
 use Rattle.isa_model.specs.Code.Instructions.{Program}
 use Rattle.reg_state.specs.declared.scalars.Scalar.{Scalar}
 use Rattle.reg_state.specs.declared.kinds.Kind.{Kind}
-use Rattle.reg_state.specs.declared.kinds.Kind.TheVariants.{Number, Stack}
+use Rattle.reg_state.specs.declared.kinds.Kind.TheVariants.{Unset, Number, Context, Stack, Packet, PacketEnd, Map, MapValue, MapValueOrNull}
 use Rattle.reg_state.specs.Scalars.{Has}
 use Rattle.reg_state.specs.Kinds.{Assigned, Allows}
 use Rattle.reg_state.specs.Constants.{IsNumber-only}
 use Rattle.stack_state.specs.declared.states.State.{State}
 use Rattle.stack_state.specs.Meaning.{MeansBy}
 use Rattle.transfer.specs.declared.refusals.Refusal.TheVariants.{PointerOffset}
-use Rattle.transfer.specs.Results.{IsWord, IsLowWord, OfNumber, moved_offset, LeavesNumber, moved_frame, Moves, PointerAndNumber, NumberAndPointer, NumberAnd, PointerAnd, Combined, Copied, Arithmetic}
-
+use Rattle.transfer.specs.Results.{packet_pointer, IsWord, IsLowWord, OfNumber, moved_offset, LeavesNumber, moved_frame, Moves, PointerAndNumber, NumberAndPointer, NumberAnd, PointerAnd, Combined, Copied, Arithmetic}
 use Rattle.transfer.specs.ResultLaws.{Yields, YieldsUnder, frame_moves}
+use Rattle.transfer.specs.PacketLaws.{packet_plus_yields, packet_minus_yields, number_plus_packet_yields}
 
 -- ---- pointers
 
-moves_yields : (p : Program) (e : Assigned) (a : State) (s : Machine.State) (back : Bool) (pointer : Kind) (by : Scalar) (k : Kind) (x : ℕ) (v : Value)
-    → MeansBy p e a s → Moves a back pointer by (Ok k) → Has by x → Allows e pointer v
-    → (r : Region) × (z : ℤ) × (v ≡ value.Ptr r z) × YieldsUnder p a s k (moved_to r (moved_offset back z x))
-moves_yields p e a s back (Stack frame offset) by k x v m h member allowed =
+stack_moves_yields : (p : Program) (e : Assigned) (a : State) (s : Machine.State) (back : Bool) (frame : ℕ) (offset : ℤ) (by : Scalar) (k : Kind) (x : ℕ) (v : Value)
+    → MeansBy p e a s → Moves a back (Stack frame offset) by (Ok k) → Has by x → Allows e (Stack frame offset) v
+    → (n : ℕ) × (v ≡ value.Ptr (region.Frame n) offset) × YieldsUnder p a s k (moved_to (region.Frame n) (moved_offset back offset x))
+stack_moves_yields p e a s back frame offset by k x v m h member allowed =
     let (n, found, is) = allowed in
     let (o, only, left) = h in
-    (region.Frame n, offset, is, (e, m, frame_moves e back frame offset by k x n o only member left found))
-moves_yields p e a s back pointer by k x v m h member allowed = absurd (cc)
+    (n, is, (e, m, frame_moves e back frame offset by k x n o only member left found))
 
 -- pointer and number
 pub pointer_and_number_yields : (p : Program) (e : Assigned) (a : State) (s : Machine.State) (op : AluOp) (w : Width) (pointer : Kind) (by : Scalar) (k : Kind) (x : ℕ) (v : Value)
     → MeansBy p e a s → PointerAndNumber a op w pointer by (Ok k) → Has by x → Allows e pointer v
     → YieldsUnder p a s k (combined op w v (value.Num x))
-pointer_and_number_yields p e a s Add Full64 pointer by k x v m h member allowed =
-    let (r, z, is, yields) = moves_yields p e a s false pointer by k x v m h member allowed in
+pointer_and_number_yields p e a s Add Full64 (Stack frame offset) by k x v m h member allowed =
+    let (n, is, yields) = stack_moves_yields p e a s false frame offset by k x v m h member allowed in
     rw is yields
-pointer_and_number_yields p e a s Sub Full64 pointer by k x v m h member allowed =
-    let (r, z, is, yields) = moves_yields p e a s true pointer by k x v m h member allowed in
+pointer_and_number_yields p e a s Sub Full64 (Stack frame offset) by k x v m h member allowed =
+    let (n, is, yields) = stack_moves_yields p e a s true frame offset by k x v m h member allowed in
     rw is yields
+pointer_and_number_yields p e a s Add Full64 (Packet fixed identity least greatest proved) by k x v m h member allowed =
+    packet_plus_yields p e a s (packet_pointer fixed identity least greatest proved) by k x v h member allowed m
+pointer_and_number_yields p e a s Sub Full64 (Packet fixed identity least greatest proved) by k x v m h member allowed =
+    packet_minus_yields p e a s (packet_pointer fixed identity least greatest proved) by k x v h member allowed m
+pointer_and_number_yields p e a s Add Full64 pointer by k x v m h member allowed = absurd (cc)
+pointer_and_number_yields p e a s Sub Full64 pointer by k x v m h member allowed = absurd (cc)
 pointer_and_number_yields p e a s op w pointer by k x v m h member allowed = absurd (cc)
 
 -- number and pointer
 pub number_and_pointer_yields : (p : Program) (e : Assigned) (a : State) (s : Machine.State) (op : AluOp) (w : Width) (by : Scalar) (pointer k : Kind) (x : ℕ) (v : Value)
     → MeansBy p e a s → NumberAndPointer a op w by pointer (Ok k) → Has by x → Allows e pointer v
     → YieldsUnder p a s k (combined op w (value.Num x) v)
-number_and_pointer_yields p e a s Add Full64 by pointer k x v m h member allowed =
-    let (r, z, is, yields) = moves_yields p e a s false pointer by k x v m h member allowed in
+number_and_pointer_yields p e a s Add Full64 by (Stack frame offset) k x v m h member allowed =
+    let (n, is, yields) = stack_moves_yields p e a s false frame offset by k x v m h member allowed in
     rw is yields
+number_and_pointer_yields p e a s Add Full64 by (Packet fixed identity least greatest proved) k x v m h member allowed =
+    number_plus_packet_yields p e a s (packet_pointer fixed identity least greatest proved) by k x v h member allowed m
+number_and_pointer_yields p e a s Add Full64 by pointer k x v m h member allowed = absurd (cc)
 number_and_pointer_yields p e a s op w by pointer k x v m h member allowed = absurd (cc)
 
 -- ---- arithmetic

@@ -21,12 +21,13 @@ use Rattle.reg_state.specs.Arithmetic.{IsNegated, IsReordered, IsSignExtended}
 use Rattle.stack_state.specs.declared.states.State.{State}
 use Rattle.stack_state.specs.Meaning.{depth}
 use Rattle.stack_state.specs.Places.{kind_of, with_register, go_to}
-use Rattle.branch_refine.specs.Refining.{IsJust, AreCompared, Refines}
+use Rattle.branch_refine.specs.Refining.{IsJust, Refines}
+use Rattle.branch_refine.specs.Comparing.{compared_by, IsDefined}
 use Rattle.transfer.specs.declared.Ways.{Ways}
 use Rattle.transfer.specs.declared.Ways.TheVariants as ways
 use Rattle.transfer.specs.declared.refusals.Refusal.{Refusal}
-use Rattle.transfer.specs.declared.refusals.Refusal.TheVariants.{Comparison, TooManyFrames, ExitValue, NotBuilt}
-use Rattle.transfer.specs.Refusing.{register_refusal}
+use Rattle.transfer.specs.declared.refusals.Refusal.TheVariants.{TooManyFrames, ExitValue, NotBuilt}
+use Rattle.transfer.specs.Refusing.{register_refusal, comparison_refusal}
 use Rattle.transfer.specs.Results.{OfNumber, Arithmetic}
 use Rattle.transfer.specs.Accesses.{Loads, LoadsSigned, Stores}
 use Rattle.transfer.specs.Atomics.{Swaps, Compares}
@@ -95,7 +96,7 @@ Sides false false stay go w b c = w ≡ ways.None
 
 -- each side has all that the test shows of it
 pub record Branches (p : Program) (a : State) (cond : Cond) (by : ℤ) (w : Ways) (b c : State) : Type 0 where
-  pub compared : AreCompared a cond
+  pub compared : IsDefined (compared_by a cond)
   pub stays : Bool
   pub stay : State
   pub left_there : Refines cond false a stays stay
@@ -104,10 +105,10 @@ pub record Branches (p : Program) (a : State) (cond : Cond) (by : ℤ) (w : Ways
   pub taken_there : Refines cond true a goes go
   pub sides : Sides stays goes (go_to stay (a.slot + 1)) (go_to go (destination p a.slot by)) w b c
 
--- numbers alone are compared
+-- where the comparison is defined
 abbrev pub BranchesOr : Program → State → Cond → ℤ → Result Ways Refusal → State → State → Type 0
 BranchesOr p a cond by (Ok w) b c = Branches p a cond by w b c
-BranchesOr p a cond by (Err e) b c = (e ≡ Comparison) × (AreCompared a cond → ⊥)
+BranchesOr p a cond by (Err e) b c = (e ≡ comparison_refusal a cond) × ¬ IsDefined (compared_by a cond)
 
 -- all as before, at the jump's target
 abbrev pub JumpsTo : Program → State → ℤ → Result Ways Refusal → State → Type 0

@@ -44,7 +44,8 @@ use Rattle.stack_state.specs.declared.states.State.{State}
 use Rattle.stack_state.specs.Meaning.{depth, MeansBy, Means}
 use Rattle.stack_state.specs.Places.{kind_of, with_register, go_to}
 use Rattle.stack_state.specs.MeaningLaws.{reg_allowed, depth_is_length, MeansBy-go_to, MeansBy-set}
-use Rattle.branch_refine.specs.Refining.{IsNumber, IsJust, IsNumberOperand, Keeps}
+use Rattle.branch_refine.specs.Refining.{IsNumber, IsJust, Keeps}
+use Rattle.branch_refine.specs.ComparingLaws.{test-defined}
 use Rattle.transfer.specs.declared.refusals.Refusal.{Refusal}
 use Rattle.transfer.specs.declared.refusals.Refusal.TheVariants.{UnsetRegister, ReadOnlyRegister, NotBuilt}
 use Rattle.transfer.specs.declared.Ways.{Ways}
@@ -272,19 +273,6 @@ number_there : (e : Assigned) (k : Kind) (v : Value) → IsNumber k → Allows e
 number_there e (kind.Number c) v h allowed = (allowed.0, allowed.1)
 number_there e k v h allowed = absurd h
 
-tested_there : (p : Program) (e : Assigned) (a : State) (s : Machine.State) (cond : Cond) (source : Operand) → MeansBy p e a s
-    → IsNumber (kind_of a cond.register) → IsNumberOperand a source → (t : Bool) × (tested s cond source ≡ Ok t)
-tested_there p e a s cond (Constant k) m left right =
-    let (x, is) = number_there e (kind_of a cond.register) (reg s cond.register) left (reg_allowed p e a s m cond.register) in
-    (holds cond.comparison cond.width x (unsigned cond.width k), ap (λ v. compared_constant cond.comparison cond.width v k) is)
-tested_there p e a s cond (Register r) m left right =
-    let (x, is) = number_there e (kind_of a cond.register) (reg s cond.register) left (reg_allowed p e a s m cond.register) in
-    let (y, is_other) = number_there e (kind_of a r) (reg s r) right (reg_allowed p e a s m r) in (
-      holds cond.comparison cond.width x y,
-      ap (λ v. compared (length s.packet) cond.comparison cond.width v (reg s r)) is
-          ∙ ap (compared (length s.packet) cond.comparison cond.width (value.Num x)) is_other,
-    )
-
 -- the side that the test goes to is one of the successors
 stay_means : (p : Program) (e : Assigned) (stays goes : Bool) (stay go : State) (w : Ways) (b c : State) (t : Machine.State)
     → Sides stays goes stay go w b c → stays ≡ true → MeansBy p e stay t → InSome p w b c t
@@ -374,7 +362,7 @@ performs_in p clock e a s (CompareExchange v place r) w b c own fits inside m se
 performs_in p clock e a s (Jump by) w b c own fits inside m set is h = jumps_in p e a s by w b c is m h
 performs_in p clock e a s (JumpLong by) w b c own fits inside m set is h = jumps_in p e a s by w b c is m h
 performs_in p clock e a s (JumpIf cond by) w b c own fits inside m set is h =
-    let (t, says) = tested_there p e a s cond cond.operand m h.compared.0 h.compared.1 in
+    let (t, says) = test-defined p e a s cond h.compared m in
     subst (λ r. After (InSome p w b c) (branches s p by r)) (sym says)
     (branches_in p e a s cond by w b c t says (subst (λ r. IfNext (branches s p by r) (IsState p)) says is) m h)
 performs_in p clock e a s (CallLocal by) w b c own fits inside m set is h = absurd (cc)

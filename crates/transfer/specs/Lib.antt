@@ -1,11 +1,14 @@
 pub mod Leading
 pub mod Refusing
+pub mod Packets
 pub mod Results
+pub mod ContextLoads
 pub mod StackAccesses
 pub mod Accesses
 pub mod Atomics
 pub mod Exact
 pub mod ResultLaws
+pub mod PacketLaws
 pub mod ArithmeticLaws
 pub mod StackAccessLaws
 pub mod AccessLaws

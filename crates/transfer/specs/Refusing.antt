@@ -1,7 +1,10 @@
 -- When the tests of an instruction's registers fail, and why there is no access through a kind.
-use Rattle.std.specs.Prelude.{Bool, true, false, if◌then◌else◌, Option, Some, None}
+use Rattle.std.specs.Prelude.{Bool, true, false, ◌||◌, if◌then◌else◌, Option, Some, None}
 use Rattle.std.specs.List.{list_any}
 use Rattle.isa_model.specs.declared.registers.Reg.{Reg}
+use Rattle.isa_model.specs.declared.instructions.Cond.{Cond}
+use Rattle.isa_model.specs.declared.instructions.Operand.{Operand}
+use Rattle.isa_model.specs.declared.instructions.Operand.TheVariants.{Constant, Register}
 use Rattle.isa_model.specs.declared.instructions.Insn.{Insn}
 use Rattle.isa_model.specs.Code.Instructions.{reads, writes, is_frame_pointer}
 use Rattle.reg_state.specs.declared.kinds.Kind.{Kind}
@@ -9,7 +12,7 @@ use Rattle.reg_state.specs.declared.kinds.Kind.TheVariants as kind
 use Rattle.stack_state.specs.declared.states.State.{State}
 use Rattle.stack_state.specs.Places.{kind_of}
 use Rattle.transfer.specs.declared.refusals.Refusal.{Refusal}
-use Rattle.transfer.specs.declared.refusals.Refusal.TheVariants.{UnsetRegister, ReadOnlyRegister, NotMemory, StackPlace, ContextAccess, NullNotTested, NotBuilt}
+use Rattle.transfer.specs.declared.refusals.Refusal.TheVariants.{UnsetRegister, ReadOnlyRegister, NotMemory, ContextAccess, NullNotTested, Comparison, NotBuilt}
 
 abbrev pub is_unset : Kind → Bool
 is_unset kind.Unset = true
@@ -29,14 +32,25 @@ register_refusal a i =
     else if is_frame_pointer (writes i) then Some ReadOnlyRegister
     else None
 
--- why there is no access through a kind, the loads of the context's fields aside
+-- why there is no access through a kind, where no other test decides
 abbrev pub access_refusal : Kind → Refusal
-access_refusal kind.Unset = NotMemory
-access_refusal (kind.Number numbers) = NotMemory
 access_refusal kind.Context = ContextAccess
-access_refusal (kind.Stack frame offset) = StackPlace
-access_refusal (kind.Packet fixed identity least greatest proved) = NotBuilt
-access_refusal kind.PacketEnd = NotMemory
-access_refusal (kind.Map index) = NotMemory
 access_refusal (kind.MapValue index least greatest) = NotBuilt
 access_refusal (kind.MapValueOrNull index identity) = NullNotTested
+access_refusal k = NotMemory
+
+-- ---- comparisons
+
+-- what was looked up, before its null test
+abbrev pub is_untested : Kind → Bool
+is_untested (kind.MapValueOrNull index identity) = true
+is_untested k = false
+
+abbrev pub is_untested_operand : State → Operand → Bool
+is_untested_operand a (Constant k) = false
+is_untested_operand a (Register r) = is_untested (kind_of a r)
+
+-- why a comparison that is not defined is refused
+abbrev pub comparison_refusal : State → Cond → Refusal
+comparison_refusal a cond =
+    if is_untested (kind_of a cond.register) || is_untested_operand a cond.operand then NullNotTested else Comparison

@@ -11,9 +11,11 @@ use Rattle.reg_state.specs.declared.kinds.Kind.{Kind}
 use Rattle.reg_state.specs.declared.kinds.Kind.TheVariants.{Number, Stack, Packet, MapValue, MapValueOrNull}
 use Rattle.reg_state.specs.Scalars.{Has, IsNumber}
 use Rattle.reg_state.specs.Arithmetic.{IsAlu}
+use Rattle.transfer.specs.declared.packets.PacketPointer.{PacketPointer}
 use Rattle.transfer.specs.declared.refusals.Refusal.{Refusal}
 use Rattle.transfer.specs.declared.refusals.Refusal.TheVariants.{PointerOperand, PointerOffset, NullNotTested, NotBuilt}
 use Rattle.stack_state.specs.declared.states.State.{State}
+use Rattle.transfer.specs.Packets.{PacketMoves}
 
 -- ---- numbers
 
@@ -53,9 +55,14 @@ abbrev pub moved_frame : Bool → ℕ → ℤ → Option ℕ → Result Kind Ref
 moved_frame back frame offset (Some n) = frame_pointer frame (moved_offset back offset n)
 moved_frame back frame offset None = Err PointerOffset
 
+abbrev pub packet_pointer : ℤ → ℕ → ℤ → ℤ → ℕ → PacketPointer
+packet_pointer fixed identity least greatest proved =
+    record { fixed = fixed; identity = identity; least = least; greatest = greatest; proved = proved }
+
 abbrev pub Moves : State → Bool → Kind → Scalar → Result Kind Refusal → Type 0
 Moves a back (Stack frame offset) by result = (o : Option ℕ) × LeavesNumber by o × (result ≡ moved_frame back frame offset o)
-Moves a back (Packet fixed identity least greatest proved) by result = result ≡ Err NotBuilt
+Moves a back (Packet fixed identity least greatest proved) by result =
+    PacketMoves a back (packet_pointer fixed identity least greatest proved) by result
 Moves a back (MapValue index least greatest) by result = result ≡ Err NotBuilt
 Moves a back (MapValueOrNull index identity) by result = result ≡ Err NullNotTested
 Moves a back pointer by result = result ≡ Err PointerOperand

@@ -10,9 +10,11 @@ ghost use Rattle.transfer.specs.Exact.{Steps};
 
 mod arithmetic;
 mod atomics;
+mod context;
 mod exits;
 mod jumps;
 mod memory;
+mod packets;
 mod pointers;
 pub mod refusals;
 mod stacks;

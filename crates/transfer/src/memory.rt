@@ -1,48 +1,26 @@
 //! Access to memory: loads and stores by what the base points to, and why there is none.
 
 ghost use Rattle.std.specs.Prelude.{◌≡◌};
-ghost use Rattle.transfer.specs.Accesses.{LoadsContext, Loads, LoadsSigned, Stores};
+ghost use Rattle.transfer.specs.Accesses.{Loads, LoadsSigned, Stores};
 ghost use Rattle.transfer.specs.Refusing.{access_refusal};
-ghost use Rattle.transfer.specs.Results.{IsWord};
 
+use crate::context::context_load;
+use crate::packets::{packet_load, packet_load_signed, packet_store};
 use crate::refusals::Refusal;
 use crate::stacks::{stack_load, stack_load_signed, stack_store};
-use isa_model::{Narrow, Size, Width};
-use reg_state::{Domain, Kind, Scalar};
+use isa_model::{Narrow, Size};
+use reg_state::Kind;
 use stack_state::State;
 
-/// Any number of 32 bits.
-fn word() -> Kind
-    ensures { IsWord result }
-{
-    Kind::Number(Scalar::any(Width::Low32))
-}
-
-/// Why there is no access through a kind.
-pub fn access_refusal(base: Kind) -> Refusal
+/// Why there is no access through a kind, where no other test decides.
+fn access_refusal(base: Kind) -> Refusal
     ensures { result ≡ access_refusal base }
 {
     match base {
-        Kind::Unset | Kind::Number(_) | Kind::PacketEnd | Kind::Map { .. } => Refusal::NotMemory,
         Kind::Context => Refusal::ContextAccess,
-        Kind::Stack { .. } => Refusal::StackPlace,
-        Kind::Packet { .. } | Kind::MapValue { .. } => Refusal::NotBuilt,
+        Kind::MapValue { .. } => Refusal::NotBuilt,
         Kind::MapValueOrNull { .. } => Refusal::NullNotTested,
-    }
-}
-
-/// A load of the context: the interface and the queue of the frame.
-fn context_load(size: Size, offset: i16) -> Result<Kind, Refusal>
-    ensures { LoadsContext size offset result }
-{
-    match size {
-        Size::U32 => {
-            if offset == 12 || offset == 16 {
-                return Ok(word());
-            }
-            Err(Refusal::ContextAccess)
-        }
-        _ => Err(Refusal::ContextAccess),
+        _ => Refusal::NotMemory,
     }
 }
 
@@ -53,6 +31,12 @@ pub fn load(state: &State, size: Size, base: Kind, by: i16) -> Result<Kind, Refu
     match base {
         Kind::Context => context_load(size, by),
         Kind::Stack { frame, offset } => stack_load(state, frame, offset, by, size),
+        Kind::Packet {
+            fixed,
+            least,
+            proved,
+            ..
+        } => packet_load(size, fixed, least, proved, by),
         _ => Err(access_refusal(base)),
     }
 }
@@ -63,6 +47,12 @@ pub fn load_signed(state: &State, size: Narrow, base: Kind, by: i16) -> Result<K
 {
     match base {
         Kind::Stack { frame, offset } => stack_load_signed(state, frame, offset, by, size),
+        Kind::Packet {
+            fixed,
+            least,
+            proved,
+            ..
+        } => packet_load_signed(size, fixed, least, proved, by),
         _ => Err(access_refusal(base)),
     }
 }
@@ -79,6 +69,12 @@ pub fn store(
 {
     match base {
         Kind::Stack { frame, offset } => stack_store(state, frame, offset, by, size, source),
+        Kind::Packet {
+            fixed,
+            least,
+            proved,
+            ..
+        } => packet_store(size, fixed, least, proved, by, source),
         _ => Err(access_refusal(base)),
     }
 }

@@ -4,6 +4,7 @@ ghost use Rattle.std.specs.Prelude.{◌≡◌};
 ghost use Rattle.transfer.specs.Results.{moved_offset, frame_pointer, moved_frame, Moves};
 ghost use Rattle.transfer.specs.Results.{PointerAndNumber, NumberAndPointer};
 
+use crate::packets::{PacketPointer, packet_moved};
 use crate::refusals::Refusal;
 use isa_model::{AluOp, Width};
 use reg_state::{Domain, Kind, Scalar};
@@ -54,7 +55,23 @@ fn moved(state: &State, back: bool, pointer: Kind, by: Scalar) -> Result<Kind, R
 {
     match pointer {
         Kind::Stack { frame, offset } => moved_frame(back, frame, offset, by.number()),
-        Kind::Packet { .. } | Kind::MapValue { .. } => Err(Refusal::NotBuilt),
+        Kind::Packet {
+            fixed,
+            identity,
+            least,
+            greatest,
+            proved,
+        } => {
+            let pointer = PacketPointer {
+                fixed,
+                identity,
+                least,
+                greatest,
+                proved,
+            };
+            packet_moved(state, back, pointer, by)
+        }
+        Kind::MapValue { .. } => Err(Refusal::NotBuilt),
         Kind::MapValueOrNull { .. } => Err(Refusal::NullNotTested),
         _ => Err(Refusal::PointerOperand),
     }

@@ -19,7 +19,7 @@ returns c = λ p count.
     let leads : c.destination-target.result ≡ destination p a.slot c.args.by =
     found ∙ ap (λ n. unwrap_or (target a.slot c.args.by) n) (sym count) in
     record {
-      compared = (search rules, search rules);
+      compared = search rules;
       stays = h.result;
       stay = h.new.state;
       left_there = h.ensures.refines;

@@ -17,3 +17,11 @@ returns-in-Stack c =
     let narrow : SFits w32 c.in-Stack.offset = search rules in
     let made = simp to_z-of_z at c.moved_frame.ensures in
     rw c.in-Stack.is (c.number.result, leaves c.args.by c.number.result c.number.ensures.value, made)
+
+pub returns-in-Packet : goal.returns-in-Packet
+returns-in-Packet c =
+    let fixed : SFits w32 c.in-Packet.fixed = search rules in
+    let least : SFits w32 c.in-Packet.least = search rules in
+    let greatest : SFits w32 c.in-Packet.greatest = search rules in
+    let made = simp to_z-of_z at c.packet_moved.ensures in
+    rw c.in-Packet.is made

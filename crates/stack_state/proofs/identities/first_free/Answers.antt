@@ -1,0 +1,8 @@
+use Rattle.std.proofs.Common.{arith}
+use Rattle.stack_state.specs.Marks.{marked-room}
+use Rattle.stack_state.proofs.identities.first_free.Goals as goal
+
+pub unreachable-requires : goal.unreachable-requires
+unreachable-requires c =
+    marked-room c.args.named.now (omega arith)
+    (λ i above inside. c.loop-identity.invariant i above (omega arith))

@@ -1,0 +1,12 @@
+use Rattle.std.proofs.Common.{w16, w32}
+use Rattle.std.specs.Prelude.{FitsSigned}
+use Rattle.std.proofs.lemmas.Int.{to_z-of_z}
+use Rattle.transfer.proofs.packets.packet_load.Goals as goal
+
+pub returns-then-are_in_packet : goal.returns-then-are_in_packet
+returns-then-are_in_packet c =
+    let fixed : FitsSigned w32 c.args.fixed = c.ranges.fixed in
+    let least : FitsSigned w32 c.args.least = c.ranges.least in
+    let offset : FitsSigned w16 c.args.offset = c.ranges.offset in
+    let inside = simp to_z-of_z at (c.are_in_packet.ensures.0 c.if-are_in_packet.true) in
+    (inside, c.of_size.ensures)

@@ -1,0 +1,14 @@
+use Rattle.std.proofs.Common.{w16, w32, subst}
+use Rattle.std.specs.Prelude.{FitsSigned}
+use Rattle.std.proofs.lemmas.Int.{to_z-of_z}
+use Rattle.isa_model.specs.Code.Sizes.{size_bytes}
+use Rattle.transfer.specs.Packets.{AreInPacket}
+use Rattle.transfer.proofs.packets.packet_load_signed.Goals as goal
+
+pub returns-then-are_in_packet : goal.returns-then-are_in_packet
+returns-then-are_in_packet c =
+    let fixed : FitsSigned w32 c.args.fixed = c.ranges.fixed in
+    let least : FitsSigned w32 c.args.least = c.ranges.least in
+    let offset : FitsSigned w16 c.args.offset = c.ranges.offset in
+    let inside = simp to_z-of_z at (c.are_in_packet.ensures.0 c.if-are_in_packet.true) in
+    (subst (λ z. AreInPacket c.args.fixed c.args.least c.args.proved c.args.offset (size_bytes z)) c.narrow_size.ensures inside, c.of_signed_size.ensures)

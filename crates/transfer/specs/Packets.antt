@@ -1,0 +1,159 @@
+-- What loads, stores and moves through packet pointers give.
+-- Linux, Documentation/bpf/verifier.rst (direct packet access).
+use Rattle.std.specs.Prelude.{◌≡◌, ℕ, ◌+◌, ◌*◌, ◌^◌, ◌<◌, ◌≤◌, ◌⊎◌, ◌↔◌, ℤ, pos, ◌+ℤ◌, ◌-ℤ◌, ◌≤ℤ◌, FitsSigned, unsigned_abs, Bool, true, false, Option, Some, None, Result, Ok, Err}
+use Rattle.std.specs.Int.{w32, w64, cast_signed, bit_at}
+use Rattle.isa_model.specs.declared.sizes.Size.{Size}
+use Rattle.isa_model.specs.declared.sizes.Narrow.{Narrow}
+use Rattle.isa_model.specs.declared.sizes.Width.TheVariants.{Full64}
+use Rattle.isa_model.specs.Code.Numbers.{signed}
+use Rattle.isa_model.specs.Code.Sizes.{size_bytes, narrow_size, narrow_extension}
+use Rattle.isa_model.specs.Machine.Pointers.{offset_limit}
+use Rattle.ranges.specs.Ranges.{extension_signed}
+use Rattle.reg_state.specs.declared.scalars.Scalar.{Scalar}
+use Rattle.reg_state.specs.declared.kinds.Kind.{Kind}
+use Rattle.reg_state.specs.declared.kinds.Kind.TheVariants.{Number, Packet, MapValueOrNull}
+use Rattle.reg_state.specs.Scalars.{Has, IsConstant}
+use Rattle.stack_state.specs.declared.states.State.{State}
+use Rattle.stack_state.specs.Identities.{IsLeastFreshPacket}
+use Rattle.transfer.specs.declared.refusals.Refusal.{Refusal}
+use Rattle.transfer.specs.declared.refusals.Refusal.TheVariants.{PacketBytes, NullNotTested, PointerStored, PointerOffset}
+use Rattle.transfer.specs.declared.packets.PacketPointer.{PacketPointer}
+
+-- ---- bytes
+
+-- that many bytes are in the packet, wherever the variable part is: from 0 up, and within what is proved to be there
+pub record AreInPacket (fixed least : ℤ) (proved : ℕ) (by : ℤ) (bytes : ℕ) : Type 0 where
+  pub some : 0 < proved
+  pub from : pos 0 ≤ℤ ((fixed +ℤ by) +ℤ least)
+  pub to : ((fixed +ℤ by) +ℤ pos bytes) ≤ℤ pos proved
+
+-- ---- loads
+
+-- any number of that many bytes: no other bit may be 1, and its limits are no wider. Without a sign there are no
+-- limits narrower than all numbers of 8 bytes
+pub record IsOfSize (size : Size) (c : Scalar) : Type 0 where
+  pub members : (x : ℕ) → (Has c x ↔ (x < 2 ^ (8 * size_bytes size)))
+  pub unknown : (i : ℕ) → bit_at c.bits.mask i ≡ 1 → i < 8 * size_bytes size
+  pub least : c.range.least ≡ 0
+  pub greatest : c.range.greatest + 1 ≡ 2 ^ (8 * size_bytes size)
+  pub signed_least : size_bytes size < 8 → c.range.signed_least ≡ pos 0
+  pub signed_greatest : size_bytes size < 8 → c.range.signed_greatest ≡ pos c.range.greatest
+
+-- any number of that many bytes with a sign, in 64 bits
+pub record IsOfSignedSize (size : Narrow) (c : Scalar) : Type 0 where
+  pub members : (x : ℕ)
+      → (Has c x ↔ ((x < 2 ^ 64) × FitsSigned (extension_signed (narrow_extension size)) (cast_signed w64 x)))
+  pub signed_least : FitsSigned (extension_signed (narrow_extension size)) c.range.signed_least
+  pub signed_greatest : FitsSigned (extension_signed (narrow_extension size)) c.range.signed_greatest
+
+abbrev pub IsNumberOf : (Scalar → Type 0) → Kind → Type 0
+IsNumberOf says (Number c) = says c
+IsNumberOf says k = ⊥
+
+-- a kind is given where the bytes are in the packet
+abbrev pub GivesIf : Type 0 → (Scalar → Type 0) → Result Kind Refusal → Type 0
+GivesIf inside says (Ok k) = inside × IsNumberOf says k
+GivesIf inside says (Err e) = (e ≡ PacketBytes) × ¬ inside
+
+abbrev pub PacketLoads : Size → ℤ → ℤ → ℕ → ℤ → Result Kind Refusal → Type 0
+PacketLoads size fixed least proved by answer =
+    GivesIf (AreInPacket fixed least proved by (size_bytes size)) (IsOfSize size) answer
+
+abbrev pub PacketLoadsSigned : Narrow → ℤ → ℤ → ℕ → ℤ → Result Kind Refusal → Type 0
+PacketLoadsSigned size fixed least proved by answer =
+    GivesIf (AreInPacket fixed least proved by (size_bytes (narrow_size size))) (IsOfSignedSize size) answer
+
+-- ---- stores
+
+-- a number is stored, and no pointer
+abbrev pub IsStored : Kind → Result (Unit {0}) Refusal → Type 0
+IsStored (Number numbers) answer = answer ≡ Ok tt
+IsStored (MapValueOrNull m identity) answer = answer ≡ Err NullNotTested
+IsStored k answer = answer ≡ Err PointerStored
+
+-- the bytes are tested first
+abbrev pub StoresIf : Type 0 → Kind → Result (Unit {0}) Refusal → Type 0
+StoresIf inside source answer =
+    (inside × IsStored source answer) ⊎ ((¬ inside) × (answer ≡ Err PacketBytes))
+
+abbrev pub PacketStores : Size → ℤ → ℤ → ℕ → ℤ → Kind → Result (Unit {0}) Refusal → Type 0
+PacketStores size fixed least proved by source answer =
+    StoresIf (AreInPacket fixed least proved by (size_bytes size)) source answer
+
+-- ---- moves
+
+-- on, or back
+abbrev pub moved_by : Bool → ℤ → ℤ → ℤ
+moved_by true z by = z -ℤ by
+moved_by false z by = z +ℤ by
+
+-- where the offset is, at the least and at the greatest, after a move by something between two distances
+abbrev pub lowest : Bool → PacketPointer → ℤ → ℤ → ℤ
+lowest true p near far = (p.fixed +ℤ p.least) -ℤ far
+lowest false p near far = (p.fixed +ℤ p.least) +ℤ near
+
+abbrev pub highest : Bool → PacketPointer → ℤ → ℤ → ℤ
+highest true p near far = (p.fixed +ℤ p.greatest) -ℤ near
+highest false p near far = (p.fixed +ℤ p.greatest) +ℤ far
+
+-- both are offsets of pointers
+pub record AreOffsets (from to : ℤ) : Type 0 where
+  pub from_is : unsigned_abs from ≤ offset_limit
+  pub to_is : unsigned_abs to ≤ offset_limit
+
+abbrev pub IsLimited : ℤ → Result ℤ Refusal → Type 0
+IsLimited z (Ok offset) = (offset ≡ z) × (unsigned_abs z ≤ offset_limit)
+IsLimited z (Err e) = (e ≡ PointerOffset) × ¬ (unsigned_abs z ≤ offset_limit)
+
+abbrev pub AreLimited : ℤ → ℤ → Result (ℤ × ℤ) Refusal → Type 0
+AreLimited from to (Ok limits) = (limits.0 ≡ from) × (limits.1 ≡ to) × AreOffsets from to
+AreLimited from to (Err e) = (e ≡ PointerOffset) × ¬ AreOffsets from to
+
+abbrev pub IsFixedPart : ℤ → Option ℤ → Type 0
+IsFixedPart z (Some fixed) = (fixed ≡ z) × FitsSigned w32 z
+IsFixedPart z None = ¬ FitsSigned w32 z
+
+-- a new identity's variable part is the whole offset, of which only the limits are known
+pub record IsFreshPointer (a : State) (from to : ℤ) (k : Kind) : Type 0 where
+  pub identity : ℕ
+  pub fresh : IsLeastFreshPacket a identity
+  pub pointer : k ≡ Packet (pos 0) identity from to 0
+
+-- a move by something between two distances
+pub record IsMovedBetween (a : State) (back : Bool) (p : PacketPointer) (near far : ℤ) (k : Kind) : Type 0 where
+  pub within : AreOffsets (lowest back p near far) (highest back p near far)
+  pub pointer : IsFreshPointer a (lowest back p near far) (highest back p near far) k
+
+-- a move by one distance is one of the fixed part
+pub record IsMovedFixed (back : Bool) (p : PacketPointer) (by : ℤ) (k : Kind) : Type 0 where
+  pub room : FitsSigned w32 (moved_by back p.fixed by)
+  pub pointer : k ≡ Packet (moved_by back p.fixed by) p.identity p.least p.greatest p.proved
+
+-- where that has room for it
+pub record IsMovedBy (a : State) (back : Bool) (p : PacketPointer) (by : ℤ) (k : Kind) : Type 0 where
+  pub within : AreOffsets (lowest back p by by) (highest back p by by)
+  pub pointer : IsMovedFixed back p by k
+      ⊎ ((¬ FitsSigned w32 (moved_by back p.fixed by)) × IsFreshPointer a (lowest back p by by) (highest back p by by) k)
+
+abbrev pub MovesBetween : State → Bool → PacketPointer → ℤ → ℤ → Result Kind Refusal → Type 0
+MovesBetween a back p near far (Ok k) = IsMovedBetween a back p near far k
+MovesBetween a back p near far (Err e) =
+    (e ≡ PointerOffset) × ¬ AreOffsets (lowest back p near far) (highest back p near far)
+
+abbrev pub MovesBy : State → Bool → PacketPointer → ℤ → Result Kind Refusal → Type 0
+MovesBy a back p by (Ok k) = IsMovedBy a back p by k
+MovesBy a back p by (Err e) = (e ≡ PointerOffset) × ¬ AreOffsets (lowest back p by by) (highest back p by by)
+
+-- a number that can be one only moves by itself, read with a sign
+pub record MovesByNumber (a : State) (back : Bool) (p : PacketPointer) (by : Scalar) (answer : Result Kind Refusal) : Type 0 where
+  pub number : ℕ
+  pub only : (x : ℕ) → Has by x → x ≡ number
+  pub moves : MovesBy a back p (signed Full64 number) answer
+
+-- any other by something between its signed limits
+pub record MovesByLimits (a : State) (back : Bool) (p : PacketPointer) (by : Scalar) (answer : Result Kind Refusal) : Type 0 where
+  pub several : (n : ℕ) → ¬ IsConstant by n
+  pub moves : MovesBetween a back p by.range.signed_least by.range.signed_greatest answer
+
+abbrev pub PacketMoves : State → Bool → PacketPointer → Scalar → Result Kind Refusal → Type 0
+PacketMoves a back p by answer = MovesByNumber a back p by answer ⊎ MovesByLimits a back p by answer

@@ -1,0 +1,306 @@
+//! Loads, stores and moves through packet pointers.
+
+ghost use Rattle.std.specs.Prelude.{◌≡◌, ◌+◌, ◌*◌, ◌^◌, ◌↔◌, ◌+ℤ◌, IsTrue};
+ghost use Rattle.isa_model.specs.Code.Sizes.{size_bytes, narrow_size};
+ghost use Rattle.isa_model.specs.Machine.Pointers.{offset_limit};
+ghost use Rattle.transfer.specs.Packets.{AreInPacket, IsOfSize, IsOfSignedSize};
+ghost use Rattle.transfer.specs.Packets.{PacketLoads, PacketLoadsSigned, IsStored, PacketStores};
+ghost use Rattle.transfer.specs.Packets.{moved_by, lowest, highest, IsLimited, AreLimited};
+ghost use Rattle.transfer.specs.Packets.{IsFixedPart};
+ghost use Rattle.transfer.specs.Packets.{IsFreshPointer, MovesBetween, MovesBy, PacketMoves};
+
+use crate::refusals::Refusal;
+use isa_model::{Narrow, Size, Width};
+use known_bits::Bits;
+use ranges::Range;
+use reg_state::{Domain, Kind, Scalar};
+use stack_state::State;
+
+/// A packet pointer, by the fields of its kind.
+#[derive(Clone, Copy)]
+pub struct PacketPointer {
+    pub fixed: i32,
+    pub identity: u32,
+    pub least: i32,
+    pub greatest: i32,
+    pub proved: u32,
+}
+
+/// The sum of two offsets.
+fn sum(left: i32, right: i32) -> i64
+    ensures { result ≡ left +ℤ right }
+{
+    i64::from(left) + i64::from(right)
+}
+
+/// The place after a move, back or on.
+fn moved_by(back: bool, place: i64, distance: i64) -> i128
+    ensures { result ≡ moved_by back place distance }
+{
+    if back {
+        i128::from(place) - i128::from(distance)
+    } else {
+        i128::from(place) + i128::from(distance)
+    }
+}
+
+/// Whether the bytes are in the packet, wherever the variable part is.
+fn are_in_packet(fixed: i32, least: i32, proved: u32, offset: i16, size: Size) -> bool
+    ensures { IsTrue result ↔ AreInPacket fixed least proved offset (size_bytes size) }
+{
+    if proved == 0 {
+        return false;
+    }
+    let place = sum(fixed, i32::from(offset));
+    if moved_by(false, place, i64::from(least)) < 0 {
+        return false;
+    }
+    if moved_by(false, place, size.bytes() as i64) > i128::from(proved) {
+        return false;
+    }
+    true
+}
+
+/// The size, without its sign.
+fn narrow_size(size: Narrow) -> Size
+    ensures { result ≡ narrow_size size }
+{
+    match size {
+        Narrow::S8 => Size::U8,
+        Narrow::S16 => Size::U16,
+        Narrow::S32 => Size::U32,
+    }
+}
+
+/// The greatest number of that many bytes.
+fn greatest(size: Size) -> u64
+    ensures { result + 1 ≡ 2 ^ (8 * size_bytes size) }
+{
+    match size {
+        Size::U8 => 0xff,
+        Size::U16 => 0xffff,
+        Size::U32 => 0xffff_ffff,
+        Size::U64 => u64::MAX,
+    }
+}
+
+/// Any number of that many bytes.
+fn of_size(size: Size) -> Scalar
+    ensures { IsOfSize size result }
+{
+    let greatest = greatest(size);
+    Scalar {
+        bits: Bits::between(0, greatest),
+        range: Range::between(0, greatest),
+    }
+}
+
+/// Any number of that many bytes with a sign.
+fn of_signed_size(size: Narrow) -> Scalar
+    ensures { IsOfSignedSize size result }
+{
+    let range = match size {
+        Narrow::S8 => Range::signed_between(-0x80, 0x7f),
+        Narrow::S16 => Range::signed_between(-0x8000, 0x7fff),
+        Narrow::S32 => Range::signed_between(-0x8000_0000, 0x7fff_ffff),
+    };
+    Scalar {
+        bits: Bits::any(Width::Full64),
+        range,
+    }
+}
+
+/// What a load without a sign gives.
+pub fn packet_load(
+    size: Size,
+    fixed: i32,
+    least: i32,
+    proved: u32,
+    offset: i16,
+) -> Result<Kind, Refusal>
+    ensures { PacketLoads size fixed least proved offset result }
+{
+    if are_in_packet(fixed, least, proved, offset, size) {
+        Ok(Kind::Number(of_size(size)))
+    } else {
+        Err(Refusal::PacketBytes)
+    }
+}
+
+/// What a load with a sign gives.
+pub fn packet_load_signed(
+    size: Narrow,
+    fixed: i32,
+    least: i32,
+    proved: u32,
+    offset: i16,
+) -> Result<Kind, Refusal>
+    ensures { PacketLoadsSigned size fixed least proved offset result }
+{
+    if are_in_packet(fixed, least, proved, offset, narrow_size(size)) {
+        Ok(Kind::Number(of_signed_size(size)))
+    } else {
+        Err(Refusal::PacketBytes)
+    }
+}
+
+/// Numbers may be stored anywhere, pointers on the stack only.
+fn stored(source: Kind) -> Result<(), Refusal>
+    ensures { IsStored source result }
+{
+    match source {
+        Kind::Number(_) => Ok(()),
+        Kind::MapValueOrNull { .. } => Err(Refusal::NullNotTested),
+        _ => Err(Refusal::PointerStored),
+    }
+}
+
+/// Whether the kind may be stored.
+pub fn packet_store(
+    size: Size,
+    fixed: i32,
+    least: i32,
+    proved: u32,
+    offset: i16,
+    source: Kind,
+) -> Result<(), Refusal>
+    ensures { PacketStores size fixed least proved offset source result }
+{
+    if are_in_packet(fixed, least, proved, offset, size) {
+        stored(source)
+    } else {
+        Err(Refusal::PacketBytes)
+    }
+}
+
+/// The greatest offset of a pointer, and the least one with its sign changed.
+const OFFSET_LIMIT: i128 = 0x2000_0000;
+
+/// An offset that a pointer may have.
+fn limited(offset: i128) -> Result<i32, Refusal>
+    ensures { IsLimited offset result }
+{
+    if -OFFSET_LIMIT <= offset && offset <= OFFSET_LIMIT {
+        Ok(offset as i32)
+    } else {
+        Err(Refusal::PointerOffset)
+    }
+}
+
+/// The least offset after a move by something between two distances.
+fn lowest(back: bool, pointer: PacketPointer, near: i64, far: i64) -> i128
+    ensures { result ≡ lowest back pointer near far }
+{
+    let offset = sum(pointer.fixed, pointer.least);
+    if back {
+        moved_by(true, offset, far)
+    } else {
+        moved_by(false, offset, near)
+    }
+}
+
+/// The greatest offset after it.
+fn highest(back: bool, pointer: PacketPointer, near: i64, far: i64) -> i128
+    ensures { result ≡ highest back pointer near far }
+{
+    let offset = sum(pointer.fixed, pointer.greatest);
+    if back {
+        moved_by(true, offset, near)
+    } else {
+        moved_by(false, offset, far)
+    }
+}
+
+/// Both of them.
+fn limits(back: bool, pointer: PacketPointer, near: i64, far: i64) -> Result<(i32, i32), Refusal>
+    ensures { AreLimited (lowest back pointer near far) (highest back pointer near far) result }
+{
+    let Ok(from) = limited(lowest(back, pointer, near, far)) else {
+        return Err(Refusal::PointerOffset);
+    };
+    let Ok(to) = limited(highest(back, pointer, near, far)) else {
+        return Err(Refusal::PointerOffset);
+    };
+    Ok((from, to))
+}
+
+/// The fixed part of a pointer, if it has room there.
+fn fixed_part(offset: i128) -> Option<i32>
+    ensures { IsFixedPart offset result }
+{
+    if i128::from(i32::MIN) <= offset && offset <= i128::from(i32::MAX) {
+        Some(offset as i32)
+    } else {
+        None
+    }
+}
+
+/// A pointer of which only the limits are known.
+fn fresh_pointer(state: &State, from: i32, to: i32) -> Kind
+    ensures { IsFreshPointer state.now from to result }
+{
+    Kind::Packet {
+        fixed: 0,
+        identity: state.fresh_packet_identity(),
+        least: from,
+        greatest: to,
+        proved: 0,
+    }
+}
+
+/// A move by something between two distances.
+fn moved_between(
+    state: &State,
+    back: bool,
+    pointer: PacketPointer,
+    near: i64,
+    far: i64,
+) -> Result<Kind, Refusal>
+    ensures { MovesBetween state.now back pointer near far result }
+{
+    let Ok((from, to)) = limits(back, pointer, near, far) else {
+        return Err(Refusal::PointerOffset);
+    };
+    Ok(fresh_pointer(state, from, to))
+}
+
+/// A move by one distance. Only a state that no run comes to can have a fixed part so far off that
+/// it has no room for the move; the variable part then takes it in.
+fn moved(state: &State, back: bool, pointer: PacketPointer, distance: i64) -> Result<Kind, Refusal>
+    ensures { MovesBy state.now back pointer distance result }
+{
+    let Ok((from, to)) = limits(back, pointer, distance, distance) else {
+        return Err(Refusal::PointerOffset);
+    };
+    match fixed_part(moved_by(back, i64::from(pointer.fixed), distance)) {
+        Some(fixed) => Ok(Kind::Packet {
+            fixed,
+            identity: pointer.identity,
+            least: pointer.least,
+            greatest: pointer.greatest,
+            proved: pointer.proved,
+        }),
+        None => Ok(fresh_pointer(state, from, to)),
+    }
+}
+
+/// The pointer after the addition, or where `back` is set the subtraction, of a number.
+pub fn packet_moved(
+    state: &State,
+    back: bool,
+    pointer: PacketPointer,
+    by: Scalar,
+) -> Result<Kind, Refusal>
+    ensures { PacketMoves state.now back pointer by result }
+{
+    match by.number() {
+        Some(number) => moved(state, back, pointer, number.cast_signed()),
+        None => moved_between(
+            state,
+            back,
+            pointer,
+            by.range.signed_least,
+            by.range.signed_greatest,
+        ),
+    }
+}
