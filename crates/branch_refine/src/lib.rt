@@ -1,8 +1,11 @@
 //! What the test of a conditional jump shows of an abstract state.
 #![tactic(auto)]
 
-ghost use Rattle.std.specs.Prelude.{◌≡◌, ◌≢◌, ℕ, IsTrue, false};
+ghost use Rattle.std.specs.Prelude.{◌≡◌, ◌≢◌, ℕ, ◌<◌, ◌^◌, IsTrue, false};
+ghost use Rattle.std.specs.Prelude.{None, IfSome, IsSome};
 ghost use Rattle.isa_model.specs.Code.Numbers.{holds};
+ghost use Rattle.reg_state.specs.Scalars.{Has, IsConstant};
+ghost use Rattle.reg_state.specs.Shown.{Shows};
 ghost use Rattle.stack_state.specs.Places.{kind_of};
 ghost use Rattle.branch_refine.specs.Refining.{IsJust, IsJustOperand, AreCompared, Keeps, Narrows};
 ghost use Rattle.branch_refine.specs.Refining.{KeepsOthers, Refined, Leaves};
@@ -105,16 +108,23 @@ fn refine_numbers(cond: Cond, taken: bool, state: &mut State) -> bool
     let Some(right) = operand_numbers(state, cond.width, cond.operand) else {
         return true;
     };
-    let Some((new_left, new_right)) = reg_state::refine(
-        cond.comparison,
-        cond.width,
-        taken,
-        left,
-        right,
-    ) else {
+    let Some((new_left, new_right)) = narrowed(cond, taken, left, right) else {
         return false;
     };
     state.set_register(cond.register, Kind::Number(new_left));
     set_operand(state, cond.operand, new_right);
     true
+}
+
+// What the comparison leaves of two numbers.
+fn narrowed(cond: Cond, taken: bool, left: Scalar, right: Scalar) -> Option<(Scalar, Scalar)>
+    ensures shows { IfSome result (λ p. Shows cond.comparison cond.width taken left right p.0 p.1) }
+    ensures none { result ≡ None → (x y : ℕ) → Has left x → Has right y
+        → holds cond.comparison cond.width x y ≢ taken }
+    ensures stays { (x y : ℕ) → x < 2 ^ 64 → y < 2 ^ 64 → IsConstant left x → IsConstant right y
+        → holds cond.comparison cond.width x y ≡ taken → IsSome result }
+    ensures never { (x y : ℕ) → IsConstant left x → IsConstant right y
+        → holds cond.comparison cond.width x y ≢ taken → result ≡ None }
+{
+    reg_state::refine(cond.comparison, cond.width, taken, left, right)
 }
