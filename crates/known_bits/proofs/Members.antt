@@ -3,6 +3,7 @@ use Rattle.std.proofs.Common.{◌≡◌, ℕ, ◌+◌, ◌-◌, ◌^◌, ◌<◌
 use Rattle.std.specs.Int.{bit_at, bit_not}
 use Rattle.std.proofs.lemmas.Nat.{and_le_l}
 use Rattle.std.proofs.lemmas.Nat.Bits.{bit_at_and, bit_at_or, bit_at_not, bit_at-lt, bit_at-zero, same_from_bits_below}
+use Rattle.known_bits.specs.declared.bits.Bits.{Bits}
 use Rattle.known_bits.specs.Member.{IsMember}
 
 -- a value and a mask that share no bit
@@ -10,6 +11,9 @@ pub record Known (v m : ℕ) : Type 0 where
   pub value_in : v < 2 ^ 64
   pub mask_in : m < 2 ^ 64
   pub apart : bit_and v m ≡ 0
+
+pub known : (b : Bits) → b.value < 2 ^ 64 → b.mask < 2 ^ 64 → Known b.value b.mask
+known b value_in mask_in = record { value_in = value_in; mask_in = mask_in; apart = b.apart }
 
 -- one bit of the value, the mask and a member
 pub record Between (v m x : ℕ) : Type 0 where

@@ -1,8 +1,8 @@
 -- What the members of a value and a mask have in common.
-use Rattle.std.specs.Prelude.{ℕ, ◌≡◌, ◌^◌, ◌<◌, ◌≤◌, ◌-◌, ◌⊎◌, ◌+◌, min, bit_and}
+use Rattle.std.specs.Prelude.{ℕ, ◌≡◌, ◌^◌, ◌<◌, ◌-◌, min, bit_and}
 use Rattle.std.specs.Int.{w64, bit_not, bit_at}
-use Rattle.std.proofs.Common.{arith, ap, sym, ◌∙◌, inl, inr}
-use Rattle.std.proofs.lemmas.Nat.Bits.{bit_at_and, bit_at_not, bit_at-lt, bit_at-zero}
+use Rattle.std.proofs.Common.{arith, ap, sym, ◌∙◌}
+use Rattle.std.proofs.lemmas.Nat.Bits.{bit_at_and, bit_at_not, bit_at-lt}
 use Rattle.known_bits.specs.Member.{IsMember}
 
 kept_bit : (m x i : ℕ) → m < 2 ^ 64 → i < 64 → bit_at (bit_and x (bit_not w64 m)) i ≡ min (bit_at x i) (1 - bit_at m i)

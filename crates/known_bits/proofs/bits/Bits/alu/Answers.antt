@@ -1,4 +1,5 @@
 use Rattle.std.proofs.Common.{arith, ℕ, ◌≡◌, ◌*◌, ◌+◌, ◌^◌, ◌%◌, refl, sym, ap, ◌∙◌, bit_and, bit_or, bit_xor}
+use Rattle.std.specs.Int.{bit_at}
 use Rattle.std.specs.Int.Bits.{or_zero_r}
 use Rattle.std.proofs.lemmas.Nat.{and_mod, or_mod, xor_mod, pow_pos}
 use Rattle.isa_model.specs.Code.Sizes.{width_bits}
@@ -7,8 +8,10 @@ use Rattle.isa_model.specs.declared.sizes.Width.{Width}
 use Rattle.isa_model.specs.Code.Numbers.{alu, result_of}
 use Rattle.isa_model.specs.Code.NumberLemmas.{alu_below, low_below, width_most}
 use Rattle.std.proofs.Math.Nat.{mod-eq_of_lt}
-use Rattle.known_bits.specs.Bits.{Has, greatest_of, KnowsProduct}
-use Rattle.known_bits.proofs.Members.{Known}
+use Rattle.known_bits.specs.declared.bits.Bits.{Bits}
+use Rattle.known_bits.specs.Member.{Occurs}
+use Rattle.known_bits.specs.Bits.{Has, IsSharp, greatest_of, KnowsProduct}
+use Rattle.known_bits.proofs.Members.{Known, known}
 use Rattle.known_bits.proofs.Sharp.{low_set, occurs_low}
 use Rattle.known_bits.proofs.Frame.{mod_le, mod-mod_pow, mod-pow-mul}
 use Rattle.known_bits.proofs.Precise.{occurs_lifted, second_sharp}
@@ -27,8 +30,34 @@ product_of_constants w x y n e has only =
       limit = λ l z small h. let is = only z h in let le = mod_le factors (width_bits w) in omega arith;
     }
 
-zero_low : (n : ℕ) → 0 % 2 ^ n ≡ 0
-zero_low n = mod-eq_of_lt {n = 0} {m = 2 ^ n} (pow_pos n)
+-- no bit of the low part is unknown where none is
+low_constant : (low m n : ℕ) → low ≡ m % 2 ^ n → m ≡ 0 → low ≡ 0
+low_constant low m n e zero = e ∙ ap (λ t. t % 2 ^ n) zero ∙ mod-eq_of_lt {n = 0} {m = 2 ^ n} (pow_pos n)
+
+-- both values of a bit that occur on the low parts occur on the numbers
+lifted_sharp : {av am bv bm : ℕ} → Known av am → Known bv bm → (w : Width) (f : ℕ → ℕ → ℕ) (i : ℕ)
+    → Occurs (av % 2 ^ width_bits w) (am % 2 ^ width_bits w) (bv % 2 ^ width_bits w) (bm % 2 ^ width_bits w) f i 0
+    × Occurs (av % 2 ^ width_bits w) (am % 2 ^ width_bits w) (bv % 2 ^ width_bits w) (bm % 2 ^ width_bits w) f i 1
+    → Occurs av am bv bm (λ x y. f (x % 2 ^ width_bits w) (y % 2 ^ width_bits w)) i 0
+    × Occurs av am bv bm (λ x y. f (x % 2 ^ width_bits w) (y % 2 ^ width_bits w)) i 1
+lifted_sharp ka kb w f i o = (
+  occurs_lifted ka kb f (width_bits w) i 0 (width_most w) o.0,
+  occurs_lifted ka kb f (width_bits w) i 1 (width_most w) o.1,
+)
+
+-- an operation on single bits is as sharp on the low parts as on the numbers
+bitwise_sharp : (a b : Bits) (w : Width) (f : ℕ → ℕ → ℕ)
+    → ((x y n : ℕ) → f x y % 2 ^ n ≡ f (x % 2 ^ n) (y % 2 ^ n)) → (m : ℕ) → IsSharp a b f m
+    → (i : ℕ) → bit_at (m % 2 ^ width_bits w) i ≡ 1
+    → Occurs a.value a.mask b.value b.mask (λ x y. f (x % 2 ^ width_bits w) (y % 2 ^ width_bits w)) i 0
+    × Occurs a.value a.mask b.value b.mask (λ x y. f (x % 2 ^ width_bits w) (y % 2 ^ width_bits w)) i 1
+bitwise_sharp a b w f low m sharp i h =
+    let n = width_bits w in
+    let s = low_set m n i h in
+    let o = sharp i s.1 in (
+      occurs_low f (λ x y. f (x % 2 ^ n) (y % 2 ^ n)) n i 0 s.0 (λ x y hx hy. low x y n) o.0,
+      occurs_low f (λ x y. f (x % 2 ^ n) (y % 2 ^ n)) n i 1 s.0 (λ x y hx hy. low x y n) o.1,
+    )
 
 pub returns-in-Add-clause-contains : goal.returns-in-Add-clause-contains
 unfolding alu
@@ -53,13 +82,7 @@ returns-in-Or-clause-contains c = λ x y hx hy.
 pub returns-in-Or-clause-sharp : goal.returns-in-Or-clause-sharp
 unfolding alu
 returns-in-Or-clause-sharp c = λ l i h.
-    let n = width_bits c.args.width in
-    let s = low_set c.or.result.mask n i (rw c.truncate.ensures.mask at h) in
-    let o = c.or.ensures.sharp i s.1 in
-    rw c.in-Or.is (
-      occurs_low bit_or (λ x y. bit_or (x % 2 ^ n) (y % 2 ^ n)) n i 0 s.0 (λ x y hx hy. or_mod x y n) o.0,
-      occurs_low bit_or (λ x y. bit_or (x % 2 ^ n) (y % 2 ^ n)) n i 1 s.0 (λ x y hx hy. or_mod x y n) o.1,
-    )
+    rw c.in-Or.is (bitwise_sharp c.args.a c.args.b c.args.width bit_or or_mod c.or.result.mask c.or.ensures.sharp i (rw c.truncate.ensures.mask at h))
 
 pub returns-in-And-clause-contains : goal.returns-in-And-clause-contains
 unfolding alu
@@ -69,13 +92,7 @@ returns-in-And-clause-contains c = λ x y hx hy.
 pub returns-in-And-clause-sharp : goal.returns-in-And-clause-sharp
 unfolding alu
 returns-in-And-clause-sharp c = λ l i h.
-    let n = width_bits c.args.width in
-    let s = low_set c.and.result.mask n i (rw c.truncate-in-And.ensures.mask at h) in
-    let o = c.and.ensures.sharp i s.1 in
-    rw c.in-And.is (
-      occurs_low bit_and (λ x y. bit_and (x % 2 ^ n) (y % 2 ^ n)) n i 0 s.0 (λ x y hx hy. and_mod x y n) o.0,
-      occurs_low bit_and (λ x y. bit_and (x % 2 ^ n) (y % 2 ^ n)) n i 1 s.0 (λ x y hx hy. and_mod x y n) o.1,
-    )
+    rw c.in-And.is (bitwise_sharp c.args.a c.args.b c.args.width bit_and and_mod c.and.result.mask c.and.ensures.sharp i (rw c.truncate-in-And.ensures.mask at h))
 
 pub returns-in-Xor-clause-contains : goal.returns-in-Xor-clause-contains
 unfolding alu
@@ -85,13 +102,7 @@ returns-in-Xor-clause-contains c = λ x y hx hy.
 pub returns-in-Xor-clause-sharp : goal.returns-in-Xor-clause-sharp
 unfolding alu
 returns-in-Xor-clause-sharp c = λ l i h.
-    let n = width_bits c.args.width in
-    let s = low_set c.xor.result.mask n i (rw c.truncate-in-Xor.ensures.mask at h) in
-    let o = c.xor.ensures.sharp i s.1 in
-    rw c.in-Xor.is (
-      occurs_low bit_xor (λ x y. bit_xor (x % 2 ^ n) (y % 2 ^ n)) n i 0 s.0 (λ x y hx hy. xor_mod x y n) o.0,
-      occurs_low bit_xor (λ x y. bit_xor (x % 2 ^ n) (y % 2 ^ n)) n i 1 s.0 (λ x y hx hy. xor_mod x y n) o.1,
-    )
+    rw c.in-Xor.is (bitwise_sharp c.args.a c.args.b c.args.width bit_xor xor_mod c.xor.result.mask c.xor.ensures.sharp i (rw c.truncate-in-Xor.ensures.mask at h))
 
 pub returns-in-Lsh-clause-contains : goal.returns-in-Lsh-clause-contains
 unfolding alu
@@ -116,64 +127,44 @@ returns-in-Div-clause-contains c = λ x y hx hy. (c.any.ensures _).1 (alu_below 
 pub returns-in-Add-clause-sharp : goal.returns-in-Add-clause-sharp
 unfolding alu
 returns-in-Add-clause-sharp c = λ precise i h.
-    let ka : Known c.args.a.value c.args.a.mask = record { value_in = omega arith; mask_in = omega arith; apart = c.args.a.apart } in
-    let kb : Known c.args.b.value c.args.b.mask = record { value_in = omega arith; mask_in = omega arith; apart = c.args.b.apart } in
-    let w = c.args.width in
-    let n = width_bits w in
+    let ka = known c.args.a (omega arith) (omega arith) in
+    let kb = known c.args.b (omega arith) (omega arith) in
     let o = rw (c.truncate-x.ensures.value, c.truncate-x.ensures.mask, c.truncate-y.ensures.value, c.truncate-y.ensures.mask) at (c.add_at.ensures.sharp i h) in
-    rw c.in-Add.is (
-      occurs_lifted ka kb (result_of Add w) n i 0 (width_most w) o.0,
-      occurs_lifted ka kb (result_of Add w) n i 1 (width_most w) o.1,
-    )
+    rw c.in-Add.is (lifted_sharp ka kb c.args.width (result_of Add c.args.width) i o)
 
 pub returns-in-Sub-clause-sharp : goal.returns-in-Sub-clause-sharp
 unfolding alu
 returns-in-Sub-clause-sharp c = λ precise i h.
-    let ka : Known c.args.a.value c.args.a.mask = record { value_in = omega arith; mask_in = omega arith; apart = c.args.a.apart } in
-    let kb : Known c.args.b.value c.args.b.mask = record { value_in = omega arith; mask_in = omega arith; apart = c.args.b.apart } in
-    let w = c.args.width in
-    let n = width_bits w in
+    let ka = known c.args.a (omega arith) (omega arith) in
+    let kb = known c.args.b (omega arith) (omega arith) in
     let o = rw (c.truncate-x.ensures.value, c.truncate-x.ensures.mask, c.truncate-y.ensures.value, c.truncate-y.ensures.mask) at (c.sub_at.ensures.sharp (λ y hy. (let b = c.truncate-y.ensures.fits y hy in omega arith)) i h) in
-    rw c.in-Sub.is (
-      occurs_lifted ka kb (result_of Sub w) n i 0 (width_most w) o.0,
-      occurs_lifted ka kb (result_of Sub w) n i 1 (width_most w) o.1,
-    )
+    rw c.in-Sub.is (lifted_sharp ka kb c.args.width (result_of Sub c.args.width) i o)
 
 pub returns-in-Lsh-clause-sharp : goal.returns-in-Lsh-clause-sharp
 unfolding alu
 returns-in-Lsh-clause-sharp c = λ precise i h.
-    let ka : Known c.args.a.value c.args.a.mask = record { value_in = omega arith; mask_in = omega arith; apart = c.args.a.apart } in
-    let kb : Known c.args.b.value c.args.b.mask = record { value_in = omega arith; mask_in = omega arith; apart = c.args.b.apart } in
-    let w = c.args.width in
-    let n = width_bits w in
+    let ka = known c.args.a (omega arith) (omega arith) in
+    let kb = known c.args.b (omega arith) (omega arith) in
     let zero : c.args.b.mask ≡ 0 = rw c.in-Lsh.is at precise in
-    let one : c.truncate-y.result.mask ≡ 0 = c.truncate-y.ensures.mask ∙ ap (λ m. m % 2 ^ n) zero ∙ zero_low n in
+    let one = low_constant c.truncate-y.result.mask c.args.b.mask (width_bits c.args.width) c.truncate-y.ensures.mask zero in
     let o = rw (c.truncate-x.ensures.value, c.truncate-x.ensures.mask, c.truncate-y.ensures.value, c.truncate-y.ensures.mask) at (c.shift_left_at.ensures.sharp one i h) in
-    rw c.in-Lsh.is (
-      occurs_lifted ka kb (result_of Lsh w) n i 0 (width_most w) o.0,
-      occurs_lifted ka kb (result_of Lsh w) n i 1 (width_most w) o.1,
-    )
+    rw c.in-Lsh.is (lifted_sharp ka kb c.args.width (result_of Lsh c.args.width) i o)
 
 pub returns-in-Rsh-clause-sharp : goal.returns-in-Rsh-clause-sharp
 unfolding alu
 returns-in-Rsh-clause-sharp c = λ precise i h.
-    let ka : Known c.args.a.value c.args.a.mask = record { value_in = omega arith; mask_in = omega arith; apart = c.args.a.apart } in
-    let kb : Known c.args.b.value c.args.b.mask = record { value_in = omega arith; mask_in = omega arith; apart = c.args.b.apart } in
-    let w = c.args.width in
-    let n = width_bits w in
+    let ka = known c.args.a (omega arith) (omega arith) in
+    let kb = known c.args.b (omega arith) (omega arith) in
     let zero : c.args.b.mask ≡ 0 = rw c.in-Rsh.is at precise in
-    let one : c.truncate-y.result.mask ≡ 0 = c.truncate-y.ensures.mask ∙ ap (λ m. m % 2 ^ n) zero ∙ zero_low n in
+    let one = low_constant c.truncate-y.result.mask c.args.b.mask (width_bits c.args.width) c.truncate-y.ensures.mask zero in
     let o = rw (c.truncate-x.ensures.value, c.truncate-x.ensures.mask, c.truncate-y.ensures.value, c.truncate-y.ensures.mask) at (c.shift_right_at.ensures.sharp one c.truncate-x.ensures.fits i h) in
-    rw c.in-Rsh.is (
-      occurs_lifted ka kb (result_of Rsh w) n i 0 (width_most w) o.0,
-      occurs_lifted ka kb (result_of Rsh w) n i 1 (width_most w) o.1,
-    )
+    rw c.in-Rsh.is (lifted_sharp ka kb c.args.width (result_of Rsh c.args.width) i o)
 
 pub returns-in-Mov-clause-sharp : goal.returns-in-Mov-clause-sharp
 unfolding alu
 returns-in-Mov-clause-sharp c = λ precise i h.
-    let ka : Known c.args.a.value c.args.a.mask = record { value_in = omega arith; mask_in = omega arith; apart = c.args.a.apart } in
-    let kb : Known c.args.b.value c.args.b.mask = record { value_in = omega arith; mask_in = omega arith; apart = c.args.b.apart } in
+    let ka = known c.args.a (omega arith) (omega arith) in
+    let kb = known c.args.b (omega arith) (omega arith) in
     let w = c.args.width in
     let n = width_bits w in
     let s = low_set c.args.b.mask n i (rw c.truncate-y.ensures.mask at h) in

@@ -3,7 +3,7 @@ use Rattle.std.proofs.lemmas.Nat.{or_disjoint}
 use Rattle.std.proofs.lemmas.Bool.{cases_lt}
 use Rattle.known_bits.specs.declared.bits.Bits.{Bits}
 use Rattle.known_bits.specs.Bits.{SomePair}
-use Rattle.known_bits.proofs.Members.{Known}
+use Rattle.known_bits.proofs.Members.{known, Known}
 use Rattle.known_bits.proofs.Sharp.{least_member, most_member}
 use Rattle.known_bits.proofs.bits.Bits.apart.Goals.{else-self-eq0-via-then-self-eq0+then-other-eq0+else-self-other, else-self-eq0-via-then-self-eq0+else-other-eq0, else-self-eq0-via-else-self-eq0}
 use Rattle.known_bits.proofs.bits.Bits.apart.Goals as goal
@@ -28,8 +28,8 @@ some_right a b ka kb some =
 
 pub returns-else-self-eq0-clause-found : goal.returns-else-self-eq0-clause-found
 returns-else-self-eq0-clause-found c =
-    let ka : Known c.args.self.value c.args.self.mask = record { value_in = omega arith; mask_in = omega arith; apart = c.args.self.apart } in
-    let kb : Known c.args.other.value c.args.other.mask = record { value_in = omega arith; mask_in = omega arith; apart = c.args.other.apart } in
+    let ka = known c.args.self (omega arith) (omega arith) in
+    let kb = known c.args.other (omega arith) (omega arith) in
     elim c.else-self-eq0.branch [
       | else-self-eq0-via-then-self-eq0+then-other-eq0+else-self-other w ↦
           record { x = c.args.self.value; y = c.args.other.value; first = least_member ka; second = least_member kb; is = w.if-self-other.false }

@@ -1,15 +1,15 @@
 use Rattle.std.proofs.Common.{arith}
-use Rattle.known_bits.proofs.Members.{Known}
+use Rattle.known_bits.proofs.Members.{known}
 use Rattle.known_bits.proofs.Order.{member_most}
 use Rattle.known_bits.proofs.Sharp.{most_member}
 use Rattle.known_bits.proofs.bits.Bits.greatest.Goals as goal
 
 pub returns-clause-member : goal.returns-clause-member
 returns-clause-member c =
-    let k : Known c.args.self.value c.args.self.mask = record { value_in = omega arith; mask_in = omega arith; apart = c.args.self.apart } in
+    let k = known c.args.self (omega arith) (omega arith) in
     rw c.least.ensures.value (most_member k)
 
 pub returns-clause-bound : goal.returns-clause-bound
 returns-clause-bound c = λ x hx.
-    let k : Known c.args.self.value c.args.self.mask = record { value_in = omega arith; mask_in = omega arith; apart = c.args.self.apart } in
+    let k = known c.args.self (omega arith) (omega arith) in
     rw c.least.ensures.value (member_most k hx)

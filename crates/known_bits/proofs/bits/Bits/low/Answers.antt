@@ -1,20 +1,20 @@
 use Rattle.std.proofs.Common.{arith, ◌≡◌, ◌-◌, ◌^◌}
 use Rattle.std.proofs.lemmas.Nat.{and_mask}
-use Rattle.known_bits.proofs.Members.{Known}
+use Rattle.known_bits.proofs.Members.{known}
 use Rattle.known_bits.proofs.Parts.{low_known, low_contains}
 use Rattle.known_bits.proofs.Order.{low_fits}
 use Rattle.known_bits.proofs.bits.Bits.low.Goals as goal
 
 pub invariant_of-result : goal.invariant_of-result
 invariant_of-result c =
-    let ka : Known c.args.self.value c.args.self.mask = record { value_in = omega arith; mask_in = omega arith; apart = c.args.self.apart } in
+    let ka = known c.args.self (omega arith) (omega arith) in
     let k = c.args.count in
     let e : c.ones-ones.result ≡ 2 ^ k - 1 = omega arith in
     record { apart = rw (e, and_mask c.args.self.value k, and_mask c.args.self.mask k) (low_known ka k).apart }
 
 pub returns-clause-contains : goal.returns-clause-contains
 returns-clause-contains c =
-    let ka : Known c.args.self.value c.args.self.mask = record { value_in = omega arith; mask_in = omega arith; apart = c.args.self.apart } in
+    let ka = known c.args.self (omega arith) (omega arith) in
     let k = c.args.count in
     let e : c.ones-ones.result ≡ 2 ^ k - 1 = omega arith in
     λ x hx. rw (e, and_mask c.args.self.value k, and_mask c.args.self.mask k) (low_contains ka k x hx)
@@ -33,7 +33,7 @@ returns-clause-mask c =
 
 pub returns-clause-fits : goal.returns-clause-fits
 returns-clause-fits c =
-    let ka : Known c.args.self.value c.args.self.mask = record { value_in = omega arith; mask_in = omega arith; apart = c.args.self.apart } in
+    let ka = known c.args.self (omega arith) (omega arith) in
     let k = c.args.count in
     let e : c.ones-ones.result ≡ 2 ^ k - 1 = omega arith in
     λ x hx. low_fits ka k (rw (e, and_mask c.args.self.value k, and_mask c.args.self.mask k) at hx)

@@ -1,12 +1,12 @@
 use Rattle.std.proofs.Common.{arith}
-use Rattle.known_bits.proofs.Members.{Known}
+use Rattle.known_bits.proofs.Members.{known}
 use Rattle.known_bits.proofs.Sharp.{least_member}
 use Rattle.known_bits.proofs.bits.Bits.mul.Goals as goal
 
 pub returns-clause-product : goal.returns-clause-product
 returns-clause-product c =
-    let ka : Known c.args.self.value c.args.self.mask = record { value_in = omega arith; mask_in = omega arith; apart = c.args.self.apart } in
-    let kb : Known c.args.other.value c.args.other.mask = record { value_in = omega arith; mask_in = omega arith; apart = c.args.other.apart } in
+    let ka = known c.args.self (omega arith) (omega arith) in
+    let kb = known c.args.other (omega arith) (omega arith) in
     let x = least_member ka in
     let y = least_member kb in
     let term = c.sum_of_terms.ensures _ _ x y in

@@ -1,7 +1,7 @@
 use Rattle.std.proofs.Common.{arith, ◌*◌, ◌+◌}
 use Rattle.isa_model.specs.Code.Sizes.{width_bits}
 use Rattle.isa_model.specs.Code.NumberLemmas.{low_wrapped}
-use Rattle.known_bits.proofs.Members.{Known}
+use Rattle.known_bits.proofs.Members.{known}
 use Rattle.known_bits.proofs.Sharp.{most_member}
 use Rattle.known_bits.proofs.Frame.{low-multiple, low-limit}
 use Rattle.known_bits.proofs.bits.Bits.mul_at.Goals as goal
@@ -11,7 +11,7 @@ returns-clause-contains c = λ x y hx hy. rw (low_wrapped c.args.width (x * y)) 
 
 pub returns-clause-product : goal.returns-clause-product
 returns-clause-product c =
-    let k : Known c.mul.result.value c.mul.result.mask = record { value_in = omega arith; mask_in = omega arith; apart = c.mul.result.apart } in
+    let k = known c.mul.result (omega arith) (omega arith) in
     let w = width_bits c.args.width in
     let product = c.mul.ensures.product in
     record {

@@ -2,15 +2,15 @@ use Rattle.std.proofs.Common.{◌≡◌, ◌^◌, arith, w64, sym, ap, ◌∙◌
 use Rattle.std.specs.Int.{trailing_zeros}
 use Rattle.std.proofs.lemmas.Nat.{and_le_l, and_le_r, or_lt, one_shl}
 use Rattle.std.proofs.lemmas.Nat.Bits.{bit_at-trailing_zeros}
-use Rattle.known_bits.proofs.Members.{Known}
+use Rattle.known_bits.proofs.Members.{known}
 use Rattle.known_bits.proofs.Overlaps.{and_shared, shared_bit, same_place, one_place}
 use Rattle.known_bits.proofs.Sharp.{most_member}
 use Rattle.known_bits.proofs.bits.Bits.overlapping.Goals as goal
 
 pub returns-then-shared-eq0-clause-common : goal.returns-then-shared-eq0-clause-common
 returns-then-shared-eq0-clause-common c = λ x y hx hy some.
-    let ka : Known c.args.self.value c.args.self.mask = record { value_in = omega arith; mask_in = omega arith; apart = c.args.self.apart } in
-    let kb : Known c.args.other.value c.args.other.mask = record { value_in = omega arith; mask_in = omega arith; apart = c.args.other.apart } in
+    let ka = known c.args.self (omega arith) (omega arith) in
+    let kb = known c.args.other (omega arith) (omega arith) in
     let e = and_shared ka kb hx hy in
     let shared = bit_and (bit_or c.args.self.value c.args.self.mask) (bit_or c.args.other.value c.args.other.mask) in
     let le = and_le_r (bit_and x y) shared in
@@ -25,8 +25,8 @@ overflow_shl-lowest c =
 
 pub returns-in_err-left-clause-common : goal.returns-in_err-left-clause-common
 returns-in_err-left-clause-common c = λ x y hx hy some.
-    let ka : Known c.args.self.value c.args.self.mask = record { value_in = omega arith; mask_in = omega arith; apart = c.args.self.apart } in
-    let kb : Known c.args.other.value c.args.other.mask = record { value_in = omega arith; mask_in = omega arith; apart = c.args.other.apart } in
+    let ka = known c.args.self (omega arith) (omega arith) in
+    let kb = known c.args.other (omega arith) (omega arith) in
     let shared = bit_and (bit_or c.args.self.value c.args.self.mask) (bit_or c.args.other.value c.args.other.mask) in
     let place = trailing_zeros w64 shared in
     let le = and_le_l (bit_or c.args.self.value c.args.self.mask) (bit_or c.args.other.value c.args.other.mask) in
@@ -38,8 +38,8 @@ returns-in_err-left-clause-common c = λ x y hx hy some.
 
 pub returns-in_err-right-clause-common : goal.returns-in_err-right-clause-common
 returns-in_err-right-clause-common c = λ x y hx hy some.
-    let ka : Known c.args.self.value c.args.self.mask = record { value_in = omega arith; mask_in = omega arith; apart = c.args.self.apart } in
-    let kb : Known c.args.other.value c.args.other.mask = record { value_in = omega arith; mask_in = omega arith; apart = c.args.other.apart } in
+    let ka = known c.args.self (omega arith) (omega arith) in
+    let kb = known c.args.other (omega arith) (omega arith) in
     let shared = bit_and (bit_or c.args.self.value c.args.self.mask) (bit_or c.args.other.value c.args.other.mask) in
     let place = trailing_zeros w64 shared in
     let le = and_le_l (bit_or c.args.self.value c.args.self.mask) (bit_or c.args.other.value c.args.other.mask) in
@@ -51,8 +51,8 @@ returns-in_err-right-clause-common c = λ x y hx hy some.
 
 pub returns-clause-common : goal.returns-clause-common
 returns-clause-common c = λ x y hx hy some.
-    let ka : Known c.args.self.value c.args.self.mask = record { value_in = omega arith; mask_in = omega arith; apart = c.args.self.apart } in
-    let kb : Known c.args.other.value c.args.other.mask = record { value_in = omega arith; mask_in = omega arith; apart = c.args.other.apart } in
+    let ka = known c.args.self (omega arith) (omega arith) in
+    let kb = known c.args.other (omega arith) (omega arith) in
     let shared = bit_and (bit_or c.args.self.value c.args.self.mask) (bit_or c.args.other.value c.args.other.mask) in
     let place = trailing_zeros w64 shared in
     let le = and_le_l (bit_or c.args.self.value c.args.self.mask) (bit_or c.args.other.value c.args.other.mask) in
@@ -66,8 +66,8 @@ returns-clause-common c = λ x y hx hy some.
 
 pub returns-clause-found : goal.returns-clause-found
 returns-clause-found c =
-    let ka : Known c.args.self.value c.args.self.mask = record { value_in = omega arith; mask_in = omega arith; apart = c.args.self.apart } in
-    let kb : Known c.args.other.value c.args.other.mask = record { value_in = omega arith; mask_in = omega arith; apart = c.args.other.apart } in
+    let ka = known c.args.self (omega arith) (omega arith) in
+    let kb = known c.args.other (omega arith) (omega arith) in
     record {
       x = bit_or c.args.self.value c.args.self.mask;
       y = bit_or c.args.other.value c.args.other.mask;
@@ -78,7 +78,7 @@ returns-clause-found c =
 
 pub returns-clause-left_only : goal.returns-clause-left_only
 returns-clause-left_only c = λ x i alone h.
-    let ka : Known c.args.self.value c.args.self.mask = record { value_in = omega arith; mask_in = omega arith; apart = c.args.self.apart } in
+    let ka = known c.args.self (omega arith) (omega arith) in
     let shared = bit_and (bit_or c.args.self.value c.args.self.mask) (bit_or c.args.other.value c.args.other.mask) in
     let place = trailing_zeros w64 shared in
     let le = and_le_l (bit_or c.args.self.value c.args.self.mask) (bit_or c.args.other.value c.args.other.mask) in
@@ -89,7 +89,7 @@ returns-clause-left_only c = λ x i alone h.
 
 pub returns-clause-right_only : goal.returns-clause-right_only
 returns-clause-right_only c = λ y i alone h.
-    let ka : Known c.args.self.value c.args.self.mask = record { value_in = omega arith; mask_in = omega arith; apart = c.args.self.apart } in
+    let ka = known c.args.self (omega arith) (omega arith) in
     let shared = bit_and (bit_or c.args.self.value c.args.self.mask) (bit_or c.args.other.value c.args.other.mask) in
     let place = trailing_zeros w64 shared in
     let le = and_le_l (bit_or c.args.self.value c.args.self.mask) (bit_or c.args.other.value c.args.other.mask) in
@@ -100,8 +100,8 @@ returns-clause-right_only c = λ y i alone h.
 
 pub returns-then-shared-lowest-clause-found : goal.returns-then-shared-lowest-clause-found
 returns-then-shared-lowest-clause-found c =
-    let ka : Known c.args.self.value c.args.self.mask = record { value_in = omega arith; mask_in = omega arith; apart = c.args.self.apart } in
-    let kb : Known c.args.other.value c.args.other.mask = record { value_in = omega arith; mask_in = omega arith; apart = c.args.other.apart } in
+    let ka = known c.args.self (omega arith) (omega arith) in
+    let kb = known c.args.other (omega arith) (omega arith) in
     record {
       x = bit_or c.args.self.value c.args.self.mask;
       y = bit_or c.args.other.value c.args.other.mask;
@@ -112,7 +112,7 @@ returns-then-shared-lowest-clause-found c =
 
 pub returns-then-shared-lowest-clause-left_only : goal.returns-then-shared-lowest-clause-left_only
 returns-then-shared-lowest-clause-left_only c = λ x i alone h.
-    let ka : Known c.args.self.value c.args.self.mask = record { value_in = omega arith; mask_in = omega arith; apart = c.args.self.apart } in
+    let ka = known c.args.self (omega arith) (omega arith) in
     let shared = bit_and (bit_or c.args.self.value c.args.self.mask) (bit_or c.args.other.value c.args.other.mask) in
     let le = and_le_l (bit_or c.args.self.value c.args.self.mask) (bit_or c.args.other.value c.args.other.mask) in
     let o = or_lt 64 c.args.self.value c.args.self.mask ka.value_in ka.mask_in in
@@ -120,7 +120,7 @@ returns-then-shared-lowest-clause-left_only c = λ x i alone h.
 
 pub returns-then-shared-lowest-clause-right_only : goal.returns-then-shared-lowest-clause-right_only
 returns-then-shared-lowest-clause-right_only c = λ y i alone h.
-    let ka : Known c.args.self.value c.args.self.mask = record { value_in = omega arith; mask_in = omega arith; apart = c.args.self.apart } in
+    let ka = known c.args.self (omega arith) (omega arith) in
     let shared = bit_and (bit_or c.args.self.value c.args.self.mask) (bit_or c.args.other.value c.args.other.mask) in
     let le = and_le_l (bit_or c.args.self.value c.args.self.mask) (bit_or c.args.other.value c.args.other.mask) in
     let o = or_lt 64 c.args.self.value c.args.self.mask ka.value_in ka.mask_in in

@@ -1,14 +1,14 @@
 use Rattle.std.proofs.Common.{arith}
-use Rattle.known_bits.proofs.Members.{Known}
+use Rattle.known_bits.proofs.Members.{known}
 use Rattle.known_bits.proofs.Shift.{left_known, left_contains}
 use Rattle.known_bits.proofs.bits.Bits.shift_left.Goals as goal
 
 pub invariant_of-result : goal.invariant_of-result
 invariant_of-result c =
-    let k : Known c.args.self.value c.args.self.mask = record { value_in = omega arith; mask_in = omega arith; apart = c.args.self.apart } in
+    let k = known c.args.self (omega arith) (omega arith) in
     record { apart = (left_known k c.args.by).apart }
 
 pub returns-clause-contains : goal.returns-clause-contains
 returns-clause-contains c =
-    let k : Known c.args.self.value c.args.self.mask = record { value_in = omega arith; mask_in = omega arith; apart = c.args.self.apart } in
+    let k = known c.args.self (omega arith) (omega arith) in
     left_contains k c.args.by

@@ -5,7 +5,7 @@ use Rattle.isa_model.specs.Code.NumberLemmas.{low_same}
 use Rattle.known_bits.proofs.Widths.{only_member}
 use Rattle.isa_model.specs.declared.instructions.AluOp.TheVariants.{Rsh}
 use Rattle.isa_model.specs.Code.Sizes.{width_bits}
-use Rattle.known_bits.proofs.Members.{Known}
+use Rattle.known_bits.proofs.Members.{known}
 use Rattle.known_bits.proofs.Sharp.{low_set, occurs_low}
 use Rattle.known_bits.proofs.Precise.{right_sharp}
 use Rattle.known_bits.specs.Member.{IsMember}
@@ -25,12 +25,12 @@ returns-clause-contains c = λ x y x_in hx hy.
     rw e (rw (low_same w (x / 2 ^ k) (omega arith)) at (c.truncate.ensures.contains _ (c.shift_right.ensures.contains x hx)))
 
 pub returns-then-other-ne0-clause-sharp : goal.returns-then-other-ne0-clause-sharp
-returns-then-other-ne0-clause-sharp c = λ known small. absurd (c.if-other-ne0.true known)
+returns-then-other-ne0-clause-sharp c = λ one small. absurd (c.if-other-ne0.true one)
 
 pub returns-clause-sharp : goal.returns-clause-sharp
-returns-clause-sharp c = λ known small i h.
-    let ka : Known c.args.self.value c.args.self.mask = record { value_in = omega arith; mask_in = omega arith; apart = c.args.self.apart } in
-    let kb : Known c.args.other.value c.args.other.mask = record { value_in = omega arith; mask_in = omega arith; apart = c.args.other.apart } in
+returns-clause-sharp c = λ one small i h.
+    let ka = known c.args.self (omega arith) (omega arith) in
+    let kb = known c.args.other (omega arith) (omega arith) in
     let w = c.args.width in
     let k = c.distance.result in
     let s = low_set c.shift_right.result.mask (width_bits w) i (rw c.truncate.ensures.mask at h) in

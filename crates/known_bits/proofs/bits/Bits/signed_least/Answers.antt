@@ -1,13 +1,13 @@
 use Rattle.std.proofs.Common.{◌+◌, ◌^◌, arith, w64}
 use Rattle.std.proofs.lemmas.Int.{of_z-to_z}
-use Rattle.known_bits.proofs.Members.{Known}
+use Rattle.known_bits.proofs.Members.{known}
 use Rattle.known_bits.proofs.Sharp.{least_member}
 use Rattle.known_bits.proofs.Signs.{sign_unknown, other_sign, signed_least_unknown, signed_least_known}
 use Rattle.known_bits.proofs.bits.Bits.signed_least.Goals as goal
 
 pub returns-then-self-ge-SIGN-clause-member : goal.returns-then-self-ge-SIGN-clause-member
 returns-then-self-ge-SIGN-clause-member c =
-    let k : Known c.args.self.value c.args.self.mask = record { value_in = omega arith; mask_in = omega arith; apart = c.args.self.apart } in
+    let k = known c.args.self (omega arith) (omega arith) in
     let v_in = sign_unknown k c.if-self-ge-SIGN.true in
     let same = of_z-to_z w64 (c.args.self.value + 2 ^ 63) (omega arith) in
     simp (c.cast_signed.ensures, c.least.ensures.value, same)
@@ -15,19 +15,19 @@ returns-then-self-ge-SIGN-clause-member c =
 
 pub returns-then-self-ge-SIGN-clause-bound : goal.returns-then-self-ge-SIGN-clause-bound
 returns-then-self-ge-SIGN-clause-bound c = λ x hx.
-    let k : Known c.args.self.value c.args.self.mask = record { value_in = omega arith; mask_in = omega arith; apart = c.args.self.apart } in
+    let k = known c.args.self (omega arith) (omega arith) in
     let v_in = sign_unknown k c.if-self-ge-SIGN.true in
     let same = of_z-to_z w64 (c.args.self.value + 2 ^ 63) (omega arith) in
     simp (c.cast_signed.ensures, c.least.ensures.value, same) (signed_least_unknown k c.if-self-ge-SIGN.true hx)
 
 pub returns-else-self-ge-SIGN-clause-member : goal.returns-else-self-ge-SIGN-clause-member
 returns-else-self-ge-SIGN-clause-member c =
-    let k : Known c.args.self.value c.args.self.mask = record { value_in = omega arith; mask_in = omega arith; apart = c.args.self.apart } in
+    let k = known c.args.self (omega arith) (omega arith) in
     let same = of_z-to_z w64 c.args.self.value (omega arith) in
     simp (c.cast_signed-else-self-ge-SIGN.ensures, c.least-else-self-ge-SIGN.ensures.value, same) (least_member k)
 
 pub returns-else-self-ge-SIGN-clause-bound : goal.returns-else-self-ge-SIGN-clause-bound
 returns-else-self-ge-SIGN-clause-bound c = λ x hx.
-    let k : Known c.args.self.value c.args.self.mask = record { value_in = omega arith; mask_in = omega arith; apart = c.args.self.apart } in
+    let k = known c.args.self (omega arith) (omega arith) in
     let same = of_z-to_z w64 c.args.self.value (omega arith) in
     simp (c.cast_signed-else-self-ge-SIGN.ensures, c.least-else-self-ge-SIGN.ensures.value, same) (signed_least_known k c.if-self-ge-SIGN.false hx)
