@@ -131,12 +131,16 @@ impl Model for Kept {
 }
 
 impl Kept {
-    /// Keeps a state.
-    pub fn of(alloc: Global, state: &State) -> Result<Self, AllocError>
+    /// Keeps a state, with its innermost frame.
+    fn with_innermost(
+        alloc: Global,
+        state: &State,
+        innermost: KeptFrame,
+    ) -> Result<Self, AllocError>
+        requires { innermost ≡ state.now.innermost }
         ensures { IfOk result (λ kept. kept ≡ state.now) }
     {
         let callers = keep_all(alloc, state.callers.as_slice())?;
-        let innermost = KeptFrame::of(alloc, &state.innermost)?;
         Ok(Kept {
             slot: state.slot,
             callers,
@@ -144,19 +148,22 @@ impl Kept {
         })
     }
 
+    /// Keeps a state.
+    pub fn of(alloc: Global, state: &State) -> Result<Self, AllocError>
+        ensures { IfOk result (λ kept. kept ≡ state.now) }
+    {
+        let innermost = KeptFrame::of(alloc, &state.innermost)?;
+        Kept::with_innermost(alloc, state, innermost)
+    }
+
     /// Keeps a state, of whose innermost frame these are the parts.
     pub fn of_parts(alloc: Global, state: &State, parts: &[Part]) -> Result<Self, AllocError>
         requires { AreParts parts.now state.now.innermost }
         ensures { IfOk result (λ kept. kept ≡ state.now) }
     {
-        let callers = keep_all(alloc, state.callers.as_slice())?;
         let parts = Vec::from_slice(alloc, parts)?;
         let innermost = KeptFrame::with_parts(&state.innermost, parts);
-        Ok(Kept {
-            slot: state.slot,
-            callers,
-            innermost,
-        })
+        Kept::with_innermost(alloc, state, innermost)
     }
 
     /// A quick test whether the state may be one that this one covers: a no says that it is not.
