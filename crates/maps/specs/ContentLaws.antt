@@ -102,6 +102,11 @@ content-written size n P block k v p long whole inside here apart =
     content-put size n P P block k v p long whole inside here (λ q t. refl)
     (λ q t e. let h = ap (λ (x : List ℕ). is_key x k) (apart q e) ∙ is_key-itself k in cc)
 
+-- a key has the place that it takes
+pub get-taken : (P P' : Places) (k : List ℕ) (p : ℕ) → TakesPlace P k p P' → get P' k ≡ Some p
+get-taken P P' k p t =
+    ap (λ (m : Places). get m k) t.added ∙ get-insert nat_list_cmp_total P k p k ∙ ap (λ (b : Bool). cond b (Some p) (get P k)) (is_key-itself k)
+
 -- a new key's value is written at the place that it takes
 pub content-added : (size n : ℕ) (P P' : Places) (block k v : List ℕ) (p : ℕ) → length v ≡ size → length block ≡ n * size → p < n → TakesPlace P k p P'
     → content size P' (with_row size block p v) ≡ with_key k v (content size P block)

@@ -13,3 +13,6 @@ pub mod Chains
 pub mod ChainLaws
 pub mod Hashing
 pub mod ChainIndexes
+pub mod UpdateLaws
+pub mod Commands
+pub mod CommandLaws

@@ -7,7 +7,9 @@
 pub mod arrays;
 pub mod chained;
 mod chains;
+pub mod commands;
 mod hashing;
+mod helpers;
 pub mod index;
 mod keys;
 pub mod scan;
@@ -15,6 +17,8 @@ pub mod store;
 
 pub use arrays::ArrayIndex;
 pub use chained::ChainIndex;
+pub use commands::{Command, Reply, replies};
+pub use helpers::{delete, lookup, update};
 pub use index::Index;
 pub use scan::ScanIndex;
 pub use store::{ArrayMap, HashMapChain, HashMapScan, MapStore, Store};

@@ -19,7 +19,7 @@ use std::alloc::{AllocError, Global};
 /// The entries of a map by its row. Each key has a place, which it keeps until it is removed, and
 /// the value of the key is the row of the block at its place.
 pub trait MapStore {
-    ghost row: { Self → MapDef };
+    ghost row_of: { Self → MapDef };
 
     ghost places: { Self → Places };
 
@@ -27,60 +27,60 @@ pub trait MapStore {
 
     /// The map's row.
     fn row(&self) -> MapDef
-        ensures { result ≡ row self.now };
+        ensures { result ≡ row_of self.now };
 
     /// The place of a key.
     fn find(&self, key: &[u8]) -> Option<usize>
-        requires { length key.now ≡ (row self.now).key_size }
+        requires { length key.now ≡ (row_of self.now).key_size }
         ensures { result ≡ map.get (places self.now) key.now };
 
     /// Writes a key's value, and answers its place: a present key keeps its own, and a new one is
     /// given a free one. There is none where the key is new and the map is full, as an array always
     /// is.
     fn put(&mut self, key: &[u8], value: &[u8]) -> Option<usize>
-        requires key_size { length key.now ≡ (row self.old).key_size }
-        requires value_size { length value.now ≡ (row self.old).value_size }
+        requires key_size { length key.now ≡ (row_of self.old).key_size }
+        requires value_size { length value.now ≡ (row_of self.old).value_size }
         ensures present { (p : ℕ) → map.get (places self.old) key.now ≡ Some p
             → (result ≡ Some p) × (places self.new ≡ places self.old) }
         ensures full { map.get (places self.old) key.now ≡ None
-            → map.len (places self.old) ≡ (row self.old).entries
+            → map.len (places self.old) ≡ (row_of self.old).entries
             → (result ≡ None) × (places self.new ≡ places self.old)
             × (block self.new ≡ block self.old) }
         ensures added { map.get (places self.old) key.now ≡ None
-            → map.len (places self.old) < (row self.old).entries
+            → map.len (places self.old) < (row_of self.old).entries
             → IsSome result × IfSome result (λ p. TakesPlace (places self.old) key.now p
             (places self.new)) }
         ensures written { IfSome result (λ p. block self.new
-            ≡ with_row (row self.old).value_size (block self.old) p value.now) }
-        ensures row { row self.new ≡ row self.old };
+            ≡ with_row (row_of self.old).value_size (block self.old) p value.now) }
+        ensures row { row_of self.new ≡ row_of self.old };
 
     /// Removes a key, and answers the place that it had. Nothing is removed from an array.
     fn remove(&mut self, key: &[u8]) -> Option<usize>
-        requires { length key.now ≡ (row self.old).key_size }
-        ensures hash { (row self.old).kind ≡ Hash
+        requires { length key.now ≡ (row_of self.old).key_size }
+        ensures hash { (row_of self.old).kind ≡ Hash
             → (result ≡ map.get (places self.old) key.now)
             × (places self.new ≡ map.remove (places self.old) key.now) }
-        ensures array { (row self.old).kind ≡ Array
+        ensures array { (row_of self.old).kind ≡ Array
             → (result ≡ None) × (places self.new ≡ places self.old) }
         ensures block { block self.new ≡ block self.old }
-        ensures row { row self.new ≡ row self.old };
+        ensures row { row_of self.new ≡ row_of self.old };
 
     /// The value at a place.
     fn value(&self, place: usize) -> &[u8]
-        requires { place < (row self.now).entries }
-        ensures { result.now ≡ row_at (row self.now).value_size (block self.now) place };
+        requires { place < (row_of self.now).entries }
+        ensures { result.now ≡ row_at (row_of self.now).value_size (block self.now) place };
 
     // Each place is below `entries`, no two keys have one place, there are no more keys than
     // `entries`, and the block has a value for each place.
     ghost in_range: { (s : Self) (k : List ℕ) (p : ℕ) → map.get (places s) k ≡ Some p
-        → p < (row s).entries };
+        → p < (row_of s).entries };
 
     ghost apart: { (s : Self) (j k : List ℕ) (p : ℕ) → map.get (places s) j ≡ Some p
         → map.get (places s) k ≡ Some p → j ≡ k };
 
-    ghost few: { (s : Self) → map.len (places s) ≤ (row s).entries };
+    ghost few: { (s : Self) → map.len (places s) ≤ (row_of s).entries };
 
-    ghost whole: { (s : Self) → length (block s) ≡ (row s).entries * (row s).value_size };
+    ghost whole: { (s : Self) → length (block s) ≡ (row_of s).entries * (row_of s).value_size };
 }
 
 /// The entries of a map over an index of its keys.
@@ -115,7 +115,7 @@ impl<I: Index> Store<I> {
 impl<I: Index> MapStore for Store<I> {
     ghost use Rattle.maps.specs.RowLaws.{below-same, at_most-same};
 
-    ghost row = { λ s. s.row };
+    ghost row_of = { λ s. s.row };
 
     ghost places = { λ s. I.places s.index };
 
@@ -165,7 +165,7 @@ impl Store<ArrayIndex> {
 
     /// An array with all its indexes, and values that are zero-filled.
     pub fn new(alloc: Global, value_size: u32, entries: u32) -> Result<Self, AllocError>
-        ensures row { IfOk result (λ s. ⟦<Store<ArrayIndex> as MapStore>⟧.row s
+        ensures row { IfOk result (λ s. ⟦<Store<ArrayIndex> as MapStore>⟧.row_of s
             ≡ record { kind = Array; key_size = 4; value_size = value_size; entries = entries }) }
         ensures places { IfOk result (λ s. ⟦<Store<ArrayIndex> as MapStore>⟧.places s
             ≡ array_places entries) }
@@ -193,7 +193,7 @@ impl Store<ScanIndex> {
         value_size: u32,
         entries: u32,
     ) -> Result<Self, AllocError>
-        ensures row { IfOk result (λ s. ⟦<Store<ScanIndex> as MapStore>⟧.row s
+        ensures row { IfOk result (λ s. ⟦<Store<ScanIndex> as MapStore>⟧.row_of s
             ≡ record {
               kind = Hash;
               key_size = key_size;
@@ -224,7 +224,7 @@ impl Store<ChainIndex> {
         value_size: u32,
         entries: u32,
     ) -> Result<Self, AllocError>
-        ensures row { IfOk result (λ s. ⟦<Store<ChainIndex> as MapStore>⟧.row s
+        ensures row { IfOk result (λ s. ⟦<Store<ChainIndex> as MapStore>⟧.row_of s
             ≡ record {
               kind = Hash;
               key_size = key_size;

@@ -1,0 +1,4 @@
+//! A module for each subject that is tested.
+
+mod answers;
+mod stores;

@@ -1,0 +1,34 @@
+//! Commands on any store, and the numbers that they answer.
+
+use maps::{MapStore, delete, lookup, update};
+
+pub const ENOENT: u64 = 0xffff_ffff_ffff_fffe;
+
+pub const E2BIG: u64 = 0xffff_ffff_ffff_fff9;
+
+pub const EEXIST: u64 = 0xffff_ffff_ffff_ffef;
+
+pub const EINVAL: u64 = 0xffff_ffff_ffff_ffea;
+
+/// No command answers this: a key or a value has not the map's size.
+pub const WRONG_SIZE: u64 = 1;
+
+/// The answer to an update with these flags, or without any to a delete.
+pub fn answer<S: MapStore>(store: &mut S, key: &[u8], value: &[u8], flags: Option<u64>) -> u64 {
+    let row = store.row();
+    if key.len() != usize::from(row.key_size) || value.len() != row.value_size as usize {
+        return WRONG_SIZE;
+    }
+    match flags {
+        Some(flags) => update(store, key, value, flags),
+        None => delete(store, key),
+    }
+}
+
+/// The value of a key of the map's size, if it has one.
+pub fn value_of<'a, S: MapStore>(store: &'a S, key: &[u8]) -> Option<&'a [u8]> {
+    if key.len() != usize::from(store.row().key_size) {
+        return None;
+    }
+    lookup(store, key)
+}

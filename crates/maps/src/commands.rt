@@ -1,0 +1,88 @@
+//! Lists of commands on a map.
+
+ghost use Rattle.std.specs.Prelude.{◌≡◌, ℕ, ◌≤◌, length, map, vec_capacity, IfOk, OnOk, All};
+ghost use Rattle.maps.specs.Contents.{content};
+ghost use Rattle.maps.specs.Commands.{said, reply_to, content_after, replies_of, left_by, Fits};
+
+use crate::helpers::{delete, lookup, update};
+use crate::store::MapStore;
+use std::alloc::{AllocError, Global};
+
+/// A command on a map.
+pub enum Command<'a> {
+    Lookup {
+        key: &'a [u8],
+    },
+    Update {
+        key: &'a [u8],
+        value: &'a [u8],
+        flags: u64,
+    },
+    Delete {
+        key: &'a [u8],
+    },
+}
+
+/// What a command is answered: a look-up by the value of the key, if it has one, and the others by
+/// 0 or an error.
+#[derive(Drop)]
+pub enum Reply {
+    Value(Vec<u8>),
+    Absent,
+    Number(u64),
+}
+
+/// The reply to one command.
+pub fn apply<S: MapStore>(
+    alloc: Global,
+    store: &mut S,
+    command: &Command<'_>,
+) -> Result<Reply, AllocError>
+    requires { Fits (S.row_of store.old) command.now }
+    ensures answer { IfOk result (λ r. said r ≡ reply_to (S.row_of store.old)
+        (content (S.row_of store.old).value_size (S.places store.old) (S.block store.old))
+        command.now) }
+    ensures content { OnOk result
+        (content (S.row_of store.old).value_size (S.places store.new) (S.block store.new)
+        ≡ content_after (S.row_of store.old)
+        (content (S.row_of store.old).value_size (S.places store.old) (S.block store.old))
+        command.now) }
+    ensures row { S.row_of store.new ≡ S.row_of store.old }
+{
+    match command {
+        Command::Lookup { key } => match lookup(store, key) {
+            Some(value) => Ok(Reply::Value(value.to_vec(alloc)?)),
+            None => Ok(Reply::Absent),
+        },
+        Command::Update { key, value, flags } => {
+            Ok(Reply::Number(update(store, key, value, *flags)))
+        }
+        Command::Delete { key } => Ok(Reply::Number(delete(store, key))),
+    }
+}
+
+/// The replies to a list of commands: those of a finite map with at most as many keys as the map
+/// has entries. Memory is taken for the replies alone.
+pub fn replies<S: MapStore>(
+    alloc: Global,
+    store: &mut S,
+    commands: &[Command<'_>],
+) -> Result<Vec<Reply>, AllocError>
+    requires { All (Fits (S.row_of store.old)) commands.now }
+    ensures replies { IfOk result (λ rs. map said rs.items ≡ replies_of (S.row_of store.old)
+        (content (S.row_of store.old).value_size (S.places store.old) (S.block store.old))
+        commands.now) }
+    ensures content { OnOk result
+        (content (S.row_of store.old).value_size (S.places store.new) (S.block store.new)
+        ≡ left_by (S.row_of store.old)
+        (content (S.row_of store.old).value_size (S.places store.old) (S.block store.old))
+        commands.now) }
+    ensures row { S.row_of store.new ≡ S.row_of store.old }
+{
+    let mut replies = Vec::with_capacity(alloc, commands.len())?;
+    for i in 0..commands.len() {
+        let answer = apply(alloc, store, &commands[i])?;
+        replies.push_reserved(answer);
+    }
+    Ok(replies)
+}
