@@ -5,5 +5,6 @@ mod covered;
 mod flows;
 mod precision;
 mod programs;
+mod stack;
 mod steps;
 mod verdicts;
