@@ -19,7 +19,7 @@ use Rattle.isa_model.specs.Machine.Steps.{base_of, swaps_in, atomic_number}
 use Rattle.isa_model.specs.Machine.AccessLaws.{store_number_keeps}
 use Rattle.reg_state.specs.declared.scalars.Scalar.{Scalar}
 use Rattle.reg_state.specs.declared.kinds.Kind.{Kind}
-use Rattle.reg_state.specs.declared.kinds.Kind.TheVariants.{Number, Stack}
+use Rattle.reg_state.specs.declared.kinds.Kind.TheVariants.{Number, Stack, Packet}
 use Rattle.reg_state.specs.Scalars.{Has}
 use Rattle.reg_state.specs.Kinds.{Assigned, Allows}
 use Rattle.stack_state.specs.declared.states.State.{State}
@@ -89,6 +89,7 @@ at_goes : (p : Program) (e : Assigned) (a : State) (s : Machine.State) (base : K
     → GoesInto p e b (swaps_in s w place new keep)
 at_goes p e a s (Stack frame z) w place register b new keep m own allowed same h =
     stack_swap_goes p e a s frame z w place register b new keep m own allowed same h
+at_goes p e a s (Packet f i l g n) w place register b new keep m own allowed same h = let none = h.2.1 in absurd (cc)
 at_goes p e a s k w place register b new keep m own allowed same h = let none = h.1 in absurd (cc)
 
 number_there : (e : Assigned) (c : Scalar) (v : Value) → Allows e (Number c) v → (y : ℕ) × (atomic_number v ≡ Ok y)

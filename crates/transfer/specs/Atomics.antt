@@ -3,6 +3,7 @@ use Rattle.std.specs.Prelude.{◌≡◌, ℕ, ℤ, ◌+ℤ◌, Option, Some, Non
 use Rattle.isa_model.specs.declared.registers.Reg.{Reg}
 use Rattle.isa_model.specs.declared.registers.Reg.TheVariants.{R0}
 use Rattle.isa_model.specs.declared.sizes.Size.{Size}
+use Rattle.isa_model.specs.Code.Sizes.{size_bytes}
 use Rattle.reg_state.specs.declared.scalars.Scalar.{Scalar}
 use Rattle.reg_state.specs.declared.kinds.Kind.{Kind}
 use Rattle.reg_state.specs.declared.kinds.Kind.TheVariants.{Number, Context, Stack, Packet, MapValue, MapValueOrNull}
@@ -12,8 +13,9 @@ use Rattle.stack_state.specs.Places.{kind_of, with_register}
 use Rattle.stack_state.specs.Slots.{IsLoad}
 use Rattle.stack_state.specs.FramePlaces.{IsStoredIn}
 use Rattle.transfer.specs.declared.refusals.Refusal.{Refusal}
-use Rattle.transfer.specs.declared.refusals.Refusal.TheVariants.{PointerOperand, NotMemory, StackPlace, StackBytes, NullNotTested, PacketAtomic, NotBuilt}
+use Rattle.transfer.specs.declared.refusals.Refusal.TheVariants.{PointerOperand, NotMemory, StackPlace, StackBytes, PacketBytes, NullNotTested, PacketAtomic, NotBuilt}
 use Rattle.transfer.specs.StackAccesses.{IsFramePlace, IsNoFramePlace}
+use Rattle.transfer.specs.Packets.{AreInPacket}
 
 -- ---- frames
 
@@ -44,11 +46,18 @@ StackSwaps a frame z size register b (Err e) = ⊥
 abbrev pub IsRefused : State → State → Result (Unit {0}) Refusal → Refusal → Type 0
 IsRefused a b result e = (b ≡ a) × (result ≡ Err e)
 
+-- in the packet there is none; its bytes are tested first
+abbrev pub IsPacketRefusal : ℤ → ℤ → ℕ → ℤ → Size → Refusal → Type 0
+IsPacketRefusal fixed least proved by size PacketAtomic = AreInPacket fixed least proved by (size_bytes size)
+IsPacketRefusal fixed least proved by size PacketBytes = ¬ AreInPacket fixed least proved by (size_bytes size)
+IsPacketRefusal fixed least proved by size e = ⊥
+
 -- on numbers, through a base of that kind
 abbrev pub SwapsAt : State → Kind → ℤ → Size → Option Reg → State → Result (Unit {0}) Refusal → Type 0
 SwapsAt a (Stack frame z) by size register b result = StackSwaps a frame (z +ℤ by) size register b result
 SwapsAt a Context by size register b result = IsRefused a b result PacketAtomic
-SwapsAt a (Packet fixed identity least greatest proved) by size register b result = IsRefused a b result PacketAtomic
+SwapsAt a (Packet fixed identity least greatest proved) by size register b result =
+    (e : Refusal) × IsPacketRefusal fixed least proved by size e × IsRefused a b result e
 SwapsAt a (MapValue m least greatest) by size register b result = IsRefused a b result NotBuilt
 SwapsAt a (MapValueOrNull m identity) by size register b result = IsRefused a b result NullNotTested
 SwapsAt a k by size register b result = IsRefused a b result NotMemory

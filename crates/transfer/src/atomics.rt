@@ -2,8 +2,10 @@
 
 ghost use Rattle.std.specs.Prelude.{false, ◌≡◌, ◌+ℤ◌};
 ghost use Rattle.isa_model.specs.Code.Instructions.{is_frame_pointer};
-ghost use Rattle.transfer.specs.Atomics.{with_old, StackSwaps, SwapsAt, Swaps, Compares};
+ghost use Rattle.transfer.specs.Atomics.{with_old, StackSwaps, IsPacketRefusal, SwapsAt, Swaps};
+ghost use Rattle.transfer.specs.Atomics.{Compares};
 
+use crate::packets::are_in_packet;
 use crate::refusals::Refusal;
 use isa_model::{Reg, Size};
 use reg_state::{Kind, Scalar};
@@ -45,6 +47,17 @@ fn stack_swap(
     Ok(())
 }
 
+/// Why there is none in the packet: its bytes are tested first.
+fn packet_refusal(fixed: i32, least: i32, proved: u32, by: i16, size: Size) -> Refusal
+    ensures { IsPacketRefusal fixed least proved by size result }
+{
+    if are_in_packet(fixed, least, proved, by, size) {
+        Refusal::PacketAtomic
+    } else {
+        Refusal::PacketBytes
+    }
+}
+
 /// On numbers, through a base of that kind.
 fn swap_at(
     state: &mut State,
@@ -58,7 +71,13 @@ fn swap_at(
 {
     match base {
         Kind::Stack { frame, offset } => stack_swap(state, frame, offset, by, size, register),
-        Kind::Context | Kind::Packet { .. } => Err(Refusal::PacketAtomic),
+        Kind::Context => Err(Refusal::PacketAtomic),
+        Kind::Packet {
+            fixed,
+            least,
+            proved,
+            ..
+        } => Err(packet_refusal(fixed, least, proved, by, size)),
         Kind::MapValue { .. } => Err(Refusal::NotBuilt),
         Kind::MapValueOrNull { .. } => Err(Refusal::NullNotTested),
         _ => Err(Refusal::NotMemory),

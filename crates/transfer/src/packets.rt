@@ -10,6 +10,7 @@ ghost use Rattle.transfer.specs.Packets.{IsFixedPart};
 ghost use Rattle.transfer.specs.Packets.{IsFreshPointer, MovesBetween, MovesBy, PacketMoves};
 
 use crate::refusals::Refusal;
+use crate::stacks::narrow_size;
 use isa_model::{Narrow, Size, Width};
 use known_bits::Bits;
 use ranges::Range;
@@ -45,7 +46,7 @@ fn moved_by(back: bool, place: i64, distance: i64) -> i128
 }
 
 /// Whether the bytes are in the packet, wherever the variable part is.
-fn are_in_packet(fixed: i32, least: i32, proved: u32, offset: i16, size: Size) -> bool
+pub fn are_in_packet(fixed: i32, least: i32, proved: u32, offset: i16, size: Size) -> bool
     ensures { IsTrue result ↔ AreInPacket fixed least proved offset (size_bytes size) }
 {
     if proved == 0 {
@@ -59,17 +60,6 @@ fn are_in_packet(fixed: i32, least: i32, proved: u32, offset: i16, size: Size) -
         return false;
     }
     true
-}
-
-/// The size, without its sign.
-fn narrow_size(size: Narrow) -> Size
-    ensures { result ≡ narrow_size size }
-{
-    match size {
-        Narrow::S8 => Size::U8,
-        Narrow::S16 => Size::U16,
-        Narrow::S32 => Size::U32,
-    }
 }
 
 /// The greatest number of that many bytes.

@@ -24,7 +24,8 @@ pub fn frame_place(state: &State, frame: u8, offset: i32, by: i16, size: Size) -
 
 // ---- loads
 
-fn narrow_size(size: Narrow) -> Size
+/// The size of a sign-extending load.
+pub fn narrow_size(size: Narrow) -> Size
     ensures { result ≡ narrow_size size }
 {
     match size {

@@ -6,5 +6,6 @@ mod flows;
 mod loops;
 mod precision;
 mod programs;
+mod stack;
 mod steps;
 mod verdicts;

@@ -56,10 +56,10 @@ const WALKS: [(&str, Option<(usize, Refusal)>); 11] = [
         "r2 = r10; r3 = 0x100000000 ll; r2 += r3; r0 = 1; exit",
         Some((3, Refusal::PointerOffset)),
     ),
-    // pointers are not compared, and memory is refused
+    // pointers are not compared, and places in memory are tested
     ("if r1 == 0 goto +0; exit", Some((0, Refusal::Comparison))),
     (
-        "*(u64 *)(r10 - 8) = 0; exit",
+        "*(u64 *)(r10 - 4) = 0; exit",
         Some((0, Refusal::StackPlace)),
     ),
     (
