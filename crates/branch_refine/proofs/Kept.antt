@@ -1,6 +1,6 @@
 -- What is kept where two numbers are compared and other numbers are put in their place.
 use Rattle.std.specs.Prelude.{◌≡◌, ◌≢◌, ℕ, ◌<◌, ◌^◌, Bool, true, false, Some, None, Ok, refl}
-use Rattle.std.proofs.Common.{sym, ap, ◌∙◌, subst, inl, inr, arith}
+use Rattle.std.proofs.Common.{sym, ap, ◌∙◌, subst, inl, inr}
 use Rattle.isa_model.specs.declared.registers.Reg.{Reg}
 use Rattle.isa_model.specs.declared.registers.Reg.TheVariants.{R10}
 use Rattle.isa_model.specs.declared.sizes.Width.{Width}
@@ -64,7 +64,7 @@ just_operand a w (Constant k) numbers y h just = rw just h
 just_operand a w (Register r) numbers y h just = just_number (kind_of a r) numbers y h just
 
 -- a number of 64 bits has its constant
-constant_has : (numbers : Scalar) (x : ℕ) → x < 2 ^ 64 → IsConstant numbers x → Has numbers x
+pub constant_has : (numbers : Scalar) (x : ℕ) → x < 2 ^ 64 → IsConstant numbers x → Has numbers x
 constant_has numbers x h c = (bits_constant_has numbers.bits x h c.0, range_constant_has numbers.range x h c.1)
 
 -- ---- the test of two numbers

@@ -1,13 +1,13 @@
 -- What is kept of an abstract state on one way of a conditional jump.
 -- Linux, Documentation/bpf/verifier.rst (how the verifier narrows registers at conditional jumps).
-use Rattle.std.specs.Prelude.{◌≡◌, ℕ, ◌⊎◌, Bool, IsTrue, Some, Ok}
+use Rattle.std.specs.Prelude.{◌≡◌, ◌≢◌, ℕ, ◌⊎◌, Bool, true, false, not, if◌then◌else◌, IsTrue, Some, Ok}
 use Rattle.isa_model.specs.declared.sizes.Width.{Width}
 use Rattle.isa_model.specs.declared.registers.Reg.{Reg}
 use Rattle.isa_model.specs.declared.instructions.Cond.{Cond}
 use Rattle.isa_model.specs.declared.instructions.Operand.{Operand}
 use Rattle.isa_model.specs.declared.instructions.Operand.TheVariants.{Constant, Register}
 use Rattle.isa_model.specs.declared.values.Value.{Value}
-use Rattle.isa_model.specs.Code.Numbers.{unsigned}
+use Rattle.isa_model.specs.Code.Numbers.{unsigned, holds}
 use Rattle.isa_model.specs.Code.Instructions.{Program}
 use Rattle.isa_model.specs.Machine.Steps.{test_of}
 use Rattle.isa_model.specs.Machine.States as Machine
@@ -20,7 +20,11 @@ use Rattle.reg_state.specs.Kinds.{Assigned, Allows}
 use Rattle.stack_state.specs.declared.states.State.{State}
 use Rattle.stack_state.specs.Meaning.{MeansBy}
 use Rattle.stack_state.specs.Places.{kind_of}
+use Rattle.stack_state.specs.Effects.{map_kinds, proved_kind, tested_kind}
+use Rattle.branch_refine.specs.Comparing.{compared_by, same}
 use Rattle.branch_refine.specs.Numbers.{numbers_in, AreNumbersOf, with_compared}
+use Rattle.branch_refine.specs.declared.comparing.Compared.{Compared}
+use Rattle.branch_refine.specs.declared.comparing.Compared.TheVariants.{Numbers, Packet, OrNull, Live, Undefined}
 use Rattle.branch_refine.specs.declared.Branch.{Branch}
 use Rattle.branch_refine.specs.declared.Branch.TheVariants.{Never, Goes}
 
@@ -84,19 +88,40 @@ pub record Refined (cond : Cond) (taken : Bool) (a b : State) : Type 0 where
   pub shows : Shows cond.comparison cond.width taken left right new_left new_right
   pub new : b ≡ with_compared a cond new_left new_right
 
+-- ---- pointers
+
+-- every copy of the identity is the number 0, or none is
+abbrev pub IsTested : ℕ → Bool → State → State → Type 0
+IsTested identity null a b = (zero : Scalar) × Has zero 0 × IsConstant zero 0 × (b ≡ map_kinds (tested_kind identity null zero) a)
+
+-- what is known of every copy of an identity once the test comes out this way; where the outcome shows nothing, the state
+-- stays as it is
+abbrev pub Leaves : Compared → Bool → State → Bool → State → Type 0
+Leaves Numbers taken a some b = Unit {0}
+Leaves (Packet identity shows bytes) taken a some b =
+    IsTrue some × (b ≡ (if same taken shows then map_kinds (proved_kind identity bytes) a else a))
+Leaves (OrNull identity null) taken a some b = IsTrue some × IsTested identity (same taken null) a b
+Leaves (Live null) taken a some b = (some ≡ not (same taken null)) × (b ≡ a)
+Leaves Undefined taken a some b = IsTrue some × (b ≡ a)
+
+-- all that is promised of the state that is left: b, where some member goes this way
+pub record Refines (cond : Cond) (taken : Bool) (a : State) (some : Bool) (b : State) : Type 0 where
+  pub kept : Keeps cond taken a some b
+  pub never : some ≡ false → b ≡ a
+  pub narrowed : AreCompared a cond → Narrows a b
+  pub others : AreCompared a cond → KeepsOthers cond a b
+  pub shown : AreCompared a cond → IsTrue some → Refined cond taken a b
+  -- two constants go one way only
+  pub constants : (x y : ℕ) → IsJust (kind_of a cond.register) x → IsJustOperand a cond.width cond.operand y
+      → holds cond.comparison cond.width x y ≢ taken → some ≡ false
+  pub constants_go : (x y : ℕ) → IsJust (kind_of a cond.register) x → IsJustOperand a cond.width cond.operand y
+      → holds cond.comparison cond.width x y ≡ taken → IsTrue some
+  -- no numbers
+  pub pointers : Leaves (compared_by a cond) taken a some b
+
 -- ---- branches
 
--- what is said of the state on a way that is gone
-abbrev pub IfGoes : Branch → (State → Type 0) → Type 0
-IfGoes Never P = Unit {0}
-IfGoes (Goes b) P = P b
-
--- the state on the way means the machine state
-abbrev pub IsMeant : Branch → Program → Assigned → Machine.State → Type 0
-IsMeant Never p e s = ⊥
-IsMeant (Goes b) p e s = MeansBy p e b s
-
--- each machine state that goes this way is still meant, under the same assignment
-unfoldable pub KeepsIn : Cond → Bool → State → Branch → Type 0
-KeepsIn cond taken a branch =
-    (p : Program) (e : Assigned) (s : Machine.State) → MeansBy p e a s → test_of s cond ≡ Ok taken → IsMeant branch p e s
+-- the same, of the answer of `refine`
+abbrev pub IsRefined : Cond → Bool → State → Branch → Type 0
+IsRefined cond taken a Never = Refines cond taken a false a
+IsRefined cond taken a (Goes b) = Refines cond taken a true b

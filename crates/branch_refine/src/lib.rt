@@ -5,14 +5,18 @@ ghost use Rattle.std.specs.Prelude.{◌≡◌, ◌≢◌, ℕ, IsTrue, false};
 ghost use Rattle.isa_model.specs.Code.Numbers.{holds};
 ghost use Rattle.stack_state.specs.Places.{kind_of};
 ghost use Rattle.branch_refine.specs.Refining.{IsJust, IsJustOperand, AreCompared, Keeps, Narrows};
-ghost use Rattle.branch_refine.specs.Refining.{KeepsOthers, Refined, IfGoes, KeepsIn};
+ghost use Rattle.branch_refine.specs.Refining.{KeepsOthers, Refined, Leaves};
+ghost use Rattle.branch_refine.specs.Refining.{Refines, IsRefined};
+ghost use Rattle.branch_refine.specs.Comparing.{same};
 
+mod comparing;
 mod operands;
 
+pub use crate::comparing::{Compared, compared_by};
 use crate::operands::{number_of, operand_numbers, set_operand};
 use isa_model::{Cond, Reg};
-use reg_state::Kind;
-use stack_state::State;
+use reg_state::{Domain, Kind, Scalar};
+use stack_state::{Fact, State};
 
 /// What is left of a state on one way of a conditional jump.
 #[derive(Drop)]
@@ -24,18 +28,7 @@ pub enum Branch {
 
 /// What is left where the test comes out this way.
 pub fn refine(cond: Cond, taken: bool, state: &State) -> Branch
-    ensures kept { KeepsIn cond taken state.now result }
-    ensures narrowed { IfGoes result (λ left. Narrows state.now left) }
-    ensures others { IfGoes result (λ left. KeepsOthers cond state.now left) }
-    ensures shown { AreCompared state.now cond
-        → IfGoes result (λ left. Refined cond taken state.now left) }
-    ensures constants { (x y : ℕ) → IsJust (kind_of state.now cond.register) x
-        → IsJustOperand state.now cond.width cond.operand y
-        → holds cond.comparison cond.width x y ≢ taken → result ≡ Branch.Never }
-    ensures constants_go { (x y : ℕ) → IsJust (kind_of state.now cond.register) x
-        → IsJustOperand state.now cond.width cond.operand y
-        → holds cond.comparison cond.width x y ≡ taken → result ≢ Branch.Never }
-    ensures not_numbers { (AreCompared state.now cond → ⊥) → result ≡ Branch.Goes state.now }
+    ensures { IsRefined cond taken state.now result }
 {
     let mut left = state.copy();
     if refine_in_place(cond, taken, &mut left) {
@@ -47,6 +40,50 @@ pub fn refine(cond: Cond, taken: bool, state: &State) -> Branch
 
 /// Leaves of a state what goes this way. No: nothing does, and it stays as it is.
 pub fn refine_in_place(cond: Cond, taken: bool, state: &mut State) -> bool
+    ensures refines { Refines cond taken state.old result state.new }
+{
+    match compared_by(cond, state) {
+        Compared::Numbers => refine_numbers(cond, taken, state),
+        pointers => refine_pointers(pointers, taken, state),
+    }
+}
+
+// The same, where pointers are compared.
+fn refine_pointers(compared: Compared, taken: bool, state: &mut State) -> bool
+    ensures { Leaves compared taken state.old result state.new }
+{
+    match compared {
+        Compared::Packet {
+            identity,
+            shows,
+            bytes,
+        } => {
+            if is_same(taken, shows) {
+                state.learn(Fact::Proved { identity, bytes });
+            }
+            true
+        }
+        Compared::OrNull { identity, null } => {
+            state.learn(Fact::Tested {
+                identity,
+                null: is_same(taken, null),
+                zero: Scalar::constant(0),
+            });
+            true
+        }
+        Compared::Live { null } => !is_same(taken, null),
+        _ => true,
+    }
+}
+
+fn is_same(taken: bool, outcome: bool) -> bool
+    ensures { result ≡ same taken outcome }
+{
+    if taken { outcome } else { !outcome }
+}
+
+// The same, where two numbers are compared; else the state stays as it is.
+fn refine_numbers(cond: Cond, taken: bool, state: &mut State) -> bool
     ensures kept { Keeps cond taken state.old result state.new }
     ensures narrowed { Narrows state.old state.new }
     ensures others { KeepsOthers cond state.old state.new }

@@ -10,8 +10,7 @@ use Rattle.control_flow.specs.Flows.{IsJoin}
 use Rattle.transfer.specs.declared.Ways.{Ways}
 use Rattle.transfer.specs.declared.Ways.TheVariants as ways
 use Rattle.transfer.specs.declared.refusals.Refusal.{Refusal}
-use Rattle.transfer.specs.Exact.{Makes}
-use Rattle.transfer.specs.Refusing.{Refuses}
+use Rattle.transfer.specs.Exact.{Makes, Refuses}
 
 abbrev pub IsAmong : Ways → State → State → State → Type 0
 IsAmong ways.None a b s = ⊥
@@ -52,7 +51,7 @@ pub record IsStuck (p : Program) (e : Refusal) (slot : ℕ) : Type 0 where
   pub begins : BeginsInsn p slot
   pub insn : Insn
   pub here : fetch p state.slot ≡ Some insn
-  pub refused : Refuses state insn e
+  pub refused : Refuses p state insn e
 
 -- some walk from the start comes twice to this join, in two states that cover one another
 pub record ComesBack (p : Program) (slot : ℕ) : Type 0 where

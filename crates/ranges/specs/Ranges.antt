@@ -21,6 +21,10 @@ IsConstant r x =
     (r.least ≡ x) × (r.greatest ≡ x)
     × (r.signed_least ≡ cast_signed w64 x) × (r.signed_greatest ≡ cast_signed w64 x)
 
+-- the unsigned limits leave x only
+abbrev pub LeavesOnly : Range → ℕ → Type 0
+LeavesOnly r x = (r.least ≡ x) × (r.greatest ≡ x)
+
 -- the unsigned limits are no wider than from one number to another
 abbrev pub IsBetween : Range → ℕ → ℕ → Type 0
 IsBetween r least greatest = (least ≤ r.least) × (r.greatest ≤ greatest)

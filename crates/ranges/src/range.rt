@@ -20,7 +20,8 @@ pub struct Range {
 }
 
 impl Range {
-    ghost use Rattle.ranges.specs.Ranges.{Has, IsConstant, IsTight, ReadsAlike, Encloses};
+    ghost use Rattle.ranges.specs.Ranges.{Has, IsConstant, IsTight, LeavesOnly, ReadsAlike};
+    ghost use Rattle.ranges.specs.Ranges.{Encloses};
 
     /// All numbers of the width.
     pub fn any(width: Width) -> Self
@@ -47,6 +48,7 @@ impl Range {
 
     /// The number, where the unsigned limits leave only one.
     pub fn number(self) -> Option<u64>
+        ensures value { (x : ℕ) → ((result ≡ Some x) ↔ LeavesOnly self x) }
         ensures constant { (x : ℕ) → IsConstant self x → result ≡ Some x }
         ensures only { IfSome result (λ n. (x : ℕ) → Has self x → x ≡ n) }
     {

@@ -1,5 +1,5 @@
 -- The laws of constants and of limits, for known bits and for ranges.
-use Rattle.std.proofs.Common.{ℕ, ◌≡◌, ◌^◌, ◌<◌, ◌∙◌, arith}
+use Rattle.std.proofs.Common.{ℕ, ◌≡◌, ◌^◌, ◌<◌, ◌∙◌, inl, inr, arith}
 use Rattle.std.proofs.lemmas.Int.{ints}
 use Rattle.std.proofs.lemmas.Nat.{and_mask}
 use Rattle.known_bits.specs.Member.{IsMember}
@@ -10,6 +10,8 @@ use Rattle.ranges.specs.Ranges as R
 use Rattle.isa_model.specs.Code.NumberLemmas.{signed_equation}
 use Rattle.reg_state.specs.Limits.{range_limits, no_limits}
 use Rattle.reg_state.specs.Reach.{IsInside}
+use Rattle.reg_state.specs.declared.scalars.Scalar.{Scalar}
+use Rattle.reg_state.specs.Scalars.{Has, IsNumber}
 
 one_has : (x : ℕ) → x < 2 ^ 64 → IsMember x 0 x
 one_has x h = record { below = h; known = and_mask x 64 ∙ omega arith }
@@ -29,6 +31,11 @@ range_constant_has d u h c =
 
 pub range_constant_only : (d : Range) (u x : ℕ) → R.IsConstant d u → R.Has d x → x ≡ u
 range_constant_only d u x c h = omega arith
+
+-- a Scalar that leaves one number has no other
+pub IsNumber-only : (s : Scalar) (n x : ℕ) → IsNumber s n → Has s x → x ≡ n
+IsNumber-only s n x (inl bits) h = bits_constant_only s.bits n x bits h.0
+IsNumber-only s n x (inr alone) h = let from = h.1.from in let to = h.1.to in let limits = alone.1 in omega arith
 
 pub any_inside : (x : ℕ) → x < 2 ^ 64 → IsInside no_limits x
 any_inside x h =

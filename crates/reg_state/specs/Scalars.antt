@@ -1,5 +1,5 @@
 -- What the contracts of `Scalar` cite.
-use Rattle.std.specs.Prelude.{ℕ}
+use Rattle.std.specs.Prelude.{ℕ, ◌≢◌, ◌⊎◌}
 use Rattle.known_bits.specs.Bits as B
 use Rattle.ranges.specs.Ranges as R
 use Rattle.reg_state.specs.declared.scalars.Scalar.{Scalar}
@@ -15,3 +15,7 @@ Encloses a b = ((x : ℕ) → B.Has b.bits x → B.Has a.bits x) × R.Encloses a
 -- both parts are x only
 abbrev pub IsConstant : Scalar → ℕ → Type 0
 IsConstant s x = B.IsConstant s.bits x × R.IsConstant s.range x
+
+-- the bits leave x only, or some bit is not known and the limits leave x only
+abbrev pub IsNumber : Scalar → ℕ → Type 0
+IsNumber s x = B.IsConstant s.bits x ⊎ ((s.bits.mask ≢ 0) × R.LeavesOnly s.range x)

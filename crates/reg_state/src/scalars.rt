@@ -1,7 +1,7 @@
 //! Known bits and limits at once.
 
 ghost use Rattle.std.specs.Prelude.{◌≡◌, ℕ, ◌+◌, ◌%◌, ◌^◌, ◌<◌, ◌≤◌, pos, ◌-ℤ◌, FitsSigned, ◌↔◌};
-ghost use Rattle.std.specs.Prelude.{IsSomeAnd, IfSome, IsTrue};
+ghost use Rattle.std.specs.Prelude.{Some, IsSomeAnd, IfSome, IsTrue};
 ghost use Rattle.std.specs.Int.{w64, bit_at};
 ghost use Rattle.isa_model.specs.Code.Sizes.{width_bits};
 
@@ -125,7 +125,7 @@ impl Scalar {
 impl Domain for Scalar {
     ghost use Rattle.isa_model.specs.Code.Numbers.{alu};
     ghost use Rattle.ranges.specs.Ranges.{KeepsLimits, KeepsSignedLimits};
-    ghost use Rattle.reg_state.specs.Scalars.{Has, IsConstant, Encloses};
+    ghost use Rattle.reg_state.specs.Scalars.{Has, IsConstant, IsNumber, Encloses};
     ghost use Rattle.reg_state.specs.Arithmetic.{IsFromTo, IsSignedFromTo, IsSharp};
     ghost use Rattle.known_bits.specs.Bits.{IsPrecise, KnowsProduct, greatest_of};
     ghost use Rattle.isa_model.specs.Code.Numbers.{negated, sign_extended, reordered};
@@ -174,7 +174,11 @@ impl Domain for Scalar {
         }
     }
 
-    fn number(self) -> Option<u64> {
+    fn number(self) -> Option<u64>
+        ensures constant { (u : ℕ) → IsConstant self u → result ≡ Some u }
+        ensures only { IfSome result (λ n. (x : ℕ) → Has self x → x ≡ n) }
+        ensures value { (x : ℕ) → ((result ≡ Some x) ↔ IsNumber self x) }
+    {
         match self.bits.number() {
             Some(number) => Some(number),
             None => self.range.number(),

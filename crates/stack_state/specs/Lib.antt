@@ -10,10 +10,13 @@ pub mod StackMeaning
 pub mod SpliceLaws
 pub mod CellLaws
 pub mod StackLaws
+pub mod Facts
 pub mod FillLaws
 pub mod FrameLaws
 pub mod Effects
 pub mod EffectLaws
+pub mod FramePlaces
+pub mod FramePlaceLaws
 pub mod PacketEffects
 pub mod Calls
 pub mod CallLaws

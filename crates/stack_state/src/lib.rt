@@ -1,11 +1,15 @@
 //! Abstract states: what is known of a run when it comes to an instruction.
 #![tactic(auto)]
 
+pub mod facts;
 pub mod identities;
+pub mod live_frames;
 pub mod slots;
 pub mod stacks;
 pub mod states;
 
+pub use facts::Fact;
+pub use live_frames::stack_place;
 pub use slots::Slot;
 pub use stacks::StackState;
 pub use states::{AbstractFrame, State};

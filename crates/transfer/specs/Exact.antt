@@ -1,25 +1,36 @@
--- What an instruction makes of an abstract state, exactly.
-use Rattle.std.specs.Prelude.{◌≡◌, ◌≢◌, ℕ, ◌+◌, ℤ, Bool, true, false, Option, Some}
+-- What an instruction makes of an abstract state, and why it is refused, exactly.
+use Rattle.std.specs.Prelude.{◌≡◌, ◌≢◌, ℕ, ◌+◌, ◌==◌, ℤ, Bool, true, false, if◌then◌else◌, Option, Some, None, Result, Ok, Err}
 use Rattle.isa_model.specs.declared.sizes.Width.{Width}
+use Rattle.isa_model.specs.declared.sizes.Width.TheVariants.{Full64}
+use Rattle.isa_model.specs.declared.sizes.Size.{Size}
 use Rattle.isa_model.specs.declared.registers.Reg.{Reg}
 use Rattle.isa_model.specs.declared.registers.Reg.TheVariants.{R0, R10}
 use Rattle.isa_model.specs.declared.instructions.Cond.{Cond}
 use Rattle.isa_model.specs.declared.instructions.Operand.{Operand}
 use Rattle.isa_model.specs.declared.instructions.Operand.TheVariants.{Constant, Register}
+use Rattle.isa_model.specs.declared.instructions.Place.{Place}
 use Rattle.isa_model.specs.declared.instructions.Insn.{Insn}
-use Rattle.isa_model.specs.declared.instructions.Insn.TheVariants.{Alu, Neg, MovSx, ByteSwap, LoadNumber, Load, Jump, JumpLong, JumpIf, Exit}
-use Rattle.isa_model.specs.Code.Numbers.{unsigned, holds}
+use Rattle.isa_model.specs.declared.instructions.Insn.TheVariants.{Alu, Neg, MovSx, ByteSwap, LoadNumber, Load, LoadSx, StoreConstant, Store, Atomic, Exchange, CompareExchange, Jump, JumpLong, JumpIf, CallLocal, Exit}
+use Rattle.isa_model.specs.Code.Sizes.{width_size}
+use Rattle.isa_model.specs.Code.Numbers.{unsigned}
 use Rattle.isa_model.specs.Code.Instructions.{Program, slots_of, writes}
 use Rattle.isa_model.specs.Machine.Steps.{destination}
 use Rattle.reg_state.specs.declared.kinds.Kind.{Kind}
+use Rattle.reg_state.specs.declared.kinds.Kind.TheVariants.{Number}
 use Rattle.reg_state.specs.Arithmetic.{IsNegated, IsReordered, IsSignExtended}
 use Rattle.stack_state.specs.declared.states.State.{State}
 use Rattle.stack_state.specs.Meaning.{depth}
 use Rattle.stack_state.specs.Places.{kind_of, with_register, go_to}
-use Rattle.branch_refine.specs.Refining.{IsNumber, IsJust, IsJustOperand, AreCompared, Keeps, Narrows, KeepsOthers}
+use Rattle.branch_refine.specs.Refining.{IsJust, Refines}
+use Rattle.branch_refine.specs.Comparing.{compared_by, IsDefined}
 use Rattle.transfer.specs.declared.Ways.{Ways}
-use Rattle.transfer.specs.declared.Ways.TheVariants.{None, One, Two}
-use Rattle.transfer.specs.Results.{OfNumber, Arithmetic, IsArithmetic, IsLoaded, Loads}
+use Rattle.transfer.specs.declared.Ways.TheVariants as ways
+use Rattle.transfer.specs.declared.refusals.Refusal.{Refusal}
+use Rattle.transfer.specs.declared.refusals.Refusal.TheVariants.{TooManyFrames, ExitValue, NotBuilt}
+use Rattle.transfer.specs.Refusing.{register_refusal, comparison_refusal}
+use Rattle.transfer.specs.Results.{OfNumber, Arithmetic}
+use Rattle.transfer.specs.Accesses.{Loads, LoadsSigned, Stores}
+use Rattle.transfer.specs.Atomics.{Swaps, Compares}
 
 -- ---- registers set
 
@@ -28,15 +39,16 @@ abbrev pub IsOperand : State → Width → Operand → Kind → Type 0
 IsOperand a w (Constant k) b = IsJust b (unsigned w k)
 IsOperand a w (Register r) b = b ≡ kind_of a r
 
--- the kind that a form puts into its register
-abbrev pub Puts : State → Insn → Kind → Type 0
-Puts a (Alu w op d source) k = (b : Kind) × IsOperand a w source b × Arithmetic op w (kind_of a d) b k
-Puts a (Neg w d) k = OfNumber (IsNegated w) (kind_of a d) k
-Puts a (MovSx e d r) k = OfNumber (IsSignExtended e) (kind_of a r) k
-Puts a (ByteSwap order span d) k = OfNumber (IsReordered order span) (kind_of a d) k
-Puts a (LoadNumber d n) k = IsJust k n
-Puts a (Load size d place) k = Loads size (kind_of a place.base) place.offset k
-Puts a i k = ⊥
+-- the kind that a form puts into its register, or why it does not
+abbrev pub Puts : State → Insn → Result Kind Refusal → Type 0
+Puts a (Alu w op d source) result = (b : Kind) × IsOperand a w source b × Arithmetic a op w (kind_of a d) b result
+Puts a (Neg w d) result = OfNumber (IsNegated w) (kind_of a d) result
+Puts a (MovSx e d r) result = OfNumber (IsSignExtended e) (kind_of a r) result
+Puts a (ByteSwap order span d) result = OfNumber (IsReordered order span) (kind_of a d) result
+Puts a (LoadNumber d n) result = (k : Kind) × IsJust k n × (result ≡ Ok k)
+Puts a (Load size d place) result = Loads a size (kind_of a place.base) place.offset result
+Puts a (LoadSx size d place) result = LoadsSigned a size (kind_of a place.base) place.offset result
+Puts a i result = result ≡ Err NotBuilt
 
 -- the next instruction, with a kind in the register that is written and all else as before
 pub record Sets (a : State) (i : Insn) (b : State) : Type 0 where
@@ -44,64 +56,105 @@ pub record Sets (a : State) (i : Insn) (b : State) : Type 0 where
   pub written : writes i ≡ Some register
   pub own : register ≢ R10
   pub kind : Kind
-  pub puts : Puts a i kind
+  pub puts : Puts a i (Ok kind)
   pub next : b ≡ go_to (with_register a register kind) (a.slot + slots_of i)
+
+abbrev pub SetsOr : State → Insn → Result Ways Refusal → State → Type 0
+SetsOr a i (Ok w) b = (w ≡ ways.One) × Sets a i b
+SetsOr a i (Err e) b = Puts a i (Err e)
+
+-- ---- memory
+
+-- the next instruction, with what a store or an atomic instruction leaves
+pub record GoesOnWith (a : State) (leaves : State → Result (Unit {0}) Refusal → Type 0) (b : State) : Type 0 where
+  pub left : State
+  pub leaving : leaves left (Ok tt)
+  pub next : b ≡ go_to left (a.slot + 1)
+
+abbrev pub GoesOn : State → (State → Result (Unit {0}) Refusal → Type 0) → Result Ways Refusal → State → Type 0
+GoesOn a leaves (Ok w) b = (w ≡ ways.One) × GoesOnWith a leaves b
+GoesOn a leaves (Err e) b = (left : State) × leaves left (Err e)
+
+abbrev pub StoresAt : State → Size → Place → Kind → State → Result (Unit {0}) Refusal → Type 0
+StoresAt a size place source left result = Stores a size (kind_of a place.base) place.offset source left result
+
+-- with a register, and its kind as it was
+abbrev pub SwapsAtPlace : State → Width → Place → Reg → Option Reg → State → Result (Unit {0}) Refusal → Type 0
+SwapsAtPlace a w place r kept left result = Swaps a (kind_of a r) (kind_of a place.base) place.offset (width_size w) kept left result
+
+abbrev pub ComparesAtPlace : State → Width → Place → Reg → State → Result (Unit {0}) Refusal → Type 0
+ComparesAtPlace a w place r left result = Compares a (kind_of a r) (kind_of a place.base) place.offset (width_size w) left result
 
 -- ---- jumps
 
 -- the sides that something goes, the fall-through first
 abbrev pub Sides : Bool → Bool → State → State → Ways → State → State → Type 0
-Sides true true stay go ways b c = (ways ≡ Two) × (b ≡ stay) × (c ≡ go)
-Sides true false stay go ways b c = (ways ≡ One) × (b ≡ stay)
-Sides false true stay go ways b c = (ways ≡ One) × (b ≡ go)
-Sides false false stay go ways b c = ways ≡ None
+Sides true true stay go w b c = (w ≡ ways.Two) × (b ≡ stay) × (c ≡ go)
+Sides true false stay go w b c = (w ≡ ways.One) × (b ≡ stay)
+Sides false true stay go w b c = (w ≡ ways.One) × (b ≡ go)
+Sides false false stay go w b c = w ≡ ways.None
 
--- each side keeps what goes that way, and only narrows what was known; on two constants one side only is gone to
-pub record Branches (p : Program) (a : State) (cond : Cond) (by : ℤ) (ways : Ways) (b c : State) : Type 0 where
-  pub compared : AreCompared a cond
+-- each side has all that the test shows of it
+pub record Branches (p : Program) (a : State) (cond : Cond) (by : ℤ) (w : Ways) (b c : State) : Type 0 where
+  pub compared : IsDefined (compared_by a cond)
   pub stays : Bool
   pub stay : State
-  pub kept_stay : Keeps cond false a stays stay
-  pub narrows_stay : Narrows a stay
-  pub others_stay : KeepsOthers cond a stay
-  pub never_stays : (x y : ℕ) → IsJust (kind_of a cond.register) x → IsJustOperand a cond.width cond.operand y
-      → holds cond.comparison cond.width x y ≢ false → stays ≡ false
+  pub left_there : Refines cond false a stays stay
   pub goes : Bool
   pub go : State
-  pub kept_go : Keeps cond true a goes go
-  pub narrows_go : Narrows a go
-  pub others_go : KeepsOthers cond a go
-  pub never_goes : (x y : ℕ) → IsJust (kind_of a cond.register) x → IsJustOperand a cond.width cond.operand y
-      → holds cond.comparison cond.width x y ≢ true → goes ≡ false
-  pub sides : Sides stays goes (go_to stay (a.slot + 1)) (go_to go (destination p a.slot by)) ways b c
+  pub taken_there : Refines cond true a goes go
+  pub sides : Sides stays goes (go_to stay (a.slot + 1)) (go_to go (destination p a.slot by)) w b c
+
+-- where the comparison is defined
+abbrev pub BranchesOr : Program → State → Cond → ℤ → Result Ways Refusal → State → State → Type 0
+BranchesOr p a cond by (Ok w) b c = Branches p a cond by w b c
+BranchesOr p a cond by (Err e) b c = (e ≡ comparison_refusal a cond) × ¬ IsDefined (compared_by a cond)
 
 -- all as before, at the jump's target
-abbrev pub JumpsTo : Program → State → ℤ → Ways → State → Type 0
-JumpsTo p a by ways b = (ways ≡ One) × (b ≡ go_to a (destination p a.slot by))
+abbrev pub JumpsTo : Program → State → ℤ → Result Ways Refusal → State → Type 0
+JumpsTo p a by result b = (result ≡ Ok ways.One) × (b ≡ go_to a (destination p a.slot by))
+
+-- ---- exits
+
+abbrev pub answered : Kind → Result Ways Refusal
+answered (Number numbers) = Ok ways.None
+answered k = Err ExitValue
+
+-- the first frame answers a number
+abbrev pub exited : ℕ → Kind → Result Ways Refusal
+exited frames k = if frames == 1 then answered k else Err NotBuilt
 
 -- ---- instructions
 
+-- once the tests of its registers pass
+abbrev pub Performs : Program → State → Insn → Result Ways Refusal → State → State → Type 0
+Performs p a (StoreConstant size place k) result b c =
+    (source : Kind) × IsJust source (unsigned Full64 k) × GoesOn a (StoresAt a size place source) result b
+Performs p a (Store size place r) result b c = GoesOn a (StoresAt a size place (kind_of a r)) result b
+Performs p a (Atomic w op fetched place r) result b c =
+    GoesOn a (SwapsAtPlace a w place r (writes (Atomic w op fetched place r))) result b
+Performs p a (Exchange w place r) result b c = GoesOn a (SwapsAtPlace a w place r (Some r)) result b
+Performs p a (CompareExchange w place r) result b c = GoesOn a (ComparesAtPlace a w place r) result b
+Performs p a (Jump by) result b c = JumpsTo p a by result b
+Performs p a (JumpLong by) result b c = JumpsTo p a by result b
+Performs p a (JumpIf cond by) result b c = BranchesOr p a cond by result b c
+Performs p a (CallLocal by) result b c = result ≡ Err TooManyFrames
+Performs p a Exit result b c = result ≡ exited (depth a) (kind_of a R0)
+Performs p a i result b c = SetsOr a i result b
+
+-- a test that fails decides, and where it passes the rest does
+abbrev pub Tested : Option Refusal → Result Ways Refusal → Type 0 → Type 0
+Tested None result Rest = Rest
+Tested (Some e) result Rest = result ≡ Err e
+
+-- one step: the tests of the registers, and then the form's own
+abbrev pub Steps : Program → State → Insn → Result Ways Refusal → State → State → Type 0
+Steps p a i result b c = Tested (register_refusal a i) result (Performs p a i result b c)
+
+-- the ways that the instruction goes, with the states that it leaves
 abbrev pub Makes : Program → State → Insn → Ways → State → State → Type 0
-Makes p a (Jump by) ways b c = JumpsTo p a by ways b
-Makes p a (JumpLong by) ways b c = JumpsTo p a by ways b
-Makes p a (JumpIf cond by) ways b c = Branches p a cond by ways b c
-Makes p a Exit ways b c = (ways ≡ None) × (depth a ≡ 1) × IsNumber (kind_of a R0)
-Makes p a i ways b c = (ways ≡ One) × Sets a i b
+Makes p a i w b c = Steps p a i (Ok w) b c
 
--- ---- what is never refused, once its registers are set
-
-abbrev pub IsComputed : State → Insn → Type 0
-IsComputed a (Alu w op d source) = (b : Kind) → IsOperand a w source b → IsArithmetic op w (kind_of a d) b
-IsComputed a (Neg w d) = IsNumber (kind_of a d)
-IsComputed a (MovSx e d r) = IsNumber (kind_of a r)
-IsComputed a (ByteSwap order span d) = IsNumber (kind_of a d)
-IsComputed a (LoadNumber d n) = Unit {0}
-IsComputed a (Load size d place) = IsLoaded size (kind_of a place.base) place.offset
-IsComputed a i = ⊥
-
-abbrev pub IsAccepted : State → Insn → Type 0
-IsAccepted a (Jump by) = Unit {0}
-IsAccepted a (JumpLong by) = Unit {0}
-IsAccepted a (JumpIf cond by) = AreCompared a cond
-IsAccepted a Exit = (depth a ≡ 1) × IsNumber (kind_of a R0)
-IsAccepted a i = IsComputed a i
+-- its step is refused so
+abbrev pub Refuses : Program → State → Insn → Refusal → Type 0
+Refuses p a i e = (b c : State) × Steps p a i (Err e) b c

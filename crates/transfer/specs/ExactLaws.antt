@@ -1,35 +1,38 @@
 -- What an instruction makes of an abstract state means what the machine does.
-use Rattle.std.specs.Prelude.{◌≡◌, ◌≢◌, ℕ, ◌+◌, ◌-◌, ◌<◌, ◌≤◌, ◌==◌, ℤ, Bool, true, false, ◌||◌, if◌then◌else◌, List, [], ◌∷◌, length, Option, Some, None, Result, Ok, Err, refl}
+use Rattle.std.specs.Prelude.{◌≡◌, ◌≢◌, ℕ, ◌+◌, ◌<◌, ◌≤◌, ◌==◌, ℤ, Bool, true, false, ◌||◌, if◌then◌else◌, List, [], ◌∷◌, length, Option, Some, None, Result, Ok, Err, refl}
 use Rattle.std.specs.List.{list_any}
 use Rattle.std.proofs.Common.{inl, inr, sym, ap, ◌∙◌, subst, arith}
 use Rattle.std.proofs.lemmas.Bool.Decides.{nat_tests}
 use Rattle.std.proofs.lemmas.List.{get_or-set_same}
 use Rattle.isa_model.specs.declared.sizes.Width.{Width}
+use Rattle.isa_model.specs.declared.sizes.Width.TheVariants.{Full64}
+use Rattle.isa_model.specs.declared.sizes.Size.{Size}
 use Rattle.isa_model.specs.declared.registers.Reg.{Reg}
 use Rattle.isa_model.specs.declared.registers.Reg.TheVariants.{R0, R10}
 use Rattle.isa_model.specs.declared.instructions.AluOp.{AluOp}
 use Rattle.isa_model.specs.declared.instructions.AluOp.TheVariants.{Mov}
+use Rattle.isa_model.specs.declared.instructions.AtomicOp.{AtomicOp}
 use Rattle.isa_model.specs.declared.instructions.Cond.{Cond}
 use Rattle.isa_model.specs.declared.instructions.Operand.{Operand}
 use Rattle.isa_model.specs.declared.instructions.Operand.TheVariants.{Constant, Register}
+use Rattle.isa_model.specs.declared.instructions.Place.{Place}
 use Rattle.isa_model.specs.declared.instructions.Insn.{Insn}
 use Rattle.isa_model.specs.declared.instructions.Insn.TheVariants.{Alu, Neg, MovSx, ByteSwap, LoadNumber, Load, LoadSx, StoreConstant, Store, Atomic, Exchange, CompareExchange, Jump, JumpLong, JumpIf, CallLocal, Exit}
 use Rattle.isa_model.specs.declared.values.Value.{Value}
 use Rattle.isa_model.specs.declared.values.Value.TheVariants as value
 use Rattle.isa_model.specs.declared.ends.TrapReason.{TrapReason}
-use Rattle.isa_model.specs.declared.ends.TrapReason.TheVariants.{UnsetRead, ReadOnly}
 use Rattle.isa_model.specs.Code.Registers.{reg_number}
-use Rattle.isa_model.specs.Code.Numbers.{unsigned, negated, sign_extended, reordered, holds}
+use Rattle.isa_model.specs.Code.Numbers.{alu, low, unsigned, atomic_alu, negated, sign_extended, reordered, holds}
 use Rattle.isa_model.specs.Code.Spelling.{InsnFits, OperandFits}
 use Rattle.isa_model.specs.Code.Instructions.{Program, fetch, slots_of, operand_reads, alu_reads, reads, writes, is_frame_pointer}
 use Rattle.isa_model.specs.Machine.Pointers.{arithmetic, on_number, compared, compared_constant}
 use Rattle.isa_model.specs.Machine.States.{reg, set_reg, value_at}
 use Rattle.isa_model.specs.Machine.States as Machine
-use Rattle.isa_model.specs.Machine.Memory.{load}
-use Rattle.isa_model.specs.Machine.Steps.{StepResult, Next, Finished, Trapped, operand_value, base_of, destination, sets, jumps, branches, tested, test_of, finishes, exits, act, is_unset, performed, performed_at, step}
+use Rattle.isa_model.specs.Machine.Memory.{and_then, load, load_signed, store}
+use Rattle.isa_model.specs.Machine.Steps.{operand_value, base_of, destination, sets, goes_on, jumps, branches, tested, test_of, atomic_number, swaps_in, fetched_into, finishes, exits, act, is_unset, performed, performed_at, step}
 use Rattle.isa_model.specs.Running.Ends.{After, After-weaker}
 use Rattle.isa_model.specs.Machine.Successors.{Follows, falls_through}
-use Rattle.isa_model.specs.Machine.MachineStates.{IsProgram, IsState, IsValue, IsSlot}
+use Rattle.isa_model.specs.Machine.MachineStates.{IsProgram, IsState, IsValue}
 use Rattle.isa_model.specs.Machine.ValueLaws.{unsigned_fits}
 use Rattle.isa_model.specs.Machine.StateLaws.{reg_fits}
 use Rattle.isa_model.specs.Machine.StepLaws.{IfNext, act_keeps}
@@ -41,16 +44,20 @@ use Rattle.stack_state.specs.declared.states.State.{State}
 use Rattle.stack_state.specs.Meaning.{depth, MeansBy, Means}
 use Rattle.stack_state.specs.Places.{kind_of, with_register, go_to}
 use Rattle.stack_state.specs.MeaningLaws.{reg_allowed, depth_is_length, MeansBy-go_to, MeansBy-set}
-use Rattle.branch_refine.specs.Refining.{IsNumber, IsJust, IsNumberOperand, AreCompared, Keeps, Narrows}
+use Rattle.branch_refine.specs.Refining.{IsNumber, IsJust, Keeps}
+use Rattle.branch_refine.specs.ComparingLaws.{test-defined}
 use Rattle.transfer.specs.declared.refusals.Refusal.{Refusal}
-use Rattle.transfer.specs.declared.refusals.Refusal.TheVariants.{UnsetRegister, ReadOnlyRegister}
+use Rattle.transfer.specs.declared.refusals.Refusal.TheVariants.{UnsetRegister, ReadOnlyRegister, NotBuilt}
 use Rattle.transfer.specs.declared.Ways.{Ways}
 use Rattle.transfer.specs.declared.Ways.TheVariants as ways
 use Rattle.transfer.specs.Leading.{EachWay, InSome, LeadsTo}
-use Rattle.transfer.specs.Refusing.{is_unset as is_unset_kind, is_unset_in, reads_unset, register_refusal}
-use Rattle.transfer.specs.Results.{Arithmetic, Loads}
-use Rattle.transfer.specs.ResultLaws.{Yields, on_number_yields, arithmetic_yields, load_yields}
-use Rattle.transfer.specs.Exact.{IsOperand, Puts, Sets, Sides, Branches, JumpsTo, Makes}
+use Rattle.transfer.specs.Refusing.{is_unset as is_unset_kind, is_unset_in, reads_unset}
+use Rattle.transfer.specs.ResultLaws.{Yields, YieldsUnder, on_number_yields}
+use Rattle.transfer.specs.ArithmeticLaws.{arithmetic_yields}
+use Rattle.transfer.specs.StackAccessLaws.{GoesInto}
+use Rattle.transfer.specs.AccessLaws.{load_yields, load_signed_yields, store_goes}
+use Rattle.transfer.specs.AtomicLaws.{keep_old, swap_goes, compare_and_swap_goes}
+use Rattle.transfer.specs.Exact.{IsOperand, Puts, Sets, GoesOn, StoresAt, SwapsAtPlace, ComparesAtPlace, Sides, Branches, JumpsTo, answered, exited, Performs, Tested, Steps}
 
 -- ---- the tests of the registers
 
@@ -86,11 +93,6 @@ none_unset p e a s m (r ∷ rs) h =
     set_is_set e (kind_of a r) (reg s r) first (reg_allowed p e a s m r) in
     rw here (none_unset p e a s m rs rest)
 
-tests_pass : (x y : Bool) (u v : Refusal) → (if x then Some u else if y then Some v else None) ≡ None → (x ≡ false) × (y ≡ false)
-tests_pass true y u v h = absurd (cc)
-tests_pass false true u v h = absurd (cc)
-tests_pass false false u v h = (refl, refl)
-
 performed_acts : (p : Program) (clock : ℕ → ℕ) (s : Machine.State) (i : Insn) → list_any (unset_in s) (reads i) ≡ false
     → is_frame_pointer (writes i) ≡ false → performed p clock s i ≡ act p clock s i
 performed_acts p clock s i set own = rw (set, own) refl
@@ -121,10 +123,18 @@ alu_operand_set s w op d source h = operand_set s w source (neither (unset_in s 
 
 -- ---- registers set
 
+yields_in : (p : Program) (e : Assigned) (a : State) (s : Machine.State) (k : Kind) (r : Result Value TrapReason) → MeansBy p e a s → Yields e k r → YieldsUnder p a s k r
+yields_in p e a s k r m yields = (e, m, yields)
+
+-- a constant is allowed
+just_allowed : (e : Assigned) (k : Kind) (n : ℕ) → IsJust k n → Allows e k (value.Num n)
+just_allowed e (kind.Number c) n h = (n, refl, h.0)
+just_allowed e k n h = absurd h
+
 -- what a form puts into its register is there, and its kind allows it
 puts_yields : (p : Program) (clock : ℕ → ℕ) (e : Assigned) (a : State) (s : Machine.State) (i : Insn) (d : Reg) (k : Kind) → InsnFits i
-    → MeansBy p e a s → list_any (unset_in s) (reads i) ≡ false → writes i ≡ Some d → Puts a i k
-    → (r : Result Value TrapReason) × (act p clock s i ≡ sets s i d r) × Yields e k r
+    → MeansBy p e a s → list_any (unset_in s) (reads i) ≡ false → writes i ≡ Some d → Puts a i (Ok k)
+    → (r : Result Value TrapReason) × (act p clock s i ≡ sets s i d r) × YieldsUnder p a s k r
 unfolding act
 puts_yields p clock e a s (Alu w op x source) d k fits m set written h =
     let same : x ≡ d = cc in
@@ -132,7 +142,7 @@ puts_yields p clock e a s (Alu w op x source) d k fits m set written h =
     let result : Result Value TrapReason = arithmetic op w (reg s x) (operand_value s w source) in (
       result,
       ap (λ y. sets s (Alu w op x source) y result) same,
-      arithmetic_yields e (length p.maps) s.next_serial op w (kind_of a x) b k (reg s x) (operand_value s w source) gives
+      arithmetic_yields p e a s op w (kind_of a x) b k (reg s x) (operand_value s w source) m gives
           (operand_fits p s w source fits m.is_state) (alu_operand_set s w op x source set)
           (reg_allowed p e a s m x) (operand_allowed p e a s w source b m operand),
     )
@@ -140,39 +150,43 @@ puts_yields p clock e a s (Neg w x) d k fits m set written h =
     let same : x ≡ d = cc in (
       on_number (negated w) (reg s x),
       ap (λ y. sets s (Neg w x) y (on_number (negated w) (reg s x))) same,
-      on_number_yields e (negated w) (IsNegated w) (kind_of a x) k (reg s x) (λ b c is. is.contains) h
-          (reg_allowed p e a s m x),
+      yields_in p e a s k _ m (on_number_yields e (negated w) (IsNegated w) (kind_of a x) k (reg s x) (λ b c is. is.contains) h
+          (reg_allowed p e a s m x)),
     )
 puts_yields p clock e a s (MovSx by x r) d k fits m set written h =
     let same : x ≡ d = cc in (
       on_number (sign_extended by) (reg s r),
       ap (λ y. sets s (MovSx by x r) y (on_number (sign_extended by) (reg s r))) same,
-      on_number_yields e (sign_extended by) (IsSignExtended by) (kind_of a r) k (reg s r) (λ b c is. is.contains) h
-          (reg_allowed p e a s m r),
+      yields_in p e a s k _ m (on_number_yields e (sign_extended by) (IsSignExtended by) (kind_of a r) k (reg s r) (λ b c is. is.contains) h
+          (reg_allowed p e a s m r)),
     )
 puts_yields p clock e a s (ByteSwap order span x) d k fits m set written h =
     let same : x ≡ d = cc in (
       on_number (reordered order span) (reg s x),
       ap (λ y. sets s (ByteSwap order span x) y (on_number (reordered order span) (reg s x))) same,
-      on_number_yields e (reordered order span) (IsReordered order span) (kind_of a x) k (reg s x) (λ b c is. is.contains) h
-          (reg_allowed p e a s m x),
+      yields_in p e a s k _ m (on_number_yields e (reordered order span) (IsReordered order span) (kind_of a x) k (reg s x) (λ b c is. is.contains) h
+          (reg_allowed p e a s m x)),
     )
 puts_yields p clock e a s (LoadNumber x n) d k fits m set written h =
     let same : x ≡ d = cc in
-    (Ok (value.Num n), ap (λ y. sets s (LoadNumber x n) y (Ok (value.Num n))) same, just_allowed e k n h)
-  where
-    just_allowed : (e : Assigned) (k : Kind) (n : ℕ) → IsJust k n → Allows e k (value.Num n)
-    just_allowed e (kind.Number c) n h = (n, refl, h.0)
-    just_allowed e k n h = absurd h
+    let (b, just, is) = h in
+    let kind : k ≡ b = cc in
+    (Ok (value.Num n), ap (λ y. sets s (LoadNumber x n) y (Ok (value.Num n))) same, yields_in p e a s k (Ok (value.Num n)) m (rw kind (just_allowed e b n just)))
 puts_yields p clock e a s (Load size x place) d k fits m set written h =
     let same : x ≡ d = cc in
     let result : Result Value TrapReason = load s size (base_of s place) place.offset in (
       result,
       ap (λ y. sets s (Load size x place) y result) same,
-      load_yields e s size (kind_of a place.base) k place.offset (base_of s place) h m.is_state.interface m.is_state.queue
-          (reg_allowed p e a s m place.base),
+      yields_in p e a s k result m (load_yields p e a s size (kind_of a place.base) k place.offset (base_of s place) m h (reg_allowed p e a s m place.base)),
     )
-puts_yields p clock e a s i d k fits m set written h = absurd h
+puts_yields p clock e a s (LoadSx size x place) d k fits m set written h =
+    let same : x ≡ d = cc in
+    let result : Result Value TrapReason = load_signed s size (base_of s place) place.offset in (
+      result,
+      ap (λ y. sets s (LoadSx size x place) y result) same,
+      yields_in p e a s k result m (load_signed_yields p e a s size (kind_of a place.base) k place.offset (base_of s place) m h (reg_allowed p e a s m place.base)),
+    )
+puts_yields p clock e a s i d k fits m set written h = absurd (cc)
 
 below_eleven : (r : Reg) → reg_number r < 11
 below_eleven R0 = omega arith
@@ -205,36 +219,59 @@ sets_in : (p : Program) (clock : ℕ → ℕ) (e : Assigned) (a : State) (s : Ma
     → InsnFits i → s.slot + slots_of i ≤ length p.insns → MeansBy p e a s → list_any (unset_in s) (reads i) ≡ false
     → w ≡ ways.One → Sets a i b → After (InSome p w b c) (act p clock s i)
 sets_in p clock e a s i w b c fits inside m set one h =
-    let (r, is, yields) = puts_yields p clock e a s i h.register h.kind fits m set h.written h.puts in
+    let (r, is, y) = puts_yields p clock e a s i h.register h.kind fits m set h.written h.puts in
     let next : State = go_to (with_register a h.register h.kind) (a.slot + slots_of i) in
-    After-weaker (MeansBy p e next) (InSome p w b c) (act p clock s i) (λ t means. one_means p e w b c next t one h.next means)
-    (sets_goes p clock e a s i h.register h.kind r fits inside m h.own is yields)
+    After-weaker (MeansBy p y.0 next) (InSome p w b c) (act p clock s i) (λ t means. one_means p y.0 w b c next t one h.next means)
+    (sets_goes p clock y.0 a s i h.register h.kind r fits inside y.1 h.own is y.2)
+
+-- ---- stores
+
+-- the machine goes on with what is left
+left_goes : (p : Program) (e : Assigned) (a : State) (s : Machine.State) (i : Insn) (went : Result Machine.State TrapReason) (w : Ways) (b c left : State)
+    → slots_of i ≡ 1 → IfNext (goes_on s i went) (IsState p) → MeansBy p e a s → GoesInto p e left went → w ≡ ways.One → b ≡ go_to left (a.slot + 1)
+    → After (InSome p w b c) (goes_on s i went)
+left_goes p e a s i (Ok t) w b c left one is m goes way next =
+    let n : ℕ = s.slot + slots_of i in
+    let gone = MeansBy-go_to p e left t n is.slot goes in
+    let same : n ≡ a.slot + 1 = ap (λ k. s.slot + k) one ∙ ap (λ k. k + 1) m.slot_is in
+    one_means p e w b c (go_to left (a.slot + 1)) (Machine.go_to t n) way next
+    (subst (λ k. MeansBy p e (go_to left k) (Machine.go_to t n)) same gone)
+left_goes p e a s i (Err reason) w b c left one is m goes way next = absurd goes
+
+goes_in : (p : Program) (e : Assigned) (a : State) (s : Machine.State) (i : Insn) (leaves : State → Result (Unit {0}) Refusal → Type 0)
+    (went : Result Machine.State TrapReason) (w : Ways) (b c : State) → slots_of i ≡ 1 → MeansBy p e a s
+    → ((left : State) → leaves left (Ok tt) → GoesInto p e left went) → IfNext (goes_on s i went) (IsState p) → GoesOn a leaves (Ok w) b
+    → After (InSome p w b c) (goes_on s i went)
+goes_in p e a s i leaves went w b c one m goes is h =
+    left_goes p e a s i went w b c h.1.left one is m (goes h.1.left h.1.leaving) h.0 h.1.next
+
+stores_in : (p : Program) (e : Assigned) (a : State) (s : Machine.State) (i : Insn) (size : Size) (place : Place) (source : Kind) (u : Value) (w : Ways) (b c : State)
+    → slots_of i ≡ 1 → MeansBy p e a s → Allows e source u → IsValue (length p.maps) s.next_serial u
+    → IfNext (goes_on s i (store s size (base_of s place) place.offset u)) (IsState p) → GoesOn a (StoresAt a size place source) (Ok w) b
+    → After (InSome p w b c) (goes_on s i (store s size (base_of s place) place.offset u))
+stores_in p e a s i size place source u w b c one m allowed fits is h =
+    goes_in p e a s i (StoresAt a size place source) (store s size (base_of s place) place.offset u) w b c one m
+    (λ left stores. store_goes p e a s size (kind_of a place.base) source place.offset (base_of s place) u left m stores
+    (reg_allowed p e a s m place.base) allowed fits) is h
+
+-- FETCH keeps the old number
+fetches : (w : Width) (op : AtomicOp) (fetched : Bool) (place : Place) (r : Reg)
+    → fetched_into fetched r ≡ keep_old (writes (Atomic w op fetched place r))
+fetches w op true place r = refl
+fetches w op false place r = refl
 
 -- ---- jumps
 
 jumps_in : (p : Program) (e : Assigned) (a : State) (s : Machine.State) (by : ℤ) (w : Ways) (b c : State)
-    → IfNext (jumps s p by) (IsState p) → MeansBy p e a s → JumpsTo p a by w b → After (InSome p w b c) (jumps s p by)
+    → IfNext (jumps s p by) (IsState p) → MeansBy p e a s → JumpsTo p a by (Ok w) b → After (InSome p w b c) (jumps s p by)
 jumps_in p e a s by w b c is m h =
     let n : ℕ = destination p s.slot by in
-    one_means p e w b c (go_to a (destination p a.slot by)) (Machine.go_to s n) h.0 h.1
+    one_means p e w b c (go_to a (destination p a.slot by)) (Machine.go_to s n) (cc h.0) h.1
     (subst (λ m. MeansBy p e (go_to a (destination p m by)) (Machine.go_to s n)) m.slot_is (MeansBy-go_to p e a s n is.slot m))
 
 number_there : (e : Assigned) (k : Kind) (v : Value) → IsNumber k → Allows e k v → (n : ℕ) × (v ≡ value.Num n)
 number_there e (kind.Number c) v h allowed = (allowed.0, allowed.1)
 number_there e k v h allowed = absurd h
-
-tested_there : (p : Program) (e : Assigned) (a : State) (s : Machine.State) (cond : Cond) (source : Operand) → MeansBy p e a s
-    → IsNumber (kind_of a cond.register) → IsNumberOperand a source → (t : Bool) × (tested s cond source ≡ Ok t)
-tested_there p e a s cond (Constant k) m left right =
-    let (x, is) = number_there e (kind_of a cond.register) (reg s cond.register) left (reg_allowed p e a s m cond.register) in
-    (holds cond.comparison cond.width x (unsigned cond.width k), ap (λ v. compared_constant cond.comparison cond.width v k) is)
-tested_there p e a s cond (Register r) m left right =
-    let (x, is) = number_there e (kind_of a cond.register) (reg s cond.register) left (reg_allowed p e a s m cond.register) in
-    let (y, is_other) = number_there e (kind_of a r) (reg s r) right (reg_allowed p e a s m r) in (
-      holds cond.comparison cond.width x y,
-      ap (λ v. compared (length s.packet) cond.comparison cond.width v (reg s r)) is
-          ∙ ap (compared (length s.packet) cond.comparison cond.width (value.Num x)) is_other,
-    )
 
 -- the side that the test goes to is one of the successors
 stay_means : (p : Program) (e : Assigned) (stays goes : Bool) (stay go : State) (w : Ways) (b c : State) (t : Machine.State)
@@ -256,12 +293,12 @@ branches_in : (p : Program) (e : Assigned) (a : State) (s : Machine.State) (cond
     → After (InSome p w b c) (branches s p by (Ok t))
 unfolding Keeps
 branches_in p e a s cond by w b c true says is m h =
-    let (some, kept) = h.kept_go p e s m says in
+    let (some, kept) = h.taken_there.kept p e s m says in
     let n : ℕ = destination p s.slot by in
     go_means p e h.stays h.goes (go_to h.stay (a.slot + 1)) (go_to h.go (destination p a.slot by)) w b c (Machine.go_to s n) h.sides some
     (subst (λ m. MeansBy p e (go_to h.go (destination p m by)) (Machine.go_to s n)) m.slot_is (MeansBy-go_to p e h.go s n is.slot kept))
 branches_in p e a s cond by w b c false says is m h =
-    let (some, kept) = h.kept_stay p e s m says in
+    let (some, kept) = h.left_there.kept p e s m says in
     let n : ℕ = s.slot + 1 in
     stay_means p e h.stays h.goes (go_to h.stay (a.slot + 1)) (go_to h.go (destination p a.slot by)) w b c (Machine.go_to s n) h.sides some
     (subst (λ m. MeansBy p e (go_to h.stay (m + 1)) (Machine.go_to s n)) m.slot_is (MeansBy-go_to p e h.stay s n is.slot kept))
@@ -271,9 +308,21 @@ branches_in p e a s cond by w b c false says is m h =
 finishes_after : (P : Machine.State → Type 0) (v : Value) (n : ℕ) → v ≡ value.Num n → After P (finishes v)
 finishes_after P v n is = subst (λ v. After P (finishes v)) (sym is) tt
 
+answered_number : (k : Kind) (w : Ways) → Ok w ≡ answered k → IsNumber k
+answered_number (kind.Number numbers) w h = tt
+answered_number k w h = absurd (cc)
+
+exited_one : (frames : ℕ) (k : Kind) (w : Ways) → Ok w ≡ exited frames k → (frames ≡ 1) × IsNumber k
+exited_one frames k w h =
+    elim (frames == 1) as (λ b. (frames == 1) ≡ b → Ok w ≡ (if b then answered k else Err NotBuilt) → (frames ≡ 1) × IsNumber k) [
+      | true ↦ λ test h. (grind (arith, nat_tests), answered_number k w h)
+      | false ↦ λ test h. absurd (cc)
+    ] refl h
+
 exits_in : (p : Program) (e : Assigned) (a : State) (s : Machine.State) (w : Ways) (b c : State) → MeansBy p e a s
-    → depth a ≡ 1 → IsNumber (kind_of a R0) → After (InSome p w b c) (exits s)
-exits_in p e a s w b c m one number =
+    → Ok w ≡ exited (depth a) (kind_of a R0) → After (InSome p w b c) (exits s)
+exits_in p e a s w b c m h =
+    let (one, number) = exited_one (depth a) (kind_of a R0) w h in
     let (x, is) = number_there e (kind_of a R0) (reg s R0) number (reg_allowed p e a s m R0) in
     let same : length s.frames ≡ 1 = depth_is_length p e a s m ∙ one in
     let first : (length s.frames == 1) ≡ true = grind (arith, nat_tests) in
@@ -281,33 +330,67 @@ exits_in p e a s w b c m one number =
 
 -- ---- instructions
 
-makes_in : (p : Program) (clock : ℕ → ℕ) (e : Assigned) (a : State) (s : Machine.State) (i : Insn) (w : Ways) (b c : State)
-    → InsnFits i → s.slot + slots_of i ≤ length p.insns → MeansBy p e a s → list_any (unset_in s) (reads i) ≡ false
-    → IfNext (act p clock s i) (IsState p) → Makes p a i w b c → After (InSome p w b c) (act p clock s i)
+performs_in : (p : Program) (clock : ℕ → ℕ) (e : Assigned) (a : State) (s : Machine.State) (i : Insn) (w : Ways) (b c : State)
+    → is_frame_pointer (writes i) ≡ false → InsnFits i → s.slot + slots_of i ≤ length p.insns → MeansBy p e a s → list_any (unset_in s) (reads i) ≡ false
+    → IfNext (act p clock s i) (IsState p) → Performs p a i (Ok w) b c → After (InSome p w b c) (act p clock s i)
 unfolding act
-makes_in p clock e a s (Jump by) w b c fits inside m set is h = jumps_in p e a s by w b c is m h
-makes_in p clock e a s (JumpLong by) w b c fits inside m set is h = jumps_in p e a s by w b c is m h
-makes_in p clock e a s (JumpIf cond by) w b c fits inside m set is h =
-    let (t, says) = tested_there p e a s cond cond.operand m h.compared.0 h.compared.1 in
+performs_in p clock e a s (StoreConstant size place k) w b c own fits inside m set is h =
+    let (source, just, stores) = h in
+    stores_in p e a s (StoreConstant size place k) size place source (value.Num (unsigned Full64 k)) w b c refl m
+    (just_allowed e source (unsigned Full64 k) just) (unsigned_fits Full64 k fits.1) is stores
+performs_in p clock e a s (Store size place r) w b c own fits inside m set is h =
+    stores_in p e a s (Store size place r) size place (kind_of a r) (reg s r) w b c refl m
+    (reg_allowed p e a s m r) (reg_fits p s r m.is_state) is h
+performs_in p clock e a s (Atomic v op fetched place r) w b c own fits inside m set is h =
+    goes_in p e a s (Atomic v op fetched place r) (SwapsAtPlace a v place r (writes (Atomic v op fetched place r)))
+    (and_then (atomic_number (reg s r)) (λ y. swaps_in s v place (λ x. alu (atomic_alu op) v x y) (fetched_into fetched r))) w b c refl m
+    (λ left swaps. swap_goes p e a s (kind_of a r) (kind_of a place.base) (reg s r) v place (writes (Atomic v op fetched place r)) left
+    (λ y x. alu (atomic_alu op) v x y) (fetched_into fetched r) m own (reg_allowed p e a s m r) (reg_allowed p e a s m place.base)
+    (fetches v op fetched place r) swaps) is h
+performs_in p clock e a s (Exchange v place r) w b c own fits inside m set is h =
+    goes_in p e a s (Exchange v place r) (SwapsAtPlace a v place r (Some r))
+    (and_then (atomic_number (reg s r)) (λ y. swaps_in s v place (λ x. y) (fetched_into true r))) w b c refl m
+    (λ left swaps. swap_goes p e a s (kind_of a r) (kind_of a place.base) (reg s r) v place (Some r) left
+    (λ y x. y) (fetched_into true r) m own (reg_allowed p e a s m r) (reg_allowed p e a s m place.base) refl swaps) is h
+performs_in p clock e a s (CompareExchange v place r) w b c own fits inside m set is h =
+    goes_in p e a s (CompareExchange v place r) (ComparesAtPlace a v place r)
+    (and_then (atomic_number (reg s r)) (λ y. and_then (atomic_number (reg s R0)) (λ x.
+    swaps_in s v place (λ old. if old == low v x then y else old) (fetched_into true R0)))) w b c refl m
+    (λ left compares. compare_and_swap_goes p e a s (kind_of a r) (kind_of a place.base) (reg s r) v place left
+    (λ y x old. if old == low v x then y else old) (fetched_into true R0) m (reg_allowed p e a s m r) (reg_allowed p e a s m place.base)
+    refl compares) is h
+performs_in p clock e a s (Jump by) w b c own fits inside m set is h = jumps_in p e a s by w b c is m h
+performs_in p clock e a s (JumpLong by) w b c own fits inside m set is h = jumps_in p e a s by w b c is m h
+performs_in p clock e a s (JumpIf cond by) w b c own fits inside m set is h =
+    let (t, says) = test-defined p e a s cond h.compared m in
     subst (λ r. After (InSome p w b c) (branches s p by r)) (sym says)
     (branches_in p e a s cond by w b c t says (subst (λ r. IfNext (branches s p by r) (IsState p)) says is) m h)
-makes_in p clock e a s Exit w b c fits inside m set is h = exits_in p e a s w b c m h.1 h.2
-makes_in p clock e a s i w b c fits inside m set is h = sets_in p clock e a s i w b c fits inside m set h.0 h.1
+performs_in p clock e a s (CallLocal by) w b c own fits inside m set is h = absurd (cc)
+performs_in p clock e a s Exit w b c own fits inside m set is h = exits_in p e a s w b c m h
+performs_in p clock e a s i w b c own fits inside m set is h = sets_in p clock e a s i w b c fits inside m set h.0 h.1
 
--- once the tests of its registers pass, no machine state that is meant traps, and each goes into a successor
-pub Makes-leads : (p : Program) (a : State) (i : Insn) (w : Ways) (b c : State) → IsProgram p → fetch p a.slot ≡ Some i
-    → register_refusal a i ≡ None → Makes p a i w b c → LeadsTo p a w b c
+-- a step that is made passed the tests
+tested_rest : (x y : Bool) (u v : Refusal) (w : Ways) (Rest : Type 0) → Tested (if x then Some u else if y then Some v else None) (Ok w) Rest
+    → (x ≡ false) × (y ≡ false) × Rest
+tested_rest true y u v w Rest h = absurd (cc)
+tested_rest false true u v w Rest h = absurd (cc)
+tested_rest false false u v w Rest h = (refl, refl, h)
+
+-- no machine state that is meant traps, and each goes into a successor
+pub Steps-leads : (p : Program) (a : State) (i : Insn) (w : Ways) (b c : State) → IsProgram p → fetch p a.slot ≡ Some i
+    → Steps p a i (Ok w) b c → LeadsTo p a w b c
 unfolding LeadsTo Means step
-Makes-leads p a i w b c program here pass h = λ clock _ s means.
+Steps-leads p a i w b c program here h = λ clock _ s means.
     let (e, m) = means in
-    let (known, own) = tests_pass (reads_unset a i) (is_frame_pointer (writes i)) UnsetRegister ReadOnlyRegister pass in
+    let (known, own, performs) =
+    tested_rest (reads_unset a i) (is_frame_pointer (writes i)) UnsetRegister ReadOnlyRegister w (Performs p a i (Ok w) b c) h in
     let set = none_unset p e a s m (reads i) known in
     let at : fetch p s.slot ≡ Some i = ap (fetch p) m.slot_is ∙ here in
     let fits = program.fits s.slot i at in
     let inside = program.inside s.slot i at in
     let acts : performed_at p clock s (fetch p s.slot) ≡ act p clock s i = ap (performed_at p clock s) at ∙ performed_acts p clock s i set own in
     subst (After (InSome p w b c)) (sym acts)
-    (makes_in p clock e a s i w b c fits inside m set (act_keeps p clock s i fits inside m.is_state) h)
+    (performs_in p clock e a s i w b c own fits inside m set (act_keeps p clock s i fits inside m.is_state) performs)
 
 -- ---- where it leads
 
@@ -321,20 +404,50 @@ each_side true false stay go w b c P h x y = each_one w b c P h.0 (subst P (sym 
 each_side false true stay go w b c P h x y = each_one w b c P h.0 (subst P (sym h.1) y)
 each_side false false stay go w b c P h x y = subst (λ v. EachWay v b c P) (sym h) tt
 
+answered_none : (k : Kind) (w : Ways) → Ok w ≡ answered k → w ≡ ways.None
+answered_none (kind.Number numbers) w h = cc
+answered_none k w h = absurd (cc)
+
+exits_nowhere : (frames : ℕ) (k : Kind) (w : Ways) (b c : State) (P : State → Type 0) → Ok w ≡ exited frames k → EachWay w b c P
+exits_nowhere frames k w b c P h =
+    elim (frames == 1) as (λ x. Ok w ≡ (if x then answered k else Err NotBuilt) → EachWay w b c P)
+    [ true ↦ λ h. subst (λ v. EachWay v b c P) (sym (answered_none k w h)) tt | false ↦ λ h. absurd (cc) ] h
+
 sets_follows : (p : Program) (a : State) (i : Insn) (w : Ways) (b c : State) → fetch p a.slot ≡ Some i → falls_through i ≡ true
     → w ≡ ways.One → Sets a i b → EachWay w b c (λ next. Follows p a.slot next.slot)
 sets_follows p a i w b c here falls one h =
     each_one w b c (λ next. Follows p a.slot next.slot) one (i, here, inl (falls, ap (λ next. next.slot) h.next))
 
-pub Makes-follows : (p : Program) (a : State) (i : Insn) (w : Ways) (b c : State) → fetch p a.slot ≡ Some i → Makes p a i w b c
+goes_follows : (p : Program) (a : State) (i : Insn) (leaves : State → Result (Unit {0}) Refusal → Type 0) (w : Ways) (b c : State)
+    → fetch p a.slot ≡ Some i → falls_through i ≡ true → slots_of i ≡ 1 → GoesOn a leaves (Ok w) b
     → EachWay w b c (λ next. Follows p a.slot next.slot)
-Makes-follows p a (Jump by) w b c here h =
-    each_one w b c (λ next. Follows p a.slot next.slot) h.0 (Jump by, here, inr (by, refl, ap (λ next. next.slot) h.1))
-Makes-follows p a (JumpLong by) w b c here h =
-    each_one w b c (λ next. Follows p a.slot next.slot) h.0 (JumpLong by, here, inr (by, refl, ap (λ next. next.slot) h.1))
-Makes-follows p a (JumpIf cond by) w b c here h =
+goes_follows p a i leaves w b c here falls one h =
+    each_one w b c (λ next. Follows p a.slot next.slot) h.0
+    (i, here, inl (falls, ap (λ next. next.slot) h.1.next ∙ ap (λ k. a.slot + k) (sym one)))
+
+performs_follows : (p : Program) (a : State) (i : Insn) (w : Ways) (b c : State) → fetch p a.slot ≡ Some i → Performs p a i (Ok w) b c
+    → EachWay w b c (λ next. Follows p a.slot next.slot)
+performs_follows p a (Jump by) w b c here h =
+    each_one w b c (λ next. Follows p a.slot next.slot) (cc h.0) (Jump by, here, inr (by, refl, ap (λ next. next.slot) h.1))
+performs_follows p a (JumpLong by) w b c here h =
+    each_one w b c (λ next. Follows p a.slot next.slot) (cc h.0) (JumpLong by, here, inr (by, refl, ap (λ next. next.slot) h.1))
+performs_follows p a (JumpIf cond by) w b c here h =
     each_side h.stays h.goes (go_to h.stay (a.slot + 1)) (go_to h.go (destination p a.slot by)) w b c (λ next. Follows p a.slot next.slot) h.sides
     (JumpIf cond by, here, inl (refl, refl)) (JumpIf cond by, here, inr (by, refl, refl))
-Makes-follows p a Exit w b c here h = subst (λ v. EachWay v b c (λ next. Follows p a.slot next.slot)) (sym h.0) tt
-Makes-follows p a (CallLocal by) w b c here h = let none : None ≡ Some h.1.register = h.1.written in absurd (cc)
-Makes-follows p a i w b c here h = sets_follows p a i w b c here refl h.0 h.1
+performs_follows p a (CallLocal by) w b c here h = absurd (cc)
+performs_follows p a Exit w b c here h = exits_nowhere (depth a) (kind_of a R0) w b c (λ next. Follows p a.slot next.slot) h
+performs_follows p a (StoreConstant size place k) w b c here h =
+    goes_follows p a (StoreConstant size place k) _ w b c here refl refl h.2
+performs_follows p a (Store size place r) w b c here h = goes_follows p a (Store size place r) _ w b c here refl refl h
+performs_follows p a (Atomic v op fetched place r) w b c here h = goes_follows p a (Atomic v op fetched place r) _ w b c here refl refl h
+performs_follows p a (Exchange v place r) w b c here h = goes_follows p a (Exchange v place r) _ w b c here refl refl h
+performs_follows p a (CompareExchange v place r) w b c here h = goes_follows p a (CompareExchange v place r) _ w b c here refl refl h
+performs_follows p a i w b c here h = sets_follows p a i w b c here refl h.0 h.1
+
+-- each successor is at a slot that follows
+pub Steps-follows : (p : Program) (a : State) (i : Insn) (w : Ways) (b c : State) → fetch p a.slot ≡ Some i → Steps p a i (Ok w) b c
+    → EachWay w b c (λ next. Follows p a.slot next.slot)
+Steps-follows p a i w b c here h =
+    let (known, own, performs) =
+    tested_rest (reads_unset a i) (is_frame_pointer (writes i)) UnsetRegister ReadOnlyRegister w (Performs p a i (Ok w) b c) h in
+    performs_follows p a i w b c here performs

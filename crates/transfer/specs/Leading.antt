@@ -1,5 +1,5 @@
 -- Where an abstract step leads.
-use Rattle.std.specs.Prelude.{ℕ, ◌⊎◌}
+use Rattle.std.specs.Prelude.{ℕ, ◌⊎◌, Result, Ok, Err}
 use Rattle.isa_model.specs.Code.Instructions.{Program}
 use Rattle.isa_model.specs.Machine.States as Machine
 use Rattle.isa_model.specs.Machine.Steps.{step}
@@ -7,6 +7,7 @@ use Rattle.isa_model.specs.Running.Ends.{After}
 use Rattle.isa_model.specs.Machine.MachineStates.{IsClock}
 use Rattle.stack_state.specs.declared.states.State.{State}
 use Rattle.stack_state.specs.Meaning.{Means}
+use Rattle.transfer.specs.declared.refusals.Refusal.{Refusal}
 use Rattle.transfer.specs.declared.Ways.{Ways}
 use Rattle.transfer.specs.declared.Ways.TheVariants.{None, One, Two}
 use Rattle.transfer.specs.declared.Successors.{Successors}
@@ -30,7 +31,8 @@ LeadsTo p from ways a b =
     (clock : ℕ → ℕ) → IsClock clock → (s : Machine.State) → Means p from s → After (InSome p ways a b) (step p clock s)
 
 -- what is said of the ways and the two states, said of the successors
-abbrev pub Given : Successors → (Ways → State → State → Type 0) → Type 0
-Given successors.None P = (a b : State) × P None a b
-Given (successors.One a) P = (b : State) × P One a b
-Given (successors.Two a b) P = P Two a b
+abbrev pub Given : Result Successors Refusal → (Result Ways Refusal → State → State → Type 0) → Type 0
+Given (Ok successors.None) P = (a b : State) × P (Ok None) a b
+Given (Ok (successors.One a)) P = (b : State) × P (Ok One) a b
+Given (Ok (successors.Two a b)) P = P (Ok Two) a b
+Given (Err e) P = (a b : State) × P (Err e) a b

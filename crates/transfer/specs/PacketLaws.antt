@@ -45,7 +45,7 @@ use Rattle.stack_state.specs.MeaningLaws.{MeansBy-fresh}
 use Rattle.stack_state.specs.EffectLaws.{IfLeft}
 use Rattle.stack_state.specs.PacketEffects.{MeansBy-packet}
 use Rattle.transfer.specs.Results.{IsWord}
-use Rattle.transfer.specs.ResultLaws.{Yields, pointer_at_within}
+use Rattle.transfer.specs.ResultLaws.{Yields, YieldsUnder, pointer_at_within}
 use Rattle.transfer.specs.ContextLoads.{packet_start, IsField, IsFieldKind, ContextLoads}
 use Rattle.transfer.specs.Packets.{AreInPacket, IsOfSize, IsOfSignedSize, IsNumberOf, PacketLoads, PacketLoadsSigned, PacketStores, moved_by, lowest, highest, AreOffsets, IsFreshPointer, IsMovedFixed, IsMovedBy, PacketMoves}
 use Rattle.transfer.specs.declared.packets.PacketPointer.{PacketPointer}
@@ -238,10 +238,6 @@ fresh_allows e i from to z low high =
       to = subst (λ y. y ≤ℤ to) (sym same) high;
       inside = λ some. absurd (omega arith);
     }
-
--- under some assignment the state means what it did, and the kind allows the value
-abbrev pub YieldsUnder : Program → State → Machine.State → Kind → Result Value TrapReason → Type 0
-YieldsUnder p a s k answer = (f : Assigned) × MeansBy p f a s × Yields f k answer
 
 fresh_yields : (p : Program) (e : Assigned) (a : State) (s : Machine.State) (from to z : ℤ) (k : Kind) → IsFreshPointer a from to k
     → AreOffsets from to → from ≤ℤ z → z ≤ℤ to → MeansBy p e a s → YieldsUnder p a s k (moved_to region.Packet z)

@@ -1,11 +1,9 @@
 -- Each value that the machine computes is allowed by the kind that is given for it.
-use Rattle.std.specs.Prelude.{◌≡◌, ℕ, ◌<◌, ◌≤◌, ◌^◌, ℤ, pos, ◌+ℤ◌, ◌-ℤ◌, Bool, true, false, nat_le, unsigned_abs, if◌then◌else◌, List, slice_get, Option, Some, Result, Ok, Err, refl}
-use Rattle.std.proofs.Common.{inl, inr, sym, ap, ◌∙◌, subst, arith}
+use Rattle.std.specs.Prelude.{◌≡◌, ℕ, ◌<◌, ◌≤◌, ◌^◌, ℤ, Bool, true, false, length, nat_le, unsigned_abs, if◌then◌else◌, slice_get, Option, Some, None, Result, Ok, Err, refl}
+use Rattle.std.proofs.Common.{arith}
 use Rattle.std.proofs.lemmas.Bool.Decides.{nat_tests}
 use Rattle.isa_model.specs.declared.sizes.Width.{Width}
 use Rattle.isa_model.specs.declared.sizes.Width.TheVariants.{Low32, Full64}
-use Rattle.isa_model.specs.declared.sizes.Size.{Size}
-use Rattle.isa_model.specs.declared.sizes.Size.TheVariants.{U8, U16, U32, U64}
 use Rattle.isa_model.specs.declared.instructions.AluOp.{AluOp}
 use Rattle.isa_model.specs.declared.instructions.AluOp.TheVariants.{Mov, Add, Sub}
 use Rattle.isa_model.specs.declared.values.Region.{Region}
@@ -13,25 +11,32 @@ use Rattle.isa_model.specs.declared.values.Region.TheVariants as region
 use Rattle.isa_model.specs.declared.values.Value.{Value}
 use Rattle.isa_model.specs.declared.values.Value.TheVariants as value
 use Rattle.isa_model.specs.declared.ends.TrapReason.{TrapReason}
-use Rattle.isa_model.specs.declared.ends.TrapReason.TheVariants.{OutOfRange}
-use Rattle.isa_model.specs.Code.Numbers.{alu, low, signed}
+use Rattle.isa_model.specs.Code.Numbers.{alu, low}
 use Rattle.isa_model.specs.Code.NumberLemmas.{low_same}
 use Rattle.isa_model.specs.Machine.Pointers.{offset_limit, pointer_at, moved_to, moved, combined, arithmetic, on_number}
 use Rattle.isa_model.specs.Machine.States as Machine
 use Rattle.isa_model.specs.Machine.Steps.{is_unset}
 use Rattle.isa_model.specs.Machine.MachineStates.{IsValue}
-use Rattle.isa_model.specs.Machine.Memory.{load}
+use Rattle.isa_model.specs.Code.Instructions.{Program}
 use Rattle.reg_state.specs.declared.scalars.Scalar.{Scalar}
 use Rattle.reg_state.specs.declared.kinds.Kind.{Kind}
-use Rattle.reg_state.specs.declared.kinds.Kind.TheVariants.{Unset, Number, Context, Stack, Packet, PacketEnd, Map, MapValue, MapValueOrNull}
+use Rattle.reg_state.specs.declared.kinds.Kind.TheVariants.{Number, Stack}
 use Rattle.reg_state.specs.Scalars.{Has}
 use Rattle.reg_state.specs.Kinds.{Assigned, Allows}
-use Rattle.transfer.specs.Results.{IsWord, IsLowWord, OfNumber, moved_offset, MovesFrame, Moves, PointerAndNumber, NumberAndPointer, NumberAnd, PointerAnd, Combined, Copied, Arithmetic, Loads}
+use Rattle.reg_state.specs.Constants.{IsNumber-only}
+use Rattle.stack_state.specs.declared.states.State.{State}
+use Rattle.stack_state.specs.Meaning.{MeansBy}
+use Rattle.transfer.specs.declared.refusals.Refusal.TheVariants.{PointerOffset}
+use Rattle.transfer.specs.Results.{IsWord, IsLowWord, OfNumber, moved_offset, LeavesNumber, moved_frame, Moves, PointerAndNumber, NumberAndPointer, NumberAnd, PointerAnd, Combined, Copied, Arithmetic}
 
 -- the value is there, and the kind allows it
 abbrev pub Yields : Assigned → Kind → Result Value TrapReason → Type 0
 Yields e k (Ok v) = Allows e k v
 Yields e k (Err reason) = ⊥
+
+-- under some assignment the state means what it did, and the kind allows the value
+abbrev pub YieldsUnder : Program → State → Machine.State → Kind → Result Value TrapReason → Type 0
+YieldsUnder p a s k answer = (f : Assigned) × MeansBy p f a s × Yields f k answer
 
 -- ---- numbers
 
@@ -40,11 +45,12 @@ abbrev pub Computes : (ℕ → ℕ) → (Scalar → Scalar → Type 0) → Type 
 Computes f says = (a c : Scalar) → says a c → (x : ℕ) → Has a x → Has c (f x)
 
 pub on_number_yields : (e : Assigned) (f : ℕ → ℕ) (says : Scalar → Scalar → Type 0) (a k : Kind) (v : Value)
-    → Computes f says → OfNumber says a k → Allows e a v → Yields e k (on_number f v)
+    → Computes f says → OfNumber says a (Ok k) → Allows e a v → Yields e k (on_number f v)
 on_number_yields e f says (Number a) (Number c) v computes h allowed =
     let (x, is, member) = allowed in
     rw is (f x, refl, computes a c h x member)
-on_number_yields e f says a k v computes h allowed = absurd h
+on_number_yields e f says (Number a) k v computes h allowed = absurd h
+on_number_yields e f says a k v computes h allowed = absurd (cc)
 
 -- ---- pointers
 
@@ -52,94 +58,24 @@ on_number_yields e f says a k v computes h allowed = absurd h
 pub pointer_at_within : (r : Region) (z : ℤ) → unsigned_abs z ≤ offset_limit → pointer_at r z ≡ Ok (value.Ptr r z)
 pointer_at_within r z within = let yes : nat_le (unsigned_abs z) offset_limit ≡ true = grind (arith, nat_tests) in rw yes refl
 
-frame_moves : (e : Assigned) (back : Bool) (frame : ℕ) (offset : ℤ) (by : Scalar) (k : Kind) (x n : ℕ)
-    → MovesFrame back frame offset by k → Has by x → slice_get e.frames frame ≡ Some n
+-- where a pointer is left, it is there and within the limit
+frame_there : (frame : ℕ) (z : ℤ) (k : Kind) (b : Bool) → nat_le (unsigned_abs z) offset_limit ≡ b
+    → Ok k ≡ (if b then Ok (Stack frame z) else Err PointerOffset) → (k ≡ Stack frame z) × (unsigned_abs z ≤ offset_limit)
+frame_there frame z k true test is = (cc, grind (arith, nat_tests))
+frame_there frame z k false test is = absurd (cc)
+
+pub frame_moves : (e : Assigned) (back : Bool) (frame : ℕ) (offset : ℤ) (by : Scalar) (k : Kind) (x n : ℕ) (o : Option ℕ) → LeavesNumber by o → Has by x
+    → Ok k ≡ moved_frame back frame offset o → slice_get e.frames frame ≡ Some n
     → Yields e k (moved_to (region.Frame n) (moved_offset back offset x))
-frame_moves e back frame offset by k x n h member found =
-    let to : ℤ = moved_offset back offset h.number in
-    let there = pointer_at_within (region.Frame n) to h.within in
-    rw (h.only x member, there, h.moved) (n, found, refl)
+frame_moves e back frame offset by k x n (Some m) only member h found =
+    let to : ℤ = moved_offset back offset m in
+    let (is, within) = frame_there frame to k (nat_le (unsigned_abs to) offset_limit) refl h in
+    let there = pointer_at_within (region.Frame n) to within in
+    rw (IsNumber-only by m x only member, there, is) (n, found, refl)
+frame_moves e back frame offset by k x n None only member h found = absurd (cc)
 
--- pointer and number
-pub pointer_and_number_yields : (e : Assigned) (op : AluOp) (w : Width) (pointer : Kind) (by : Scalar) (k : Kind) (x : ℕ) (v : Value)
-    → PointerAndNumber op w pointer by k → Has by x → Allows e pointer v → Yields e k (combined op w v (value.Num x))
-pointer_and_number_yields e Add Full64 (Stack frame offset) by k x v h member allowed =
-    let (n, found, is) = allowed in
-    rw is (frame_moves e false frame offset by k x n h member found)
-pointer_and_number_yields e Sub Full64 (Stack frame offset) by k x v h member allowed =
-    let (n, found, is) = allowed in
-    rw is (frame_moves e true frame offset by k x n h member found)
-pointer_and_number_yields e Add Full64 pointer by k x v h member allowed = absurd h
-pointer_and_number_yields e Sub Full64 pointer by k x v h member allowed = absurd h
-pointer_and_number_yields e op w pointer by k x v h member allowed = absurd h
+-- ---- words
 
--- number and pointer
-pub number_and_pointer_yields : (e : Assigned) (op : AluOp) (w : Width) (by : Scalar) (pointer k : Kind) (x : ℕ) (v : Value)
-    → NumberAndPointer op w by pointer k → Has by x → Allows e pointer v → Yields e k (combined op w (value.Num x) v)
-number_and_pointer_yields e Add Full64 by (Stack frame offset) k x v h member allowed =
-    let (n, found, is) = allowed in
-    rw is (frame_moves e false frame offset by k x n h member found)
-number_and_pointer_yields e Add Full64 by pointer k x v h member allowed = absurd h
-number_and_pointer_yields e op w by pointer k x v h member allowed = absurd h
-
--- ---- arithmetic
-
-number_and_yields : (e : Assigned) (op : AluOp) (w : Width) (a : Scalar) (b k : Kind) (x : ℕ) (v : Value)
-    → NumberAnd op w a b k → Has a x → Allows e b v → Yields e k (combined op w (value.Num x) v)
-number_and_yields e op w a (Number b) (Number c) x v h member allowed =
-    let (y, is, other) = allowed in
-    rw is (alu op w x y, refl, h.contains x y member other)
-number_and_yields e op w a b k x v h member allowed = number_and_pointer_yields e op w a b k x v h member allowed
-
-pointer_and_yields : (e : Assigned) (op : AluOp) (w : Width) (a b k : Kind) (u v : Value)
-    → PointerAnd op w a b k → Allows e a u → Allows e b v → Yields e k (combined op w u v)
-pointer_and_yields e op w a (Number b) k u v h left right =
-    let (y, is, member) = right in
-    rw is (pointer_and_number_yields e op w a b k y u h member left)
-pointer_and_yields e op w a b k u v h left right = absurd h
-
-combined_yields : (e : Assigned) (op : AluOp) (w : Width) (a b k : Kind) (u v : Value)
-    → Combined op w a b k → Allows e a u → Allows e b v → Yields e k (combined op w u v)
-combined_yields e op w (Number a) b k u v h left right =
-    let (x, is, member) = left in
-    rw is (number_and_yields e op w a b k x v h member right)
-combined_yields e op w a b k u v h left right = pointer_and_yields e op w a b k u v h left right
-
-copied_whole : (e : Assigned) (rows next : ℕ) (b : Kind) (v : Value) → IsValue rows next v → is_unset v ≡ false → Allows e b v → Yields e b (moved Full64 v)
-copied_whole e rows next b value.Unset fits set allowed = absurd (cc)
-copied_whole e rows next b (value.Num n) fits set allowed = rw (low_same Full64 n fits) allowed
-copied_whole e rows next b (value.Ptr r z) fits set allowed = allowed
-
--- MOV at 32 bits computes the low word
-low_word_has : (a c : Scalar) (x : ℕ) → IsLowWord a c → Has a x → Has c (low Low32 x)
-unfolding alu
-low_word_has a c x h member = h.contains x x member member
-
-low_copied : (e : Assigned) (b k : Kind) (v : Value) → OfNumber IsLowWord b k → Allows e b v → Yields e k (moved Low32 v)
-low_copied e (Number a) (Number c) v h allowed =
-    let (x, is, member) = allowed in
-    rw is (low Low32 x, refl, low_word_has a c x h member)
-low_copied e b k v h allowed = absurd h
-
-copied_yields : (e : Assigned) (rows next : ℕ) (w : Width) (b k : Kind) (v : Value) → Copied w b k
-    → IsValue rows next v → is_unset v ≡ false → Allows e b v → Yields e k (moved w v)
-copied_yields e rows next Full64 b k v h fits set allowed = rw h (copied_whole e rows next b v fits set allowed)
-copied_yields e rows next Low32 b k v h fits set allowed = low_copied e b k v h allowed
-
-pub arithmetic_yields : (e : Assigned) (rows next : ℕ) (op : AluOp) (w : Width) (a b k : Kind) (u v : Value) → Arithmetic op w a b k
-    → IsValue rows next v → is_unset v ≡ false → Allows e a u → Allows e b v → Yields e k (arithmetic op w u v)
-arithmetic_yields e rows next Mov w a b k u v h fits set left right = copied_yields e rows next w b k v h fits set right
-arithmetic_yields e rows next op w a b k u v h fits set left right = combined_yields e op w a b k u v h left right
-
--- ---- loads
-
-word_yields : (e : Assigned) (k : Kind) (n : ℕ) → IsWord k → n < 2 ^ 32 → Allows e k (value.Num n)
+pub word_yields : (e : Assigned) (k : Kind) (n : ℕ) → IsWord k → n < 2 ^ 32 → Allows e k (value.Num n)
 word_yields e (Number c) n h small = (n, refl, (h n).1 small)
 word_yields e k n h small = absurd h
-
-pub load_yields : (e : Assigned) (s : Machine.State) (size : Size) (base k : Kind) (by : ℤ) (v : Value) → Loads size base by k
-    → s.interface < 2 ^ 32 → s.queue < 2 ^ 32 → Allows e base v → Yields e k (load s size v by)
-load_yields e s U32 Context k by v (inl at, word) interface queue allowed = rw (allowed, at) (word_yields e k s.interface word interface)
-load_yields e s U32 Context k by v (inr at, word) interface queue allowed = rw (allowed, at) (word_yields e k s.queue word queue)
-load_yields e s U32 base k by v (h, word) interface queue allowed = absurd h
-load_yields e s size base k by v (h, word) interface queue allowed = absurd h

@@ -1,18 +1,15 @@
 //! Arithmetic on kinds.
 
-ghost use Rattle.std.specs.Prelude.{◌≡◌, IfOk, IfErr, IsOk};
 ghost use Rattle.reg_state.specs.Arithmetic.{IsNegated, IsSignExtended, IsReordered};
-ghost use Rattle.branch_refine.specs.Refining.{IsNumber, IsJust};
-ghost use Rattle.transfer.specs.Refusing.{number_refusal, pointer_and_refusal, combined_refusal};
-ghost use Rattle.transfer.specs.Refusing.{arithmetic_refusal};
+ghost use Rattle.branch_refine.specs.Refining.{IsJust};
 ghost use Rattle.transfer.specs.Results.{OfNumber, IsLowWord, NumberAnd, PointerAnd, Combined};
-ghost use Rattle.transfer.specs.Results.{Copied, Arithmetic, IsNumberAnd, IsPointerAnd, IsCombined};
-ghost use Rattle.transfer.specs.Results.{IsCopied, IsArithmetic};
+ghost use Rattle.transfer.specs.Results.{Copied, Arithmetic};
 
 use crate::pointers::{number_and_pointer, pointer_and_number};
 use crate::refusals::Refusal;
 use isa_model::{AluOp, ByteOrder, Extension, Span, Width};
 use reg_state::{Domain, Kind, Scalar};
+use stack_state::State;
 
 /// The kind of a constant.
 pub fn constant(number: u64) -> Kind
@@ -23,9 +20,7 @@ pub fn constant(number: u64) -> Kind
 
 /// NEG.
 pub fn negated(width: Width, kind: Kind) -> Result<Kind, Refusal>
-    ensures gives { IfOk result (OfNumber (IsNegated width) kind) }
-    ensures accepts { IsNumber kind → IsOk result }
-    ensures refused { IfErr result (λ e. e ≡ Refusal.PointerOperand) }
+    ensures { OfNumber (IsNegated width) kind result }
 {
     match kind {
         Kind::Number(a) => Ok(Kind::Number(Scalar::negate(width, a))),
@@ -35,9 +30,7 @@ pub fn negated(width: Width, kind: Kind) -> Result<Kind, Refusal>
 
 /// MOVSX.
 pub fn sign_extended(extension: Extension, kind: Kind) -> Result<Kind, Refusal>
-    ensures gives { IfOk result (OfNumber (IsSignExtended extension) kind) }
-    ensures accepts { IsNumber kind → IsOk result }
-    ensures refused { IfErr result (λ e. e ≡ Refusal.PointerOperand) }
+    ensures { OfNumber (IsSignExtended extension) kind result }
 {
     match kind {
         Kind::Number(a) => Ok(Kind::Number(Scalar::sign_extend(extension, a))),
@@ -47,9 +40,7 @@ pub fn sign_extended(extension: Extension, kind: Kind) -> Result<Kind, Refusal>
 
 /// END.
 pub fn reordered(order: ByteOrder, span: Span, kind: Kind) -> Result<Kind, Refusal>
-    ensures gives { IfOk result (OfNumber (IsReordered order span) kind) }
-    ensures accepts { IsNumber kind → IsOk result }
-    ensures refused { IfErr result (λ e. e ≡ Refusal.PointerOperand) }
+    ensures { OfNumber (IsReordered order span) kind result }
 {
     match kind {
         Kind::Number(a) => Ok(Kind::Number(Scalar::reorder(order, span, a))),
@@ -59,9 +50,7 @@ pub fn reordered(order: ByteOrder, span: Span, kind: Kind) -> Result<Kind, Refus
 
 /// The low 32 bits of a number.
 fn low_word(kind: Kind) -> Result<Kind, Refusal>
-    ensures gives { IfOk result (OfNumber IsLowWord kind) }
-    ensures accepts { IsNumber kind → IsOk result }
-    ensures refused { IfErr result (λ e. e ≡ Refusal.PointerOperand) }
+    ensures { OfNumber IsLowWord kind result }
 {
     match kind {
         Kind::Number(a) => Ok(Kind::Number(Scalar::alu(AluOp::Mov, Width::Low32, a, a))),
@@ -71,9 +60,7 @@ fn low_word(kind: Kind) -> Result<Kind, Refusal>
 
 /// MOV: anything is copied at 64 bits, a number alone at 32.
 fn copied(width: Width, source: Kind) -> Result<Kind, Refusal>
-    ensures gives { IfOk result (Copied width source) }
-    ensures accepts { IsCopied width source → IsOk result }
-    ensures refused { IfErr result (λ e. e ≡ Refusal.PointerOperand) }
+    ensures { Copied width source result }
 {
     match width {
         Width::Full64 => Ok(source),
@@ -82,49 +69,41 @@ fn copied(width: Width, source: Kind) -> Result<Kind, Refusal>
 }
 
 /// A number on the left.
-fn number_and(op: AluOp, width: Width, a: Scalar, b: Kind) -> Result<Kind, Refusal>
-    ensures gives { IfOk result (NumberAnd op width a b) }
-    ensures accepts { IsNumberAnd op width a b → IsOk result }
-    ensures refused { IfErr result (λ e. e ≡ number_refusal op width b) }
+fn number_and(state: &State, op: AluOp, width: Width, a: Scalar, b: Kind) -> Result<Kind, Refusal>
+    ensures { NumberAnd state.now op width a b result }
 {
     match b {
         Kind::Number(number) => Ok(Kind::Number(Scalar::alu(op, width, a, number))),
-        _ => number_and_pointer(op, width, a, b),
+        _ => number_and_pointer(state, op, width, a, b),
     }
 }
 
 /// A pointer on the left.
-fn pointer_and(op: AluOp, width: Width, a: Kind, b: Kind) -> Result<Kind, Refusal>
-    ensures gives { IfOk result (PointerAnd op width a b) }
-    ensures accepts { IsPointerAnd op width a b → IsOk result }
-    ensures refused { IfErr result (λ e. e ≡ pointer_and_refusal op width a b) }
+fn pointer_and(state: &State, op: AluOp, width: Width, a: Kind, b: Kind) -> Result<Kind, Refusal>
+    ensures { PointerAnd state.now op width a b result }
 {
     match b {
-        Kind::Number(number) => pointer_and_number(op, width, a, number),
+        Kind::Number(number) => pointer_and_number(state, op, width, a, number),
         _ => Err(Refusal::PointerOperand),
     }
 }
 
 /// Every operation but MOV.
-fn combined(op: AluOp, width: Width, a: Kind, b: Kind) -> Result<Kind, Refusal>
-    ensures gives { IfOk result (Combined op width a b) }
-    ensures accepts { IsCombined op width a b → IsOk result }
-    ensures refused { IfErr result (λ e. e ≡ combined_refusal op width a b) }
+fn combined(state: &State, op: AluOp, width: Width, a: Kind, b: Kind) -> Result<Kind, Refusal>
+    ensures { Combined state.now op width a b result }
 {
     match a {
-        Kind::Number(number) => number_and(op, width, number, b),
-        _ => pointer_and(op, width, a, b),
+        Kind::Number(number) => number_and(state, op, width, number, b),
+        _ => pointer_and(state, op, width, a, b),
     }
 }
 
-/// What an arithmetic instruction gives on two operands.
-pub fn arithmetic(op: AluOp, width: Width, a: Kind, b: Kind) -> Result<Kind, Refusal>
-    ensures gives { IfOk result (Arithmetic op width a b) }
-    ensures accepts { IsArithmetic op width a b → IsOk result }
-    ensures refused { IfErr result (λ e. e ≡ arithmetic_refusal op width a b) }
+/// What an arithmetic instruction gives on two operands in a state.
+pub fn arithmetic(state: &State, op: AluOp, width: Width, a: Kind, b: Kind) -> Result<Kind, Refusal>
+    ensures { Arithmetic state.now op width a b result }
 {
     match op {
         AluOp::Mov => copied(width, b),
-        _ => combined(op, width, a, b),
+        _ => combined(state, op, width, a, b),
     }
 }

@@ -1,27 +1,32 @@
 //! Exits.
 
-ghost use Rattle.std.specs.Prelude.{◌≡◌, IfOk, IfErr, IsOk};
+ghost use Rattle.std.specs.Prelude.{◌≡◌};
 ghost use Rattle.stack_state.specs.Meaning.{depth};
 ghost use Rattle.stack_state.specs.Places.{kind_of};
-ghost use Rattle.branch_refine.specs.Refining.{IsNumber};
-ghost use Rattle.transfer.specs.Refusing.{exit_refusal};
+ghost use Rattle.transfer.specs.Exact.{answered, exited};
 
+use crate::Ways;
 use crate::refusals::Refusal;
 use isa_model::Reg;
 use reg_state::Kind;
 use stack_state::State;
 
+/// What the program answers.
+fn answered(kind: Kind) -> Result<Ways, Refusal>
+    ensures { result ≡ answered kind }
+{
+    match kind {
+        Kind::Number(_) => Ok(Ways::None),
+        _ => Err(Refusal::ExitValue),
+    }
+}
+
 /// The exit of the first frame, which answers a number.
-pub fn exit(state: &State) -> Result<(), Refusal>
-    ensures ends { IfOk result (λ _. (depth state.now ≡ 1) × IsNumber (kind_of state.now Reg.R0)) }
-    ensures accepts { depth state.now ≡ 1 → IsNumber (kind_of state.now Reg.R0) → IsOk result }
-    ensures refused { IfErr result (λ e. e ≡ exit_refusal (depth state.now)) }
+pub fn exit(state: &State) -> Result<Ways, Refusal>
+    ensures { result ≡ exited (depth state.now) (kind_of state.now Reg.R0) }
 {
     if !state.callers.is_empty() {
         return Err(Refusal::NotBuilt);
     }
-    match state.kind_of(Reg::R0) {
-        Kind::Number(_) => Ok(()),
-        _ => Err(Refusal::ExitValue),
-    }
+    answered(state.kind_of(Reg::R0))
 }

@@ -1,35 +1,54 @@
 //! Jumps.
 
-ghost use Rattle.std.specs.Prelude.{◌≡◌, ◌+◌, ◌<◌, ◌^◌, ◌↔◌, IfOk, IfErr, IsOk, IsTrue, length};
-ghost use Rattle.std.specs.Prelude.{unwrap_or};
+ghost use Rattle.std.specs.Prelude.{◌≡◌, ◌+◌, ◌<◌, ◌^◌, ◌↔◌, IsTrue, length};
 ghost use Rattle.isa_model.specs.Code.Instructions.{Program};
-ghost use Rattle.isa_model.specs.Machine.Steps.{target};
-ghost use Rattle.stack_state.specs.Places.{kind_of, go_to};
-ghost use Rattle.branch_refine.specs.Refining.{IsNumber, IsNumberOperand, AreCompared};
-ghost use Rattle.transfer.specs.Exact.{Sides, Branches};
+ghost use Rattle.branch_refine.specs.Comparing.{compared_by, IsDefined};
+ghost use Rattle.transfer.specs.Refusing.{is_untested, is_untested_operand, comparison_refusal};
+ghost use Rattle.transfer.specs.Exact.{Sides, BranchesOr};
 
 use crate::Ways;
 use crate::refusals::Refusal;
-use branch_refine::refine_in_place;
-use isa_model::{Cond, Operand, Reg, destination};
+use branch_refine::{Compared, compared_by, refine_in_place};
+use isa_model::{Cond, Operand, destination};
 use reg_state::Kind;
 use stack_state::State;
 
-fn is_number(state: &State, register: Reg) -> bool
-    ensures { IsTrue result ↔ IsNumber (kind_of state.now register) }
+/// Whether the comparison is defined.
+fn is_defined(cond: Cond, state: &State) -> bool
+    ensures { IsTrue result ↔ IsDefined (compared_by state.now cond) }
 {
-    match state.kind_of(register) {
-        Kind::Number(_) => true,
+    match compared_by(cond, state) {
+        Compared::Undefined => false,
+        _ => true,
+    }
+}
+
+fn is_untested(kind: Kind) -> bool
+    ensures { result ≡ is_untested kind }
+{
+    match kind {
+        Kind::MapValueOrNull { .. } => true,
         _ => false,
     }
 }
 
-fn is_number_operand(state: &State, source: Operand) -> bool
-    ensures { IsTrue result ↔ IsNumberOperand state.now source }
+fn is_untested_operand(state: &State, operand: Operand) -> bool
+    ensures { result ≡ is_untested_operand state.now operand }
 {
-    match source {
-        Operand::Constant(_) => true,
-        Operand::Register(register) => is_number(state, register),
+    match operand {
+        Operand::Constant(_) => false,
+        Operand::Register(register) => is_untested(state.kind_of(register)),
+    }
+}
+
+/// Why a comparison that is not defined is refused.
+fn comparison_refusal(cond: Cond, state: &State) -> Refusal
+    ensures { result ≡ comparison_refusal state.now cond }
+{
+    if is_untested(state.kind_of(cond.register)) || is_untested_operand(state, cond.operand) {
+        Refusal::NullNotTested
+    } else {
+        Refusal::Comparison
     }
 }
 
@@ -49,7 +68,7 @@ fn joined(stays: bool, goes: bool, stay: &mut State, go: &State) -> Ways
     }
 }
 
-/// A conditional jump on numbers.
+/// A conditional jump.
 pub fn jump_if(
     cond: Cond,
     by: i32,
@@ -58,13 +77,11 @@ pub fn jump_if(
     other: &mut State,
 ) -> Result<Ways, Refusal>
     requires { state.old.slot < 2 ^ 63 }
-    ensures branches { IfOk result (λ ways. (p : Program) → length p.insns ≡ slots
-        → Branches p state.old cond by ways state.new other.new) }
-    ensures accepts { AreCompared state.old cond → IsOk result }
-    ensures refused { IfErr result (λ e. e ≡ Refusal.Comparison) }
+    ensures { (p : Program) → length p.insns ≡ slots
+        → BranchesOr p state.old cond by result state.new other.new }
 {
-    if !is_number(state, cond.register) || !is_number_operand(state, cond.operand) {
-        return Err(Refusal::Comparison);
+    if !is_defined(cond, state) {
+        return Err(comparison_refusal(cond, state));
     }
     let next = state.slot + 1;
     let target = destination(state.slot, by, slots);

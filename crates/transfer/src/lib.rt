@@ -1,15 +1,15 @@
 //! One abstract step: where the instruction at a state's slot leads.
 #![tactic(auto)]
 
-ghost use Rattle.std.specs.Prelude.{◌≡◌, ◌<◌, Some, IfOk, IfErr, IsOk, IsSome};
+ghost use Rattle.std.specs.Prelude.{◌≡◌, Some, IfOk, IsSome};
 ghost use Rattle.isa_model.specs.declared.instructions.Insn.{Insn};
 ghost use Rattle.isa_model.specs.Code.Instructions.{fetch};
 ghost use Rattle.isa_model.specs.Machine.Successors.{Follows};
 ghost use Rattle.transfer.specs.Leading.{Given, LeadsTo, EachWay};
-ghost use Rattle.transfer.specs.Refusing.{register_refusal, Decides, Refuses};
-ghost use Rattle.transfer.specs.Exact.{Makes, IsAccepted};
+ghost use Rattle.transfer.specs.Exact.{Steps};
 
 mod arithmetic;
+mod atomics;
 mod context;
 mod exits;
 mod jumps;
@@ -17,6 +17,7 @@ mod memory;
 mod packets;
 mod pointers;
 pub mod refusals;
+mod stacks;
 mod steps;
 
 use crate::steps::{perform, reads_unset};
@@ -48,17 +49,10 @@ pub enum Successors {
 /// goes into a successor.
 pub fn step(image: &Image, state: &State) -> Result<Successors, Refusal>
     requires { IsSome (fetch image.now state.now.slot) }
-    ensures leads { IfOk result
-        (λ next. Given next (λ ways a b. LeadsTo image.now state.now ways a b)) }
-    ensures makes { (i : Insn) → fetch image.now state.now.slot ≡ Some i
-        → IfOk result (λ next. Given next (λ ways a b. Makes image.now state.now i ways a b)) }
-    ensures accepts { (i : Insn) → fetch image.now state.now.slot ≡ Some i
-        → register_refusal state.now i ≡ None
-        → IsAccepted state.now i → IsOk result }
-    ensures decides { (i : Insn) → fetch image.now state.now.slot ≡ Some i
-        → Decides state.now i (register_refusal state.now i) result }
-    ensures refuses { (i : Insn) → fetch image.now state.now.slot ≡ Some i
-        → IfErr result (Refuses state.now i) }
+    ensures leads { Given result
+        (λ r a b. IfOk r (λ ways. LeadsTo image.now state.now ways a b)) }
+    ensures steps { (i : Insn) → fetch image.now state.now.slot ≡ Some i
+        → Given result (λ r a b. Steps image.now state.now i r a b) }
 {
     let mut first = state.copy();
     let mut second = state.copy();
@@ -78,17 +72,9 @@ pub fn step_in_place(image: &Image, state: &mut State, other: &mut State) -> Res
         (λ ways. EachWay ways state.new other.new
         (λ next. Follows image.now state.old.slot next.slot)) }
 
-    // The successors, exactly; numbers are never refused, and the tests of the registers come
-    // first.
-    ensures makes { (i : Insn) → fetch image.now state.old.slot ≡ Some i
-        → IfOk result (λ ways. Makes image.now state.old i ways state.new other.new) }
-    ensures accepts { (i : Insn) → fetch image.now state.old.slot ≡ Some i
-        → register_refusal state.old i ≡ None
-        → IsAccepted state.old i → IsOk result }
-    ensures decides { (i : Insn) → fetch image.now state.old.slot ≡ Some i
-        → Decides state.old i (register_refusal state.old i) result }
-    ensures refuses { (i : Insn) → fetch image.now state.old.slot ≡ Some i
-        → IfErr result (Refuses state.old i) }
+    // The successors or the refusal, exactly.
+    ensures steps { (i : Insn) → fetch image.now state.old.slot ≡ Some i
+        → Steps image.now state.old i result state.new other.new }
 {
     let Some(insn) = image.at(state.slot) else {
         unreachable!()

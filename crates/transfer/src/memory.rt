@@ -1,90 +1,80 @@
-//! Access to memory: the two loads of the context's fields that give numbers, and why there is no
-//! other yet.
+//! Access to memory: loads and stores by what the base points to, and why there is none.
 
-ghost use Rattle.std.specs.Prelude.{◌≡◌, IfOk, IfErr, IsOk};
-ghost use Rattle.transfer.specs.Refusing.{access_refusal, at_place, atomic_refusal};
-ghost use Rattle.transfer.specs.Refusing.{exchange_refusal};
-ghost use Rattle.transfer.specs.Results.{IsWord, IsLoaded, Loads};
+ghost use Rattle.std.specs.Prelude.{◌≡◌};
+ghost use Rattle.transfer.specs.Accesses.{Loads, LoadsSigned, Stores};
+ghost use Rattle.transfer.specs.Refusing.{access_refusal};
 
+use crate::context::context_load;
+use crate::packets::{packet_load, packet_load_signed, packet_store};
 use crate::refusals::Refusal;
-use isa_model::{Size, Width};
-use reg_state::{Domain, Kind, Scalar};
+use crate::stacks::{stack_load, stack_load_signed, stack_store};
+use isa_model::{Narrow, Size};
+use reg_state::Kind;
+use stack_state::State;
 
-/// Any number of 32 bits.
-fn word() -> Kind
-    ensures { IsWord result }
-{
-    Kind::Number(Scalar::any(Width::Low32))
-}
-
-/// Why there is no access through a kind.
-pub fn access_refusal(base: Kind) -> Refusal
+/// Why there is no access through a kind, where no other test decides.
+fn access_refusal(base: Kind) -> Refusal
     ensures { result ≡ access_refusal base }
 {
     match base {
-        Kind::Unset | Kind::Number(_) | Kind::PacketEnd | Kind::Map { .. } => Refusal::NotMemory,
         Kind::Context => Refusal::ContextAccess,
-        Kind::Stack { .. } => Refusal::StackPlace,
-        Kind::Packet { .. } | Kind::MapValue { .. } => Refusal::NotBuilt,
+        Kind::MapValue { .. } => Refusal::NotBuilt,
         Kind::MapValueOrNull { .. } => Refusal::NullNotTested,
-    }
-}
-
-/// Why an atomic instruction on numbers is refused at a place.
-fn at_place(base: Kind) -> Refusal
-    ensures { result ≡ at_place base }
-{
-    match base {
-        Kind::Packet { .. } => Refusal::PacketAtomic,
-        _ => access_refusal(base),
-    }
-}
-
-/// Why an atomic instruction is refused.
-pub fn atomic_refusal(base: Kind, source: Kind) -> Refusal
-    ensures { result ≡ atomic_refusal base source }
-{
-    match source {
-        Kind::Number(_) => at_place(base),
-        _ => Refusal::PointerOperand,
-    }
-}
-
-/// The same where r0 is compared.
-pub fn exchange_refusal(compared: Kind, base: Kind, source: Kind) -> Refusal
-    ensures { result ≡ exchange_refusal compared base source }
-{
-    match compared {
-        Kind::Number(_) => atomic_refusal(base, source),
-        _ => Refusal::PointerOperand,
-    }
-}
-
-/// A load of the context: the interface and the queue of the frame.
-fn context_load(size: Size, offset: i16) -> Result<Kind, Refusal>
-    ensures loads { IfOk result (Loads size Kind.Context offset) }
-    ensures accepts { IsLoaded size Kind.Context offset → IsOk result }
-    ensures refused { IfErr result (λ e. e ≡ Refusal.ContextAccess) }
-{
-    match size {
-        Size::U32 => {
-            if offset == 12 || offset == 16 {
-                return Ok(word());
-            }
-            Err(Refusal::ContextAccess)
-        }
-        _ => Err(Refusal::ContextAccess),
+        _ => Refusal::NotMemory,
     }
 }
 
 /// What a load gives.
-pub fn load(size: Size, base: Kind, offset: i16) -> Result<Kind, Refusal>
-    ensures loads { IfOk result (Loads size base offset) }
-    ensures accepts { IsLoaded size base offset → IsOk result }
-    ensures refused { IfErr result (λ e. e ≡ access_refusal base) }
+pub fn load(state: &State, size: Size, base: Kind, by: i16) -> Result<Kind, Refusal>
+    ensures { Loads state.now size base by result }
 {
     match base {
-        Kind::Context => context_load(size, offset),
+        Kind::Context => context_load(size, by),
+        Kind::Stack { frame, offset } => stack_load(state, frame, offset, by, size),
+        Kind::Packet {
+            fixed,
+            least,
+            proved,
+            ..
+        } => packet_load(size, fixed, least, proved, by),
+        _ => Err(access_refusal(base)),
+    }
+}
+
+/// What a sign-extending load gives.
+pub fn load_signed(state: &State, size: Narrow, base: Kind, by: i16) -> Result<Kind, Refusal>
+    ensures { LoadsSigned state.now size base by result }
+{
+    match base {
+        Kind::Stack { frame, offset } => stack_load_signed(state, frame, offset, by, size),
+        Kind::Packet {
+            fixed,
+            least,
+            proved,
+            ..
+        } => packet_load_signed(size, fixed, least, proved, by),
+        _ => Err(access_refusal(base)),
+    }
+}
+
+/// Stores a value.
+pub fn store(
+    state: &mut State,
+    size: Size,
+    base: Kind,
+    by: i16,
+    source: Kind,
+) -> Result<(), Refusal>
+    ensures { Stores state.old size base by source state.new result }
+{
+    match base {
+        Kind::Stack { frame, offset } => stack_store(state, frame, offset, by, size, source),
+        Kind::Packet {
+            fixed,
+            least,
+            proved,
+            ..
+        } => packet_store(size, fixed, least, proved, by, source),
         _ => Err(access_refusal(base)),
     }
 }

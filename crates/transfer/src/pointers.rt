@@ -1,15 +1,14 @@
 //! Arithmetic on pointers.
 
-ghost use Rattle.std.specs.Prelude.{◌≡◌, nat_le, unsigned_abs, if◌then◌else◌, Ok, Err, IfOk, IfErr};
-ghost use Rattle.std.specs.Prelude.{IsOk};
-ghost use Rattle.isa_model.specs.Machine.Pointers.{offset_limit};
-ghost use Rattle.transfer.specs.Refusing.{moved_refusal, pointer_refusal, number_refusal};
-ghost use Rattle.transfer.specs.Results.{moved_offset, Moves, PointerAndNumber, NumberAndPointer};
-ghost use Rattle.transfer.specs.Results.{IsMoved, IsPointerAndNumber, IsNumberAndPointer};
+ghost use Rattle.std.specs.Prelude.{◌≡◌};
+ghost use Rattle.transfer.specs.Results.{moved_offset, frame_pointer, moved_frame, Moves};
+ghost use Rattle.transfer.specs.Results.{PointerAndNumber, NumberAndPointer};
 
+use crate::packets::{PacketPointer, packet_moved};
 use crate::refusals::Refusal;
 use isa_model::{AluOp, Width};
 use reg_state::{Domain, Kind, Scalar};
+use stack_state::State;
 
 /// The greatest offset of a pointer, and the least one with its sign changed.
 const OFFSET_LIMIT: i128 = 0x2000_0000;
@@ -28,8 +27,7 @@ fn moved_offset(back: bool, offset: i32, number: u64) -> i128
 
 /// The frame pointer at an offset.
 fn frame_pointer(frame: u8, offset: i128) -> Result<Kind, Refusal>
-    ensures { result ≡ (if nat_le (unsigned_abs offset) offset_limit then Ok
-        (Kind.Stack frame offset) else Err Refusal.PointerOffset) }
+    ensures { result ≡ frame_pointer frame offset }
 {
     if -OFFSET_LIMIT <= offset && offset <= OFFSET_LIMIT {
         Ok(Kind::Stack {
@@ -41,21 +39,39 @@ fn frame_pointer(frame: u8, offset: i128) -> Result<Kind, Refusal>
     }
 }
 
+/// The frame pointer that the one number left moves, back or on.
+fn moved_frame(back: bool, frame: u8, offset: i32, number: Option<u64>) -> Result<Kind, Refusal>
+    ensures { result ≡ moved_frame back frame offset number }
+{
+    match number {
+        Some(number) => frame_pointer(frame, moved_offset(back, offset, number)),
+        None => Err(Refusal::PointerOffset),
+    }
+}
+
 /// A pointer that a number moves, back or on.
-fn moved(back: bool, pointer: Kind, by: Scalar) -> Result<Kind, Refusal>
-    ensures moves { IfOk result (Moves back pointer by) }
-    ensures accepts { IsMoved back pointer by → IsOk result }
-    ensures refused { IfErr result (λ e. e ≡ moved_refusal pointer) }
+fn moved(state: &State, back: bool, pointer: Kind, by: Scalar) -> Result<Kind, Refusal>
+    ensures { Moves state.now back pointer by result }
 {
     match pointer {
-        Kind::Stack { frame, offset } => {
-            let Some(number) = by.number() else {
-                return Err(Refusal::PointerOffset);
+        Kind::Stack { frame, offset } => moved_frame(back, frame, offset, by.number()),
+        Kind::Packet {
+            fixed,
+            identity,
+            least,
+            greatest,
+            proved,
+        } => {
+            let pointer = PacketPointer {
+                fixed,
+                identity,
+                least,
+                greatest,
+                proved,
             };
-            let kind = frame_pointer(frame, moved_offset(back, offset, number))?;
-            Ok(kind)
+            packet_moved(state, back, pointer, by)
         }
-        Kind::Packet { .. } | Kind::MapValue { .. } => Err(Refusal::NotBuilt),
+        Kind::MapValue { .. } => Err(Refusal::NotBuilt),
         Kind::MapValueOrNull { .. } => Err(Refusal::NullNotTested),
         _ => Err(Refusal::PointerOperand),
     }
@@ -63,35 +79,33 @@ fn moved(back: bool, pointer: Kind, by: Scalar) -> Result<Kind, Refusal>
 
 /// A pointer on the left and a number on the right.
 pub fn pointer_and_number(
+    state: &State,
     op: AluOp,
     width: Width,
     pointer: Kind,
     by: Scalar,
 ) -> Result<Kind, Refusal>
-    ensures gives { IfOk result (PointerAndNumber op width pointer by) }
-    ensures accepts { IsPointerAndNumber op width pointer by → IsOk result }
-    ensures refused { IfErr result (λ e. e ≡ pointer_refusal op width pointer) }
+    ensures { PointerAndNumber state.now op width pointer by result }
 {
     match (op, width) {
-        (AluOp::Add, Width::Full64) => moved(false, pointer, by),
-        (AluOp::Sub, Width::Full64) => moved(true, pointer, by),
+        (AluOp::Add, Width::Full64) => moved(state, false, pointer, by),
+        (AluOp::Sub, Width::Full64) => moved(state, true, pointer, by),
         _ => Err(Refusal::PointerOperand),
     }
 }
 
 /// A number on the left and a pointer on the right.
 pub fn number_and_pointer(
+    state: &State,
     op: AluOp,
     width: Width,
     by: Scalar,
     pointer: Kind,
 ) -> Result<Kind, Refusal>
-    ensures gives { IfOk result (NumberAndPointer op width by pointer) }
-    ensures accepts { IsNumberAndPointer op width by pointer → IsOk result }
-    ensures refused { IfErr result (λ e. e ≡ number_refusal op width pointer) }
+    ensures { NumberAndPointer state.now op width by pointer result }
 {
     match (op, width) {
-        (AluOp::Add, Width::Full64) => moved(false, pointer, by),
+        (AluOp::Add, Width::Full64) => moved(state, false, pointer, by),
         _ => Err(Refusal::PointerOperand),
     }
 }

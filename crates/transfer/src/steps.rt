@@ -1,22 +1,23 @@
 //! What an instruction makes of a state.
 
-ghost use Rattle.std.specs.Prelude.{false, ◌≡◌, ◌≢◌, ◌+◌, ◌<◌, ◌^◌, IfOk, IfErr, IsOk, length};
+ghost use Rattle.std.specs.Prelude.{false, ◌≡◌, ◌+◌, ◌<◌, ◌^◌, length};
 ghost use Rattle.std.specs.List.{list_any};
 ghost use Rattle.std.specs.Option.{option_to_list};
 ghost use Rattle.isa_model.specs.Code.Instructions.{Program, slots_of};
 ghost use Rattle.isa_model.specs.Code.Instructions.{writes, is_frame_pointer};
-ghost use Rattle.stack_state.specs.Places.{kind_of};
-ghost use Rattle.transfer.specs.Refusing.{is_unset_in, reads_unset, SetRefused, Refused};
-ghost use Rattle.transfer.specs.Exact.{IsOperand, Puts, Sets, Makes, IsComputed, IsAccepted};
+ghost use Rattle.transfer.specs.Refusing.{is_unset_in, reads_unset};
+ghost use Rattle.transfer.specs.Exact.{IsOperand, Puts, SetsOr, Performs, GoesOn, StoresAt};
+ghost use Rattle.transfer.specs.Exact.{SwapsAtPlace, ComparesAtPlace};
 
 use crate::Ways;
 use crate::arithmetic::{arithmetic, constant, negated, reordered, sign_extended};
+use crate::atomics::{compare_and_swap, swap};
 use crate::exits::exit;
 use crate::jumps::jump_if;
-use crate::memory::{access_refusal, atomic_refusal, exchange_refusal, load};
+use crate::memory::{load, load_signed, store};
 use crate::refusals::Refusal;
 use isa_model::numbers::unsigned;
-use isa_model::{Insn, Operand, Reg, Width, destination};
+use isa_model::{Insn, Operand, Place, Reg, Size, Width, destination};
 use reg_state::Kind;
 use stack_state::State;
 
@@ -51,45 +52,37 @@ fn operand(state: &State, width: Width, source: Operand) -> Kind
     }
 }
 
-/// The kind that a form puts into its register.
+/// The kind that a form puts into its register, or why it does not.
 fn result_kind(state: &State, insn: &Insn) -> Result<Kind, Refusal>
-    ensures puts { IfOk result (Puts state.now insn.now) }
-    ensures accepts { IsComputed state.now insn.now → IsOk result }
-    ensures refused { IfErr result (SetRefused state.now insn.now) }
+    ensures { Puts state.now insn.now result }
 {
     match *insn {
         Insn::Alu(width, op, d, source) => {
-            arithmetic(op, width, state.kind_of(d), operand(state, width, source))
+            arithmetic(
+                state,
+                op,
+                width,
+                state.kind_of(d),
+                operand(state, width, source),
+            )
         }
         Insn::Neg(width, d) => negated(width, state.kind_of(d)),
         Insn::MovSx(extension, _, source) => sign_extended(extension, state.kind_of(source)),
         Insn::ByteSwap(order, span, d) => reordered(order, span, state.kind_of(d)),
         Insn::LoadNumber(_, number) => Ok(constant(number)),
-        Insn::Load(size, _, place) => load(size, state.kind_of(place.base), place.offset),
-        Insn::LoadSx(_, _, place) => Err(access_refusal(state.kind_of(place.base))),
-        Insn::StoreConstant(_, place, _) | Insn::Store(_, place, _) => {
-            Err(access_refusal(state.kind_of(place.base)))
-        }
-        Insn::Atomic(_, _, _, place, source) | Insn::Exchange(_, place, source) => {
-            let base = state.kind_of(place.base);
-            Err(atomic_refusal(base, state.kind_of(source)))
-        }
-        Insn::CompareExchange(_, place, source) => {
-            let compared = state.kind_of(Reg::R0);
-            let base = state.kind_of(place.base);
-            Err(exchange_refusal(compared, base, state.kind_of(source)))
+        Insn::Load(size, _, place) => { load(state, size, state.kind_of(place.base), place.offset) }
+        Insn::LoadSx(size, _, place) => {
+            load_signed(state, size, state.kind_of(place.base), place.offset)
         }
         _ => Err(Refusal::NotBuilt),
     }
 }
 
 /// Sets the register that a form writes, and goes on to the next instruction.
-fn set(state: &mut State, insn: &Insn) -> Result<(), Refusal>
+fn set(state: &mut State, insn: &Insn) -> Result<Ways, Refusal>
     requires writable { is_frame_pointer (writes insn.now) ≡ false }
     requires slot { state.old.slot + slots_of insn.now < 2 ^ 63 }
-    ensures sets { IfOk result (λ _. Sets state.old insn.now state.new) }
-    ensures accepts { IsComputed state.old insn.now → IsOk result }
-    ensures refused { IfErr result (SetRefused state.old insn.now) }
+    ensures { SetsOr state.old insn.now result state.new }
 {
     let kind = result_kind(state, insn)?;
     let Some(register) = insn.written() else {
@@ -97,7 +90,52 @@ fn set(state: &mut State, insn: &Insn) -> Result<(), Refusal>
     };
     state.set_register(register, kind);
     state.slot += insn.slots();
-    Ok(())
+    Ok(Ways::One)
+}
+
+// ---- memory
+
+/// Stores a value, and goes on to the next instruction.
+fn store_at(state: &mut State, size: Size, place: Place, source: Kind) -> Result<Ways, Refusal>
+    requires { state.old.slot + 1 < 2 ^ 63 }
+    ensures { GoesOn state.old (StoresAt state.old size place source) result state.new }
+{
+    let base = state.kind_of(place.base);
+    store(state, size, base, place.offset, source)?;
+    state.slot += 1;
+    Ok(Ways::One)
+}
+
+/// An atomic instruction that puts the old number into a register, if one is given.
+fn swap_at(
+    state: &mut State,
+    width: Width,
+    place: Place,
+    source: Reg,
+    register: Option<Reg>,
+) -> Result<Ways, Refusal>
+    requires writable { is_frame_pointer register ≡ false }
+    requires slot { state.old.slot + 1 < 2 ^ 63 }
+    ensures { GoesOn state.old
+        (SwapsAtPlace state.old width place source register) result state.new }
+{
+    let base = state.kind_of(place.base);
+    let value = state.kind_of(source);
+    swap(state, value, base, place.offset, width.size(), register)?;
+    state.slot += 1;
+    Ok(Ways::One)
+}
+
+/// CMPXCHG.
+fn compare_at(state: &mut State, width: Width, place: Place, source: Reg) -> Result<Ways, Refusal>
+    requires slot { state.old.slot + 1 < 2 ^ 63 }
+    ensures { GoesOn state.old (ComparesAtPlace state.old width place source) result state.new }
+{
+    let base = state.kind_of(place.base);
+    let value = state.kind_of(source);
+    compare_and_swap(state, value, base, place.offset, width.size())?;
+    state.slot += 1;
+    Ok(Ways::One)
 }
 
 // ---- all forms
@@ -111,12 +149,21 @@ pub fn perform(
 ) -> Result<Ways, Refusal>
     requires writable { is_frame_pointer (writes insn.now) ≡ false }
     requires slot { state.old.slot + slots_of insn.now < 2 ^ 63 }
-    ensures makes { IfOk result (λ ways. (p : Program) → length p.insns ≡ slots
-        → Makes p state.old insn.now ways state.new other.new) }
-    ensures accepts { IsAccepted state.old insn.now → IsOk result }
-    ensures refused { IfErr result (Refused state.old insn.now) }
+    ensures { (p : Program) → length p.insns ≡ slots
+        → Performs p state.old insn.now result state.new other.new }
 {
     match *insn {
+        Insn::StoreConstant(size, place, k) => {
+            store_at(state, size, place, constant(unsigned(Width::Full64, k)))
+        }
+        Insn::Store(size, place, register) => {
+            let source = state.kind_of(register);
+            store_at(state, size, place, source)
+        }
+        Insn::Atomic(width, _, _, place, source) | Insn::Exchange(width, place, source) => {
+            swap_at(state, width, place, source, insn.written())
+        }
+        Insn::CompareExchange(width, place, source) => compare_at(state, width, place, source),
         Insn::Jump(by) => {
             state.slot = destination(state.slot, i32::from(by), slots);
             Ok(Ways::One)
@@ -127,13 +174,13 @@ pub fn perform(
         }
         Insn::JumpIf(cond, by) => jump_if(cond, i32::from(by), slots, state, other),
         Insn::CallLocal(_) => Err(Refusal::TooManyFrames),
-        Insn::Exit => {
-            exit(state)?;
-            Ok(Ways::None)
-        }
-        _ => match set(state, insn) {
-            Ok(()) => Ok(Ways::One),
-            Err(refusal) => Err(refusal),
-        },
+        Insn::Exit => exit(state),
+        Insn::Alu(..)
+        | Insn::Neg(..)
+        | Insn::MovSx(..)
+        | Insn::ByteSwap(..)
+        | Insn::LoadNumber(..)
+        | Insn::Load(..)
+        | Insn::LoadSx(..) => set(state, insn),
     }
 }

@@ -1,81 +1,10 @@
-use Rattle.std.proofs.Common.{refl, sym, ◌∙◌}
-use Rattle.stack_state.specs.Places.{kind_of}
-use Rattle.branch_refine.proofs.Kept.{Keeps-same, Keeps-none, Keeps-compared, Narrows-compared, others_compared, no_number, no_operand, just_number, just_operand}
+use Rattle.std.proofs.Common.{sym, ◌∙◌}
+use Rattle.branch_refine.specs.RefiningLaws.{Refines-pointers}
 use Rattle.branch_refine.proofs.refine_in_place.Goals as goal
 
-pub returns-in_default-clause-kept : goal.returns-in_default-clause-kept
-returns-in_default-clause-kept c = Keeps-same c.args.cond c.args.taken c.args.state.now
-
-pub returns-in_default-operand_numbers-clause-kept :
-    goal.returns-in_default-operand_numbers-clause-kept
-returns-in_default-operand_numbers-clause-kept c = Keeps-same c.args.cond c.args.taken c.args.state.now
-
-pub returns-in_default-refine-clause-kept : goal.returns-in_default-refine-clause-kept
-returns-in_default-refine-clause-kept c =
-    Keeps-none c.args.cond c.args.taken c.args.state.now c.in-Some.left c.in-Some-operand_numbers.right
-    c.in-Some.ensures c.in-Some-operand_numbers.ensures (λ x y l r o. c.in_default-refine.ensures.common x y l r o)
-
-pub returns-clause-kept : goal.returns-clause-kept
-returns-clause-kept c =
-    rw (c.set_operand.ensures, c.set_register.ensures)
-    (Keeps-compared c.args.cond c.args.taken c.args.state.now c.in-Some.left c.in-Some-operand_numbers.right
-    c.in-Some-refine.new_left c.in-Some-refine.new_right
-    c.in-Some.ensures c.in-Some-operand_numbers.ensures (λ x y l r o. c.in-Some-refine.ensures.common x y l r o))
-
-pub returns-clause-narrowed : goal.returns-clause-narrowed
-returns-clause-narrowed c =
-    rw (c.set_operand.ensures, c.set_register.ensures)
-    (Narrows-compared c.args.state.now c.args.cond c.in-Some.left c.in-Some-operand_numbers.right
-    c.in-Some-refine.new_left c.in-Some-refine.new_right
-    c.in-Some.ensures c.in-Some-operand_numbers.ensures
-    c.in-Some-refine.ensures.left c.in-Some-refine.ensures.right
-    c.in-Some-refine.ensures.left_constant c.in-Some-refine.ensures.right_constant)
-
-pub returns-clause-others : goal.returns-clause-others
-returns-clause-others c =
-    rw (c.set_operand.ensures, c.set_register.ensures)
-    (others_compared c.args.state.now c.args.cond c.in-Some-refine.new_left c.in-Some-refine.new_right)
-
-pub returns-in_default-refine-clause-constants_go : goal.returns-in_default-refine-clause-constants_go
-returns-in_default-refine-clause-constants_go c = λ x y left right goes.
-    let l = just_number (kind_of c.args.state.now c.args.cond.register) c.in-Some.left x c.in-Some.ensures left in
-    let r = just_operand c.args.state.now c.args.cond.width c.args.cond.operand c.in-Some-operand_numbers.right y c.in-Some-operand_numbers.ensures right in
-    absurd (c.in_default-refine.ensures.stays x y l.0.0.below r.0.0.below l.1 r.1 goes)
-
-pub returns-clause-constants : goal.returns-clause-constants
-returns-clause-constants c = λ x y left right apart.
-    let l = just_number (kind_of c.args.state.now c.args.cond.register) c.in-Some.left x c.in-Some.ensures left in
-    let r = just_operand c.args.state.now c.args.cond.width c.args.cond.operand c.in-Some-operand_numbers.right y c.in-Some-operand_numbers.ensures right in
-    let none = c.in-Some-refine.ensures.never x y l.1 r.1 apart in
-    absurd (cc none)
-
-pub returns-in_default-clause-shown : goal.returns-in_default-clause-shown
-returns-in_default-clause-shown c = λ compared some.
-    absurd (no_number (kind_of c.args.state.now c.args.cond.register) (sym c.in_default.is ∙ c.number_of.ensures) compared.0)
-
-pub returns-in_default-operand_numbers-clause-shown : goal.returns-in_default-operand_numbers-clause-shown
-returns-in_default-operand_numbers-clause-shown c = λ compared some.
-    absurd (no_operand c.args.state.now c.args.cond.width c.args.cond.operand
-    (rw c.in_default-operand_numbers.is at c.operand_numbers.ensures) compared.1)
-
-pub returns-clause-shown : goal.returns-clause-shown
-returns-clause-shown c = λ compared some. record {
-  left = c.in-Some.left;
-  right = c.in-Some-operand_numbers.right;
-  new_left = c.in-Some-refine.new_left;
-  new_right = c.in-Some-refine.new_right;
-  left_is = c.in-Some.ensures;
-  right_is = c.in-Some-operand_numbers.ensures;
-  shows = record {
-    common = c.in-Some-refine.ensures.common;
-    left_fewer = c.in-Some-refine.ensures.left;
-    right_fewer = c.in-Some-refine.ensures.right;
-    left_constant = c.in-Some-refine.ensures.left_constant;
-    right_constant = c.in-Some-refine.ensures.right_constant;
-    left_limits = c.in-Some-refine.ensures.left_limits;
-    right_limits = c.in-Some-refine.ensures.right_limits;
-    left_bits = c.in-Some-refine.ensures.left_bits;
-    right_bits = c.in-Some-refine.ensures.right_bits;
-  };
-  new = rw (c.set_operand.ensures, c.set_register.ensures) refl;
+pub returns-in_default : goal.returns-in_default
+returns-in_default c = record {
+  refines = Refines-pointers c.args.cond c.args.taken c.args.state.now c.refine_pointers.result c.refine_pointers.new.state
+      (λ numbers. c.in_default.not-Numbers (c.compared_by.ensures ∙ numbers))
+      (rw (sym c.compared_by.ensures) c.refine_pointers.ensures);
 }

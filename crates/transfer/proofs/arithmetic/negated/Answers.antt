@@ -1,8 +1,7 @@
-use Rattle.std.proofs.Common.{◌≡◌}
 use Rattle.transfer.proofs.arithmetic.negated.Goals as goal
 
-pub returns-in-Number-clause-gives : goal.returns-in-Number-clause-gives
-returns-in-Number-clause-gives c =
+pub returns-in-Number : goal.returns-in-Number
+returns-in-Number c =
     rw c.in-Number.is record {
       contains = c.negate.ensures.contains;
       exact = c.negate.ensures.exact;

@@ -8,8 +8,8 @@ use Rattle.stack_state.specs.Places.{go_to}
 use Rattle.transfer.specs.Exact.{Sides}
 use Rattle.transfer.proofs.jumps.jump_if.Goals as goal
 
-pub returns-clause-branches : goal.returns-clause-branches
-returns-clause-branches c = λ p count.
+pub returns : goal.returns
+returns c = λ p count.
     let a : State = c.args.state.now in
     let same = c.copy_from.ensures in
     let g = c.refine_in_place-goes in
@@ -19,19 +19,13 @@ returns-clause-branches c = λ p count.
     let leads : c.destination-target.result ≡ destination p a.slot c.args.by =
     found ∙ ap (λ n. unwrap_or (target a.slot c.args.by) n) (sym count) in
     record {
-      compared = (search rules, search rules);
+      compared = search rules;
       stays = h.result;
       stay = h.new.state;
-      kept_stay = h.ensures.kept;
-      narrows_stay = h.ensures.narrowed;
-      others_stay = h.ensures.others;
-      never_stays = h.ensures.constants;
+      left_there = h.ensures.refines;
       goes = g.result;
       go = g.new.state;
-      kept_go = rw same at g.ensures.kept;
-      narrows_go = rw same at g.ensures.narrowed;
-      others_go = rw same at g.ensures.others;
-      never_goes = rw same at g.ensures.constants;
+      taken_there = rw same at g.ensures.refines;
       sides = subst (λ n. Sides h.result g.result (go_to h.new.state (a.slot + 1)) (go_to g.new.state n) c.joined-ways.result c.joined-ways.new.stay (go_to g.new.state c.destination-target.result))
           leads c.joined-ways.ensures;
     }

@@ -1,33 +1,27 @@
-use Rattle.std.proofs.Common.{◌≡◌, ◌≤◌, ◌∙◌, ℕ, ℤ, Bool, true, false, nat_le, unsigned_abs, if◌then◌else◌, Ok, Err, Result, rules, refl, ap, subst, arith}
-use Rattle.std.proofs.lemmas.Bool.Decides.{nat_tests}
+use Rattle.std.proofs.Common.{◌≡◌, ℕ, ◌↔◌, Option, Some, None, rules, refl}
 use Rattle.std.proofs.lemmas.Int.{to_z-of_z}
+use Rattle.std.proofs.lemmas.Option.{none-some}
 use mir.Val.{SFits}
-use mir.Syntax.{w32, w128}
-use Rattle.isa_model.specs.Machine.Pointers.{offset_limit}
-use Rattle.reg_state.specs.declared.kinds.Kind.{Kind}
-use Rattle.reg_state.specs.declared.kinds.Kind.TheVariants.{Stack}
-use Rattle.transfer.specs.declared.refusals.Refusal.{Refusal}
-use Rattle.transfer.specs.declared.refusals.Refusal.TheVariants.{PointerOffset}
-use Rattle.transfer.specs.Results.{moved_offset}
+use mir.Syntax.{w32}
+use Rattle.reg_state.specs.declared.scalars.Scalar.{Scalar}
+use Rattle.reg_state.specs.Scalars.{IsNumber}
+use Rattle.transfer.specs.Results.{LeavesNumber}
 use Rattle.transfer.proofs.pointers.moved.Goals as goal
 
--- where the frame pointer is there, its offset is within the limit
-frame_at : (frame : ℕ) (z : ℤ) (k : Kind) (b : Bool) → nat_le (unsigned_abs z) offset_limit ≡ b
-    → Ok k ≡ (if b then Ok (Stack frame z) else Err PointerOffset) → (k ≡ Stack frame z) × (unsigned_abs z ≤ offset_limit)
-frame_at frame z k true test is = (cc, grind (arith, nat_tests))
-frame_at frame z k false test is = absurd (cc)
+leaves : (by : Scalar) (o : Option ℕ) → ((n : ℕ) → ((o ≡ Some n) ↔ IsNumber by n)) → LeavesNumber by o
+leaves by (Some n) says = (says n).0 refl
+leaves by None says = λ n is. none-some n ((says n).1 is)
 
-pub returns-in_ok-kind-in-Stack-clause-moves : goal.returns-in_ok-kind-in-Stack-clause-moves
-returns-in_ok-kind-in-Stack-clause-moves c =
-    let z : ℤ = c.moved_offset.result in
-    let wide : SFits w128 c.moved_offset.result = search rules in
+pub returns-in-Stack : goal.returns-in-Stack
+returns-in-Stack c =
     let narrow : SFits w32 c.in-Stack.offset = search rules in
-    let there = simp to_z-of_z at c.in_ok-kind-in-Stack.ensures in
-    let place : z ≡ moved_offset c.args.back c.in-Stack.offset c.in-Some.number = simp to_z-of_z at c.moved_offset.ensures in
-    let (is, within) = frame_at c.in-Stack.frame z c.in_ok-kind-in-Stack.kind (nat_le (unsigned_abs z) offset_limit) refl there in
-    rw c.in-Stack.is (record {
-      number = c.in-Some.number;
-      only = c.in-Some.ensures.only;
-      moved = is ∙ ap (λ z. Stack c.in-Stack.frame z) place;
-      within = subst (λ z. unsigned_abs z ≤ offset_limit) place within;
-    })
+    let made = simp to_z-of_z at c.moved_frame.ensures in
+    rw c.in-Stack.is (c.number.result, leaves c.args.by c.number.result c.number.ensures.value, made)
+
+pub returns-in-Packet : goal.returns-in-Packet
+returns-in-Packet c =
+    let fixed : SFits w32 c.in-Packet.fixed = search rules in
+    let least : SFits w32 c.in-Packet.least = search rules in
+    let greatest : SFits w32 c.in-Packet.greatest = search rules in
+    let made = simp to_z-of_z at c.packet_moved.ensures in
+    rw c.in-Packet.is made

@@ -1,9 +1,10 @@
-use Rattle.std.proofs.Common.{◌≡◌, ◌≤◌, ◌+◌, Some, length, arith, refl, ap, ◌∙◌, subst, vec_len}
+use Rattle.std.proofs.Common.{◌≡◌, ◌≤◌, ◌+◌, Some, length, arith, refl, sym, ap, ◌∙◌, subst, vec_len}
 use Rattle.isa_model.specs.Code.Instructions.{fetch}
 use Rattle.stack_state.specs.Starts.{start}
 use Rattle.explorer.specs.declared.search.Visit.{Visit}
 use Rattle.explorer.specs.Search.{HasEnded, HasEntered}
 use Rattle.transfer.specs.declared.Ways.TheVariants as ways
+use Rattle.transfer.specs.Exact.{Refuses}
 use Rattle.explorer.specs.Counts.{ItsOwn}
 use Rattle.explorer.proofs.Counting.{spent_here}
 use Rattle.explorer.proofs.Walking.{Path-leads, into_by}
@@ -23,9 +24,9 @@ descend-requires-clause-entered c =
     let at = c.requires.at in
     let begins : Begins p m table (record { pending = c.match-ways.pending; best = 0; stored = c.args.stored }) s a = elim c.match-ways.branch [
       | in-One w ↦ one_way p q m table c.args.stored s a b c.in-Ok.ways c.match-ways.pending
-          c.requires.image c.requires.good at.ready at.stored_at c.in-Ok.ensures.leads c.in-Ok.ensures.makes c.in-Ok.ensures.follows w.in-One.is w.pending-is
+          c.requires.image c.requires.good at.ready at.stored_at c.in-Ok.ensures.leads c.in-Ok.ensures.steps c.in-Ok.ensures.follows w.in-One.is w.pending-is
       | in-Two+in-Ok-of w ↦ two_ways p q m table c.args.stored s a b c.in-Ok.ways c.match-ways.pending
-          c.requires.image c.requires.good at.ready at.stored_at c.in-Ok.ensures.leads c.in-Ok.ensures.makes c.in-Ok.ensures.follows w.in-Two.is (w.pending-is ∙ ap Some w.in-Ok-of.ensures)
+          c.requires.image c.requires.good at.ready at.stored_at c.in-Ok.ensures.leads c.in-Ok.ensures.steps c.in-Ok.ensures.follows w.in-Two.is (w.pending-is ∙ ap Some w.in-Ok-of.ensures)
     ] in
     record { state = s; at = record { fine = at.at.fine; path = at.at.path }; on_path = at.on_path; waiting = begins.waiting; spent = at.spent; spends = begins.spends; ready = begins.ready }
 
@@ -34,7 +35,7 @@ unwind-requires-clause-at c =
     let p = c.args.flow.now in
     let s = c.args.self.now.current in
     let (i, here) = fetched p s c.requires.at.ready in
-    let into = into_by p c.args.image.now s c.step_in_place.new.state c.step_in_place.new.other c.in-Ok.ways ways.None c.requires.image c.in-Ok.ensures.makes i here c.in-None.is in
+    let into = into_by p c.args.image.now s c.step_in_place.new.state c.step_in_place.new.other c.in-Ok.ways ways.None c.requires.image c.in-Ok.ensures.steps i here c.in-None.is in
     let back = step_ends c.args.flow.now c.args.image.now c.args.self.now.finished c.args.self.now.table.entries.items c.finish.new.self.entries.items start c.args.self.now.path.items c.args.stored c.args.self.now.current c.step_in_place.new.state c.step_in_place.new.other c.in-Ok.ways
     refl c.requires.image c.requires.at.at.fine c.requires.at.at.path c.requires.at.stored_at c.requires.at.on_path c.in-Ok.ensures.leads into c.in-None.is c.finish.ensures in
     record { state = back.state; at = record { fine = back.fine; path = back.before }; on_path = back.on_path; within = back.within; spent = spent_here p c.args.self.now.path.items s (c.args.self.now.finished + vec_len c.args.self.now.path) 1 (c.args.self.now.finished + 1 + vec_len c.args.self.now.path) c.requires.at.spent (ItsOwn s 1 c.requires.at.ready refl) (omega arith); some = omega arith; most = back.most }
@@ -55,5 +56,6 @@ returns-in-Err-clause-stops c =
       begins = at.ready;
       insn = i;
       here = here;
-      refused = c.in-Err.ensures.refuses i there;
+      refused = subst (λ x. Refuses x s i c.in-Err.refusal) (sym c.requires.image)
+          (c.step_in_place.new.state, c.step_in_place.new.other, c.in-Err.ensures.steps i there);
     }

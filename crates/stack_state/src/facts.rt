@@ -1,0 +1,143 @@
+//! What a test shows of all copies of an identity.
+
+ghost use Rattle.std.specs.Prelude.{◌≡◌, map};
+ghost use Rattle.stack_state.specs.Effects.{proved_kind, tested_kind, with_spilled, with_kinds};
+ghost use Rattle.stack_state.specs.Effects.{map_kinds};
+ghost use Rattle.stack_state.specs.Facts.{learned};
+
+use crate::slots::Slot;
+use crate::states::{AbstractFrame, State};
+use reg_state::{Kind, Scalar};
+
+/// What a test shows of an identity.
+#[derive(Clone, Copy, PartialEq, Eq, Debug)]
+pub enum Fact {
+    /// That many bytes after its variable part are in the packet.
+    Proved {
+        identity: u32,
+        bytes: u32,
+    },
+    /// What was looked up is null, or a live value; `zero` is what null is then known as.
+    Tested {
+        identity: u32,
+        null: bool,
+        zero: Scalar,
+    },
+}
+
+/// What is known of a value once the bytes are proved.
+fn proved(kind: Kind, identity: u32, bytes: u32) -> Kind
+    ensures { result ≡ proved_kind identity bytes kind }
+{
+    match kind {
+        Kind::Packet {
+            fixed,
+            identity: name,
+            least,
+            greatest,
+            proved,
+        } => {
+            if name == identity && proved < bytes {
+                Kind::Packet {
+                    fixed,
+                    identity: name,
+                    least,
+                    greatest,
+                    proved: bytes,
+                }
+            } else {
+                kind
+            }
+        }
+        kind => kind,
+    }
+}
+
+/// What is known of a value once it is known whether those of the identity are null.
+fn tested(kind: Kind, identity: u32, null: bool, zero: Scalar) -> Kind
+    ensures { result ≡ tested_kind identity null zero kind }
+{
+    match kind {
+        Kind::MapValueOrNull {
+            index,
+            identity: name,
+        } => {
+            if name != identity {
+                kind
+            } else if null {
+                Kind::Number(zero)
+            } else {
+                Kind::MapValue {
+                    index,
+                    least: 0,
+                    greatest: 0,
+                }
+            }
+        }
+        kind => kind,
+    }
+}
+
+fn learned_kind(fact: Fact, kind: Kind) -> Kind
+    ensures { result ≡ learned fact kind }
+{
+    match fact {
+        Fact::Proved { identity, bytes } => proved(kind, identity, bytes),
+        Fact::Tested {
+            identity,
+            null,
+            zero,
+        } => tested(kind, identity, null, zero),
+    }
+}
+
+fn learned_slot(fact: Fact, slot: Slot) -> Slot
+    ensures { result ≡ with_spilled (learned fact) slot }
+{
+    match slot {
+        Slot::Spilled(kind) => Slot::Spilled(learned_kind(fact, kind)),
+        slot => slot,
+    }
+}
+
+fn learn_kinds(fact: Fact, kinds: &mut [Kind])
+    ensures { kinds.new ≡ map (learned fact) kinds.old }
+{
+    for index in 0..kinds.len() {
+        kinds[index] = learned_kind(fact, kinds[index]);
+    }
+}
+
+fn learn_slots(fact: Fact, slots: &mut [Slot])
+    ensures { slots.new ≡ map (with_spilled (learned fact)) slots.old }
+{
+    for index in 0..slots.len() {
+        slots[index] = learned_slot(fact, slots[index]);
+    }
+}
+
+fn learn_frame(fact: Fact, frame: &mut AbstractFrame)
+    ensures { frame.new ≡ with_kinds (learned fact) frame.old }
+{
+    learn_kinds(fact, &mut frame.registers);
+    learn_slots(fact, &mut frame.stack.slots);
+}
+
+fn learn_frames(fact: Fact, frames: &mut [AbstractFrame])
+    ensures { frames.new ≡ map (with_kinds (learned fact)) frames.old }
+{
+    for index in 0..frames.len() {
+        learn_frame(fact, &mut frames[index]);
+    }
+}
+
+impl State {
+    /// Takes up a fact, at every copy of the identity: in registers, in those that calls kept, and
+    /// in spilled slots of all live frames.
+    pub fn learn(&mut self, fact: Fact)
+        ensures { self.new ≡ map_kinds (learned fact) self.old }
+    {
+        learn_frames(fact, self.callers.as_mut_slice());
+        learn_frame(fact, &mut self.innermost);
+    }
+}

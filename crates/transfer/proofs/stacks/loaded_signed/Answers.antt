@@ -1,0 +1,21 @@
+use Rattle.std.proofs.Common.{Some}
+use Rattle.isa_model.specs.declared.sizes.Size.{Size}
+use Rattle.isa_model.specs.declared.sizes.Extension.{Extension}
+use Rattle.reg_state.specs.Arithmetic.{IsSignExtended}
+use Rattle.stack_state.specs.Slots.{IsLoad}
+use Rattle.std.proofs.Common.{subst}
+use Rattle.transfer.proofs.stacks.loaded_signed.Goals as goal
+
+pub returns-in-Some : goal.returns-in-Some
+returns-in-Some c = (
+  c.in-Some.numbers,
+  subst (λ (z : Size). IsLoad c.args.stack.now.slots c.args.at z (Some c.in-Some.numbers)) c.narrow_size.ensures c.in-Some.ensures.exact,
+  subst (λ (x : Extension). IsSignExtended x c.in-Some.numbers c.sign_extend.result) c.narrow_extension.ensures record {
+    contains = c.sign_extend.ensures.contains;
+    exact = c.sign_extend.ensures.exact;
+    fits = c.sign_extend.ensures.fits;
+    small = c.sign_extend.ensures.small;
+    kept = c.sign_extend.ensures.kept;
+    sharp = c.sign_extend.ensures.sharp;
+  },
+)

@@ -1,0 +1,69 @@
+-- Atomic instructions: what they leave, and why they are refused.
+use Rattle.std.specs.Prelude.{◌≡◌, ℕ, ℤ, ◌+ℤ◌, Option, Some, None, Result, Ok, Err}
+use Rattle.isa_model.specs.declared.registers.Reg.{Reg}
+use Rattle.isa_model.specs.declared.registers.Reg.TheVariants.{R0}
+use Rattle.isa_model.specs.declared.sizes.Size.{Size}
+use Rattle.reg_state.specs.declared.scalars.Scalar.{Scalar}
+use Rattle.reg_state.specs.declared.kinds.Kind.{Kind}
+use Rattle.reg_state.specs.declared.kinds.Kind.TheVariants.{Number, Context, Stack, Packet, MapValue, MapValueOrNull}
+use Rattle.stack_state.specs.declared.states.State.{State}
+use Rattle.stack_state.specs.Meaning.{slots_of}
+use Rattle.stack_state.specs.Places.{kind_of, with_register}
+use Rattle.stack_state.specs.Slots.{IsLoad}
+use Rattle.stack_state.specs.FramePlaces.{IsStoredIn}
+use Rattle.transfer.specs.declared.refusals.Refusal.{Refusal}
+use Rattle.transfer.specs.declared.refusals.Refusal.TheVariants.{PointerOperand, NotMemory, StackPlace, StackBytes, NullNotTested, PacketAtomic, NotBuilt}
+use Rattle.transfer.specs.StackAccesses.{IsFramePlace, IsNoFramePlace}
+
+-- ---- frames
+
+-- the old number goes into a register, if the form writes one
+abbrev pub with_old : Option Reg → Scalar → State → State
+with_old None old a = a
+with_old (Some register) old a = with_register a register (Number old)
+
+-- number bytes give way to others
+pub record IsSwapped (a : State) (frame at : ℕ) (size : Size) (register : Option Reg) (b : State) : Type 0 where
+  pub old : Scalar
+  pub loaded : IsLoad (slots_of a frame) at size (Some old)
+  pub after : State
+  pub stored : IsStoredIn a frame at size after
+  pub kept : b ≡ with_old register old after
+
+-- through a frame pointer, refused for the place and then for its bytes
+abbrev pub StackSwaps : State → ℕ → ℤ → Size → Option Reg → State → Result (Unit {0}) Refusal → Type 0
+StackSwaps a frame z size register b (Ok done) = (at : ℕ) × IsFramePlace a frame z size at × IsSwapped a frame at size register b
+StackSwaps a frame z size register b (Err StackPlace) = (b ≡ a) × IsNoFramePlace a frame z size
+StackSwaps a frame z size register b (Err StackBytes) =
+    (at : ℕ) × (b ≡ a) × IsFramePlace a frame z size at × IsLoad (slots_of a frame) at size None
+StackSwaps a frame z size register b (Err e) = ⊥
+
+-- ---- all places
+
+-- where no atomic instruction is, all stays as it was
+abbrev pub IsRefused : State → State → Result (Unit {0}) Refusal → Refusal → Type 0
+IsRefused a b result e = (b ≡ a) × (result ≡ Err e)
+
+-- on numbers, through a base of that kind
+abbrev pub SwapsAt : State → Kind → ℤ → Size → Option Reg → State → Result (Unit {0}) Refusal → Type 0
+SwapsAt a (Stack frame z) by size register b result = StackSwaps a frame (z +ℤ by) size register b result
+SwapsAt a Context by size register b result = IsRefused a b result PacketAtomic
+SwapsAt a (Packet fixed identity least greatest proved) by size register b result = IsRefused a b result PacketAtomic
+SwapsAt a (MapValue m least greatest) by size register b result = IsRefused a b result NotBuilt
+SwapsAt a (MapValueOrNull m identity) by size register b result = IsRefused a b result NullNotTested
+SwapsAt a k by size register b result = IsRefused a b result NotMemory
+
+-- ---- operands
+
+-- the operand is tested first
+abbrev pub Swaps : State → Kind → Kind → ℤ → Size → Option Reg → State → Result (Unit {0}) Refusal → Type 0
+Swaps a (Number numbers) base by size register b result = SwapsAt a base by size register b result
+Swaps a source base by size register b result = IsRefused a b result PointerOperand
+
+-- and what it is compared with, which is in r0 and gives way to the old number
+abbrev pub ComparesIn : State → Kind → Kind → Kind → ℤ → Size → State → Result (Unit {0}) Refusal → Type 0
+ComparesIn a (Number numbers) source base by size b result = Swaps a source base by size (Some R0) b result
+ComparesIn a compared source base by size b result = IsRefused a b result PointerOperand
+
+abbrev pub Compares : State → Kind → Kind → ℤ → Size → State → Result (Unit {0}) Refusal → Type 0
+Compares a source base by size b result = ComparesIn a (kind_of a R0) source base by size b result

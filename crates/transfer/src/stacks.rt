@@ -1,0 +1,190 @@
+//! Loads and stores through frame pointers.
+
+ghost use Rattle.std.specs.Prelude.{◌≡◌, ◌+◌, ◌%◌, ◌<◌, ◌≤◌, ◌+ℤ◌};
+ghost use Rattle.isa_model.specs.Code.Sizes.{size_bytes, narrow_size, narrow_extension};
+ghost use Rattle.transfer.specs.StackAccesses.{FindsFramePlace, IsNumberLoad, IsStackLoad};
+ghost use Rattle.transfer.specs.StackAccesses.{IsSignedLoad, StackLoads, StackLoadsSigned};
+ghost use Rattle.transfer.specs.StackAccesses.{whole_or, store_refusal, IsLeft, StackStores};
+ghost use Rattle.stack_state.specs.Meaning.{depth};
+
+use crate::refusals::Refusal;
+use isa_model::{Extension, Narrow, Size};
+use reg_state::{Domain, Kind, Scalar};
+use stack_state::{StackState, State, stack_place};
+
+/// The byte of a live frame to which a frame pointer's offset and an instruction's lead.
+pub fn frame_place(state: &State, frame: u8, offset: i32, by: i16, size: Size) -> Option<usize>
+    ensures { FindsFramePlace state.now frame (offset +ℤ by) size result }
+{
+    match state.stack_of(frame) {
+        Some(_) => stack_place(offset, by, size),
+        None => None,
+    }
+}
+
+// ---- loads
+
+fn narrow_size(size: Narrow) -> Size
+    ensures { result ≡ narrow_size size }
+{
+    match size {
+        Narrow::S8 => Size::U8,
+        Narrow::S16 => Size::U16,
+        Narrow::S32 => Size::U32,
+    }
+}
+
+fn narrow_extension(size: Narrow) -> Extension
+    ensures { result ≡ narrow_extension size }
+{
+    match size {
+        Narrow::S8 => Extension::Full8,
+        Narrow::S16 => Extension::Full16,
+        Narrow::S32 => Extension::Full32,
+    }
+}
+
+/// The number that bytes spell.
+fn number(stack: &StackState, at: usize, size: Size) -> Option<Kind>
+    requires inside { at < 512 }
+    requires in_slot { at % 8 + size_bytes size ≤ 8 }
+    ensures { IsNumberLoad stack.now.slots at size result }
+{
+    match stack.load(at, size) {
+        Some(numbers) => Some(Kind::Number(numbers)),
+        None => None,
+    }
+}
+
+/// What a load of the bytes gives.
+fn loaded(stack: &StackState, at: usize, size: Size) -> Option<Kind>
+    requires inside { at < 512 }
+    requires in_slot { at % 8 + size_bytes size ≤ 8 }
+    ensures { IsStackLoad stack.now.slots at size result }
+{
+    match size {
+        Size::U64 => stack.fill(at / 8),
+        _ => number(stack, at, size),
+    }
+}
+
+/// The same with the sign extended.
+fn loaded_signed(stack: &StackState, at: usize, size: Narrow) -> Option<Kind>
+    requires inside { at < 512 }
+    requires in_slot { at % 8 + size_bytes (narrow_size size) ≤ 8 }
+    ensures { IsSignedLoad stack.now.slots at size result }
+{
+    match stack.load(at, narrow_size(size)) {
+        Some(numbers) => Some(Kind::Number(Scalar::sign_extend(narrow_extension(size), numbers))),
+        None => None,
+    }
+}
+
+/// What a load (LDX MEM) through a frame pointer gives.
+pub fn stack_load(
+    state: &State,
+    frame: u8,
+    offset: i32,
+    by: i16,
+    size: Size,
+) -> Result<Kind, Refusal>
+    ensures { StackLoads state.now frame (offset +ℤ by) size result }
+{
+    let Some(stack) = state.stack_of(frame) else {
+        return Err(Refusal::StackPlace);
+    };
+    let Some(at) = stack_place(offset, by, size) else {
+        return Err(Refusal::StackPlace);
+    };
+    match loaded(stack, at, size) {
+        Some(kind) => Ok(kind),
+        None => Err(Refusal::StackBytes),
+    }
+}
+
+/// What a sign-extending load (LDX MEMSX) through a frame pointer gives.
+pub fn stack_load_signed(
+    state: &State,
+    frame: u8,
+    offset: i32,
+    by: i16,
+    size: Narrow,
+) -> Result<Kind, Refusal>
+    ensures { StackLoadsSigned state.now frame (offset +ℤ by) size result }
+{
+    let Some(stack) = state.stack_of(frame) else {
+        return Err(Refusal::StackPlace);
+    };
+    let Some(at) = stack_place(offset, by, narrow_size(size)) else {
+        return Err(Refusal::StackPlace);
+    };
+    match loaded_signed(stack, at, size) {
+        Some(kind) => Ok(kind),
+        None => Err(Refusal::StackBytes),
+    }
+}
+
+// ---- stores
+
+/// Nothing by 8 bytes.
+fn whole_or(refusal: Refusal, size: Size) -> Option<Refusal>
+    ensures { result ≡ whole_or refusal size }
+{
+    match size {
+        Size::U64 => None,
+        _ => Some(refusal),
+    }
+}
+
+/// Why a value is not stored in a frame.
+fn store_refusal(state: &State, frame: u8, size: Size, source: Kind) -> Option<Refusal>
+    ensures { result ≡ store_refusal state.now frame size source }
+{
+    match source {
+        Kind::Unset => Some(Refusal::PointerStored),
+        Kind::Number(_) => None,
+        Kind::Stack { .. } => {
+            if usize::from(frame) == state.callers.len() {
+                whole_or(Refusal::PointerStored, size)
+            } else {
+                Some(Refusal::PointerStored)
+            }
+        }
+        Kind::MapValueOrNull { .. } => whole_or(Refusal::NullNotTested, size),
+        _ => whole_or(Refusal::PointerStored, size),
+    }
+}
+
+/// Writes a value into bytes of a live frame.
+fn leave(state: &mut State, frame: u8, at: usize, size: Size, source: Kind)
+    requires live { frame < depth state.old }
+    requires inside { at < 512 }
+    requires in_slot { at % 8 + size_bytes size ≤ 8 }
+    ensures { IsLeft state.old frame at size source state.new }
+{
+    match size {
+        Size::U64 => state.spill(frame, at / 8, source),
+        _ => state.store(frame, at, size),
+    }
+}
+
+/// A store (ST and STX) through a frame pointer. After a refusal the state is as before.
+pub fn stack_store(
+    state: &mut State,
+    frame: u8,
+    offset: i32,
+    by: i16,
+    size: Size,
+    source: Kind,
+) -> Result<(), Refusal>
+    ensures { StackStores state.old frame (offset +ℤ by) size source state.new result }
+{
+    let Some(at) = frame_place(state, frame, offset, by, size) else {
+        return Err(Refusal::StackPlace);
+    };
+    if let Some(refusal) = store_refusal(state, frame, size, source) {
+        return Err(refusal);
+    }
+    leave(state, frame, at, size, source);
+    Ok(())
+}
