@@ -29,8 +29,8 @@ pub record AreInPacket (fixed least : ℤ) (proved : ℕ) (by : ℤ) (bytes : �
 
 -- ---- loads
 
--- any number of that many bytes: no other bit may be 1, and its limits are no wider. Without a sign there are no
--- limits narrower than all numbers of 8 bytes
+-- any number of that many bytes: no other bit may be 1, and the limits are no wider; those with a sign are narrower
+-- for fewer than 8 bytes
 pub record IsOfSize (size : Size) (c : Scalar) : Type 0 where
   pub members : (x : ℕ) → (Has c x ↔ (x < 2 ^ (8 * size_bytes size)))
   pub unknown : (i : ℕ) → bit_at c.bits.mask i ≡ 1 → i < 8 * size_bytes size
