@@ -16,7 +16,8 @@ The first word after the backquotes of a code block says how the block is tried:
 
 The last four begin with a comment: the line of standard output, and after it what standard error gets. A refusal of
 `asm` counts as the answer. In hexadecimal `#` begins a comment. Blocks with any other word, or with none, are not
-tried. Each examples/NAME.text has to make NAME.image.
+tried. Each examples/NAME.text has to make NAME.image, and each NAME.report is what `run` prints for NAME.image and
+NAME.frames.
 The exit status is 0 if every answer is the one wanted, else 1.
 """
 import glob
@@ -105,6 +106,14 @@ def stored():
             yield text, kept.read().hex() + "\n", made.read().hex() + "\n"
 
 
+def reported():
+    """Each stored report is what `run` prints for the program and the frames beside it."""
+    for report in sorted(glob.glob("examples/*.report")):
+        name = report.removesuffix(".report")
+        with open(report) as kept:
+            yield report, kept.read(), run("run", name + ".image", name + ".frames", "sent")[1]
+
+
 def main():
     pages = [os.path.join(TOP, "README.md"), *sorted(glob.glob(os.path.join(TOP, "docs/*.md")))]
     runs = failures = 0
@@ -128,6 +137,7 @@ def main():
                 for kind, body in BLOCK.findall(file.read()):
                     count(os.path.relpath(page, TOP), tries(kind, body))
         count("examples", stored())
+        count("examples", reported())
         os.chdir("/")
     print(f"{runs} examples, {failures} differ")
     sys.exit(1 if failures else 0)

@@ -4,6 +4,7 @@ mod bounds;
 mod covered;
 mod flows;
 mod loops;
+mod packet;
 mod precision;
 mod programs;
 mod stack;
