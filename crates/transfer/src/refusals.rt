@@ -100,7 +100,7 @@ impl Refusal {
             Refusal::MapValueBytes => "the bytes are not proved to be in the map's value",
             Refusal::NullNotTested => "the pointer may be null, and is used before its null test",
             Refusal::PointerStored =>
-                "a pointer is not stored whole on the stack, or a frame pointer not in the innermost frame",
+                "a pointer is stored in part or off the stack, or a frame pointer in an outer one",
             Refusal::Comparison => "the comparison is not defined for a pointer",
             Refusal::HelperArgument =>
                 "there is no such helper, or it does not take such an argument",
