@@ -91,17 +91,18 @@ impl Refusal {
             Refusal::PointerOffset =>
                 "the offset may leave its limit, or a frame pointer moves by a variable number",
             Refusal::NotMemory => "the load or store does not go through a pointer to memory",
-            Refusal::StackPlace => "loads and stores on the stack are not verified yet",
+            Refusal::StackPlace =>
+                "the stack access is outside the frame's 512 bytes, or not aligned to its size",
             Refusal::StackBytes =>
                 "stack bytes are read that may be unset, or a part of a stored pointer",
             Refusal::ContextAccess =>
-                "only 4-byte loads of the context at 12 and 16 are verified so far",
+                "the context is read by 4-byte loads at 0, 4, 12 and 16 only, and never written",
             Refusal::PacketBytes => "the packet bytes are not proved to be there",
             Refusal::MapValueBytes => "the bytes are not proved to be in the map's value",
             Refusal::NullNotTested => "the pointer may be null, and is used before its null test",
             Refusal::PointerStored => "a pointer is not stored whole into the innermost frame",
             Refusal::Comparison =>
-                "a pointer is compared, and only comparisons of numbers are verified so far",
+                "a pointer is compared, and it is neither a packet test nor a null test",
             Refusal::HelperArgument =>
                 "there is no such helper, or it does not take such an argument",
             Refusal::HelperBytes =>

@@ -31,12 +31,33 @@ fn steps_are_refused_at_their_slot(rt: HostRuntime) -> Result<(), Fail> {
             ("r0 = 0; r1 += 1; exit", "V3 slot 1"),
             ("r2 = r10; r2 += 536870913; exit", "V4 slot 1"),
             ("r0 = 0; r3 = *(u32 *)(r0 + 0); exit", "V5 slot 1"),
-            ("r2 = r10; r0 = *(u64 *)(r2 - 8); exit", "V6 slot 1"),
-            ("r0 = 0; r0 = *(u32 *)(r1 + 0); exit", "V8 slot 1"),
+            ("r2 = r10; r0 = *(u64 *)(r2 - 520); exit", "V6 slot 1"),
+            ("r2 = r10; r0 = *(u64 *)(r2 - 8); exit", "V7 slot 1"),
+            ("r0 = 0; r0 = *(u32 *)(r1 + 8); exit", "V8 slot 1"),
             ("r0 = 0; if r1 == 0 goto +0; exit", "V13 slot 1"),
             ("r0 = 0; r0 = r10; exit", "V17 slot 2"),
             ("r0 = 0; call pc+1; exit; exit", "V16 slot 1"),
             ("r0 = 0; goto -1", "V18 slot 1"),
+        ],
+    )
+}
+
+/// The bytes that a packet test proves, and the one after them.
+#[test]
+fn packet_tests_prove_bytes(rt: HostRuntime) -> Result<(), Fail> {
+    are_verdicts(
+        &rt,
+        &[
+            (
+                "r2 = *(u32 *)(r1 + 0); r3 = *(u32 *)(r1 + 4); r4 = r2; r4 += 14; r0 = 1
+                 if r4 > r3 goto +1; r0 = *(u8 *)(r2 + 13); exit",
+                "ok 8",
+            ),
+            (
+                "r2 = *(u32 *)(r1 + 0); r3 = *(u32 *)(r1 + 4); r4 = r2; r4 += 14; r0 = 1
+                 if r4 > r3 goto +1; r0 = *(u8 *)(r2 + 14); exit",
+                "V9 slot 6",
+            ),
         ],
     )
 }
