@@ -41,7 +41,7 @@ fn number_in(state: &State, register: Reg) -> Option<u64> {
 }
 
 /// The slot and the refusal at which the walk ends, if it is refused.
-const WALKS: [(&str, Option<(usize, Refusal)>); 11] = [
+const WALKS: [(&str, Option<(usize, Refusal)>); 20] = [
     // registers are tested first
     ("r0 = r2; exit", Some((0, Refusal::UnsetRegister))),
     ("r10 = 0; exit", Some((0, Refusal::ReadOnlyRegister))),
@@ -56,11 +56,40 @@ const WALKS: [(&str, Option<(usize, Refusal)>); 11] = [
         "r2 = r10; r3 = 0x100000000 ll; r2 += r3; r0 = 1; exit",
         Some((3, Refusal::PointerOffset)),
     ),
-    // pointers are not compared, and places in memory are tested
+    // pointers are compared by packet tests and null tests only
     ("if r1 == 0 goto +0; exit", Some((0, Refusal::Comparison))),
+    ("if r10 > r1 goto +0; exit", Some((0, Refusal::Comparison))),
+    // the frame's first and last bytes, and the ones beside them
     (
-        "*(u64 *)(r10 - 4) = 0; exit",
+        "*(u64 *)(r10 - 512) = 1; r0 = *(u64 *)(r10 - 512); exit",
+        None,
+    ),
+    ("*(u8 *)(r10 - 1) = 1; r0 = *(u8 *)(r10 - 1); exit", None),
+    (
+        "*(u8 *)(r10 - 513) = 1; exit",
         Some((0, Refusal::StackPlace)),
+    ),
+    ("*(u8 *)(r10 + 0) = 1; exit", Some((0, Refusal::StackPlace))),
+    (
+        "*(u32 *)(r10 - 6) = 1; exit",
+        Some((0, Refusal::StackPlace)),
+    ),
+    (
+        "r0 = *(u8 *)(r10 - 1); exit",
+        Some((0, Refusal::StackBytes)),
+    ),
+    (
+        "*(u64 *)(r10 - 8) = r1; r0 = *(u32 *)(r10 - 8); exit",
+        Some((1, Refusal::StackBytes)),
+    ),
+    (
+        "*(u32 *)(r10 - 8) = r1; exit",
+        Some((0, Refusal::PointerStored)),
+    ),
+    // the packet's bytes are proved by a test
+    (
+        "r2 = *(u32 *)(r1 + 0); r0 = *(u8 *)(r2 + 0); exit",
+        Some((1, Refusal::PacketBytes)),
     ),
     (
         "r0 = *(u32 *)(r1 + 8); exit",
