@@ -152,7 +152,7 @@ fn is_wrong<R: Files + AllocGlobal + Abort>(
     Ok(())
 }
 
-const NO_LIMIT: &str = "error: the value of --limit is no number from 1 to 1000000\nusage: ";
+const NO_LIMIT: &str = "error: the value of --limit is not a number from 1 to 1000000\nusage: ";
 
 // Words that ask for nothing, and how the text on standard error begins.
 const WRONG: [(&[&str], &str); 15] = [

@@ -5,33 +5,16 @@ use assembler::assemble;
 use std::fs;
 use std::test::Fail;
 
+// What standard error has where the file that is named so is not there.
+const LOST: &str = "cannot read lost\nno such file or folder\n";
+
 // A command, its status, and what standard output and standard error have.
 const FAILING: [(&[&str], u8, &str, &str); 10] = [
-    (
-        &["dis", "lost"],
-        4,
-        "",
-        "cannot read lost\nno such file or folder\n",
-    ),
+    (&["dis", "lost"], 4, "", LOST),
     (&["dis", "short"], 2, "refused I2\n", SHORT),
-    (
-        &["trace", "lost", "frames", "sent"],
-        4,
-        "",
-        "cannot read lost\nno such file or folder\n",
-    ),
-    (
-        &["trace", "image", "lost", "sent"],
-        4,
-        "",
-        "cannot read lost\nno such file or folder\n",
-    ),
-    (
-        &["trace", "image", "lost", "lost/sent"],
-        4,
-        "",
-        "cannot read lost\nno such file or folder\n",
-    ),
+    (&["trace", "lost", "frames", "sent"], 4, "", LOST),
+    (&["trace", "image", "lost", "sent"], 4, "", LOST),
+    (&["trace", "image", "lost", "lost/sent"], 4, "", LOST),
     (
         &["trace", "image", "frames", "lost/sent"],
         4,
