@@ -111,5 +111,6 @@ impl Index for ChainIndex {
 
     ghost apart = { λ s j k p e f. scan_apart s.keys.slots j k p e f };
 
-    ghost few = { λ s. scan_few s.keys.slots (length s.keys.slots - length s.free.items) s.index.scan };
+    ghost few = { λ s. scan_few s.keys.slots
+        (length s.keys.slots - length s.free.items) s.index.scan };
 }

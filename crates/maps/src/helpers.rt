@@ -49,7 +49,8 @@ pub fn update<S: MapStore>(store: &mut S, key: &[u8], value: &[u8], flags: u64) 
     ensures answer { result ≡ update_answer (S.row_of store.old)
         (content (S.row_of store.old).value_size (S.places store.old) (S.block store.old)) key.now
         flags }
-    ensures content { content (S.row_of store.old).value_size (S.places store.new) (S.block store.new)
+    ensures content { content (S.row_of store.old).value_size (S.places store.new)
+        (S.block store.new)
         ≡ after_update (S.row_of store.old)
         (content (S.row_of store.old).value_size (S.places store.old) (S.block store.old)) key.now
         value.now flags }
@@ -76,7 +77,8 @@ pub fn delete<S: MapStore>(store: &mut S, key: &[u8]) -> u64
     requires { length key.now ≡ (S.row_of store.old).key_size }
     ensures answer { result ≡ delete_answer (S.row_of store.old)
         (content (S.row_of store.old).value_size (S.places store.old) (S.block store.old)) key.now }
-    ensures content { content (S.row_of store.old).value_size (S.places store.new) (S.block store.new)
+    ensures content { content (S.row_of store.old).value_size (S.places store.new)
+        (S.block store.new)
         ≡ after_delete (S.row_of store.old)
         (content (S.row_of store.old).value_size (S.places store.old) (S.block store.old)) key.now }
     ensures row { S.row_of store.new ≡ S.row_of store.old }
