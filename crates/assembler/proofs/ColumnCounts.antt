@@ -22,3 +22,6 @@ pub column_line : (xs : List ℕ) (i : ℕ) → i < length xs → get_or xs i 0 
 column_line xs i h e =
     let line : (get_or xs i 0 == 10) ≡ false = ne_eqb (get_or xs i 0) 10 e in
     one_more xs i h ∙ rw line (omega arith)
+
+-- the column after one byte more
+pub ruleset columns = (column_feed, column_line)

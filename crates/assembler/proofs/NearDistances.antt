@@ -17,3 +17,6 @@ fits_not by far = elim (cases_Bool (is_near by)) [
   | inl t ↦ absurd (far (near_fits by t))
   | inr f ↦ f
 ]
+
+-- whether a distance is near
+pub ruleset nearness = (fits_near, fits_not)

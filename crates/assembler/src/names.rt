@@ -51,7 +51,7 @@ fn distance(from: u16, to: u16) -> i32
 }
 
 // The jump, over that distance, unless that is too far.
-#[tactic(auto, using(crate::proofs::NearDistances::fits_near, crate::proofs::NearDistances::fits_not))]
+#[tactic(auto, using(crate::proofs::NearDistances::nearness))]
 fn aimed(insn: Insn, by: i32) -> Option<Insn>
     ensures { result ≡ aimed insn by }
 {

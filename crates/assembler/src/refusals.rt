@@ -24,7 +24,7 @@ fn line_behind(front: &[u8]) -> usize
     line
 }
 
-#[tactic(auto, using(crate::proofs::ColumnCounts::column_feed, crate::proofs::ColumnCounts::column_line))]
+#[tactic(auto, using(crate::proofs::ColumnCounts::columns))]
 fn column_behind(front: &[u8]) -> usize
     ensures { result ≡ column_behind front.now }
 {
