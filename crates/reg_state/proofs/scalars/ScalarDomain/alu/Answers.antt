@@ -1,4 +1,4 @@
-use Rattle.std.proofs.Common.{ℕ, ◌<◌, ◌^◌, arith}
+use Rattle.std.proofs.Common.{◌<◌, ◌^◌, arith}
 use Rattle.std.proofs.lemmas.Int.{ints}
 use Rattle.known_bits.specs.MemberLaws.{bit_at-differing}
 use Rattle.reg_state.proofs.Numbers.{keeps_map, keeps_signed_map}

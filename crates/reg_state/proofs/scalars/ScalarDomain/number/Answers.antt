@@ -1,4 +1,4 @@
-use Rattle.std.proofs.Common.{ℕ, ◌≡◌, refl, inl, inr}
+use Rattle.std.proofs.Common.{◌≡◌, refl, inl, inr}
 use Rattle.std.proofs.lemmas.Option.{none-some}
 use Rattle.reg_state.specs.Constants.{bits_constant_only}
 use Rattle.reg_state.proofs.scalars.ScalarDomain.number.Goals as goal

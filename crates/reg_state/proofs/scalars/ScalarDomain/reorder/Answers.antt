@@ -1,4 +1,4 @@
-use Rattle.std.proofs.Common.{ℕ, ◌<◌, ◌^◌, arith, ap, sym, ◌∙◌}
+use Rattle.std.proofs.Common.{◌<◌, ◌^◌, arith, ap, sym, ◌∙◌}
 use Rattle.std.specs.Int.{bit_at}
 use Rattle.known_bits.specs.MemberLaws.{bit_at-differing}
 use Rattle.reg_state.proofs.scalars.ScalarDomain.reorder.Goals as goal

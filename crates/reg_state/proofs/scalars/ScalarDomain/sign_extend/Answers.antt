@@ -1,4 +1,4 @@
-use Rattle.std.proofs.Common.{ℕ, ◌<◌, ◌^◌, arith}
+use Rattle.std.proofs.Common.{◌<◌, ◌^◌, arith}
 use Rattle.known_bits.specs.MemberLaws.{bit_at-differing}
 use Rattle.reg_state.proofs.Numbers.{enclosed_has}
 use Rattle.reg_state.proofs.scalars.ScalarDomain.sign_extend.Goals as goal
