@@ -37,6 +37,7 @@ use Rattle.reg_state.specs.declared.kinds.Kind.{Kind}
 use Rattle.reg_state.specs.declared.kinds.Kind.TheVariants.{Number, Context, Packet, MapValueOrNull}
 use Rattle.reg_state.specs.Scalars.{Has}
 use Rattle.reg_state.specs.Kinds.{Assigned, Allows, AllowsPacket}
+use Rattle.reg_state.specs.Constants.{IsNumber-only}
 use Rattle.reg_state.specs.KindLaws.{with_offset}
 use Rattle.stack_state.specs.declared.states.State.{State}
 use Rattle.stack_state.specs.CellLaws.{length-bytes_of, number_from_below}
@@ -290,7 +291,7 @@ moved_yields : (p : Program) (e : Assigned) (a : State) (s : Machine.State) (bac
     (v : Value) → PacketMoves a back q by (Ok k) → Has by x → AllowsPacket e q.fixed q.identity q.least q.greatest q.proved v
     → MeansBy p e a s → YieldsUnder p a s k (moved_to region.Packet (moved_by back (q.fixed +ℤ e.offset q.identity) (signed Full64 x)))
 moved_yields p e a s back q by k x v (inl h) has allowed m =
-    subst (λ n. YieldsUnder p a s k (moved_to region.Packet (moved_by back (q.fixed +ℤ e.offset q.identity) (signed Full64 n)))) (sym (h.only x has))
+    subst (λ n. YieldsUnder p a s k (moved_to region.Packet (moved_by back (q.fixed +ℤ e.offset q.identity) (signed Full64 n)))) (sym (IsNumber-only by h.number x h.alone has))
     (by_one_yields p e a s back q (signed Full64 h.number) k v h.moves allowed m)
 moved_yields p e a s back q by k x v (inr h) has allowed m =
     between_yields p e a s back q by.range.signed_least by.range.signed_greatest (signed Full64 x) k v h.moves.within h.moves.pointer

@@ -12,7 +12,7 @@ use Rattle.ranges.specs.Ranges.{extension_signed}
 use Rattle.reg_state.specs.declared.scalars.Scalar.{Scalar}
 use Rattle.reg_state.specs.declared.kinds.Kind.{Kind}
 use Rattle.reg_state.specs.declared.kinds.Kind.TheVariants.{Number, Packet, MapValueOrNull}
-use Rattle.reg_state.specs.Scalars.{Has, IsConstant}
+use Rattle.reg_state.specs.Scalars.{Has, IsNumber}
 use Rattle.stack_state.specs.declared.states.State.{State}
 use Rattle.stack_state.specs.Identities.{IsLeastFreshPacket}
 use Rattle.transfer.specs.declared.refusals.Refusal.{Refusal}
@@ -144,15 +144,15 @@ abbrev pub MovesBy : State → Bool → PacketPointer → ℤ → Result Kind Re
 MovesBy a back p by (Ok k) = IsMovedBy a back p by k
 MovesBy a back p by (Err e) = (e ≡ PointerOffset) × ¬ AreOffsets (lowest back p by by) (highest back p by by)
 
--- a number that can be one only moves by itself, read with a sign
+-- a number of which one only is left moves by itself, read with a sign
 pub record MovesByNumber (a : State) (back : Bool) (p : PacketPointer) (by : Scalar) (answer : Result Kind Refusal) : Type 0 where
   pub number : ℕ
-  pub only : (x : ℕ) → Has by x → x ≡ number
+  pub alone : IsNumber by number
   pub moves : MovesBy a back p (signed Full64 number) answer
 
 -- any other by something between its signed limits
 pub record MovesByLimits (a : State) (back : Bool) (p : PacketPointer) (by : Scalar) (answer : Result Kind Refusal) : Type 0 where
-  pub several : (n : ℕ) → ¬ IsConstant by n
+  pub several : (n : ℕ) → ¬ IsNumber by n
   pub moves : MovesBetween a back p by.range.signed_least by.range.signed_greatest answer
 
 abbrev pub PacketMoves : State → Bool → PacketPointer → Scalar → Result Kind Refusal → Type 0

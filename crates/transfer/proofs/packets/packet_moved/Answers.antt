@@ -1,4 +1,4 @@
-use Rattle.std.proofs.Common.{rules, inl, subst, w64}
+use Rattle.std.proofs.Common.{rules, inl, inr, refl, subst, w64}
 use Rattle.std.specs.Prelude.{FitsSigned}
 use Rattle.std.proofs.lemmas.Int.{to_z-of_z}
 use Rattle.transfer.specs.Packets.{MovesBy}
@@ -10,6 +10,13 @@ returns-in-Some c =
     let moves = simp to_z-of_z at c.moved.ensures in
     inl (record {
       number = c.in-Some.number;
-      only = c.in-Some.ensures.only;
+      alone = (c.in-Some.ensures.value c.in-Some.number).0 refl;
       moves = subst (λ z. MovesBy c.args.state.now c.args.back c.args.pointer z c.moved.result) c.cast_signed.ensures moves;
     })
+
+pub returns-in-None : goal.returns-in-None
+returns-in-None c =
+    let least : FitsSigned w64 c.args.by.range.signed_least = search rules in
+    let greatest : FitsSigned w64 c.args.by.range.signed_greatest = search rules in
+    let moves = simp to_z-of_z at c.moved_between.ensures in
+    inr (record { several = λ n is. absurd (cc ((c.in-None.ensures.value n).1 is)); moves = moves })
