@@ -22,16 +22,15 @@ use Rattle.isa_model.specs.declared.values.Value.{Value}
 use Rattle.isa_model.specs.declared.values.Value.TheVariants as value
 use Rattle.isa_model.specs.declared.ends.TrapReason.{TrapReason}
 use Rattle.isa_model.specs.Code.Registers.{reg_number}
-use Rattle.isa_model.specs.Code.Numbers.{alu, low, unsigned, atomic_alu, negated, sign_extended, reordered, holds}
+use Rattle.isa_model.specs.Code.Numbers.{alu, low, unsigned, atomic_alu, negated, sign_extended, reordered}
 use Rattle.isa_model.specs.Code.Spelling.{InsnFits, OperandFits}
 use Rattle.isa_model.specs.Code.Instructions.{Program, fetch, slots_of, operand_reads, alu_reads, reads, writes, is_frame_pointer}
-use Rattle.isa_model.specs.Machine.Pointers.{arithmetic, on_number, compared, compared_constant}
-use Rattle.isa_model.specs.Machine.States.{reg, set_reg, value_at}
+use Rattle.isa_model.specs.Machine.Pointers.{arithmetic, on_number, compared}
+use Rattle.isa_model.specs.Machine.States.{reg, set_reg}
 use Rattle.isa_model.specs.Machine.States as Machine
 use Rattle.isa_model.specs.Machine.Memory.{and_then, load, load_signed, store}
-use Rattle.isa_model.specs.Machine.Steps.{operand_value, base_of, destination, sets, goes_on, jumps, branches, tested, test_of, atomic_number, swaps_in, fetched_into, finishes, exits, act, is_unset, performed, performed_at, step}
+use Rattle.isa_model.specs.Machine.Steps.{operand_value, base_of, destination, sets, goes_on, jumps, branches, test_of, atomic_number, swaps_in, fetched_into, finishes, exits, act, is_unset, performed, performed_at, step}
 use Rattle.isa_model.specs.Running.Ends.{After, After-weaker}
-use Rattle.isa_model.specs.Machine.Successors.{Follows, falls_through}
 use Rattle.isa_model.specs.Machine.MachineStates.{IsProgram, IsState, IsValue}
 use Rattle.isa_model.specs.Machine.ValueLaws.{unsigned_fits}
 use Rattle.isa_model.specs.Machine.StateLaws.{reg_fits}
@@ -50,7 +49,7 @@ use Rattle.transfer.specs.declared.refusals.Refusal.{Refusal}
 use Rattle.transfer.specs.declared.refusals.Refusal.TheVariants.{UnsetRegister, ReadOnlyRegister, NotBuilt}
 use Rattle.transfer.specs.declared.Ways.{Ways}
 use Rattle.transfer.specs.declared.Ways.TheVariants as ways
-use Rattle.transfer.specs.Leading.{EachWay, InSome, LeadsTo}
+use Rattle.transfer.specs.Leading.{InSome, LeadsTo}
 use Rattle.transfer.specs.Refusing.{is_unset as is_unset_kind, is_unset_in, reads_unset}
 use Rattle.transfer.specs.ResultLaws.{Yields, YieldsUnder, on_number_yields}
 use Rattle.transfer.specs.ArithmeticLaws.{arithmetic_yields}
@@ -370,7 +369,7 @@ performs_in p clock e a s Exit w b c own fits inside m set is h = exits_in p e a
 performs_in p clock e a s i w b c own fits inside m set is h = sets_in p clock e a s i w b c fits inside m set h.0 h.1
 
 -- a step that is made passed the tests
-tested_rest : (x y : Bool) (u v : Refusal) (w : Ways) (Rest : Type 0) → Tested (if x then Some u else if y then Some v else None) (Ok w) Rest
+pub tested_rest : (x y : Bool) (u v : Refusal) (w : Ways) (Rest : Type 0) → Tested (if x then Some u else if y then Some v else None) (Ok w) Rest
     → (x ≡ false) × (y ≡ false) × Rest
 tested_rest true y u v w Rest h = absurd (cc)
 tested_rest false true u v w Rest h = absurd (cc)
@@ -391,63 +390,3 @@ Steps-leads p a i w b c program here h = λ clock _ s means.
     let acts : performed_at p clock s (fetch p s.slot) ≡ act p clock s i = ap (performed_at p clock s) at ∙ performed_acts p clock s i set own in
     subst (After (InSome p w b c)) (sym acts)
     (performs_in p clock e a s i w b c own fits inside m set (act_keeps p clock s i fits inside m.is_state) performs)
-
--- ---- where it leads
-
-each_one : (w : Ways) (b c : State) (P : State → Type 0) → w ≡ ways.One → P b → EachWay w b c P
-each_one w b c P one h = subst (λ x. EachWay x b c P) (sym one) h
-
-each_side : (stays goes : Bool) (stay go : State) (w : Ways) (b c : State) (P : State → Type 0)
-    → Sides stays goes stay go w b c → P stay → P go → EachWay w b c P
-each_side true true stay go w b c P h x y = subst (λ v. EachWay v b c P) (sym h.0) (subst P (sym h.1) x, subst P (sym h.2) y)
-each_side true false stay go w b c P h x y = each_one w b c P h.0 (subst P (sym h.1) x)
-each_side false true stay go w b c P h x y = each_one w b c P h.0 (subst P (sym h.1) y)
-each_side false false stay go w b c P h x y = subst (λ v. EachWay v b c P) (sym h) tt
-
-answered_none : (k : Kind) (w : Ways) → Ok w ≡ answered k → w ≡ ways.None
-answered_none (kind.Number numbers) w h = cc
-answered_none k w h = absurd (cc)
-
-exits_nowhere : (frames : ℕ) (k : Kind) (w : Ways) (b c : State) (P : State → Type 0) → Ok w ≡ exited frames k → EachWay w b c P
-exits_nowhere frames k w b c P h =
-    elim (frames == 1) as (λ x. Ok w ≡ (if x then answered k else Err NotBuilt) → EachWay w b c P)
-    [ true ↦ λ h. subst (λ v. EachWay v b c P) (sym (answered_none k w h)) tt | false ↦ λ h. absurd (cc) ] h
-
-sets_follows : (p : Program) (a : State) (i : Insn) (w : Ways) (b c : State) → fetch p a.slot ≡ Some i → falls_through i ≡ true
-    → w ≡ ways.One → Sets a i b → EachWay w b c (λ next. Follows p a.slot next.slot)
-sets_follows p a i w b c here falls one h =
-    each_one w b c (λ next. Follows p a.slot next.slot) one (i, here, inl (falls, ap (λ next. next.slot) h.next))
-
-goes_follows : (p : Program) (a : State) (i : Insn) (leaves : State → Result (Unit {0}) Refusal → Type 0) (w : Ways) (b c : State)
-    → fetch p a.slot ≡ Some i → falls_through i ≡ true → slots_of i ≡ 1 → GoesOn a leaves (Ok w) b
-    → EachWay w b c (λ next. Follows p a.slot next.slot)
-goes_follows p a i leaves w b c here falls one h =
-    each_one w b c (λ next. Follows p a.slot next.slot) h.0
-    (i, here, inl (falls, ap (λ next. next.slot) h.1.next ∙ ap (λ k. a.slot + k) (sym one)))
-
-performs_follows : (p : Program) (a : State) (i : Insn) (w : Ways) (b c : State) → fetch p a.slot ≡ Some i → Performs p a i (Ok w) b c
-    → EachWay w b c (λ next. Follows p a.slot next.slot)
-performs_follows p a (Jump by) w b c here h =
-    each_one w b c (λ next. Follows p a.slot next.slot) (cc h.0) (Jump by, here, inr (by, refl, ap (λ next. next.slot) h.1))
-performs_follows p a (JumpLong by) w b c here h =
-    each_one w b c (λ next. Follows p a.slot next.slot) (cc h.0) (JumpLong by, here, inr (by, refl, ap (λ next. next.slot) h.1))
-performs_follows p a (JumpIf cond by) w b c here h =
-    each_side h.stays h.goes (go_to h.stay (a.slot + 1)) (go_to h.go (destination p a.slot by)) w b c (λ next. Follows p a.slot next.slot) h.sides
-    (JumpIf cond by, here, inl (refl, refl)) (JumpIf cond by, here, inr (by, refl, refl))
-performs_follows p a (CallLocal by) w b c here h = absurd (cc)
-performs_follows p a Exit w b c here h = exits_nowhere (depth a) (kind_of a R0) w b c (λ next. Follows p a.slot next.slot) h
-performs_follows p a (StoreConstant size place k) w b c here h =
-    goes_follows p a (StoreConstant size place k) _ w b c here refl refl h.2
-performs_follows p a (Store size place r) w b c here h = goes_follows p a (Store size place r) _ w b c here refl refl h
-performs_follows p a (Atomic v op fetched place r) w b c here h = goes_follows p a (Atomic v op fetched place r) _ w b c here refl refl h
-performs_follows p a (Exchange v place r) w b c here h = goes_follows p a (Exchange v place r) _ w b c here refl refl h
-performs_follows p a (CompareExchange v place r) w b c here h = goes_follows p a (CompareExchange v place r) _ w b c here refl refl h
-performs_follows p a i w b c here h = sets_follows p a i w b c here refl h.0 h.1
-
--- each successor is at a slot that follows
-pub Steps-follows : (p : Program) (a : State) (i : Insn) (w : Ways) (b c : State) → fetch p a.slot ≡ Some i → Steps p a i (Ok w) b c
-    → EachWay w b c (λ next. Follows p a.slot next.slot)
-Steps-follows p a i w b c here h =
-    let (known, own, performs) =
-    tested_rest (reads_unset a i) (is_frame_pointer (writes i)) UnsetRegister ReadOnlyRegister w (Performs p a i (Ok w) b c) h in
-    performs_follows p a i w b c here performs

@@ -14,4 +14,5 @@ pub mod StackAccessLaws
 pub mod AccessLaws
 pub mod AtomicLaws
 pub mod ExactLaws
+pub mod FollowLaws
 pub mod Messages
