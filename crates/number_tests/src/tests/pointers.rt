@@ -91,7 +91,7 @@ fn in_call(tested: Kind, other: Kind, copies: [Kind; 4]) -> State {
 /// The same places, read back.
 fn copies_in(state: &State) -> [Kind; 4] {
     let mut copies = [Kind::Unset; 4];
-    copies[0] = state.innermost.registers[4];
+    copies[0] = state.kind_of(Reg::R4);
     copies[1] = state.innermost.stack.slots[7].kind();
     for caller in state.callers.as_slice() {
         copies[2] = caller.registers[6];
