@@ -92,7 +92,9 @@ fn in_call(tested: Kind, other: Kind, copies: [Kind; 4]) -> State {
 fn copies_in(state: &State) -> [Kind; 4] {
     let mut copies = [Kind::Unset; 4];
     copies[0] = state.kind_of(Reg::R4);
-    copies[1] = state.innermost.stack.slots[7].kind();
+    if let Some(kind) = state.innermost.stack.fill(7) {
+        copies[1] = kind;
+    }
     for caller in state.callers.as_slice() {
         copies[2] = caller.registers[6];
         copies[3] = caller.stack.slots[5].kind();
