@@ -16,6 +16,21 @@ fn counters_in_registers(rt: HostRuntime) -> Result<(), Fail> {
     Ok(())
 }
 
+/// A counter in a slot of the stack.
+#[test]
+fn counters_on_the_stack(rt: HostRuntime) -> Result<(), Fail> {
+    for below in [8u32, 256, 512] {
+        let text = format!(in rt.alloc();
+            "r1 = 0; *(u64 *)(r10 - {below}) = r1
+            loop: r1 = *(u64 *)(r10 - {below}); r1 += 1; *(u64 *)(r10 - {below}) = r1
+            if r1 >= 50000 goto end; r1 = 0; goto loop
+            end: r0 = 2; exit"
+        )?;
+        are_verdicts(&rt, &[(text.as_str(), "ok 300002")])?;
+    }
+    Ok(())
+}
+
 /// Another part of what is known of a register.
 #[test]
 fn what_tells_turns_apart(rt: HostRuntime) -> Result<(), Fail> {

@@ -44,6 +44,32 @@ const NARROW: [(&str, &str); 3] = [
     ),
 ];
 
+/// 128 states come to slot 22, in each of which other bits of r6 are known, and then 128 more, which
+/// only the one with the most unknown bits covers.
+const BEYOND_64: &str = "r0 = 2
+r8 = 1
+r6 = *(u32 *)(r1 + 12)
+r6 &= r8
+r7 = *(u32 *)(r1 + 12)
+if r7 != 0 goto +3
+r8 = 0
+r7 = 0
+goto +13
+r8 += 1
+if r8 != 129 goto -9
+r8 = 128
+r6 = *(u32 *)(r1 + 12)
+r6 &= 127
+r7 = *(u32 *)(r1 + 12)
+if r7 != 0 goto +3
+r8 = 0
+r7 = 0
+goto +3
+r8 += -1
+if r8 != 0 goto -9
+exit
+";
+
 /// 1,024 states come to slot 22, each with another limit of r6 and with the same bits known, and
 /// then 300 more, which only the one with the greatest limit covers.
 const BEYOND_512: &str = "r0 = 2
@@ -96,7 +122,9 @@ exit
 ";
 
 /// A text that ends with that many instructions and an exit, and its bound.
-const LONG: [(&str, usize, &str); 2] = [
+const LONG: [(&str, usize, &str); 3] = [
+    // 128 times 4,000 instructions are explored, and no more
+    (BEYOND_64, 4000, "ok 5541"),
     (BEYOND_512, 900, "ok 8849"),
     (BEYOND_4096, 200, "ok 37453"),
 ];
