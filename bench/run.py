@@ -33,6 +33,19 @@ def straight(slots):
     return "\n".join(body + ["r0 = 2", "exit"]) + "\n"
 
 
+def stack_loop(turns):
+    """3 + 4 * turns instructions on one path: the counter lives on the stack."""
+    return (
+        "*(u64 *)(r10 - 8) = 0\nloop: r1 = *(u64 *)(r10 - 8)\nr1 += 1\n*(u64 *)(r10 - 8) = r1\n"
+        f"if r1 < {turns} goto loop\nr0 = 2\nexit\n"
+    )
+
+
+def stored(name):
+    with open(os.path.join(HERE, name + ".text")) as file:
+        return file.read()
+
+
 def branches(count):
     """count tests of the unknown bits of one number, one after the other. Each path leaves another number in r0, so
     that no state covers another: 3 * 2^count instructions have to be explored in all."""
@@ -129,6 +142,8 @@ def verification():
         ("loop of 300,000 turns", counted_loop(300_000), "ok bound 600003", 600_003),
         ("18 branches on unknown bits in a row", branches(18), "ok bound 39", 3 * 2**18),
         ("20 branches on unknown bits in a row", branches(20), None, 1_000_000),
+        ("loop of 100,000 turns, counted on the stack", stack_loop(100_000), "ok bound 400003", 400_003),
+        ("loop of 50,000 turns, six values on the stack", stored("spills"), "ok bound 350018", 350_019),
     ]
     for name, text, answer, explored in rows:
         image = assembled("p", text)
@@ -140,6 +155,16 @@ def verification():
         print(f"{name:<46}{answer:<24}{seconds:>9.3f}{explored:>10}{explored / seconds:>12.3g}{memory:>6.0f}")
 
 
+def parsers():
+    """Programs that read packets; how many instructions are explored is not printed by the program."""
+    print()
+    for name in ["parser", "headers", "options"]:
+        image = assembled(name, stored(name))
+        _, answer, _, _ = measured([PROGRAM, "verify", image])
+        seconds, memory = best([PROGRAM, "verify", image], 0, answer)
+        print(f"{name + '.text':<46}{answer:<24}{seconds:>9.4f}{'':>22}{memory:>6.0f}")
+
+
 def main():
     with tempfile.TemporaryDirectory() as folder:
         os.chdir(folder)
@@ -147,6 +172,7 @@ def main():
         print(f"{os.cpu_count()} cores; each figure is the best of {TIMES} runs; `trace` and `run` without their start")
         execution()
         verification()
+        parsers()
         os.chdir("/")
 
 
