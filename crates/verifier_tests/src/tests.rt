@@ -7,6 +7,7 @@ mod loops;
 mod packet;
 mod precision;
 mod programs;
+mod pruning;
 mod stack;
 mod steps;
 mod verdicts;

@@ -9,7 +9,7 @@ use std::test::Fail;
 use transfer::{Refusal, Successors, step};
 
 /// The step, where an instruction begins at the state's slot.
-fn stepped(image: &Image, state: &State) -> Option<Result<Successors, Refusal>> {
+pub fn stepped(image: &Image, state: &State) -> Option<Result<Successors, Refusal>> {
     match image.at(state.slot) {
         None => None,
         Some(_) => Some(step(image, state)),
