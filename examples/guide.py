@@ -16,8 +16,8 @@ The first word after the backquotes of a code block says how the block is tried:
 
 The last four begin with a comment: the line of standard output, and after it what standard error gets. A refusal of
 `asm` counts as the answer. In hexadecimal `#` begins a comment. Blocks with any other word, or with none, are not
-tried. Each examples/NAME.text has to make NAME.image, and each NAME.report is what `run` prints for NAME.image and
-NAME.frames.
+tried. Each examples/NAME.text has to make NAME.image, each NAME.bpf.c too where clang 14 is installed, and each
+NAME.report is what `run` prints for NAME.image and NAME.frames.
 The exit status is 0 if every answer is the one wanted, else 1.
 """
 import glob
@@ -106,6 +106,15 @@ def stored():
             yield text, kept.read().hex() + "\n", made.read().hex() + "\n"
 
 
+def compiled():
+    """Each stored image of a source in C is what the clang that made it makes of it, where that is installed."""
+    if "clang version 14." in shell("clang --version") and shell("command -v llvm-objcopy"):
+        for source in sorted(glob.glob("examples/*.bpf.c")):
+            shell(f"bash examples/compile.sh {source} example.image")
+            with open("example.image", "rb") as made, open(source.removesuffix(".bpf.c") + ".image", "rb") as kept:
+                yield source, kept.read().hex() + "\n", made.read().hex() + "\n"
+
+
 def reported():
     """Each stored report is what `run` prints for the program and the frames beside it."""
     for report in sorted(glob.glob("examples/*.report")):
@@ -137,6 +146,7 @@ def main():
                 for kind, body in BLOCK.findall(file.read()):
                     count(os.path.relpath(page, TOP), tries(kind, body))
         count("examples", stored())
+        count("examples", compiled())
         count("examples", reported())
         os.chdir("/")
     print(f"{runs} examples, {failures} differ")
