@@ -3,6 +3,7 @@ pub mod Machine
 pub mod Running
 pub mod Reporting
 pub mod Text
+pub mod MustAccept
 pub mod Worked
 -- Names that many crates import, so that `use Rattle.isa_model.specs.{Program, fetch}` is enough.
 pub use Rattle.isa_model.specs.Code.Instructions.{Program, fetch, slots_of}

@@ -10,3 +10,4 @@ pub mod MapExamples
 pub mod StreamExamples
 pub mod ReportExamples
 pub mod TextExamples
+pub mod AcceptExamples
