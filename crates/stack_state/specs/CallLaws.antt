@@ -17,9 +17,8 @@ use Rattle.reg_state.specs.declared.kinds.Kind.TheVariants.{Unset, Number, Conte
 use Rattle.reg_state.specs.Kinds.{Assigned, Allows, AllowsOrNull}
 use Rattle.stack_state.specs.declared.slots.Slot.{Slot}
 use Rattle.stack_state.specs.declared.slots.Slot.TheVariants.{Written, Spilled}
-use Rattle.stack_state.specs.declared.states.AbstractFrame.{AbstractFrame}
 use Rattle.stack_state.specs.declared.states.State.{State}
-use Rattle.stack_state.specs.Meaning.{frames_of, no_frame, frame_of, kind_at, kinds_of, slots_of, depth, registers_of, IsOf, MeansBy}
+use Rattle.stack_state.specs.Meaning.{frames_of, no_frame, frame_of, kind_at, kinds_of, slots_of, depth, registers_of, MeansBy}
 use Rattle.stack_state.specs.MeaningLaws.{frame_of-caller, frame_of-innermost, depth_is_length}
 use Rattle.stack_state.specs.StackMeaning.{SlotMeans, StackMeans}
 use Rattle.stack_state.specs.StackLaws.{StackMeans-change, SlotMeans-spilled, StackMeans-new}
@@ -123,7 +122,7 @@ frame_of-entered_callee : (a : State) (target : ℕ) → frame_of (entered a tar
 frame_of-entered_callee a target =
     ap (frame_of (entered a target)) (sym (length-append a.callers.items (caller_of a.innermost ∷ []))) ∙ frame_of-innermost (entered a target)
 
-returns-entered : (a : State) (target : ℕ) → map (λ f. f.return_slot) (frames_of (entered a target))
+pub returns-entered : (a : State) (target : ℕ) → map (λ f. f.return_slot) (frames_of (entered a target))
     ≡ map (λ f. f.return_slot) (frames_of a) ++ (a.slot + 1) ∷ []
 returns-entered a target =
     map-append (λ f. f.return_slot) (a.callers.items ++ caller_of a.innermost ∷ []) (callee_of a.innermost (a.slot + 1) ∷ [])

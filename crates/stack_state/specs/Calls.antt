@@ -8,6 +8,7 @@ use Rattle.stack_state.specs.declared.slots.Slot.TheVariants.{Written}
 use Rattle.stack_state.specs.declared.states.AbstractFrame.{AbstractFrame}
 use Rattle.stack_state.specs.declared.states.State.{State}
 use Rattle.stack_state.specs.Meaning.{kind_at, frame_of, registers_of}
+use Rattle.stack_state.specs.Effects.{map_kinds}
 
 -- ---- calls
 
@@ -75,3 +76,7 @@ without_last e = record e { frames = take (length e.frames - 1) e.frames }
 abbrev pub without_frame : ℕ → Kind → Kind
 without_frame n (Stack f z) = if f == n then Unset else Stack f z
 without_frame n k = k
+
+-- the exit of the innermost frame to its caller, once nothing points into it
+abbrev pub ended : State → State
+ended a = left (map_kinds (without_frame (length a.callers.items)) a)

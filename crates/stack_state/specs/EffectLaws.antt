@@ -1,10 +1,10 @@
 -- What keeps the meaning of an abstract state, by effect: slots of any live frame, and kinds in every frame.
-use Rattle.std.specs.Prelude.{◌≡◌, ◌≢◌, ℕ, zero, suc, ◌+◌, ◌-◌, ◌*◌, ◌<◌, ◌==◌, ℤ, pos, ◌+ℤ◌, ◌≤ℤ◌, List, [], ◌∷◌, ◌++◌, map, max, length, slice_set, slice_index_or, All, Option, Some, None, Result, Ok, Bool, true, false, if◌then◌else◌, refl}
+use Rattle.std.specs.Prelude.{◌≡◌, ◌≢◌, ℕ, suc, ◌+◌, ◌-◌, ◌*◌, ◌<◌, ◌==◌, ℤ, pos, ◌+ℤ◌, ◌≤ℤ◌, List, [], ◌∷◌, map, max, length, slice_set, slice_index_or, All, Option, Some, None, Result, Ok, Bool, true, false, if◌then◌else◌, refl}
 use Rattle.std.proofs.Common.{sym, ap, ◌∙◌, subst, inl, inr, arith}
 use Rattle.std.proofs.lemmas.Bool.{cases_eq}
 use Rattle.std.proofs.lemmas.Bool.Decides.{nat_tests}
 use Rattle.std.proofs.lemmas.Int.{ints}
-use Rattle.std.proofs.lemmas.List.{length-map, length-set, map-append, get_or-map, get_or-set_same, get_or-set_other, set-append_left}
+use Rattle.std.proofs.lemmas.List.{length-set, map-append, get_or-map, get_or-set_same, get_or-set_other, set-append_left}
 use Rattle.std.proofs.Math.Seq.{map-set_same, set-append_seam}
 use Rattle.std.proofs.Math.ListN.{get_or-map as get_or-map_default}
 use Rattle.isa_model.specs.declared.sizes.Size.{Size}
@@ -25,16 +25,16 @@ use Rattle.isa_model.specs.Machine.Calls.{innermost}
 use Rattle.isa_model.specs.Machine.MachineStates.{IsState, IsCell, IsCallFrame}
 use Rattle.reg_state.specs.declared.scalars.Scalar.{Scalar}
 use Rattle.reg_state.specs.declared.kinds.Kind.{Kind}
-use Rattle.reg_state.specs.declared.kinds.Kind.TheVariants.{Unset, Number, Context, Stack, Packet, PacketEnd, Map, MapValue, MapValueOrNull}
+use Rattle.reg_state.specs.declared.kinds.Kind.TheVariants.{Unset, Packet, MapValue, MapValueOrNull}
 use Rattle.reg_state.specs.Scalars.{Has}
-use Rattle.reg_state.specs.Kinds.{Assigned, Allows, AllowsPacket, AllowsOrNull, IsLive}
+use Rattle.reg_state.specs.Kinds.{Assigned, Allows, AllowsPacket, AllowsOrNull}
 use Rattle.stack_state.specs.declared.slots.Slot.{Slot}
 use Rattle.stack_state.specs.declared.slots.Slot.TheVariants.{Written, Spilled}
 use Rattle.stack_state.specs.declared.states.AbstractFrame.{AbstractFrame}
 use Rattle.stack_state.specs.declared.states.State.{State}
 use Rattle.stack_state.specs.Meaning.{frames_of, no_frame, frame_of, kind_at, kinds_of, slots_of, depth, registers_of, IsOf, MeansBy}
 use Rattle.stack_state.specs.MeaningLaws.{length-frames_of, frame_of-innermost, depth_is_length, FrameKeeps, MeansBy-onto}
-use Rattle.stack_state.specs.Slots.{slot_at, kind_in, forgotten_kind, forgotten_slot}
+use Rattle.stack_state.specs.Slots.{slot_at, kind_in, forgotten_slot}
 use Rattle.stack_state.specs.StackMeaning.{SlotMeans, StackMeans, Stores, Spills, Loads, Fills, KeepsOthers, with_maps}
 use Rattle.stack_state.specs.StackLaws.{SlotMeans-spilled}
 use Rattle.stack_state.specs.FillLaws.{SlotMeans-forgotten}
@@ -202,7 +202,7 @@ MeansBy-fills p e a s serial j k z by kind inside here fills m =
 
 -- ---- every frame
 
-frames_of-map : (g : AbstractFrame → AbstractFrame) (a : State) → frames_of (map_frames g a) ≡ map g (frames_of a)
+pub frames_of-map : (g : AbstractFrame → AbstractFrame) (a : State) → frames_of (map_frames g a) ≡ map g (frames_of a)
 frames_of-map g a = sym (map-append g a.callers.items (a.innermost ∷ []))
 
 pub frame_of-map : (g : AbstractFrame → AbstractFrame) (a : State) (j : ℕ) → j < depth a → frame_of (map_frames g a) j ≡ g (frame_of a j)
@@ -210,7 +210,7 @@ frame_of-map g a j inside =
     let long = length-frames_of a in
     ap (λ fs. slice_index_or fs j no_frame) (frames_of-map g a) ∙ get_or-map g (frames_of a) j no_frame no_frame (omega arith)
 
-same_returns : (g : AbstractFrame → AbstractFrame) (fs : List AbstractFrame) → ((f : AbstractFrame) → (g f).return_slot ≡ f.return_slot)
+pub same_returns : (g : AbstractFrame → AbstractFrame) (fs : List AbstractFrame) → ((f : AbstractFrame) → (g f).return_slot ≡ f.return_slot)
     → map (λ f. f.return_slot) (map g fs) ≡ map (λ f. f.return_slot) fs
 same_returns g [] same = refl
 same_returns g (f ∷ fs) same = rw (same f, same_returns g fs same) refl

@@ -4,7 +4,7 @@ use Rattle.std.proofs.Common.{sym, ap, ◌∙◌, subst, inl, inr, arith}
 use Rattle.std.proofs.lemmas.Bool.{cases_lt}
 use Rattle.std.proofs.lemmas.Bool.Decides.{nat_tests}
 use Rattle.std.proofs.lemmas.Option.{slice_get_within}
-use Rattle.std.proofs.lemmas.List.{length-map, length-append, length-take-le, map-append, take-map, take_all, take-append-le, get_or-take}
+use Rattle.std.proofs.lemmas.List.{length-map, length-take-le, map-append, take-map, take_all, take-append-le, get_or-take}
 use Rattle.std.proofs.Math.Seq.{take-suc}
 use Rattle.std.proofs.Math.ListN.{get_or-map as get_or-map_default}
 use Rattle.isa_model.specs.declared.values.Value.{Value}
@@ -103,7 +103,7 @@ frame_of-left_last a called =
 abbrev return_slot_of : AbstractFrame → ℕ
 return_slot_of f = f.return_slot
 
-returns-left : (a : State) → 1 < depth a → map return_slot_of (frames_of (left a)) ≡ map return_slot_of a.callers.items
+pub returns-left : (a : State) → 1 < depth a → map (λ f. f.return_slot) (frames_of (left a)) ≡ map (λ f. f.return_slot) a.callers.items
 returns-left a called =
     let n : ℕ = length a.callers.items - 1 in
     let fs : List AbstractFrame = a.callers.items in

@@ -21,3 +21,4 @@ pub mod PacketEffects
 pub mod Calls
 pub mod CallLaws
 pub mod ExitLaws
+pub mod EndLaws

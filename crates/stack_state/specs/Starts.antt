@@ -1,5 +1,5 @@
 -- The abstract state in which every run begins.
-use Rattle.std.specs.Prelude.{◌≡◌, ℕ, zero, suc, ◌<◌, pos, List, [], ◌∷◌, None, refl, length, replicate}
+use Rattle.std.specs.Prelude.{ℕ, zero, suc, ◌<◌, pos, List, [], ◌∷◌, None, refl, length, replicate}
 use Rattle.std.proofs.Common.{arith}
 use Rattle.std.proofs.lemmas.List.{length-replicate}
 use Rattle.isa_model.specs.declared.values.Value.{Value}

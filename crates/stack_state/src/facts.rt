@@ -1,15 +1,16 @@
-//! What a test shows of all copies of an identity.
+//! What becomes known of values wherever they stand: in registers and slots of all live frames.
 
 ghost use Rattle.std.specs.Prelude.{◌≡◌, map};
 ghost use Rattle.stack_state.specs.Effects.{proved_kind, tested_kind, with_spilled, with_kinds};
 ghost use Rattle.stack_state.specs.Effects.{map_kinds};
+ghost use Rattle.stack_state.specs.Calls.{without_frame};
 ghost use Rattle.stack_state.specs.Facts.{learned};
 
 use crate::slots::Slot;
 use crate::states::{AbstractFrame, State};
 use reg_state::{Kind, Scalar};
 
-/// What a test shows of an identity.
+/// What a test shows of an identity, or what an exit leaves of the frame that ends.
 #[derive(Clone, Copy, PartialEq, Eq, Debug)]
 pub enum Fact {
     /// That many bytes after its variable part are in the packet.
@@ -22,6 +23,11 @@ pub enum Fact {
         identity: u32,
         null: bool,
         zero: Scalar,
+    },
+    /// The frame has ended, counted from the outermost, 0: what points into it is not known any
+    /// longer.
+    Ended {
+        frame: u8,
     },
 }
 
@@ -78,6 +84,16 @@ fn tested(kind: Kind, identity: u32, null: bool, zero: Scalar) -> Kind
     }
 }
 
+/// What is known of a value once the frame has ended.
+fn ended(kind: Kind, frame: u8) -> Kind
+    ensures { result ≡ without_frame frame kind }
+{
+    match kind {
+        Kind::Stack { frame: into, .. } => { if into == frame { Kind::Unset } else { kind } }
+        kind => kind,
+    }
+}
+
 fn learned_kind(fact: Fact, kind: Kind) -> Kind
     ensures { result ≡ learned fact kind }
 {
@@ -88,6 +104,7 @@ fn learned_kind(fact: Fact, kind: Kind) -> Kind
             null,
             zero,
         } => tested(kind, identity, null, zero),
+        Fact::Ended { frame } => ended(kind, frame),
     }
 }
 
@@ -132,8 +149,8 @@ fn learn_frames(fact: Fact, frames: &mut [AbstractFrame])
 }
 
 impl State {
-    /// Takes up a fact, at every copy of the identity: in registers, in those that calls kept, and
-    /// in spilled slots of all live frames.
+    /// Takes up a fact wherever it bears on a value: in registers, in those that calls kept, and in
+    /// spilled slots of all live frames.
     pub fn learn(&mut self, fact: Fact)
         ensures { self.new ≡ map_kinds (learned fact) self.old }
     {

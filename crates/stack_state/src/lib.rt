@@ -1,6 +1,7 @@
 //! Abstract states: what is known of a run when it comes to an instruction.
 #![tactic(auto)]
 
+pub mod calls;
 pub mod facts;
 pub mod identities;
 pub mod live_frames;

@@ -1,0 +1,26 @@
+use Rattle.std.proofs.Common.{◌≡◌, ◌∙◌, ℕ, ◌-◌, take, length, sym, ap, arith}
+use Rattle.std.proofs.lemmas.Option.{get_or_from_slice_get}
+use Rattle.stack_state.specs.declared.states.State.{State}
+use Rattle.stack_state.specs.Meaning.{no_frame, frame_of, kind_at, registers_of}
+use Rattle.stack_state.specs.MeaningLaws.{frame_of-caller}
+use Rattle.stack_state.specs.Effects.{map_kinds}
+use Rattle.stack_state.specs.Calls.{without_frame, resumed_of, left}
+use Rattle.stack_state.proofs.states.State.leave.Goals as goal
+
+pub returns : goal.returns
+returns c =
+    let a : State = c.args.self.now in
+    let b : State = c.learn.new.self in
+    let n : ℕ = length b.callers.items - 1 in
+    let forgotten : b ≡ map_kinds (without_frame (length a.callers.items)) a =
+    c.learn.ensures ∙ ap (λ k. map_kinds (without_frame k) a) c.len-frame.ensures.value in
+    let some = c.in-Some.ensures.len in
+    let caller : c.in-Some.caller ≡ frame_of b n =
+    sym (frame_of-caller b n (omega arith)
+    ∙ get_or_from_slice_get b.callers.items n c.in-Some.caller no_frame (sym c.pop.ensures.value ∙ c.in-Some.is)) in
+    let callee : State = record { slot = b.innermost.return_slot; callers = record { items = take n b.callers.items }; innermost = c.resume.new.self } in
+    ap (λ l. record callee { callers = record { items = l } }) c.pop.ensures.rest
+    ∙ ap (λ f. record callee { innermost = f }) (c.resume.ensures
+    ∙ ap (resumed_of c.in-Some.caller) c.kind_of-answer.ensures
+    ∙ ap (λ f. resumed_of f (kind_at (registers_of b) 0)) caller)
+    ∙ ap left forgotten
