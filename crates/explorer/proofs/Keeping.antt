@@ -1,5 +1,5 @@
 -- The parts of a frame, written one after the other, make the frame again.
-use Rattle.std.proofs.Common.{◌≡◌, ◌≢◌, ℕ, zero, suc, ◌+◌, ◌-◌, ◌<◌, ◌≤◌, List, [], ◌∷◌, ◌++◌, length, get_or, set, drop, drop-cons, add-one, replicate, append_assoc, length-append, Bool, true, false, Option, Some, None, refl, sym, ap, ◌∙◌, subst, inl, inr, arith}
+use Rattle.std.proofs.Common.{◌≡◌, ℕ, zero, suc, ◌+◌, ◌-◌, ◌<◌, ◌≤◌, List, [], ◌∷◌, ◌++◌, length, get_or, set, drop, drop-cons, add-one, replicate, append_assoc, length-append, true, false, Option, Some, None, refl, sym, ap, ◌∙◌, subst, inl, inr, arith}
 use Rattle.std.specs.Prelude.{option_to_list, if◌then◌else◌, ◌==◌}
 use Rattle.std.proofs.lemmas.Bool.{cases_lt}
 use Rattle.std.proofs.lemmas.Bool.Decides.{nat_tests}
@@ -14,7 +14,7 @@ use Rattle.stack_state.specs.Meaning.{kind_at}
 use Rattle.stack_state.specs.Slots.{slot_at}
 use Rattle.explorer.specs.declared.parts.Part.{Part}
 use Rattle.explorer.specs.declared.parts.Part.TheVariants.{InRegister, InSlot}
-use Rattle.explorer.specs.Keeping.{register_part, slot_part, register_parts, slot_parts, parts_of, IsPartOf, unset_frame, with_slot, written, all_written}
+use Rattle.explorer.specs.Keeping.{register_part, slot_part, register_parts, slot_parts, parts_of, IsPartOf, unset_frame, written, all_written}
 
 -- ---- one part more
 

@@ -6,3 +6,7 @@ pub mod Walking
 pub mod Counting
 pub mod Keeping
 pub mod Trails
+pub mod Accepted
+pub mod OnNumbers
+pub mod Forward
+pub mod Plain

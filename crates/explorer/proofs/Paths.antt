@@ -1,19 +1,16 @@
 -- Paths, visit by visit.
-use Rattle.std.proofs.Common.{◌≡◌, ◌≤◌, ◌+◌, ◌∷◌, ◌++◌, [], ℕ, suc, Some, None, Option, List, length, max, arith, refl, sym, ap, add-one, subst, inl, inr, ◌⊎◌}
+use Rattle.std.proofs.Common.{◌≡◌, ◌≤◌, ◌+◌, ◌∷◌, ◌++◌, [], ℕ, Some, None, Option, List, length, max, arith, refl, sym, add-one, subst, inl, inr, ◌⊎◌}
 use Rattle.isa_model.specs.Code.Instructions.{Program}
-use Rattle.isa_model.specs.Machine.States as Machine
 use Rattle.isa_model.specs.Machine.Steps.{step}
-use Rattle.isa_model.specs.Running.Ends.{Ends, After, After-weaker, Ends-more}
+use Rattle.isa_model.specs.Running.Ends.{Ends, After-weaker, Ends-more}
 use Rattle.stack_state.specs.declared.states.State.{State}
 use Rattle.stack_state.specs.Meaning.{Means, Within}
 use Rattle.transfer.specs.declared.Ways.TheVariants as ways
-use Rattle.transfer.specs.Leading.{LeadsTo, InSome}
+use Rattle.transfer.specs.Leading.{LeadsTo}
 use Rattle.explorer.specs.declared.table.Stored.{Stored}
 use Rattle.explorer.specs.declared.trail.Visit.{Visit}
-use Rattle.explorer.specs.Table.{StoredAt}
-use Rattle.explorer.specs.Walks.{StepsTo, Leads}
 use Rattle.explorer.specs.Counts.{StepsInto, HasNumber, LeadsToOne, LeadsToTwo}
-use Rattle.explorer.specs.Search.{IfReady, IfStepsTo, MeantBy, Waits, AwaitsBoth, Awaits, Waiting, Path}
+use Rattle.explorer.specs.Search.{MeantBy, Waits, AwaitsBoth, Awaits, Waiting, Path}
 use Rattle.explorer.proofs.Stores.{Keeps, Keeps-at}
 
 -- ---- paths

@@ -1,5 +1,5 @@
 -- What a search keeps, step by step.
-use Rattle.std.proofs.Common.{◌≡◌, ◌≤◌, ◌+◌, ◌<◌, ◌∷◌, ◌++◌, [], ℕ, suc, Some, None, Option, List, length, max, arith, refl, sym, ap, ◌∙◌, subst, inl, inr, ◌⊎◌}
+use Rattle.std.proofs.Common.{◌≡◌, ◌≤◌, ◌+◌, ◌∷◌, ◌++◌, [], ℕ, Some, None, Option, List, length, max, arith, refl, sym, ap, ◌∙◌, subst, inl, inr, ◌⊎◌}
 use Rattle.std.specs.Prelude.{IsSome}
 use Rattle.isa_model.specs.declared.instructions.Insn.{Insn}
 use Rattle.isa_model.specs.Code.Instructions.{Program, fetch}
@@ -30,7 +30,7 @@ use Rattle.explorer.specs.Walks.{Leads}
 use Rattle.explorer.specs.Counts.{StepsInto, LeadsNowhere}
 use Rattle.explorer.proofs.Stores.{Keeps, Keeps-at, Keeps-same, AllFine-more, IsCovered-known, Arrives-keeps, Arrives-fine, Arrives-stored, IsNumbered-fine, IsNumbered-keeps}
 use Rattle.explorer.proofs.Unfinished.{OnPath-same, OnPath-push, OnPath-arrives, OnPath-finish}
-use Rattle.explorer.proofs.Paths.{Last, Waiting-more, Path-more, Path-push, Path-pop, Waits-ends, Waits-both, Waits-next, LeadsTo-ends, Waits-one, Waits-two, Awaits-ends, Awaits-both, Awaits-next, Awaits-one, Awaits-two}
+use Rattle.explorer.proofs.Paths.{Last, Waiting-more, Path-more, Path-push, Waits-ends, Waits-both, Waits-next, LeadsTo-ends, Waits-one, Waits-two, Awaits-ends, Awaits-both, Awaits-next, Awaits-one, Awaits-two}
 
 -- ---- a visit that ends
 

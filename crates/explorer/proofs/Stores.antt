@@ -1,7 +1,6 @@
 -- What stays true of the stored states.
-use Rattle.std.proofs.Common.{◌≡◌, ◌≤◌, ◌+◌, ◌<◌, ◌∷◌, ◌++◌, [], ℕ, zero, suc, Some, None, Option, List, length, arith, refl, sym, ap, subst, set, get_or, slice_get}
+use Rattle.std.proofs.Common.{◌≡◌, ◌≤◌, ◌∷◌, ◌++◌, [], ℕ, zero, suc, Some, None, Option, List, length, arith, refl, sym, ap, subst, set, slice_get}
 use Rattle.std.proofs.lemmas.Option.{slice_get_within, get_or_from_slice_get}
-use Rattle.std.specs.List.{All}
 use Rattle.std.proofs.lemmas.List.Elements.{All-push, All-set, All-weaker}
 use Rattle.isa_model.specs.Code.Instructions.{Program}
 use Rattle.stack_state.specs.declared.states.State.{State}
@@ -12,7 +11,7 @@ use Rattle.explorer.specs.declared.search.Arrival.TheVariants.{Known, New}
 use Rattle.explorer.specs.Table.{IsCovered, StoredAt, IsNumbered}
 use Rattle.stack_state.specs.Starts.{start}
 use Rattle.explorer.specs.Walks.{Leads}
-use Rattle.explorer.specs.Counts.{HasNumber, IsCoveredBy}
+use Rattle.explorer.specs.Counts.{IsCoveredBy}
 use Rattle.explorer.specs.Search.{stored_too, Arrives, Settles, IsFine, AllFine}
 
 -- ---- numbers

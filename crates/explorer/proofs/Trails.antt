@@ -2,7 +2,6 @@
 use Rattle.std.proofs.Common.{◌≡◌, ◌∙◌, ℕ, ◌+◌, ◌≤◌, List, [], ◌∷◌, ◌++◌, length, length-append, Bool, true, false, Option, Some, None, refl, sym, ap, arith}
 use Rattle.std.specs.Prelude.{is_some, option_to_list}
 use Rattle.stack_state.specs.declared.states.State.{State}
-use Rattle.explorer.specs.declared.trail.Visit.{Visit}
 use Rattle.explorer.specs.declared.trail.Step.{Step}
 use Rattle.explorer.specs.Trail.{pending_of, left_by, visits_of, one_if, waiting}
 

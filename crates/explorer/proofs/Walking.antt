@@ -1,5 +1,5 @@
 -- What the path says of walks from the start.
-use Rattle.std.proofs.Common.{◌≡◌, ◌+◌, ◌∷◌, ◌++◌, [], ℕ, zero, suc, Some, None, Option, List, length, map, arith, refl, sym, ap, ◌∙◌, subst, inl, inr, ◌⊎◌, slice_get}
+use Rattle.std.proofs.Common.{◌≡◌, ◌+◌, ◌∷◌, [], ℕ, zero, suc, Some, None, Option, List, length, map, arith, sym, ap, ◌∙◌, subst, inl, inr, ◌⊎◌, slice_get}
 use Rattle.std.specs.Option.{option_map}
 use Rattle.std.proofs.lemmas.Option.{slice_get-map}
 use Rattle.isa_model.specs.declared.instructions.Insn.{Insn}
@@ -8,17 +8,16 @@ use Rattle.stack_state.specs.declared.states.State.{State}
 use Rattle.stack_state.specs.Starts.{start}
 use Rattle.control_flow.specs.Flows.{IsJoin}
 use Rattle.transfer.specs.declared.Ways.{Ways}
-use Rattle.transfer.specs.declared.Ways.TheVariants as ways
 use Rattle.transfer.specs.Exact.{Makes}
 use Rattle.explorer.specs.declared.refusals.Refusal.{Refusal}
 use Rattle.explorer.specs.declared.refusals.Refusal.TheVariants.{Flow, Step, Repeats, TooLong, Memory}
 use Rattle.explorer.specs.declared.table.Stored.{Stored}
 use Rattle.explorer.specs.declared.trail.Visit.{Visit}
-use Rattle.explorer.specs.Walks.{IsAmong, StepsTo, Leads, ComesBack}
+use Rattle.explorer.specs.Walks.{IsAmong, StepsTo, Leads}
 use Rattle.explorer.specs.Counts.{StepsInto}
 use Rattle.explorer.specs.Refused.{StopsAt}
-use Rattle.explorer.specs.Table.{StoredAt, IsRepeated}
-use Rattle.explorer.specs.Search.{Waiting, Path, TurnsBack, zeros_from, with_first, places_of, OnPath}
+use Rattle.explorer.specs.Table.{StoredAt}
+use Rattle.explorer.specs.Search.{Path, TurnsBack, zeros_from, with_first, places_of, OnPath}
 
 -- ---- steps
 

@@ -1,5 +1,5 @@
 -- Programs each of whose runs ends within a bound.
-use Rattle.std.specs.Prelude.{◌≡◌, ℕ, ◌≤◌}
+use Rattle.std.specs.Prelude.{ℕ, ◌≤◌}
 use Rattle.isa_model.specs.Code.Instructions.{Program}
 use Rattle.image.specs.Images.{IsImage}
 use Rattle.isa_model.specs.Running.Outcomes.{StartsEnd}

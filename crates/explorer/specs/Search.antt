@@ -13,7 +13,7 @@ use Rattle.control_flow.specs.Graph.{BeginsInsn}
 use Rattle.control_flow.specs.Flows.{IsJoin}
 use Rattle.explorer.specs.declared.verified.TheConstants.{MAX_EXPLORED}
 use Rattle.explorer.specs.declared.refusals.Refusal.{Refusal}
-use Rattle.explorer.specs.declared.refusals.Refusal.TheVariants.{Flow, Step, Repeats, TooLong, Memory}
+use Rattle.explorer.specs.declared.refusals.Refusal.TheVariants.{Repeats, Memory}
 use Rattle.explorer.specs.declared.table.Stored.{Stored}
 use Rattle.explorer.specs.declared.trail.Visit.{Visit}
 use Rattle.explorer.specs.declared.search.Search.{Search}

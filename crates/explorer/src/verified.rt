@@ -4,6 +4,7 @@ ghost use Rattle.std.specs.Prelude.{◌≡◌, ◌≤◌, IfOk, IfErr};
 ghost use Rattle.isa_model.specs.Running.Outcomes.{StartsEnd};
 ghost use Rattle.explorer.specs.Bounds.{IsVerified};
 ghost use Rattle.explorer.specs.Refused.{IsRefused};
+ghost use Rattle.explorer.specs.Accepting.{AcceptsAll, BoundsAll};
 ghost use Rattle.explorer.specs.Counts.{HasNumber};
 ghost use Rattle.stack_state.specs.Starts.{start};
 
@@ -94,6 +95,11 @@ pub fn verify(alloc: Global, image: Image) -> Result<Verified, (Refusal, usize)>
     ensures verified { IfOk result IsVerified }
     ensures refused { IfErr result (λ r. IsRefused image r.0 r.1) }
     ensures number { IfOk result (λ verified. HasNumber image start verified.bound) }
+
+    // Programs of the forms that must be accepted are refused for want of memory alone, and have
+    // the bounds that are known of them.
+    ensures accepts { IfErr result (λ r. AcceptsAll image r.0) }
+    ensures bounds { IfOk result (λ verified. BoundsAll image verified.bound) }
 {
     // only for the proof: this call says that the program is an image's, which `verified` needs
     let _slots = image.slots();

@@ -1,4 +1,4 @@
-use Rattle.std.proofs.Common.{◌≡◌, ◌∙◌, ℕ, ◌+◌, List, drop, replicate, ap, sym, arith}
+use Rattle.std.proofs.Common.{◌∙◌, ℕ, ◌+◌, drop, replicate, ap, sym, arith}
 use Rattle.reg_state.specs.declared.kinds.Kind.TheVariants.{Unset}
 use Rattle.explorer.specs.Keeping.{unset_frame, all_written}
 use Rattle.explorer.proofs.Keeping.{all_written-more, all_written-all}

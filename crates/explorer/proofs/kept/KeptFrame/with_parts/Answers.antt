@@ -1,4 +1,4 @@
-use Rattle.std.proofs.Common.{◌≡◌, ◌∙◌, ap, sym}
+use Rattle.std.proofs.Common.{◌∙◌, ap, sym}
 use Rattle.explorer.specs.Keeping.{parts_of}
 use Rattle.explorer.proofs.Keeping.{all_written-parts_of}
 use Rattle.explorer.proofs.kept.KeptFrame.with_parts.Goals as goal

@@ -1,8 +1,6 @@
-use Rattle.std.proofs.Common.{◌≡◌, ◌≤◌, ◌+◌, Some, length, arith, refl, sym, ap, ◌∙◌, subst}
+use Rattle.std.proofs.Common.{◌≡◌, ◌+◌, Some, length, arith, refl, sym, ap, ◌∙◌, subst}
 use Rattle.isa_model.specs.Code.Instructions.{fetch}
 use Rattle.stack_state.specs.Starts.{start}
-use Rattle.explorer.specs.declared.trail.Visit.{Visit}
-use Rattle.explorer.specs.Search.{HasEnded, HasEntered}
 use Rattle.transfer.specs.declared.Ways.TheVariants as ways
 use Rattle.transfer.specs.Exact.{Refuses}
 use Rattle.explorer.specs.Counts.{ItsOwn}

@@ -1,9 +1,9 @@
-use Rattle.std.proofs.Common.{◌≡◌, ◌≤◌, ◌+◌, ◌++◌, ◌∷◌, [], ℕ, None, List, length, arith, refl, sym, subst}
+use Rattle.std.proofs.Common.{◌+◌, None, length, arith, refl, sym, subst}
 use Rattle.std.proofs.lemmas.Result.{err_from_is_err_and}
 use Rattle.stack_state.specs.Starts.{start}
 use Rattle.explorer.specs.declared.trail.Visit.{Visit}
 use Rattle.explorer.specs.Counts.{Nothing}
-use Rattle.explorer.specs.Search.{AllFine, Path, OnPath, HasEnded, Explores, Arrives, CountsTo}
+use Rattle.explorer.specs.Search.{AllFine, Path, OnPath, CountsTo}
 use Rattle.explorer.proofs.Counting.{spent_into, spent_here}
 use Rattle.explorer.proofs.Stores.{IsCovered-known, Arrives-stored}
 use Rattle.explorer.proofs.Unfinished.{OnPath-same, OnPath-push, OnPath-arrives}

@@ -1,10 +1,9 @@
-use Rattle.std.proofs.Common.{◌≡◌, ◌≤◌, ◌+◌, ◌<◌, ℕ, List, [], arith, refl, length, ap, subst}
+use Rattle.std.proofs.Common.{◌+◌, List, arith, refl, length, ap, subst}
 use Rattle.std.proofs.lemmas.Result.{err_from_is_err_and}
-use Rattle.stack_state.specs.declared.states.State.{State}
 use Rattle.stack_state.specs.Starts.{start}
 use Rattle.explorer.specs.declared.trail.Visit.{Visit}
 use Rattle.explorer.specs.declared.search.Arrival.TheVariants.{New}
-use Rattle.explorer.specs.Search.{Settles, Goes, Explores, CountsTo}
+use Rattle.explorer.specs.Search.{Settles}
 use Rattle.explorer.specs.Counts.{Takes, ItsOwn}
 use Rattle.explorer.proofs.Counting.{CountsTo-here, CountsTo-takes}
 use Rattle.explorer.proofs.Stores.{IsCovered-known, Arrives-fine, Arrives-stored}

@@ -1,13 +1,11 @@
-use Rattle.std.proofs.Common.{◌≡◌, ◌≤◌, ◌+◌, ◌++◌, ◌∷◌, [], ℕ, None, List, max, arith, refl, ap, length, subst}
+use Rattle.std.proofs.Common.{◌≡◌, ◌+◌, ◌++◌, ◌∷◌, [], None, List, max, arith, refl, ap, length, subst}
 use Rattle.std.proofs.lemmas.Result.{err_from_is_err_and}
 use Rattle.stack_state.specs.declared.states.State.{State}
 use Rattle.stack_state.specs.Starts.{start}
-use Rattle.stack_state.specs.Meaning.{Within}
 use Rattle.explorer.specs.declared.trail.Visit.{Visit}
-use Rattle.explorer.specs.declared.search.Resumed.{Resumed}
-use Rattle.explorer.specs.declared.search.Resumed.TheVariants.{Ended, Next}
+use Rattle.explorer.specs.declared.search.Resumed.TheVariants.{Ended}
 use Rattle.explorer.specs.Table.{StoredAt}
-use Rattle.explorer.specs.Search.{Settles, CountsTo, HasSpent, IsAt, HasEnded, Explores, Path, OnPath, IsResumed, EndsAlone, EndsCovered, GoesOn}
+use Rattle.explorer.specs.Search.{Settles, CountsTo, HasSpent, Path, OnPath, IsResumed, GoesOn}
 use Rattle.explorer.proofs.Stores.{Keeps-at}
 use Rattle.explorer.proofs.Paths.{Last, Path-pop, Path-none}
 use Rattle.explorer.proofs.Unfinished.{OnPath-push, OnPath-pop}

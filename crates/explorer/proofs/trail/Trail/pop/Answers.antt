@@ -1,4 +1,4 @@
-use Rattle.std.proofs.Common.{◌≡◌, ◌∙◌, ◌++◌, ◌∷◌, [], ap, sym, arith, length, length-append}
+use Rattle.std.proofs.Common.{◌∙◌, ◌++◌, ◌∷◌, [], ap, sym, arith, length, length-append}
 use Rattle.explorer.specs.Trail.{Visits, visits_of}
 use Rattle.explorer.proofs.Trails.{visits_of-more, waiting-less, last_waits, length-visits_of}
 use Rattle.explorer.proofs.trail.Trail.pop.Goals as goal

@@ -1,4 +1,4 @@
-use Rattle.std.proofs.Common.{◌≡◌, ◌∙◌, ◌++◌, ◌∷◌, [], ap, length, length-append}
+use Rattle.std.proofs.Common.{◌∙◌, ◌++◌, ◌∷◌, [], ap, length, length-append}
 use Rattle.explorer.specs.declared.trail.Visit.{Visit}
 use Rattle.explorer.specs.Trail.{Visits}
 use Rattle.explorer.proofs.Trails.{visits_of-more, waiting-more}

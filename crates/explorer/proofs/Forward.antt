@@ -1,0 +1,216 @@
+-- Programs whose jumps lead forward: numbers and explored instructions are few, and no path comes back.
+use Rattle.std.proofs.Common.{◌≡◌, ◌≤◌, ◌+◌, ◌*◌, ◌^◌, ◌-◌, ◌<◌, ◌∷◌, [], ℕ, zero, suc, Some, None, Option, Ok, List, length, arith, refl, sym, ap, ◌∙◌, subst, inl, inr, count_by}
+use Rattle.std.proofs.Math.Nat.{pow-le-pow_right, two-pow-succ, add-mul, mul-add}
+use Rattle.std.proofs.lemmas.Nat.{pow_pos, mul-le}
+use Rattle.std.specs.Option.{option_flatten}
+use Rattle.std.specs.Prelude.{ℤ, slice_get, cond}
+use Rattle.std.proofs.lemmas.List.Sums.{sum_by-cons}
+use Rattle.isa_model.specs.declared.instructions.Cond.{Cond}
+use Rattle.isa_model.specs.declared.instructions.Insn.{Insn}
+use Rattle.isa_model.specs.declared.instructions.Insn.TheVariants.{LoadNumber, StoreConstant, Store, Atomic, Exchange, CompareExchange, Jump, JumpLong, JumpIf, CallLocal, Exit}
+use Rattle.isa_model.specs.declared.registers.Reg.TheVariants.{R0}
+use Rattle.isa_model.specs.Code.Instructions.{Program, fetch, slots_of}
+use Rattle.isa_model.specs.Machine.Successors.{Follows}
+use Rattle.stack_state.specs.declared.states.State.{State}
+use Rattle.control_flow.specs.FlowLaws.{BeginsInsn-inside, fetch-BeginsInsn}
+use Rattle.transfer.specs.declared.Ways.{Ways}
+use Rattle.transfer.specs.declared.Ways.TheVariants as ways
+use Rattle.transfer.specs.Leading.{EachWay}
+use Rattle.stack_state.specs.Meaning.{depth}
+use Rattle.stack_state.specs.Places.{kind_of}
+use Rattle.transfer.specs.Exact.{Performs, Makes}
+use Rattle.explorer.proofs.OnNumbers.{Makes-performs, exited_none}
+use Rattle.transfer.specs.FollowLaws.{Steps-follows}
+use Rattle.explorer.specs.Walks.{StepsTo, Leads, ComesBack, IsAmong}
+use Rattle.explorer.specs.Counts.{StepsInto, HasNumber, LeadsNowhere, LeadsToOne, LeadsToTwo, IsCoveredBy, Takes, Nothing, ItsOwn, OneMore, BothMore}
+use Rattle.isa_model.specs.MustAccept.Paths.{is_conditional, IsForward}
+
+-- ---- steps lead forward
+
+slots_some : (i : Insn) → 1 ≤ slots_of i
+slots_some (LoadNumber d n) = omega arith
+slots_some i = omega arith
+
+pub follows_up : (p : Program) (slot next : ℕ) → IsForward p → Follows p slot next → slot < next
+follows_up p slot next forward (i, here, inl (falls, at)) = let some = slots_some i in omega (arith, at)
+follows_up p slot next forward (i, here, inr (by, jump, at)) = let up = forward.forward slot i by here jump in omega (arith, at)
+
+inside : (p : Program) (s : State) (i : Insn) → fetch p s.slot ≡ Some i → s.slot < length p.insns
+inside p s i here = BeginsInsn-inside p s.slot (fetch-BeginsInsn p s.slot i here)
+
+one_up : (p : Program) (s a b : State) → IsForward p → StepsInto p s ways.One a b → s.slot < a.slot
+one_up p s a b forward step = follows_up p s.slot a.slot forward (Steps-follows p s step.insn ways.One a b step.here step.makes)
+
+two_up : (p : Program) (s a b : State) → IsForward p → StepsInto p s ways.Two a b → (s.slot < a.slot) × (s.slot < b.slot)
+two_up p s a b forward step =
+    let both = Steps-follows p s step.insn ways.Two a b step.here step.makes in
+    (follows_up p s.slot a.slot forward both.0, follows_up p s.slot b.slot forward both.1)
+
+-- ---- numbers
+
+-- a state's number is at most the count of slots from its own on
+pub HasNumber-forward : (p : Program) (s : State) (n : ℕ) → IsForward p → HasNumber p s n → n + s.slot ≤ length p.insns
+HasNumber-forward p s n forward (LeadsNowhere _ a b _ step is) = let below = inside p s step.insn step.here in omega (arith, is)
+HasNumber-forward p s n forward (LeadsToOne _ a b m _ step child is) =
+    let up = one_up p s a b forward step in
+    let rest = HasNumber-forward p a m forward child in
+    omega (arith, is)
+HasNumber-forward p s n forward (LeadsToTwo _ a b j k _ step left right is) =
+    let up = two_up p s a b forward step in
+    let first = HasNumber-forward p a j forward left in
+    let other = HasNumber-forward p b k forward right in
+    omega (arith, is, up.0, up.1)
+HasNumber-forward p s n forward (IsCoveredBy _ e steps _ leads same covers number) =
+    let there = HasNumber-forward p e n forward number in
+    omega (arith, same)
+
+-- ---- explored instructions
+
+-- conditional jumps from a slot on
+abbrev conditionals_from : List (Option Insn) → ℕ → ℕ
+conditionals_from [] k = 0
+conditionals_from (o ∷ os) zero = count_by is_conditional (o ∷ os)
+conditionals_from (o ∷ os) (suc k) = conditionals_from os k
+
+abbrev weight : Program → ℕ → ℕ
+weight p slot = (length p.insns - slot) * 2 ^ conditionals_from p.insns slot
+
+count_own : (o : Option Insn) (os : List (Option Insn)) → count_by is_conditional os ≤ count_by is_conditional (o ∷ os)
+count_own o os = omega (arith, sum_by-cons (λ x. cond (is_conditional x) 1 0) o os)
+
+conditionals_most : (os : List (Option Insn)) (k : ℕ) → conditionals_from os k ≤ count_by is_conditional os
+conditionals_most [] k = omega arith
+conditionals_most (o ∷ os) zero = omega arith
+conditionals_most (o ∷ os) (suc k) = let rest = conditionals_most os k in let own = count_own o os in omega arith
+
+conditionals_fewer : (os : List (Option Insn)) (j k : ℕ) → j ≤ k → conditionals_from os k ≤ conditionals_from os j
+conditionals_fewer [] j k le = omega arith
+conditionals_fewer (o ∷ os) zero k le = conditionals_most (o ∷ os) k
+conditionals_fewer (o ∷ os) (suc j) zero le = absurd (omega arith)
+conditionals_fewer (o ∷ os) (suc j) (suc k) le = conditionals_fewer os j k (omega (arith, le))
+
+-- a conditional jump counts before what comes behind it
+conditionals_less : (os : List (Option Insn)) (j k : ℕ) (c : Cond) (by : ℤ) → slice_get os j ≡ Some (Some (JumpIf c by)) → j < k
+    → conditionals_from os k + 1 ≤ conditionals_from os j
+conditionals_less [] j k c by here up = absurd (cc)
+conditionals_less (o ∷ os) zero zero c by here up = absurd (omega (arith, up))
+conditionals_less (o ∷ os) zero (suc k) c by here up =
+    let same : o ≡ Some (JumpIf c by) = cc in
+    let rest = conditionals_most os k in
+    let counted = sum_by-cons (λ x. cond (is_conditional x) 1 0) (Some (JumpIf c by)) os in
+    rw same (omega (arith, rest, counted))
+conditionals_less (o ∷ os) (suc j) zero c by here up = absurd (omega (arith, up))
+conditionals_less (o ∷ os) (suc j) (suc k) c by here up = conditionals_less os j k c by here (omega (arith, up))
+
+-- two ways are those of a conditional jump
+two_ways_jump : (p : Program) (s a b : State) (i : Insn) → Makes p s i ways.Two a b → (c : Cond) × (by : ℤ) × (i ≡ JumpIf c by)
+two_ways_jump p s a b i h = of i (Makes-performs p s i ways.Two a b h) where
+  of : (i : Insn) → Performs p s i (Ok ways.Two) a b → (c : Cond) × (by : ℤ) × (i ≡ JumpIf c by)
+  of (JumpIf c by) h = (c, by, refl)
+  of (Jump by) h = absurd (cc (h.0))
+  of (JumpLong by) h = absurd (cc (h.0))
+  of (CallLocal by) h = absurd (cc h)
+  of Exit h = let none : ways.Two ≡ ways.None = exited_none (depth s) (kind_of s R0) ways.Two h in absurd (cc)
+  of (StoreConstant size place k) h = absurd (cc (h.2.0))
+  of (Store size place r) h = absurd (cc (h.0))
+  of (Atomic w op fetched place r) h = absurd (cc (h.0))
+  of (Exchange w place r) h = absurd (cc (h.0))
+  of (CompareExchange w place r) h = absurd (cc (h.0))
+  of i h = absurd (cc (h.0))
+
+flattened : (o : Option (Option Insn)) (i : Insn) → option_flatten o ≡ Some i → o ≡ Some (Some i)
+flattened None i h = absurd (cc)
+flattened (Some o) i h = ap Some h
+
+two_less : (p : Program) (s a b : State) (k : ℕ) → StepsInto p s ways.Two a b → s.slot < k → conditionals_from p.insns k + 1 ≤ conditionals_from p.insns s.slot
+two_less p s a b k step up =
+    let (c, by, is) = two_ways_jump p s a b step.insn step.makes in
+    conditionals_less p.insns s.slot k c by (flattened (slice_get p.insns s.slot) (JumpIf c by) (step.here ∙ ap Some is)) up
+
+less_once : (a b x y : ℕ) → a + 1 ≤ b → x ≤ y → 1 ≤ x → a * x + 1 ≤ b * y
+less_once a b x y le more some =
+    let own = mul-le (a + 1) x b y le more in
+    let split : (a + 1) * x ≡ a * x + 1 * x = add-mul a 1 x in
+    omega (arith, own, split)
+
+less_twice : (a c b x y z : ℕ) → a + 1 ≤ b → c + 1 ≤ b → x + x ≤ z → y + y ≤ z → 1 ≤ x → a * x + c * y + 1 ≤ b * z
+less_twice a c b x y z one two twice_x twice_y some =
+    let first = mul-le (a + 1) (x + x) b z one twice_x in
+    let other = mul-le (c + 1) (y + y) b z two twice_y in
+    let split : (a + 1) * (x + x) ≡ a * (x + x) + 1 * (x + x) = add-mul a 1 (x + x) in
+    let split_too : (c + 1) * (y + y) ≡ c * (y + y) + 1 * (y + y) = add-mul c 1 (y + y) in
+    let twice : a * (x + x) ≡ a * x + a * x = mul-add a x x in
+    let twice_too : c * (y + y) ≡ c * y + c * y = mul-add c y y in
+    omega (arith, first, other, split, split_too, twice, twice_too)
+
+double_below : (c d : ℕ) → c + 1 ≤ d → 2 ^ c + 2 ^ c ≤ 2 ^ d
+double_below c d le =
+    let next : 2 ^ suc c ≡ 2 ^ c + 2 ^ c = two-pow-succ c in
+    let more = pow-le-pow_right {n = 2} (omega arith) {i = suc c} {j = d} (omega (arith, le)) in
+    omega (arith, next, more)
+
+weight_some : (p : Program) (slot : ℕ) → slot < length p.insns → 1 ≤ weight p slot
+weight_some p slot below =
+    let some = pow_pos (conditionals_from p.insns slot) in
+    let own = mul-le 1 1 (length p.insns - slot) (2 ^ conditionals_from p.insns slot) (omega arith) (omega arith) in
+    omega (arith, own)
+
+weight_once : (p : Program) (j k : ℕ) → j < k → j < length p.insns → weight p k + 1 ≤ weight p j
+weight_once p j k up below =
+    let fewer = conditionals_fewer p.insns j k (omega arith) in
+    less_once (length p.insns - k) (length p.insns - j) (2 ^ conditionals_from p.insns k) (2 ^ conditionals_from p.insns j)
+    (omega arith) (pow-le-pow_right {n = 2} (omega arith) {i = conditionals_from p.insns k} {j = conditionals_from p.insns j} fewer) (pow_pos (conditionals_from p.insns k))
+
+weight_twice : (p : Program) (i j k : ℕ) → i < j → i < k → i < length p.insns → conditionals_from p.insns j + 1 ≤ conditionals_from p.insns i
+    → conditionals_from p.insns k + 1 ≤ conditionals_from p.insns i → weight p j + weight p k + 1 ≤ weight p i
+weight_twice p i j k up up_too below less less_too =
+    less_twice (length p.insns - j) (length p.insns - k) (length p.insns - i) (2 ^ conditionals_from p.insns j) (2 ^ conditionals_from p.insns k) (2 ^ conditionals_from p.insns i)
+    (omega arith) (omega arith) (double_below _ _ less) (double_below _ _ less_too) (pow_pos (conditionals_from p.insns j))
+
+pub Takes-forward : (p : Program) (s : State) (n : ℕ) → IsForward p → Takes p s n → n ≤ weight p s.slot
+Takes-forward p s n forward (Nothing _ _ is) = omega (arith, is)
+Takes-forward p s n forward (ItsOwn _ _ begins is) = let some = weight_some p s.slot (BeginsInsn-inside p s.slot begins) in omega (arith, some, is)
+Takes-forward p s n forward (OneMore _ a b m _ step rest is) =
+    let less = weight_once p s.slot a.slot (one_up p s a b forward step) (inside p s step.insn step.here) in
+    let few = Takes-forward p a m forward rest in
+    omega (arith, less, few, is)
+Takes-forward p s n forward (BothMore _ a b j k _ step left right is) =
+    let up = two_up p s a b forward step in
+    let less = weight_twice p s.slot a.slot b.slot up.0 up.1 (inside p s step.insn step.here) (two_less p s a b a.slot step up.0) (two_less p s a b b.slot step up.1) in
+    let few = Takes-forward p a j forward left in
+    let few_too = Takes-forward p b k forward right in
+    omega (arith, less, few, few_too, is)
+
+-- fewer than may be explored
+pub Takes-few : (p : Program) (s : State) → IsForward p → Takes p s 1000001 → ⊥
+Takes-few p s forward h =
+    let few = Takes-forward p s 1000001 forward h in
+    let most = pow-le-pow_right {n = 2} (omega arith) {i = conditionals_from p.insns s.slot} {j = count_by is_conditional p.insns} (conditionals_most p.insns s.slot) in
+    let bound = mul-le (length p.insns - s.slot) (2 ^ conditionals_from p.insns s.slot) (length p.insns) (2 ^ count_by is_conditional p.insns) (omega arith) most in
+    let limit = forward.few in
+    absurd (omega (arith, few, bound, limit))
+
+-- ---- no way back
+
+pub StepsTo-follows : (p : Program) (a c : State) → StepsTo p a c → Follows p a.slot c.slot
+StepsTo-follows p a c step = among step.taken step.first step.other (Steps-follows p a step.insn step.taken step.first step.other step.here step.makes) step.among
+  where
+    among : (w : Ways) (x y : State) → EachWay w x y (λ next. Follows p a.slot next.slot) → IsAmong w x y c → Follows p a.slot c.slot
+    among ways.None x y follows is = absurd is
+    among ways.One x y follows is = subst (λ (z : State). Follows p a.slot z.slot) (sym is) follows
+    among ways.Two x y follows (inl is) = subst (λ (z : State). Follows p a.slot z.slot) (sym is) follows.0
+    among ways.Two x y follows (inr is) = subst (λ (z : State). Follows p a.slot z.slot) (sym is) follows.1
+
+pub Leads-up : (p : Program) (n : ℕ) (a b : State) → IsForward p → Leads p n a b → a.slot + n ≤ b.slot
+unfolding Leads
+Leads-up p zero a b forward h = let same = ap (λ (x : State). x.slot) h in omega (arith, same)
+Leads-up p (suc n) a b forward h =
+    let step = h.1 in
+    let up = follows_up p a.slot h.0.slot forward (StepsTo-follows p a h.0 step) in
+    let rest = Leads-up p n h.0 b forward h.2 in
+    omega (arith, up, rest)
+
+pub ComesBack-forward : (p : Program) (slot : ℕ) → IsForward p → ComesBack p slot → ⊥
+ComesBack-forward p slot forward h =
+    let up = Leads-up p (suc h.between) h.first h.again forward h.leads_back in
+    absurd (omega (arith, h.first_slot, h.again_slot))

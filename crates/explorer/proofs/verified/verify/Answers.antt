@@ -1,0 +1,18 @@
+use Rattle.std.proofs.lemmas.Result.{err_from_is_err_and}
+use Rattle.explorer.proofs.Plain.{IsPlain-refused, IsPlain-bound}
+use Rattle.explorer.proofs.verified.verify.Goals as goal
+
+pub returns-in_err-bound-clause-accepts : goal.returns-in_err-bound-clause-accepts
+returns-in_err-bound-clause-accepts c =
+    let p = c.args.image in
+    let e = c.in_err-bound.field-0.0 in
+    let refused = c.in_err-bound.ensures.refused in
+    let given = err_from_is_err_and c.from_residual.result c.from_residual.ensures.1 in
+    rw (given.1, given.2) (record { plain = λ h. IsPlain-refused p e.0 e.1 refused h })
+
+pub returns-clause-bounds : goal.returns-clause-bounds
+returns-clause-bounds c =
+    let p = c.args.image in
+    let n = c.in_ok-bound.bound in
+    let number = c.in_ok-bound.ensures.number in
+    record { plain = λ h. IsPlain-bound p n number h }

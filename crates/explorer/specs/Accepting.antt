@@ -1,0 +1,21 @@
+-- Programs that are accepted: their refusals, and their bounds.
+use Rattle.std.specs.Prelude.{◌≤◌, ℕ, length}
+use Rattle.isa_model.specs.Code.Instructions.{Program}
+use Rattle.isa_model.specs.MustAccept.Plain.{IsPlain}
+use Rattle.control_flow.specs.declared.errors.FlowError.TheVariants as error
+use Rattle.explorer.specs.declared.refusals.Refusal.{Refusal}
+use Rattle.explorer.specs.declared.refusals.Refusal.TheVariants.{Flow, Memory}
+
+-- want of memory, in the tests of control flow or later
+abbrev pub IsWantOfMemory : Refusal → Type 0
+IsWantOfMemory (Flow error.Memory) = Unit {0}
+IsWantOfMemory Memory = Unit {0}
+IsWantOfMemory e = ⊥
+
+-- these programs are refused for want of memory alone
+pub record AcceptsAll (p : Program) (e : Refusal) : Type 0 where
+  pub plain : IsPlain p → IsWantOfMemory e
+
+-- the bound of a plain program is at most its count of slots
+pub record BoundsAll (p : Program) (bound : ℕ) : Type 0 where
+  pub plain : IsPlain p → bound ≤ length p.insns
