@@ -44,8 +44,8 @@ const NARROW: [(&str, &str); 3] = [
     ),
 ];
 
-/// 128 states come to slot 22, in each of which other bits of r6 are known, and then 128 more, which
-/// only the one with the most unknown bits covers.
+/// 128 states come to slot 22, in each of which other bits of r6 are known, and then 128 more,
+/// which only the one with the most unknown bits covers.
 const BEYOND_64: &str = "r0 = 2
 r8 = 1
 r6 = *(u32 *)(r1 + 12)
