@@ -6,6 +6,7 @@ mod covers;
 mod kinds;
 mod limits;
 mod numbers;
+mod operations;
 mod pointers;
 mod scalars;
 mod stacks;

@@ -1,5 +1,6 @@
 //! How precise known bits are, worked out by hand: values and masks of real shapes.
 
+use super::operations::{Part, Relation, common, part_of, related};
 use isa_model::{AluOp, ByteOrder, Extension, Span, Width};
 use known_bits::Bits;
 use std::test::Fail;
@@ -18,10 +19,14 @@ const BYTE: Pair = (0, 0xff);
 /// The numbers from 2^64 - 256 on.
 const TOP: Pair = (0xffff_ffff_ffff_ff00, 0xff);
 
+fn alu(op: AluOp, width: Width, a: Bits, b: Bits) -> Bits {
+    Bits::alu(op, width, a, b)
+}
+
 /// The ones of the value, and the unknown bits of the mask.
 fn bits_of(pair: Pair) -> Bits {
-    let unknown = Bits::alu(AluOp::And, FULL, Bits::any(FULL), Bits::constant(pair.1));
-    Bits::alu(AluOp::Or, FULL, unknown, Bits::constant(pair.0))
+    let unknown = alu(AluOp::And, FULL, Bits::any(FULL), Bits::constant(pair.1));
+    alu(AluOp::Or, FULL, unknown, Bits::constant(pair.0))
 }
 
 fn pair_of(bits: Bits) -> Pair {
@@ -61,59 +66,71 @@ const RESULTS: [(AluOp, Width, Pair, Pair, Pair); 15] = [
 #[test]
 fn sums_products_logic_and_shifts(rt: HostRuntime) -> Result<(), Fail> {
     for (op, width, a, b, wanted) in RESULTS.iter() {
-        let found = pair_of(Bits::alu(*op, *width, bits_of(*a), bits_of(*b)));
-        assert_eq!(rt; found, *wanted, "{op:?}");
+        let found = alu(*op, *width, bits_of(*a), bits_of(*b));
+        assert_eq!(rt; pair_of(found), *wanted, "{op:?}");
     }
     Ok(())
 }
 
-const EXTENSIONS: [(Extension, Pair, Pair); 3] = [
+/// An operation, its operand and the result.
+const PARTS: [(Part, Pair, Pair); 7] = [
     (
-        Extension::Full8,
+        Part::SignExtend(Extension::Full8),
         (0x80, 0x7f),
         (0xffff_ffff_ffff_ff80, 0x7f),
     ),
-    (Extension::Full8, (0, 0x7f), (0, 0x7f)),
-    (Extension::Low16, (0x8000, 0), (0xffff_8000, 0)),
-];
-
-const ORDERS: [(ByteOrder, Span, Pair, Pair); 3] = [
-    (ByteOrder::Big, Span::B16, ANY, (0, 0xffff)),
-    (ByteOrder::Little, Span::B32, ANY, (0, 0xffff_ffff)),
-    (ByteOrder::Swap, Span::B16, (0x1234, 0), (0x3412, 0)),
+    (Part::SignExtend(Extension::Full8), (0, 0x7f), (0, 0x7f)),
+    (
+        Part::SignExtend(Extension::Low16),
+        (0x8000, 0),
+        (0xffff_8000, 0),
+    ),
+    (Part::Reorder(ByteOrder::Big, Span::B16), ANY, (0, 0xffff)),
+    (
+        Part::Reorder(ByteOrder::Little, Span::B32),
+        ANY,
+        (0, 0xffff_ffff),
+    ),
+    (
+        Part::Reorder(ByteOrder::Swap, Span::B16),
+        (0x1234, 0),
+        (0x3412, 0),
+    ),
+    (Part::Negate(LOW), (1, 0), (0xffff_ffff, 0)),
 ];
 
 #[test]
 fn parts(rt: HostRuntime) -> Result<(), Fail> {
-    for (extension, a, wanted) in EXTENSIONS.iter() {
-        let found = pair_of(Bits::sign_extend(*extension, bits_of(*a)));
-        assert_eq!(rt; found, *wanted, "{extension:?}");
+    for (part, a, wanted) in PARTS.iter() {
+        assert_eq!(rt; pair_of(part_of(part, bits_of(*a))), *wanted);
     }
-    for (order, span, a, wanted) in ORDERS.iter() {
-        let found = pair_of(Bits::reorder(*order, *span, bits_of(*a)));
-        assert_eq!(rt; found, *wanted, "{order:?}");
-    }
-    let minus_one = Bits::negate(LOW, Bits::constant(1));
-    assert_eq!(rt; pair_of(minus_one), (0xffff_ffff, 0));
     Ok(())
 }
 
-/// A set, its four limits, and its number where it has one alone.
-const LIMITS: [(Pair, u64, u64, i64, i64, Option<u64>); 4] = [
-    (BYTE, 0, 255, 0, 255, None),
-    ((7, 0), 7, 7, 7, 7, Some(7)),
-    (TOP, 0xffff_ffff_ffff_ff00, u64::MAX, -256, -1, None),
-    (ANY, 0, u64::MAX, i64::MIN, i64::MAX, None),
+/// The four limits of a set, and its number where it has one alone.
+type Limits = (u64, u64, i64, i64, Option<u64>);
+
+const LIMITS: [(Pair, Limits); 4] = [
+    (BYTE, (0, 255, 0, 255, None)),
+    ((7, 0), (7, 7, 7, 7, Some(7))),
+    (TOP, (0xffff_ffff_ffff_ff00, u64::MAX, -256, -1, None)),
+    (ANY, (0, u64::MAX, i64::MIN, i64::MAX, None)),
 ];
+
+fn limits_of(bits: Bits) -> Limits {
+    (
+        bits.least(),
+        bits.greatest(),
+        bits.signed_least(),
+        bits.signed_greatest(),
+        bits.number(),
+    )
+}
 
 #[test]
 fn limits(rt: HostRuntime) -> Result<(), Fail> {
-    for (pair, least, greatest, signed_least, signed_greatest, number) in LIMITS.iter() {
-        let bits = bits_of(*pair);
-        assert_eq!(rt; (bits.least(), bits.greatest()), (*least, *greatest));
-        let signed = (bits.signed_least(), bits.signed_greatest());
-        assert_eq!(rt; signed, (*signed_least, *signed_greatest));
-        assert_eq!(rt; bits.number(), *number);
+    for (pair, wanted) in LIMITS.iter() {
+        assert_eq!(rt; limits_of(bits_of(*pair)), *wanted);
     }
     Ok(())
 }
@@ -121,8 +138,9 @@ fn limits(rt: HostRuntime) -> Result<(), Fail> {
 const EVEN: Pair = (0, u64::MAX - 1);
 
 /// Two sets, what both have, and whether the first covers the second.
-const COMMON: [(Pair, Pair, Option<Pair>, bool); 4] = [
+const COMMON: [(Pair, Pair, Option<Pair>, bool); 5] = [
     (BYTE, EVEN, Some((0, 0xfe)), false),
+    (EVEN, BYTE, Some((0, 0xfe)), false),
     ((1, 0), EVEN, None, false),
     (EVEN, (6, 0), Some((6, 0)), true),
     (BYTE, BYTE, Some(BYTE), true),
@@ -130,52 +148,39 @@ const COMMON: [(Pair, Pair, Option<Pair>, bool); 4] = [
 
 #[test]
 fn common_numbers(rt: HostRuntime) -> Result<(), Fail> {
-    for (a, b, common, is_covered) in COMMON.iter() {
-        let (a, b) = (bits_of(*a), bits_of(*b));
-        assert_eq!(rt; a.meet(b).map(pair_of), *common);
-        assert_eq!(rt; a.covers(b), *is_covered);
+    for (a, b, wanted, is_covered) in COMMON.iter() {
+        let (both, covers) = common(bits_of(*a), bits_of(*b));
+        assert_eq!(rt; (both.map(pair_of), covers), (*wanted, *is_covered));
     }
-    assert!(rt; !bits_of(EVEN).covers(bits_of(BYTE)));
     Ok(())
+}
+
+/// The numbers from one to another, as bits.
+const BETWEEN: [(u64, u64, Pair); 5] = [
+    (0, 7, (0, 7)),
+    (0, 0xff, BYTE),
+    (0x80, 0xff, (0x80, 0x7f)),
+    (0x8000_0000, 0x8000_00ff, (0x8000_0000, 0xff)),
+    (0xffff_ffff_ffff_ff00, u64::MAX, TOP),
+];
+
+fn between(least: u64, greatest: u64) -> Option<Pair> {
+    if least <= greatest {
+        Some(pair_of(Bits::between(least, greatest)))
+    } else {
+        None
+    }
 }
 
 #[test]
 fn sets(rt: HostRuntime) -> Result<(), Fail> {
-    for (bits, wanted) in [
-        (Bits::any(FULL), ANY),
-        (Bits::any(LOW), (0, 0xffff_ffff)),
-        (Bits::constant(7), (7, 0)),
-        (Bits::between(0, 7), (0, 7)),
-        (Bits::between(0, 0xff), BYTE),
-        (Bits::between(0x80, 0xff), (0x80, 0x7f)),
-        (Bits::between(0x8000_0000, 0x8000_00ff), (0x8000_0000, 0xff)),
-        (Bits::between(0xffff_ffff_ffff_ff00, u64::MAX), TOP),
-    ] {
-        assert_eq!(rt; pair_of(bits), wanted);
+    for (least, greatest, wanted) in BETWEEN.iter() {
+        assert_eq!(rt; between(*least, *greatest), Some(*wanted));
+    }
+    for (width, wanted) in [(FULL, ANY), (LOW, (0, 0xffff_ffff))] {
+        assert_eq!(rt; pair_of(Bits::any(width)), wanted);
     }
     Ok(())
-}
-
-enum Relation {
-    Below,
-    AtMost,
-    SignedBelow,
-    SignedAtMost,
-    Apart,
-    Disjoint,
-    Overlapping,
-}
-
-fn related(relation: &Relation, a: Bits, b: Bits) -> Option<(Bits, Bits)> {
-    match relation {
-        Relation::Below => a.below(b),
-        Relation::AtMost => a.at_most(b),
-        Relation::SignedBelow => a.signed_below(b),
-        Relation::SignedAtMost => a.signed_at_most(b),
-        Relation::Apart => a.apart(b),
-        Relation::Disjoint => a.disjoint(b),
-        Relation::Overlapping => a.overlapping(b),
-    }
 }
 
 const TEN: Pair = (10, 0);

@@ -23,119 +23,41 @@ const TEN: Operand = Operand::Constant(10);
 
 const R3: Operand = Operand::Register(Reg::R3);
 
+/// What is no number.
+const NONE: Limits = (1, 0);
+
 /// r2 is compared with the operand, and the jump is taken or not: the limits of r2 and r3 before,
 /// and of both after it, if it goes this way.
-const ROWS: [(
+type Row = (
     Comparison,
     Width,
     Operand,
     bool,
     [Limits; 2],
     Option<[Limits; 2]>,
-); 13] = [
-    (
-        Comparison::Less,
-        FULL,
-        TEN,
-        true,
-        [ANY, ANY],
-        Some([(0, 9), ANY]),
-    ),
-    (
-        Comparison::Less,
-        FULL,
-        TEN,
-        false,
-        [ANY, ANY],
-        Some([(10, u64::MAX), ANY]),
-    ),
-    (
-        Comparison::Less,
-        FULL,
-        R3,
-        true,
-        [ANY, (5, 10)],
-        Some([(0, 9), (5, 10)]),
-    ),
-    (
-        Comparison::Less,
-        FULL,
-        R3,
-        false,
-        [ANY, (5, 10)],
-        Some([(5, u64::MAX), (5, 10)]),
-    ),
+);
+
+#[rattlefmt::skip]
+const ROWS: [Row; 13] = [
+    (Comparison::Less, FULL, TEN, true, [ANY, ANY], Some([(0, 9), ANY])),
+    (Comparison::Less, FULL, TEN, false, [ANY, ANY], Some([(10, u64::MAX), ANY])),
+    (Comparison::Less, FULL, R3, true, [ANY, (5, 10)], Some([(0, 9), (5, 10)])),
+    (Comparison::Less, FULL, R3, false, [ANY, (5, 10)], Some([(5, u64::MAX), (5, 10)])),
     // Of 7 to 100 below 5 to 10, what is below 10 is left of the one, and what is above 7 of the
     // other.
-    (
-        Comparison::Less,
-        FULL,
-        R3,
-        true,
-        [(7, 100), (5, 10)],
-        Some([(7, 9), (8, 10)]),
-    ),
+    (Comparison::Less, FULL, R3, true, [(7, 100), (5, 10)], Some([(7, 9), (8, 10)])),
     // Of words the same holds at 32 bits.
-    (
-        Comparison::Less,
-        LOW,
-        R3,
-        true,
-        [(7, 100), (5, 10)],
-        Some([(7, 9), (8, 10)]),
-    ),
+    (Comparison::Less, LOW, R3, true, [(7, 100), (5, 10)], Some([(7, 9), (8, 10)])),
     // What a low half shows is kept of a word only.
-    (
-        Comparison::Less,
-        LOW,
-        TEN,
-        true,
-        [ANY, ANY],
-        Some([ANY, ANY]),
-    ),
-    (
-        Comparison::Less,
-        LOW,
-        TEN,
-        true,
-        [WORD, ANY],
-        Some([(0, 9), ANY]),
-    ),
-    (
-        Comparison::Equal,
-        FULL,
-        R3,
-        true,
-        [SEVEN, SEVEN],
-        Some([SEVEN, SEVEN]),
-    ),
+    (Comparison::Less, LOW, TEN, true, [ANY, ANY], Some([ANY, ANY])),
+    (Comparison::Less, LOW, TEN, true, [WORD, ANY], Some([(0, 9), ANY])),
+    (Comparison::Equal, FULL, R3, true, [SEVEN, SEVEN], Some([SEVEN, SEVEN])),
     (Comparison::Equal, FULL, R3, false, [SEVEN, SEVEN], None),
     // Equal numbers are in both sets.
-    (
-        Comparison::Equal,
-        FULL,
-        R3,
-        true,
-        [(7, 100), (5, 10)],
-        Some([(7, 10), (7, 10)]),
-    ),
+    (Comparison::Equal, FULL, R3, true, [(7, 100), (5, 10)], Some([(7, 10), (7, 10)])),
     // A number that is not 7 is over it, where 7 is the least, and so at 32 bits of a word.
-    (
-        Comparison::Equal,
-        FULL,
-        R3,
-        false,
-        [SEVEN, (7, 100)],
-        Some([SEVEN, (8, 100)]),
-    ),
-    (
-        Comparison::NotEqual,
-        LOW,
-        R3,
-        true,
-        [(5, 7), SEVEN],
-        Some([(5, 6), SEVEN]),
-    ),
+    (Comparison::Equal, FULL, R3, false, [SEVEN, (7, 100)], Some([SEVEN, (8, 100)])),
+    (Comparison::NotEqual, LOW, R3, true, [(5, 7), SEVEN], Some([(5, 6), SEVEN])),
 ];
 
 fn numbers(limits: Limits) -> Kind {
@@ -147,10 +69,10 @@ fn numbers(limits: Limits) -> Kind {
     }
 }
 
-fn limits_of(kind: Kind) -> Option<Limits> {
+fn limits_of(kind: Kind) -> Limits {
     match kind {
-        Kind::Number(numbers) => Some((numbers.range.least, numbers.range.greatest)),
-        _ => None,
+        Kind::Number(numbers) => (numbers.range.least, numbers.range.greatest),
+        _ => NONE,
     }
 }
 
@@ -162,6 +84,17 @@ fn left_of(cond: Cond, taken: bool, before: &[Limits; 2]) -> Branch {
     refine(cond, taken, &state)
 }
 
+/// The limits of r2 and r3 in it.
+fn narrowed(cond: Cond, taken: bool, before: &[Limits; 2]) -> Option<[Limits; 2]> {
+    match left_of(cond, taken, before) {
+        Branch::Never => None,
+        Branch::Goes(state) => Some([
+            limits_of(state.kind_of(Reg::R2)),
+            limits_of(state.kind_of(Reg::R3)),
+        ]),
+    }
+}
+
 #[test]
 fn registers_narrow(rt: HostRuntime) -> Result<(), Fail> {
     for (comparison, width, operand, taken, before, wanted) in ROWS.iter() {
@@ -171,15 +104,7 @@ fn registers_narrow(rt: HostRuntime) -> Result<(), Fail> {
             register: Reg::R2,
             operand: *operand,
         };
-        let after = match left_of(cond, *taken, before) {
-            Branch::Never => None,
-            Branch::Goes(state) => {
-                let left = limits_of(state.kind_of(Reg::R2)).ok_or("r2 is no number")?;
-                let right = limits_of(state.kind_of(Reg::R3)).ok_or("r3 is no number")?;
-                Some([left, right])
-            }
-        };
-        assert_eq!(rt; after, *wanted, "{comparison:?} {taken}");
+        assert_eq!(rt; narrowed(cond, *taken, before), *wanted, "{comparison:?}");
     }
     Ok(())
 }

@@ -1,5 +1,6 @@
 //! How precise limits are, worked out by hand: limits of real shapes.
 
+use super::operations::{Part, Relation, common, part_of, related};
 use isa_model::{AluOp, ByteOrder, Extension, Span, Width};
 use ranges::Range;
 use std::test::Fail;
@@ -36,37 +37,49 @@ fn range_of(set: Set) -> Range {
     }
 }
 
-/// Sets, and their limits: unsigned and then signed.
-const LIMITS: [(Set, u64, u64, i64, i64); 8] = [
-    (Set::Any, 0, u64::MAX, i64::MIN, i64::MAX),
-    (WORD, 0, 0xffff_ffff, 0, 0xffff_ffff),
-    (Set::One(7), 7, 7, 7, 7),
-    (Set::One(u64::MAX), u64::MAX, u64::MAX, -1, -1),
-    (BYTE, 0, 255, 0, 255),
+/// Limits, unsigned and then signed, and the number where there is one alone.
+type Limits = (u64, u64, i64, i64, Option<u64>);
+
+const LIMITS: [(Set, Limits); 8] = [
+    (Set::Any, (0, u64::MAX, i64::MIN, i64::MAX, None)),
+    (WORD, (0, 0xffff_ffff, 0, 0xffff_ffff, None)),
+    (Set::One(7), (7, 7, 7, 7, Some(7))),
+    (
+        Set::One(u64::MAX),
+        (u64::MAX, u64::MAX, -1, -1, Some(u64::MAX)),
+    ),
+    (BYTE, (0, 255, 0, 255, None)),
     (
         Set::Between(5, 0x8000_0000_0000_0003),
-        5,
-        0x8000_0000_0000_0003,
-        i64::MIN,
-        i64::MAX,
+        (5, 0x8000_0000_0000_0003, i64::MIN, i64::MAX, None),
     ),
-    (Set::Signed(-10, 5), 0, u64::MAX, -10, 5),
+    (Set::Signed(-10, 5), (0, u64::MAX, -10, 5, None)),
     (
         Set::Signed(i64::MAX - 1, i64::MAX),
-        0x7fff_ffff_ffff_fffe,
-        0x7fff_ffff_ffff_ffff,
-        i64::MAX - 1,
-        i64::MAX,
+        (
+            0x7fff_ffff_ffff_fffe,
+            0x7fff_ffff_ffff_ffff,
+            i64::MAX - 1,
+            i64::MAX,
+            None,
+        ),
     ),
 ];
 
+fn limits_of(range: Range) -> Limits {
+    (
+        range.least,
+        range.greatest,
+        range.signed_least,
+        range.signed_greatest,
+        range.number(),
+    )
+}
+
 #[test]
 fn sets(rt: HostRuntime) -> Result<(), Fail> {
-    for (set, least, greatest, signed_least, signed_greatest) in LIMITS.iter() {
-        let range = range_of(*set);
-        assert_eq!(rt; (range.least, range.greatest), (*least, *greatest));
-        let signed = (range.signed_least, range.signed_greatest);
-        assert_eq!(rt; signed, (*signed_least, *signed_greatest));
+    for (set, wanted) in LIMITS.iter() {
+        assert_eq!(rt; limits_of(range_of(*set)), *wanted);
     }
     assert_eq!(rt; Range::any(LOW), range_of(WORD));
     Ok(())
@@ -160,45 +173,59 @@ const RESULTS: [(AluOp, Width, Set, Set, Set); 20] = [
     (AluOp::Xor, FULL, Set::One(6), Set::One(5), Set::One(3)),
 ];
 
+fn alu(op: AluOp, width: Width, a: Range, b: Range) -> Range {
+    Range::alu(op, width, a, b)
+}
+
 #[test]
 fn sums_products_logic_and_shifts(rt: HostRuntime) -> Result<(), Fail> {
     for (op, width, a, b, wanted) in RESULTS.iter() {
-        let found = Range::alu(*op, *width, range_of(*a), range_of(*b));
+        let found = alu(*op, *width, range_of(*a), range_of(*b));
         assert_eq!(rt; found, range_of(*wanted), "{op:?}");
     }
-    assert_eq!(rt;
-        Range::negate(FULL, range_of(BYTE)),
-        range_of(Set::Signed(-255, 0))
-    );
     Ok(())
 }
 
-const ORDERS: [(ByteOrder, Span, Set, Set); 2] = [
-    (ByteOrder::Big, Span::B16, Set::Any, Set::Between(0, 0xffff)),
-    (ByteOrder::Little, Span::B32, BYTE, BYTE),
-];
-
-const EXTENSIONS: [(Extension, Set, Set); 5] = [
-    (Extension::Low8, Set::Between(3, 100), Set::Between(3, 100)),
-    (Extension::Full8, Set::Any, Set::Signed(-128, 127)),
-    (Extension::Full16, Set::Any, Set::Signed(-32768, 32767)),
+/// An operation, its operand and the result.
+const PARTS: [(Part, Set, Set); 8] = [
+    (Part::Negate(FULL), BYTE, Set::Signed(-255, 0)),
     (
-        Extension::Full32,
+        Part::Reorder(ByteOrder::Big, Span::B16),
+        Set::Any,
+        Set::Between(0, 0xffff),
+    ),
+    (Part::Reorder(ByteOrder::Little, Span::B32), BYTE, BYTE),
+    (
+        Part::SignExtend(Extension::Low8),
+        Set::Between(3, 100),
+        Set::Between(3, 100),
+    ),
+    (
+        Part::SignExtend(Extension::Full8),
+        Set::Any,
+        Set::Signed(-128, 127),
+    ),
+    (
+        Part::SignExtend(Extension::Full16),
+        Set::Any,
+        Set::Signed(-32768, 32767),
+    ),
+    (
+        Part::SignExtend(Extension::Full32),
         Set::Any,
         Set::Signed(-2147483648, 2147483647),
     ),
-    (Extension::Full8, Set::Signed(-5, 3), Set::Signed(-5, 3)),
+    (
+        Part::SignExtend(Extension::Full8),
+        Set::Signed(-5, 3),
+        Set::Signed(-5, 3),
+    ),
 ];
 
 #[test]
 fn parts(rt: HostRuntime) -> Result<(), Fail> {
-    for (order, span, a, wanted) in ORDERS.iter() {
-        let found = Range::reorder(*order, *span, range_of(*a));
-        assert_eq!(rt; found, range_of(*wanted), "{order:?}");
-    }
-    for (extension, a, wanted) in EXTENSIONS.iter() {
-        let found = Range::sign_extend(*extension, range_of(*a));
-        assert_eq!(rt; found, range_of(*wanted), "{extension:?}");
+    for (part, a, wanted) in PARTS.iter() {
+        assert_eq!(rt; part_of(part, range_of(*a)), range_of(*wanted));
     }
     Ok(())
 }
@@ -227,36 +254,11 @@ const COMMON: [(Set, Set, Option<Set>, bool); 6] = [
 
 #[test]
 fn common_numbers(rt: HostRuntime) -> Result<(), Fail> {
-    for (a, b, common, is_covered) in COMMON.iter() {
-        let (a, b) = (range_of(*a), range_of(*b));
-        assert_eq!(rt; a.meet(b), common.map(range_of));
-        assert_eq!(rt; a.covers(b), *is_covered);
+    for (a, b, wanted, is_covered) in COMMON.iter() {
+        let found = common(range_of(*a), range_of(*b));
+        assert_eq!(rt; found, (wanted.map(range_of), *is_covered));
     }
-    let numbers = (range_of(Set::One(7)).number(), range_of(BYTE).number());
-    assert_eq!(rt; numbers, (Some(7), None));
     Ok(())
-}
-
-enum Relation {
-    Below,
-    AtMost,
-    SignedBelow,
-    SignedAtMost,
-    Apart,
-    Disjoint,
-    Overlapping,
-}
-
-fn related(relation: &Relation, a: Range, b: Range) -> Option<(Range, Range)> {
-    match relation {
-        Relation::Below => a.below(b),
-        Relation::AtMost => a.at_most(b),
-        Relation::SignedBelow => a.signed_below(b),
-        Relation::SignedAtMost => a.signed_at_most(b),
-        Relation::Apart => a.apart(b),
-        Relation::Disjoint => a.disjoint(b),
-        Relation::Overlapping => a.overlapping(b),
-    }
 }
 
 const TEN: Set = Set::One(10);

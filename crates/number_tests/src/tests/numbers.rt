@@ -1,5 +1,6 @@
 //! Vectors at the edges, worked out from the rules of RFC 9669, sections 4.1 to 4.3.
 
+use super::operations::Part;
 use isa_model::numbers::{compare, compute, negate, reorder, sign_extend};
 use isa_model::{AluOp, ByteOrder, Comparison, Extension, Span, Width};
 use std::test::Fail;
@@ -158,86 +159,82 @@ const COMPARISONS: [(Comparison, u64, u64, bool, bool); 49] = [
     (Comparison::SignedLessEqual, 0, LEAST, false, true),
 ];
 
-// Extension, operand and result.
-const EXTENSIONS: [(Extension, u64, u64); 12] = [
-    (Extension::Low8, 0x1_0000_007f, 0x7f),
-    (Extension::Low8, 0x80, 0xffff_ff80),
-    (Extension::Low8, MINUS_ONE, 0xffff_ffff),
-    (Extension::Low16, 0x7fff, 0x7fff),
-    (Extension::Low16, 0xabcd_8000, 0xffff_8000),
-    (Extension::Full8, 0x17f, 0x7f),
-    (Extension::Full8, 0x80, 0xffff_ffff_ffff_ff80),
-    (Extension::Full16, 0x1_7fff, 0x7fff),
-    (Extension::Full16, 0x8000, 0xffff_ffff_ffff_8000),
-    (Extension::Full32, TWO_31, 0xffff_ffff_8000_0000),
-    (Extension::Full32, 0x1_7fff_ffff, 0x7fff_ffff),
-    (Extension::Full32, TWO_32, 0),
-];
-
 const DIGITS: u64 = 0x0102_0304_0506_0708;
 
-// Order, span and result on DIGITS.
-const ORDERS: [(ByteOrder, Span, u64); 9] = [
-    (ByteOrder::Little, Span::B16, 0x0708),
-    (ByteOrder::Little, Span::B32, 0x0506_0708),
-    (ByteOrder::Little, Span::B64, DIGITS),
-    (ByteOrder::Big, Span::B16, 0x0807),
-    (ByteOrder::Big, Span::B32, 0x0807_0605),
-    (ByteOrder::Big, Span::B64, 0x0807_0605_0403_0201),
-    (ByteOrder::Swap, Span::B16, 0x0807),
-    (ByteOrder::Swap, Span::B32, 0x0807_0605),
-    (ByteOrder::Swap, Span::B64, 0x0807_0605_0403_0201),
+// Operation, operand and result.
+#[rattlefmt::skip]
+const PARTS: [(Part, u64, u64); 25] = [
+    (Part::Negate(Width::Full64), 1, MINUS_ONE),
+    (Part::Negate(Width::Full64), LEAST, LEAST),
+    (Part::Negate(Width::Low32), 1, 0xffff_ffff),
+    (Part::Negate(Width::Low32), TWO_32, 0),
+    (Part::SignExtend(Extension::Low8), 0x1_0000_007f, 0x7f),
+    (Part::SignExtend(Extension::Low8), 0x80, 0xffff_ff80),
+    (Part::SignExtend(Extension::Low8), MINUS_ONE, 0xffff_ffff),
+    (Part::SignExtend(Extension::Low16), 0x7fff, 0x7fff),
+    (Part::SignExtend(Extension::Low16), 0xabcd_8000, 0xffff_8000),
+    (Part::SignExtend(Extension::Full8), 0x17f, 0x7f),
+    (Part::SignExtend(Extension::Full8), 0x80, 0xffff_ffff_ffff_ff80),
+    (Part::SignExtend(Extension::Full16), 0x1_7fff, 0x7fff),
+    (Part::SignExtend(Extension::Full16), 0x8000, 0xffff_ffff_ffff_8000),
+    (Part::SignExtend(Extension::Full32), TWO_31, 0xffff_ffff_8000_0000),
+    (Part::SignExtend(Extension::Full32), 0x1_7fff_ffff, 0x7fff_ffff),
+    (Part::SignExtend(Extension::Full32), TWO_32, 0),
+    (Part::Reorder(ByteOrder::Little, Span::B16), DIGITS, 0x0708),
+    (Part::Reorder(ByteOrder::Little, Span::B32), DIGITS, 0x0506_0708),
+    (Part::Reorder(ByteOrder::Little, Span::B64), DIGITS, DIGITS),
+    (Part::Reorder(ByteOrder::Big, Span::B16), DIGITS, 0x0807),
+    (Part::Reorder(ByteOrder::Big, Span::B32), DIGITS, 0x0807_0605),
+    (Part::Reorder(ByteOrder::Big, Span::B64), DIGITS, 0x0807_0605_0403_0201),
+    (Part::Reorder(ByteOrder::Swap, Span::B16), DIGITS, 0x0807),
+    (Part::Reorder(ByteOrder::Swap, Span::B32), DIGITS, 0x0807_0605),
+    (Part::Reorder(ByteOrder::Swap, Span::B64), DIGITS, 0x0807_0605_0403_0201),
 ];
+
+// At 64 and at 32 bits.
+fn computed(op: AluOp, a: u64, b: u64) -> (u64, u64) {
+    (
+        compute(op, Width::Full64, a, b),
+        compute(op, Width::Low32, a, b),
+    )
+}
 
 #[test]
 fn arithmetic_at_the_edges(rt: HostRuntime) -> Result<(), Fail> {
     for (op, a, b, wide, narrow) in ARITHMETIC.iter() {
-        let found = compute(*op, Width::Full64, *a, *b);
-        assert_eq!(rt; found, *wide, "{op:?} of {a:x} and {b:x} at 64 bits");
-        let found = compute(*op, Width::Low32, *a, *b);
-        assert_eq!(rt; found, *narrow, "{op:?} of {a:x} and {b:x} at 32 bits");
+        assert_eq!(rt; computed(*op, *a, *b), (*wide, *narrow), "{op:?} of {a:x}");
     }
     Ok(())
+}
+
+fn compared(comparison: Comparison, a: u64, b: u64) -> (bool, bool) {
+    (
+        compare(comparison, Width::Full64, a, b),
+        compare(comparison, Width::Low32, a, b),
+    )
 }
 
 #[test]
 fn comparisons_at_the_edges(rt: HostRuntime) -> Result<(), Fail> {
     for (comparison, a, b, wide, narrow) in COMPARISONS.iter() {
-        let found = compare(*comparison, Width::Full64, *a, *b);
-        assert_eq!(rt;
-            found,
-            *wide,
-            "{comparison:?} of {a:x} and {b:x} at 64 bits"
-        );
-        let found = compare(*comparison, Width::Low32, *a, *b);
-        assert_eq!(rt;
-            found,
-            *narrow,
-            "{comparison:?} of {a:x} and {b:x} at 32 bits"
-        );
+        let found = compared(*comparison, *a, *b);
+        assert_eq!(rt; found, (*wide, *narrow), "{comparison:?} of {a:x}");
     }
     Ok(())
 }
 
-#[test]
-fn numbers_alone(rt: HostRuntime) -> Result<(), Fail> {
-    assert_eq!(rt; negate(Width::Full64, 1), MINUS_ONE);
-    assert_eq!(rt; negate(Width::Full64, LEAST), LEAST);
-    assert_eq!(rt; negate(Width::Low32, 1), 0xffff_ffff);
-    assert_eq!(rt; negate(Width::Low32, TWO_32), 0);
-    for (extension, a, wanted) in EXTENSIONS.iter() {
-        assert_eq!(rt;
-            sign_extend(*extension, *a),
-            *wanted,
-            "{extension:?} of {a:x}"
-        );
+fn part_of(part: &Part, a: u64) -> u64 {
+    match part {
+        Part::Negate(width) => negate(*width, a),
+        Part::SignExtend(extension) => sign_extend(*extension, a),
+        Part::Reorder(order, span) => reorder(*order, *span, a),
     }
-    for (order, span, wanted) in ORDERS.iter() {
-        assert_eq!(rt;
-            reorder(*order, *span, DIGITS),
-            *wanted,
-            "{order:?} of {span:?}"
-        );
+}
+
+#[test]
+fn parts(rt: HostRuntime) -> Result<(), Fail> {
+    for (part, a, wanted) in PARTS.iter() {
+        assert_eq!(rt; part_of(part, *a), *wanted, "of {a:x}");
     }
     Ok(())
 }

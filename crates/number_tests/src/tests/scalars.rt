@@ -71,8 +71,15 @@ fn common_members(rt: HostRuntime) -> Result<(), Fail> {
     Ok(())
 }
 
-fn refined(comparison: Comparison, width: Width, taken: bool, a: Scalar, b: u64) -> Option<Scalar> {
-    let (left, _) = refine(comparison, width, taken, a, Scalar::constant(b))?;
+// What a comparison with a number leaves of a set.
+fn refined<D: Domain>(
+    comparison: Comparison,
+    width: Width,
+    taken: bool,
+    a: D,
+    b: u64,
+) -> Option<D> {
+    let (left, _) = refine(comparison, width, taken, a, D::constant(b))?;
     Some(left)
 }
 
@@ -166,65 +173,63 @@ fn low_halves(rt: HostRuntime) -> Result<(), Fail> {
     Ok(())
 }
 
-fn at_most_nine<D: Domain>() -> Option<D> {
-    let (left, _) = refine(
-        Comparison::LessEqual,
-        FULL,
-        true,
-        D::any(FULL),
-        D::constant(9),
-    )?;
-    Some(left)
-}
+/// The numbers from one to another.
+type Limits = (u64, u64);
 
-#[test]
-fn domains(rt: HostRuntime) -> Result<(), Fail> {
-    assert_eq!(rt; at_most_nine::<Bits>(), Some(Bits::between(0, 9)));
-    assert_eq!(rt; at_most_nine::<Range>(), Some(Range::between(0, 9)));
-    assert_eq!(rt; at_most_nine::<Scalar>(), Some(Scalar::between(0, 9)));
-    Ok(())
-}
+/// A comparison and whether it holds, a set and the number that it is compared with, and what is
+/// left of the set.
+type Row = (Comparison, bool, Limits, u64, Option<Limits>);
 
-/// What a comparison with a number leaves of 0 and 1.
-fn left_of_a_bit<D: Domain>(comparison: Comparison, goes: bool, number: u64) -> Option<D> {
-    let (left, _) = refine(
-        comparison,
-        FULL,
-        goes,
-        D::between(0, 1),
-        D::constant(number),
-    )?;
-    Some(left)
-}
+const BIT: Limits = (0, 1);
 
-#[test]
-fn relations_narrow_bits(rt: HostRuntime) -> Result<(), Fail> {
-    for (comparison, goes, number, left) in [
-        (Comparison::Less, true, 1, Some(0)),
-        (Comparison::LessEqual, true, 0, Some(0)),
-        (Comparison::AnyBit, true, 1, Some(1)),
-        (Comparison::AnyBit, false, 1, Some(0)),
-        (Comparison::SignedLess, true, 0, None),
-        (Comparison::SignedLessEqual, false, 1, None),
-    ] {
-        let expected = left.map(Bits::constant);
-        assert_eq!(rt; left_of_a_bit::<Bits>(comparison, goes, number), expected);
+const ANY: Limits = (0, u64::MAX);
+
+const ZERO: Option<Limits> = Some((0, 0));
+
+const ONE: Option<Limits> = Some((1, 1));
+
+/// Of known bits.
+const BITS: [Row; 7] = [
+    (Comparison::Less, true, BIT, 1, ZERO),
+    (Comparison::LessEqual, true, BIT, 0, ZERO),
+    (Comparison::AnyBit, true, BIT, 1, ONE),
+    (Comparison::AnyBit, false, BIT, 1, ZERO),
+    (Comparison::SignedLess, true, BIT, 0, None),
+    (Comparison::SignedLessEqual, false, BIT, 1, None),
+    (Comparison::LessEqual, true, ANY, 9, Some((0, 9))),
+];
+
+/// Of limits.
+const LIMITS: [Row; 7] = [
+    (Comparison::Less, true, BIT, 1, ZERO),
+    (Comparison::LessEqual, true, BIT, 0, ZERO),
+    (Comparison::SignedLess, true, BIT, 1, ZERO),
+    (Comparison::SignedLessEqual, true, BIT, 0, ZERO),
+    (Comparison::NotEqual, true, BIT, 0, ONE),
+    (Comparison::AnyBit, true, BIT, 1, ONE),
+    (Comparison::LessEqual, true, ANY, 9, Some((0, 9))),
+];
+
+fn between<D: Domain>(limits: Limits) -> D {
+    let (least, greatest) = limits;
+    if least <= greatest {
+        D::between(least, greatest)
+    } else {
+        D::any(FULL)
     }
-    Ok(())
 }
 
 #[test]
-fn relations_narrow_limits(rt: HostRuntime) -> Result<(), Fail> {
-    for (comparison, number, left) in [
-        (Comparison::Less, 1, 0),
-        (Comparison::LessEqual, 0, 0),
-        (Comparison::SignedLess, 1, 0),
-        (Comparison::SignedLessEqual, 0, 0),
-        (Comparison::NotEqual, 0, 1),
-        (Comparison::AnyBit, 1, 1),
-    ] {
-        let expected = Some(Range::constant(left));
-        assert_eq!(rt; left_of_a_bit::<Range>(comparison, true, number), expected);
+fn each_domain_narrows(rt: HostRuntime) -> Result<(), Fail> {
+    for (comparison, goes, limits, number, wanted) in &BITS {
+        let left = refined::<Bits>(*comparison, FULL, *goes, between(*limits), *number);
+        assert!(rt; left == wanted.map(between::<Bits>), "{comparison:?}");
+    }
+    for (comparison, goes, limits, number, wanted) in &LIMITS {
+        let left = refined::<Range>(*comparison, FULL, *goes, between(*limits), *number);
+        assert!(rt; left == wanted.map(between::<Range>), "{comparison:?}");
+        let left = refined::<Scalar>(*comparison, FULL, *goes, between(*limits), *number);
+        assert!(rt; left == wanted.map(between::<Scalar>), "{comparison:?}");
     }
     Ok(())
 }
