@@ -1,10 +1,23 @@
 -- What a map's places and block come to: the finite map from keys to values.
 use Rattle.std.specs.Prelude.{ℕ, List, map}
-use Rattle.std.specs.FinMap.{entries}
+use Rattle.std.specs.FinMap.{empty, entries}
+use Rattle.isa_model.specs.declared.map_defs.MapKind.{MapKind}
+use Rattle.isa_model.specs.declared.map_defs.MapKind.TheVariants.{Hash, Array}
+use Rattle.isa_model.specs.declared.map_defs.MapDef.{MapDef}
 use Rattle.isa_model.specs.Machine.States.{Entries}
 use Rattle.maps.specs.Rows.{row_at}
+use Rattle.maps.specs.ArrayPlaces.{array_places}
 use Rattle.maps.specs.Slots.{Places}
 
 -- the value of each key, in the order of the keys
 abbrev pub content : ℕ → Places → List ℕ → Entries
 content size places block = map (λ e. (e.0, row_at size block e.1)) (entries places)
+
+abbrev pub hash_row : (key_size value_size entries : ℕ) → MapDef
+hash_row key_size value_size entries =
+    record { kind = Hash; key_size = key_size; value_size = value_size; entries = entries }
+
+-- at the start an array has all its indexes, and a hash map no key
+abbrev pub starting_places : MapKind → ℕ → Places
+starting_places Array entries = array_places entries
+starting_places Hash entries = empty

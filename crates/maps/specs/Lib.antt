@@ -6,6 +6,7 @@ pub mod KeyLaws
 pub mod ScanLaws
 pub mod ArrayPlaces
 pub mod ArrayLaws
+pub mod Either
 pub mod Contents
 pub mod ContentLaws
 pub mod LastBelow
@@ -13,6 +14,7 @@ pub mod Chains
 pub mod ChainLaws
 pub mod Hashing
 pub mod ChainIndexes
+pub mod Changes
 pub mod UpdateLaws
 pub mod Commands
 pub mod CommandLaws

@@ -1,120 +1,135 @@
--- The answers to updates and deletes, case by case, and what a content is after each.
-use Rattle.std.proofs.Common.{◌≡◌, ℕ, ◌<◌, ◌≤◌, List, length, Bool, true, false, refl, sym, ap, ◌∙◌, arith}
-use Rattle.std.specs.Prelude.{◌==◌, not, ◌&&◌, nat_lt, nat_le, if◌then◌else◌}
+-- The answers to updates and deletes of a map's content, and what the content is after each.
+use Rattle.std.proofs.Common.{◌≡◌, ℕ, ◌*◌, ◌<◌, List, length, Option, Some, None, Bool, true, false, refl, sym, ap, ◌∙◌, arith}
+use Rattle.std.specs.Prelude.{◌^◌, ◌-◌, ◌≢◌, ◌==◌, is_some, IsSome, IfSome, nat_lt, nat_le, if◌then◌else◌}
+use Rattle.std.specs.FinMap.{get, len}
 use Rattle.isa_model.specs.declared.map_defs.MapKind.{MapKind}
 use Rattle.isa_model.specs.declared.map_defs.MapKind.TheVariants.{Hash, Array}
 use Rattle.isa_model.specs.declared.map_defs.MapDef.{MapDef}
 use Rattle.isa_model.specs.Machine.States.{Entries}
-use Rattle.isa_model.specs.Machine.MapContents.{has_key, with_key, without_key, enoent, e2big, eexist, einval, noexist, exist, update_answer_by, delete_answer_by, update_answer, delete_answer, after_update, after_delete}
+use Rattle.isa_model.specs.Machine.MapContents.{with_key, without_key, enoent, e2big, exist, update_answer_by, delete_answer_by, update_answer, delete_answer, after_update, after_delete}
+use Rattle.maps.specs.Rows.{with_row}
+use Rattle.maps.specs.Contents.{content}
+use Rattle.maps.specs.ContentLaws.{has_key-content, length-content, content-written, content-added, content-removed, get-taken}
+use Rattle.maps.specs.Slots.{Places, TakesPlace}
+use Rattle.maps.specs.Changes.{Writes, Updates, Deletes}
 
--- what is left of the tests where the flags are fine
-abbrev hash_rest : Bool → Bool → ℕ → ℕ
-hash_rest has full flags =
-    if has && (flags == noexist) then eexist
-    else if not has && (flags == exist) then enoent
-    else if not has && full then e2big
-    else 0
+-- a test of a number for 0
+zero_or_not : (n : ℕ) → (n == 0) ≡ true → n ≡ 0
+zero_or_not n t = grind arith
 
-abbrev array_rest : Bool → ℕ → ℕ
-array_rest has flags =
-    if not has then e2big
-    else if flags == noexist then eexist
-    else 0
+not_zero : (n : ℕ) → (n == 0) ≡ false → n ≢ 0
+not_zero n t = grind arith
 
-wrong_flags : (kind : MapKind) (has full : Bool) (flags : ℕ) → 2 < flags → update_answer_by kind has full flags ≡ einval
-wrong_flags Hash has full flags h = let t : nat_lt exist flags ≡ true = grind arith in ap (λ (b : Bool). if b then einval else hash_rest has full flags) t
-wrong_flags Array has full flags h = let t : nat_lt exist flags ≡ true = grind arith in ap (λ (b : Bool). if b then einval else array_rest has flags) t
+refused_array : (b : Bool) (n : ℕ) → n ≢ 0 → (if b then n else e2big) ≡ 0 → ⊥
+refused_array true n d e = d e
+refused_array false n d e = absurd (omega arith)
 
-hash_flags : (has full : Bool) (flags : ℕ) → flags ≤ 2 → update_answer_by Hash has full flags ≡ hash_rest has full flags
-hash_flags has full flags h = let t : nat_lt exist flags ≡ false = grind arith in ap (λ (b : Bool). if b then einval else hash_rest has full flags) t
+-- an absent key is added only to a hash map that is not full
+pub added_hash : (kind : MapKind) (full : Bool) (flags : ℕ) → update_answer_by kind false full flags ≡ 0 → (kind ≡ Hash) × (full ≡ false)
+added_hash Array full flags e = absurd (refused_array (nat_lt exist flags) (2 ^ 64 - 22) (λ z. omega arith) e)
+added_hash Hash false flags e = (refl, refl)
+added_hash Hash true flags e =
+    elim (nat_lt exist flags) as (λ b. (if b then 2 ^ 64 - 22 else if flags == exist then 2 ^ 64 - 2 else e2big) ≡ 0 → (◌≡◌ {A = MapKind} Hash Hash) × (true ≡ false)) [
+      | true ↦ λ f. absurd (omega arith)
+      | false ↦ λ f. absurd (refused_array (flags == exist) (2 ^ 64 - 2) (λ z. omega arith) f)
+    ] e
 
-array_flags : (has full : Bool) (flags : ℕ) → flags ≤ 2 → update_answer_by Array has full flags ≡ array_rest has flags
-array_flags has full flags h = let t : nat_lt exist flags ≡ false = grind arith in ap (λ (b : Bool). if b then einval else array_rest has flags) t
+module _ (row : MapDef) (P : Places) (B : List ℕ) (key : List ℕ) where
+  abbrev size : ℕ
+  size = row.value_size
 
-present_not_wanted : (kind : MapKind) (full : Bool) → update_answer_by kind true full 1 ≡ eexist
-present_not_wanted Hash full = refl
-present_not_wanted Array full = refl
+  abbrev C : Entries
+  C = content size P B
 
-present_written : (kind : MapKind) (full : Bool) (flags : ℕ) → flags ≤ 2 → (flags ≡ 1 → ⊥) → update_answer_by kind true full flags ≡ 0
-present_written Hash full flags h d =
-    let t : (flags == noexist) ≡ false = grind (d, arith) in
-    hash_flags true full flags h ∙ ap (λ (b : Bool). if b then eexist else 0) t
-present_written Array full flags h d =
-    let t : (flags == noexist) ≡ false = grind (d, arith) in
-    array_flags true full flags h ∙ ap (λ (b : Bool). if b then eexist else 0) t
+  -- the answers are those of the places
+  pub update_answer-places : (flags : ℕ) → update_answer row C key flags
+      ≡ update_answer_by row.kind (is_some (get P key)) (nat_le row.entries (len P)) flags
+  update_answer-places flags =
+      λ i. update_answer_by row.kind (has_key-content size P B key i) (nat_le row.entries (length-content size P B i)) flags
 
-absent_new : (full : Bool) (flags : ℕ) → flags ≤ 2 → (flags ≡ 2 → ⊥) → update_answer_by Hash false full flags ≡ (if full then e2big else 0)
-absent_new full flags h d =
-    let t : (flags == exist) ≡ false = grind (d, arith) in
-    hash_flags false full flags h ∙ ap (λ (b : Bool). if b then enoent else if full then e2big else 0) t
+  pub delete_answer-places : delete_answer row C key ≡ delete_answer_by row.kind (is_some (get P key))
+  delete_answer-places = ap (delete_answer_by row.kind) (has_key-content size P B key)
 
-module _ (row : MapDef) (content : Entries) (key value : List ℕ) (flags : ℕ) where
-  by_has : (has : Bool) → has_key key content ≡ has
-      → update_answer row content key flags ≡ update_answer_by row.kind has (nat_le row.entries (length content)) flags
-  by_has has e = ap (λ (b : Bool). update_answer_by row.kind b (nat_le row.entries (length content)) flags) e
+  -- an answer by the kind, by what was found, and by whether the map is full
+  pub answer_found : (kind : MapKind) (found : Option ℕ) (present full : Bool) (flags answer : ℕ) → kind ≡ row.kind → found ≡ get P key
+      → present ≡ is_some found → full ≡ nat_le row.entries (len P) → answer ≡ update_answer_by kind present full flags
+      → answer ≡ update_answer row C key flags
+  answer_found kind found present full flags answer k f p n e =
+      e ∙ (λ i. update_answer_by (k i) ((p ∙ ap is_some f) i) (n i) flags) ∙ sym (update_answer-places flags)
 
-  by_kind : (kind : MapKind) → row.kind ≡ kind → (has : Bool) → has_key key content ≡ has
-      → update_answer row content key flags ≡ update_answer_by kind has (nat_le row.entries (length content)) flags
-  by_kind kind k has e = by_has has e ∙ ap (λ (x : MapKind). update_answer_by x has (nat_le row.entries (length content)) flags) k
+  -- where an absent key is to be added there is room for it
+  pub room_left : (flags answer : ℕ) → get P key ≡ None → answer ≡ update_answer row C key flags → answer ≡ 0 → len P < row.entries
+  room_left flags answer none e z =
+      let by : update_answer_by row.kind false (nat_le row.entries (len P)) flags ≡ 0 =
+      ap (λ (o : Option ℕ). update_answer_by row.kind (is_some o) (nat_le row.entries (len P)) flags) (sym none)
+      ∙ sym (update_answer-places flags) ∙ sym e ∙ z in
+      let full = (added_hash row.kind (nat_le row.entries (len P)) flags by).1 in
+      grind arith
 
-  -- ---- updates
+  module _ (P' : Places) (B' : List ℕ) where
+    abbrev C' : Entries
+    C' = content size P' B'
 
-  pub answer_wrong_flags : 2 < flags → update_answer row content key flags ≡ einval
-  answer_wrong_flags h = wrong_flags row.kind (has_key key content) (nat_le row.entries (length content)) flags h
+    -- a present key's value is written at its place
+    pub writes_present : (value : List ℕ) (p : ℕ) → get P key ≡ Some p → P' ≡ P → B' ≡ with_row size B p value → Writes size key value P B P' B'
+    writes_present value p here same written = record {
+      place = p;
+      there = ap (λ (m : Places). get m key) same ∙ here;
+      kept = λ q e. same;
+      taken = λ e. let f = sym here ∙ e in absurd (cc);
+      written = written;
+    }
 
-  pub answer_exists : flags ≡ 1 → has_key key content ≡ true → update_answer row content key flags ≡ eexist
-  answer_exists f h =
-      by_has true h ∙ ap (λ (n : ℕ). update_answer_by row.kind true (nat_le row.entries (length content)) n) f ∙ present_not_wanted row.kind (nat_le row.entries (length content))
+    -- an absent key's value is written at the place that it takes
+    pub writes_absent : (value : List ℕ) (found : Option ℕ) → get P key ≡ None → IsSome found → IfSome found (λ p. TakesPlace P key p P')
+        → IfSome found (λ p. B' ≡ with_row size B p value) → Writes size key value P B P' B'
+    writes_absent value None none some takes written = absurd (cc)
+    writes_absent value (Some p) none some takes written = record {
+      place = p;
+      there = get-taken P P' key p takes;
+      kept = λ q e. let f = sym none ∙ e in absurd (cc);
+      taken = λ e. takes;
+      written = written;
+    }
 
-  pub answer_past_the_end : row.kind ≡ Array → flags ≤ 2 → has_key key content ≡ false → update_answer row content key flags ≡ e2big
-  answer_past_the_end k f h = by_kind Array k false h ∙ array_flags false (nat_le row.entries (length content)) flags f
+    -- a value that is written is the key's
+    pub content-writes : (value : List ℕ) → length value ≡ size → length B ≡ row.entries * size
+        → ((j k : List ℕ) (p : ℕ) → get P j ≡ Some p → get P k ≡ Some p → j ≡ k)
+        → (w : Writes size key value P B P' B') → w.place < row.entries → C' ≡ with_key key value C
+    content-writes value long whole apart w inside =
+        elim (get P key) as (λ o. get P key ≡ o → C' ≡ with_key key value C) [
+          | Some p ↦ λ e.
+              let same = w.kept p e in
+              let here : get P key ≡ Some w.place = ap (λ (m : Places). get m key) (sym same) ∙ w.there in
+              (λ i. content size (same i) (w.written i))
+              ∙ content-written size row.entries P B key value w.place long whole inside here (λ j f. apart j key w.place f here)
+          | None ↦ λ e.
+              ap (content size P') w.written ∙ content-added size row.entries P P' B key value w.place long whole inside (w.taken e)
+        ] refl
 
-  pub answer_not_found : row.kind ≡ Hash → flags ≡ 2 → has_key key content ≡ false → update_answer row content key flags ≡ enoent
-  answer_not_found k f h =
-      by_kind Hash k false h ∙ ap (λ (n : ℕ). update_answer_by Hash false (nat_le row.entries (length content)) n) f
-      ∙ hash_flags false (nat_le row.entries (length content)) 2 (omega arith)
+    -- what an update leaves
+    pub content-updates : (value : List ℕ) (flags answer : ℕ) → answer ≡ update_answer row C key flags
+        → Updates size answer key value P B P' B' → (answer ≡ 0 → C' ≡ with_key key value C)
+        → C' ≡ after_update row C key value flags
+    content-updates value flags answer is u put =
+        elim (answer == 0) as (λ b. (answer == 0) ≡ b → C' ≡ (if b then with_key key value C else C)) [
+          | true ↦ λ t. put (zero_or_not answer t)
+          | false ↦ λ t. let s = u.stays (not_zero answer t) in λ i. content size (s.0 i) (s.1 i)
+        ] refl ∙ ap (λ (a : ℕ). if a == 0 then with_key key value C else C) is
 
-  pub answer_full : row.kind ≡ Hash → flags ≤ 2 → (flags ≡ 2 → ⊥) → has_key key content ≡ false → row.entries ≤ length content
-      → update_answer row content key flags ≡ e2big
-  answer_full k f d h l =
-      let t : nat_le row.entries (length content) ≡ true = grind arith in
-      by_kind Hash k false h ∙ absent_new (nat_le row.entries (length content)) flags f d ∙ ap (λ (b : Bool). if b then e2big else 0) t
+    -- what a delete leaves
+    pub content-deletes : (answer : ℕ) → answer ≡ delete_answer row C key → Deletes answer key P B P' B' → C' ≡ after_delete row C key
+    content-deletes answer is d =
+        elim (answer == 0) as (λ b. (answer == 0) ≡ b → C' ≡ (if b then without_key key C else C)) [
+          | true ↦ λ t. (λ i. content size (d.removes (zero_or_not answer t) i) (d.block i)) ∙ content-removed size P B key
+          | false ↦ λ t. λ i. content size (d.stays (not_zero answer t) i) (d.block i)
+        ] refl ∙ ap (λ (a : ℕ). if a == 0 then without_key key C else C) is
 
-  pub answer_written : flags ≤ 2 → (flags ≡ 1 → ⊥) → has_key key content ≡ true → update_answer row content key flags ≡ 0
-  answer_written f d h = by_has true h ∙ present_written row.kind (nat_le row.entries (length content)) flags f d
+  -- a delete of a hash map, by the place that the key had
+  module _ (kind : row.kind ≡ Hash) where
+    pub delete_present : (p : ℕ) → get P key ≡ Some p → delete_answer row C key ≡ 0
+    delete_present p e =
+        delete_answer-places ∙ (λ i. delete_answer_by (kind i) (is_some (e i)))
 
-  pub answer_added : row.kind ≡ Hash → flags ≤ 2 → (flags ≡ 2 → ⊥) → has_key key content ≡ false → length content < row.entries
-      → update_answer row content key flags ≡ 0
-  answer_added k f d h l =
-      let t : nat_le row.entries (length content) ≡ false = grind arith in
-      by_kind Hash k false h ∙ absent_new (nat_le row.entries (length content)) flags f d ∙ ap (λ (b : Bool). if b then e2big else 0) t
-
-  -- an error changes nothing
-  pub refused : (error : ℕ) → 0 < error → update_answer row content key flags ≡ error → after_update row content key value flags ≡ content
-  refused error n e =
-      let t : (error == 0) ≡ false = grind arith in
-      ap (λ (a : ℕ). if a == 0 then with_key key value content else content) e ∙ ap (λ (b : Bool). if b then with_key key value content else content) t
-
-  pub done : update_answer row content key flags ≡ 0 → after_update row content key value flags ≡ with_key key value content
-  done e = ap (λ (a : ℕ). if a == 0 then with_key key value content else content) e
-
--- ---- deletes
-
-module _ (row : MapDef) (content : Entries) (key : List ℕ) where
-  delete_by : (kind : MapKind) → row.kind ≡ kind → (has : Bool) → has_key key content ≡ has → delete_answer row content key ≡ delete_answer_by kind has
-  delete_by kind k has e = ap (λ (b : Bool). delete_answer_by row.kind b) e ∙ ap (λ (x : MapKind). delete_answer_by x has) k
-
-  pub delete_array : row.kind ≡ Array → (delete_answer row content key ≡ einval) × (after_delete row content key ≡ content)
-  delete_array k =
-      let e : delete_answer row content key ≡ einval = ap (λ (x : MapKind). delete_answer_by x (has_key key content)) k in
-      (e, ap (λ (a : ℕ). if a == 0 then without_key key content else content) e)
-
-  pub delete_absent : row.kind ≡ Hash → has_key key content ≡ false → (delete_answer row content key ≡ enoent) × (after_delete row content key ≡ content)
-  delete_absent k h =
-      let e = delete_by Hash k false h in
-      (e, ap (λ (a : ℕ). if a == 0 then without_key key content else content) e)
-
-  pub delete_present : row.kind ≡ Hash → has_key key content ≡ true → (delete_answer row content key ≡ 0) × (after_delete row content key ≡ without_key key content)
-  delete_present k h =
-      let e = delete_by Hash k true h in
-      (e, ap (λ (a : ℕ). if a == 0 then without_key key content else content) e)
+    pub delete_absent : get P key ≡ None → delete_answer row C key ≡ enoent
+    delete_absent e = delete_answer-places ∙ (λ i. delete_answer_by (kind i) (is_some (e i)))

@@ -43,6 +43,10 @@ impl Index for ArrayIndex {
         }
     }
 
+    fn is_full(&self) -> bool {
+        true
+    }
+
     fn add(&mut self, _key: &[u8]) -> Option<usize> {
         None
     }

@@ -91,6 +91,10 @@ impl Index for ChainIndex {
         Some(self.chains.link(at).place as usize)
     }
 
+    fn is_full(&self) -> bool {
+        self.free.is_empty()
+    }
+
     fn add(&mut self, key: &[u8]) -> Option<usize> {
         let place = self.free.pop()?;
         let chain = chain_of(key, self.chains.count());

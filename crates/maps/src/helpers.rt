@@ -1,9 +1,10 @@
 //! Look-ups, updates and deletes, as the helpers answer them.
 
-ghost use Rattle.std.specs.Prelude.{◌≡◌, true, false, length, option_copied};
-ghost use Rattle.isa_model.specs.declared.map_defs.MapKind.TheVariants.{Hash, Array};
-ghost use Rattle.isa_model.specs.Machine.MapContents.{at_key, update_answer, delete_answer};
+ghost use Rattle.std.specs.Prelude.{◌≡◌, length, option_copied};
+ghost use Rattle.isa_model.specs.Machine.MapContents.{at_key, update_answer as the_update_answer};
+ghost use Rattle.isa_model.specs.Machine.MapContents.{update_answer_by, delete_answer};
 ghost use Rattle.isa_model.specs.Machine.MapContents.{after_update, after_delete};
+ghost use Rattle.maps.specs.Changes.{Updates, Deletes};
 ghost use Rattle.maps.specs.Contents.{content};
 
 use crate::store::MapStore;
@@ -21,13 +22,19 @@ const EEXIST: u64 = 0xffff_ffff_ffff_ffef;
 
 const EINVAL: u64 = 0xffff_ffff_ffff_ffea;
 
-fn is_array(kind: MapKind) -> bool
-    ensures array { result ≡ true → kind ≡ Array }
-    ensures hash { result ≡ false → kind ≡ Hash }
+// The answer to an update of a key: 0, or the error of the first test that fails.
+fn update_answer(kind: MapKind, present: bool, full: bool, flags: u64) -> u64
+    ensures { result ≡ update_answer_by kind present full flags }
 {
+    if flags > EXIST {
+        return EINVAL;
+    }
     match kind {
-        MapKind::Array => true,
-        MapKind::Hash => false,
+        MapKind::Array if !present => E2BIG,
+        _ if present && flags == NOEXIST => EEXIST,
+        MapKind::Hash if !present && flags == EXIST => ENOENT,
+        MapKind::Hash if !present && full => E2BIG,
+        _ => 0,
     }
 }
 
@@ -46,7 +53,7 @@ pub fn lookup<'a, S: MapStore>(store: &'a S, key: &[u8]) -> Option<&'a [u8]>
 pub fn update<S: MapStore>(store: &mut S, key: &[u8], value: &[u8], flags: u64) -> u64
     requires key_size { length key.now ≡ (S.row_of store.old).key_size }
     requires value_size { length value.now ≡ (S.row_of store.old).value_size }
-    ensures answer { result ≡ update_answer (S.row_of store.old)
+    ensures answer { result ≡ the_update_answer (S.row_of store.old)
         (content (S.row_of store.old).value_size (S.places store.old) (S.block store.old)) key.now
         flags }
     ensures content { content (S.row_of store.old).value_size (S.places store.new)
@@ -54,22 +61,22 @@ pub fn update<S: MapStore>(store: &mut S, key: &[u8], value: &[u8], flags: u64) 
         ≡ after_update (S.row_of store.old)
         (content (S.row_of store.old).value_size (S.places store.old) (S.block store.old)) key.now
         value.now flags }
+    ensures updates { Updates (S.row_of store.old).value_size result key.now value.now
+        (S.places store.old) (S.block store.old) (S.places store.new) (S.block store.new) }
     ensures row { S.row_of store.new ≡ S.row_of store.old }
 {
-    if flags > EXIST {
-        return EINVAL;
+    let found = store.find(key);
+    let answer = update_answer(store.row().kind, found.is_some(), store.is_full(), flags);
+    if answer != 0 {
+        return answer;
     }
-    match store.find(key) {
-        Some(_) if flags == NOEXIST => return EEXIST,
-        Some(_) => {}
-        None if is_array(store.row().kind) => return E2BIG,
-        None if flags == EXIST => return ENOENT,
-        None => {}
+    match found {
+        Some(place) => store.write(place, value),
+        None => {
+            store.put(key, value);
+        }
     }
-    match store.put(key, value) {
-        Some(_) => 0,
-        None => E2BIG,
-    }
+    answer
 }
 
 /// Removes a key. The answer is 0, or an error, and then the map stays as it is.
@@ -81,13 +88,15 @@ pub fn delete<S: MapStore>(store: &mut S, key: &[u8]) -> u64
         (S.block store.new)
         ≡ after_delete (S.row_of store.old)
         (content (S.row_of store.old).value_size (S.places store.old) (S.block store.old)) key.now }
+    ensures deletes { Deletes result key.now (S.places store.old) (S.block store.old)
+        (S.places store.new) (S.block store.new) }
     ensures row { S.row_of store.new ≡ S.row_of store.old }
 {
-    if is_array(store.row().kind) {
-        return EINVAL;
-    }
-    match store.remove(key) {
-        Some(_) => 0,
-        None => ENOENT,
+    match store.row().kind {
+        MapKind::Array => EINVAL,
+        MapKind::Hash => match store.remove(key) {
+            Some(_) => 0,
+            None => ENOENT,
+        },
     }
 }

@@ -1,6 +1,6 @@
 //! Indexes: which place each key of a map has.
 
-ghost use Rattle.std.specs.Prelude.{◌≡◌, ◌≢◌, ◌<◌, ◌≤◌, ℕ, List, length, None, Some, IsSome};
+ghost use Rattle.std.specs.Prelude.{◌≡◌, ◌≢◌, ◌<◌, ◌≤◌, ℕ, List, length, nat_le, None, Some, IsSome};
 ghost use Rattle.std.specs.Prelude.{IfSome};
 ghost use Rattle.std.specs.FinMap as map;
 ghost use Rattle.isa_model.specs.declared.map_defs.MapKind.{MapKind};
@@ -21,6 +21,9 @@ pub trait Index: Drop {
     fn find(&self, key: &[u8]) -> Option<usize>
         requires { length key.now ≡ key_size self.now }
         ensures { result ≡ map.get (places self.now) key.now };
+
+    fn is_full(&self) -> bool
+        ensures { result ≡ nat_le (room self.now) (map.len (places self.now)) };
 
     /// Gives a new key a free place, if there is one.
     fn add(&mut self, key: &[u8]) -> Option<usize>

@@ -64,6 +64,10 @@ impl Index for ScanIndex {
         None
     }
 
+    fn is_full(&self) -> bool {
+        self.len == self.keys.places()
+    }
+
     fn add(&mut self, key: &[u8]) -> Option<usize> {
         if self.len == self.keys.places() {
             return None;

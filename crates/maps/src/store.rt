@@ -1,11 +1,13 @@
 //! The entries of one map.
 
-ghost use Rattle.std.specs.Prelude.{◌≡◌, ◌+◌, ◌*◌, ◌<◌, ◌≤◌, ℕ, List, length, vec_len, replicate};
+ghost use Rattle.std.specs.Prelude.{◌≡◌, ◌+◌, ◌*◌, ◌<◌, ◌≤◌, ℕ, List, length, nat_le, vec_len};
+ghost use Rattle.std.specs.Prelude.{replicate};
 ghost use Rattle.std.specs.Prelude.{None, Some, IsSome, IfSome, IfOk};
 ghost use Rattle.std.specs.FinMap as map;
 ghost use Rattle.isa_model.specs.declared.map_defs.MapKind.TheVariants.{Hash, Array};
 ghost use Rattle.isa_model.specs.declared.map_defs.MapDef.{MapDef};
 ghost use Rattle.maps.specs.Rows.{row_at, with_row};
+ghost use Rattle.maps.specs.Contents.{hash_row};
 ghost use Rattle.maps.specs.Slots.{Places, TakesPlace};
 
 use crate::arrays::ArrayIndex;
@@ -33,6 +35,9 @@ pub trait MapStore {
     fn find(&self, key: &[u8]) -> Option<usize>
         requires { length key.now ≡ (row_of self.now).key_size }
         ensures { result ≡ map.get (places self.now) key.now };
+
+    fn is_full(&self) -> bool
+        ensures { result ≡ nat_le (row_of self.now).entries (map.len (places self.now)) };
 
     /// Writes a key's value, and answers its place: a present key keeps its own, and a new one is
     /// given a free one. There is none where the key is new and the map is full, as an array always
@@ -70,6 +75,15 @@ pub trait MapStore {
         requires { place < (row_of self.now).entries }
         ensures { result.now ≡ row_at (row_of self.now).value_size (block self.now) place };
 
+    /// Writes the value at a place.
+    fn write(&mut self, place: usize, value: &[u8])
+        requires place { place < (row_of self.old).entries }
+        requires value_size { length value.now ≡ (row_of self.old).value_size }
+        ensures block { block self.new
+            ≡ with_row (row_of self.old).value_size (block self.old) place value.now }
+        ensures places { places self.new ≡ places self.old }
+        ensures row { row_of self.new ≡ row_of self.old };
+
     // Each place is below `entries`, no two keys have one place, there are no more keys than
     // `entries`, and the block has a value for each place.
     ghost in_range: { (s : Self) (k : List ℕ) (p : ℕ) → map.get (places s) k ≡ Some p
@@ -96,8 +110,8 @@ pub struct Store<I: Index> {
 }
 
 impl<I: Index> Store<I> {
-    // The values of a map are zero-filled at first.
-    fn over(alloc: Global, row: MapDef, index: I) -> Result<Self, AllocError>
+    /// The entries of a map as it starts: its values are zero-filled.
+    pub fn over(alloc: Global, row: MapDef, index: I) -> Result<Self, AllocError>
         requires kind { I.kind index ≡ row.kind }
         requires key_size { I.key_size index ≡ row.key_size }
         requires room { I.room index ≡ row.entries }
@@ -109,6 +123,13 @@ impl<I: Index> Store<I> {
         let count = row.entries as usize * row.value_size as usize;
         let values = vec![in alloc; 0; count]?;
         Ok(Store { row, index, values })
+    }
+
+    /// The values of all places, place after place.
+    pub fn block(&self) -> &[u8]
+        ensures { result.now ≡ self.now.values.items }
+    {
+        self.values.as_slice()
     }
 }
 
@@ -129,13 +150,16 @@ impl<I: Index> MapStore for Store<I> {
         self.index.find(key)
     }
 
+    fn is_full(&self) -> bool {
+        self.index.is_full()
+    }
+
     fn put(&mut self, key: &[u8], value: &[u8]) -> Option<usize> {
         let place = match self.index.find(key) {
             Some(place) => place,
             None => self.index.add(key)?,
         };
-        let start = place * self.row.value_size as usize;
-        put_bytes(self.values.as_mut_slice(), start, value);
+        self.write(place, value);
         Some(place)
     }
 
@@ -148,6 +172,11 @@ impl<I: Index> MapStore for Store<I> {
         &self.values[place * size..place * size + size]
     }
 
+    fn write(&mut self, place: usize, value: &[u8]) {
+        let start = place * self.row.value_size as usize;
+        put_bytes(self.values.as_mut_slice(), start, value);
+    }
+
     ghost in_range = { λ s k p e. below-same p s.room (I.in_range s.index k p e) };
 
     ghost apart = { λ s j k p e f. I.apart s.index j k p e f };
@@ -155,6 +184,18 @@ impl<I: Index> MapStore for Store<I> {
     ghost few = { λ s. at_most-same (map.len (I.places s.index)) s.room (I.few s.index) };
 
     ghost whole = { λ s. s.whole };
+}
+
+// The row of a hash map.
+fn hash_row(key_size: u16, value_size: u32, entries: u32) -> MapDef
+    ensures { result ≡ hash_row key_size value_size entries }
+{
+    MapDef {
+        kind: MapKind::Hash,
+        key_size,
+        value_size,
+        entries,
+    }
 }
 
 /// An array.
@@ -194,22 +235,11 @@ impl Store<ScanIndex> {
         entries: u32,
     ) -> Result<Self, AllocError>
         ensures row { IfOk result (λ s. ⟦<Store<ScanIndex> as MapStore>⟧.row_of s
-            ≡ record {
-              kind = Hash;
-              key_size = key_size;
-              value_size = value_size;
-              entries = entries;
-            }) }
+            ≡ hash_row key_size value_size entries) }
         ensures empty { IfOk result (λ s. ⟦<Store<ScanIndex> as MapStore>⟧.places s ≡ map.empty) }
     {
-        let row = MapDef {
-            kind: MapKind::Hash,
-            key_size,
-            value_size,
-            entries,
-        };
         let index = ScanIndex::new(alloc, key_size, entries)?;
-        Store::over(alloc, row, index)
+        Store::over(alloc, hash_row(key_size, value_size, entries), index)
     }
 }
 
@@ -225,21 +255,10 @@ impl Store<ChainIndex> {
         entries: u32,
     ) -> Result<Self, AllocError>
         ensures row { IfOk result (λ s. ⟦<Store<ChainIndex> as MapStore>⟧.row_of s
-            ≡ record {
-              kind = Hash;
-              key_size = key_size;
-              value_size = value_size;
-              entries = entries;
-            }) }
+            ≡ hash_row key_size value_size entries) }
         ensures empty { IfOk result (λ s. ⟦<Store<ChainIndex> as MapStore>⟧.places s ≡ map.empty) }
     {
-        let row = MapDef {
-            kind: MapKind::Hash,
-            key_size,
-            value_size,
-            entries,
-        };
         let index = ChainIndex::new(alloc, key_size, entries)?;
-        Store::over(alloc, row, index)
+        Store::over(alloc, hash_row(key_size, value_size, entries), index)
     }
 }

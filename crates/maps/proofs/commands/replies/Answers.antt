@@ -1,4 +1,4 @@
-use Rattle.std.proofs.Common.{◌≡◌, ℕ, ◌∙◌, ap, map, length, arith}
+use Rattle.std.proofs.Common.{◌∙◌, ap, map, arith}
 use Rattle.maps.specs.Contents.{content}
 use Rattle.maps.specs.Commands.{said}
 use Rattle.maps.specs.CommandLaws.{replies_next, left_next}

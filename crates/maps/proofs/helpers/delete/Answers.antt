@@ -1,65 +1,52 @@
-use Rattle.std.proofs.Common.{◌≡◌, ℕ, List, Some, None, true, false, refl, ap, sym, ◌∙◌}
-use Rattle.std.specs.Prelude.{is_some}
-use Rattle.isa_model.specs.declared.map_defs.MapKind.TheVariants.{Hash, Array}
-use Rattle.isa_model.specs.Machine.MapContents.{has_key}
-use Rattle.maps.specs.Contents.{content}
-use Rattle.maps.specs.ContentLaws.{has_key-content, content-removed}
+use Rattle.std.proofs.Common.{◌≡◌, refl, sym, ap, ◌∙◌, arith}
+use Rattle.isa_model.specs.declared.map_defs.MapKind.TheVariants.{Hash}
+use Rattle.isa_model.specs.declared.map_defs.MapDef.{MapDef}
+use Rattle.isa_model.specs.Machine.MapContents.{enoent}
 use Rattle.maps.specs.SlotLaws.{remove_absent}
-use Rattle.maps.specs.UpdateLaws.{delete_present, delete_absent}
+use Rattle.maps.specs.UpdateLaws.{delete_present, delete_absent, content-deletes}
 use Rattle.maps.proofs.helpers.delete.Goals as goal
+
+hash_some : (g : _) (c : goal.In-Some g) → (g.S.MapStore.row_of c.args.store.now).kind ≡ Hash
+hash_some g c = ap (λ (r : MapDef). r.kind) (sym c.row.ensures) ∙ c.in-Hash.is
+
+hash_none : (g : _) (c : goal.In-None g) → (g.S.MapStore.row_of c.args.store.now).kind ≡ Hash
+hash_none g c = ap (λ (r : MapDef). r.kind) (sym c.row.ensures) ∙ c.in-Hash.is
 
 pub returns-in-Some-clause-answer : goal.returns-in-Some-clause-answer
 returns-in-Some-clause-answer g c =
     let s = c.args.store.now in
-    let row = g.S.MapStore.row_of s in
-    let size : ℕ = row.value_size in
-    let P = g.S.MapStore.places s in
-    let B : List ℕ = g.S.MapStore.block s in
-    let C = content size P B in
-    let key : List ℕ = c.args.key.now in
-    let kind : row.kind ≡ Hash = ap (λ r. r.kind) (sym c.row.ensures) ∙ c.is_array.ensures.hash c.if-is_array.false in
-    let h = c.in-Some.ensures.hash kind in
-    let has : has_key key C ≡ true = has_key-content size P B key ∙ ap is_some (sym h.0) in
-    sym ((delete_present row C key kind has).0)
+    let kind = hash_some g c in
+    sym (delete_present (g.S.MapStore.row_of s) (g.S.MapStore.places s) (g.S.MapStore.block s) c.args.key.now kind c.in-Some.field-0
+    (sym (c.remove.ensures.hash kind).0 ∙ c.in-Some.is))
 
 pub returns-in-Some-clause-content : goal.returns-in-Some-clause-content
 returns-in-Some-clause-content g c =
     let s = c.args.store.now in
-    let row = g.S.MapStore.row_of s in
-    let size : ℕ = row.value_size in
-    let P = g.S.MapStore.places s in
-    let B : List ℕ = g.S.MapStore.block s in
-    let C = content size P B in
-    let key : List ℕ = c.args.key.now in
-    let kind : row.kind ≡ Hash = ap (λ r. r.kind) (sym c.row.ensures) ∙ c.is_array.ensures.hash c.if-is_array.false in
-    let h = c.in-Some.ensures.hash kind in
-    let has : has_key key C ≡ true = has_key-content size P B key ∙ ap is_some (sym h.0) in
-    (λ i. content size (h.1 i) (c.remove.ensures.block i)) ∙ content-removed size P B key ∙ sym ((delete_present row C key kind has).1)
+    let t = c.remove.new.self in
+    content-deletes (g.S.MapStore.row_of s) (g.S.MapStore.places s) (g.S.MapStore.block s) c.args.key.now (g.S.MapStore.places t) (g.S.MapStore.block t) 0
+    (returns-in-Some-clause-answer g c)
+    (record { removes = λ e. (c.remove.ensures.hash (hash_some g c)).1; stays = λ d. absurd (d refl); block = c.remove.ensures.block })
 
 pub returns-in-None-clause-answer : goal.returns-in-None-clause-answer
 returns-in-None-clause-answer g c =
     let s = c.args.store.now in
-    let row = g.S.MapStore.row_of s in
-    let size : ℕ = row.value_size in
-    let P = g.S.MapStore.places s in
-    let B : List ℕ = g.S.MapStore.block s in
-    let C = content size P B in
-    let key : List ℕ = c.args.key.now in
-    let kind : row.kind ≡ Hash = ap (λ r. r.kind) (sym c.row.ensures) ∙ c.is_array.ensures.hash c.if-is_array.false in
-    let h = c.in-None.ensures.hash kind in
-    let has : has_key key C ≡ false = has_key-content size P B key ∙ ap is_some (sym h.0) in
-    sym ((delete_absent row C key kind has).0)
+    let kind = hash_none g c in
+    sym (delete_absent (g.S.MapStore.row_of s) (g.S.MapStore.places s) (g.S.MapStore.block s) c.args.key.now kind
+    (sym (c.remove.ensures.hash kind).0 ∙ c.in-None.is))
+
+pub returns-in-None-clause-deletes : goal.returns-in-None-clause-deletes
+returns-in-None-clause-deletes g c =
+    let P = g.S.MapStore.places c.args.store.now in
+    let h = c.remove.ensures.hash (hash_none g c) in
+    record {
+      removes = λ e. absurd (omega arith);
+      stays = λ d. h.1 ∙ remove_absent P c.args.key.now (sym h.0 ∙ c.in-None.is);
+      block = c.remove.ensures.block;
+    }
 
 pub returns-in-None-clause-content : goal.returns-in-None-clause-content
 returns-in-None-clause-content g c =
     let s = c.args.store.now in
-    let row = g.S.MapStore.row_of s in
-    let size : ℕ = row.value_size in
-    let P = g.S.MapStore.places s in
-    let B : List ℕ = g.S.MapStore.block s in
-    let C = content size P B in
-    let key : List ℕ = c.args.key.now in
-    let kind : row.kind ≡ Hash = ap (λ r. r.kind) (sym c.row.ensures) ∙ c.is_array.ensures.hash c.if-is_array.false in
-    let h = c.in-None.ensures.hash kind in
-    let has : has_key key C ≡ false = has_key-content size P B key ∙ ap is_some (sym h.0) in
-    (λ i. content size ((h.1 ∙ remove_absent P key (sym h.0)) i) (c.remove.ensures.block i)) ∙ sym ((delete_absent row C key kind has).1)
+    let t = c.remove.new.self in
+    content-deletes (g.S.MapStore.row_of s) (g.S.MapStore.places s) (g.S.MapStore.block s) c.args.key.now (g.S.MapStore.places t) (g.S.MapStore.block t) enoent
+    (returns-in-None-clause-answer g c) (returns-in-None-clause-deletes g c)

@@ -1,4 +1,4 @@
-use Rattle.std.proofs.Common.{◌≡◌, ℕ, List, Option, None, Some, ap, sym, ◌∙◌, subst, arith, refl, length}
+use Rattle.std.proofs.Common.{◌≡◌, ℕ, List, Option, None, Some, ap, sym, subst, arith, refl}
 use Rattle.std.specs.Prelude.{replicate, slice_index_or}
 use Rattle.slab.specs.Slab.{get}
 use Rattle.maps.specs.Chains.{IsChained}
