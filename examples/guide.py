@@ -108,7 +108,8 @@ def stored():
 
 def compiled():
     """Each stored image of a source in C is what the clang that made it makes of it, where that is installed."""
-    if "clang version 14." in shell("clang --version") and shell("command -v llvm-objcopy"):
+    tools = "clang version 14." in shell("clang --version") and shell("command -v llvm-objcopy && command -v llvm-objdump")
+    if tools and os.path.exists("/usr/include/linux/bpf.h"):
         for source in sorted(glob.glob("examples/*.bpf.c")):
             shell(f"bash examples/compile.sh {source} example.image")
             with open("example.image", "rb") as made, open(source.removesuffix(".bpf.c") + ".image", "rb") as kept:
