@@ -31,7 +31,7 @@ use Rattle.explorer.specs.declared.refusals.Refusal.TheVariants.{Flow, Step, Rep
 use Rattle.explorer.specs.Walks.{IsStuck, ComesBack}
 use Rattle.explorer.specs.Counts.{Takes}
 use Rattle.explorer.specs.Refused.{IsRefused}
-use Rattle.explorer.specs.Accepting.{IsWantOfMemory}
+use Rattle.explorer.specs.Accepting.{IsOutOfMemory}
 use Rattle.isa_model.specs.MustAccept.Paths.{IsPlainForm, Each, needs, PathTo, IsWhole}
 
 -- ---- control flow
@@ -112,14 +112,14 @@ IsFlow-whole p whole forms = record {
 
 -- ---- refusals
 
-pub Flow-want : (p : Program) (e : FlowError) (slot : ℕ) → IsFlow p → flow.IsRefusal p e slot → IsWantOfMemory (Flow e)
-Flow-want p error.Memory slot good h = tt
-Flow-want p e slot good h = absurd (IsFlow-Fails p e slot good h.fails)
+pub Flow-out_of_memory : (p : Program) (e : FlowError) (slot : ℕ) → IsFlow p → flow.IsRefusal p e slot → IsOutOfMemory (Flow e)
+Flow-out_of_memory p error.Memory slot good h = tt
+Flow-out_of_memory p e slot good h = absurd (IsFlow-Fails p e slot good h.fails)
 
 -- nothing but memory is left to refuse the program for
 pub IsRefused-want : (p : Program) (e : Refusal) (slot : ℕ) → IsFlow p → ((e : StepRefusal) (slot : ℕ) → IsStuck p e slot → ⊥)
-    → ((slot : ℕ) → ComesBack p slot → ⊥) → (Takes p start 1000001 → ⊥) → IsRefused p e slot → IsWantOfMemory e
-IsRefused-want p (Flow e) slot good moves parts ends h = Flow-want p e slot good h
+    → ((slot : ℕ) → ComesBack p slot → ⊥) → (Takes p start 1000001 → ⊥) → IsRefused p e slot → IsOutOfMemory e
+IsRefused-want p (Flow e) slot good moves parts ends h = Flow-out_of_memory p e slot good h
 IsRefused-want p (Step e) slot good moves parts ends h = absurd (moves e slot h.1)
 IsRefused-want p Repeats slot good moves parts ends h = absurd (parts slot h.1)
 IsRefused-want p TooLong slot good moves parts ends h = absurd (ends h.1.1)

@@ -13,7 +13,7 @@ use Rattle.explorer.specs.declared.refusals.Refusal.{Refusal}
 use Rattle.explorer.specs.Walks.{StepsTo, Leads, IsStuck}
 use Rattle.explorer.specs.Counts.{HasNumber}
 use Rattle.explorer.specs.Refused.{IsRefused}
-use Rattle.explorer.specs.Accepting.{IsWantOfMemory}
+use Rattle.explorer.specs.Accepting.{IsOutOfMemory}
 use Rattle.explorer.proofs.Forward.{StepsTo-follows, HasNumber-forward, Takes-few, ComesBack-forward}
 use Rattle.explorer.proofs.Accepted.{no_call, IsFlow-whole, IsRefused-want, Each-more, needs_reads, tests_pass}
 use Rattle.explorer.proofs.OnNumbers.{NumbersIn, Knows, Knows-makes, not_refused}
@@ -72,7 +72,7 @@ never_stuck p e slot plain h =
 
 -- ---- the floor
 
-pub IsPlain-refused : (p : Program) (e : Refusal) (slot : ℕ) → IsRefused p e slot → IsPlain p → IsWantOfMemory e
+pub IsPlain-refused : (p : Program) (e : Refusal) (slot : ℕ) → IsRefused p e slot → IsPlain p → IsOutOfMemory e
 IsPlain-refused p e slot refused plain =
     IsRefused-want p e slot (IsFlow-whole p plain.whole (λ slot i here. no_call i (plain.forms slot i here))) (λ e slot h. never_stuck p e slot plain h) (λ slot h. ComesBack-forward p slot plain.forward h)
     (λ h. Takes-few p start plain.forward h) refused

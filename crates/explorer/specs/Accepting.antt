@@ -6,15 +6,15 @@ use Rattle.control_flow.specs.declared.errors.FlowError.TheVariants as error
 use Rattle.explorer.specs.declared.refusals.Refusal.{Refusal}
 use Rattle.explorer.specs.declared.refusals.Refusal.TheVariants.{Flow, Memory}
 
--- want of memory, in the tests of control flow or later
-abbrev pub IsWantOfMemory : Refusal → Type 0
-IsWantOfMemory (Flow error.Memory) = Unit {0}
-IsWantOfMemory Memory = Unit {0}
-IsWantOfMemory e = ⊥
+-- out of memory, in the tests of control flow or later
+abbrev pub IsOutOfMemory : Refusal → Type 0
+IsOutOfMemory (Flow error.Memory) = Unit {0}
+IsOutOfMemory Memory = Unit {0}
+IsOutOfMemory e = ⊥
 
--- these programs are refused for want of memory alone
+-- these programs are refused only when memory runs out
 pub record AcceptsAll (p : Program) (e : Refusal) : Type 0 where
-  pub plain : IsPlain p → IsWantOfMemory e
+  pub plain : IsPlain p → IsOutOfMemory e
 
 -- the bound of a plain program is at most its count of slots
 pub record BoundsAll (p : Program) (bound : ℕ) : Type 0 where

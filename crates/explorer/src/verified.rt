@@ -96,7 +96,7 @@ pub fn verify(alloc: Global, image: Image) -> Result<Verified, (Refusal, usize)>
     ensures refused { IfErr result (λ r. IsRefused image r.0 r.1) }
     ensures number { IfOk result (λ verified. HasNumber image start verified.bound) }
 
-    // Programs of the forms that must be accepted are refused for want of memory alone, and have
+    // Programs of the forms that must be accepted are refused only when memory runs out, and have
     // the bounds that are known of them.
     ensures accepts { IfErr result (λ r. AcceptsAll image r.0) }
     ensures bounds { IfOk result (λ verified. BoundsAll image verified.bound) }

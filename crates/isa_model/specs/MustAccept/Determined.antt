@@ -51,7 +51,7 @@ pub record WritesIn (p : Program) (clock : ℕ → ℕ) (first : State) (n : ℕ
   pub here : fetch p state.slot ≡ Some insn
   pub writes_it : writes insn ≡ Some r
 
--- a run of the program from a start has so many steps, and reads r1 only after writing it
+-- a run of the program from a start takes this number of steps, and reads r1 only after writing it
 pub record HasRun (p : Program) (steps : ℕ) : Type 0 where
   pub clock : ℕ → ℕ
   pub clock_is : IsClock clock
