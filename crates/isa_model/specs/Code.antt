@@ -1,7 +1,9 @@
 -- What an instruction is: registers, sizes, numbers, forms and their bytes.
 pub mod Registers
 pub mod Sizes
+pub mod Helpers
 pub mod Instructions
+pub mod MapRows
 pub mod Spelling
 pub mod LittleEndian
 pub mod Numbers

@@ -4,4 +4,5 @@ pub mod Streams
 pub mod StreamLaws
 pub mod Messages
 pub mod Reports
+pub mod StartingContents
 pub mod ReportLaws

@@ -7,7 +7,9 @@ pub mod MemoryExamples
 pub mod AtomicExamples
 pub mod CallExamples
 pub mod MapExamples
+pub mod HelperExamples
 pub mod StreamExamples
 pub mod ReportExamples
 pub mod TextExamples
 pub mod AcceptExamples
+pub mod GuardedExamples

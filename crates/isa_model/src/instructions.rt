@@ -7,6 +7,7 @@ ghost use Rattle.std.specs.Option.{option_to_list};
 ghost use Rattle.isa_model.specs.Code.Instructions.{slots_of, operand_reads, reads, writes};
 ghost use Rattle.isa_model.specs.Code.Instructions.{is_frame_pointer};
 
+use crate::helpers::Helper;
 use crate::registers::Reg;
 use crate::sizes::{ByteOrder, Extension, Narrow, Size, Span, Width};
 
@@ -103,6 +104,11 @@ pub enum Insn {
     ByteSwap(ByteOrder, Span, Reg),
     /// A wide load: destination = a 64-bit number. It fills two slots.
     LoadNumber(Reg, u64),
+    /// A wide load: destination = the map of an index. It fills two slots.
+    LoadMap(Reg, u32),
+    /// A wide load: destination = a pointer into the one value of an array of one entry: the map's
+    /// index, and an offset in bytes. It fills two slots.
+    LoadMapValue(Reg, u32, u32),
     /// LDX MEM: destination = the bytes, zero-extended.
     Load(Size, Reg, Place),
     /// LDX MEMSX: destination = the bytes, sign-extended.
@@ -123,6 +129,8 @@ pub enum Insn {
     JumpLong(i32),
     /// A conditional jump: on by the distance where the test holds, else to the next slot.
     JumpIf(Cond, i16),
+    /// CALL of a helper, by its number.
+    CallHelper(i32),
     /// CALL of the function at a distance.
     CallLocal(i32),
     /// EXIT.
@@ -135,37 +143,43 @@ impl Insn {
         ensures { result ≡ slots_of self.now }
     {
         match self {
-            Insn::LoadNumber(_, _) => 2,
+            Insn::LoadNumber(_, _) | Insn::LoadMap(_, _) | Insn::LoadMapValue(_, _, _) => 2,
             _ => 1,
         }
     }
 
-    /// The registers that it reads, at most three: they have to be set. An exit decides about r0
-    /// itself, and a call hands over r1 to r5 as they are.
-    pub fn read(&self) -> (Option<Reg>, Option<Reg>, Option<Reg>)
+    /// The registers that it reads, at most four: they have to be set. An exit decides about r0
+    /// itself, and a local call hands over r1 to r5 as they are.
+    pub fn read(&self) -> (Option<Reg>, Option<Reg>, Option<Reg>, Option<Reg>)
         ensures { option_to_list result.0 ++ option_to_list result.1 ++ option_to_list result.2
-            ≡ reads self.now }
+            ++ option_to_list result.3 ≡ reads self.now }
     {
         match *self {
-            Insn::Alu(_, AluOp::Mov, _, source) => (source.register(), None, None),
-            Insn::Alu(_, _, d, source) => (Some(d), source.register(), None),
-            Insn::Neg(_, d) | Insn::ByteSwap(_, _, d) => (Some(d), None, None),
-            Insn::MovSx(_, _, source) => (Some(source), None, None),
-            Insn::Load(_, _, place) => (Some(place.base), None, None),
-            Insn::LoadSx(_, _, place) => (Some(place.base), None, None),
-            Insn::StoreConstant(_, place, _) => (Some(place.base), None, None),
-            Insn::Store(_, place, source) => (Some(place.base), Some(source), None),
-            Insn::Atomic(_, _, _, place, source) => (Some(place.base), Some(source), None),
-            Insn::Exchange(_, place, source) => (Some(place.base), Some(source), None),
+            Insn::Alu(_, AluOp::Mov, _, source) => (source.register(), None, None, None),
+            Insn::Alu(_, _, d, source) => (Some(d), source.register(), None, None),
+            Insn::Neg(_, d) | Insn::ByteSwap(_, _, d) => (Some(d), None, None, None),
+            Insn::MovSx(_, _, source) => (Some(source), None, None, None),
+            Insn::Load(_, _, place) => (Some(place.base), None, None, None),
+            Insn::LoadSx(_, _, place) => (Some(place.base), None, None, None),
+            Insn::StoreConstant(_, place, _) => (Some(place.base), None, None, None),
+            Insn::Store(_, place, source) => (Some(place.base), Some(source), None, None),
+            Insn::Atomic(_, _, _, place, source) => (Some(place.base), Some(source), None, None),
+            Insn::Exchange(_, place, source) => (Some(place.base), Some(source), None, None),
             Insn::CompareExchange(_, place, source) => {
-                (Some(place.base), Some(source), Some(Reg::R0))
+                (Some(place.base), Some(source), Some(Reg::R0), None)
             }
-            Insn::JumpIf(cond, _) => (Some(cond.register), cond.operand.register(), None),
+            Insn::JumpIf(cond, _) => (Some(cond.register), cond.operand.register(), None, None),
+            Insn::CallHelper(number) => match Helper::numbered(number) {
+                Some(helper) => helper.arguments(),
+                None => (None, None, None, None),
+            },
             Insn::LoadNumber(_, _)
+            | Insn::LoadMap(_, _)
+            | Insn::LoadMapValue(_, _, _)
             | Insn::Jump(_)
             | Insn::JumpLong(_)
             | Insn::CallLocal(_)
-            | Insn::Exit => (None, None, None),
+            | Insn::Exit => (None, None, None, None),
         }
     }
 
@@ -179,6 +193,8 @@ impl Insn {
             | Insn::MovSx(_, d, _)
             | Insn::ByteSwap(_, _, d)
             | Insn::LoadNumber(d, _)
+            | Insn::LoadMap(d, _)
+            | Insn::LoadMapValue(d, _, _)
             | Insn::Load(_, d, _)
             | Insn::LoadSx(_, d, _) => Some(d),
             Insn::Atomic(_, _, true, _, source) | Insn::Exchange(_, _, source) => Some(source),

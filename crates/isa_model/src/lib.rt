@@ -8,6 +8,7 @@
 pub mod clocks;
 pub mod ends;
 pub mod frames;
+pub mod helpers;
 pub mod instructions;
 pub mod jumps;
 pub mod map_defs;
@@ -21,6 +22,7 @@ pub mod values;
 pub use clocks::Clock;
 pub use ends::{End, MAX_STEPS, TrapReason};
 pub use frames::{Action, FrameHead, MAX_BODY};
+pub use helpers::Helper;
 pub use instructions::{AluOp, AtomicOp, Comparison, Cond, Insn, Operand, Place};
 pub use jumps::destination;
 pub use map_defs::{MapDef, MapKind};

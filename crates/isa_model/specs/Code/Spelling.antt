@@ -23,7 +23,7 @@ use Rattle.isa_model.specs.declared.instructions.Comparison.TheVariants.{Equal, 
 use Rattle.isa_model.specs.declared.instructions.Operand.{Operand}
 use Rattle.isa_model.specs.declared.instructions.Operand.TheVariants.{Constant, Register}
 use Rattle.isa_model.specs.declared.instructions.Insn.{Insn}
-use Rattle.isa_model.specs.declared.instructions.Insn.TheVariants.{Alu, Neg, MovSx, ByteSwap, LoadNumber, Load, LoadSx, StoreConstant, Store, Atomic, Exchange, CompareExchange, Jump, JumpLong, JumpIf, CallLocal, Exit}
+use Rattle.isa_model.specs.declared.instructions.Insn.TheVariants.{Alu, Neg, MovSx, ByteSwap, LoadNumber, LoadMap, LoadMapValue, Load, LoadSx, StoreConstant, Store, Atomic, Exchange, CompareExchange, Jump, JumpLong, JumpIf, CallHelper, CallLocal, Exit}
 use Rattle.isa_model.specs.declared.slots.Slot.{Slot}
 use Rattle.isa_model.specs.Code.Registers.{reg_number}
 use Rattle.isa_model.specs.Code.Sizes.{span_bits}
@@ -154,6 +154,8 @@ first_slot (Neg w d) = slot (0x80 + alu_class w) (reg_number d) 0 0 0
 first_slot (MovSx e d s) = slot (0xb8 + extension_class e) (reg_number d) (reg_number s) (extension_bits e) 0
 first_slot (ByteSwap order span d) = slot (order_opcode order) (reg_number d) 0 0 (span_bits span)
 first_slot (LoadNumber d n) = slot 0x18 (reg_number d) 0 0 (n % 2 ^ 32)
+first_slot (LoadMap d m) = slot 0x18 (reg_number d) 5 0 m
+first_slot (LoadMapValue d m offset) = slot 0x18 (reg_number d) 6 0 m
 first_slot (Load size d p) = slot (0x61 + size_code size) (reg_number d) (reg_number p.base) (offset16 p.offset) 0
 first_slot (LoadSx size d p) = slot (0x81 + narrow_code size) (reg_number d) (reg_number p.base) (offset16 p.offset) 0
 first_slot (StoreConstant size p k) = slot (0x62 + size_code size) (reg_number p.base) 0 (offset16 p.offset) (imm32 k)
@@ -167,12 +169,15 @@ first_slot (JumpLong by) = slot 0x06 0 0 0 (imm32 by)
 first_slot (JumpIf c by) =
     slot (jump_code c.comparison + operand_bit c.operand + jump_class c.width)
     (reg_number c.register) (operand_src c.operand) (offset16 by) (operand_imm c.operand)
+first_slot (CallHelper number) = slot 0x85 0 0 0 (imm32 number)
 first_slot (CallLocal by) = slot 0x85 0 1 0 (imm32 by)
 first_slot Exit = slot 0x95 0 0 0 0
 
 -- next_imm, the word in the second slot of a wide load
 abbrev pub next_imm : Insn → Option ℕ
 next_imm (LoadNumber d n) = Some (n / 2 ^ 32)
+next_imm (LoadMap d m) = Some 0
+next_imm (LoadMapValue d m offset) = Some offset
 next_imm i = None
 
 -- ---- bytes
@@ -199,6 +204,8 @@ OperandFits (Register r) = Unit {0}
 abbrev pub InsnFits : Insn → Type 0
 InsnFits (Alu w op d x) = OperandFits x
 InsnFits (LoadNumber d n) = n < 2 ^ 64
+InsnFits (LoadMap d m) = m < 2 ^ 32
+InsnFits (LoadMapValue d m offset) = (m < 2 ^ 32) × (offset < 2 ^ 32)
 InsnFits (Load size d p) = FitsSigned w16 p.offset
 InsnFits (LoadSx size d p) = FitsSigned w16 p.offset
 InsnFits (StoreConstant size p k) = FitsSigned w16 p.offset × FitsSigned w32 k
@@ -209,5 +216,6 @@ InsnFits (CompareExchange w p s) = FitsSigned w16 p.offset
 InsnFits (Jump by) = FitsSigned w16 by
 InsnFits (JumpLong by) = FitsSigned w32 by
 InsnFits (JumpIf c by) = OperandFits c.operand × FitsSigned w16 by
+InsnFits (CallHelper number) = FitsSigned w32 number
 InsnFits (CallLocal by) = FitsSigned w32 by
 InsnFits i = Unit {0}

@@ -87,7 +87,7 @@ cells_at_fit : (rows next : ℕ) (cells : Option (List Cell)) (i n : ℕ) → Ce
 cells_at_fit rows next (Some cells) i n h = All-take (IsCell rows next) n (drop i cells) (All-drop (IsCell rows next) i cells h)
 cells_at_fit rows next None i n h = All-nil (IsCell rows next)
 
-read_fits : (p : Program) (s : State) (r : Region) (o : Option ℕ) (n : ℕ) → IsState p s
+pub read_fits : (p : Program) (s : State) (r : Region) (o : Option ℕ) (n : ℕ) → IsState p s
     → IfOk (read s r o n) (All (IsCell (length p.maps) s.next_serial))
 read_fits p s r o n k =
     IfOk-and_then (λ i. HasRoom (region_cells s r) i n) (All (IsCell (length p.maps) s.next_serial)) (place_of s r o n) (λ i. Ok (cells_at (region_cells s r) i n))

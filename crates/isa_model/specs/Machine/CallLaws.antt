@@ -21,7 +21,7 @@ use Rattle.isa_model.specs.Machine.StateLaws.{serial_of, value_at_fits}
 -- ---- a frame pushed
 
 -- a frame's facts with more serials given
-IsCallFrame-more : (p : Program) (next more : ℕ) (f : CallFrame) → next ≤ more → IsCallFrame p next f → IsCallFrame p more f
+pub IsCallFrame-more : (p : Program) (next more : ℕ) (f : CallFrame) → next ≤ more → IsCallFrame p next f → IsCallFrame p more f
 IsCallFrame-more p next more f le h = record {
   whole = h.whole;
   cells = All-weaker (IsCell (length p.maps) next) (IsCell (length p.maps) more) (λ c k. IsCell-more (length p.maps) next more c le k) f.cells h.cells;

@@ -121,7 +121,7 @@ put_frame_fits p next fs (Some j) i new within room fit h =
     )
 
 -- the map contents with another content of the same serials
-flat_map-set_same : {X Y : Type 0} (f : X → List Y) (xs : List X) (i : ℕ) (y d : X) → f y ≡ f (slice_index_or xs i d)
+pub flat_map-set_same : {X Y : Type 0} (f : X → List Y) (xs : List X) (i : ℕ) (y d : X) → f y ≡ f (slice_index_or xs i d)
     → flat_map f (slice_set xs i y) ≡ flat_map f xs
 flat_map-set_same f [] i y d e = refl
 flat_map-set_same f (x ∷ xs) zero y d e = ap (λ l. l ++ flat_map f xs) e

@@ -16,7 +16,7 @@ use Rattle.isa_model.specs.declared.instructions.AluOp.TheVariants.{Sub}
 use Rattle.isa_model.specs.declared.instructions.Operand.{Operand}
 use Rattle.isa_model.specs.declared.instructions.Operand.TheVariants.{Constant, Register}
 use Rattle.isa_model.specs.declared.instructions.Insn.{Insn}
-use Rattle.isa_model.specs.declared.instructions.Insn.TheVariants.{Alu, Neg, MovSx, ByteSwap, LoadNumber, Load, LoadSx, StoreConstant, Store, Atomic, Exchange, CompareExchange, Jump, JumpLong, JumpIf, CallLocal, Exit}
+use Rattle.isa_model.specs.declared.instructions.Insn.TheVariants.{Alu, Neg, MovSx, ByteSwap, LoadNumber, LoadMap, LoadMapValue, Load, LoadSx, StoreConstant, Store, Atomic, Exchange, CompareExchange, Jump, JumpLong, JumpIf, CallHelper, CallLocal, Exit}
 use Rattle.isa_model.specs.declared.values.Value.{Value}
 use Rattle.isa_model.specs.declared.values.Value.TheVariants.{Unset, Num, Ptr}
 use Rattle.isa_model.specs.declared.values.CallFrame.{CallFrame}
@@ -27,19 +27,23 @@ use Rattle.isa_model.specs.Code.NumberLemmas.{alu_fits, reordered_fits}
 use Rattle.isa_model.specs.Code.ExtensionLemmas.{sign_extended_fits}
 use Rattle.isa_model.specs.Code.Spelling.{InsnFits, OperandFits}
 use Rattle.isa_model.specs.Code.Instructions.{Program, fetch, slots_of, reads, writes, is_frame_pointer}
+use Rattle.isa_model.specs.Code.Helpers.{helper_numbered}
+use Rattle.isa_model.specs.Code.MapRows.{IsRow, NamesRows}
 use Rattle.isa_model.specs.Machine.States.{Entries, entries_of, State, reg, set_reg, new_frame}
 use Rattle.isa_model.specs.Machine.Memory.{and_then}
 use Rattle.isa_model.specs.Machine.Calls.{most_frames, enter, leave}
-use Rattle.isa_model.specs.Machine.Steps.{StepResult, Next, Finished, Trapped, operand_value, base_of, destination, sets, goes_on, jumps, branches, test_of, calls, finishes, exits, atomic_number, act, is_unset, performed_at, step}
+use Rattle.isa_model.specs.Machine.Steps.{StepResult, Next, Finished, Trapped, map_pointer, value_pointer, operand_value, base_of, destination, sets, goes_on, jumps, branches, test_of, calls, finishes, exits, atomic_number, act, is_unset, performed_at, step}
 use Rattle.isa_model.specs.Running.Runs.{numbered, numbered_maps, count_values, start_regs, start_state, GoesOn, Reaches}
 use Rattle.isa_model.specs.Running.RunLaws.{progress-zero}
 use Rattle.isa_model.specs.Running.Ends.{Reaches-last}
 use Rattle.isa_model.specs.declared.frames.FrameHead.{FrameHead}
 use Rattle.isa_model.specs.declared.values.Cell.TheVariants.{Unwritten}
-use Rattle.isa_model.specs.Machine.MachineStates.{value_serials, IsGiven, IsProgram, IsValue, IsCell, IsCallFrame, IsSlot, IsState}
+use Rattle.isa_model.specs.Machine.MachineStates.{value_serials, IsClock, IsGiven, IsProgram, IsValue, IsCell, IsCallFrame, IsSlot, IsState}
 use Rattle.isa_model.specs.Machine.ValueLaws.{unsigned_fits, arithmetic_fits, on_number_fits}
 use Rattle.isa_model.specs.Machine.StateLaws.{IsState-go_to, reg_fits, IsState-set_reg}
 use Rattle.isa_model.specs.Machine.CallLaws.{IsState-enter, IsState-leave}
+use Rattle.isa_model.specs.Machine.HelperLaws.{map_pointer_fits, value_pointer_fits}
+use Rattle.isa_model.specs.Machine.HelperStates.{helper_call_keeps}
 use Rattle.isa_model.specs.Machine.AccessLaws.{load_fits, load_signed_fits, store_keeps, swaps_in_keeps}
 
 -- what holds of the next state, where there is one
@@ -118,72 +122,79 @@ wider : (by : ℤ) → FitsSigned w16 by → FitsSigned w32 by
 wider by h = omega (arith, ints)
 
 -- what a form does, once its registers are set, leaves a state
-pub act_keeps : (p : Program) (clock : ℕ → ℕ) (s : State) (i : Insn) → InsnFits i → s.slot + slots_of i ≤ length p.insns → IsState p s
-    → IfNext (act p clock s i) (IsState p)
+pub act_keeps : (p : Program) (clock : ℕ → ℕ) (s : State) (i : Insn) → InsnFits i → s.slot + slots_of i ≤ length p.insns
+    → All IsRow p.maps → NamesRows p.maps i → IsClock clock → IsState p s → IfNext (act p clock s i) (IsState p)
 unfolding act
-act_keeps p clock s (Alu w op d x) fits inside k =
+act_keeps p clock s (Alu w op d x) fits inside rows named answers k =
     sets_keeps p s (Alu w op d x) d _ (omega arith)
     (arithmetic_fits (length p.maps) s.next_serial op w (reg s d) (operand_value s w x) (reg_fits p s d k) (operand_fits p s w x fits k)) k
-act_keeps p clock s (Neg w d) fits inside k =
+act_keeps p clock s (Neg w d) fits inside rows named answers k =
     sets_keeps p s (Neg w d) d _ (omega arith) (on_number_fits (length p.maps) s.next_serial (negated w) (reg s d) (λ n. alu_fits Sub w 0 n)) k
-act_keeps p clock s (MovSx e d r) fits inside k =
+act_keeps p clock s (MovSx e d r) fits inside rows named answers k =
     sets_keeps p s (MovSx e d r) d _ (omega arith) (on_number_fits (length p.maps) s.next_serial (sign_extended e) (reg s r) (sign_extended_fits e)) k
-act_keeps p clock s (ByteSwap order span d) fits inside k =
+act_keeps p clock s (ByteSwap order span d) fits inside rows named answers k =
     sets_keeps p s (ByteSwap order span d) d _ (omega arith)
     (on_number_fits (length p.maps) s.next_serial (reordered order span) (reg s d) (reordered_fits order span)) k
-act_keeps p clock s (LoadNumber d n) fits inside k = sets_keeps p s (LoadNumber d n) d (Ok (Num n)) (omega arith) fits k
-act_keeps p clock s (Load size d place) fits inside k =
+act_keeps p clock s (LoadNumber d n) fits inside rows named answers k = sets_keeps p s (LoadNumber d n) d (Ok (Num n)) (omega arith) fits k
+act_keeps p clock s (LoadMap d m) fits inside rows named answers k =
+    sets_keeps p s (LoadMap d m) d (Ok (map_pointer m)) (omega arith) (map_pointer_fits (length p.maps) s.next_serial m named) k
+act_keeps p clock s (LoadMapValue d m offset) fits inside rows named answers k =
+    sets_keeps p s (LoadMapValue d m offset) d (Ok (value_pointer s m offset)) (omega arith) (value_pointer_fits p s m offset rows named k) k
+act_keeps p clock s (Load size d place) fits inside rows named answers k =
     sets_keeps p s (Load size d place) d _ (omega arith) (load_fits p s size (base_of s place) place.offset k) k
-act_keeps p clock s (LoadSx size d place) fits inside k =
+act_keeps p clock s (LoadSx size d place) fits inside rows named answers k =
     sets_keeps p s (LoadSx size d place) d _ (omega arith) (load_signed_fits p s size (base_of s place) place.offset k) k
-act_keeps p clock s (StoreConstant size place n) fits inside k =
+act_keeps p clock s (StoreConstant size place n) fits inside rows named answers k =
     goes_on_keeps p s (StoreConstant size place n) _ (omega arith)
     (store_keeps p s size (base_of s place) place.offset (Num (unsigned Full64 n)) (unsigned_fits Full64 n fits.1) k)
-act_keeps p clock s (Store size place r) fits inside k =
+act_keeps p clock s (Store size place r) fits inside rows named answers k =
     goes_on_keeps p s (Store size place r) _ (omega arith)
     (store_keeps p s size (base_of s place) place.offset (reg s r) (reg_fits p s r k) k)
-act_keeps p clock s (Atomic w op fetch place r) fits inside k =
+act_keeps p clock s (Atomic w op fetch place r) fits inside rows named answers k =
     goes_on_keeps p s (Atomic w op fetch place r) _ (omega arith)
     (with_number (IsState p) (reg s r) _ (λ b. swaps_in_keeps p s w place (λ a. alu (atomic_alu op) w a b) fetch r k))
-act_keeps p clock s (Exchange w place r) fits inside k =
+act_keeps p clock s (Exchange w place r) fits inside rows named answers k =
     goes_on_keeps p s (Exchange w place r) _ (omega arith)
     (with_number (IsState p) (reg s r) _ (λ b. swaps_in_keeps p s w place (λ a. b) true r k))
-act_keeps p clock s (CompareExchange w place r) fits inside k =
+act_keeps p clock s (CompareExchange w place r) fits inside rows named answers k =
     goes_on_keeps p s (CompareExchange w place r) _ (omega arith)
     (with_number (IsState p) (reg s r) _ (λ b. with_number (IsState p) (reg s R0) _
     (λ expected. swaps_in_keeps p s w place (λ a. if a == low w expected then b else a) true R0 k)))
-act_keeps p clock s (Jump by) fits inside k = jumps_keep p s by (omega arith) (wider by fits) k
-act_keeps p clock s (JumpLong by) fits inside k = jumps_keep p s by (omega arith) fits k
-act_keeps p clock s (JumpIf cond by) fits inside k = branches_keep p s by (test_of s cond) (omega arith) (wider by fits.1) k
-act_keeps p clock s (CallLocal by) fits inside k = calls_keep p s by (omega arith) fits k
-act_keeps p clock s Exit fits inside k = exits_keep p s k
+act_keeps p clock s (Jump by) fits inside rows named answers k = jumps_keep p s by (omega arith) (wider by fits) k
+act_keeps p clock s (JumpLong by) fits inside rows named answers k = jumps_keep p s by (omega arith) fits k
+act_keeps p clock s (JumpIf cond by) fits inside rows named answers k = branches_keep p s by (test_of s cond) (omega arith) (wider by fits.1) k
+act_keeps p clock s (CallHelper number) fits inside rows named answers k =
+    goes_on_keeps p s (CallHelper number) _ (omega arith) (helper_call_keeps p clock s (helper_numbered number) answers k)
+act_keeps p clock s (CallLocal by) fits inside rows named answers k = calls_keep p s by (omega arith) fits k
+act_keeps p clock s Exit fits inside rows named answers k = exits_keep p s k
 
 IfNext-if : (P : State → Type 0) (b : Bool) (e : TrapReason) (r : StepResult) → IfNext r P → IfNext (if b then Trapped e else r) P
 IfNext-if P true e r h = tt
 IfNext-if P false e r h = h
 
-performed_at_keeps : (p : Program) (clock : ℕ → ℕ) (s : State) (o : Option Insn) → fetch p s.slot ≡ o → IsProgram p → IsState p s
+performed_at_keeps : (p : Program) (clock : ℕ → ℕ) (s : State) (o : Option Insn) → fetch p s.slot ≡ o → IsProgram p → IsClock clock → IsState p s
     → IfNext (performed_at p clock s o) (IsState p)
-performed_at_keeps p clock s None e h k = tt
-performed_at_keeps p clock s (Some i) e h k =
+performed_at_keeps p clock s None e h answers k = tt
+performed_at_keeps p clock s (Some i) e h answers k =
     IfNext-if (IsState p) (list_any (λ r. is_unset (reg s r)) (reads i)) UnsetRead _
     (IfNext-if (IsState p) (is_frame_pointer (writes i)) ReadOnly (act p clock s i)
-    (act_keeps p clock s i (h.fits s.slot i e) (h.inside s.slot i e) k))
+    (act_keeps p clock s i (h.fits s.slot i e) (h.inside s.slot i e) h.rows (h.named s.slot i e) answers k))
 
 -- a step of a state leads to a state
-pub step_keeps : (p : Program) (clock : ℕ → ℕ) (s : State) → IsProgram p → IsState p s → IfNext (step p clock s) (IsState p)
+pub step_keeps : (p : Program) (clock : ℕ → ℕ) (s : State) → IsProgram p → IsClock clock → IsState p s → IfNext (step p clock s) (IsState p)
 unfolding step
-step_keeps p clock s h k = performed_at_keeps p clock s (fetch p s.slot) refl h k
+step_keeps p clock s h answers k = performed_at_keeps p clock s (fetch p s.slot) refl h answers k
 
 -- and so do any steps in a row
-pub progress_keeps : (p : Program) (clock : ℕ → ℕ) (s t : State) (n : ℕ) → IsProgram p → IsState p s → Reaches p clock s n t → IsState p t
-progress_keeps p clock s t zero h k r = subst (IsState p) (goes_on_same (sym (progress-zero p clock s) ∙ r)) k
+pub progress_keeps : (p : Program) (clock : ℕ → ℕ) (s t : State) (n : ℕ) → IsProgram p → IsClock clock → IsState p s → Reaches p clock s n t
+    → IsState p t
+progress_keeps p clock s t zero h answers k r = subst (IsState p) (goes_on_same (sym (progress-zero p clock s) ∙ r)) k
   where
     goes_on_same : {s t : State} → GoesOn s ≡ GoesOn t → s ≡ t
     goes_on_same e = cc
-progress_keeps p clock s t (suc n) h k r =
+progress_keeps p clock s t (suc n) h answers k r =
     let (u, reached, last) = Reaches-last p clock s n t r in
-    let next = step_keeps p clock u h (progress_keeps p clock s u n h k reached) in
+    let next = step_keeps p clock u h answers (progress_keeps p clock s u n h answers k reached) in
     subst (λ r. IfNext r (IsState p)) last next
 
 -- ---- the start

@@ -37,6 +37,12 @@ pub IfOk-and_then : {A B : Type 0} (P : A → Type 0) (Q : B → Type 0) (r : Re
 IfOk-and_then P Q (Ok a) go h k = k a h
 IfOk-and_then P Q (Err e) go h k = tt
 
+-- what holds of each next answer
+pub IfOk-then : {A B : Type 0} (Q : B → Type 0) (r : Result A TrapReason) (go : A → Result B TrapReason)
+    → ((a : A) → IfOk (go a) Q) → IfOk (and_then r go) Q
+IfOk-then Q (Ok a) go h = h a
+IfOk-then Q (Err e) go h = tt
+
 -- a test before an answer
 pub IfOk-if : {A : Type 0} (P : A → Type 0) (b : Bool) (x y : Result A TrapReason)
     → (b ≡ true → IfOk x P) → (b ≡ false → IfOk y P) → IfOk (if b then x else y) P

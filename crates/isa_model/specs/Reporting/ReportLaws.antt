@@ -15,7 +15,7 @@ use Rattle.isa_model.specs.Reporting.Streams.{Frame, IsFrame, AreOpen, max_body,
 use Rattle.isa_model.specs.Reporting.StreamLaws.{frames_from-stops, frames_from-goes_on, frames_behind}
 use Rattle.isa_model.specs.Running.Runs.{Outcome, HasOutcome, Turn}
 use Rattle.isa_model.specs.Running.RunLaws.{turn-outcome, HasOutcome-same}
-use Rattle.isa_model.specs.Machine.MachineStates.{AreBytes, FitRows, IsProgram, IsGiven}
+use Rattle.isa_model.specs.Machine.MachineStates.{AreBytes, FitRows, IsProgram, IsClock, IsGiven}
 use Rattle.isa_model.specs.Machine.ValueLaws.{slice_index_fits}
 use Rattle.isa_model.specs.Running.Outcomes.{StartsEnd, ExitsWithin, ExitsWithin-StartsEnd, FitRows-HasOutcome}
 use Rattle.isa_model.specs.Reporting.Reports.{Piece, ToReport, ToFrames, maps_pieces, last_line, frame_pieces, frame_line, turns_pieces, contents_after, checked_rule, checked_report, turn_by, starting_contents, ReportsFrames, IsReport}
@@ -110,11 +110,13 @@ runs_on : (p : Program) (n number : ℕ) (contents : List Entries) (frames : Lis
     → All IsFrame frames → RunsOn p n number contents frames
 runs_on p n number contents [] program h fits each = (tt, (refl, refl))
 runs_on p n number contents (f ∷ frames) program h fits each =
-    let (exit, given) = outcome_on p n contents f h fits (All-head IsFrame f frames each) in
+    let here = All-head IsFrame f frames each in
+    let (exit, given) = outcome_on p n contents f h fits here in
     let o = exit.outcome in
     let clock : ℕ → ℕ = λ k. f.head.time in
+    let answers : IsClock clock = λ k. here.time in
     let same : checked_rule p n f.head f.body contents ≡ turn_by o = turn-outcome p f.head f.body contents clock o n exit.found exit.few in
-    let left = FitRows-HasOutcome p f.head f.body contents clock o program given exit.found in
+    let left = FitRows-HasOutcome p f.head f.body contents clock o program answers given exit.found in
     let (exits, reports) = runs_on p n (number + 1) o.contents frames program h left (All-tail IsFrame f frames each) in
     let rest = turns_pieces n (checked_rule p n) (number + 1) o.contents frames in
     let front : frame_pieces n number f (turn_by o) ++ rest ≡ frame_pieces o.steps number f (turn_by o) ++ rest =

@@ -4,32 +4,39 @@ use Rattle.std.specs.List.{list_any, range_with_len}
 use Rattle.std.proofs.Common.{ap, ◌∙◌, arith}
 use Rattle.std.proofs.lemmas.List.FromFn.{get_or-map-range_with_len}
 use Rattle.isa_model.specs.declared.registers.Reg.{Reg}
-use Rattle.isa_model.specs.declared.registers.Reg.TheVariants.{R0}
+use Rattle.isa_model.specs.declared.registers.Reg.TheVariants.{R0, R1, R2, R3, R4}
 use Rattle.isa_model.specs.declared.sizes.Width.{Width}
 use Rattle.isa_model.specs.declared.sizes.Width.TheVariants.{Full64}
 use Rattle.isa_model.specs.declared.sizes.Size.{Size}
 use Rattle.isa_model.specs.declared.sizes.Size.TheVariants.{U8, U16, U32, U64}
 use Rattle.isa_model.specs.declared.instructions.Place.{Place}
 use Rattle.isa_model.specs.declared.instructions.Insn.{Insn}
-use Rattle.isa_model.specs.declared.instructions.Insn.TheVariants.{Alu, Neg, MovSx, ByteSwap, LoadNumber, Load, LoadSx, StoreConstant, Store, Atomic, Exchange, CompareExchange, Jump, JumpLong, JumpIf, CallLocal, Exit}
+use Rattle.isa_model.specs.declared.instructions.Insn.TheVariants.{Alu, Neg, MovSx, ByteSwap, LoadNumber, LoadMap, LoadMapValue, Load, LoadSx, StoreConstant, Store, Atomic, Exchange, CompareExchange, Jump, JumpLong, JumpIf, CallHelper, CallLocal, Exit}
 use Rattle.isa_model.specs.declared.values.Region.{Region}
 use Rattle.isa_model.specs.declared.values.Region.TheVariants as region
 use Rattle.isa_model.specs.declared.values.Value.{Value}
 use Rattle.isa_model.specs.declared.values.Value.TheVariants.{Unset, Num, Ptr}
 use Rattle.isa_model.specs.declared.values.Cell.{Cell}
 use Rattle.isa_model.specs.declared.values.Cell.TheVariants.{Byte}
+use Rattle.isa_model.specs.declared.map_defs.MapDef.{MapDef}
+use Rattle.isa_model.specs.declared.helpers.Helper.{Helper}
+use Rattle.isa_model.specs.declared.helpers.Helper.TheVariants.{MapLookupElem, MapUpdateElem, MapDeleteElem, KtimeGetNs}
 use Rattle.isa_model.specs.declared.frames.FrameHead.{FrameHead}
 use Rattle.isa_model.specs.declared.ends.TrapReason.{TrapReason}
 use Rattle.isa_model.specs.declared.ends.TrapReason.TheVariants.{UnsetRead, ReadOnly, TooManyFrames}
 use Rattle.isa_model.specs.Code.Sizes.{width_size}
 use Rattle.isa_model.specs.Code.Numbers.{low, unsigned, alu, bytes_of, atomic_alu}
+use Rattle.isa_model.specs.Code.Helpers.{helper_numbered}
 use Rattle.isa_model.specs.Code.Instructions.{Program, fetch, reads, writes, is_frame_pointer}
-use Rattle.isa_model.specs.Machine.States.{Entries, State, reg}
+use Rattle.isa_model.specs.Machine.States.{Entries, State, reg, content_of}
 use Rattle.isa_model.specs.Machine.Memory.{and_then, pieces, index_at, place_of, put, write, load_number, store_number, store_pointer, store}
 use Rattle.isa_model.specs.Machine.Calls.{most_frames, enter, leave}
-use Rattle.isa_model.specs.Machine.Steps.{StepResult, Next, Finished, Trapped, base_of, destination, sets, goes_on, branches, test_of, finishes, swaps_in, fetched_into, act, is_unset, performed_at, step}
+use Rattle.isa_model.specs.Machine.MapContents.{update_answer, delete_answer}
+use Rattle.isa_model.specs.Machine.MapHelpers.{Helped, put_bytes, remove_key, map_update_elem, map_delete_elem}
+use Rattle.isa_model.specs.Machine.HelperCalls.{map_argument, bytes_argument, number_argument, bytes_at, lookup_call, update_call, delete_call, helper_call, after_call}
+use Rattle.isa_model.specs.Machine.Steps.{StepResult, Next, Finished, Trapped, map_pointer, value_pointer, base_of, destination, sets, goes_on, branches, test_of, finishes, swaps_in, fetched_into, act, is_unset, performed_at, step}
 use Rattle.isa_model.specs.Running.Runs.{start_state, Progress, GoesOn, Ended, after_step, advanced, progress, turn_of, turn}
-use Rattle.isa_model.specs.Machine.ValueLaws.{IfOk-and_then}
+use Rattle.isa_model.specs.Machine.ValueLaws.{IfOk-and_then, IfOk-then}
 use Rattle.isa_model.specs.Machine.StepLaws.{IfNext, with_number}
 
 -- ---- how often a step asks
@@ -99,6 +106,11 @@ goes_on_calls : (s : State) (i : Insn) (r : Result State TrapReason) → IfOk r 
 goes_on_calls s i (Ok t) h = omega arith
 goes_on_calls s i (Err e) h = tt
 
+goes_on_one_call : (s : State) (i : Insn) (r : Result State TrapReason) → IfOk r (OneCall s)
+    → IfNext (goes_on s i r) (OneCall s)
+goes_on_one_call s i (Ok t) h = h
+goes_on_one_call s i (Err e) h = tt
+
 branches_calls : (p : Program) (s : State) (by : ℤ) (r : Result Bool TrapReason) → IfNext (branches s p by r) (OneCall s)
 branches_calls p s by (Ok true) = omega arith
 branches_calls p s by (Ok false) = omega arith
@@ -113,6 +125,63 @@ finishes_calls s (Num n) = tt
 finishes_calls s (Ptr r z) = tt
 finishes_calls s Unset = tt
 
+-- a helper asks the clock at most once
+
+updated_calls : (row : MapDef) (s : State) (m : ℕ) (key bytes : List ℕ) (flags : ℕ)
+    → SameCalls s (map_update_elem row s m key bytes flags).state
+updated_calls row s m key bytes flags = by (update_answer row (content_of s m) key flags == 0)
+  where
+    by : (b : Bool) → SameCalls s (if b then put_bytes s m key bytes else s)
+    by true = refl
+    by false = refl
+
+deleted_calls : (row : MapDef) (s : State) (m : ℕ) (key : List ℕ) → SameCalls s (map_delete_elem row s m key).state
+deleted_calls row s m key = by (delete_answer row (content_of s m) key == 0)
+  where
+    by : (b : Bool) → SameCalls s (if b then remove_key s m key else s)
+    by true = refl
+    by false = refl
+
+-- the state that a helper leaves
+abbrev LeavesSame : State → Helped → Type 0
+LeavesSame s helped = SameCalls s helped.state
+
+lookup_call_calls : (p : Program) (s : State) → IfOk (lookup_call p s) (LeavesSame s)
+lookup_call_calls p s =
+    IfOk-then (LeavesSame s) (map_argument p (reg s R1)) _ (λ m.
+    IfOk-then (LeavesSame s) (bytes_argument (reg s R2)) _ (λ key_at.
+    IfOk-then (LeavesSame s) (bytes_at s key_at m.row.key_size) _ (λ key. refl)))
+
+update_call_calls : (p : Program) (s : State) → IfOk (update_call p s) (LeavesSame s)
+update_call_calls p s =
+    IfOk-then (LeavesSame s) (map_argument p (reg s R1)) _ (λ m.
+    IfOk-then (LeavesSame s) (bytes_argument (reg s R2)) _ (λ key_at.
+    IfOk-then (LeavesSame s) (bytes_argument (reg s R3)) _ (λ value_at.
+    IfOk-then (LeavesSame s) (number_argument (reg s R4)) _ (λ flags.
+    IfOk-then (LeavesSame s) (bytes_at s key_at m.row.key_size) _ (λ key.
+    IfOk-then (LeavesSame s) (bytes_at s value_at m.row.value_size) _ (λ bytes.
+    updated_calls m.row s m.index key bytes flags))))))
+
+delete_call_calls : (p : Program) (s : State) → IfOk (delete_call p s) (LeavesSame s)
+delete_call_calls p s =
+    IfOk-then (LeavesSame s) (map_argument p (reg s R1)) _ (λ m.
+    IfOk-then (LeavesSame s) (bytes_argument (reg s R2)) _ (λ key_at.
+    IfOk-then (LeavesSame s) (bytes_at s key_at m.row.key_size) _ (λ key.
+    deleted_calls m.row s m.index key)))
+
+after_call_calls : (s : State) (called : Result Helped TrapReason) → IfOk called (LeavesSame s)
+    → IfOk (after_call called) (OneCall s)
+after_call_calls s (Ok helped) h = omega arith
+after_call_calls s (Err e) h = tt
+
+helper_call_calls : (p : Program) (clock : ℕ → ℕ) (s : State) (o : Option Helper)
+    → IfOk (after_call (helper_call p clock s o)) (OneCall s)
+helper_call_calls p clock s (Some MapLookupElem) = after_call_calls s (lookup_call p s) (lookup_call_calls p s)
+helper_call_calls p clock s (Some MapUpdateElem) = after_call_calls s (update_call p s) (update_call_calls p s)
+helper_call_calls p clock s (Some MapDeleteElem) = after_call_calls s (delete_call p s) (delete_call_calls p s)
+helper_call_calls p clock s (Some KtimeGetNs) = omega arith
+helper_call_calls p clock s None = tt
+
 if_next : (P : State → Type 0) (b : Bool) (q r : StepResult) → IfNext q P → IfNext r P → IfNext (if b then q else r) P
 if_next P true q r h k = h
 if_next P false q r h k = k
@@ -124,6 +193,9 @@ act_calls p clock s (Neg w d) = sets_calls s (Neg w d) d _
 act_calls p clock s (MovSx e d r) = sets_calls s (MovSx e d r) d _
 act_calls p clock s (ByteSwap order span d) = sets_calls s (ByteSwap order span d) d _
 act_calls p clock s (LoadNumber d n) = sets_calls s (LoadNumber d n) d (Ok (Num n))
+act_calls p clock s (LoadMap d m) = sets_calls s (LoadMap d m) d (Ok (map_pointer m))
+act_calls p clock s (LoadMapValue d m offset) = sets_calls s (LoadMapValue d m offset) d
+    (Ok (value_pointer s m offset))
 act_calls p clock s (Load size d place) = sets_calls s (Load size d place) d _
 act_calls p clock s (LoadSx size d place) = sets_calls s (LoadSx size d place) d _
 act_calls p clock s (StoreConstant size place n) =
@@ -141,6 +213,8 @@ act_calls p clock s (CompareExchange w place r) =
 act_calls p clock s (Jump by) = omega arith
 act_calls p clock s (JumpLong by) = omega arith
 act_calls p clock s (JumpIf cond by) = branches_calls p s by (test_of s cond)
+act_calls p clock s (CallHelper number) =
+    goes_on_one_call s (CallHelper number) _ (helper_call_calls p clock s (helper_numbered number))
 act_calls p clock s (CallLocal by) =
     if_next (OneCall s) (length s.frames == most_frames) (Trapped TooManyFrames) (Next (enter s (destination p s.slot by))) tt (omega arith)
 act_calls p clock s Exit =
@@ -159,6 +233,19 @@ step-clock_calls p clock s = performed_at_calls p clock s (fetch p s.slot)
 
 -- ---- which answer counts
 
+helper_call-clock : (p : Program) (clock other : ℕ → ℕ) (s : State) (o : Option Helper)
+    → clock s.clock_calls ≡ other s.clock_calls
+    → helper_call p clock s o ≡ helper_call p other s o
+helper_call-clock p clock other s (Some MapLookupElem) h = refl
+helper_call-clock p clock other s (Some MapUpdateElem) h = refl
+helper_call-clock p clock other s (Some MapDeleteElem) h = refl
+helper_call-clock p clock other s (Some KtimeGetNs) h = ap (λ n. Ok (clock_answer s n)) h
+  where
+    -- an answer of the clock
+    clock_answer : State → ℕ → Helped
+    clock_answer s n = record { answer = Num n; state = record s { clock_calls = s.clock_calls + 1 } }
+helper_call-clock p clock other s None h = refl
+
 act-clock : (p : Program) (clock other : ℕ → ℕ) (s : State) (i : Insn) → clock s.clock_calls ≡ other s.clock_calls → act p clock s i ≡ act p other s i
 unfolding act
 act-clock p clock other s (Alu w op d x) h = refl
@@ -166,6 +253,8 @@ act-clock p clock other s (Neg w d) h = refl
 act-clock p clock other s (MovSx e d r) h = refl
 act-clock p clock other s (ByteSwap order span d) h = refl
 act-clock p clock other s (LoadNumber d n) h = refl
+act-clock p clock other s (LoadMap d m) h = refl
+act-clock p clock other s (LoadMapValue d m offset) h = refl
 act-clock p clock other s (Load size d place) h = refl
 act-clock p clock other s (LoadSx size d place) h = refl
 act-clock p clock other s (StoreConstant size place n) h = refl
@@ -176,6 +265,9 @@ act-clock p clock other s (CompareExchange w place r) h = refl
 act-clock p clock other s (Jump by) h = refl
 act-clock p clock other s (JumpLong by) h = refl
 act-clock p clock other s (JumpIf cond by) h = refl
+act-clock p clock other s (CallHelper number) h =
+    ap (λ called. goes_on s (CallHelper number) (after_call called))
+    (helper_call-clock p clock other s (helper_numbered number) h)
 act-clock p clock other s (CallLocal by) h = refl
 act-clock p clock other s Exit h = refl
 

@@ -56,8 +56,8 @@ ExitsWithin-StartsEnd p n head packet contents clock h fits given =
 
 -- the contents that an outcome leaves fit the rows
 pub FitRows-HasOutcome : (p : Program) (head : FrameHead) (packet : List ℕ) (contents : List Entries) (clock : ℕ → ℕ) (o : Outcome)
-    → IsProgram p → IsGiven p head packet contents → HasOutcome p head packet contents clock o → FitRows p.maps o.contents
-FitRows-HasOutcome p head packet contents clock o program given h =
+    → IsProgram p → IsClock clock → IsGiven p head packet contents → HasOutcome p head packet contents clock o → FitRows p.maps o.contents
+FitRows-HasOutcome p head packet contents clock o program answers given h =
     let s = start_state head packet contents in
-    let last = progress_keeps p clock s h.last h.before program (start_is_state p head packet contents given) h.reached in
+    let last = progress_keeps p clock s h.last h.before program answers (start_is_state p head packet contents given) h.reached in
     subst (FitRows p.maps) (sym h.contents_are) last.maps

@@ -29,7 +29,7 @@ use Rattle.isa_model.specs.declared.instructions.Operand.{Operand}
 use Rattle.isa_model.specs.declared.instructions.Operand.TheVariants.{Constant, Register}
 use Rattle.isa_model.specs.declared.instructions.Place.{Place}
 use Rattle.isa_model.specs.declared.instructions.Insn.{Insn}
-use Rattle.isa_model.specs.declared.instructions.Insn.TheVariants.{Alu, Neg, MovSx, ByteSwap, LoadNumber, Load, LoadSx, StoreConstant, Store, Atomic, Exchange, CompareExchange, Jump, JumpLong, JumpIf, CallLocal, Exit}
+use Rattle.isa_model.specs.declared.instructions.Insn.TheVariants.{Alu, Neg, MovSx, ByteSwap, LoadNumber, LoadMap, LoadMapValue, Load, LoadSx, StoreConstant, Store, Atomic, Exchange, CompareExchange, Jump, JumpLong, JumpIf, CallHelper, CallLocal, Exit}
 use Rattle.isa_model.specs.declared.map_defs.MapKind.{MapKind}
 use Rattle.isa_model.specs.declared.map_defs.MapKind.TheVariants.{Hash, Array}
 use Rattle.isa_model.specs.declared.map_defs.MapDef.{MapDef}
@@ -177,6 +177,9 @@ line_of (MovSx e d s) =
 line_of (ByteSwap order span d) =
     reg_text Full64 d ++ codes " = " ++ order_text order ++ span_text span ++ codes " " ++ reg_text Full64 d ++ codes "\n"
 line_of (LoadNumber d n) = reg_text Full64 d ++ codes " = 0x" ++ digits 16 false n ++ codes " ll\n"
+line_of (LoadMap d m) = reg_text Full64 d ++ codes " = map_by_idx(" ++ decimal m ++ codes ")\n"
+line_of (LoadMapValue d m offset) =
+    reg_text Full64 d ++ codes " = map_val(map_by_idx(" ++ decimal m ++ codes ")) + " ++ decimal offset ++ codes "\n"
 line_of (Load size d p) = reg_text Full64 d ++ codes " = *(" ++ size_text size ++ codes " *)(" ++ place_text p ++ codes ")\n"
 line_of (LoadSx size d p) = reg_text Full64 d ++ codes " = *(" ++ narrow_text size ++ codes " *)(" ++ place_text p ++ codes ")\n"
 line_of (StoreConstant size p k) =
@@ -198,6 +201,7 @@ line_of (JumpLong by) = codes "gotol " ++ distance_text by ++ codes "\n"
 line_of (JumpIf c by) =
     codes "if " ++ reg_text c.width c.register ++ codes " " ++ comparison_text c.comparison ++ codes " "
     ++ operand_text c.width c.operand ++ codes " goto " ++ distance_text by ++ codes "\n"
+line_of (CallHelper number) = codes "call " ++ signed_decimal number ++ codes "\n"
 line_of (CallLocal by) = codes "call pc" ++ distance_text by ++ codes "\n"
 line_of Exit = codes "exit\n"
 

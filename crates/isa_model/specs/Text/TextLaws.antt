@@ -2,7 +2,7 @@
 use Rattle.std.proofs.Common.{◌≡◌, List, [], ◌∷◌, ◌++◌, Option, Some, None, refl, ap, ◌∙◌}
 use Rattle.std.proofs.lemmas.Grind.{flat_map-append}
 use Rattle.isa_model.specs.declared.instructions.Insn.{Insn}
-use Rattle.isa_model.specs.declared.instructions.Insn.TheVariants.{LoadNumber}
+use Rattle.isa_model.specs.declared.instructions.Insn.TheVariants.{LoadNumber, LoadMap, LoadMapValue}
 use Rattle.isa_model.specs.Code.Instructions.{slots}
 use Rattle.isa_model.specs.Text.CanonicalText.{line_of, instructions, code_text}
 
@@ -10,6 +10,8 @@ use Rattle.isa_model.specs.Text.CanonicalText.{line_of, instructions, code_text}
 pub instructions-slots : (is : List Insn) → instructions (slots is) ≡ is
 instructions-slots [] = refl
 instructions-slots (LoadNumber d n ∷ is) = ap (λ l. LoadNumber d n ∷ l) (instructions-slots is)
+instructions-slots (LoadMap d m ∷ is) = ap (λ l. LoadMap d m ∷ l) (instructions-slots is)
+instructions-slots (LoadMapValue d m offset ∷ is) = ap (λ l. LoadMapValue d m offset ∷ l) (instructions-slots is)
 instructions-slots (i ∷ is) = ap (λ l. i ∷ l) (instructions-slots is)
 
 pub instructions-append : (xs ys : List (Option Insn)) → instructions (xs ++ ys) ≡ instructions xs ++ instructions ys

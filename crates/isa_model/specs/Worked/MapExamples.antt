@@ -1,14 +1,13 @@
 -- Worked examples of look-ups, updates and deletes of maps, computed from the definitions.
-use Rattle.std.specs.Prelude.{◌≡◌, ℕ, pos, List, [], ◌∷◌, replicate, Option, Some, None, refl}
+use Rattle.std.specs.Prelude.{◌≡◌, ℕ, pos, List, [], ◌∷◌, replicate, Some, None, refl}
 use Rattle.isa_model.specs.declared.map_defs.MapKind.TheVariants.{Hash, Array}
 use Rattle.isa_model.specs.declared.map_defs.MapDef.{MapDef}
 use Rattle.isa_model.specs.declared.values.Region.TheVariants as region
-use Rattle.isa_model.specs.declared.values.Value.{Value}
 use Rattle.isa_model.specs.declared.values.Value.TheVariants.{Num, Ptr}
 use Rattle.isa_model.specs.declared.values.Cell.TheVariants.{Byte}
-use Rattle.isa_model.specs.Machine.States.{Entries, State, entries_of, content_of, new_frame}
+use Rattle.isa_model.specs.Machine.States.{Entries, State, new_frame}
 use Rattle.isa_model.specs.Machine.Memory.{region_cells}
-use Rattle.isa_model.specs.Machine.MapContents.{at_key, update_answer, after_update, delete_answer, after_delete}
+use Rattle.isa_model.specs.Machine.MapContents.{update_answer, after_update, delete_answer, after_delete}
 use Rattle.isa_model.specs.Machine.MapHelpers.{Helped, map_lookup_elem, map_update_elem, map_delete_elem}
 use Rattle.isa_model.specs.Running.Runs.{start_state}
 
