@@ -1,17 +1,19 @@
 -- Code that was read from bytes is spelled by them, and is code; and code that is spelled is read.
-use Rattle.std.proofs.Common.{◌≡◌, ℕ, zero, suc, ◌-◌, ◌+◌, ◌*◌, ◌≤◌, ◌<◌, Bool, true, false, List, [], ◌∷◌, ◌++◌, take, drop, length, Option, Some, None, Result, Ok, Err, refl, sym, ap, ◌∙◌, subst, arith, drop-drop, length-append, take_all}
-use Rattle.std.specs.Prelude.{slice_index}
-use Rattle.std.proofs.lemmas.List.{get_or-drop, length-drop, length-take, take-append-drop, drop_at}
+use Rattle.std.proofs.Common.{◌≡◌, ℕ, zero, suc, ◌-◌, ◌+◌, ◌*◌, ◌≤◌, Bool, true, false, List, [], ◌∷◌, ◌++◌, take, drop, length, Option, Some, None, Result, Ok, Err, refl, sym, ap, ◌∙◌, subst, arith, drop-drop, length-append, take_all}
+use Rattle.std.proofs.lemmas.List.{length-drop, length-take, take-append-drop, drop_at}
+use Rattle.isa_model.specs.declared.map_defs.MapDef.{MapDef}
 use Rattle.isa_model.specs.declared.instructions.Insn.{Insn}
-use Rattle.isa_model.specs.declared.instructions.Insn.TheVariants.{LoadNumber}
+use Rattle.isa_model.specs.declared.instructions.Insn.TheVariants.{LoadNumber, LoadMap, LoadMapValue}
 use Rattle.isa_model.specs.Code.Instructions.{slots_of}
 use Rattle.isa_model.specs.Code.Spelling.{spelling_of, InsnFits}
 use Rattle.insn_codec.specs.declared.errors.CodecError.{CodecError}
 use Rattle.insn_codec.specs.Decoding.{decoded}
 use Rattle.isa_model.specs.Code.LittleEndian.{EachByte, EachByte-drop}
 use Rattle.image.specs.declared.errors.ImageError.{ImageError}
-use Rattle.image.specs.Images.{code_bytes, is_wide, IsCode}
-use Rattle.image.specs.Refusals.{◌>>=◌, insn_at, at_slot, code_from}
+use Rattle.isa_model.specs.Code.MapRows.{NamesRows}
+use Rattle.image.specs.Images.{code_bytes, is_wide, IsCode, NamesMaps}
+use Rattle.image.specs.Refusals.{◌>>=◌, unless, map_refusal, insn_at, at_slot, code_from}
+use Rattle.image.specs.RowLaws.{NamesRows-map_refusal, map_refusal-NamesRows}
 
 abbrev Slots : Type 0
 Slots = List (Option Insn)
@@ -39,6 +41,24 @@ at_slot_ok : (slot : ℕ) (r : Result Insn CodecError) (i : Insn) → at_slot sl
 at_slot_ok slot (Err e) i h = absurd cc
 at_slot_ok slot (Ok j) i h = ap (λ (x : Insn). decoded_ok x) cc
 
+unless_ok : (o : Option ImageError) (i j : Insn) → unless o i ≡ Ok j → (o ≡ None) × (i ≡ j)
+unless_ok None i j e = (refl, cc)
+unless_ok (Some d) i j e = absurd cc
+
+-- an instruction that was read at a slot: it was decoded, and the map that it names is there
+record IsReadAt (rows : List MapDef) (bytes : List ℕ) (i : Insn) : Type 0 where
+  decoded : decoded bytes ≡ Ok i
+  named : NamesRows rows i
+
+insn_at_ok : (rows : List MapDef) (slot : ℕ) (bytes : List ℕ) (i : Insn) → insn_at rows slot bytes ≡ Ok i → IsReadAt rows bytes i
+insn_at_ok rows slot bytes i e =
+    let a = bind_ok (at_slot slot (decoded bytes)) (λ j. unless (map_refusal rows slot j) j) i e in
+    let u = unless_ok (map_refusal rows slot a.0) a.0 i a.2 in
+    subst (IsReadAt rows bytes) u.1 (record {
+      decoded = at_slot_ok slot (decoded bytes) a.0 a.1;
+      named = NamesRows-map_refusal rows slot a.0 u.0;
+    })
+
 -- the rest of a slice
 pub take-rest : (n : ℕ) (xs : List ℕ) → take (length xs - n) (drop n xs) ≡ drop n xs
 take-rest n xs = take_all (length xs - n) (drop n xs) (omega (arith, length-drop n xs))
@@ -55,10 +75,14 @@ nothing half (b ∷ bytes) h = absurd (omega arith)
 
 after : (i : Insn) (bytes : List ℕ) → rest_of (is_wide i) (drop 8 bytes) ≡ drop (8 * slots_of i) bytes
 after (LoadNumber d n) bytes = drop-drop 8 8 bytes
+after (LoadMap d m) bytes = drop-drop 8 8 bytes
+after (LoadMapValue d m o) bytes = drop-drop 8 8 bytes
 after i bytes = refl
 
 pub length-spelling_of : (i : Insn) → length (spelling_of i) ≡ 8 * slots_of i
 length-spelling_of (LoadNumber d n) = refl
+length-spelling_of (LoadMap d m) = refl
+length-spelling_of (LoadMapValue d m o) = refl
 length-spelling_of i = refl
 
 -- a second half has its slot
@@ -68,67 +92,75 @@ HasHalf false n = Unit {0}
 
 has_half : (i : Insn) (n : ℕ) → slots_of i ≤ suc n → HasHalf (is_wide i) n
 has_half (LoadNumber d m) n h = omega arith
+has_half (LoadMap d m) n h = omega arith
+has_half (LoadMapValue d m o) n h = omega arith
 has_half i n h = tt
 
 -- what code was read from: its spelling, its slots, and that it is code
-pub record IsReadFrom (n : ℕ) (half : Bool) (bytes : List ℕ) (xs : List (Option Insn)) : Type 0 where
+pub record IsReadFrom (rows : List MapDef) (n : ℕ) (half : Bool) (bytes : List ℕ) (xs : List (Option Insn)) : Type 0 where
   pub spelled : code_bytes xs ≡ rest_of half bytes
   pub count : length xs ≡ n
   pub code : IsCode half xs
+  pub named : NamesMaps rows xs
 
 no_half : (half : Bool) → HasHalf half 0 → half ≡ false
 no_half true h = absurd (omega arith)
 no_half false h = refl
 
-pub code_from-found : Laws → (n : ℕ) (half : Bool) (slot : ℕ) (bytes : List ℕ) (xs : List (Option Insn)) → EachByte bytes → length bytes ≡ 8 * n → HasHalf half n → code_from n half slot bytes ≡ Ok xs → IsReadFrom n half bytes xs
+pub code_from-found : Laws → (rows : List MapDef) (n : ℕ) (half : Bool) (slot : ℕ) (bytes : List ℕ) (xs : List (Option Insn)) → EachByte bytes → length bytes ≡ 8 * n → HasHalf half n → code_from rows n half slot bytes ≡ Ok xs → IsReadFrom rows n half bytes xs
 unfolding code_from
-code_from-found laws zero half slot bytes xs small len room e =
-    subst (λ (ys : Slots). IsReadFrom 0 half bytes ys) (ok_is [] xs e) (record {
+code_from-found laws rows zero half slot bytes xs small len room e =
+    subst (λ (ys : Slots). IsReadFrom rows 0 half bytes ys) (ok_is [] xs e) (record {
       spelled = nothing half bytes (omega arith);
       count = refl;
       code = no_half half room;
+      named = tt;
     })
-code_from-found laws (suc n) true slot bytes xs small len room e =
-    let b = bind_ok (code_from n false (slot + 1) (drop 8 bytes)) (λ ys. slots_ok (None ∷ ys)) xs e in
-    let more = code_from-found laws n false (slot + 1) (drop 8 bytes) b.0 (EachByte-drop 8 bytes small) (omega (arith, length-drop 8 bytes)) tt b.1 in
-    subst (λ (ys : Slots). IsReadFrom (suc n) true bytes ys) (ok_is (None ∷ b.0) xs b.2) (record {
+code_from-found laws rows (suc n) true slot bytes xs small len room e =
+    let b = bind_ok (code_from rows n false (slot + 1) (drop 8 bytes)) (λ ys. slots_ok (None ∷ ys)) xs e in
+    let more = code_from-found laws rows n false (slot + 1) (drop 8 bytes) b.0 (EachByte-drop 8 bytes small) (omega (arith, length-drop 8 bytes)) tt b.1 in
+    subst (λ (ys : Slots). IsReadFrom rows (suc n) true bytes ys) (ok_is (None ∷ b.0) xs b.2) (record {
       spelled = more.spelled;
       count = ap suc more.count;
       code = more.code;
+      named = more.named;
     })
-code_from-found laws (suc n) false slot bytes xs small len room e =
-    let rest = λ (i : Insn). code_from n (is_wide i) (slot + 1) (drop 8 bytes) in
-    let a = bind_ok (insn_at slot bytes) (λ i. rest i >>= λ ys. slots_ok (Some i ∷ ys)) xs e in
+code_from-found laws rows (suc n) false slot bytes xs small len room e =
+    let rest = λ (i : Insn). code_from rows n (is_wide i) (slot + 1) (drop 8 bytes) in
+    let a = bind_ok (insn_at rows slot bytes) (λ i. rest i >>= λ ys. slots_ok (Some i ∷ ys)) xs e in
     let b = bind_ok (rest a.0) (λ ys. slots_ok (Some a.0 ∷ ys)) xs a.2 in
-    let read = at_slot_ok slot (decoded bytes) a.0 a.1 in
-    let spelled = laws.found bytes a.0 small read in
+    let at = insn_at_ok rows slot bytes a.0 a.1 in
+    let spelled = laws.found bytes a.0 small at.decoded in
     let long : slots_of a.0 ≤ suc n = omega (arith, ap length spelled, length-spelling_of a.0, length-take (8 * slots_of a.0) bytes, len) in
-    let more = code_from-found laws n (is_wide a.0) (slot + 1) (drop 8 bytes) b.0 (EachByte-drop 8 bytes small) (omega (arith, length-drop 8 bytes)) (has_half a.0 n long) b.1 in
-    subst (λ (ys : Slots). IsReadFrom (suc n) false bytes ys) (ok_is (Some a.0 ∷ b.0) xs b.2) (record {
+    let more = code_from-found laws rows n (is_wide a.0) (slot + 1) (drop 8 bytes) b.0 (EachByte-drop 8 bytes small) (omega (arith, length-drop 8 bytes)) (has_half a.0 n long) b.1 in
+    subst (λ (ys : Slots). IsReadFrom rows (suc n) false bytes ys) (ok_is (Some a.0 ∷ b.0) xs b.2) (record {
       spelled =
           ap (λ l. spelling_of a.0 ++ l) (more.spelled ∙ after a.0 bytes)
           ∙ ap (λ l. l ++ drop (8 * slots_of a.0) bytes) (sym spelled)
           ∙ take-append-drop (8 * slots_of a.0) bytes;
       count = ap suc more.count;
-      code = (laws.fits bytes a.0 small read, more.code);
+      code = (laws.fits bytes a.0 small at.decoded, more.code);
+      named = (at.named, more.named);
     })
 
 -- ---- and back
 
 -- code is read from its spelling
-pub code_from-code_bytes : Laws → (xs : List (Option Insn)) (half : Bool) (slot : ℕ) (bytes : List ℕ) → IsCode half xs → rest_of half bytes ≡ code_bytes xs → code_from (length xs) half slot bytes ≡ Ok xs
+pub code_from-code_bytes : Laws → (rows : List MapDef) (xs : List (Option Insn)) (half : Bool) (slot : ℕ) (bytes : List ℕ) → IsCode half xs → NamesMaps rows xs → rest_of half bytes ≡ code_bytes xs → code_from rows (length xs) half slot bytes ≡ Ok xs
 unfolding code_from
-code_from-code_bytes laws [] half slot bytes h e = refl
-code_from-code_bytes laws (None ∷ xs) true slot bytes h e =
-    ap (λ (r : Result Slots ImageError). r >>= λ ys. slots_ok (None ∷ ys)) (code_from-code_bytes laws xs false (slot + 1) (drop 8 bytes) h e)
-code_from-code_bytes laws (Some i ∷ xs) true slot bytes h e = absurd h
-code_from-code_bytes laws (None ∷ xs) false slot bytes h e = absurd h
-code_from-code_bytes laws (Some i ∷ xs) false slot bytes h e =
-    let first : insn_at slot bytes ≡ Ok i = ap (at_slot slot) (ap decoded e ∙ laws.again i (code_bytes xs) h.0) in
+code_from-code_bytes laws rows [] half slot bytes h k e = refl
+code_from-code_bytes laws rows (None ∷ xs) true slot bytes h k e =
+    ap (λ (r : Result Slots ImageError). r >>= λ ys. slots_ok (None ∷ ys)) (code_from-code_bytes laws rows xs false (slot + 1) (drop 8 bytes) h k e)
+code_from-code_bytes laws rows (Some i ∷ xs) true slot bytes h k e = absurd h
+code_from-code_bytes laws rows (None ∷ xs) false slot bytes h k e = absurd h
+code_from-code_bytes laws rows (Some i ∷ xs) false slot bytes h k e =
+    let first : insn_at rows slot bytes ≡ Ok i =
+    ap (λ (r : Result Insn CodecError). at_slot slot r >>= λ j. unless (map_refusal rows slot j) j) (ap decoded e ∙ laws.again i (code_bytes xs) h.0)
+    ∙ ap (λ (o : Option ImageError). unless o i) (map_refusal-NamesRows rows slot i k.0) in
     let after_is : rest_of (is_wide i) (drop 8 bytes) ≡ code_bytes xs =
     after i bytes ∙ ap (drop (8 * slots_of i)) e ∙ drop_at (spelling_of i) (code_bytes xs) (8 * slots_of i) (length-spelling_of i) in
-    ap (λ (r : Result Insn ImageError). r >>= λ j. code_from (length xs) (is_wide j) (slot + 1) (drop 8 bytes) >>= λ ys. slots_ok (Some j ∷ ys)) first
-    ∙ ap (λ (r : Result Slots ImageError). r >>= λ ys. slots_ok (Some i ∷ ys)) (code_from-code_bytes laws xs (is_wide i) (slot + 1) (drop 8 bytes) h.1 after_is)
+    ap (λ (r : Result Insn ImageError). r >>= λ j. code_from rows (length xs) (is_wide j) (slot + 1) (drop 8 bytes) >>= λ ys. slots_ok (Some j ∷ ys)) first
+    ∙ ap (λ (r : Result Slots ImageError). r >>= λ ys. slots_ok (Some i ∷ ys)) (code_from-code_bytes laws rows xs (is_wide i) (slot + 1) (drop 8 bytes) h.1 k.1 after_is)
 
 -- how many bytes of a slot that is a second half are spelled before it
 abbrev pub spelled_before : Bool → ℕ
@@ -137,6 +169,8 @@ spelled_before false = 0
 
 wide_before : (i : Insn) → 8 * slots_of i ≡ 8 + spelled_before (is_wide i)
 wide_before (LoadNumber d n) = refl
+wide_before (LoadMap d m) = refl
+wide_before (LoadMapValue d m o) = refl
 wide_before i = refl
 
 -- a spelling has 8 bytes a slot

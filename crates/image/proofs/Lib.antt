@@ -1,4 +1,5 @@
 pub mod Loop
+pub mod RowSpelling
 pub mod CodeSpelling
 pub mod Whole
 pub mod Writing

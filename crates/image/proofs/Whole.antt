@@ -1,27 +1,27 @@
 -- An image's sizes, and the whole of it.
-use Rattle.std.proofs.Common.{◌≡◌, ℕ, zero, suc, ◌-◌, ◌+◌, ◌*◌, ◌/◌, ◌≤◌, ◌<◌, Bool, true, false, cond, List, [], ◌∷◌, ◌++◌, take, drop, length, Option, Some, None, Result, Ok, Err, refl, sym, ap, ◌∙◌, subst, arith, inl, inr, drop-drop, take_all}
-use Rattle.std.specs.Prelude.{◌==◌, ◌⊎◌, nat_lt, nat_eq, not, sum_by, All}
+use Rattle.std.proofs.Common.{◌≡◌, ℕ, zero, suc, ◌-◌, ◌+◌, ◌*◌, ◌/◌, ◌≤◌, Bool, true, false, cond, List, ◌++◌, take, drop, length, Option, Some, None, Result, Ok, Err, refl, sym, ap, ◌∙◌, subst, arith, inl, inr, drop-drop, length-append}
+use Rattle.std.specs.Prelude.{◌==◌, ◌⊎◌, nat_lt, nat_eq, not, sum_by}
 use Rattle.std.specs.List.{starts_with, flat_map}
 use Rattle.std.specs.Option.{option_or}
 use Rattle.std.specs.Result.{result_err}
 use Rattle.std.specs.Cmp.Lexicographic.{same_text}
 use Rattle.std.proofs.Math.Seq.{take-add}
 use Rattle.std.proofs.lemmas.Bool.{ltb-false, le-ltb, ne_eqb}
-use Rattle.std.proofs.lemmas.List.Elements.{All-nil}
-use Rattle.std.proofs.lemmas.List.{length-drop, take-append-drop}
-use Rattle.byteorder.specs.Endian.{little_bytes, little_number}
+use Rattle.std.proofs.lemmas.List.{length-drop, take-append-drop, drop_at}
+use Rattle.byteorder.specs.Endian.{little_bytes}
 use Rattle.byteorder.specs.Numbers.{little_number-reads_back}
 use Rattle.isa_model.specs.declared.map_defs.MapDef.{MapDef}
 use Rattle.isa_model.specs.declared.instructions.Insn.{Insn}
 use Rattle.isa_model.specs.Code.Instructions.{Program}
 use Rattle.isa_model.specs.Code.LittleEndian.{EachByte, EachByte-drop, little_bytes-little_from}
 use Rattle.image.specs.declared.errors.ImageError.{ImageError}
-use Rattle.image.specs.declared.errors.ImageError.TheVariants.{Magic, Short, Long, TooManyMaps, SlotCount, Memory}
-use Rattle.image.specs.declared.head.TheConstants.{MAX_MAPS, MAX_SLOTS}
-use Rattle.image.specs.Images.{magic, row_bytes, head_bytes, code_bytes, image_bytes, IsCode, IsRow, room_of, IsImage}
-use Rattle.image.specs.Programs.{no_maps}
-use Rattle.image.specs.Refusals.{map_count, slot_count, size_of, size_refusal, code_from, code_read, code_refusal, refusal_of}
-use Rattle.image.proofs.CodeSpelling.{Laws, take-rest, IsReadFrom, code_from-found, code_from-code_bytes, length-code_bytes}
+use Rattle.image.specs.declared.errors.ImageError.TheVariants.{Magic, Short, Long, TooManyMaps, SlotCount, MapRoom, Memory}
+use Rattle.image.specs.declared.head.TheConstants.{MAX_MAPS, MAX_MAP_ROOM, MAX_SLOTS}
+use Rattle.image.specs.Images.{magic, row_bytes, head_bytes, code_bytes, image_bytes, IsCode, room_of, IsImage}
+use Rattle.image.specs.Refusals.{◌>>=◌, unless, count_refusal, rows_refusal, maps_refusal, parts_refusal, map_count, slot_count, size_of, size_refusal, rows_from, room_refusal, code_from, rows_read, code_read, program_read, refusal_of}
+use Rattle.image.specs.RowLaws.{All-rows_refusal, NamesMaps-maps_refusal}
+use Rattle.image.proofs.CodeSpelling.{Laws, take-rest, code_from-found, code_from-code_bytes, length-code_bytes}
+use Rattle.image.proofs.RowSpelling.{rows_from-fit, rows_from-found, rows_from-row_bytes, length-rows}
 
 -- ---- the tests of the sizes
 
@@ -59,10 +59,10 @@ passed false true false false false false false h =
 pub record Sizes (bytes : List ℕ) : Type 0 where
   pub long : 8 ≤ length bytes
   pub text : take 4 bytes ≡ magic
-  pub maps : map_count bytes ≡ 0
+  pub maps : map_count bytes ≤ MAX_MAPS
   pub some : 1 ≤ slot_count bytes
   pub few : slot_count bytes ≤ MAX_SLOTS
-  pub whole : length bytes ≡ 8 + 8 * slot_count bytes
+  pub whole : length bytes ≡ 8 + 12 * map_count bytes + 8 * slot_count bytes
 
 not_zero : (n : ℕ) → (n == 0) ≡ false → 1 ≤ n
 not_zero zero h = absurd cc
@@ -74,15 +74,13 @@ sizes bytes h =
     let p = passed (nat_lt (length bytes) 8) (starts_with nat_eq bytes magic) (nat_lt MAX_MAPS (map_count bytes)) (slot_count bytes == 0) (nat_lt MAX_SLOTS (slot_count bytes)) (nat_lt (length bytes) size) (nat_lt size (length bytes)) h in
     let most : length bytes ≤ size_of (map_count bytes) (slot_count bytes) = ltb-false _ _ p.least in
     let least : size_of (map_count bytes) (slot_count bytes) ≤ length bytes = ltb-false _ _ p.most in
-    let none : map_count bytes ≤ MAX_MAPS = ltb-false _ _ p.maps in
-    let no_maps : map_count bytes ≡ 0 = omega (arith, none) in
     record {
       long = ltb-false _ _ p.long;
       text = sym (same_text magic (take 4 bytes) (sym p.text));
-      maps = no_maps;
+      maps = ltb-false _ _ p.maps;
       some = not_zero (slot_count bytes) p.some;
       few = ltb-false _ _ p.few;
-      whole = omega (arith, most, least, no_maps);
+      whole = omega (arith, most, least);
     }
 
 -- ---- bytes to images
@@ -90,144 +88,240 @@ sizes bytes h =
 abbrev pub Slots : Type 0
 Slots = List (Option Insn)
 
-abbrev no_rows : List MapDef
-no_rows = []
+abbrev pub parts : List MapDef → List (Option Insn) → Program
+parts rows xs = record { insns = xs; maps = rows }
 
-abbrev pub program_of : List (Option Insn) → Program
-program_of xs = record { insns = xs; maps = [] }
+abbrev program_ok : Program → Result Program ImageError
+program_ok p = Ok p
 
--- the code of an image with no rows stands after its head
-code_behind : (bytes : List ℕ) → map_count bytes ≡ 0 → drop (8 + 12 * map_count bytes) bytes ≡ drop 8 bytes
-code_behind bytes h = ap (λ (k : ℕ). drop (8 + 12 * k) bytes) h
-
-pub code_read-slice : (bytes : List ℕ) → Sizes bytes → code_from (length (take (length bytes - 8) (drop 8 bytes)) / 8) false 0 (take (length bytes - 8) (drop 8 bytes)) ≡ code_read bytes
-code_read-slice bytes s =
-    let count : length (drop 8 bytes) / 8 ≡ slot_count bytes = omega (arith, s.whole, length-drop 8 bytes) in
-    ap (λ (l : List ℕ). code_from (length l / 8) false 0 l) (take-rest 8 bytes)
-    ∙ ap (λ (n : ℕ). code_from n false 0 (drop 8 bytes)) count
-    ∙ ap (λ (l : List ℕ). code_from (slot_count bytes) false 0 l) (sym (code_behind bytes s.maps))
+pub same_program : (p q : Program) → program_ok p ≡ program_ok q → p ≡ q
+same_program p q e = cc
 
 -- the 8 bytes of the head
-head_spelled : (bytes : List ℕ) (n : ℕ) → EachByte bytes → Sizes bytes → n ≡ slot_count bytes → magic ++ (little_bytes 2 0 ++ little_bytes 2 n) ≡ take 8 bytes
-head_spelled bytes n small s count =
-    let maps : little_bytes 2 0 ≡ take 2 (drop 4 bytes) =
-    ap (little_bytes 2) (sym s.maps) ∙ little_bytes-little_from 2 0 (drop 4 bytes) (EachByte-drop 4 bytes small) (omega (arith, s.long, length-drop 4 bytes)) in
+head_spelled : (bytes : List ℕ) (m n : ℕ) → EachByte bytes → Sizes bytes → m ≡ map_count bytes → n ≡ slot_count bytes → magic ++ (little_bytes 2 m ++ little_bytes 2 n) ≡ take 8 bytes
+head_spelled bytes m n small s rows count =
+    let maps : little_bytes 2 m ≡ take 2 (drop 4 bytes) =
+    ap (little_bytes 2) rows ∙ little_bytes-little_from 2 0 (drop 4 bytes) (EachByte-drop 4 bytes small) (omega (arith, s.long, length-drop 4 bytes)) in
     let slots : little_bytes 2 n ≡ take 2 (drop 6 bytes) =
     ap (little_bytes 2) count ∙ little_bytes-little_from 2 0 (drop 6 bytes) (EachByte-drop 6 bytes small) (omega (arith, s.long, length-drop 6 bytes)) in
     let counts : take 4 (drop 4 bytes) ≡ take 2 (drop 4 bytes) ++ take 2 (drop 6 bytes) =
     take-add 2 2 (drop 4 bytes) ∙ ap (λ (l : List ℕ). take 2 (drop 4 bytes) ++ take 2 l) (drop-drop 2 4 bytes) in
-    ap (λ (l : List ℕ). l ++ (little_bytes 2 0 ++ little_bytes 2 n)) (sym s.text)
+    ap (λ (l : List ℕ). l ++ (little_bytes 2 m ++ little_bytes 2 n)) (sym s.text)
     ∙ ap (λ (l : List ℕ). take 4 bytes ++ (l ++ little_bytes 2 n)) maps
     ∙ ap (λ (l : List ℕ). take 4 bytes ++ (take 2 (drop 4 bytes) ++ l)) slots
     ∙ ap (λ (l : List ℕ). take 4 bytes ++ l) (sym counts)
     ∙ sym (take-add 4 4 bytes)
 
--- what was read is an image, and the bytes are its own
-pub record IsParsed (bytes : List ℕ) (xs : List (Option Insn)) : Type 0 where
-  pub spelled : bytes ≡ image_bytes (program_of xs)
-  pub image : IsImage (program_of xs)
+-- what was read: its rows and its code
+record Read (bytes : List ℕ) (p : Program) : Type 0 where
+  rows : rows_from (map_count bytes) 0 (drop 8 bytes) ≡ Ok p.maps
+  room : room_refusal p.maps ≡ None
+  code : code_read bytes p.maps ≡ Ok p.insns
 
-pub code_read-found : Laws → (bytes : List ℕ) (xs : List (Option Insn)) → EachByte bytes → Sizes bytes → code_read bytes ≡ Ok xs → IsParsed bytes xs
+bind : {A B : Type 0} (r : Result A ImageError) (f : A → Result B ImageError) (y : B) → (r >>= f) ≡ Ok y → (x : A) × (r ≡ Ok x) × (f x ≡ Ok y)
+bind (Ok x) f y e = (x, refl, e)
+bind (Err d) f y e = absurd cc
+
+abbrev rows_ok : List MapDef → Result (List MapDef) ImageError
+rows_ok rows = Ok rows
+
+same_rows : (x y : List MapDef) → rows_ok x ≡ rows_ok y → x ≡ y
+same_rows x y e = cc
+
+unless_ok : (o : Option ImageError) (x y : List MapDef) → unless o x ≡ Ok y → (o ≡ None) × (x ≡ y)
+unless_ok None x y e = (refl, same_rows x y e)
+unless_ok (Some d) x y e = absurd cc
+
+read : (bytes : List ℕ) (p : Program) → program_read bytes ≡ Ok p → Read bytes p
+read bytes p e =
+    let a = bind (rows_read bytes) (λ rows. code_read bytes rows >>= λ xs. program_ok (parts rows xs)) p e in
+    let c = bind (code_read bytes a.0) (λ xs. program_ok (parts a.0 xs)) p a.2 in
+    let r = bind (rows_from (map_count bytes) 0 (drop 8 bytes)) (λ rows. unless (room_refusal rows) rows) a.0 a.1 in
+    let u = unless_ok (room_refusal r.0) r.0 a.0 r.2 in
+    subst (Read bytes) (same_program (parts a.0 c.0) p c.2) (record {
+      rows = r.1 ∙ ap rows_ok u.1;
+      room = ap room_refusal (sym u.1) ∙ u.0;
+      code = c.1;
+    })
+
+room_within : (rows : List MapDef) → room_refusal rows ≡ None → sum_by room_of rows ≤ MAX_MAP_ROOM
+room_within rows h = ltb-false MAX_MAP_ROOM (sum_by room_of rows) (passes (nat_lt MAX_MAP_ROOM (sum_by room_of rows)) h)
+  where
+    passes : (b : Bool) → cond b (refused MapRoom) None ≡ None → b ≡ false
+    passes true e = absurd cc
+    passes false e = refl
+
+within_room : (rows : List MapDef) → sum_by room_of rows ≤ MAX_MAP_ROOM → room_refusal rows ≡ None
+within_room rows h = ap (λ (b : Bool). cond b (refused MapRoom) None) (le-ltb MAX_MAP_ROOM (sum_by room_of rows) h)
+
+-- what was read is an image, and the bytes are its own
+pub record IsParsed (bytes : List ℕ) (p : Program) : Type 0 where
+  pub spelled : bytes ≡ image_bytes p
+  pub image : IsImage p
+
+pub program_read-found : Laws → (bytes : List ℕ) (p : Program) → EachByte bytes → Sizes bytes → program_read bytes ≡ Ok p → IsParsed bytes p
 unfolding image_bytes
-code_read-found laws bytes xs small s e =
+program_read-found laws bytes p small s e =
+    let m = map_count bytes in
     let n = slot_count bytes in
-    let read = ap (λ (l : List ℕ). code_from n false 0 l) (sym (code_behind bytes s.maps)) ∙ e in
-    let found = code_from-found laws n false 0 (drop 8 bytes) xs (EachByte-drop 8 bytes small) (omega (arith, s.whole, length-drop 8 bytes)) tt read in
+    let k = read bytes p e in
+    let rows = rows_from-fit m 0 (drop 8 bytes) p.maps k.rows in
+    let rows_are : flat_map row_bytes p.maps ≡ take (12 * m) (drop 8 bytes) = rows_from-found m 0 (drop 8 bytes) p.maps (EachByte-drop 8 bytes small) (omega (arith, s.whole, length-drop 8 bytes)) k.rows in
+    let found = code_from-found laws p.maps n false 0 (drop (8 + 12 * m) bytes) p.insns (EachByte-drop (8 + 12 * m) bytes small) (omega (arith, s.whole, length-drop (8 + 12 * m) bytes)) tt k.code in
     record {
       spelled =
           sym (take-append-drop 8 bytes)
-          ∙ ap (λ (l : List ℕ). l ++ drop 8 bytes) (sym (head_spelled bytes (length xs) small s found.count))
-          ∙ ap (λ (l : List ℕ). (magic ++ (little_bytes 2 0 ++ little_bytes 2 (length xs))) ++ l) (sym found.spelled);
+          ∙ ap (λ (l : List ℕ). l ++ drop 8 bytes) (sym (head_spelled bytes (length p.maps) (length p.insns) small s rows.0 found.count))
+          ∙ ap (λ (l : List ℕ). head_bytes p ++ l) (sym (take-append-drop (12 * m) (drop 8 bytes))
+          ∙ ap (λ (l : List ℕ). l ++ drop (12 * m) (drop 8 bytes)) (sym rows_are)
+          ∙ ap (λ (l : List ℕ). flat_map row_bytes p.maps ++ l) (drop-drop (12 * m) 8 bytes ∙ sym found.spelled));
       image = record {
-        few_maps = omega arith;
-        rows = All-nil IsRow;
-        room = omega arith;
+        few_maps = omega (arith, rows.0, s.maps);
+        rows = rows.1;
+        room = room_within p.maps k.room;
         some_slots = omega (arith, found.count, s.some);
         few_slots = omega (arith, found.count, s.few);
         code = found.code;
+        named = found.named;
       };
     }
 
 -- ---- images to bytes
 
-abbrev plain_bytes : ℕ → List ℕ → List ℕ
-plain_bytes n code = (magic ++ (little_bytes 2 0 ++ little_bytes 2 n)) ++ code
+abbrev whole_bytes : ℕ → ℕ → List ℕ → List ℕ
+whole_bytes m n rest = (magic ++ (little_bytes 2 m ++ little_bytes 2 n)) ++ rest
 
-slot_count-plain_bytes : (n : ℕ) (code : List ℕ) → n ≤ MAX_SLOTS → slot_count (plain_bytes n code) ≡ n
-slot_count-plain_bytes n code h = little_number-reads_back 2 n code (omega arith)
+map_count-whole_bytes : (m n : ℕ) (rest : List ℕ) → m ≤ MAX_MAPS → map_count (whole_bytes m n rest) ≡ m
+map_count-whole_bytes m n rest h = little_number-reads_back 2 m (little_bytes 2 n ++ rest) (omega arith)
+
+slot_count-whole_bytes : (m n : ℕ) (rest : List ℕ) → n ≤ MAX_SLOTS → slot_count (whole_bytes m n rest) ≡ n
+slot_count-whole_bytes m n rest h = little_number-reads_back 2 n rest (omega arith)
 
 some_not_zero : (n : ℕ) → 1 ≤ n → (n == 0) ≡ false
 some_not_zero n h = ne_eqb n 0 (λ (e : n ≡ 0). omega arith)
 
-size_refusal-plain_bytes : (n : ℕ) (code : List ℕ) → 1 ≤ n → n ≤ MAX_SLOTS → length code ≡ 8 * n → size_refusal (plain_bytes n code) ≡ None
-size_refusal-plain_bytes n code some few len =
-    let bytes = plain_bytes n code in
+size_refusal-whole_bytes : (m n : ℕ) (rest : List ℕ) → m ≤ MAX_MAPS → 1 ≤ n → n ≤ MAX_SLOTS → length rest ≡ 12 * m + 8 * n → size_refusal (whole_bytes m n rest) ≡ None
+size_refusal-whole_bytes m n rest maps some few len =
+    let bytes = whole_bytes m n rest in
     let size = size_of (map_count bytes) (slot_count bytes) in
-    let count : slot_count bytes ≡ n = slot_count-plain_bytes n code few in
+    let rows : map_count bytes ≡ m = map_count-whole_bytes m n rest maps in
+    let count : slot_count bytes ≡ n = slot_count-whole_bytes m n rest few in
     tests-pass (nat_lt (length bytes) 8) (starts_with nat_eq bytes magic) (nat_lt MAX_MAPS (map_count bytes)) (slot_count bytes == 0) (nat_lt MAX_SLOTS (slot_count bytes)) (nat_lt (length bytes) size) (nat_lt size (length bytes))
-    (le-ltb _ _ (omega arith)) refl refl
+    (le-ltb _ _ (omega arith)) refl
+    (le-ltb _ _ (omega (arith, rows)))
     (ap (λ (k : ℕ). k == 0) count ∙ some_not_zero n some)
     (le-ltb _ _ (omega (arith, count)))
-    (le-ltb _ _ (omega (arith, count)))
-    (le-ltb _ _ (omega (arith, count)))
+    (le-ltb _ _ (omega (arith, count, rows, len)))
+    (le-ltb _ _ (omega (arith, count, rows, len)))
 
 -- an image is read
 pub record IsRead (bytes : List ℕ) (p : Program) : Type 0 where
   pub sizes : size_refusal bytes ≡ None
-  pub code : code_read bytes ≡ Ok p.insns
-  pub program : program_of p.insns ≡ p
+  pub program : program_read bytes ≡ Ok p
 
-image_bytes-plain : (p : Program) → p.maps ≡ [] → image_bytes p ≡ plain_bytes (length p.insns) (code_bytes p.insns)
+-- the head, the rows and the code that are written
+pub image_bytes-written : (p q : Program) (head : List ℕ) (m n : ℕ) → p ≡ q → head ≡ magic ++ (little_bytes 2 m ++ little_bytes 2 n) → m ≡ length p.maps → n ≡ length p.insns → head ++ (flat_map row_bytes p.maps ++ code_bytes p.insns) ≡ image_bytes q
 unfolding image_bytes
-image_bytes-plain p h = ap (λ (rows : List MapDef). (magic ++ (little_bytes 2 (length rows) ++ little_bytes 2 (length p.insns))) ++ (flat_map row_bytes rows ++ code_bytes p.insns)) h
-
--- an image is its head and its code: it has no rows
-image_bytes-parts : (p : Program) → IsImage p → image_bytes p ≡ head_bytes p ++ code_bytes p.insns
-unfolding image_bytes
-image_bytes-parts p h = ap (λ (rows : List MapDef). head_bytes p ++ (flat_map row_bytes rows ++ code_bytes p.insns)) (no_maps p h)
-
--- the head and the code that are written
-pub image_bytes-written : (p q : Program) (head : List ℕ) (m n : ℕ) → IsImage p → p ≡ q → head ≡ magic ++ (little_bytes 2 m ++ little_bytes 2 n) → m ≡ length p.maps → n ≡ length p.insns → head ++ code_bytes p.insns ≡ image_bytes q
-image_bytes-written p q head m n h same e maps slots =
-    ap (λ (l : List ℕ). l ++ code_bytes p.insns) (e ∙ ap (λ (k : ℕ). magic ++ (little_bytes 2 k ++ little_bytes 2 n)) maps ∙ ap (λ (k : ℕ). magic ++ (little_bytes 2 (length p.maps) ++ little_bytes 2 k)) slots)
-    ∙ sym (image_bytes-parts p h)
+image_bytes-written p q head m n same e maps slots =
+    ap (λ (l : List ℕ). l ++ (flat_map row_bytes p.maps ++ code_bytes p.insns)) (e ∙ ap (λ (k : ℕ). magic ++ (little_bytes 2 k ++ little_bytes 2 n)) maps ∙ ap (λ (k : ℕ). magic ++ (little_bytes 2 (length p.maps) ++ little_bytes 2 k)) slots)
     ∙ ap image_bytes same
 
-code_read-plain_bytes : Laws → (xs : List (Option Insn)) → IsCode false xs → length xs ≤ MAX_SLOTS → code_read (plain_bytes (length xs) (code_bytes xs)) ≡ Ok xs
-code_read-plain_bytes laws xs h few =
-    ap (λ (n : ℕ). code_from n false 0 (code_bytes xs)) (slot_count-plain_bytes (length xs) (code_bytes xs) few)
-    ∙ code_from-code_bytes laws xs false 0 (code_bytes xs) h refl
-
 pub image_bytes-read : Laws → (bytes : List ℕ) (p : Program) → IsImage p → bytes ≡ image_bytes p → IsRead bytes p
+unfolding image_bytes
 image_bytes-read laws bytes p h e =
-    let none = no_maps p h in
-    let plain = e ∙ image_bytes-plain p none in
-    let len : length (code_bytes p.insns) ≡ 8 * length p.insns = omega (arith, length-code_bytes p.insns false h.code) in
+    let m = length p.maps in
+    let n = length p.insns in
+    let rows = flat_map row_bytes p.maps in
+    let code = code_bytes p.insns in
+    let plain : bytes ≡ whole_bytes m n (rows ++ code) = e in
+    let rows_long : length rows ≡ 12 * m = length-rows p.maps in
+    let code_long : length code ≡ 8 * n = omega (arith, length-code_bytes p.insns false h.code) in
+    let maps : map_count bytes ≡ m = ap map_count plain ∙ map_count-whole_bytes m n (rows ++ code) h.few_maps in
+    let slots : slot_count bytes ≡ n = ap slot_count plain ∙ slot_count-whole_bytes m n (rows ++ code) h.few_slots in
+    let behind : drop 8 bytes ≡ rows ++ code = ap (drop 8) plain in
+    let last : drop (8 + 12 * map_count bytes) bytes ≡ code =
+    ap (λ (k : ℕ). drop (8 + 12 * k) bytes) maps ∙ sym (drop-drop (12 * m) 8 bytes) ∙ ap (drop (12 * m)) behind ∙ drop_at rows code (12 * m) rows_long in
+    let rows_are : rows_read bytes ≡ Ok p.maps =
+    ap (λ (r : Result (List MapDef) ImageError). r >>= λ l. unless (room_refusal l) l)
+    (ap (λ (k : ℕ). rows_from k 0 (drop 8 bytes)) maps ∙ rows_from-row_bytes p.maps 0 (drop 8 bytes) code h.rows behind)
+    ∙ ap (λ (o : Option ImageError). unless o p.maps) (within_room p.maps h.room) in
+    let code_is : code_read bytes p.maps ≡ Ok p.insns =
+    ap (λ (k : ℕ). code_from p.maps k false 0 (drop (8 + 12 * map_count bytes) bytes)) slots
+    ∙ code_from-code_bytes laws p.maps p.insns false 0 (drop (8 + 12 * map_count bytes) bytes) h.code h.named last in
     record {
-      sizes = ap size_refusal plain ∙ size_refusal-plain_bytes (length p.insns) (code_bytes p.insns) h.some_slots h.few_slots len;
-      code = ap code_read plain ∙ code_read-plain_bytes laws p.insns h.code h.few_slots;
-      program = ap (λ (rows : List MapDef). let q : Program = record { insns = p.insns; maps = rows } in q) (sym none);
+      sizes = ap size_refusal plain ∙ size_refusal-whole_bytes m n (rows ++ code) h.few_maps h.some_slots h.few_slots (omega (arith, length-append rows code, rows_long, code_long));
+      program =
+          ap (λ (r : Result (List MapDef) ImageError). r >>= λ l. code_read bytes l >>= λ xs. program_ok (parts l xs)) rows_are
+          ∙ ap (λ (r : Result Slots ImageError). r >>= λ xs. program_ok (parts p.maps xs)) code_is;
+    }
+
+-- ---- the parts, as they are read
+
+pub rows_from-slice : (bytes : List ℕ) (count : ℕ) → count ≡ map_count bytes → rows_from count 0 (take (length bytes - 8) (drop 8 bytes)) ≡ rows_from (map_count bytes) 0 (drop 8 bytes)
+rows_from-slice bytes count e =
+    ap (λ (l : List ℕ). rows_from count 0 l) (take-rest 8 bytes) ∙ ap (λ (k : ℕ). rows_from k 0 (drop 8 bytes)) e
+
+pub code_read-slice : (bytes : List ℕ) (count : ℕ) (rows : List MapDef) → Sizes bytes → count ≡ map_count bytes
+    → code_from rows (length (take (length bytes - (8 + 12 * count)) (drop (8 + 12 * count) bytes)) / 8) false 0 (take (length bytes - (8 + 12 * count)) (drop (8 + 12 * count) bytes)) ≡ code_read bytes rows
+code_read-slice bytes count rows s e =
+    let slots : length (drop (8 + 12 * map_count bytes) bytes) / 8 ≡ slot_count bytes = omega (arith, s.whole, length-drop (8 + 12 * map_count bytes) bytes) in
+    ap (λ (l : List ℕ). code_from rows (length l / 8) false 0 l) (take-rest (8 + 12 * count) bytes)
+    ∙ ap (λ (k : ℕ). code_from rows (length (drop (8 + 12 * k) bytes) / 8) false 0 (drop (8 + 12 * k) bytes)) e
+    ∙ ap (λ (n : ℕ). code_from rows n false 0 (drop (8 + 12 * map_count bytes) bytes)) slots
+
+-- where the rows were read, the code decides
+pub program_read-code : (bytes : List ℕ) (rows : List MapDef) (r : Result Slots ImageError) → rows_from (map_count bytes) 0 (drop 8 bytes) ≡ Ok rows → room_refusal rows ≡ None → code_read bytes rows ≡ r → program_read bytes ≡ (r >>= λ xs. program_ok (parts rows xs))
+program_read-code bytes rows r h room e =
+    ap (λ (x : Result (List MapDef) ImageError). (x >>= λ l. unless (room_refusal l) l) >>= λ l. code_read bytes l >>= λ xs. program_ok (parts l xs)) h
+    ∙ ap (λ (o : Option ImageError). unless o rows >>= λ l. code_read bytes l >>= λ xs. program_ok (parts l xs)) room
+    ∙ ap (λ (x : Result Slots ImageError). x >>= λ xs. program_ok (parts rows xs)) e
+
+pub code_fails : (bytes : List ℕ) (rows : List MapDef) (e : ImageError) → rows_from (map_count bytes) 0 (drop 8 bytes) ≡ Ok rows → room_refusal rows ≡ None → (e ≡ Memory) ⊎ (code_read bytes rows ≡ Err e) → (e ≡ Memory) ⊎ (program_read bytes ≡ Err e)
+code_fails bytes rows e h room (inl m) = inl m
+code_fails bytes rows e h room (inr r) = inr (program_read-code bytes rows (Err e) h room r)
+
+-- ---- parts that are given
+
+gate : (b : Bool) (e : ImageError) (o : Option ImageError) → cond b (refused e) o ≡ None → (b ≡ false) × (o ≡ None)
+gate true e o h = absurd cc
+gate false e o h = (refl, h)
+
+neither : (a b : Option ImageError) → option_or a b ≡ None → (a ≡ None) × (b ≡ None)
+neither None b h = (refl, h)
+neither (Some e) b h = absurd cc
+
+pub IsImage-parts : (rows : List MapDef) (xs : List (Option Insn)) → parts_refusal rows xs ≡ None → IsCode false xs → IsImage (parts rows xs)
+IsImage-parts rows xs h code =
+    let n = length xs in
+    let few = gate (nat_lt MAX_MAPS (length rows)) TooManyMaps _ h in
+    let counts = neither (count_refusal n) _ few.1 in
+    let some = gate (n == 0) SlotCount _ counts.0 in
+    let most = gate (nat_lt MAX_SLOTS n) SlotCount None some.1 in
+    let limits = neither (rows_refusal 0 rows) _ counts.1 in
+    let rest = neither (room_refusal rows) (maps_refusal rows 0 xs) limits.1 in
+    record {
+      few_maps = ltb-false _ _ few.0;
+      rows = All-rows_refusal 0 rows limits.0;
+      room = room_within rows rest.0;
+      some_slots = not_zero n some.0;
+      few_slots = ltb-false _ _ most.0;
+      code = code;
+      named = NamesMaps-maps_refusal rows 0 xs rest.1;
     }
 
 -- ---- refusals
 
 pub refusal_of-sizes : (bytes : List ℕ) (e : ImageError) → size_refusal bytes ≡ Some e → refusal_of bytes ≡ Some e
 unfolding refusal_of
-refusal_of-sizes bytes e h = ap (λ (o : Option ImageError). option_or o (code_refusal bytes)) h
+refusal_of-sizes bytes e h = ap (λ (o : Option ImageError). option_or o (result_err (program_read bytes))) h
 
--- where the sizes are right, the code decides
-pub refusal_of-code : (bytes : List ℕ) (r : Result Slots ImageError) → size_refusal bytes ≡ None → code_read bytes ≡ r → refusal_of bytes ≡ result_err r
+-- where the sizes are right, the rows and the code decide
+pub refusal_of-program : (bytes : List ℕ) (r : Result Program ImageError) → size_refusal bytes ≡ None → program_read bytes ≡ r → refusal_of bytes ≡ result_err r
 unfolding refusal_of
-refusal_of-code bytes r h e = ap (λ (o : Option ImageError). option_or o (code_refusal bytes)) h ∙ ap result_err e
+refusal_of-program bytes r h e = ap (λ (o : Option ImageError). option_or o (result_err (program_read bytes))) h ∙ ap result_err e
 
 pub not_both : (bytes : List ℕ) (e : ImageError) → size_refusal bytes ≡ Some e → size_refusal bytes ≡ None → ⊥
 not_both bytes e h k = cc
 
-pub not_err : (bytes : List ℕ) (e : ImageError) (xs : List (Option Insn)) → code_read bytes ≡ Err e → code_read bytes ≡ Ok xs → ⊥
-not_err bytes e xs h k = cc
-
-abbrev slots_ok : Slots → Result Slots ImageError
-slots_ok xs = Ok xs
-
-pub same_slots : (bytes : List ℕ) (xs ys : List (Option Insn)) → code_read bytes ≡ Ok xs → code_read bytes ≡ Ok ys → xs ≡ ys
-same_slots bytes xs ys h k = let e : slots_ok xs ≡ slots_ok ys = sym h ∙ k in cc
+pub not_err : (bytes : List ℕ) (e : ImageError) (p : Program) → program_read bytes ≡ Err e → program_read bytes ≡ Ok p → ⊥
+not_err bytes e p h k = cc

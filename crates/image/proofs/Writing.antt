@@ -1,16 +1,17 @@
 -- Code and images that were written in part.
-use Rattle.std.proofs.Common.{◌≡◌, ℕ, suc, ◌+◌, ◌<◌, List, [], ◌∷◌, ◌++◌, take, drop, length, get_or, Option, Some, None, Result, Ok, Err, refl, sym, ap, ◌∙◌, subst, drop-cons}
+use Rattle.std.proofs.Common.{◌≡◌, ℕ, suc, ◌+◌, ◌<◌, List, [], ◌∷◌, ◌++◌, take, drop, length, get_or, Option, Some, None, Result, Ok, Err, sym, ap, ◌∙◌, subst, drop-cons}
 use Rattle.std.specs.Prelude.{OnOk, OnErr}
 use Rattle.std.specs.List.{flat_map}
 use Rattle.std.proofs.lemmas.Grind.{flat_map-append}
-use Rattle.std.proofs.lemmas.List.{take-append-drop}
+use Rattle.std.proofs.lemmas.List.{take-append-drop, take_more}
 use Rattle.std.specs.Io.KnownBytes.{Appends}
 use Rattle.std.proofs.KnownBytes.{Appends-trans}
+use Rattle.isa_model.specs.declared.map_defs.MapDef.{MapDef}
 use Rattle.isa_model.specs.declared.instructions.Insn.{Insn}
 use Rattle.isa_model.specs.Code.Spelling.{spelling_of}
 use Rattle.exact_io.specs.Transfers.{AppendsBeginning}
 use Rattle.exact_io.specs.TransferLaws.{AppendsBeginning-first, AppendsBeginning-second}
-use Rattle.image.specs.Images.{slot_spelling, code_bytes}
+use Rattle.image.specs.Images.{row_bytes, slot_spelling, code_bytes}
 
 abbrev Slots : Type 0
 Slots = List (Option Insn)
@@ -45,3 +46,28 @@ second_fails (Err e) old mid new front rest p q = AppendsBeginning-second old mi
 pub second_written : {X E : Type 0} (r : Result X E) (old mid new : Option (List ℕ)) (front rest : List ℕ) → Appends old mid front → OnOk r (Appends mid new rest) → OnOk r (Appends old new (front ++ rest))
 second_written (Ok x) old mid new front rest p q = Appends-trans old mid new front rest p q
 second_written (Err e) old mid new front rest p q = tt
+
+-- ---- map rows
+
+-- the spelling of rows, in three parts at one of them
+rows-split : (rows : List MapDef) (k : ℕ) (d : MapDef) → k < length rows → flat_map row_bytes rows ≡ flat_map row_bytes (take k rows) ++ (row_bytes (get_or rows k d) ++ flat_map row_bytes (drop (suc k) rows))
+rows-split rows k d lt =
+    ap (λ (l : List MapDef). flat_map row_bytes l) (sym (take-append-drop k rows))
+    ∙ flat_map-append row_bytes (take k rows) (drop k rows)
+    ∙ ap (λ (l : List MapDef). flat_map row_bytes (take k rows) ++ flat_map row_bytes l) (drop-cons rows k d lt)
+
+-- after the rows before it, a part of a row was written
+pub AppendsBeginning-rows : (old mid new : Option (List ℕ)) (rows : List MapDef) (k : ℕ) (d : MapDef) → k < length rows → Appends old mid (flat_map row_bytes (take k rows)) → AppendsBeginning mid new (row_bytes (get_or rows k d)) → AppendsBeginning old new (flat_map row_bytes rows)
+AppendsBeginning-rows old mid new rows k d lt before part =
+    let rest = flat_map row_bytes (drop (suc k) rows) in
+    subst (λ (l : List ℕ). AppendsBeginning old new l) (sym (rows-split rows k d lt))
+    (AppendsBeginning-second old mid new (flat_map row_bytes (take k rows)) (row_bytes (get_or rows k d) ++ rest) before
+    (AppendsBeginning-first mid new (row_bytes (get_or rows k d)) rest part))
+
+-- after the rows before it, a row was written
+pub Appends-rows : (old mid new : Option (List ℕ)) (rows : List MapDef) (k : ℕ) (d : MapDef) → k < length rows → Appends old mid (flat_map row_bytes (take k rows)) → Appends mid new (row_bytes (get_or rows k d)) → Appends old new (flat_map row_bytes (take (k + 1) rows))
+Appends-rows old mid new rows k d lt before row =
+    let all : flat_map row_bytes (take (k + 1) rows) ≡ flat_map row_bytes (take k rows) ++ row_bytes (get_or rows k d) =
+    ap (λ (l : List MapDef). flat_map row_bytes l) (take_more rows k d lt) ∙ flat_map-append row_bytes (take k rows) (get_or rows k d ∷ []) in
+    subst (λ (l : List ℕ). Appends old new l) (sym all)
+    (Appends-trans old mid new (flat_map row_bytes (take k rows)) (row_bytes (get_or rows k d)) before row)

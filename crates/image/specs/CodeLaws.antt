@@ -1,7 +1,7 @@
 -- Instructions in a row, and their slots.
-use Rattle.std.proofs.Common.{◌≡◌, ◌≢◌, ℕ, ◌+◌, Bool, true, false, List, [], ◌∷◌, ◌++◌, length, Option, Some, None, refl, sym, ap, ◌∙◌, subst, arith, length-append}
+use Rattle.std.proofs.Common.{◌≡◌, ◌≢◌, ◌+◌, Bool, true, false, List, [], ◌∷◌, ◌++◌, length, Option, Some, None, refl, ap, ◌∙◌, arith, length-append}
 use Rattle.isa_model.specs.declared.instructions.Insn.{Insn}
-use Rattle.isa_model.specs.declared.instructions.Insn.TheVariants.{LoadNumber}
+use Rattle.isa_model.specs.declared.instructions.Insn.TheVariants.{LoadNumber, LoadMap, LoadMapValue}
 use Rattle.isa_model.specs.Code.Instructions.{slots, slots_of}
 use Rattle.isa_model.specs.Code.Spelling.{InsnFits}
 use Rattle.isa_model.specs.Text.CanonicalText.{instructions}
@@ -18,20 +18,29 @@ AllFit (i ∷ is) = InsnFits i × AllFit is
 pub slots-append : (is js : List Insn) → slots (is ++ js) ≡ slots is ++ slots js
 slots-append [] js = refl
 slots-append (LoadNumber d n ∷ is) js = ap (λ (l : Slots). Some (LoadNumber d n) ∷ None ∷ l) (slots-append is js)
+slots-append (LoadMap d m ∷ is) js = ap (λ (l : Slots). Some (LoadMap d m) ∷ None ∷ l) (slots-append is js)
+slots-append (LoadMapValue d m o ∷ is) js =
+    ap (λ (l : Slots). Some (LoadMapValue d m o) ∷ None ∷ l) (slots-append is js)
 slots-append (i ∷ is) js = ap (λ (l : Slots). Some i ∷ l) (slots-append is js)
 
 -- an instruction of two slots
 pub slots-two : (i : Insn) → slots_of i ≡ 2 → slots (i ∷ []) ≡ Some i ∷ None ∷ []
 slots-two (LoadNumber d n) h = refl
+slots-two (LoadMap d m) h = refl
+slots-two (LoadMapValue d m o) h = refl
 slots-two i h = absurd (omega arith)
 
 -- and of one
 pub slots-one : (i : Insn) → slots_of i ≢ 2 → slots (i ∷ []) ≡ Some i ∷ []
 slots-one (LoadNumber d n) h = absurd (h refl)
+slots-one (LoadMap d m) h = absurd (h refl)
+slots-one (LoadMapValue d m o) h = absurd (h refl)
 slots-one i h = refl
 
 pub length-slots : (i : Insn) → length (slots (i ∷ [])) ≡ slots_of i
 length-slots (LoadNumber d n) = refl
+length-slots (LoadMap d m) = refl
+length-slots (LoadMapValue d m o) = refl
 length-slots i = refl
 
 -- one more instruction adds its slots
@@ -40,6 +49,8 @@ length-slots-more is i = ap (λ (l : Slots). length l) (slots-append is (i ∷ [
 
 pub IsCode-one : (i : Insn) → InsnFits i → IsCode false (slots (i ∷ []))
 IsCode-one (LoadNumber d n) h = (h, refl)
+IsCode-one (LoadMap d m) h = (h, refl)
+IsCode-one (LoadMapValue d m o) h = (h, refl)
 IsCode-one i h = (h, refl)
 
 pub IsCode-append : (xs ys : List (Option Insn)) (half : Bool) → IsCode half xs → IsCode false ys → IsCode half (xs ++ ys)
@@ -57,6 +68,8 @@ halves false is = slots is
 
 front : (i : Insn) (is : List Insn) → slots (i ∷ is) ≡ Some i ∷ halves (is_wide i) is
 front (LoadNumber d n) is = refl
+front (LoadMap d m) is = refl
+front (LoadMapValue d m o) is = refl
 front i is = refl
 
 halves-instructions : (xs : List (Option Insn)) (half : Bool) → IsCode half xs → halves half (instructions xs) ≡ xs

@@ -1,12 +1,14 @@
 -- What holds of each slot of an image's program.
-use Rattle.std.proofs.Common.{◌≡◌, ℕ, zero, suc, ◌+◌, ◌<◌, Bool, true, false, List, [], ◌∷◌, length, Option, Some, None, refl, sym, ap, ◌∙◌, subst, inl, inr, arith}
+use Rattle.std.proofs.Common.{◌≡◌, ℕ, zero, suc, ◌+◌, ◌<◌, Bool, true, false, List, [], ◌∷◌, length, Option, Some, None, refl, ap, ◌∙◌, subst, inl, inr, arith}
 use Rattle.std.specs.Prelude.{slice_get, ◌⊎◌}
 use Rattle.std.specs.Option.{option_flatten}
+use Rattle.isa_model.specs.declared.map_defs.MapDef.{MapDef}
 use Rattle.isa_model.specs.declared.instructions.Insn.{Insn}
-use Rattle.isa_model.specs.declared.instructions.Insn.TheVariants.{LoadNumber}
+use Rattle.isa_model.specs.declared.instructions.Insn.TheVariants.{LoadNumber, LoadMap, LoadMapValue}
 use Rattle.isa_model.specs.Code.Instructions.{Program, fetch, slots_of}
+use Rattle.isa_model.specs.Code.MapRows.{NamesRows}
 use Rattle.isa_model.specs.Code.Spelling.{InsnFits}
-use Rattle.image.specs.Images.{IsCode, is_wide, IsImage}
+use Rattle.image.specs.Images.{IsCode, is_wide, NamesMaps, IsImage}
 
 -- ---- code, slot by slot
 
@@ -26,6 +28,13 @@ InsnFits-insn_in (None ∷ xs) false k i h e = absurd h
 InsnFits-insn_in (Some j ∷ xs) false zero i h e = subst InsnFits (same_insn j i e) h.0
 InsnFits-insn_in (Some j ∷ xs) false (suc k) i h e = InsnFits-insn_in xs (is_wide j) k i h.1 e
 
+NamesRows-insn_in : (rows : List MapDef) (xs : List (Option Insn)) (k : ℕ) (i : Insn) → NamesMaps rows xs → insn_in xs k ≡ Some i → NamesRows rows i
+NamesRows-insn_in rows [] k i h e = absurd cc
+NamesRows-insn_in rows (None ∷ xs) zero i h e = absurd cc
+NamesRows-insn_in rows (None ∷ xs) (suc k) i h e = NamesRows-insn_in rows xs k i h e
+NamesRows-insn_in rows (Some j ∷ xs) zero i h e = subst (NamesRows rows) (same_insn j i e) h.0
+NamesRows-insn_in rows (Some j ∷ xs) (suc k) i h e = NamesRows-insn_in rows xs k i h.1 e
+
 -- code ends there, or an instruction begins there
 abbrev EndsOrBegins : List (Option Insn) → ℕ → Type 0
 EndsOrBegins xs n = (n ≡ length xs) ⊎ ((j : Insn) × (insn_in xs n ≡ Some j))
@@ -39,10 +48,15 @@ at_front [] h = inl refl
 at_front (None ∷ xs) h = absurd h
 at_front (Some j ∷ xs) h = inr (j, refl)
 
+behind_two : (i : Insn) (xs : List (Option Insn)) → IsCode true xs → EndsOrBegins (Some i ∷ xs) 2
+behind_two i [] h = absurd cc
+behind_two i (None ∷ xs) h = one_on (Some i) (None ∷ xs) 1 2 refl (one_on None xs 0 1 refl (at_front xs h))
+behind_two i (Some j ∷ xs) h = absurd h
+
 behind_first : (i : Insn) (xs : List (Option Insn)) → IsCode (is_wide i) xs → EndsOrBegins (Some i ∷ xs) (slots_of i)
-behind_first (LoadNumber d n) [] h = absurd cc
-behind_first (LoadNumber d n) (None ∷ xs) h = one_on (Some (LoadNumber d n)) (None ∷ xs) 1 2 refl (one_on None xs 0 1 refl (at_front xs h))
-behind_first (LoadNumber d n) (Some j ∷ xs) h = absurd h
+behind_first (LoadNumber d n) xs h = behind_two (LoadNumber d n) xs h
+behind_first (LoadMap d m) xs h = behind_two (LoadMap d m) xs h
+behind_first (LoadMapValue d m o) xs h = behind_two (LoadMapValue d m o) xs h
 behind_first i xs h = one_on (Some i) xs 0 1 refl (at_front xs h)
 
 behind : (xs : List (Option Insn)) (half : Bool) (k : ℕ) (i : Insn) → IsCode half xs → insn_in xs k ≡ Some i → EndsOrBegins xs (k + slots_of i)
@@ -63,10 +77,15 @@ IsSecond xs n = (n < length xs) × (insn_in xs n ≡ None)
 one_further : (x : Option Insn) (xs : List (Option Insn)) (m n : ℕ) → n ≡ suc m → IsSecond xs m → IsSecond (x ∷ xs) n
 one_further x xs m n e h = (omega (arith, h.0), ap (insn_in (x ∷ xs)) e ∙ h.1)
 
+second_half : (i : Insn) (xs : List (Option Insn)) → IsCode true xs → IsSecond (Some i ∷ xs) 1
+second_half i [] h = absurd cc
+second_half i (None ∷ xs) h = (omega arith, refl)
+second_half i (Some j ∷ xs) h = absurd h
+
 second_of_first : (i : Insn) (xs : List (Option Insn)) → IsCode (is_wide i) xs → slots_of i ≡ 2 → IsSecond (Some i ∷ xs) 1
-second_of_first (LoadNumber d n) [] h w = absurd cc
-second_of_first (LoadNumber d n) (None ∷ xs) h w = (omega arith, refl)
-second_of_first (LoadNumber d n) (Some j ∷ xs) h w = absurd h
+second_of_first (LoadNumber d n) xs h w = second_half (LoadNumber d n) xs h
+second_of_first (LoadMap d m) xs h w = second_half (LoadMap d m) xs h
+second_of_first (LoadMapValue d m o) xs h w = second_half (LoadMapValue d m o) xs h
 second_of_first i xs h w = absurd (omega arith)
 
 second_of : (xs : List (Option Insn)) (half : Bool) (k : ℕ) (i : Insn) → IsCode half xs → insn_in xs k ≡ Some i → slots_of i ≡ 2 → IsSecond xs (k + 1)
@@ -83,6 +102,10 @@ second_of (Some j ∷ xs) false (suc k) i h e w = one_further (Some j) xs (k + 1
 -- the numbers in an instruction are of their types
 pub InsnFits-fetch : (p : Program) (s : ℕ) (i : Insn) → IsImage p → fetch p s ≡ Some i → InsnFits i
 InsnFits-fetch p s i h e = InsnFits-insn_in p.insns false s i h.code e
+
+-- the map that an instruction names is there
+pub NamesRows-fetch : (p : Program) (s : ℕ) (i : Insn) → IsImage p → fetch p s ≡ Some i → NamesRows p.maps i
+NamesRows-fetch p s i h e = NamesRows-insn_in p.maps p.insns s i h.named e
 
 -- slot 0 begins an instruction
 pub fetch-zero : (p : Program) → IsImage p → (i : Insn) × (fetch p 0 ≡ Some i)

@@ -8,8 +8,9 @@ use Rattle.isa_model.specs.declared.map_defs.MapKind.TheVariants.{Hash, Array}
 use Rattle.isa_model.specs.declared.map_defs.MapDef.{MapDef}
 use Rattle.isa_model.specs.declared.instructions.Insn.{Insn}
 use Rattle.isa_model.specs.Code.Instructions.{Program, slots, slots_of}
+use Rattle.isa_model.specs.Code.MapRows.{IsRow, NamesRows}
 use Rattle.isa_model.specs.Code.Spelling.{spelling_of, InsnFits}
-use Rattle.image.specs.declared.head.TheConstants.{MAX_MAPS, MAX_SLOTS}
+use Rattle.image.specs.declared.head.TheConstants.{MAX_MAPS, MAX_MAP_ROOM, MAX_SLOTS}
 
 -- ---- spelling
 
@@ -43,19 +44,6 @@ image_bytes p = head_bytes p ++ (flat_map row_bytes p.maps ++ code_bytes p.insns
 
 -- ---- the programs that images store
 
--- an array's key is its index
-abbrev pub KeyFits : MapKind → ℕ → Type 0
-KeyFits Hash n = (1 ≤ n) × (n ≤ 64)
-KeyFits Array n = n ≡ 4
-
--- the limits of a map row
-pub record IsRow (row : MapDef) : Type 0 where
-  pub key : KeyFits row.kind row.key_size
-  pub some_value : 1 ≤ row.value_size
-  pub short_value : row.value_size ≤ 4096
-  pub some_entries : 1 ≤ row.entries
-  pub few_entries : row.entries ≤ 65536
-
 -- the bytes of a map's keys and values
 abbrev pub room_of : MapDef → ℕ
 room_of row = row.entries * (row.key_size + row.value_size)
@@ -72,14 +60,21 @@ IsCode true (Some i ∷ xs) = ⊥
 IsCode false (None ∷ xs) = ⊥
 IsCode false (Some i ∷ xs) = InsnFits i × IsCode (is_wide i) xs
 
+-- the maps that instructions name are there
+abbrev pub NamesMaps : List MapDef → List (Option Insn) → Type 0
+NamesMaps rows [] = Unit {0}
+NamesMaps rows (None ∷ xs) = NamesMaps rows xs
+NamesMaps rows (Some i ∷ xs) = NamesRows rows i × NamesMaps rows xs
+
 pub record IsImage (p : Program) : Type 0 where
   pub few_maps : length p.maps ≤ MAX_MAPS
   pub rows : All IsRow p.maps
-  pub room : sum_by room_of p.maps ≤ 16777216
+  pub room : sum_by room_of p.maps ≤ MAX_MAP_ROOM
   pub some_slots : 1 ≤ length p.insns
   pub few_slots : length p.insns ≤ MAX_SLOTS
   pub code : IsCode false p.insns
+  pub named : NamesMaps p.maps p.insns
 
--- the program of these instructions, without map rows
-abbrev pub code_alone : List Insn → Program
-code_alone insns = record { insns = slots insns; maps = [] }
+-- the program of these map rows and instructions
+abbrev pub program_of : List MapDef → List Insn → Program
+program_of maps insns = record { insns = slots insns; maps = maps }

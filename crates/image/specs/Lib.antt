@@ -1,5 +1,6 @@
 pub mod Images
 pub mod Refusals
+pub mod RowLaws
 pub mod ImageLaws
 pub mod Programs
 pub mod CodeLaws

@@ -2,7 +2,7 @@
 use Rattle.std.specs.Prelude.{ℕ, List, codes}
 use Rattle.insn_codec.specs.Messages as codec
 use Rattle.image.specs.declared.errors.ImageError.{ImageError}
-use Rattle.image.specs.declared.errors.ImageError.TheVariants.{Code, Magic, Short, Long, TooManyMaps, SlotCount, Memory}
+use Rattle.image.specs.declared.errors.ImageError.TheVariants.{Code, Magic, Short, Long, TooManyMaps, MapRow, SlotCount, MapRoom, UnknownMap, ValuePointer, Memory}
 
 abbrev pub code_of : ImageError → List ℕ
 code_of (Code slot error) = codes "I8"
@@ -10,14 +10,23 @@ code_of Magic = codes "I1"
 code_of Short = codes "I2"
 code_of Long = codes "I3"
 code_of TooManyMaps = codes "I4"
+code_of (MapRow index) = codes "I5"
 code_of SlotCount = codes "I6"
+code_of MapRoom = codes "I7"
 code_of Memory = codes "I9"
+code_of (UnknownMap slot) = codes "I10"
+code_of (ValuePointer slot) = codes "I11"
 
 abbrev pub sentence_of : ImageError → List ℕ
 sentence_of (Code slot error) = codec.sentence_of error
 sentence_of Magic = codes "the bytes do not begin with XBP1"
 sentence_of Short = codes "the image is shorter than its head, or than its counts say"
 sentence_of Long = codes "the image is longer than its counts say"
-sentence_of TooManyMaps = codes "the image has map rows, and maps are not supported yet"
+sentence_of TooManyMaps = codes "the image has more than 16 map rows"
+sentence_of (MapRow index) = codes "a map row has an unknown type, or a size that is out of its limits"
 sentence_of SlotCount = codes "the image has no slots, or more than 4096"
+sentence_of MapRoom = codes "the maps together have more than 16777216 bytes of keys and values"
 sentence_of Memory = codes "out of memory"
+sentence_of (UnknownMap slot) = codes "the instruction names a map that has no row"
+sentence_of (ValuePointer slot) =
+    codes "the map is no array of one entry, or the offset is not within its value"

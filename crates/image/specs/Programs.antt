@@ -1,21 +1,23 @@
 -- The program of an image is one, as the meaning of programs wants it.
-use Rattle.std.specs.Prelude.{◌≡◌, ℕ, ◌+◌, ◌<◌, ◌≤◌, ◌⊎◌, List, [], ◌∷◌, length, Option, Some, None, refl}
+use Rattle.std.specs.Prelude.{◌≡◌, ℕ, ◌<◌, ◌⊎◌, length, Some, None, refl}
 use Rattle.std.specs.Option.{option_flatten}
-use Rattle.std.proofs.Common.{sym, ap, ◌∙◌, subst, arith, inl, inr}
+use Rattle.std.proofs.Common.{ap, arith, inl, inr}
 use Rattle.std.proofs.lemmas.Bool.{cases_lt}
 use Rattle.std.proofs.lemmas.Option.{slice_get_past}
 use Rattle.isa_model.specs.declared.instructions.Insn.{Insn}
-use Rattle.isa_model.specs.declared.map_defs.MapDef.{MapDef}
-use Rattle.isa_model.specs.declared.instructions.Insn.TheVariants.{LoadNumber}
+use Rattle.isa_model.specs.declared.instructions.Insn.TheVariants.{LoadNumber, LoadMap, LoadMapValue}
 use Rattle.isa_model.specs.Code.Instructions.{Program, fetch, slots_of}
 use Rattle.isa_model.specs.Machine.MachineStates.{IsProgram, FitRows}
 use Rattle.isa_model.specs.Reporting.Reports.{starting_contents}
+use Rattle.isa_model.specs.Reporting.StartingContents as starting
 use Rattle.image.specs.Images.{IsImage}
-use Rattle.image.specs.ImageLaws.{InsnFits-fetch, fetch-second}
+use Rattle.image.specs.ImageLaws.{InsnFits-fetch, NamesRows-fetch, fetch-second}
 
 -- an instruction has one slot or two
 slots_of-cases : (i : Insn) → (slots_of i ≡ 1) ⊎ (slots_of i ≡ 2)
 slots_of-cases (LoadNumber d n) = inr refl
+slots_of-cases (LoadMap d m) = inr refl
+slots_of-cases (LoadMapValue d m o) = inr refl
 slots_of-cases i = inl refl
 
 -- an instruction begins inside the code
@@ -36,16 +38,10 @@ IsProgram-IsImage p h = record {
     | inr two ↦ let half = (fetch-second p slot i h e two).0 in omega arith
   ];
   halves = λ slot i e two. (fetch-second p slot i h e two).1;
+  rows = h.rows;
+  named = λ slot i e. NamesRows-fetch p slot i h e;
 }
-
--- images have no map rows yet
-pub no_maps : (p : Program) → IsImage p → p.maps ≡ []
-no_maps p h = empty p.maps h.few_maps
-  where
-    empty : (rows : List MapDef) → length rows ≤ 0 → rows ≡ []
-    empty [] h = refl
-    empty (row ∷ rows) h = absurd (omega arith)
 
 -- the contents that maps start with fit their rows
 pub FitRows-starting_contents : (p : Program) → IsImage p → FitRows p.maps (starting_contents p.maps)
-FitRows-starting_contents p h = subst (λ rows. FitRows rows (starting_contents rows)) (sym (no_maps p h)) tt
+FitRows-starting_contents p h = starting.FitRows-starting_contents p.maps h.rows

@@ -9,20 +9,26 @@ ghost use Rattle.image.specs.Images.{code_bytes, IsCode};
 ghost use Rattle.image.specs.Refusals.{Gives, insn_at, code_from};
 
 use crate::errors::ImageError;
+use crate::named::map_refusal;
 use exact_io::write_bytes;
 use insn_codec::{decode, encode};
-use isa_model::{Insn, Operand, Place};
+use isa_model::{Insn, MapDef, Operand, Place};
 use std::alloc::{AllocError, Global};
 use std::io;
 use std::io::Write;
 
-/// The instruction that begins at the slot; the bytes are those of the slot and all after it.
-fn insn_at(slot: usize, bytes: &[u8]) -> Result<Insn, ImageError>
-    ensures { result ≡ insn_at slot bytes.now }
+/// The instruction that begins at the slot, for these map rows; the bytes are those of the slot and
+/// all after it.
+fn insn_at(maps: &[MapDef], slot: usize, bytes: &[u8]) -> Result<Insn, ImageError>
+    ensures { result ≡ insn_at maps.now slot bytes.now }
 {
-    match decode(bytes) {
-        Ok((insn, _)) => Ok(insn),
-        Err(error) => Err(ImageError::Code(slot, error)),
+    let insn = match decode(bytes) {
+        Ok((insn, _)) => insn,
+        Err(error) => return Err(ImageError::Code(slot, error)),
+    };
+    match map_refusal(maps, slot, &insn) {
+        None => Ok(insn),
+        Some(error) => Err(error),
     }
 }
 
@@ -33,6 +39,8 @@ fn numbers_fit(insn: Insn)
     match insn {
         Insn::Alu(_, _, _, Operand::Constant(_)) => {}
         Insn::LoadNumber(_, _) => {}
+        Insn::LoadMap(_, _) | Insn::LoadMapValue(_, _, _) => {}
+        Insn::CallHelper(_) => {}
         Insn::StoreConstant(_, Place { base: _, offset: _ }, _) => {}
         Insn::Load(_, _, Place { base: _, offset: _ })
         | Insn::LoadSx(_, _, Place { base: _, offset: _ })
@@ -60,9 +68,15 @@ pub fn by_slot(alloc: Global, insns: &[Insn]) -> Result<Vec<Option<Insn>>, Alloc
     Ok(code)
 }
 
-/// The instructions that bytes spell, by slot, with none at second halves.
-pub fn code_of(alloc: Global, bytes: &[u8]) -> Result<Vec<Option<Insn>>, ImageError>
-    ensures { Gives (λ v. v.items) result (code_from (length bytes.now / 8) false 0 bytes.now) }
+/// The instructions that bytes spell, by slot, with none at second halves; the maps that they name
+/// have to be among these.
+pub fn code_of(
+    alloc: Global,
+    maps: &[MapDef],
+    bytes: &[u8],
+) -> Result<Vec<Option<Insn>>, ImageError>
+    ensures { Gives (λ v. v.items) result
+        (code_from maps.now (length bytes.now / 8) false 0 bytes.now) }
 {
     let mut slots = Vec::new(alloc);
     let mut second_half = false;
@@ -71,7 +85,7 @@ pub fn code_of(alloc: Global, bytes: &[u8]) -> Result<Vec<Option<Insn>>, ImageEr
             slots.push(None)?;
             second_half = false;
         } else {
-            let insn = insn_at(slot, &bytes[8 * slot..])?;
+            let insn = insn_at(maps, slot, &bytes[8 * slot..])?;
             slots.push(Some(insn))?;
             second_half = insn.slots() == 2;
         }

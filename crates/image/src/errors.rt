@@ -9,8 +9,8 @@ use std::error::Error;
 use std::fmt;
 
 /// Why the bytes are no image: the first of these that is found, in the order I2, I1, I4, I6 for
-/// the 8 bytes of the head, then I2, I3 for the whole length, and then I8 slot by slot. I9 may come
-/// at any of these.
+/// the 8 bytes of the head, I2, I3 for the whole length, I5 row by row, I7, and then slot by slot
+/// I8, I10, I11. I9 may come at any of these.
 #[derive(Clone, Copy, PartialEq, Eq, Debug)]
 pub enum ImageError {
     /// Another magic than `XBP1`.
@@ -21,10 +21,20 @@ pub enum ImageError {
     Long,
     /// More map rows than `MAX_MAPS`.
     TooManyMaps,
+    /// The map row of an index has another type than a hash or an array, or a size or a count of
+    /// entries that is out of its limits.
+    MapRow(usize),
     /// No slots, or more than `MAX_SLOTS`.
     SlotCount,
+    /// The keys and values of all maps together have more than `MAX_MAP_ROOM` bytes.
+    MapRoom,
     /// The codec refuses the instruction that begins at a slot.
     Code(usize, CodecError),
+    /// The instruction that begins at a slot names a map that has no row.
+    UnknownMap(usize),
+    /// The instruction that begins at a slot points into the value of a map that is no array of one
+    /// entry, or behind its value.
+    ValuePointer(usize),
     /// Out of memory.
     Memory,
 }
@@ -40,8 +50,12 @@ impl ImageError {
             ImageError::Short => "I2",
             ImageError::Long => "I3",
             ImageError::TooManyMaps => "I4",
+            ImageError::MapRow(_index) => "I5",
             ImageError::SlotCount => "I6",
+            ImageError::MapRoom => "I7",
             ImageError::Memory => "I9",
+            ImageError::UnknownMap(_slot) => "I10",
+            ImageError::ValuePointer(_slot) => "I11",
         }
     }
 
@@ -54,14 +68,21 @@ impl ImageError {
             ImageError::Magic => "the bytes do not begin with XBP1",
             ImageError::Short => "the image is shorter than its head, or than its counts say",
             ImageError::Long => "the image is longer than its counts say",
-            ImageError::TooManyMaps => "the image has map rows, and maps are not supported yet",
+            ImageError::TooManyMaps => "the image has more than 16 map rows",
+            ImageError::MapRow(_index) =>
+                "a map row has an unknown type, or a size that is out of its limits",
             ImageError::SlotCount => "the image has no slots, or more than 4096",
+            ImageError::MapRoom =>
+                "the maps together have more than 16777216 bytes of keys and values",
             ImageError::Memory => "out of memory",
+            ImageError::UnknownMap(_slot) => "the instruction names a map that has no row",
+            ImageError::ValuePointer(_slot) =>
+                "the map is no array of one entry, or the offset is not within its value",
         }
     }
 }
 
-/// Writes the sentence, without the slot.
+/// Writes the sentence, without the slot or the row.
 impl fmt::Display for ImageError {
     ghost output = { λ error. Some (sentence_of error) };
 

@@ -1,15 +1,18 @@
 //! The sizes of an image, and the 8 bytes that stand at its front.
 
-ghost use Rattle.std.specs.Prelude.{◌≡◌, ◌++◌};
+ghost use Rattle.std.specs.Prelude.{◌≡◌, ◌≤◌, ◌++◌, length};
 ghost use Rattle.byteorder.specs.Endian.{little_bytes};
 ghost use Rattle.image.specs.Images.{magic};
-ghost use Rattle.image.specs.Refusals.{count_refusal, size_refusal};
+ghost use Rattle.image.specs.Refusals.{count_refusal, map_count, size_refusal};
 
 use crate::errors::ImageError;
 use byteorder::{ByteOrder, LittleEndian};
 
-/// The most map rows of an image: instructions that name maps are not known yet.
-pub const MAX_MAPS: u16 = 0;
+/// The most map rows of an image.
+pub const MAX_MAPS: u16 = 16;
+
+/// The most bytes of all keys and values together, each map with as many entries as it can have.
+pub const MAX_MAP_ROOM: u64 = 16_777_216;
 
 /// The most slots of an image.
 pub const MAX_SLOTS: u16 = 4096;
@@ -40,6 +43,14 @@ pub fn size_refusal(bytes: &[u8]) -> Option<ImageError>
         return Some(ImageError::Long);
     }
     None
+}
+
+/// How many map rows the head says.
+pub fn map_count(bytes: &[u8]) -> usize
+    requires { 8 ≤ length bytes.now }
+    ensures { result ≡ map_count bytes.now }
+{
+    usize::from(LittleEndian::read_u16(&bytes[4..]))
 }
 
 /// What is wrong with that many slots.

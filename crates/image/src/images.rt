@@ -5,12 +5,14 @@ ghost use Rattle.std.specs.Option.{option_copied};
 ghost use Rattle.std.specs.Io.KnownBytes.{Appends};
 ghost use Rattle.isa_model.specs.Code.Instructions.{Program, fetch, slots};
 ghost use Rattle.exact_io.specs.Transfers.{AppendsBeginning};
-ghost use Rattle.image.specs.Images.{IsImage, image_bytes, code_alone};
-ghost use Rattle.image.specs.Refusals.{refusal_of, count_refusal};
+ghost use Rattle.image.specs.Images.{IsImage, image_bytes, program_of};
+ghost use Rattle.image.specs.Refusals.{Gives, size_refusal, program_read, refusal_of, parts_refusal};
 
 use crate::code::{by_slot, code_of, write_code};
 use crate::errors::ImageError;
-use crate::head::{count_refusal, head_of, size_refusal};
+use crate::head::{MAX_MAPS, count_refusal, head_of, map_count, size_refusal};
+use crate::named::maps_refusal;
+use crate::rows::{room_refusal, rows_of, rows_refusal, write_rows};
 use exact_io::write_bytes;
 use insn_codec::decoding_laws;
 use isa_model::{Insn, MapDef};
@@ -39,6 +41,40 @@ impl Model for Image {
     }) };
 }
 
+// The rows and the code of an image whose sizes are right.
+fn parts_of(alloc: Global, bytes: &[u8]) -> Result<(Vec<MapDef>, Vec<Option<Insn>>), ImageError>
+    requires { size_refusal bytes.now ≡ None }
+    ensures { Gives (λ parts. record { insns = parts.1.items; maps = parts.0.items }) result
+        (program_read bytes.now) }
+{
+    let count = map_count(bytes);
+    let maps = rows_of(alloc, count, &bytes[8..])?;
+    if let Some(error) = room_refusal(&maps) {
+        return Err(error);
+    }
+    let slots = code_of(alloc, &maps, &bytes[8 + 12 * count..])?;
+    Ok((maps, slots))
+}
+
+// What is wrong with map rows and code.
+fn parts_refusal(maps: &[MapDef], code: &[Option<Insn>]) -> Option<ImageError>
+    ensures { result ≡ parts_refusal maps.now code.now }
+{
+    if maps.len() > usize::from(MAX_MAPS) {
+        return Some(ImageError::TooManyMaps);
+    }
+    if let Some(error) = count_refusal(code.len()) {
+        return Some(error);
+    }
+    if let Some(error) = rows_refusal(maps) {
+        return Some(error);
+    }
+    if let Some(error) = room_refusal(maps) {
+        return Some(error);
+    }
+    maps_refusal(maps, code)
+}
+
 impl Image {
     /// The image that the bytes are.
     ///
@@ -58,32 +94,31 @@ impl Image {
         if let Some(error) = size_refusal(bytes) {
             return Err(error);
         }
-        let slots = code_of(alloc, &bytes[8..])?;
-        Ok(Image {
-            maps: Vec::new(alloc),
-            slots,
-        })
+        let (maps, slots) = parts_of(alloc, bytes)?;
+        Ok(Image { maps, slots })
     }
 
-    /// The image of these instructions, without map rows.
+    /// The image of these map rows and instructions.
     ///
-    /// Jump targets are not tested.
-    pub fn of(alloc: Global, insns: &[Insn]) -> Result<Self, ImageError>
-        ensures found { IfOk result (λ image. image ≡ code_alone insns.now) }
+    /// The refusals come in the order I4, I6, I5 row by row, I7, and then slot by slot I10, I11; I9
+    /// may come at any of these. Jump targets are not tested.
+    pub fn of(alloc: Global, maps: &[MapDef], insns: &[Insn]) -> Result<Self, ImageError>
+        ensures found { IfOk result (λ image. image ≡ program_of maps.now insns.now) }
         ensures fits { IfOk result IsImage }
 
-        // The only refusals are that there are no slots or too many, and that memory ran out.
-        ensures refused { MatchResult result (λ _. count_refusal (length (slots insns.now)) ≡ None)
-            (λ e. (e ≡ ImageError.Memory) ⊎ (count_refusal (length (slots insns.now)) ≡ Some e)) }
+        // All that are no image get the first refusal, running out of memory aside.
+        ensures refused { MatchResult result
+            (λ _. parts_refusal maps.now (slots insns.now) ≡ None)
+            (λ e. (e ≡ ImageError.Memory)
+            ⊎ (parts_refusal maps.now (slots insns.now) ≡ Some e)) }
     {
         let slots = by_slot(alloc, insns)?;
-        if let Some(error) = count_refusal(slots.len()) {
+        if let Some(error) = parts_refusal(maps, &slots) {
             return Err(error);
         }
-        Ok(Image {
-            maps: Vec::new(alloc),
-            slots,
-        })
+        let mut rows = Vec::new(alloc);
+        rows.extend_from_slice(maps)?;
+        Ok(Image { maps: rows, slots })
     }
 
     /// Writes the bytes of the image.
@@ -98,10 +133,9 @@ impl Image {
             (AppendsBeginning (W.contents writer.old) (W.contents writer.new)
             (image_bytes self.now)) }
     {
-        write_bytes(
-            writer,
-            &head_of(self.maps.len() as u16, self.slots.len() as u16),
-        )?;
+        let head = head_of(self.maps.len() as u16, self.slots.len() as u16);
+        write_bytes(writer, &head)?;
+        write_rows(writer, &self.maps)?;
         write_code(writer, &self.slots)
     }
 

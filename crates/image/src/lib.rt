@@ -8,7 +8,11 @@ mod code;
 pub mod errors;
 mod head;
 pub mod images;
+pub mod named;
+pub mod rows;
 
 pub use errors::ImageError;
-pub use head::{MAX_MAPS, MAX_SLOTS};
+pub use head::{MAX_MAP_ROOM, MAX_MAPS, MAX_SLOTS};
 pub use images::Image;
+pub use named::map_refusal;
+pub use rows::{room_of, row_fits};

@@ -3,3 +3,4 @@
 mod changes;
 mod images;
 mod spellings;
+mod wide_loads;

@@ -8,7 +8,7 @@ use Rattle.std.proofs.lemmas.Bool.{le-ltb}
 use Rattle.byteorder.specs.Endian.{little_number, little_bytes}
 use Rattle.byteorder.specs.Numbers.{little_number-reads_back}
 use Rattle.isa_model.specs.declared.registers.Reg.{Reg}
-use Rattle.isa_model.specs.declared.registers.Reg.TheVariants.{R0, R1}
+use Rattle.isa_model.specs.declared.registers.Reg.TheVariants.{R0, R1, R5, R6}
 use Rattle.isa_model.specs.declared.sizes.Size.{Size}
 use Rattle.isa_model.specs.declared.sizes.Size.TheVariants.{U8}
 use Rattle.isa_model.specs.declared.sizes.Narrow.{Narrow}
@@ -32,7 +32,7 @@ use Rattle.isa_model.specs.declared.instructions.Operand.TheVariants.{Constant, 
 use Rattle.isa_model.specs.declared.instructions.Place.{Place}
 use Rattle.isa_model.specs.declared.instructions.Cond.{Cond}
 use Rattle.isa_model.specs.declared.instructions.Insn.{Insn}
-use Rattle.isa_model.specs.declared.instructions.Insn.TheVariants.{Alu, Neg, MovSx, ByteSwap, LoadNumber, Load, LoadSx, StoreConstant, Store, Atomic, Exchange, CompareExchange, Jump, JumpLong, JumpIf, CallLocal, Exit}
+use Rattle.isa_model.specs.declared.instructions.Insn.TheVariants.{Alu, Neg, MovSx, ByteSwap, LoadNumber, LoadMap, LoadMapValue, Load, LoadSx, StoreConstant, Store, Atomic, Exchange, CompareExchange, Jump, JumpLong, JumpIf, CallHelper, CallLocal, Exit}
 use Rattle.isa_model.specs.declared.slots.Slot.{Slot}
 use Rattle.isa_model.specs.Code.Registers.{reg_numbered}
 use Rattle.isa_model.specs.Code.Sizes.{span_bits}
@@ -46,7 +46,7 @@ use Rattle.insn_codec.specs.declared.forms.Form.{Form}
 use Rattle.insn_codec.specs.declared.forms.Form.TheVariants as form
 use Rattle.insn_codec.specs.declared.fields.Fields.{Fields}
 use Rattle.insn_codec.specs.Forms.{form_of, uses, zero_unused}
-use Rattle.insn_codec.specs.Decoding.{meaning, slot_meaning, with_form, with_dst, with_src}
+use Rattle.insn_codec.specs.Decoding.{second_slot, wide_by, meaning, slot_meaning, with_form, with_dst, with_src}
 use Rattle.insn_codec.proofs.Opcodes.{reg_numbered-number}
 
 abbrev fields : Reg → Reg → ℕ → ℕ → Fields
@@ -182,15 +182,32 @@ means_atomic w op fetch d r o rest = refl
 abbrev zeros_then : ℕ → List ℕ → List ℕ
 zeros_then n rest = second_bytes (Some n) ++ rest
 
+abbrev next_is : ℕ → Result ℕ CodecError
+next_is n = Ok n
+
+abbrev second_missing : Result ℕ CodecError
+second_missing = Err SecondSlot
+
 long_enough : (n : ℕ) (rest : List ℕ) → nat_lt (length (zeros_then n rest)) 8 ≡ false
 long_enough n rest = le-ltb _ _ (omega arith)
 
+-- the second slot is read
+second_slot-second_bytes : (n : ℕ) (rest : List ℕ) → n < 2 ^ 32 → second_slot (zeros_then n rest) ≡ Ok n
+second_slot-second_bytes n rest h =
+    ap (λ (b : Bool). cond b second_missing (next_is (little_number 4 (little_bytes 4 n ++ rest)))) (long_enough n rest)
+    ∙ ap next_is (little_number-reads_back 4 n rest h)
+
 means_number : (d : Reg) (n : ℕ) (rest : List ℕ) → n < 2 ^ 64 → meaning form.WideLoad (fields d R0 0 (n % 2 ^ 32)) (zeros_then (n / 2 ^ 32) rest) ≡ Ok (LoadNumber d n)
 means_number d n rest h =
-    let high : little_number 4 (little_bytes 4 (n / 2 ^ 32) ++ rest) ≡ n / 2 ^ 32 = little_number-reads_back 4 (n / 2 ^ 32) rest (omega arith) in
-    let whole : n % 2 ^ 32 + little_number 4 (little_bytes 4 (n / 2 ^ 32) ++ rest) * 2 ^ 32 ≡ n = rw high (omega arith) in
-    ap (λ (b : Bool). cond b (Err SecondSlot) (ok_insn (LoadNumber d (n % 2 ^ 32 + little_number 4 (little_bytes 4 (n / 2 ^ 32) ++ rest) * 2 ^ 32)))) (long_enough (n / 2 ^ 32) rest)
+    let whole : n % 2 ^ 32 + n / 2 ^ 32 * 2 ^ 32 ≡ n = omega arith in
+    ap (wide_by R0 (fields d R0 0 (n % 2 ^ 32))) (second_slot-second_bytes (n / 2 ^ 32) rest (omega arith))
     ∙ ap (λ (m : ℕ). ok_insn (LoadNumber d m)) whole
+
+means_map : (d : Reg) (m : ℕ) (rest : List ℕ) → meaning form.WideLoad (fields d R5 0 m) (zeros_then 0 rest) ≡ Ok (LoadMap d m)
+means_map d m rest = ap (wide_by R5 (fields d R5 0 m)) (second_slot-second_bytes 0 rest (omega arith))
+
+means_map_value : (d : Reg) (m o : ℕ) (rest : List ℕ) → o < 2 ^ 32 → meaning form.WideLoad (fields d R6 0 m) (zeros_then o rest) ≡ Ok (LoadMapValue d m o)
+means_map_value d m o rest h = ap (wide_by R6 (fields d R6 0 m)) (second_slot-second_bytes o rest h)
 
 -- ---- all forms
 
@@ -219,6 +236,8 @@ slot_meaning-first_slot (Neg w d) rest h = through _ (form.Negate w) d R0 rest _
 slot_meaning-first_slot (MovSx x d r) rest h = let f = form_extension x in through _ (form.MovRegister f.0) d r rest _ f.1 (reg_numbered-number d) (reg_numbered-number r) refl (f.2 d r rest)
 slot_meaning-first_slot (ByteSwap order x d) rest h = through _ (form.ByteSwap order) d R0 rest _ (form_end order) (reg_numbered-number d) refl refl (means_end order x d rest)
 slot_meaning-first_slot (LoadNumber d n) rest h = through _ form.WideLoad d R0 _ _ refl (reg_numbered-number d) refl refl (means_number d n rest h)
+slot_meaning-first_slot (LoadMap d m) rest h = through _ form.WideLoad d R5 _ _ refl (reg_numbered-number d) refl refl (means_map d m rest)
+slot_meaning-first_slot (LoadMapValue d m o) rest h = through _ form.WideLoad d R6 _ _ refl (reg_numbered-number d) refl refl (means_map_value d m o rest h.1)
 slot_meaning-first_slot (Load size d p) rest h = through _ (form.Load size) d p.base rest _ (form_load size) (reg_numbered-number d) (reg_numbered-number p.base) refl (ap (λ (z : ℤ). ok_insn (Load size d (at_place p.base z))) (back16 p.offset h))
 slot_meaning-first_slot (LoadSx size d p) rest h = through _ (form.LoadSx size) d p.base rest _ (form_load_signed size) (reg_numbered-number d) (reg_numbered-number p.base) refl (ap (λ (z : ℤ). ok_insn (LoadSx size d (at_place p.base z))) (back16 p.offset h))
 slot_meaning-first_slot (StoreConstant size p k) rest h = through _ (form.StoreConstant size) p.base R0 rest _ (form_store_number size) (reg_numbered-number p.base) refl refl (ap (λ (z : ℤ). ok_insn (StoreConstant size (at_place p.base z) (cast_signed w32 (cast_unsigned w32 k)))) (back16 p.offset h.0) ∙ ap (λ (z : ℤ). ok_insn (StoreConstant size p z)) (back32 k h.1))
@@ -229,5 +248,6 @@ slot_meaning-first_slot (CompareExchange w p s) rest h = through _ (form.Atomic 
 slot_meaning-first_slot (Jump by) rest h = through _ form.Jump R0 R0 rest _ refl refl refl refl (ap (λ (z : ℤ). ok_insn (Jump z)) (back16 by h))
 slot_meaning-first_slot (JumpLong by) rest h = through _ form.JumpLong R0 R0 rest _ refl refl refl refl (ap (λ (z : ℤ). ok_insn (JumpLong z)) (back32 by h))
 slot_meaning-first_slot (JumpIf c by) rest h = means_if c.operand c.width c.comparison c.register by rest h.0 h.1
+slot_meaning-first_slot (CallHelper n) rest h = through _ form.Call R0 R0 rest _ refl refl refl refl (ap (λ (z : ℤ). ok_insn (CallHelper z)) (back32 n h))
 slot_meaning-first_slot (CallLocal by) rest h = through _ form.Call R0 R1 rest _ refl refl refl refl (ap (λ (z : ℤ). ok_insn (CallLocal z)) (back32 by h))
 slot_meaning-first_slot Exit rest h = through _ form.Exit R0 R0 rest _ refl refl refl refl refl

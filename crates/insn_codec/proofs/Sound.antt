@@ -1,5 +1,5 @@
 -- What is decoded is spelled so.
-use Rattle.std.proofs.Common.{◌≡◌, ℕ, ◌+◌, ◌*◌, ◌/◌, ◌%◌, ◌^◌, ◌<◌, ◌≤◌, true, false, List, [], ◌∷◌, ◌++◌, length, take, drop, Option, Some, None, Ok, refl, sym, ap, ◌∙◌, subst, arith, inl, inr}
+use Rattle.std.proofs.Common.{◌≡◌, ℕ, ◌+◌, ◌*◌, ◌/◌, ◌%◌, ◌^◌, ◌<◌, ◌≤◌, true, false, List, [], ◌∷◌, ◌++◌, length, take, drop, Option, Some, None, Result, Ok, Err, refl, sym, ap, ◌∙◌, subst, arith, inl, inr}
 use Rattle.std.specs.Prelude.{◌==◌, nat_lt, not}
 use Rattle.std.proofs.lemmas.List.{length-drop}
 use Rattle.std.proofs.Common.{take-add}
@@ -11,23 +11,24 @@ use Rattle.std.specs.Int.RustNames.{FitsSigned}
 use Rattle.byteorder.specs.Numbers.{little_from-lt}
 use Rattle.byteorder.specs.Endian.{little_number, little_bytes}
 use Rattle.isa_model.specs.declared.registers.Reg.{Reg}
-use Rattle.isa_model.specs.declared.registers.Reg.TheVariants.{R0, R1}
+use Rattle.isa_model.specs.declared.registers.Reg.TheVariants.{R0, R1, R5, R6}
 use Rattle.isa_model.specs.declared.sizes.Width.{Width}
 use Rattle.isa_model.specs.declared.instructions.AluOp.TheVariants as ops
 use Rattle.isa_model.specs.declared.sizes.ByteOrder.{ByteOrder}
 use Rattle.isa_model.specs.declared.instructions.AtomicOp.TheVariants as atomics
 use Rattle.isa_model.specs.declared.instructions.Operand.TheVariants.{Constant, Register}
 use Rattle.isa_model.specs.declared.instructions.Insn.{Insn}
-use Rattle.isa_model.specs.declared.instructions.Insn.TheVariants.{Alu, MovSx, ByteSwap, Atomic, Exchange, CompareExchange}
+use Rattle.isa_model.specs.declared.instructions.Insn.TheVariants.{LoadNumber, LoadMap, LoadMapValue, Alu, MovSx, ByteSwap, Atomic, Exchange, CompareExchange}
 use Rattle.isa_model.specs.declared.slots.Slot.{Slot}
 use Rattle.isa_model.specs.Code.Registers.{reg_number, reg_numbered}
 use Rattle.isa_model.specs.Code.Spelling.{InsnFits, alu_class, atomic_opcode, first_slot, next_imm, second_bytes, slot}
 use Rattle.isa_model.specs.Code.LittleEndian.{EachByte, EachByte-drop, little_bytes-little_from}
+use Rattle.insn_codec.specs.declared.errors.CodecError.{CodecError}
 use Rattle.insn_codec.specs.declared.forms.AluCode.{AluCode}
 use Rattle.insn_codec.specs.declared.forms.Form.{Form}
 use Rattle.insn_codec.specs.declared.forms.Form.TheVariants as form
 use Rattle.insn_codec.specs.Forms.{uses, zero_unused, form_of}
-use Rattle.insn_codec.specs.Decoding.{op_selected, extension_selected, span_selected, meaning, slot_meaning, with_form, with_dst, with_src, with_fields, atomic, called_by, moved, swapped, wide_by, wide_number, constant_in, place_in}
+use Rattle.insn_codec.specs.Decoding.{with_next, op_selected, extension_selected, span_selected, meaning, slot_meaning, with_form, with_dst, with_src, with_fields, atomic, called_by, moved, swapped, wide_by, second_slot, constant_in, place_in}
 use Rattle.insn_codec.proofs.Selectors.{chosen, ok_is, selected_ok, r0_is, zeroes, op_is, extension_is, span_is, done, fields, Zeroes}
 use Rattle.insn_codec.proofs.Opcodes.{opcode_of, opcode-form_of, number-reg_numbered}
 
@@ -123,6 +124,10 @@ byte_swap order d r o k rest i z e =
 
 call : (d r : Reg) (o k : ℕ) (rest : List ℕ) (i : Insn) → Within o k rest → Zeroes (uses form.Call) d r o k
     → called_by r (fields d r o k) ≡ Ok i → By 0x85 d r o k rest i
+call d R0 o k rest i h z e =
+    one _ d R0 o k rest _ i
+    (slot_is _ _ _ _ _ _ _ _ _ _ refl (sym (r0_is d z.dst)) refl (sym (eqb-true o 0 z.offset)) h.imm)
+    tt h.constant (ok_is _ _ e)
 call d R1 o k rest i h z e =
     one _ d R1 o k rest _ i
     (slot_is _ _ _ _ _ _ _ _ _ _ refl (sym (r0_is d z.dst)) refl (sym (eqb-true o 0 z.offset)) h.imm)
@@ -193,28 +198,61 @@ second rest small long zeros =
     let zero : take 4 rest ≡ 0 ∷ 0 ∷ 0 ∷ 0 ∷ [] = sym front ∙ ap (little_bytes 4) zeros in
     take-add 4 4 rest ∙ ap (λ l. l ++ take 4 (drop 4 rest)) zero ∙ ap (λ l. 0 ∷ 0 ∷ 0 ∷ 0 ∷ l) (sym back)
 
-wide_number_is : (d r : Reg) (o k : ℕ) (rest : List ℕ) (i : Insn) → Within o k rest → reg_number r ≡ 0 → o ≡ 0
-    → wide_number (fields d r o k) rest ≡ Ok i → By 0x18 d r o k rest i
-wide_number_is d r o k rest i h hr ho e =
+-- a second slot that was read: next_imm, its bytes and its range
+record Second (rest : List ℕ) (next : ℕ) : Type 0 where
+  bytes : take 8 rest ≡ second_bytes (Some next)
+  small : next < 2 ^ 32
+
+abbrev next_is : ℕ → Result ℕ CodecError
+next_is n = Ok n
+
+same_next : (m n : ℕ) → next_is m ≡ next_is n → m ≡ n
+same_next m n e = cc
+
+second_read : (rest : List ℕ) (next : ℕ) → EachByte rest → second_slot rest ≡ Ok next → Second rest next
+second_read rest next small e =
     elim (chosen (nat_lt (length rest) 8) _ _ _ e) [
       | inl p ↦ absurd cc
       | inr p ↦ elim (chosen (not (little_number 4 rest == 0)) _ _ _ p.1) [
         | inl q ↦ absurd cc
-        | inr q ↦
-            let high = little_number 4 (drop 4 rest) in
-            let high_small : high < 2 ^ 32 = little_from-lt 0 4 (drop 4 rest) (EachByte-drop 4 rest h.bytes) in
-            let zeros : little_number 4 rest ≡ 0 = eqb-true _ 0 (not-false _ q.0) in
-            let low : (k + high * 2 ^ 32) % 2 ^ 32 ≡ k = omega (arith, h.small) in
-            let top : (k + high * 2 ^ 32) / 2 ^ 32 ≡ high = omega (arith, h.small) in
-            let whole : k + high * 2 ^ 32 < 2 ^ 64 = omega (arith, h.small, high_small) in
-            one _ d r o k rest _ i (slot_is _ _ _ _ _ _ _ _ _ _ refl refl (sym hr) (sym ho) low)
-            (rw top (second rest h.bytes (ltb-false _ _ p.0) zeros)) whole (ok_is _ _ q.1)
+        | inr q ↦ subst (Second rest) (same_next _ _ q.1) (record {
+          bytes = second rest small (ltb-false _ _ p.0) (eqb-true _ 0 (not-false _ q.0));
+          small = little_from-lt 0 4 (drop 4 rest) (EachByte-drop 4 rest small);
+        })
       ]
     ]
 
+next_ok : (r : Result ℕ CodecError) (f : ℕ → Result Insn CodecError) (i : Insn) → with_next r f ≡ Ok i → (n : ℕ) × (r ≡ Ok n) × (f n ≡ Ok i)
+next_ok (Ok n) f i e = (n, refl, e)
+next_ok (Err d) f i e = absurd cc
+
 wide_is : (d r : Reg) (o k : ℕ) (rest : List ℕ) (i : Insn) → Within o k rest → o ≡ 0
-    → wide_by r (fields d r o k) rest ≡ Ok i → By 0x18 d r o k rest i
-wide_is d R0 o k rest i h ho e = wide_number_is d R0 o k rest i h refl ho e
+    → wide_by r (fields d r o k) (second_slot rest) ≡ Ok i → By 0x18 d r o k rest i
+wide_is d R0 o k rest i h ho e =
+    let a = next_ok (second_slot rest) _ i e in
+    let s = second_read rest a.0 h.bytes a.1 in
+    let low : (k + a.0 * 2 ^ 32) % 2 ^ 32 ≡ k = omega (arith, h.small) in
+    let top : (k + a.0 * 2 ^ 32) / 2 ^ 32 ≡ a.0 = omega (arith, h.small) in
+    let whole : k + a.0 * 2 ^ 32 < 2 ^ 64 = omega (arith, h.small, s.small) in
+    one _ d R0 o k rest (LoadNumber d (k + a.0 * 2 ^ 32)) i
+    (slot_is _ _ _ _ _ _ _ _ _ _ refl refl refl (sym ho) low)
+    (rw top s.bytes) whole (ok_is _ _ a.2)
+wide_is d R5 o k rest i h ho e =
+    let a = next_ok (second_slot rest) _ i e in
+    let s = second_read rest a.0 h.bytes a.1 in
+    elim (chosen (a.0 == 0) (done (LoadMap d k)) _ _ a.2) [
+      | inl p ↦
+          one _ d R5 o k rest (LoadMap d k) i
+          (slot_is _ _ _ _ _ _ _ _ _ _ refl refl refl (sym ho) refl)
+          (s.bytes ∙ ap (λ (n : ℕ). second_bytes (Some n)) (eqb-true a.0 0 p.0)) h.small (ok_is _ _ p.1)
+      | inr p ↦ absurd cc
+    ]
+wide_is d R6 o k rest i h ho e =
+    let a = next_ok (second_slot rest) _ i e in
+    let s = second_read rest a.0 h.bytes a.1 in
+    one _ d R6 o k rest (LoadMapValue d k a.0) i
+    (slot_is _ _ _ _ _ _ _ _ _ _ refl refl refl (sym ho) refl)
+    s.bytes (h.small, s.small) (ok_is _ _ a.2)
 wide_is d r o k rest i h ho e = absurd cc
 
 -- a form whose fields were read gives what they spell

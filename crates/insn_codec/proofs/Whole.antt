@@ -10,7 +10,7 @@ use Rattle.byteorder.specs.Numbers.{little_number-reads_back, little_from-lt}
 use Rattle.isa_model.specs.declared.registers.Reg.{Reg}
 use Rattle.isa_model.specs.declared.registers.Reg.TheVariants.{R0}
 use Rattle.isa_model.specs.declared.instructions.Insn.{Insn}
-use Rattle.isa_model.specs.declared.instructions.Insn.TheVariants.{Alu, Neg, MovSx, ByteSwap, LoadNumber, Load, LoadSx, StoreConstant, Store, Atomic, Exchange, CompareExchange, Jump, JumpLong, JumpIf, CallLocal, Exit}
+use Rattle.isa_model.specs.declared.instructions.Insn.TheVariants.{Alu, Neg, MovSx, ByteSwap, LoadNumber, LoadMap, LoadMapValue, Load, LoadSx, StoreConstant, Store, Atomic, Exchange, CompareExchange, Jump, JumpLong, JumpIf, CallHelper, CallLocal, Exit}
 use Rattle.isa_model.specs.declared.instructions.Operand.{Operand}
 use Rattle.isa_model.specs.declared.instructions.Operand.TheVariants.{Constant, Register}
 use Rattle.isa_model.specs.declared.instructions.AluOp.{AluOp}
@@ -65,6 +65,8 @@ slot_at-fits xs small = record {
 
 ends : (i : Insn) (bytes : List ℕ) → Continues (next_imm i) (drop 8 bytes) → take (8 * slots_of i) bytes ≡ take 8 bytes ++ second_bytes (next_imm i)
 ends (LoadNumber d n) bytes h = take-add 8 8 bytes ∙ ap (λ l. take 8 bytes ++ l) h
+ends (LoadMap d m) bytes h = take-add 8 8 bytes ∙ ap (λ l. take 8 bytes ++ l) h
+ends (LoadMapValue d m o) bytes h = take-add 8 8 bytes ∙ ap (λ l. take 8 bytes ++ l) h
 ends i bytes h = sym (append-nil (take 8 bytes))
 
 -- what is decoded is spelled by a slot and what follows it
@@ -140,6 +142,8 @@ first_slot-fits (Neg w d) h = fit _ (below16 d) (omega arith) (omega arith)
 first_slot-fits (MovSx x d r) h = fit _ (below16 d) (extension-lt x) (omega arith)
 first_slot-fits (ByteSwap order x d) h = fit _ (below16 d) (omega arith) (span-lt x)
 first_slot-fits (LoadNumber d n) h = fit _ (below16 d) (omega arith) (omega arith)
+first_slot-fits (LoadMap d m) h = fit _ (below16 d) (omega arith) h
+first_slot-fits (LoadMapValue d m o) h = fit _ (below16 d) (omega arith) h.0
 first_slot-fits (Load size d p) h = fit _ (below16 d) (unsigned16 p.offset h) (omega arith)
 first_slot-fits (LoadSx size d p) h = fit _ (below16 d) (unsigned16 p.offset h) (omega arith)
 first_slot-fits (StoreConstant size p k) h = fit _ (below16 p.base) (unsigned16 p.offset h.0) (unsigned32 k h.1)
@@ -150,6 +154,7 @@ first_slot-fits (CompareExchange w p s) h = fit _ (below16 p.base) (unsigned16 p
 first_slot-fits (Jump by) h = fit _ (omega arith) (unsigned16 by h) (omega arith)
 first_slot-fits (JumpLong by) h = fit _ (omega arith) (omega arith) (unsigned32 by h)
 first_slot-fits (JumpIf c by) h = fit _ (below16 c.register) (unsigned16 by h.1) (operand_imm-lt c.operand h.0)
+first_slot-fits (CallHelper n) h = fit _ (omega arith) (omega arith) (unsigned32 n h)
 first_slot-fits (CallLocal by) h = fit _ (omega arith) (omega arith) (unsigned32 by h)
 first_slot-fits Exit h = fit _ (omega arith) (omega arith) (omega arith)
 

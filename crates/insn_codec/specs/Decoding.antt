@@ -5,7 +5,7 @@ use Rattle.std.specs.Option.{option_map, ok_or}
 use Rattle.std.specs.Int.{w16, w32, cast_signed}
 use Rattle.byteorder.specs.Endian.{little_number}
 use Rattle.isa_model.specs.declared.registers.Reg.{Reg}
-use Rattle.isa_model.specs.declared.registers.Reg.TheVariants.{R0, R1}
+use Rattle.isa_model.specs.declared.registers.Reg.TheVariants.{R0, R1, R5, R6}
 use Rattle.isa_model.specs.declared.sizes.Span.{Span}
 use Rattle.isa_model.specs.declared.sizes.Span.TheVariants.{B16, B32, B64}
 use Rattle.isa_model.specs.declared.sizes.Extension.{Extension}
@@ -21,7 +21,7 @@ use Rattle.isa_model.specs.declared.instructions.Operand.{Operand}
 use Rattle.isa_model.specs.declared.instructions.Operand.TheVariants.{Constant, Register}
 use Rattle.isa_model.specs.declared.instructions.Place.{Place}
 use Rattle.isa_model.specs.declared.instructions.Insn.{Insn}
-use Rattle.isa_model.specs.declared.instructions.Insn.TheVariants.{Alu, Neg, MovSx, ByteSwap, LoadNumber, Load, LoadSx, StoreConstant, Store, Atomic, Exchange, CompareExchange, Jump, JumpLong, JumpIf, CallLocal, Exit}
+use Rattle.isa_model.specs.declared.instructions.Insn.TheVariants.{Alu, Neg, MovSx, ByteSwap, LoadNumber, LoadMap, LoadMapValue, Load, LoadSx, StoreConstant, Store, Atomic, Exchange, CompareExchange, Jump, JumpLong, JumpIf, CallHelper, CallLocal, Exit}
 use Rattle.isa_model.specs.declared.slots.Slot.{Slot}
 use Rattle.isa_model.specs.Code.Registers.{reg_numbered}
 use Rattle.isa_model.specs.Code.Instructions.{slots_of}
@@ -101,21 +101,29 @@ atomic w t =
     else if t.imm == 0xa1 then Ok (Atomic w atomics.Xor true at t.src)
     else Err UnknownSelector
 
--- a wide load of a number, whose upper half is next_imm
-abbrev pub wide_number : Fields → List ℕ → Result Insn CodecError
-wide_number t rest =
+-- next_imm, where the second slot is there and its reserved bits are zero
+abbrev pub second_slot : List ℕ → Result ℕ CodecError
+second_slot rest =
     if nat_lt (length rest) 8 then Err SecondSlot
     else if not (little_number 4 rest == 0) then Err SecondSlot
-    else Ok (LoadNumber t.dst (t.imm + little_number 4 (drop 4 rest) * 2 ^ 32))
+    else Ok (little_number 4 (drop 4 rest))
 
-abbrev pub wide_by : Reg → Fields → List ℕ → Result Insn CodecError
-wide_by R0 t rest = wide_number t rest
-wide_by r t rest = Err UnknownSelector
+abbrev pub with_next : Result ℕ CodecError → (ℕ → Result Insn CodecError) → Result Insn CodecError
+with_next (Ok next) f = f next
+with_next (Err e) f = Err e
+
+-- a number, whose upper half is next_imm; a map, by its index; a pointer into a map's value, at the offset next_imm
+abbrev pub wide_by : Reg → Fields → Result ℕ CodecError → Result Insn CodecError
+wide_by R0 t second = with_next second (λ next. Ok (LoadNumber t.dst (t.imm + next * 2 ^ 32)))
+wide_by R5 t second = with_next second (λ next. if next == 0 then Ok (LoadMap t.dst t.imm) else Err SecondSlot)
+wide_by R6 t second = with_next second (λ next. Ok (LoadMapValue t.dst t.imm next))
+wide_by r t second = Err UnknownSelector
 
 abbrev pub wide : Fields → List ℕ → Result Insn CodecError
-wide t rest = wide_by t.src t rest
+wide t rest = wide_by t.src t (second_slot rest)
 
 abbrev pub called_by : Reg → Fields → Result Insn CodecError
+called_by R0 t = Ok (CallHelper (constant_in t))
 called_by R1 t = Ok (CallLocal (constant_in t))
 called_by r t = Err UnknownSelector
 

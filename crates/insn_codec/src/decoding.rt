@@ -3,6 +3,7 @@
 ghost use Rattle.std.specs.Prelude.{◌≡◌};
 ghost use Rattle.insn_codec.specs.Decoding.{op_selected, extension_selected, span_selected};
 ghost use Rattle.insn_codec.specs.Decoding.{arithmetic, moved, swapped, atomic, wide, called};
+ghost use Rattle.insn_codec.specs.Decoding.{second_slot};
 ghost use Rattle.insn_codec.specs.Decoding.{meaning, slot_meaning};
 
 use crate::errors::CodecError;
@@ -72,6 +73,16 @@ fn span_selected(imm: u32) -> Option<Span>
     }
 }
 
+/// `next_imm` of the second slot, which the bytes begin with.
+fn next_imm(rest: &[u8]) -> Result<u32, CodecError>
+    ensures { result ≡ second_slot rest.now }
+{
+    if rest.len() < 8 || LittleEndian::read_u32(rest) != 0 {
+        return Err(CodecError::SecondSlot);
+    }
+    Ok(LittleEndian::read_u32(&rest[4..]))
+}
+
 impl Fields {
     fn arithmetic(self, width: Width, code: AluCode, operand: Operand) -> Result<Insn, CodecError>
         ensures { result ≡ arithmetic width code self operand }
@@ -129,17 +140,18 @@ impl Fields {
     fn wide(self, rest: &[u8]) -> Result<Insn, CodecError>
         ensures { result ≡ wide self rest.now }
     {
-        if !matches!(self.src, Reg::R0) {
-            return Err(CodecError::UnknownSelector);
+        match self.src {
+            Reg::R0 => {
+                let high = u64::from(next_imm(rest)?);
+                Ok(Insn::LoadNumber(self.dst, u64::from(self.imm) + high * 0x1_0000_0000))
+            }
+            Reg::R5 => match next_imm(rest)? {
+                0 => Ok(Insn::LoadMap(self.dst, self.imm)),
+                _ => Err(CodecError::SecondSlot),
+            },
+            Reg::R6 => Ok(Insn::LoadMapValue(self.dst, self.imm, next_imm(rest)?)),
+            _ => Err(CodecError::UnknownSelector),
         }
-        if rest.len() < 8 || LittleEndian::read_u32(rest) != 0 {
-            return Err(CodecError::SecondSlot);
-        }
-        let high = LittleEndian::read_u32(&rest[4..]);
-        Ok(Insn::LoadNumber(
-            self.dst,
-            u64::from(self.imm) + u64::from(high) * 0x1_0000_0000,
-        ))
     }
 
     /// The call that `src` selects.
@@ -147,6 +159,7 @@ impl Fields {
         ensures { result ≡ called self }
     {
         match self.src {
+            Reg::R0 => Ok(Insn::CallHelper(self.constant())),
             Reg::R1 => Ok(Insn::CallLocal(self.constant())),
             _ => Err(CodecError::UnknownSelector),
         }

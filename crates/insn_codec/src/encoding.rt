@@ -281,6 +281,8 @@ pub fn first_slot(insn: &Insn) -> Slot
             span_bits(span),
         ),
         Insn::LoadNumber(dst, number) => constant_slot(0x18, dst, (number % 0x1_0000_0000) as u32),
+        Insn::LoadMap(dst, map) => slot(0x18, register_field(dst), 5, 0, map),
+        Insn::LoadMapValue(dst, map, _) => slot(0x18, register_field(dst), 6, 0, map),
         Insn::Load(size, dst, place) => load_slot(0x61 + size_code(size), dst, place),
         Insn::LoadSx(size, dst, place) => load_slot(0x81 + narrow_code(size), dst, place),
         Insn::StoreConstant(size, place, constant) => store_constant_slot(size, place, constant),
@@ -295,6 +297,7 @@ pub fn first_slot(insn: &Insn) -> Slot
         Insn::Jump(by) => slot(0x05, 0, 0, by.cast_unsigned(), 0),
         Insn::JumpLong(by) => slot(0x06, 0, 0, 0, by.cast_unsigned()),
         Insn::JumpIf(cond, by) => jump_if_slot(cond, by),
+        Insn::CallHelper(number) => slot(0x85, 0, 0, 0, number.cast_unsigned()),
         Insn::CallLocal(by) => slot(0x85, 0, 1, 0, by.cast_unsigned()),
         Insn::Exit => slot(0x95, 0, 0, 0, 0),
     }
@@ -306,6 +309,8 @@ pub fn next_imm(insn: &Insn) -> Option<u32>
 {
     match *insn {
         Insn::LoadNumber(_, number) => Some((number / 0x1_0000_0000) as u32),
+        Insn::LoadMap(_, _) => Some(0),
+        Insn::LoadMapValue(_, _, offset) => Some(offset),
         _ => None,
     }
 }

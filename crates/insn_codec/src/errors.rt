@@ -19,7 +19,8 @@ pub enum CodecError {
     UnusedField,
     /// A selector has a value of no form.
     UnknownSelector,
-    /// The second slot of a wide load is missing, or its reserved bits are not zero.
+    /// The second slot of a wide load is missing, its reserved bits are not zero, or its `next_imm`
+    /// is not zero where the load is one of a map.
     SecondSlot,
 }
 
@@ -47,10 +48,9 @@ impl CodecError {
             CodecError::UnknownOpcode => "the opcode is unknown",
             CodecError::UnknownRegister => "a register number is over 10",
             CodecError::UnusedField => "a field that the instruction does not use is not 0",
-            CodecError::UnknownSelector =>
-                "the selector is unknown; helper calls and map loads are not supported yet",
+            CodecError::UnknownSelector => "the selector is unknown",
             CodecError::SecondSlot =>
-                "the second slot of the wide load is missing, or its low four bytes are not 0",
+                "the second slot of the wide load is missing, or a field that it does not use is not 0",
         }
     }
 }

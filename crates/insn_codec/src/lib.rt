@@ -1,6 +1,4 @@
 //! Instructions from bytes and into bytes. RFC 9669, section 3.
-//!
-//! A form that `Insn` does not have yet is refused by its selector.
 #![tactic(auto)]
 
 mod decoding;

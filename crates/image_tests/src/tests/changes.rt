@@ -43,8 +43,10 @@ const WITHOUT_IMM: [u8; 61] = [
 fn opcode_refusal(opcode: u8, imm: u8) -> Option<CodecError> {
     match opcode {
         0x18 => Some(CodecError::SecondSlot),
-        // END and CALL have no form with this `imm`; of the atomic operations ADD has 0
-        0xd4 | 0xd7 | 0xdc | 0x85 => Some(CodecError::UnknownSelector),
+        // END has no form with this `imm`; of the atomic operations ADD has 0
+        0xd4 | 0xd7 | 0xdc => Some(CodecError::UnknownSelector),
+        // the call of a helper, of any number
+        0x85 => None,
         0xc3 | 0xdb if imm == 0 => None,
         0xc3 | 0xdb => Some(CodecError::UnknownSelector),
         _ if WITH_IMM.contains(&opcode) => None,
@@ -70,6 +72,7 @@ fn refusal_of_change(place: usize, value: u8) -> Option<ImageError> {
     let unused = Some(CodecError::UnusedField);
     match place {
         0..=3 => Some(Magic),
+        4 if value <= 16 => Some(Short),
         4 | 5 => Some(TooManyMaps),
         6 if value == 0 => Some(SlotCount),
         6 if value == 1 => Some(Long),

@@ -32,7 +32,7 @@ fn jump_if(width: Width, comparison: Comparison, operand: Operand, by: i16) -> I
 }
 
 /// What encoding answers, the bytes that it leaves of 16 times 0xaa, and what they decode to.
-fn both_ways(insn: Insn) -> (usize, [u8; 16], Result<(Insn, usize), CodecError>) {
+pub fn both_ways(insn: Insn) -> (usize, [u8; 16], Result<(Insn, usize), CodecError>) {
     let mut out = [0xaa; 16];
     let length = encode(&insn, &mut out);
     (length, out, decode(&out))
@@ -48,7 +48,7 @@ fn assert_spelled(rt: &impl Abort, insn: Insn, bytes: u64) {
 }
 
 /// Why bytes are no instruction, if they are none.
-fn refusal_of(bytes: &[u8]) -> Option<CodecError> {
+pub fn refusal_of(bytes: &[u8]) -> Option<CodecError> {
     decode(bytes).err()
 }
 
@@ -237,6 +237,8 @@ fn spells_jumps(rt: HostRuntime) {
     for (insn, bytes) in [
         (Insn::Jump(-2), 0x0500_feff_00000000),
         (Insn::JumpLong(65536), 0x0600_0000_00000100),
+        (Insn::CallHelper(1), 0x8500_0000_01000000),
+        (Insn::CallHelper(-1), 0x8500_0000_ffffffff),
         (Insn::CallLocal(-1), 0x8510_0000_ffffffff),
         (Insn::Exit, 0x9500_0000_00000000),
         (
@@ -288,31 +290,8 @@ fn spells_jumps(rt: HostRuntime) {
     }
 }
 
-/// A wide load of r1: 0x18, the register byte, the low half, the reserved bits and the high half.
-const WIDE: [u8; 16] = [
-    0x18, 0x01, 0, 0, 0x08, 0x07, 0x06, 0x05, 0, 0, 0, 0, 0x04, 0x03, 0x02, 0x01,
-];
-
-#[test]
-fn spells_wide_loads(rt: HostRuntime) {
-    let insn = Insn::LoadNumber(R1, 0x0102_0304_0506_0708);
-    let (length, out, decoded) = both_ways(insn);
-    assert_eq!(rt; (length, out), (16, WIDE));
-    assert_eq!(rt; decoded, Ok((insn, 16)));
-    for length in 8..16 {
-        let refused = refusal_of(&WIDE[..length]);
-        assert_eq!(rt; refused, Some(CodecError::SecondSlot), "{length} bytes");
-    }
-    for reserved in 8..12 {
-        let mut bytes = WIDE;
-        bytes[reserved] = 1;
-        let refused = refusal_of(&bytes);
-        assert_eq!(rt; refused, Some(CodecError::SecondSlot), "byte {reserved}");
-    }
-}
-
 /// Eight bytes, written from left to right, and why they are no instruction.
-const REFUSED: [(u64, CodecError); 28] = [
+const REFUSED: [(u64, CodecError); 29] = [
     // NEG X, JA X, EXIT of JMP32, END X of ALU64, a legacy packet load, a load of a signed u64
     (0x8c00_0000_00000000, CodecError::UnknownOpcode),
     (0x0d00_0000_00000000, CodecError::UnknownOpcode),
@@ -341,10 +320,11 @@ const REFUSED: [(u64, CodecError); 28] = [
     (0xbc21_2000_00000000, CodecError::UnknownSelector),
     (0xd401_0000_08000000, CodecError::UnknownSelector),
     (0xdb10_0000_e0000000, CodecError::UnknownSelector),
-    (0x8500_0000_01000000, CodecError::UnknownSelector),
     (0x8520_0000_00000000, CodecError::UnknownSelector),
-    (0x1851_0000_00000000, CodecError::UnknownSelector),
-    // a wide load of one slot
+    (0x1811_0000_00000000, CodecError::UnknownSelector),
+    (0x1871_0000_00000000, CodecError::UnknownSelector),
+    // wide loads of one slot
+    (0x1851_0000_00000000, CodecError::SecondSlot),
     (0x1801_0000_00000000, CodecError::SecondSlot),
 ];
 

@@ -7,7 +7,7 @@ use Rattle.isa_model.specs.declared.instructions.AluOp.TheVariants.{Add}
 use Rattle.isa_model.specs.declared.instructions.Operand.TheVariants.{Constant}
 use Rattle.isa_model.specs.declared.instructions.Insn.{Insn}
 use Rattle.isa_model.specs.declared.instructions.Insn.TheVariants.{Alu}
-use Rattle.isa_model.specs.Code.Instructions.{slots, slots_of}
+use Rattle.isa_model.specs.Code.Instructions.{slots}
 use Rattle.isa_model.specs.Code.Spelling.{InsnFits}
 use Rattle.image.specs.Images.{IsCode}
 use Rattle.image.specs.CodeLaws.{slots-append, slots-one, slots-two, IsCode-one, IsCode-append}

@@ -1,0 +1,50 @@
+use Rattle.std.proofs.Common.{◌≡◌, ◌*◌, ◌+◌, ◌-◌, ◌/◌, List, Option, None, Result, Ok, Err, length, take, drop, false, sym, ap, ◌∙◌, subst, arith}
+use Rattle.std.specs.Prelude.{All, ◌⊎◌}
+use Rattle.std.proofs.lemmas.Result.{err_from_is_err_and}
+use Rattle.isa_model.specs.declared.map_defs.MapDef.{MapDef}
+use Rattle.isa_model.specs.declared.instructions.Insn.{Insn}
+use Rattle.isa_model.specs.Code.MapRows.{IsRow}
+use Rattle.image.specs.declared.errors.ImageError.{ImageError}
+use Rattle.image.specs.declared.errors.ImageError.TheVariants.{Memory}
+use Rattle.image.specs.Refusals.{room_refusal, code_from}
+use Rattle.image.proofs.RowSpelling.{rows_from-fit}
+use Rattle.image.proofs.Whole.{sizes, rows_from-slice, code_read-slice, program_read-code, code_fails}
+use Rattle.image.proofs.images.parts_of.Goals as goal
+
+pub room_refusal-requires-clause-fit : goal.room_refusal-requires-clause-fit
+room_refusal-requires-clause-fit c =
+    subst (λ (l : List MapDef). All IsRow l) (sym c.deref.ensures.value)
+    (rows_from-fit c.map_count-count.result 0 _ c.in_ok-maps.maps.items c.in_ok-maps.ensures).1
+
+pub room_refusal-requires-clause-few : goal.room_refusal-requires-clause-few
+room_refusal-requires-clause-few c =
+    let s = sizes c.args.bytes.now c.requires in
+    let rows = rows_from-fit c.map_count-count.result 0 _ c.in_ok-maps.maps.items c.in_ok-maps.ensures in
+    let same : length c.deref.result.now ≡ length c.in_ok-maps.maps.items = ap (λ (l : List MapDef). length l) c.deref.ensures.value in
+    omega (arith, same, rows.0, c.map_count-count.ensures, s.maps)
+
+pub returns-in_err-slots : goal.returns-in_err-slots
+returns-in_err-slots c =
+    let bytes = c.args.bytes.now in
+    let rows = c.in_ok-maps.maps.items in
+    let error = c.in_err-slots.field-0.0 in
+    let s = sizes bytes c.requires in
+    let read = sym (rows_from-slice bytes c.map_count-count.result c.map_count-count.ensures) ∙ c.in_ok-maps.ensures in
+    let room = subst (λ (l : List MapDef). room_refusal l ≡ None) c.deref.ensures.value (sym c.in_default.ensures) in
+    let slice = take (length bytes - (8 + 12 * c.map_count-count.result)) (drop (8 + 12 * c.map_count-count.result) bytes) in
+    let on_rows = subst (λ (l : List MapDef). (error ≡ Memory) ⊎ (code_from l (length slice / 8) false 0 slice ≡ Err error)) c.deref-2.ensures.value c.in_err-slots.ensures in
+    let code = subst (λ (r : Result (List (Option Insn)) ImageError). (error ≡ Memory) ⊎ (r ≡ Err error)) (code_read-slice bytes c.map_count-count.result rows s c.map_count-count.ensures) on_rows in
+    let p = err_from_is_err_and c.from_residual-in_err-slots.result c.from_residual-in_err-slots.ensures.1 in
+    rw (p.1, p.2) (code_fails bytes rows error read room code)
+
+pub returns : goal.returns
+returns c =
+    let bytes = c.args.bytes.now in
+    let rows = c.in_ok-maps.maps.items in
+    let s = sizes bytes c.requires in
+    let read = sym (rows_from-slice bytes c.map_count-count.result c.map_count-count.ensures) ∙ c.in_ok-maps.ensures in
+    let room = subst (λ (l : List MapDef). room_refusal l ≡ None) c.deref.ensures.value (sym c.in_default.ensures) in
+    let slice = take (length bytes - (8 + 12 * c.map_count-count.result)) (drop (8 + 12 * c.map_count-count.result) bytes) in
+    let on_rows = subst (λ (l : List MapDef). code_from l (length slice / 8) false 0 slice ≡ Ok c.in_ok-slots.slots.items) c.deref-2.ensures.value c.in_ok-slots.ensures in
+    program_read-code bytes rows (Ok c.in_ok-slots.slots.items) read room
+    (sym (code_read-slice bytes c.map_count-count.result rows s c.map_count-count.ensures) ∙ on_rows)
