@@ -85,9 +85,9 @@ lexeme-decimal c (d ∷ ds) rest h small low =
 
 -- the progress with one more number
 abbrev with_number : Progress → ℕ → Progress
-with_number s n = record { tokens = s.tokens ++ Number n ∷ []; insns = s.insns }
+with_number s n = record { tokens = s.tokens ++ Number n ∷ []; parts = s.parts }
 
-pub decimal-read : (n c : ℕ) (rest : List ℕ) (s : Progress) → n < 2 ^ 64 → c < 48 → assembled (decimal n ++ c ∷ rest) 0 s ≡ assembled (c ∷ rest) 0 (record { tokens = s.tokens ++ Number n ∷ []; insns = s.insns })
+pub decimal-read : (n c : ℕ) (rest : List ℕ) (s : Progress) → n < 2 ^ 64 → c < 48 → assembled (decimal n ++ c ∷ rest) 0 s ≡ assembled (c ∷ rest) 0 (record { tokens = s.tokens ++ Number n ∷ []; parts = s.parts })
 decimal-read n c rest s small low =
     let own = decimal_is_IsNumeral n small in
     let fits : digits_value 10 (decimal n) < 2 ^ 64 = rw own.1 small in
@@ -95,7 +95,7 @@ decimal-read n c rest s small low =
     ∙ ap (λ v. assembled (c ∷ rest) 0 (with_number s v)) own.1
 
 -- hexadecimal digits after 0x
-pub hexadecimal-read : (n c : ℕ) (rest : List ℕ) (s : Progress) → n < 2 ^ 64 → c < 48 → assembled (48 ∷ 120 ∷ (digits 16 false n ++ c ∷ rest)) 0 s ≡ assembled (c ∷ rest) 0 (record { tokens = s.tokens ++ Number n ∷ []; insns = s.insns })
+pub hexadecimal-read : (n c : ℕ) (rest : List ℕ) (s : Progress) → n < 2 ^ 64 → c < 48 → assembled (48 ∷ 120 ∷ (digits 16 false n ++ c ∷ rest)) 0 s ≡ assembled (c ∷ rest) 0 (record { tokens = s.tokens ++ Number n ∷ []; parts = s.parts })
 hexadecimal-read n c rest s small low =
     let own = digits_is_IsNumeral 16 false (lit≤ tt) (lit≤ tt) n (omega arith) in
     let ds = digits 16 false n in

@@ -22,7 +22,7 @@ use Rattle.isa_model.specs.declared.instructions.Comparison.TheVariants as compa
 use Rattle.isa_model.specs.declared.instructions.Operand.{Operand}
 use Rattle.isa_model.specs.declared.instructions.Operand.TheVariants.{Constant, Register}
 use Rattle.isa_model.specs.declared.instructions.Insn.{Insn}
-use Rattle.isa_model.specs.declared.instructions.Insn.TheVariants.{Alu, Neg, MovSx, ByteSwap, LoadNumber, Load, LoadSx, StoreConstant, Store, Atomic, Exchange, CompareExchange, Jump, JumpLong, JumpIf, CallLocal, Exit}
+use Rattle.isa_model.specs.declared.instructions.Insn.TheVariants.{Alu, Neg, MovSx, ByteSwap, LoadNumber, Load, LoadSx, StoreConstant, Store, Atomic, Exchange, CompareExchange, Jump, JumpLong, JumpIf, CallHelper, CallLocal, Exit}
 use Rattle.isa_model.specs.Code.Registers.{reg_number}
 use Rattle.isa_model.specs.Code.Sizes.{width_bits, width_size}
 use Rattle.isa_model.specs.Code.Spelling.{OperandFits}
@@ -35,7 +35,8 @@ use Rattle.lexer.specs.declared.tokens.Token.{Token}
 use Rattle.lexer.specs.declared.tokens.Token.TheVariants.{Named, Number, Signed}
 use Rattle.assembler.specs.declared.readings.Reading.{Reading}
 use Rattle.assembler.specs.declared.wrong.Wrong.{Wrong}
-use Rattle.assembler.specs.Statements.{arithmetic, atomic_op_of, comparison_of, width_of, statement_of}
+use Rattle.assembler.specs.Operands.{atomic_op_of, comparison_of, width_of}
+use Rattle.assembler.specs.Statements.{arithmetic, statement_of}
 use Rattle.assembler.proofs.PlainTexts.{unnamed_reading, plain_statement}
 use Rattle.assembler.proofs.TokenReads.{op_sign, atomic_sign, comparison_sign, extended_from, signed_tokens, constant_tokens, operand_tokens}
 
@@ -201,6 +202,11 @@ pub call-form : (by : ℤ) → FitsSigned w32 by → plain_statement (Named word
 unfolding statement_of
 call-form (pos n) h = rw (imm-pos n h) refl
 call-form (negsuc n) h = rw (imm-neg n h) refl
+
+pub helper-form : (k : ℤ) → FitsSigned w32 k → plain_statement (Named word.Call ∷ constant_tokens k) ≡ Some (CallHelper k)
+unfolding statement_of
+helper-form (pos n) h = rw (imm-pos n h) refl
+helper-form (negsuc n) h = rw (imm-neg n h) refl
 
 pub exit-form : plain_statement (Named word.Exit ∷ []) ≡ Some Exit
 unfolding statement_of

@@ -4,6 +4,7 @@ pub mod DigitRuns
 pub mod TokenReads
 pub mod FormReads
 pub mod LineReads
+pub mod MapReads
 pub mod TextReads
 pub mod ColumnCounts
 pub mod LabelLookups

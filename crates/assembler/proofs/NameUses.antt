@@ -7,7 +7,7 @@ use Rattle.assembler.specs.declared.errors.AsmErrorKind.TheVariants.{NotDefined}
 use Rattle.assembler.specs.declared.refusals.Refusal.{Refusal}
 use Rattle.assembler.specs.declared.names.Use.{Use}
 use Rattle.assembler.specs.Naming.{NameUse, use_of, aim, aim_used, put, resolved}
-use Rattle.assembler.specs.Statements.{◌>>=◌}
+use Rattle.assembler.specs.Operands.{◌>>=◌}
 
 -- what the use makes of the instruction that stands at its index, and the uses after it of that
 abbrev turn : (List ℕ → Option ℕ) → List Use → List Insn → ℕ → NameUse → Option Insn → Result (List Insn) Refusal

@@ -1,5 +1,6 @@
 -- A text without labels and names is read as it is in the simpler way.
-use Rattle.std.proofs.Common.{◌≡◌, ℕ, zero, suc, ◌+◌, ◌-◌, ◌==◌, Bool, true, false, if◌then◌else◌, List, [], ◌∷◌, ◌++◌, length, take, refl, ap, ◌∙◌, sym, subst, arith, ne_eqb, Option, Some, None, ok_or, Result, Ok, Err}
+use Rattle.std.proofs.Common.{◌≡◌, ℕ, zero, suc, ◌+◌, ◌-◌, ◌==◌, Bool, true, false, if◌then◌else◌, List, [], ◌∷◌, ◌++◌, length, take, refl, ap, ◌∙◌, sym, subst, arith, ne_eqb, ◌&&◌, is_none, slice_get, Option, Some, None, ok_or, Result, Ok, Err}
+use Rattle.isa_model.specs.declared.map_defs.MapDef.{MapDef}
 use Rattle.isa_model.specs.declared.instructions.Insn.{Insn}
 use Rattle.isa_model.specs.declared.instructions.Insn.TheVariants.{Exit}
 use Rattle.lexer.specs.declared.tokens.Word.{Word}
@@ -10,20 +11,26 @@ use Rattle.lexer.specs.declared.tokens.Token.TheVariants.{Named, Signed}
 use Rattle.lexer.specs.declared.tokens.Lexeme.{Lexeme}
 use Rattle.lexer.specs.declared.tokens.Lexeme.TheVariants.{Blank, End, Solid}
 use Rattle.lexer.specs.Lexing.{lexeme_at, fault_at}
-use Rattle.assembler.specs.declared.errors.AsmErrorKind.TheVariants.{UnknownByte, SlotCount}
+use Rattle.assembler.specs.declared.errors.AsmErrorKind.TheVariants.{UnknownByte, MapLine, SlotCount}
 use Rattle.assembler.specs.declared.readings.Reading.{Reading}
 use Rattle.assembler.specs.declared.refusals.Refusal.{Refusal}
+use Rattle.assembler.specs.declared.readings.Statement.{Statement}
+use Rattle.assembler.specs.declared.readings.Statement.TheVariants.{Empty, Row, Instruction}
 use Rattle.assembler.specs.declared.wrong.Wrong.{Wrong}
-use Rattle.assembler.specs.Statements.{◌>>=◌, keep, statement_of}
-use Rattle.assembler.specs.Labelled.{label_length}
+use Rattle.assembler.specs.declared.wrong.Wrong.TheVariants.{Form}
+use Rattle.assembler.specs.declared.wrong.Objection.{Objection}
+use Rattle.assembler.specs.Operands.{◌>>=◌, keep}
+use Rattle.assembler.specs.Statements.{statement_of, map_line}
+use Rattle.assembler.specs.Labelled.{label_length, begins_map_line}
+use Rattle.assembler.specs.MapTests.{takes_row, objection_to_load, objection}
 use Rattle.assembler.specs.Naming.{NameUse}
-use Rattle.assembler.specs.Assembling.{Progress, TokenPlace, has_room, refused_at, begins_at, unless_wrong, ended, closed_behind, closed, accept, read_on}
-use Rattle.assembler.proofs.PlainTexts.{unnamed, unnamed_reading, plain_statement, added}
+use Rattle.assembler.specs.Assembling.{Progress, TokenPlace, has_room, refused_at, begins_at, unless_wrong, unless_refused, ended, closed_behind, closed, accept, read_on}
+use Rattle.assembler.proofs.PlainTexts.{unnamed, unnamed_reading, plain_statement, no-insn, not-map-line, added, added_row}
 use Rattle.assembler.proofs.PlainTexts as plain
 
 -- what the simpler reading knows of it
 abbrev pub shadow : Progress → plain.Progress
-shadow s = record { tokens = s.tokens; insns = s.insns }
+shadow s = record { tokens = s.tokens; parts = record { maps = s.maps; insns = s.insns } }
 
 -- it comes to what the simpler reading comes to, and uses no name
 abbrev pub Goes : Result Progress Refusal → plain.Progress → Type 0
@@ -42,12 +49,6 @@ never : (final : plain.Progress) → none ≡ Some final → ⊥
 never final h = cc
 
 -- ---- a label is no instruction
-
-abbrev no_insn : Option Insn
-no_insn = None
-
-no-insn : (i : Insn) → no_insn ≡ Some i → ⊥
-no-insn i h = cc
 
 labelled : (x : Word) (ts : List Token) (i : Insn) → plain_statement (Named x ∷ Signed sign.Colon ∷ ts) ≡ Some i → ⊥
 unfolding statement_of
@@ -81,36 +82,87 @@ read-plainly : (r : Result Reading Wrong) (i : Insn) → unnamed_reading r ≡ S
 read-plainly (Ok r) i h = named-not r.insn r.name i h
 read-plainly (Err wrong) i h = absurd (no-insn i h)
 
+-- what a statement that is nothing but what was said comes to
+abbrev said_in : Progress → Result Statement Wrong → Result Progress Refusal
+said_in s r = unless_wrong s 0 r >>= λ said. unless_refused s 0 (objection s.insns s.maps said) >>= λ u. ended s 0 said
+
 -- what a progress is once an instruction was added
 abbrev with_one : Progress → Insn → Progress
-with_one s i = record { tokens = []; places = []; insns = s.insns ++ i ∷ []; labels = s.labels; uses = s.uses }
+with_one s i = record { tokens = []; places = []; maps = s.maps; insns = s.insns ++ i ∷ []; labels = s.labels; uses = s.uses }
 
-closed-behind : (s : Progress) (i : Insn) → (length s.tokens == 0) ≡ false → statement_of s.tokens ≡ plainly i → has_room (s.insns ++ i ∷ []) ≡ true → closed_behind s 0 ≡ Ok (with_one s i)
-closed-behind s i more e room =
+closed-behind : (s : Progress) (i : Insn) → (length s.tokens == 0) ≡ false → plain_statement s.tokens ≡ Some i → objection_to_load s.maps i ≡ None → has_room (s.insns ++ i ∷ []) ≡ true → closed_behind s 0 ≡ Ok (with_one s i)
+closed-behind s i more e allowed room =
     let r : Reading = record { insn = i; name = None } in
-    ap (λ (b : Bool). unless_wrong s 0 (if b then Ok None else statement_of s.tokens >>= λ q. Ok (Some q)) >>= λ said. ended s 0 said) more
-    ∙ ap (λ (o : Result Reading Wrong). unless_wrong s 0 (o >>= λ q. Ok (Some q)) >>= λ said. ended s 0 said) e
-    ∙ ap (λ (b : Bool). refused_at (begins_at s) (if b then Ok (s.insns ++ i ∷ []) else Err SlotCount) >>= λ insns. Ok (record { tokens = []; places = []; insns = insns; labels = s.labels; uses = s.uses })) room
+    ap (λ (b : Bool). said_in s (if b then Ok Empty else if begins_map_line (slice_get s.tokens 0) then (map_line s.tokens >>= λ row. Ok (Row row)) else (statement_of s.tokens >>= λ q. Ok (Instruction q)))) more
+    ∙ ap (λ (b : Bool). said_in s (if b then (map_line s.tokens >>= λ row. Ok (Row row)) else (statement_of s.tokens >>= λ q. Ok (Instruction q)))) (not-map-line s.tokens i e)
+    ∙ ap (λ (o : Result Reading Wrong). said_in s (o >>= λ q. Ok (Instruction q))) (read-plainly (statement_of s.tokens) i e)
+    ∙ ap (λ o. unless_refused s 0 o >>= λ u. ended s 0 (Instruction r)) allowed
+    ∙ ap (λ (b : Bool). refused_at (begins_at s) (if b then Ok (s.insns ++ i ∷ []) else Err SlotCount) >>= λ insns. Ok (record { tokens = []; places = []; maps = s.maps; insns = insns; labels = s.labels; uses = s.uses })) room
 
-added-goes : (s : Progress) (i : Insn) (room : Bool) (final : plain.Progress) → has_room (s.insns ++ i ∷ []) ≡ room → (length s.tokens == 0) ≡ false → plain_statement s.tokens ≡ Some i → s.uses ≡ [] → plain.keep room (shadow (with_one s i)) ≡ Some final → Goes (closed s) final
-added-goes s i false final room more e unused h = absurd (never final h)
-added-goes s i true final room more e unused h =
-    (with_one s i, ap (λ k. closed_behind s k) (not-labelled s.tokens i e) ∙ closed-behind s i more (read-plainly (statement_of s.tokens) i e) room, same_some (shadow (with_one s i)) final h, unused)
+added-goes : (s : Progress) (i : Insn) (o : Option Objection) (room : Bool) (final : plain.Progress) → objection_to_load s.maps i ≡ o → has_room (s.insns ++ i ∷ []) ≡ room → (length s.tokens == 0) ≡ false → plain_statement s.tokens ≡ Some i → s.uses ≡ [] → plain.keep (is_none o && room) (shadow (with_one s i)) ≡ Some final → Goes (closed s) final
+added-goes s i (Some x) room final allowed fits more e unused h = absurd (never final h)
+added-goes s i None false final allowed fits more e unused h = absurd (never final h)
+added-goes s i None true final allowed fits more e unused h =
+    (with_one s i, ap (λ k. closed_behind s k) (not-labelled s.tokens i e) ∙ closed-behind s i more e allowed fits, same_some (shadow (with_one s i)) final h, unused)
 
-statement-goes : (s : Progress) (o : Option Insn) (final : plain.Progress) → plain_statement s.tokens ≡ o → (length s.tokens == 0) ≡ false → s.uses ≡ [] → added (shadow s) o ≡ Some final → Goes (closed s) final
+statement-goes : (s : Progress) (o : Option Insn) (final : plain.Progress) → plain_statement s.tokens ≡ o → (length s.tokens == 0) ≡ false → s.uses ≡ [] → added (shadow s).parts o ≡ Some final → Goes (closed s) final
 statement-goes s None final e more unused h = absurd (never final h)
-statement-goes s (Some i) final e more unused h = added-goes s i (has_room (s.insns ++ i ∷ [])) final refl more e unused h
+statement-goes s (Some i) final e more unused h = added-goes s i (objection_to_load s.maps i) (has_room (s.insns ++ i ∷ [])) final refl refl more e unused h
 
-closed-at : (ts : List Token) (ps : List TokenPlace) (is : List Insn) (ls : List (List ℕ × ℕ)) (us : List NameUse) (final : plain.Progress) → us ≡ [] → plain.closed (record { tokens = ts; insns = is }) ≡ Some final → Goes (closed (record { tokens = ts; places = ps; insns = is; labels = ls; uses = us })) final
-closed-at [] ps is ls us final unused h = (record { tokens = []; places = []; insns = is; labels = ls; uses = us }, refl, same_some (record { tokens = []; insns = is }) final h, unused)
-closed-at (t ∷ ts) ps is ls us final unused h =
-    let s : Progress = record { tokens = t ∷ ts; places = ps; insns = is; labels = ls; uses = us } in
+-- ---- the end of a map line
+
+abbrev found : MapDef → Result MapDef Wrong
+found row = Ok row
+
+abbrev no_row : Wrong → Result MapDef Wrong
+no_row wrong = Err wrong
+
+row-found : (row : MapDef) (wrong : Wrong) → no_row wrong ≡ found row → ⊥
+row-found row wrong h = cc
+
+row-not-labelled : (ts : List Token) (row : MapDef) → map_line ts ≡ found row → label_length ts ≡ 0
+row-not-labelled [] row h = refl
+row-not-labelled (Named x ∷ []) row h = refl
+row-not-labelled (Named x ∷ Signed sign.Colon ∷ ts) row h = absurd (row-found row Form h)
+row-not-labelled (Named x ∷ t ∷ ts) row h = refl
+row-not-labelled (t ∷ ts) row h = refl
+
+abbrev with_row : Progress → MapDef → Progress
+with_row s row = record { tokens = []; places = []; maps = s.maps ++ row ∷ []; insns = s.insns; labels = s.labels; uses = s.uses }
+
+row-behind : (s : Progress) (row : MapDef) → (length s.tokens == 0) ≡ false → begins_map_line (slice_get s.tokens 0) ≡ true → map_line s.tokens ≡ found row → takes_row s.insns s.maps row ≡ true → closed_behind s 0 ≡ Ok (with_row s row)
+row-behind s row more line e taken =
+    ap (λ (b : Bool). said_in s (if b then Ok Empty else if begins_map_line (slice_get s.tokens 0) then (map_line s.tokens >>= λ row. Ok (Row row)) else (statement_of s.tokens >>= λ q. Ok (Instruction q)))) more
+    ∙ ap (λ (b : Bool). said_in s (if b then (map_line s.tokens >>= λ row. Ok (Row row)) else (statement_of s.tokens >>= λ q. Ok (Instruction q)))) line
+    ∙ ap (λ (o : Result MapDef Wrong). said_in s (o >>= λ row. Ok (Row row))) e
+    ∙ ap (λ (b : Bool). unless_refused s 0 (if b then None else Some (record { kind = MapLine; token = 0 })) >>= λ u. ended s 0 (Row row)) taken
+
+taken-goes : (s : Progress) (row : MapDef) (taken : Bool) (final : plain.Progress) → takes_row s.insns s.maps row ≡ taken → (length s.tokens == 0) ≡ false → begins_map_line (slice_get s.tokens 0) ≡ true → map_line s.tokens ≡ found row → s.uses ≡ [] → plain.keep taken (shadow (with_row s row)) ≡ Some final → Goes (closed s) final
+taken-goes s row false final t more line e unused h = absurd (never final h)
+taken-goes s row true final t more line e unused h =
+    (with_row s row, ap (λ k. closed_behind s k) (row-not-labelled s.tokens row e) ∙ row-behind s row more line e t, same_some (shadow (with_row s row)) final h, unused)
+
+row-goes : (s : Progress) (r : Result MapDef Wrong) (final : plain.Progress) → map_line s.tokens ≡ r → (length s.tokens == 0) ≡ false → begins_map_line (slice_get s.tokens 0) ≡ true → s.uses ≡ [] → added_row (shadow s).parts r ≡ Some final → Goes (closed s) final
+row-goes s (Err wrong) final e more line unused h = absurd (never final h)
+row-goes s (Ok row) final e more line unused h = taken-goes s row (takes_row s.insns s.maps row) final refl more line e unused h
+
+-- ---- the end of any statement
+
+more-goes : (s : Progress) (line : Bool) (final : plain.Progress) → begins_map_line (slice_get s.tokens 0) ≡ line → (length s.tokens == 0) ≡ false → s.uses ≡ [] → (if line then added_row (shadow s).parts (map_line s.tokens) else added (shadow s).parts (plain_statement s.tokens)) ≡ Some final → Goes (closed s) final
+more-goes s true final line more unused h = row-goes s (map_line s.tokens) final refl more line unused h
+more-goes s false final line more unused h = statement-goes s (plain_statement s.tokens) final refl more unused h
+
+closed-at : (ts : List Token) (ms : List MapDef) (ps : List TokenPlace) (is : List Insn) (ls : List (List ℕ × ℕ)) (us : List NameUse) (final : plain.Progress) → us ≡ [] → plain.closed (record { tokens = ts; parts = record { maps = ms; insns = is } }) ≡ Some final → Goes (closed (record { tokens = ts; places = ps; maps = ms; insns = is; labels = ls; uses = us })) final
+closed-at [] ms ps is ls us final unused h = (record { tokens = []; places = []; maps = ms; insns = is; labels = ls; uses = us }, refl, same_some (record { tokens = []; parts = record { maps = ms; insns = is } }) final h, unused)
+closed-at (t ∷ ts) ms ps is ls us final unused h =
+    let s : Progress = record { tokens = t ∷ ts; places = ps; maps = ms; insns = is; labels = ls; uses = us } in
     let more : (length (t ∷ ts) == 0) ≡ false = ne_eqb (length (t ∷ ts)) 0 (λ e. omega (arith, e)) in
-    let taken : added (shadow s) (plain_statement (t ∷ ts)) ≡ Some final = sym (ap (λ (b : Bool). if b then Some (shadow s) else added (shadow s) (plain_statement (t ∷ ts))) more) ∙ h in
-    statement-goes s (plain_statement (t ∷ ts)) final refl more unused taken
+    let line : Bool = begins_map_line (slice_get (t ∷ ts) 0) in
+    let rest : Option plain.Progress = if line then added_row (shadow s).parts (map_line (t ∷ ts)) else added (shadow s).parts (plain_statement (t ∷ ts)) in
+    more-goes s line final refl more unused (sym (ap (λ (b : Bool). if b then Some (shadow s) else rest) more) ∙ h)
 
 closed-goes : (s : Progress) (final : plain.Progress) → s.uses ≡ [] → plain.closed (shadow s) ≡ Some final → Goes (closed s) final
-closed-goes s final unused h = closed-at s.tokens s.places s.insns s.labels s.uses final unused h
+closed-goes s final unused h = closed-at s.tokens s.maps s.places s.insns s.labels s.uses final unused h
 
 -- ---- the rest of a text
 
@@ -132,7 +184,7 @@ lexeme-goes : (b : ℕ) (bs : List ℕ) (x : Lexeme) (n at : ℕ) (s : Progress)
 lexeme-goes b bs Blank n at s final on unused h = on (n - 1) (at + 1) s unused h
 lexeme-goes b bs End n at s final on unused h = end-goes bs (n - 1) (at + 1) s (plain.closed (shadow s)) final on unused refl h
 lexeme-goes b bs (Solid t) n at s final on unused h =
-    on (n - 1) (at + 1) (record { tokens = s.tokens ++ t ∷ []; places = s.places ++ (at, take n (b ∷ bs)) ∷ []; insns = s.insns; labels = s.labels; uses = s.uses }) unused h
+    on (n - 1) (at + 1) (record { tokens = s.tokens ++ t ∷ []; places = s.places ++ (at, take n (b ∷ bs)) ∷ []; maps = s.maps; insns = s.insns; labels = s.labels; uses = s.uses }) unused h
 
 found-goes : (b : ℕ) (bs : List ℕ) (o : Option (Lexeme × ℕ)) (at : ℕ) (s : Progress) (final : plain.Progress) → GoesOn bs final → s.uses ≡ [] → plain.◌>>=◌ o (λ (p : Lexeme × ℕ). plain.◌>>=◌ (plain.accept (shadow s) p.0) (λ t. plain.assembled bs (p.1 - 1) t)) ≡ Some final → Goes (from_lexeme bs b at s (ok_or o (record { kind = UnknownByte; offset = at + fault_at (b ∷ bs) }))) final
 found-goes b bs None at s final on unused h = absurd (never final h)

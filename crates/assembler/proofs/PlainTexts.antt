@@ -1,14 +1,19 @@
 -- Texts without labels and names, read in a simpler way: canonical text is one.
-use Rattle.std.proofs.Common.{ℕ, zero, suc, ◌-◌, ◌==◌, Bool, true, false, if◌then◌else◌, List, [], ◌∷◌, ◌++◌, length, Option, Some, None, Result, Ok, Err}
-use Rattle.std.specs.Prelude.{option_and_then}
+use Rattle.std.proofs.Common.{ℕ, zero, suc, ◌-◌, ◌==◌, Bool, true, false, if◌then◌else◌, List, [], ◌∷◌, ◌++◌, length, ◌≡◌, refl, Option, Some, None, Result, Ok, Err}
+use Rattle.std.specs.Prelude.{option_and_then, is_none, slice_get, ◌&&◌}
 use Rattle.isa_model.specs.declared.instructions.Insn.{Insn}
+use Rattle.lexer.specs.declared.tokens.Word.TheVariants as word
 use Rattle.lexer.specs.declared.tokens.Token.{Token}
+use Rattle.lexer.specs.declared.tokens.Token.TheVariants.{Named}
 use Rattle.lexer.specs.declared.tokens.Lexeme.{Lexeme}
 use Rattle.lexer.specs.declared.tokens.Lexeme.TheVariants.{Blank, End, Solid}
 use Rattle.lexer.specs.Lexing.{lexeme_at}
 use Rattle.assembler.specs.declared.readings.Reading.{Reading}
 use Rattle.assembler.specs.declared.wrong.Wrong.{Wrong}
-use Rattle.assembler.specs.Statements.{statement_of}
+use Rattle.isa_model.specs.declared.map_defs.MapDef.{MapDef}
+use Rattle.assembler.specs.Statements.{statement_of, map_line}
+use Rattle.assembler.specs.Labelled.{begins_map_line}
+use Rattle.assembler.specs.MapTests.{takes_row, objection_to_load}
 pub use Rattle.assembler.specs.Assembling.{has_room}
 
 infixl 10 ◌>>=◌
@@ -32,23 +37,45 @@ unnamed_reading (Err wrong) = None
 abbrev pub plain_statement : List Token → Option Insn
 plain_statement ts = unnamed_reading (statement_of ts)
 
--- the tokens of the statement so far, and the instructions before it
-pub record Progress : Type 0 where
-  pub tokens : List Token
+-- the map rows and the instructions before a statement
+pub record Parts : Type 0 where
+  pub maps : List MapDef
   pub insns : List Insn
 
-abbrev pub added : Progress → Option Insn → Option Progress
-added s None = None
-added s (Some i) = keep (has_room (s.insns ++ i ∷ [])) (record { tokens = []; insns = s.insns ++ i ∷ [] })
+-- the tokens of the statement so far, and what comes before it
+pub record Progress : Type 0 where
+  pub tokens : List Token
+  pub parts : Parts
+
+abbrev pub with_row : Parts → MapDef → Parts
+with_row ps row = record { maps = ps.maps ++ row ∷ []; insns = ps.insns }
+
+abbrev pub with_insn : Parts → Insn → Parts
+with_insn ps i = record { maps = ps.maps; insns = ps.insns ++ i ∷ [] }
+
+-- whether there is a place for the instruction, and the maps that it loads are there
+abbrev pub takes : Parts → Insn → Bool
+takes ps i = is_none (objection_to_load ps.maps i) && has_room (ps.insns ++ i ∷ [])
+
+abbrev pub added : Parts → Option Insn → Option Progress
+added ps None = None
+added ps (Some i) = keep (takes ps i) (record { tokens = []; parts = with_insn ps i })
+
+abbrev pub added_row : Parts → Result MapDef Wrong → Option Progress
+added_row ps (Err wrong) = None
+added_row ps (Ok row) = keep (takes_row ps.insns ps.maps row) (record { tokens = []; parts = with_row ps row })
 
 -- at the end of a statement
 abbrev pub closed : Progress → Option Progress
-closed s = if length s.tokens == 0 then Some s else added s (plain_statement s.tokens)
+closed s =
+    if length s.tokens == 0 then Some s
+    else if begins_map_line (slice_get s.tokens 0) then added_row s.parts (map_line s.tokens)
+    else added s.parts (plain_statement s.tokens)
 
 abbrev pub accept : Progress → Lexeme → Option Progress
 accept s Blank = Some s
 accept s End = closed s
-accept s (Solid t) = Some (record { tokens = s.tokens ++ t ∷ []; insns = s.insns })
+accept s (Solid t) = Some (record { tokens = s.tokens ++ t ∷ []; parts = s.parts })
 
 -- what a text makes, the first bytes of which are passed over
 abbrev pub assembled : List ℕ → ℕ → Progress → Option Progress
@@ -57,4 +84,18 @@ assembled (b ∷ bs) (suc k) s = assembled bs k s
 assembled (b ∷ bs) zero s = lexeme_at (b ∷ bs) >>= λ (p : Lexeme × ℕ). accept s p.0 >>= λ t. assembled bs (p.1 - 1) t
 
 abbrev pub start : Progress
-start = record { tokens = []; insns = [] }
+start = record { tokens = []; parts = record { maps = []; insns = [] } }
+
+-- ---- a map line is no instruction
+
+abbrev no_insn : Option Insn
+no_insn = None
+
+pub no-insn : (i : Insn) → no_insn ≡ Some i → ⊥
+no-insn i h = cc
+
+pub not-map-line : (ts : List Token) (i : Insn) → plain_statement ts ≡ Some i → begins_map_line (slice_get ts 0) ≡ false
+unfolding statement_of
+not-map-line [] i h = refl
+not-map-line (Named word.Map ∷ ts) i h = absurd (no-insn i h)
+not-map-line (t ∷ ts) i h = refl

@@ -5,7 +5,7 @@ use Rattle.assembler.specs.declared.errors.AsmErrorKind.TheVariants.{UnknownByte
 use Rattle.assembler.specs.declared.refusals.Refusal.{Refusal}
 use Rattle.lexer.specs.declared.tokens.Lexeme.{Lexeme}
 use Rattle.lexer.specs.Lexing.{lexeme_at, fault_at}
-use Rattle.assembler.specs.Statements.{◌>>=◌}
+use Rattle.assembler.specs.Operands.{◌>>=◌}
 use Rattle.assembler.specs.Assembling.{Progress, accept, closed, next_lexeme, read_on}
 
 -- bytes that are passed over

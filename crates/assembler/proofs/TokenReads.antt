@@ -26,9 +26,10 @@ use Rattle.isa_model.specs.declared.instructions.Comparison.TheVariants as compa
 use Rattle.isa_model.specs.declared.instructions.Operand.{Operand}
 use Rattle.isa_model.specs.declared.instructions.Operand.TheVariants.{Constant, Register}
 use Rattle.isa_model.specs.declared.instructions.Place.{Place}
-use Rattle.isa_model.specs.declared.instructions.Insn.{Insn}
+use Rattle.isa_model.specs.declared.map_defs.MapKind.{MapKind}
+use Rattle.isa_model.specs.declared.map_defs.MapKind.TheVariants.{Hash, Array}
 use Rattle.isa_model.specs.Code.Spelling.{OperandFits}
-use Rattle.isa_model.specs.Text.CanonicalText.{reg_text, size_text, narrow_text, extension_text, span_text, order_text, width_text, op_text, comparison_text, atomic_text, fetch_text, operand_text, offset_text, distance_text}
+use Rattle.isa_model.specs.Text.CanonicalText.{reg_text, size_text, narrow_text, extension_text, span_text, order_text, width_text, op_text, comparison_text, atomic_text, fetch_text, operand_text, offset_text, distance_text, kind_text}
 use Rattle.lexer.specs.declared.tokens.Word.TheVariants as word
 use Rattle.lexer.specs.declared.tokens.Sign.{Sign}
 use Rattle.lexer.specs.declared.tokens.Sign.TheVariants as sign
@@ -36,13 +37,13 @@ use Rattle.lexer.specs.declared.tokens.Token.{Token}
 use Rattle.lexer.specs.declared.tokens.Token.TheVariants.{Named, Number, Signed}
 use Rattle.lexer.specs.declared.tokens.Lexeme.TheVariants.{Solid}
 use Rattle.lexer.specs.Lexing.{is_word_byte, lexeme_at}
-use Rattle.assembler.proofs.PlainTexts.{Progress, assembled}
+use Rattle.assembler.proofs.PlainTexts.{Parts, Progress, assembled}
 use Rattle.assembler.proofs.Turns.{token}
 use Rattle.assembler.proofs.DigitRuns.{decimal-read, no-equals}
 
--- the tokens of the statement so far, and the instructions before it
-abbrev pub draft : List Token → List Insn → Progress
-draft ts is = record { tokens = ts; insns = is }
+-- the tokens of the statement so far, and what comes before it
+abbrev pub draft : List Token → Parts → Progress
+draft ts ps = record { tokens = ts; parts = ps }
 
 -- ---- registers, followed by a byte of no word
 
@@ -74,21 +75,21 @@ some-letters : (w : Width) (r : Reg) → 0 < length (reg_text w r)
 some-letters Low32 r = omega arith
 some-letters Full64 r = omega arith
 
-pub reg-read : (w : Width) (r : Reg) (c : ℕ) (rest : List ℕ) (ts : List Token) (is : List Insn) → is_word_byte c ≡ false → assembled (reg_text w r ++ c ∷ rest) 0 (draft ts is) ≡ assembled (c ∷ rest) 0 (draft (ts ++ Named (word.Register w r) ∷ []) is)
-reg-read w r c rest ts is h = token (reg_text w r) (c ∷ rest) (Named (word.Register w r)) (draft ts is) (reg-lexeme w r c rest h) (some-letters w r)
+pub reg-read : (w : Width) (r : Reg) (c : ℕ) (rest : List ℕ) (ts : List Token) (ps : Parts) → is_word_byte c ≡ false → assembled (reg_text w r ++ c ∷ rest) 0 (draft ts ps) ≡ assembled (c ∷ rest) 0 (draft (ts ++ Named (word.Register w r) ∷ []) ps)
+reg-read w r c rest ts ps h = token (reg_text w r) (c ∷ rest) (Named (word.Register w r)) (draft ts ps) (reg-lexeme w r c rest h) (some-letters w r)
 
 -- ---- other words
 
-pub size-read : (size : Size) (rest : List ℕ) (ts : List Token) (is : List Insn) → assembled (size_text size ++ 32 ∷ rest) 0 (draft ts is) ≡ assembled (32 ∷ rest) 0 (draft (ts ++ Named (word.Unsigned size) ∷ []) is)
-size-read U8 rest ts is = refl
-size-read U16 rest ts is = refl
-size-read U32 rest ts is = refl
-size-read U64 rest ts is = refl
+pub size-read : (size : Size) (rest : List ℕ) (ts : List Token) (ps : Parts) → assembled (size_text size ++ 32 ∷ rest) 0 (draft ts ps) ≡ assembled (32 ∷ rest) 0 (draft (ts ++ Named (word.Unsigned size) ∷ []) ps)
+size-read U8 rest ts ps = refl
+size-read U16 rest ts ps = refl
+size-read U32 rest ts ps = refl
+size-read U64 rest ts ps = refl
 
-pub narrow-read : (size : Narrow) (rest : List ℕ) (ts : List Token) (is : List Insn) → assembled (narrow_text size ++ 32 ∷ rest) 0 (draft ts is) ≡ assembled (32 ∷ rest) 0 (draft (ts ++ Named (word.SignExtended size) ∷ []) is)
-narrow-read S8 rest ts is = refl
-narrow-read S16 rest ts is = refl
-narrow-read S32 rest ts is = refl
+pub narrow-read : (size : Narrow) (rest : List ℕ) (ts : List Token) (ps : Parts) → assembled (narrow_text size ++ 32 ∷ rest) 0 (draft ts ps) ≡ assembled (32 ∷ rest) 0 (draft (ts ++ Named (word.SignExtended size) ∷ []) ps)
+narrow-read S8 rest ts ps = refl
+narrow-read S16 rest ts ps = refl
+narrow-read S32 rest ts ps = refl
 
 -- the size that is extended
 abbrev pub extended_from : Extension → Narrow
@@ -98,41 +99,45 @@ extended_from Full8 = S8
 extended_from Full16 = S16
 extended_from Full32 = S32
 
-pub extension-read : (e : Extension) (rest : List ℕ) (ts : List Token) (is : List Insn) → assembled (extension_text e ++ 41 ∷ rest) 0 (draft ts is) ≡ assembled (41 ∷ rest) 0 (draft (ts ++ Named (word.SignExtended (extended_from e)) ∷ []) is)
-extension-read Low8 rest ts is = refl
-extension-read Low16 rest ts is = refl
-extension-read Full8 rest ts is = refl
-extension-read Full16 rest ts is = refl
-extension-read Full32 rest ts is = refl
+pub extension-read : (e : Extension) (rest : List ℕ) (ts : List Token) (ps : Parts) → assembled (extension_text e ++ 41 ∷ rest) 0 (draft ts ps) ≡ assembled (41 ∷ rest) 0 (draft (ts ++ Named (word.SignExtended (extended_from e)) ∷ []) ps)
+extension-read Low8 rest ts ps = refl
+extension-read Low16 rest ts ps = refl
+extension-read Full8 rest ts ps = refl
+extension-read Full16 rest ts ps = refl
+extension-read Full32 rest ts ps = refl
 
-pub swap-read : (order : ByteOrder) (span : Span) (rest : List ℕ) (ts : List Token) (is : List Insn) → assembled (order_text order ++ (span_text span ++ 32 ∷ rest)) 0 (draft ts is) ≡ assembled (32 ∷ rest) 0 (draft (ts ++ Named (word.Swapped order span) ∷ []) is)
-swap-read Little B16 rest ts is = refl
-swap-read Little B32 rest ts is = refl
-swap-read Little B64 rest ts is = refl
-swap-read Big B16 rest ts is = refl
-swap-read Big B32 rest ts is = refl
-swap-read Big B64 rest ts is = refl
-swap-read Swap B16 rest ts is = refl
-swap-read Swap B32 rest ts is = refl
-swap-read Swap B64 rest ts is = refl
+pub swap-read : (order : ByteOrder) (span : Span) (rest : List ℕ) (ts : List Token) (ps : Parts) → assembled (order_text order ++ (span_text span ++ 32 ∷ rest)) 0 (draft ts ps) ≡ assembled (32 ∷ rest) 0 (draft (ts ++ Named (word.Swapped order span) ∷ []) ps)
+swap-read Little B16 rest ts ps = refl
+swap-read Little B32 rest ts ps = refl
+swap-read Little B64 rest ts ps = refl
+swap-read Big B16 rest ts ps = refl
+swap-read Big B32 rest ts ps = refl
+swap-read Big B64 rest ts ps = refl
+swap-read Swap B16 rest ts ps = refl
+swap-read Swap B32 rest ts ps = refl
+swap-read Swap B64 rest ts ps = refl
 
-pub fetch-read : (o : AtomicOp) (w : Width) (rest : List ℕ) (ts : List Token) (is : List Insn) → assembled (fetch_text o ++ (width_text w ++ 40 ∷ rest)) 0 (draft ts is) ≡ assembled (40 ∷ rest) 0 (draft (ts ++ Named (word.Fetch o w) ∷ []) is)
-fetch-read atomic.Add Low32 rest ts is = refl
-fetch-read atomic.Add Full64 rest ts is = refl
-fetch-read atomic.Or Low32 rest ts is = refl
-fetch-read atomic.Or Full64 rest ts is = refl
-fetch-read atomic.And Low32 rest ts is = refl
-fetch-read atomic.And Full64 rest ts is = refl
-fetch-read atomic.Xor Low32 rest ts is = refl
-fetch-read atomic.Xor Full64 rest ts is = refl
+pub fetch-read : (o : AtomicOp) (w : Width) (rest : List ℕ) (ts : List Token) (ps : Parts) → assembled (fetch_text o ++ (width_text w ++ 40 ∷ rest)) 0 (draft ts ps) ≡ assembled (40 ∷ rest) 0 (draft (ts ++ Named (word.Fetch o w) ∷ []) ps)
+fetch-read atomic.Add Low32 rest ts ps = refl
+fetch-read atomic.Add Full64 rest ts ps = refl
+fetch-read atomic.Or Low32 rest ts ps = refl
+fetch-read atomic.Or Full64 rest ts ps = refl
+fetch-read atomic.And Low32 rest ts ps = refl
+fetch-read atomic.And Full64 rest ts ps = refl
+fetch-read atomic.Xor Low32 rest ts ps = refl
+fetch-read atomic.Xor Full64 rest ts ps = refl
 
-pub exchange-read : (w : Width) (rest : List ℕ) (ts : List Token) (is : List Insn) → assembled (codes "xchg_" ++ (width_text w ++ 40 ∷ rest)) 0 (draft ts is) ≡ assembled (40 ∷ rest) 0 (draft (ts ++ Named (word.Exchange w) ∷ []) is)
-exchange-read Low32 rest ts is = refl
-exchange-read Full64 rest ts is = refl
+pub kind-read : (kind : MapKind) (rest : List ℕ) (ts : List Token) (ps : Parts) → assembled (kind_text kind ++ 32 ∷ rest) 0 (draft ts ps) ≡ assembled (32 ∷ rest) 0 (draft (ts ++ Named (word.Kind kind) ∷ []) ps)
+kind-read Hash rest ts ps = refl
+kind-read Array rest ts ps = refl
 
-pub compare-read : (w : Width) (rest : List ℕ) (ts : List Token) (is : List Insn) → assembled (codes "cmpxchg_" ++ (width_text w ++ 40 ∷ rest)) 0 (draft ts is) ≡ assembled (40 ∷ rest) 0 (draft (ts ++ Named (word.CompareExchange w) ∷ []) is)
-compare-read Low32 rest ts is = refl
-compare-read Full64 rest ts is = refl
+pub exchange-read : (w : Width) (rest : List ℕ) (ts : List Token) (ps : Parts) → assembled (codes "xchg_" ++ (width_text w ++ 40 ∷ rest)) 0 (draft ts ps) ≡ assembled (40 ∷ rest) 0 (draft (ts ++ Named (word.Exchange w) ∷ []) ps)
+exchange-read Low32 rest ts ps = refl
+exchange-read Full64 rest ts ps = refl
+
+pub compare-read : (w : Width) (rest : List ℕ) (ts : List Token) (ps : Parts) → assembled (codes "cmpxchg_" ++ (width_text w ++ 40 ∷ rest)) 0 (draft ts ps) ≡ assembled (40 ∷ rest) 0 (draft (ts ++ Named (word.CompareExchange w) ∷ []) ps)
+compare-read Low32 rest ts ps = refl
+compare-read Full64 rest ts ps = refl
 
 -- ---- signs
 
@@ -152,21 +157,21 @@ op_sign op.SignedMod = sign.SignedModAssign
 op_sign op.Xor = sign.XorAssign
 op_sign op.Arsh = sign.ArshAssign
 
-pub op-read : (o : AluOp) (rest : List ℕ) (ts : List Token) (is : List Insn) → assembled (op_text o ++ 32 ∷ rest) 0 (draft ts is) ≡ assembled (32 ∷ rest) 0 (draft (ts ++ Signed (op_sign o) ∷ []) is)
-op-read op.Mov rest ts is = refl
-op-read op.Add rest ts is = refl
-op-read op.Sub rest ts is = refl
-op-read op.Mul rest ts is = refl
-op-read op.Div rest ts is = refl
-op-read op.SignedDiv rest ts is = refl
-op-read op.Or rest ts is = refl
-op-read op.And rest ts is = refl
-op-read op.Lsh rest ts is = refl
-op-read op.Rsh rest ts is = refl
-op-read op.Mod rest ts is = refl
-op-read op.SignedMod rest ts is = refl
-op-read op.Xor rest ts is = refl
-op-read op.Arsh rest ts is = refl
+pub op-read : (o : AluOp) (rest : List ℕ) (ts : List Token) (ps : Parts) → assembled (op_text o ++ 32 ∷ rest) 0 (draft ts ps) ≡ assembled (32 ∷ rest) 0 (draft (ts ++ Signed (op_sign o) ∷ []) ps)
+op-read op.Mov rest ts ps = refl
+op-read op.Add rest ts ps = refl
+op-read op.Sub rest ts ps = refl
+op-read op.Mul rest ts ps = refl
+op-read op.Div rest ts ps = refl
+op-read op.SignedDiv rest ts ps = refl
+op-read op.Or rest ts ps = refl
+op-read op.And rest ts ps = refl
+op-read op.Lsh rest ts ps = refl
+op-read op.Rsh rest ts ps = refl
+op-read op.Mod rest ts ps = refl
+op-read op.SignedMod rest ts ps = refl
+op-read op.Xor rest ts ps = refl
+op-read op.Arsh rest ts ps = refl
 
 abbrev pub atomic_sign : AtomicOp → Sign
 atomic_sign atomic.Add = sign.AddAssign
@@ -174,11 +179,11 @@ atomic_sign atomic.Or = sign.OrAssign
 atomic_sign atomic.And = sign.AndAssign
 atomic_sign atomic.Xor = sign.XorAssign
 
-pub atomic-read : (o : AtomicOp) (rest : List ℕ) (ts : List Token) (is : List Insn) → assembled (atomic_text o ++ 32 ∷ rest) 0 (draft ts is) ≡ assembled (32 ∷ rest) 0 (draft (ts ++ Signed (atomic_sign o) ∷ []) is)
-atomic-read atomic.Add rest ts is = refl
-atomic-read atomic.Or rest ts is = refl
-atomic-read atomic.And rest ts is = refl
-atomic-read atomic.Xor rest ts is = refl
+pub atomic-read : (o : AtomicOp) (rest : List ℕ) (ts : List Token) (ps : Parts) → assembled (atomic_text o ++ 32 ∷ rest) 0 (draft ts ps) ≡ assembled (32 ∷ rest) 0 (draft (ts ++ Signed (atomic_sign o) ∷ []) ps)
+atomic-read atomic.Add rest ts ps = refl
+atomic-read atomic.Or rest ts ps = refl
+atomic-read atomic.And rest ts ps = refl
+atomic-read atomic.Xor rest ts ps = refl
 
 abbrev pub comparison_sign : Comparison → Sign
 comparison_sign comparison.Equal = sign.Equal
@@ -193,23 +198,23 @@ comparison_sign comparison.SignedGreaterEqual = sign.SignedGreaterEqual
 comparison_sign comparison.SignedLess = sign.SignedLess
 comparison_sign comparison.SignedLessEqual = sign.SignedLessEqual
 
-pub comparison-read : (c : Comparison) (rest : List ℕ) (ts : List Token) (is : List Insn) → assembled (comparison_text c ++ 32 ∷ rest) 0 (draft ts is) ≡ assembled (32 ∷ rest) 0 (draft (ts ++ Signed (comparison_sign c) ∷ []) is)
-comparison-read comparison.Equal rest ts is = refl
-comparison-read comparison.NotEqual rest ts is = refl
-comparison-read comparison.Greater rest ts is = refl
-comparison-read comparison.GreaterEqual rest ts is = refl
-comparison-read comparison.Less rest ts is = refl
-comparison-read comparison.LessEqual rest ts is = refl
-comparison-read comparison.AnyBit rest ts is = refl
-comparison-read comparison.SignedGreater rest ts is = refl
-comparison-read comparison.SignedGreaterEqual rest ts is = refl
-comparison-read comparison.SignedLess rest ts is = refl
-comparison-read comparison.SignedLessEqual rest ts is = refl
+pub comparison-read : (c : Comparison) (rest : List ℕ) (ts : List Token) (ps : Parts) → assembled (comparison_text c ++ 32 ∷ rest) 0 (draft ts ps) ≡ assembled (32 ∷ rest) 0 (draft (ts ++ Signed (comparison_sign c) ∷ []) ps)
+comparison-read comparison.Equal rest ts ps = refl
+comparison-read comparison.NotEqual rest ts ps = refl
+comparison-read comparison.Greater rest ts ps = refl
+comparison-read comparison.GreaterEqual rest ts ps = refl
+comparison-read comparison.Less rest ts ps = refl
+comparison-read comparison.LessEqual rest ts ps = refl
+comparison-read comparison.AnyBit rest ts ps = refl
+comparison-read comparison.SignedGreater rest ts ps = refl
+comparison-read comparison.SignedGreaterEqual rest ts ps = refl
+comparison-read comparison.SignedLess rest ts ps = refl
+comparison-read comparison.SignedLessEqual rest ts ps = refl
 
 -- a minus before a register
-pub negative-read : (w : Width) (r : Reg) (rest : List ℕ) (ts : List Token) (is : List Insn) → assembled (45 ∷ (reg_text w r ++ rest)) 0 (draft ts is) ≡ assembled (reg_text w r ++ rest) 0 (draft (ts ++ Signed sign.Minus ∷ []) is)
-negative-read Low32 r rest ts is = refl
-negative-read Full64 r rest ts is = refl
+pub negative-read : (w : Width) (r : Reg) (rest : List ℕ) (ts : List Token) (ps : Parts) → assembled (45 ∷ (reg_text w r ++ rest)) 0 (draft ts ps) ≡ assembled (reg_text w r ++ rest) 0 (draft (ts ++ Signed sign.Minus ∷ []) ps)
+negative-read Low32 r rest ts ps = refl
+negative-read Full64 r rest ts ps = refl
 
 -- ---- numbers with their signs
 
@@ -229,42 +234,42 @@ abbrev pub place_tokens : Place → List Token
 place_tokens p = Named (word.Register Full64 p.base) ∷ signed_tokens p.offset
 
 -- two tokens, one after the other
-two : (bs : List ℕ) (ts : List Token) (a b : Token) (is : List Insn) → assembled bs 0 (draft ((ts ++ a ∷ []) ++ b ∷ []) is) ≡ assembled bs 0 (draft (ts ++ a ∷ b ∷ []) is)
-two bs ts a b is = ap (λ us. assembled bs 0 (draft us is)) (append_assoc ts (a ∷ []) (b ∷ []))
+two : (bs : List ℕ) (ts : List Token) (a b : Token) (ps : Parts) → assembled bs 0 (draft ((ts ++ a ∷ []) ++ b ∷ []) ps) ≡ assembled bs 0 (draft (ts ++ a ∷ b ∷ []) ps)
+two bs ts a b ps = ap (λ us. assembled bs 0 (draft us ps)) (append_assoc ts (a ∷ []) (b ∷ []))
 
-minus-one : (n c : ℕ) (rest : List ℕ) (ts : List Token) (is : List Insn) → n < 2 ^ 64 → c < 48 → assembled (45 ∷ (decimal n ++ c ∷ rest)) 0 (draft ts is) ≡ assembled (decimal n ++ c ∷ rest) 0 (draft (ts ++ Signed sign.Minus ∷ []) is)
-minus-one n c rest ts is small low = let t : (slice_index (decimal n ++ c ∷ rest) 0 == 61) ≡ false = no-equals n c rest small low in rw t refl
+minus-one : (n c : ℕ) (rest : List ℕ) (ts : List Token) (ps : Parts) → n < 2 ^ 64 → c < 48 → assembled (45 ∷ (decimal n ++ c ∷ rest)) 0 (draft ts ps) ≡ assembled (decimal n ++ c ∷ rest) 0 (draft (ts ++ Signed sign.Minus ∷ []) ps)
+minus-one n c rest ts ps small low = let t : (slice_index (decimal n ++ c ∷ rest) 0 == 61) ≡ false = no-equals n c rest small low in rw t refl
 
-plus-one : (n c : ℕ) (rest : List ℕ) (ts : List Token) (is : List Insn) → n < 2 ^ 64 → c < 48 → assembled (43 ∷ (decimal n ++ c ∷ rest)) 0 (draft ts is) ≡ assembled (decimal n ++ c ∷ rest) 0 (draft (ts ++ Signed sign.Plus ∷ []) is)
-plus-one n c rest ts is small low = let t : (slice_index (decimal n ++ c ∷ rest) 0 == 61) ≡ false = no-equals n c rest small low in rw t refl
+plus-one : (n c : ℕ) (rest : List ℕ) (ts : List Token) (ps : Parts) → n < 2 ^ 64 → c < 48 → assembled (43 ∷ (decimal n ++ c ∷ rest)) 0 (draft ts ps) ≡ assembled (decimal n ++ c ∷ rest) 0 (draft (ts ++ Signed sign.Plus ∷ []) ps)
+plus-one n c rest ts ps small low = let t : (slice_index (decimal n ++ c ∷ rest) 0 == 61) ≡ false = no-equals n c rest small low in rw t refl
 
-signed-number : (n c : ℕ) (t : Token) (rest : List ℕ) (ts : List Token) (is : List Insn) → n < 2 ^ 64 → c < 48 → assembled (decimal n ++ c ∷ rest) 0 (draft (ts ++ t ∷ []) is) ≡ assembled (c ∷ rest) 0 (draft (ts ++ t ∷ Number n ∷ []) is)
-signed-number n c t rest ts is small low = decimal-read n c rest (draft (ts ++ t ∷ []) is) small low ∙ two (c ∷ rest) ts t (Number n) is
+signed-number : (n c : ℕ) (t : Token) (rest : List ℕ) (ts : List Token) (ps : Parts) → n < 2 ^ 64 → c < 48 → assembled (decimal n ++ c ∷ rest) 0 (draft (ts ++ t ∷ []) ps) ≡ assembled (c ∷ rest) 0 (draft (ts ++ t ∷ Number n ∷ []) ps)
+signed-number n c t rest ts ps small low = decimal-read n c rest (draft (ts ++ t ∷ []) ps) small low ∙ two (c ∷ rest) ts t (Number n) ps
 
-pub distance-read : (by : ℤ) (c : ℕ) (rest : List ℕ) (ts : List Token) (is : List Insn) → FitsSigned w32 by → c < 48 → assembled (distance_text by ++ c ∷ rest) 0 (draft ts is) ≡ assembled (c ∷ rest) 0 (draft (ts ++ signed_tokens by) is)
-distance-read (pos n) c rest ts is h low = plus-one n c rest ts is (omega (arith, h)) low ∙ signed-number n c (Signed sign.Plus) rest ts is (omega (arith, h)) low
-distance-read (negsuc n) c rest ts is h low = minus-one (suc n) c rest ts is (omega (arith, h)) low ∙ signed-number (suc n) c (Signed sign.Minus) rest ts is (omega (arith, h)) low
+pub distance-read : (by : ℤ) (c : ℕ) (rest : List ℕ) (ts : List Token) (ps : Parts) → FitsSigned w32 by → c < 48 → assembled (distance_text by ++ c ∷ rest) 0 (draft ts ps) ≡ assembled (c ∷ rest) 0 (draft (ts ++ signed_tokens by) ps)
+distance-read (pos n) c rest ts ps h low = plus-one n c rest ts ps (omega (arith, h)) low ∙ signed-number n c (Signed sign.Plus) rest ts ps (omega (arith, h)) low
+distance-read (negsuc n) c rest ts ps h low = minus-one (suc n) c rest ts ps (omega (arith, h)) low ∙ signed-number (suc n) c (Signed sign.Minus) rest ts ps (omega (arith, h)) low
 
-pub near-read : (by : ℤ) (c : ℕ) (rest : List ℕ) (ts : List Token) (is : List Insn) → FitsSigned w16 by → c < 48 → assembled (distance_text by ++ c ∷ rest) 0 (draft ts is) ≡ assembled (c ∷ rest) 0 (draft (ts ++ signed_tokens by) is)
-near-read (pos n) c rest ts is h low = plus-one n c rest ts is (omega (arith, h)) low ∙ signed-number n c (Signed sign.Plus) rest ts is (omega (arith, h)) low
-near-read (negsuc n) c rest ts is h low = minus-one (suc n) c rest ts is (omega (arith, h)) low ∙ signed-number (suc n) c (Signed sign.Minus) rest ts is (omega (arith, h)) low
+pub near-read : (by : ℤ) (c : ℕ) (rest : List ℕ) (ts : List Token) (ps : Parts) → FitsSigned w16 by → c < 48 → assembled (distance_text by ++ c ∷ rest) 0 (draft ts ps) ≡ assembled (c ∷ rest) 0 (draft (ts ++ signed_tokens by) ps)
+near-read (pos n) c rest ts ps h low = plus-one n c rest ts ps (omega (arith, h)) low ∙ signed-number n c (Signed sign.Plus) rest ts ps (omega (arith, h)) low
+near-read (negsuc n) c rest ts ps h low = minus-one (suc n) c rest ts ps (omega (arith, h)) low ∙ signed-number (suc n) c (Signed sign.Minus) rest ts ps (omega (arith, h)) low
 
-offset-read : (by : ℤ) (c : ℕ) (rest : List ℕ) (ts : List Token) (is : List Insn) → FitsSigned w16 by → c < 48 → assembled (offset_text by ++ c ∷ rest) 0 (draft ts is) ≡ assembled (c ∷ rest) 0 (draft (ts ++ signed_tokens by) is)
-offset-read (pos n) c rest ts is h low = signed-number n c (Signed sign.Plus) rest ts is (omega (arith, h)) low
-offset-read (negsuc n) c rest ts is h low = signed-number (suc n) c (Signed sign.Minus) rest ts is (omega (arith, h)) low
+offset-read : (by : ℤ) (c : ℕ) (rest : List ℕ) (ts : List Token) (ps : Parts) → FitsSigned w16 by → c < 48 → assembled (offset_text by ++ c ∷ rest) 0 (draft ts ps) ≡ assembled (c ∷ rest) 0 (draft (ts ++ signed_tokens by) ps)
+offset-read (pos n) c rest ts ps h low = signed-number n c (Signed sign.Plus) rest ts ps (omega (arith, h)) low
+offset-read (negsuc n) c rest ts ps h low = signed-number (suc n) c (Signed sign.Minus) rest ts ps (omega (arith, h)) low
 
-pub constant-read : (k : ℤ) (c : ℕ) (rest : List ℕ) (ts : List Token) (is : List Insn) → FitsSigned w32 k → c < 48 → assembled (operand_text Full64 (Constant k) ++ c ∷ rest) 0 (draft ts is) ≡ assembled (c ∷ rest) 0 (draft (ts ++ constant_tokens k) is)
-constant-read (pos n) c rest ts is h low = decimal-read n c rest (draft ts is) (omega (arith, h)) low
-constant-read (negsuc n) c rest ts is h low = minus-one (suc n) c rest ts is (omega (arith, h)) low ∙ signed-number (suc n) c (Signed sign.Minus) rest ts is (omega (arith, h)) low
+pub constant-read : (k : ℤ) (c : ℕ) (rest : List ℕ) (ts : List Token) (ps : Parts) → FitsSigned w32 k → c < 48 → assembled (operand_text Full64 (Constant k) ++ c ∷ rest) 0 (draft ts ps) ≡ assembled (c ∷ rest) 0 (draft (ts ++ constant_tokens k) ps)
+constant-read (pos n) c rest ts ps h low = decimal-read n c rest (draft ts ps) (omega (arith, h)) low
+constant-read (negsuc n) c rest ts ps h low = minus-one (suc n) c rest ts ps (omega (arith, h)) low ∙ signed-number (suc n) c (Signed sign.Minus) rest ts ps (omega (arith, h)) low
 
-pub operand-read : (w : Width) (x : Operand) (c : ℕ) (rest : List ℕ) (ts : List Token) (is : List Insn) → OperandFits x → c < 48 → is_word_byte c ≡ false → assembled (operand_text w x ++ c ∷ rest) 0 (draft ts is) ≡ assembled (c ∷ rest) 0 (draft (ts ++ operand_tokens w x) is)
-operand-read w (Register r) c rest ts is h low e = reg-read w r c rest ts is e
-operand-read w (Constant k) c rest ts is h low e = constant-read k c rest ts is h low
+pub operand-read : (w : Width) (x : Operand) (c : ℕ) (rest : List ℕ) (ts : List Token) (ps : Parts) → OperandFits x → c < 48 → is_word_byte c ≡ false → assembled (operand_text w x ++ c ∷ rest) 0 (draft ts ps) ≡ assembled (c ∷ rest) 0 (draft (ts ++ operand_tokens w x) ps)
+operand-read w (Register r) c rest ts ps h low e = reg-read w r c rest ts ps e
+operand-read w (Constant k) c rest ts ps h low e = constant-read k c rest ts ps h low
 
 -- a base and an offset
-pub place-read : (p : Place) (c : ℕ) (rest : List ℕ) (ts : List Token) (is : List Insn) → FitsSigned w16 p.offset → c < 48 → assembled (reg_text Full64 p.base ++ 32 ∷ (offset_text p.offset ++ c ∷ rest)) 0 (draft ts is) ≡ assembled (c ∷ rest) 0 (draft (ts ++ place_tokens p) is)
-place-read p c rest ts is h low =
+pub place-read : (p : Place) (c : ℕ) (rest : List ℕ) (ts : List Token) (ps : Parts) → FitsSigned w16 p.offset → c < 48 → assembled (reg_text Full64 p.base ++ 32 ∷ (offset_text p.offset ++ c ∷ rest)) 0 (draft ts ps) ≡ assembled (c ∷ rest) 0 (draft (ts ++ place_tokens p) ps)
+place-read p c rest ts ps h low =
     let base : Token = Named (word.Register Full64 p.base) in
-    reg-read Full64 p.base 32 (offset_text p.offset ++ c ∷ rest) ts is refl
-    ∙ offset-read p.offset c rest (ts ++ base ∷ []) is h low
-    ∙ ap (λ us. assembled (c ∷ rest) 0 (draft us is)) (append_assoc ts (base ∷ []) (signed_tokens p.offset))
+    reg-read Full64 p.base 32 (offset_text p.offset ++ c ∷ rest) ts ps refl
+    ∙ offset-read p.offset c rest (ts ++ base ∷ []) ps h low
+    ∙ ap (λ us. assembled (c ∷ rest) 0 (draft us ps)) (append_assoc ts (base ∷ []) (signed_tokens p.offset))

@@ -16,9 +16,9 @@ abbrev pub reads_on : List ℕ → Progress → Option (Lexeme × ℕ) → Optio
 reads_on bs s found = found >>= λ (p : Lexeme × ℕ). accept s p.0 >>= λ t. assembled bs (p.1 - 1) t
 
 -- a token at the front of the text
-pub token : (cs rest : List ℕ) (t : Token) (s : Progress) → lexeme_at (cs ++ rest) ≡ Some (Solid t, length cs) → 0 < length cs → assembled (cs ++ rest) 0 s ≡ assembled rest 0 (record { tokens = s.tokens ++ t ∷ []; insns = s.insns })
+pub token : (cs rest : List ℕ) (t : Token) (s : Progress) → lexeme_at (cs ++ rest) ≡ Some (Solid t, length cs) → 0 < length cs → assembled (cs ++ rest) 0 s ≡ assembled rest 0 (record { tokens = s.tokens ++ t ∷ []; parts = s.parts })
 token [] rest t s e more = absurd (omega (arith, more))
 token (c ∷ cs) rest t s e more =
-    let next : Progress = record { tokens = s.tokens ++ t ∷ []; insns = s.insns } in
+    let next : Progress = record { tokens = s.tokens ++ t ∷ []; parts = s.parts } in
     let k : length (c ∷ cs) - 1 ≡ length cs = omega arith in
     ap (reads_on (cs ++ rest) s) e ∙ ap (λ n. assembled (cs ++ rest) n next) k ∙ skip cs rest next

@@ -1,23 +1,27 @@
 -- Programs from texts: lexeme by lexeme, a statement at a time.
 use Rattle.std.specs.Prelude.{◌≡◌, ℕ, zero, suc, ◌+◌, ◌-◌, ◌==◌, nat_lt, not, Bool, if◌then◌else◌, is_none, List, [], ◌∷◌, ◌++◌, length, take, drop, slice_get, Option, Some, None, ok_or, Result, Ok, Err, ◌⊎◌}
+use Rattle.isa_model.specs.declared.map_defs.MapDef.{MapDef}
 use Rattle.isa_model.specs.declared.instructions.Insn.{Insn}
 use Rattle.isa_model.specs.Code.Instructions.{Program, slots}
 use Rattle.isa_model.specs.Machine.MachineStates.{max_slots}
-use Rattle.image.specs.Images.{code_alone}
 use Rattle.image.specs.Refusals.{count_refusal}
 use Rattle.assembler.specs.declared.errors.AsmErrorKind.{AsmErrorKind}
 use Rattle.assembler.specs.declared.errors.AsmErrorKind.TheVariants.{UnknownByte, NoForm, OutOfRange, Memory, SlotCount}
 use Rattle.assembler.specs.declared.errors.AsmError.{AsmError}
 use Rattle.assembler.specs.declared.refusals.Refusal.{Refusal}
 use Rattle.assembler.specs.declared.readings.Reading.{Reading}
+use Rattle.assembler.specs.declared.readings.Statement.{Statement}
+use Rattle.assembler.specs.declared.readings.Statement.TheVariants.{Empty, Row, Instruction}
 use Rattle.assembler.specs.declared.wrong.Wrong.{Wrong}
+use Rattle.assembler.specs.declared.wrong.Objection.{Objection}
 use Rattle.assembler.specs.declared.wrong.Wrong.TheVariants.{Form, Range}
 use Rattle.lexer.specs.declared.tokens.Token.{Token}
 use Rattle.lexer.specs.declared.tokens.Lexeme.{Lexeme}
 use Rattle.lexer.specs.declared.tokens.Lexeme.TheVariants.{Blank, End, Solid}
 use Rattle.lexer.specs.Lexing.{lexeme_at, fault_at}
-use Rattle.assembler.specs.Statements.{◌>>=◌}
+use Rattle.assembler.specs.Operands.{◌>>=◌}
 use Rattle.assembler.specs.Labelled.{spelled, has_form, label_length}
+use Rattle.assembler.specs.MapTests.{objection}
 use Rattle.assembler.specs.Labels.{with_label, slot_in}
 use Rattle.assembler.specs.Naming.{NameUse, resolved}
 use Rattle.assembler.specs.Positions.{error_at}
@@ -31,14 +35,15 @@ pub record Progress : Type 0 where
   -- the tokens of the statement, and where they stand
   pub tokens : List Token
   pub places : List TokenPlace
-  -- the instructions before it
+  -- the map rows and the instructions before it
+  pub maps : List MapDef
   pub insns : List Insn
   -- the names and their slots, and where names are used
   pub labels : List (List ℕ × ℕ)
   pub uses : List NameUse
 
 abbrev pub start : Progress
-start = record { tokens = []; places = []; insns = []; labels = []; uses = [] }
+start = record { tokens = []; places = []; maps = []; insns = []; labels = []; uses = [] }
 
 -- ---- refusals
 
@@ -66,6 +71,14 @@ abbrev pub unless_wrong : {A : Type 0} → Progress → ℕ → Result A Wrong �
 unless_wrong s k (Ok x) = Ok x
 unless_wrong s k (Err wrong) = Err (refusal_of s k wrong)
 
+-- that at a token after that many others
+abbrev pub refused_by : Progress → ℕ → Objection → Refusal
+refused_by s k o = record { kind = o.kind; offset = offset_or (slice_get s.places (o.token + k)) 0 }
+
+abbrev pub unless_refused : Progress → ℕ → Option Objection → Result (Unit {0}) Refusal
+unless_refused s k None = Ok tt
+unless_refused s k (Some o) = Err (refused_by s k o)
+
 -- ---- instructions
 
 -- whether the instructions fill no more slots than an image has
@@ -91,7 +104,7 @@ name_place s k (Some i) = slice_get s.places (i + k)
 abbrev pub added : Progress → ℕ → Reading → Result Progress Refusal
 added s k r =
     refused_at (begins_at s) (with_insn s.insns r.insn)
-    >>= λ insns. Ok (record { tokens = []; places = []; insns = insns; labels = s.labels; uses = with_use s (name_place s k r.name) })
+    >>= λ insns. Ok (record { tokens = []; places = []; maps = s.maps; insns = insns; labels = s.labels; uses = with_use s (name_place s k r.name) })
 
 -- ---- labels
 
@@ -100,7 +113,7 @@ abbrev pub named_by : Progress → Option TokenPlace → Result Progress Refusal
 named_by s None = Ok s
 named_by s (Some place) =
     refused_at place.0 (with_label s.labels place.1 (length (slots s.insns)))
-    >>= λ labels. Ok (record { tokens = s.tokens; places = s.places; insns = s.insns; labels = labels; uses = s.uses })
+    >>= λ labels. Ok (record { tokens = s.tokens; places = s.places; maps = s.maps; insns = s.insns; labels = labels; uses = s.uses })
 
 -- the statement's first token is the name
 abbrev pub named : Progress → Result Progress Refusal
@@ -108,17 +121,22 @@ named s = named_by s (slice_get s.places 0)
 
 -- ---- statements
 
--- after a label of that many tokens: nothing, or an instruction
-abbrev pub ended : Progress → ℕ → Option Reading → Result Progress Refusal
-ended s k None = Ok (record { tokens = []; places = []; insns = s.insns; labels = s.labels; uses = s.uses })
-ended s k (Some r) = added s k r
+-- after a label of that many tokens
+abbrev pub ended : Progress → ℕ → Statement → Result Progress Refusal
+ended s k Empty = Ok (record { tokens = []; places = []; maps = s.maps; insns = s.insns; labels = s.labels; uses = s.uses })
+ended s k (Row row) = Ok (record { tokens = []; places = []; maps = s.maps ++ row ∷ []; insns = s.insns; labels = s.labels; uses = s.uses })
+ended s k (Instruction r) = added s k r
 
 -- at the end of a statement with a label of that many tokens
 abbrev pub closed_behind : Progress → ℕ → Result Progress Refusal
 closed_behind s k =
-    unless_wrong s k (spelled (drop k s.tokens)) >>= λ said. (if k == 0 then Ok s else named s) >>= λ t. ended t k said
+    unless_wrong s k (spelled (drop k s.tokens))
+    >>= λ said. unless_refused s k (objection s.insns s.maps said)
+    >>= λ u. (if k == 0 then Ok s else named s)
+    >>= λ t. ended t k said
 
--- at the end of a statement: what its tokens spell counts first, then its name, then its slots
+-- at the end of a statement: what its tokens spell counts first, then the maps that it has or names, then its own name,
+-- then its slots
 abbrev pub closed : Progress → Result Progress Refusal
 closed s = closed_behind s (label_length s.tokens)
 
@@ -127,7 +145,7 @@ abbrev pub accept : Progress → Lexeme → TokenPlace → Result Progress Refus
 accept s Blank place = Ok s
 accept s End place = closed s
 accept s (Solid t) place =
-    Ok (record { tokens = s.tokens ++ t ∷ []; places = s.places ++ place ∷ []; insns = s.insns; labels = s.labels; uses = s.uses })
+    Ok (record { tokens = s.tokens ++ t ∷ []; places = s.places ++ place ∷ []; maps = s.maps; insns = s.insns; labels = s.labels; uses = s.uses })
 
 -- ---- texts
 
@@ -143,13 +161,15 @@ read_on (b ∷ bs) zero at s =
     next_lexeme at (b ∷ bs)
     >>= λ (p : Lexeme × ℕ). accept s p.0 (at, take p.1 (b ∷ bs)) >>= λ t. read_on bs (p.1 - 1) (at + 1) t
 
--- the program of these instructions; that there is none is refused where the text begins
-abbrev pub program_of : List Insn → Result Program Refusal
-program_of insns = if is_none (count_refusal (length (slots insns))) then Ok (code_alone insns) else Err (record { kind = SlotCount; offset = 0 })
+-- the program of these map rows and instructions; that there is none is refused where the text begins
+abbrev pub program_of : List MapDef → List Insn → Result Program Refusal
+program_of maps insns =
+    if is_none (count_refusal (length (slots insns))) then Ok (record { insns = slots insns; maps = maps })
+    else Err (record { kind = SlotCount; offset = 0 })
 
 -- the program once names have become distances
 abbrev pub finished : Progress → Result Program Refusal
-finished s = resolved (slot_in s.labels) s.uses s.insns >>= program_of
+finished s = resolved (slot_in s.labels) s.uses s.insns >>= program_of s.maps
 
 abbrev pub error_in : {A : Type 0} → List ℕ → Result A Refusal → Result A AsmError
 error_in text (Ok x) = Ok x

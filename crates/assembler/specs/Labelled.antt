@@ -1,17 +1,28 @@
 -- Statements with their labels.
-use Rattle.std.specs.Prelude.{ℕ, ◌==◌, Bool, false, if◌then◌else◌, List, map, length, slice_get, Option, Some, None, is_ok, Result, Ok}
+use Rattle.std.specs.Prelude.{ℕ, ◌==◌, Bool, true, false, if◌then◌else◌, List, map, length, slice_get, Option, Some, is_ok, Result, Ok}
+use Rattle.lexer.specs.declared.tokens.Word.TheVariants as word
 use Rattle.lexer.specs.declared.tokens.Sign.TheVariants as sign
 use Rattle.lexer.specs.declared.tokens.Token.{Token}
 use Rattle.lexer.specs.declared.tokens.Token.TheVariants.{Named, Number, Signed}
-use Rattle.assembler.specs.declared.readings.Reading.{Reading}
+use Rattle.assembler.specs.declared.readings.Statement.{Statement}
+use Rattle.assembler.specs.declared.readings.Statement.TheVariants.{Empty, Row, Instruction}
 use Rattle.assembler.specs.declared.wrong.Wrong.{Wrong}
-use Rattle.assembler.specs.Statements.{◌>>=◌, is_name, statement_of}
+use Rattle.assembler.specs.Operands.{◌>>=◌, is_name}
+use Rattle.assembler.specs.Statements.{statement_of, map_line}
 
 -- ---- what stands after a label
 
--- nothing, or an instruction
-abbrev pub spelled : List Token → Result (Option Reading) Wrong
-spelled ts = if length ts == 0 then Ok None else statement_of ts >>= λ r. Ok (Some r)
+-- whether a map line begins with that token
+abbrev pub begins_map_line : Option Token → Bool
+begins_map_line (Some (Named word.Map)) = true
+begins_map_line t = false
+
+-- nothing, a map line or an instruction
+abbrev pub spelled : List Token → Result Statement Wrong
+spelled ts =
+    if length ts == 0 then Ok Empty
+    else if begins_map_line (slice_get ts 0) then (map_line ts >>= λ row. Ok (Row row))
+    else (statement_of ts >>= λ r. Ok (Instruction r))
 
 -- any number of the text as 0, which is in all ranges
 abbrev pub zeroed : Token → Token

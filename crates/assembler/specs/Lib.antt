@@ -1,5 +1,8 @@
+pub mod Operands
 pub mod Statements
 pub mod Labelled
+pub mod MapTests
+pub mod MapLaws
 pub mod Positions
 pub mod Naming
 pub mod Labels

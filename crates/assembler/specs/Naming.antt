@@ -6,7 +6,7 @@ use Rattle.assembler.specs.declared.errors.AsmErrorKind.{AsmErrorKind}
 use Rattle.assembler.specs.declared.errors.AsmErrorKind.TheVariants.{NotDefined, TooFar}
 use Rattle.assembler.specs.declared.refusals.Refusal.{Refusal}
 use Rattle.assembler.specs.declared.names.Use.{Use}
-use Rattle.assembler.specs.Statements.{◌>>=◌}
+use Rattle.assembler.specs.Operands.{◌>>=◌}
 
 -- an instruction that jumps to a name: its place among the instructions, its slot, the name, and where it stands in the text
 pub record NameUse : Type 0 where

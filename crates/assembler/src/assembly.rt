@@ -9,12 +9,11 @@ ghost use Rattle.assembler.specs.Assembling.{start, read_on, finished, program_i
 ghost use Rattle.assembler.specs.Assembling.{Answers};
 ghost use Rattle.assembler.specs.Drafts.{progress_of};
 
-use super::code::Code;
 use super::draft::{Draft, Span};
 use super::errors::{AsmError, AsmErrorKind};
 use super::names::resolve;
 use super::refusals::{Refusal, located};
-use image::{Image, ImageError};
+use image::Image;
 use lexer::lexeme_at;
 use std::alloc::Global;
 
@@ -70,18 +69,22 @@ fn finish(alloc: Global, draft: Draft<'_>) -> Result<Image, Refusal>
     let Draft {
         tokens: _,
         spans: _,
+        maps,
         code,
         labels,
         uses,
     } = draft;
     let mut insns = code.into_insns();
     resolve(&mut insns, &labels, &uses)?;
-    match Image::of(alloc, &insns) {
-        Ok(image) => Ok(image),
-        Err(ImageError::SlotCount) => Err(Refusal {
+    if insns.is_empty() {
+        return Err(Refusal {
             kind: AsmErrorKind::SlotCount,
             offset: 0,
-        }),
+        });
+    }
+    // all else that is refused was so statement by statement
+    match Image::of(alloc, &maps, &insns) {
+        Ok(image) => Ok(image),
         Err(_) => Err(Refusal {
             kind: AsmErrorKind::Memory,
             offset: 0,
@@ -98,7 +101,7 @@ fn image_of(alloc: Global, text: &[u8]) -> Result<Image, Refusal>
     }
 }
 
-/// The program that the text spells, without map rows. docs/TEXT.md describes the language.
+/// The program that the text spells. docs/TEXT.md describes the language.
 ///
 /// Jump targets are not tested, those of names aside.
 pub fn assemble(alloc: Global, text: &[u8]) -> Result<Image, AsmError>

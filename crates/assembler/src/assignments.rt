@@ -1,12 +1,13 @@
 //! Statements that begin with a register.
 
 ghost use Rattle.std.specs.Prelude.{◌≡◌, ◌+◌, ◌<◌};
-ghost use Rattle.std.specs.Option.{option_copied};
-ghost use Rattle.assembler.specs.Statements.{plain, arithmetic, is_wide, wide, number_or_wide};
+ghost use Rattle.assembler.specs.Statements.{plain, arithmetic, wide, number_or_wide};
 ghost use Rattle.assembler.specs.Statements.{negated, extended, load_of, loaded, swapped};
 ghost use Rattle.assembler.specs.Statements.{exchanged_place, fetched, exchanged, compared};
-ghost use Rattle.assembler.specs.Statements.{moved_word, moved, assigned_by, assigned, wide_at};
+ghost use Rattle.assembler.specs.Statements.{map_loaded, map_value_loaded, moved_word, moved};
+ghost use Rattle.assembler.specs.Statements.{assigned_by, assigned, wide_at};
 
+use super::map_lines::{by_index_at, field_at, index_at};
 use super::operands::{
     again_at, argument_at, memory_at, operand_at, register_at, same_register, wide_within,
 };
@@ -175,6 +176,26 @@ fn compared(width: Width, register: Reg, tokens: &[Token]) -> Result<Reading, Wr
     }
 }
 
+// `(n)` after `R = map_by_idx`.
+fn map_loaded(register: Reg, tokens: &[Token]) -> Result<Reading, Wrong>
+    ensures { result ≡ map_loaded register tokens.now }
+{
+    let map = index_at(tokens, 3)?;
+    plain(Insn::LoadMap(register, map), tokens, 6)
+}
+
+// `(map_by_idx(n)) + n` after `R = map_val`.
+fn map_value_loaded(register: Reg, tokens: &[Token]) -> Result<Reading, Wrong>
+    ensures { result ≡ map_value_loaded register tokens.now }
+{
+    expect_at(tokens, 3, Sign::Open)?;
+    let map = by_index_at(tokens, 4)?;
+    expect_at(tokens, 8, Sign::Close)?;
+    expect_at(tokens, 9, Sign::Plus)?;
+    let offset = field_at(u32::MAX, tokens, 10)?;
+    plain(Insn::LoadMapValue(register, map, offset), tokens, 11)
+}
+
 // What begins with a word after `R =`.
 fn moved_word(width: Width, register: Reg, tokens: &[Token], word: Word) -> Result<Reading, Wrong>
     ensures { result ≡ moved_word width register tokens.now word }
@@ -184,6 +205,8 @@ fn moved_word(width: Width, register: Reg, tokens: &[Token], word: Word) -> Resu
         (Width::Full64, Word::Fetch(op, size)) => fetched(op, size, register, tokens),
         (Width::Full64, Word::Exchange(size)) => exchanged(size, register, tokens),
         (Width::Full64, Word::CompareExchange(size)) => compared(size, register, tokens),
+        (Width::Full64, Word::MapByIndex) => map_loaded(register, tokens),
+        (Width::Full64, Word::MapValue) => map_value_loaded(register, tokens),
         _ => arithmetic(AluOp::Mov, width, register, tokens),
     }
 }

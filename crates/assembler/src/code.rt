@@ -1,6 +1,6 @@
 //! Instructions in a row, and the slots that they fill.
 
-ghost use Rattle.std.specs.Prelude.{◌≡◌, ◌≤◌, ◌+◌, ◌++◌, ◌∷◌, [], length};
+ghost use Rattle.std.specs.Prelude.{◌≡◌, ◌≤◌, ◌+◌, [], length};
 ghost use Rattle.isa_model.specs.Code.Instructions.{slots};
 ghost use Rattle.isa_model.specs.Machine.MachineStates.{max_slots};
 

@@ -1,25 +1,28 @@
 //! A program while its text is read.
 
-ghost use Rattle.std.specs.Prelude.{◌≡◌, ◌≤◌, ◌++◌, ◌∷◌, [], length, map, drop, Some, IfErr, OnOk};
-ghost use Rattle.std.specs.Prelude.{is_ok, slice_get};
+ghost use Rattle.std.specs.Prelude.{◌≡◌, ◌≤◌, length, map, drop, slice_get, IfErr, OnOk};
 ghost use Rattle.lexer.specs.declared.tokens.Lexeme.TheVariants as Lexeme;
 ghost use Rattle.assembler.specs.declared.errors.AsmErrorKind.TheVariants as AsmErrorKind;
+ghost use Rattle.assembler.specs.declared.readings.Statement.TheVariants as Statement;
 ghost use Rattle.assembler.specs.Labelled.{label_length, has_form};
-ghost use Rattle.assembler.specs.Assembling.{start, accept, closed, added, named, with_use};
+ghost use Rattle.assembler.specs.Assembling.{start, accept, closed, ended, added, named};
+ghost use Rattle.assembler.specs.Assembling.{with_use, refused_by};
 ghost use Rattle.assembler.specs.Assembling.{refusal_of, offset_or, Answers};
 ghost use Rattle.assembler.specs.Drafts.{place_of, progress_of};
 ghost use Rattle.assembler.specs.Naming.{use_of};
 
 use super::code::Code;
 use super::errors::AsmErrorKind;
+use super::map_tests::objection;
 use super::names::{Labels, Use, define};
 use super::operands::is_name;
 use super::parts::zeroed;
-use super::readings::Reading;
+use super::readings::{Reading, Statement};
 use super::refusals::Refusal;
 use super::statements::{spelled, statement_of};
-use super::wrong::Wrong;
+use super::wrong::{Objection, Wrong};
 use indexmap::IndexMap;
+use isa_model::MapDef;
 use lexer::{Lexeme, Sign, Token};
 use std::alloc::Global;
 
@@ -35,6 +38,7 @@ pub struct Span<'a> {
 pub struct Draft<'a> {
     pub tokens: Vec<Token>,
     pub spans: Vec<Span<'a>>,
+    pub maps: Vec<MapDef>,
     pub code: Code,
     pub labels: Labels<'a>,
     pub uses: Vec<Use<'a>>,
@@ -47,6 +51,7 @@ impl<'a> Draft<'a> {
         Draft {
             tokens: Vec::new(alloc),
             spans: Vec::new(alloc),
+            maps: Vec::new(alloc),
             code: Code::new(alloc),
             labels: IndexMap::new(alloc),
             uses: Vec::new(alloc),
@@ -82,25 +87,51 @@ impl<'a> Draft<'a> {
         }
     }
 
-    /// Ends the statement: nothing, a label, an instruction, or both.
+    /// Ends the statement: an optional label, and nothing, a map line or an instruction.
     pub fn close(&mut self) -> Result<(), Refusal>
         ensures { Answers (λ _. progress_of self.new) result (closed (progress_of self.old)) }
     {
         let label = self.label_length();
-        let said = match spelled(&self.tokens[label..]) {
-            Ok(said) => said,
+        let statement = match spelled(&self.tokens[label..]) {
+            Ok(statement) => statement,
             Err(wrong) => return Err(self.refusal(wrong, label)),
         };
+        let code = &self.code;
+        if let Some(objection) = objection(&code.insns, &self.maps, statement) {
+            return Err(self.refused_by(objection, label));
+        }
         if label > 0 {
             self.define_label()?;
         }
-        match said {
-            Some(reading) => self.add(reading, label),
-            None => {
+        match statement {
+            Statement::Empty => {
                 self.tokens.clear();
                 self.spans.clear();
                 Ok(())
             }
+            Statement::Row(row) => self.add_row(row),
+            Statement::Instruction(reading) => self.add(reading, label),
+        }
+    }
+
+    // Adds the row of the statement, a map line.
+    fn add_row(&mut self, row: MapDef) -> Result<(), Refusal>
+        ensures exact { Answers (λ _. progress_of self.new) result
+            (ended (progress_of self.old) 0 (Statement.Row row)) }
+        ensures place { IfErr result
+            (λ e. e.offset ≡ offset_or (slice_get (map place_of self.old.spans.items) 0) 0) }
+    {
+        let offset = self.offset_of(0, 0);
+        match self.maps.push(row) {
+            Ok(()) => {
+                self.tokens.clear();
+                self.spans.clear();
+                Ok(())
+            }
+            Err(_) => Err(Refusal {
+                kind: AsmErrorKind::Memory,
+                offset,
+            }),
         }
     }
 
@@ -131,8 +162,8 @@ impl<'a> Draft<'a> {
             (λ e. (e.kind ≡ AsmErrorKind.Memory)
             × (e.offset ≡ offset_or (slice_get (map place_of self.old.spans.items) 0) 0)) }
         ensures rest { (self.new.tokens.items ≡ self.old.tokens.items)
-            × (self.new.spans.items ≡ self.old.spans.items) × (self.new.code ≡ self.old.code)
-            × (self.new.labels ≡ self.old.labels) }
+            × (self.new.spans.items ≡ self.old.spans.items) × (self.new.maps ≡ self.old.maps)
+            × (self.new.code ≡ self.old.code) × (self.new.labels ≡ self.old.labels) }
         ensures noted { OnOk result
             (map use_of self.new.uses.items
             ≡ with_use (progress_of self.old)
@@ -203,6 +234,16 @@ impl<'a> Draft<'a> {
             }
         } else {
             first
+        }
+    }
+
+    // That at a token after that many others.
+    fn refused_by(&self, objection: Objection, skipped: usize) -> Refusal
+        ensures { result ≡ refused_by (progress_of self.now) skipped objection }
+    {
+        Refusal {
+            kind: objection.kind,
+            offset: self.offset_of(objection.token.saturating_add(skipped), 0),
         }
     }
 

@@ -21,6 +21,14 @@ pub enum AsmErrorKind {
     NotDefined,
     /// A name too far away for the jump.
     TooFar,
+    /// A map line after an instruction, a 17th one, or one out of the limits of map rows.
+    MapLine,
+    /// An index that no map line has.
+    NoMap,
+    /// A pointer into the value of a map that is not an array of one entry.
+    NotOneValue,
+    /// An offset that is not below the size of the map's values.
+    PastValue,
     /// Out of memory.
     Memory,
     /// No instruction, or more than 4,096 slots.
@@ -39,6 +47,8 @@ impl AsmErrorKind {
             AsmErrorKind::DefinedTwice => "A4",
             AsmErrorKind::NotDefined => "A5",
             AsmErrorKind::TooFar => "A6",
+            AsmErrorKind::MapLine | AsmErrorKind::NoMap => "A7",
+            AsmErrorKind::NotOneValue | AsmErrorKind::PastValue => "A10",
             AsmErrorKind::Memory => "A8",
             AsmErrorKind::SlotCount => "A9",
         }
@@ -55,6 +65,12 @@ impl AsmErrorKind {
             AsmErrorKind::DefinedTwice => "the name is defined already",
             AsmErrorKind::NotDefined => "the name is not defined",
             AsmErrorKind::TooFar => "the name is too far away for the jump",
+            AsmErrorKind::MapLine => {
+                "the map line comes after an instruction, is the 17th or is out of the limits"
+            }
+            AsmErrorKind::NoMap => "no map line has this index",
+            AsmErrorKind::NotOneValue => "the map is not an array of one entry",
+            AsmErrorKind::PastValue => "the offset is not below the size of the map's values",
             AsmErrorKind::Memory => "out of memory",
             AsmErrorKind::SlotCount => "the text has no instruction, or more than 4096 slots",
         }

@@ -11,6 +11,8 @@ mod assignments;
 mod code;
 mod draft;
 pub mod errors;
+mod map_lines;
+mod map_tests;
 mod names;
 mod operands;
 mod parts;

@@ -1,6 +1,6 @@
 //! Names of places of the code: where they are defined, and where they are used.
 
-ghost use Rattle.std.specs.Prelude.{◌≡◌, ◌+◌, ◌-◌, ◌≤◌, map, Ok, Err, MatchResult};
+ghost use Rattle.std.specs.Prelude.{◌≡◌, ◌+◌, ◌-◌, map, Ok, Err, MatchResult};
 ghost use Rattle.assembler.specs.Naming.{distance, aimed, aim, resolved, use_of};
 ghost use Rattle.assembler.specs.Labels.{label_of, slot_in, with_label, Makes};
 

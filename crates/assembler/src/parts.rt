@@ -1,14 +1,15 @@
 //! Single tokens of a statement.
 
 ghost use Rattle.std.specs.Prelude.{◌≡◌};
-ghost use Rattle.assembler.specs.Statements.{token_at, sign_at, number_at, word_at, is_sign};
-ghost use Rattle.assembler.specs.Statements.{expect_at, is_minus, op_of, atomic_op_of};
-ghost use Rattle.assembler.specs.Statements.{comparison_of, width_of, extension_of, as_size};
-ghost use Rattle.assembler.specs.Statements.{as_narrow, is_full};
+ghost use Rattle.assembler.specs.Operands.{token_at, sign_at, number_at, word_at, is_sign};
+ghost use Rattle.assembler.specs.Operands.{expect_at, is_minus, op_of, atomic_op_of};
+ghost use Rattle.assembler.specs.Operands.{comparison_of, width_of, extension_of, as_size};
+ghost use Rattle.assembler.specs.Operands.{as_narrow, as_kind, is_by_index};
+ghost use Rattle.assembler.specs.Statements.{is_full};
 ghost use Rattle.assembler.specs.Labelled.{zeroed};
 
 use super::wrong::Wrong;
-use isa_model::{AluOp, AtomicOp, Comparison, Extension, Narrow, Size, Width};
+use isa_model::{AluOp, AtomicOp, Comparison, Extension, MapKind, Narrow, Size, Width};
 use lexer::{Sign, Token, Word};
 
 /// The token at the index.
@@ -63,11 +64,12 @@ fn is_sign(sign: Sign, wanted: Sign) -> bool
         (Sign::Star, Sign::Star) => true,
         (Sign::Comma, Sign::Comma) => true,
         (Sign::Assign, Sign::Assign) => true,
+        (Sign::Plus, Sign::Plus) => true,
         _ => false,
     }
 }
 
-/// The wanted sign stands at the index: one of `(`, `)`, `*`, `,` and `=`.
+/// The wanted sign stands at the index: one of `(`, `)`, `*`, `,`, `=` and `+`.
 pub fn expect_at(tokens: &[Token], i: usize, wanted: Sign) -> Result<(), Wrong>
     ensures { result ≡ expect_at tokens.now i wanted }
 {
@@ -185,6 +187,26 @@ pub fn as_narrow(word: Word) -> Result<Narrow, Wrong>
     match word {
         Word::SignExtended(size) => Ok(size),
         _ => Err(Wrong::Form),
+    }
+}
+
+/// The type of a map line.
+pub fn as_kind(word: Word) -> Result<MapKind, Wrong>
+    ensures { result ≡ as_kind word }
+{
+    match word {
+        Word::Kind(kind) => Ok(kind),
+        _ => Err(Wrong::Form),
+    }
+}
+
+/// Whether it is `map_by_idx`.
+pub fn is_by_index(word: Word) -> bool
+    ensures { result ≡ is_by_index word }
+{
+    match word {
+        Word::MapByIndex => true,
+        _ => false,
     }
 }
 

@@ -1,11 +1,21 @@
 //! Statements as they were read.
 
-use isa_model::Insn;
+use isa_model::{Insn, MapDef};
 
-/// The instruction of a statement. Where its target is a name, the distance in it is 0 for now, and
-/// `name` is the index of the token that is the name.
+/// An instruction. Where its target is a name, the distance in it is 0 for now, and `name` is the
+/// index of the token that is the name.
 #[derive(Clone, Copy)]
 pub struct Reading {
     pub insn: Insn,
     pub name: Option<usize>,
+}
+
+/// What the tokens of a statement spell, its label aside. A number too large for a map line or for
+/// the load of a map stands as the greatest of its field.
+#[derive(Clone, Copy)]
+pub enum Statement {
+    Empty,
+    /// A map line.
+    Row(MapDef),
+    Instruction(Reading),
 }

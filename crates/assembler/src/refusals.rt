@@ -1,6 +1,6 @@
 //! Refusals, and the lines and columns that they stand at.
 
-ghost use Rattle.std.specs.Prelude.{◌≡◌, take};
+ghost use Rattle.std.specs.Prelude.{◌≡◌};
 ghost use Rattle.assembler.specs.Positions.{line_behind, column_behind, error_at};
 
 use super::errors::{AsmError, AsmErrorKind};

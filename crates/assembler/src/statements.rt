@@ -1,20 +1,21 @@
 //! The instruction that a statement's tokens spell.
 
-ghost use Rattle.std.specs.Prelude.{◌≡◌, ◌+◌, ◌≤◌, ◌<◌};
+ghost use Rattle.std.specs.Prelude.{◌≡◌, ◌+◌, ◌<◌};
 ghost use Rattle.assembler.specs.Statements.{stored_token, stored, locked, jump, long_jump};
 ghost use Rattle.assembler.specs.Statements.{is_goto, goto_at, condition, tested, called_word};
-ghost use Rattle.assembler.specs.Statements.{by_word, by_token, statement_of};
-ghost use Rattle.assembler.specs.Labelled.{spelled};
+ghost use Rattle.assembler.specs.Statements.{called, by_word, by_token, statement_of};
+ghost use Rattle.assembler.specs.Labelled.{begins_map_line, spelled};
 
 use super::assignments::{assigned, plain};
+use super::map_lines::map_line;
 use super::operands::{
-    as_register, constant_at, far_target_at, is_name, memory_at, near_target_at, operand_at,
-    register_at, signed_imm,
+    as_register, constant_at, far_target_at, memory_at, near_target_at, operand_at, register_at,
+    signed_imm,
 };
 use super::parts::{
     as_size, atomic_op_of, comparison_of, expect_at, sign_at, token_at, width_of, word_at,
 };
-use super::readings::Reading;
+use super::readings::{Reading, Statement};
 use super::wrong::Wrong;
 use isa_model::{Cond, Insn, Place, Reg, Size, Width};
 use lexer::{Sign, Token, Word};
@@ -122,7 +123,7 @@ fn tested(tokens: &[Token], word: Word) -> Result<Reading, Wrong>
     }
 }
 
-// What stands after `call`: `pc` and a distance, or a name.
+// A word after `call`: `pc` with a distance behind it, or a name.
 fn called_word(tokens: &[Token], word: Word) -> Result<Reading, Wrong>
     ensures { result ≡ called_word tokens.now word }
 {
@@ -144,6 +145,19 @@ fn called_word(tokens: &[Token], word: Word) -> Result<Reading, Wrong>
     }
 }
 
+// What stands after `call`: a word, or the number of a helper.
+fn called(tokens: &[Token], token: Token) -> Result<Reading, Wrong>
+    ensures { result ≡ called tokens.now token }
+{
+    match token {
+        Token::Named(word) => called_word(tokens, word),
+        _ => {
+            let (number, end) = constant_at(tokens, 1)?;
+            plain(Insn::CallHelper(number), tokens, end)
+        }
+    }
+}
+
 fn by_word(tokens: &[Token], word: Word) -> Result<Reading, Wrong>
     ensures { result ≡ by_word tokens.now word }
 {
@@ -152,7 +166,7 @@ fn by_word(tokens: &[Token], word: Word) -> Result<Reading, Wrong>
         Word::If => tested(tokens, word_at(tokens, 1)?),
         Word::Goto => jump(tokens),
         Word::GotoLong => long_jump(tokens),
-        Word::Call => called_word(tokens, word_at(tokens, 1)?),
+        Word::Call => called(tokens, token_at(tokens, 1)?),
         Word::Exit => plain(Insn::Exit, tokens, 1),
         Word::Lock => locked(tokens),
         _ => Err(Wrong::Form),
@@ -181,12 +195,26 @@ pub fn statement_of(tokens: &[Token]) -> Result<Reading, Wrong>
     by_token(tokens, token_at(tokens, 0)?)
 }
 
-/// What the tokens of a statement without a label spell: nothing, or an instruction.
-pub fn spelled(tokens: &[Token]) -> Result<Option<Reading>, Wrong>
+// Whether a map line begins with that token.
+fn begins_map_line(token: Option<Token>) -> bool
+    ensures { result ≡ begins_map_line token }
+{
+    match token {
+        Some(Token::Named(Word::Map)) => true,
+        _ => false,
+    }
+}
+
+/// What the tokens of a statement without a label spell.
+pub fn spelled(tokens: &[Token]) -> Result<Statement, Wrong>
     ensures { result ≡ spelled tokens.now }
 {
     if tokens.is_empty() {
-        return Ok(None);
+        return Ok(Statement::Empty);
     }
-    Ok(Some(statement_of(tokens)?))
+    if begins_map_line(tokens.get(0).copied()) {
+        Ok(Statement::Row(map_line(tokens)?))
+    } else {
+        Ok(Statement::Instruction(statement_of(tokens)?))
+    }
 }

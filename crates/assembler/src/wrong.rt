@@ -1,10 +1,19 @@
-//! Why the tokens of a statement are no instruction.
+//! Why a statement is refused.
 
-/// What is wrong with a statement.
+use super::errors::AsmErrorKind;
+
+/// Why the tokens of a statement spell nothing.
 #[derive(Clone, Copy)]
 pub enum Wrong {
     /// No form fits.
     Form,
     /// The number at this token, or after the sign at it, is out of range.
     Range(usize),
+}
+
+/// What is wrong with a map line or with the load of a map, and the token at which it is.
+#[derive(Clone, Copy)]
+pub struct Objection {
+    pub kind: AsmErrorKind,
+    pub token: usize,
 }

@@ -84,6 +84,32 @@ fn number_line(destination: Reg, number: u64) -> Line
 }
 
 #[tactic(auto, unfolding(isa_model::specs::Text::CanonicalText::line_of))]
+fn map_line(destination: Reg, map: u32) -> Line
+    ensures { result.bytes ≡ line_of (Insn.LoadMap destination map) }
+{
+    let mut line = Line::new();
+    push_reg(&mut line, Width::Full64, destination);
+    line.push_str(" = map_by_idx(");
+    push_number(&mut line, u64::from(map));
+    line.push_str(")\n");
+    line
+}
+
+#[tactic(auto, unfolding(isa_model::specs::Text::CanonicalText::line_of))]
+fn map_value_line(destination: Reg, map: u32, offset: u32) -> Line
+    ensures { result.bytes ≡ line_of (Insn.LoadMapValue destination map offset) }
+{
+    let mut line = Line::new();
+    push_reg(&mut line, Width::Full64, destination);
+    line.push_str(" = map_val(map_by_idx(");
+    push_number(&mut line, u64::from(map));
+    line.push_str(")) + ");
+    push_number(&mut line, u64::from(offset));
+    line.push_str("\n");
+    line
+}
+
+#[tactic(auto, unfolding(isa_model::specs::Text::CanonicalText::line_of))]
 fn load_line(size: Size, destination: Reg, place: Place) -> Line
     ensures { result.bytes ≡ line_of (Insn.Load size destination place) }
 {
@@ -230,6 +256,17 @@ fn call_line(distance: i32) -> Line
 }
 
 #[tactic(auto, unfolding(isa_model::specs::Text::CanonicalText::line_of))]
+fn helper_line(number: i32) -> Line
+    ensures { result.bytes ≡ line_of (Insn.CallHelper number) }
+{
+    let mut line = Line::new();
+    line.push_str("call ");
+    push_signed(&mut line, number);
+    line.push_str("\n");
+    line
+}
+
+#[tactic(auto, unfolding(isa_model::specs::Text::CanonicalText::line_of))]
 fn exit_line() -> Line
     ensures { result.bytes ≡ line_of Insn.Exit }
 {
@@ -251,6 +288,8 @@ pub fn line_of(insn: &Insn) -> Line
         }
         Insn::ByteSwap(order, span, destination) => swap_line(order, span, destination),
         Insn::LoadNumber(destination, number) => number_line(destination, number),
+        Insn::LoadMap(destination, map) => map_line(destination, map),
+        Insn::LoadMapValue(destination, map, offset) => map_value_line(destination, map, offset),
         Insn::Load(size, destination, place) => load_line(size, destination, place),
         Insn::LoadSx(size, destination, place) => signed_load_line(size, destination, place),
         Insn::StoreConstant(size, place, number) => constant_store_line(size, place, number),
@@ -267,6 +306,7 @@ pub fn line_of(insn: &Insn) -> Line
         Insn::Jump(distance) => jump_line(distance),
         Insn::JumpLong(distance) => long_jump_line(distance),
         Insn::JumpIf(condition, distance) => condition_line(condition, distance),
+        Insn::CallHelper(number) => helper_line(number),
         Insn::CallLocal(distance) => call_line(distance),
         Insn::Exit => exit_line(),
     }

@@ -1,6 +1,6 @@
 //! Numbers, appended to a line.
 
-ghost use Rattle.std.specs.Prelude.{◌≡◌, ◌+◌, ◌<◌, ◌≤◌, ◌^◌, ◌++◌, false, length, decimal};
+ghost use Rattle.std.specs.Prelude.{◌≡◌, ◌+◌, ◌<◌, ◌≤◌, ◌++◌, false, length, decimal};
 ghost use Rattle.std.specs.Fmt.{digits, signed_decimal};
 ghost use Rattle.arrayvec.specs.ArrayString.{array_string_len};
 ghost use Rattle.isa_model.specs.Text.CanonicalText.{offset_text, distance_text};
@@ -9,7 +9,7 @@ ghost use Rattle.disassembler.specs.Hexadecimal.{hex_glyph, hex_digits};
 use arrayvec::ArrayString;
 use itoa::Buffer;
 
-/// A line of text; none has more than 44 bytes.
+/// A line of text; none has more than 51 bytes.
 pub type Line = ArrayString<96>;
 
 /// Appends a number in decimal.

@@ -10,6 +10,7 @@ use Rattle.isa_model.specs.declared.sizes.Narrow.TheVariants.{S8, S16, S32}
 use Rattle.isa_model.specs.declared.sizes.Span.TheVariants.{B16, B32, B64}
 use Rattle.isa_model.specs.declared.sizes.ByteOrder.TheVariants.{Little, Big, Swap}
 use Rattle.isa_model.specs.declared.instructions.AtomicOp.TheVariants as atomic
+use Rattle.isa_model.specs.declared.map_defs.MapKind.TheVariants.{Hash, Array}
 use Rattle.lexer.specs.declared.tokens.Word.{Word}
 use Rattle.lexer.specs.declared.tokens.Word.TheVariants as word
 
@@ -27,6 +28,15 @@ abbrev pub register_word : Width → Option Reg → Word
 register_word w (Some r) = word.Register w r
 register_word w None = word.Other
 
+abbrev pub map_word : List ℕ → Word
+map_word cs =
+    if bytes_eq cs (codes "map") then word.Map
+    else if bytes_eq cs (codes "hash") then word.Kind Hash
+    else if bytes_eq cs (codes "array") then word.Kind Array
+    else if bytes_eq cs (codes "map_by_idx") then word.MapByIndex
+    else if bytes_eq cs (codes "map_val") then word.MapValue
+    else word.Other
+
 abbrev pub atomic_word : List ℕ → Word
 atomic_word cs =
     if bytes_eq cs (codes "atomic_fetch_add_32") then word.Fetch atomic.Add Low32
@@ -41,7 +51,7 @@ atomic_word cs =
     else if bytes_eq cs (codes "xchg_64") then word.Exchange Full64
     else if bytes_eq cs (codes "cmpxchg_32") then word.CompareExchange Low32
     else if bytes_eq cs (codes "cmpxchg_64") then word.CompareExchange Full64
-    else word.Other
+    else map_word cs
 
 abbrev pub swap_word : List ℕ → Word
 swap_word cs =

@@ -1,6 +1,6 @@
 //! The tokens of the text.
 
-use isa_model::{AtomicOp, ByteOrder, Narrow, Reg, Size, Span, Width};
+use isa_model::{AtomicOp, ByteOrder, MapKind, Narrow, Reg, Size, Span, Width};
 
 /// What a word stands for in an instruction. As a name of a place a word is known by its letters
 /// only.
@@ -30,6 +30,14 @@ pub enum Word {
     Lock,
     /// `ll`, after the number of a wide load.
     Wide,
+    /// `map`, which begins a map line.
+    Map,
+    /// `hash`, `array`.
+    Kind(MapKind),
+    /// `map_by_idx`.
+    MapByIndex,
+    /// `map_val`.
+    MapValue,
     Other,
 }
 

@@ -2,10 +2,10 @@
 
 ghost use Rattle.std.specs.Prelude.{◌≡◌, bytes_eq};
 ghost use Rattle.lexer.specs.Words.{reg_of, register_word, word_of, key_word, size_word, swap_word};
-ghost use Rattle.lexer.specs.Words.{atomic_word};
+ghost use Rattle.lexer.specs.Words.{atomic_word, map_word};
 
 use super::tokens::Word;
-use isa_model::{AtomicOp, ByteOrder, Narrow, Reg, Size, Span, Width};
+use isa_model::{AtomicOp, ByteOrder, MapKind, Narrow, Reg, Size, Span, Width};
 
 fn reg_of(digits: &[u8]) -> Option<Reg>
     ensures { result ≡ reg_of digits.now }
@@ -41,6 +41,24 @@ fn is_text(word: &[u8], text: &str) -> bool
     word == text.as_bytes()
 }
 
+fn map_word(word: &[u8]) -> Word
+    ensures { result ≡ map_word word.now }
+{
+    if is_text(word, "map") {
+        Word::Map
+    } else if is_text(word, "hash") {
+        Word::Kind(MapKind::Hash)
+    } else if is_text(word, "array") {
+        Word::Kind(MapKind::Array)
+    } else if is_text(word, "map_by_idx") {
+        Word::MapByIndex
+    } else if is_text(word, "map_val") {
+        Word::MapValue
+    } else {
+        Word::Other
+    }
+}
+
 fn atomic_word(word: &[u8]) -> Word
     ensures { result ≡ atomic_word word.now }
 {
@@ -69,7 +87,7 @@ fn atomic_word(word: &[u8]) -> Word
     } else if is_text(word, "cmpxchg_64") {
         Word::CompareExchange(Width::Full64)
     } else {
-        Word::Other
+        map_word(word)
     }
 }
 

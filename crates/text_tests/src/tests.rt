@@ -1,6 +1,7 @@
 //! A module for each crate or subject that is tested.
 
-mod assembling;
+mod codes;
 mod disassembling;
-mod forms;
 mod lexemes;
+mod maps;
+mod refusals;
