@@ -1,5 +1,5 @@
 -- What loads and stores give and leave is what the machine does.
-use Rattle.std.specs.Prelude.{◌≡◌, ℤ, length, Ok}
+use Rattle.std.specs.Prelude.{ℤ, length, Ok}
 use Rattle.std.proofs.Common.{sym, subst}
 use Rattle.isa_model.specs.declared.sizes.Size.{Size}
 use Rattle.isa_model.specs.declared.sizes.Narrow.{Narrow}

@@ -1,33 +1,27 @@
 -- What arithmetic gives in a state allows what the machine computes, under some assignment of identities.
-use Rattle.std.specs.Prelude.{◌≡◌, ℕ, ◌<◌, ◌≤◌, ◌^◌, ℤ, Bool, true, false, length, nat_le, unsigned_abs, if◌then◌else◌, slice_get, Option, Some, None, Result, Ok, Err, refl}
-use Rattle.std.proofs.Common.{arith}
-use Rattle.std.proofs.lemmas.Bool.Decides.{nat_tests}
+use Rattle.std.specs.Prelude.{◌≡◌, ℕ, ℤ, Bool, true, false, length, Ok, refl}
 use Rattle.isa_model.specs.declared.sizes.Width.{Width}
 use Rattle.isa_model.specs.declared.sizes.Width.TheVariants.{Low32, Full64}
 use Rattle.isa_model.specs.declared.instructions.AluOp.{AluOp}
 use Rattle.isa_model.specs.declared.instructions.AluOp.TheVariants.{Mov, Add, Sub}
-use Rattle.isa_model.specs.declared.values.Region.{Region}
 use Rattle.isa_model.specs.declared.values.Region.TheVariants as region
 use Rattle.isa_model.specs.declared.values.Value.{Value}
 use Rattle.isa_model.specs.declared.values.Value.TheVariants as value
-use Rattle.isa_model.specs.declared.ends.TrapReason.{TrapReason}
 use Rattle.isa_model.specs.Code.Numbers.{alu, low}
 use Rattle.isa_model.specs.Code.NumberLemmas.{low_same}
-use Rattle.isa_model.specs.Machine.Pointers.{offset_limit, pointer_at, moved_to, moved, combined, arithmetic, on_number}
+use Rattle.isa_model.specs.Machine.Pointers.{moved_to, moved, combined, arithmetic}
 use Rattle.isa_model.specs.Machine.States as Machine
 use Rattle.isa_model.specs.Machine.Steps.{is_unset}
 use Rattle.isa_model.specs.Machine.MachineStates.{IsValue}
 use Rattle.isa_model.specs.Code.Instructions.{Program}
 use Rattle.reg_state.specs.declared.scalars.Scalar.{Scalar}
 use Rattle.reg_state.specs.declared.kinds.Kind.{Kind}
-use Rattle.reg_state.specs.declared.kinds.Kind.TheVariants.{Unset, Number, Context, Stack, Packet, PacketEnd, Map, MapValue, MapValueOrNull}
+use Rattle.reg_state.specs.declared.kinds.Kind.TheVariants.{Number, Stack, Packet}
 use Rattle.reg_state.specs.Scalars.{Has}
 use Rattle.reg_state.specs.Kinds.{Assigned, Allows}
-use Rattle.reg_state.specs.Constants.{IsNumber-only}
 use Rattle.stack_state.specs.declared.states.State.{State}
 use Rattle.stack_state.specs.Meaning.{MeansBy}
-use Rattle.transfer.specs.declared.refusals.Refusal.TheVariants.{PointerOffset}
-use Rattle.transfer.specs.Results.{packet_pointer, IsWord, IsLowWord, OfNumber, moved_offset, LeavesNumber, moved_frame, Moves, PointerAndNumber, NumberAndPointer, NumberAnd, PointerAnd, Combined, Copied, Arithmetic}
+use Rattle.transfer.specs.Results.{packet_pointer, IsLowWord, OfNumber, moved_offset, Moves, PointerAndNumber, NumberAndPointer, NumberAnd, PointerAnd, Combined, Copied, Arithmetic}
 use Rattle.transfer.specs.ResultLaws.{Yields, YieldsUnder, frame_moves}
 use Rattle.transfer.specs.PacketLaws.{packet_plus_yields, packet_minus_yields, number_plus_packet_yields}
 

@@ -1,5 +1,5 @@
 -- What an instruction makes of an abstract state, and why it is refused, exactly.
-use Rattle.std.specs.Prelude.{◌≡◌, ◌≢◌, ℕ, ◌+◌, ◌==◌, ℤ, Bool, true, false, if◌then◌else◌, Option, Some, None, Result, Ok, Err}
+use Rattle.std.specs.Prelude.{◌≡◌, ◌≢◌, ℕ, zero, suc, ◌+◌, ◌<◌, ◌≤◌, ◌==◌, ℤ, Bool, true, false, length, Option, Some, None, Result, Ok, Err}
 use Rattle.isa_model.specs.declared.sizes.Width.{Width}
 use Rattle.isa_model.specs.declared.sizes.Width.TheVariants.{Full64}
 use Rattle.isa_model.specs.declared.sizes.Size.{Size}
@@ -14,13 +14,15 @@ use Rattle.isa_model.specs.declared.instructions.Insn.TheVariants.{Alu, Neg, Mov
 use Rattle.isa_model.specs.Code.Sizes.{width_size}
 use Rattle.isa_model.specs.Code.Numbers.{unsigned}
 use Rattle.isa_model.specs.Code.Instructions.{Program, slots_of, writes}
+use Rattle.isa_model.specs.Machine.Calls.{most_frames}
 use Rattle.isa_model.specs.Machine.Steps.{destination}
 use Rattle.reg_state.specs.declared.kinds.Kind.{Kind}
-use Rattle.reg_state.specs.declared.kinds.Kind.TheVariants.{Number}
+use Rattle.reg_state.specs.declared.kinds.Kind.TheVariants.{Number, Stack}
 use Rattle.reg_state.specs.Arithmetic.{IsNegated, IsReordered, IsSignExtended}
 use Rattle.stack_state.specs.declared.states.State.{State}
 use Rattle.stack_state.specs.Meaning.{depth}
 use Rattle.stack_state.specs.Places.{kind_of, with_register, go_to}
+use Rattle.stack_state.specs.Calls.{entered, ended}
 use Rattle.branch_refine.specs.Refining.{IsJust, Refines}
 use Rattle.branch_refine.specs.Comparing.{compared_by, IsDefined}
 use Rattle.transfer.specs.declared.Ways.{Ways}
@@ -114,15 +116,34 @@ BranchesOr p a cond by (Err e) b c = (e ≡ comparison_refusal a cond) × ¬ IsD
 abbrev pub JumpsTo : Program → State → ℤ → Result Ways Refusal → State → Type 0
 JumpsTo p a by result b = (result ≡ Ok ways.One) × (b ≡ go_to a (destination p a.slot by))
 
--- ---- exits
+-- ---- calls and exits
+
+-- a frame is pushed, unless as many are live as may be
+abbrev pub Calls : Program → State → ℤ → Result Ways Refusal → State → Type 0
+Calls p a by (Ok w) b = (depth a < most_frames) × (w ≡ ways.One) × (b ≡ entered a (destination p a.slot by))
+Calls p a by (Err e) b = (most_frames ≤ depth a) × (e ≡ TooManyFrames)
 
 abbrev pub answered : Kind → Result Ways Refusal
 answered (Number numbers) = Ok ways.None
 answered k = Err ExitValue
 
--- the first frame answers a number
-abbrev pub exited : ℕ → Kind → Result Ways Refusal
-exited frames k = if frames == 1 then answered k else Err NotBuilt
+-- into the nth frame
+abbrev pub points_into : ℕ → Kind → Bool
+points_into n (Stack f z) = f == n
+points_into n k = false
+
+-- a frame is popped, unless r0 points into it
+abbrev pub Returns : State → Result Ways Refusal → State → Type 0
+Returns a (Ok w) b = (points_into (length a.callers.items) (kind_of a R0) ≡ false) × (w ≡ ways.One) × (b ≡ ended a)
+Returns a (Err e) b = (points_into (length a.callers.items) (kind_of a R0) ≡ true) × (e ≡ ExitValue)
+
+abbrev pub ExitsFrom : ℕ → State → Result Ways Refusal → State → Type 0
+ExitsFrom zero a result b = result ≡ answered (kind_of a R0)
+ExitsFrom (suc n) a result b = Returns a result b
+
+-- the first frame, which has no callers, answers a number
+abbrev pub Exits : State → Result Ways Refusal → State → Type 0
+Exits a result b = ExitsFrom (length a.callers.items) a result b
 
 -- ---- instructions
 
@@ -138,8 +159,8 @@ Performs p a (CompareExchange w place r) result b c = GoesOn a (ComparesAtPlace 
 Performs p a (Jump by) result b c = JumpsTo p a by result b
 Performs p a (JumpLong by) result b c = JumpsTo p a by result b
 Performs p a (JumpIf cond by) result b c = BranchesOr p a cond by result b c
-Performs p a (CallLocal by) result b c = result ≡ Err TooManyFrames
-Performs p a Exit result b c = result ≡ exited (depth a) (kind_of a R0)
+Performs p a (CallLocal by) result b c = Calls p a by result b
+Performs p a Exit result b c = Exits a result b
 Performs p a i result b c = SetsOr a i result b
 
 -- a test that fails decides, and where it passes the rest does

@@ -1,5 +1,5 @@
 -- What an instruction makes of an abstract state means what the machine does.
-use Rattle.std.specs.Prelude.{◌≡◌, ◌≢◌, ℕ, ◌+◌, ◌<◌, ◌≤◌, ◌==◌, ℤ, Bool, true, false, ◌||◌, if◌then◌else◌, List, [], ◌∷◌, length, Option, Some, None, Result, Ok, Err, refl}
+use Rattle.std.specs.Prelude.{◌≡◌, ◌≢◌, ℕ, zero, suc, ◌+◌, ◌<◌, ◌==◌, ℤ, Bool, true, false, if◌then◌else◌, length, Some, None, Result, Ok, Err, refl}
 use Rattle.std.specs.List.{list_any}
 use Rattle.std.proofs.Common.{inl, inr, sym, ap, ◌∙◌, subst, arith}
 use Rattle.std.proofs.lemmas.Bool.Decides.{nat_tests}
@@ -21,15 +21,17 @@ use Rattle.isa_model.specs.declared.instructions.Insn.TheVariants.{Alu, Neg, Mov
 use Rattle.isa_model.specs.declared.values.Value.{Value}
 use Rattle.isa_model.specs.declared.values.Value.TheVariants as value
 use Rattle.isa_model.specs.declared.ends.TrapReason.{TrapReason}
+use Rattle.isa_model.specs.declared.ends.TrapReason.TheVariants.{TooManyFrames}
 use Rattle.isa_model.specs.Code.Registers.{reg_number}
 use Rattle.isa_model.specs.Code.Numbers.{alu, low, unsigned, atomic_alu, negated, sign_extended, reordered}
 use Rattle.isa_model.specs.Code.Spelling.{InsnFits, OperandFits}
 use Rattle.isa_model.specs.Code.Instructions.{Program, fetch, slots_of, operand_reads, alu_reads, reads, writes, is_frame_pointer}
-use Rattle.isa_model.specs.Machine.Pointers.{arithmetic, on_number, compared}
+use Rattle.isa_model.specs.Machine.Pointers.{arithmetic, on_number}
 use Rattle.isa_model.specs.Machine.States.{reg, set_reg}
 use Rattle.isa_model.specs.Machine.States as Machine
+use Rattle.isa_model.specs.Machine.Calls.{most_frames, enter, leave}
 use Rattle.isa_model.specs.Machine.Memory.{and_then, load, load_signed, store}
-use Rattle.isa_model.specs.Machine.Steps.{operand_value, base_of, destination, sets, goes_on, jumps, branches, test_of, atomic_number, swaps_in, fetched_into, finishes, exits, act, is_unset, performed, performed_at, step}
+use Rattle.isa_model.specs.Machine.Steps.{Next, Trapped, operand_value, base_of, destination, sets, goes_on, jumps, branches, test_of, calls, atomic_number, swaps_in, fetched_into, finishes, exits, act, is_unset, performed_at, step}
 use Rattle.isa_model.specs.Running.Ends.{After, After-weaker}
 use Rattle.isa_model.specs.Machine.MachineStates.{IsProgram, IsState, IsValue}
 use Rattle.isa_model.specs.Machine.ValueLaws.{unsigned_fits}
@@ -37,64 +39,30 @@ use Rattle.isa_model.specs.Machine.StateLaws.{reg_fits}
 use Rattle.isa_model.specs.Machine.StepLaws.{IfNext, act_keeps}
 use Rattle.reg_state.specs.declared.kinds.Kind.{Kind}
 use Rattle.reg_state.specs.declared.kinds.Kind.TheVariants as kind
-use Rattle.reg_state.specs.Kinds.{Assigned, Allows, AllowsOrNull}
+use Rattle.reg_state.specs.Kinds.{Assigned, Allows}
 use Rattle.reg_state.specs.Arithmetic.{IsNegated, IsReordered, IsSignExtended}
 use Rattle.stack_state.specs.declared.states.State.{State}
-use Rattle.stack_state.specs.Meaning.{depth, MeansBy, Means}
+use Rattle.stack_state.specs.Meaning.{MeansBy, Means}
 use Rattle.stack_state.specs.Places.{kind_of, with_register, go_to}
+use Rattle.stack_state.specs.Calls.{entered, with_new_frame, without_last, ended}
+use Rattle.stack_state.specs.CallLaws.{MeansBy-enter}
+use Rattle.stack_state.specs.EndLaws.{MeansBy-ended}
 use Rattle.stack_state.specs.MeaningLaws.{reg_allowed, depth_is_length, MeansBy-go_to, MeansBy-set}
 use Rattle.branch_refine.specs.Refining.{IsNumber, IsJust, Keeps}
 use Rattle.branch_refine.specs.ComparingLaws.{test-defined}
 use Rattle.transfer.specs.declared.refusals.Refusal.{Refusal}
-use Rattle.transfer.specs.declared.refusals.Refusal.TheVariants.{UnsetRegister, ReadOnlyRegister, NotBuilt}
+use Rattle.transfer.specs.declared.refusals.Refusal.TheVariants.{UnsetRegister, ReadOnlyRegister}
 use Rattle.transfer.specs.declared.Ways.{Ways}
 use Rattle.transfer.specs.declared.Ways.TheVariants as ways
 use Rattle.transfer.specs.Leading.{InSome, LeadsTo}
-use Rattle.transfer.specs.Refusing.{is_unset as is_unset_kind, is_unset_in, reads_unset}
+use Rattle.transfer.specs.Refusing.{reads_unset}
+use Rattle.transfer.specs.RegisterLaws.{neither, unset_in, none_unset, performed_acts}
 use Rattle.transfer.specs.ResultLaws.{Yields, YieldsUnder, on_number_yields}
 use Rattle.transfer.specs.ArithmeticLaws.{arithmetic_yields}
 use Rattle.transfer.specs.StackAccessLaws.{GoesInto}
 use Rattle.transfer.specs.AccessLaws.{load_yields, load_signed_yields, store_goes}
 use Rattle.transfer.specs.AtomicLaws.{keep_old, swap_goes, compare_and_swap_goes}
-use Rattle.transfer.specs.Exact.{IsOperand, Puts, Sets, GoesOn, StoresAt, SwapsAtPlace, ComparesAtPlace, Sides, Branches, JumpsTo, answered, exited, Performs, Tested, Steps}
-
--- ---- the tests of the registers
-
-or_null_is_set : (e : Assigned) (m : ℕ) (o : Option ℕ) (v : Value) → AllowsOrNull e m o v → is_unset v ≡ false
-or_null_is_set e m None v h = ap is_unset h
-or_null_is_set e m (Some n) v h = ap is_unset h.0
-
--- a register that is known to be set is set
-set_is_set : (e : Assigned) (k : Kind) (v : Value) → is_unset_kind k ≡ false → Allows e k v → is_unset v ≡ false
-set_is_set e kind.Unset v known allowed = absurd (cc)
-set_is_set e (kind.Number numbers) v known allowed = ap is_unset allowed.1
-set_is_set e kind.Context v known allowed = ap is_unset allowed
-set_is_set e (kind.Stack frame offset) v known allowed = ap is_unset allowed.2
-set_is_set e (kind.Packet fixed identity least greatest proved) v known allowed = ap is_unset allowed.points
-set_is_set e kind.PacketEnd v known allowed = ap is_unset allowed
-set_is_set e (kind.Map index) v known allowed = ap is_unset allowed
-set_is_set e (kind.MapValue index least greatest) v known allowed = ap is_unset allowed.points
-set_is_set e (kind.MapValueOrNull index identity) v known allowed = or_null_is_set e index (e.value identity) v allowed
-
-neither : (a b : Bool) → (a || b) ≡ false → (a ≡ false) × (b ≡ false)
-neither true b h = absurd (cc)
-neither false b h = (refl, h)
-
-abbrev unset_in : Machine.State → Reg → Bool
-unset_in s r = is_unset (reg s r)
-
-none_unset : (p : Program) (e : Assigned) (a : State) (s : Machine.State) → MeansBy p e a s → (rs : List Reg)
-    → list_any (is_unset_in a) rs ≡ false → list_any (unset_in s) rs ≡ false
-none_unset p e a s m [] h = refl
-none_unset p e a s m (r ∷ rs) h =
-    let (first, rest) = neither (is_unset_in a r) (list_any (is_unset_in a) rs) h in
-    let here : unset_in s r ≡ false =
-    set_is_set e (kind_of a r) (reg s r) first (reg_allowed p e a s m r) in
-    rw here (none_unset p e a s m rs rest)
-
-performed_acts : (p : Program) (clock : ℕ → ℕ) (s : Machine.State) (i : Insn) → list_any (unset_in s) (reads i) ≡ false
-    → is_frame_pointer (writes i) ≡ false → performed p clock s i ≡ act p clock s i
-performed_acts p clock s i set own = rw (set, own) refl
+use Rattle.transfer.specs.Exact.{IsOperand, Puts, Sets, GoesOn, StoresAt, SwapsAtPlace, ComparesAtPlace, Sides, Branches, JumpsTo, answered, Calls, ExitsFrom, Performs, Tested, Steps}
 
 -- ---- operands
 
@@ -193,12 +161,12 @@ below_eleven r = omega arith
 
 -- where it is, the machine goes on into the state with that kind in the register
 sets_goes : (p : Program) (clock : ℕ → ℕ) (e : Assigned) (a : State) (s : Machine.State) (i : Insn) (d : Reg) (k : Kind) (r : Result Value TrapReason)
-    → InsnFits i → s.slot + slots_of i ≤ length p.insns → MeansBy p e a s → d ≢ R10 → act p clock s i ≡ sets s i d r → Yields e k r
+    → IfNext (act p clock s i) (IsState p) → MeansBy p e a s → d ≢ R10 → act p clock s i ≡ sets s i d r → Yields e k r
     → After (MeansBy p e (go_to (with_register a d k) (a.slot + slots_of i))) (act p clock s i)
-sets_goes p clock e a s i d k (Ok v) fits inside m own is yields =
+sets_goes p clock e a s i d k (Ok v) keeps m own is yields =
     let n : ℕ = s.slot + slots_of i in
     let t : Machine.State = Machine.go_to (set_reg s d v) n in
-    let t_is : IsState p t = subst (λ r. IfNext r (IsState p)) is (act_keeps p clock s i fits inside m.is_state) in
+    let t_is : IsState p t = subst (λ r. IfNext r (IsState p)) is keeps in
     let eleven = m.is_state.registers in
     let within = below_eleven d in
     let held : reg t d ≡ v = get_or-set_same s.regs (reg_number d) v value.Unset (omega arith) in
@@ -207,7 +175,7 @@ sets_goes p clock e a s i d k (Ok v) fits inside m own is yields =
     let gone = MeansBy-go_to p e (with_register a d k) (set_reg s d v) n t_is.slot set in
     subst (After (MeansBy p e (go_to (with_register a d k) (a.slot + slots_of i)))) (sym is)
     (subst (λ m. MeansBy p e (go_to (with_register a d k) (m + slots_of i)) t) m.slot_is gone)
-sets_goes p clock e a s i d k (Err reason) fits inside m own is yields = absurd yields
+sets_goes p clock e a s i d k (Err reason) keeps m own is yields = absurd yields
 
 -- the one successor's meaning
 one_means : (p : Program) (e : Assigned) (w : Ways) (b c next : State) (t : Machine.State) → w ≡ ways.One → b ≡ next → MeansBy p e next t → InSome p w b c t
@@ -215,13 +183,13 @@ unfolding Means
 one_means p e w b c next t one is m = subst (λ x. InSome p x b c t) (sym one) (e, subst (λ y. MeansBy p e y t) (sym is) m)
 
 sets_in : (p : Program) (clock : ℕ → ℕ) (e : Assigned) (a : State) (s : Machine.State) (i : Insn) (w : Ways) (b c : State)
-    → InsnFits i → s.slot + slots_of i ≤ length p.insns → MeansBy p e a s → list_any (unset_in s) (reads i) ≡ false
+    → InsnFits i → IfNext (act p clock s i) (IsState p) → MeansBy p e a s → list_any (unset_in s) (reads i) ≡ false
     → w ≡ ways.One → Sets a i b → After (InSome p w b c) (act p clock s i)
-sets_in p clock e a s i w b c fits inside m set one h =
+sets_in p clock e a s i w b c fits keeps m set one h =
     let (r, is, y) = puts_yields p clock e a s i h.register h.kind fits m set h.written h.puts in
     let next : State = go_to (with_register a h.register h.kind) (a.slot + slots_of i) in
     After-weaker (MeansBy p y.0 next) (InSome p w b c) (act p clock s i) (λ t means. one_means p y.0 w b c next t one h.next means)
-    (sets_goes p clock y.0 a s i h.register h.kind r fits inside y.1 h.own is y.2)
+    (sets_goes p clock y.0 a s i h.register h.kind r keeps y.1 h.own is y.2)
 
 -- ---- stores
 
@@ -302,7 +270,20 @@ branches_in p e a s cond by w b c false says is m h =
     stay_means p e h.stays h.goes (go_to h.stay (a.slot + 1)) (go_to h.go (destination p a.slot by)) w b c (Machine.go_to s n) h.sides some
     (subst (λ m. MeansBy p e (go_to h.stay (m + 1)) (Machine.go_to s n)) m.slot_is (MeansBy-go_to p e h.stay s n is.slot kept))
 
--- ---- exits
+-- ---- calls and exits
+
+calls_in : (p : Program) (e : Assigned) (a : State) (s : Machine.State) (by : ℤ) (w : Ways) (b c : State)
+    → IfNext (calls s p by) (IsState p) → MeansBy p e a s → Calls p a by (Ok w) b → After (InSome p w b c) (calls s p by)
+calls_in p e a s by w b c is m h =
+    let room = h.0 in
+    let count = depth_is_length p e a s m in
+    let less : length s.frames ≢ most_frames = (λ full. absurd (omega arith)) in
+    let free : (length s.frames == most_frames) ≡ false = grind (arith, nat_tests) in
+    let f : Assigned = with_new_frame e s.next_serial in
+    let t : Machine.State = enter s (destination p s.slot by) in
+    let t_is : IsState p t = subst (λ x. IfNext (if x then Trapped TooManyFrames else Next t) (IsState p)) free is in
+    rw free (one_means p f w b c (entered a (destination p a.slot by)) t h.1 h.2
+    (subst (λ n. MeansBy p f (entered a (destination p n by)) t) m.slot_is (MeansBy-enter p e a s (destination p s.slot by) t_is m)))
 
 finishes_after : (P : Machine.State → Type 0) (v : Value) (n : ℕ) → v ≡ value.Num n → After P (finishes v)
 finishes_after P v n is = subst (λ v. After P (finishes v)) (sym is) tt
@@ -311,62 +292,63 @@ answered_number : (k : Kind) (w : Ways) → Ok w ≡ answered k → IsNumber k
 answered_number (kind.Number numbers) w h = tt
 answered_number k w h = absurd (cc)
 
-exited_one : (frames : ℕ) (k : Kind) (w : Ways) → Ok w ≡ exited frames k → (frames ≡ 1) × IsNumber k
-exited_one frames k w h =
-    elim (frames == 1) as (λ b. (frames == 1) ≡ b → Ok w ≡ (if b then answered k else Err NotBuilt) → (frames ≡ 1) × IsNumber k) [
-      | true ↦ λ test h. (grind (arith, nat_tests), answered_number k w h)
-      | false ↦ λ test h. absurd (cc)
-    ] refl h
-
-exits_in : (p : Program) (e : Assigned) (a : State) (s : Machine.State) (w : Ways) (b c : State) → MeansBy p e a s
-    → Ok w ≡ exited (depth a) (kind_of a R0) → After (InSome p w b c) (exits s)
-exits_in p e a s w b c m h =
-    let (one, number) = exited_one (depth a) (kind_of a R0) w h in
-    let (x, is) = number_there e (kind_of a R0) (reg s R0) number (reg_allowed p e a s m R0) in
-    let same : length s.frames ≡ 1 = depth_is_length p e a s m ∙ one in
+exits_in : (p : Program) (e : Assigned) (a : State) (s : Machine.State) (w : Ways) (b c : State) (n : ℕ) → length a.callers.items ≡ n
+    → IfNext (exits s) (IsState p) → MeansBy p e a s → ExitsFrom n a (Ok w) b → After (InSome p w b c) (exits s)
+exits_in p e a s w b c zero callers is m h =
+    let number = answered_number (kind_of a R0) w h in
+    let (x, at) = number_there e (kind_of a R0) (reg s R0) number (reg_allowed p e a s m R0) in
+    let count = depth_is_length p e a s m in
+    let one : length s.frames ≡ 1 = omega arith in
     let first : (length s.frames == 1) ≡ true = grind (arith, nat_tests) in
-    rw first (finishes_after (InSome p w b c) (reg s R0) x is)
+    rw first (finishes_after (InSome p w b c) (reg s R0) x at)
+exits_in p e a s w b c (suc n) callers is m h =
+    let count = depth_is_length p e a s m in
+    let more : length s.frames ≢ 1 = (λ one. absurd (omega arith)) in
+    let inner : (length s.frames == 1) ≡ false = grind (arith, nat_tests) in
+    let t : Machine.State = leave s in
+    let t_is : IsState p t = subst (λ x. IfNext (if x then finishes (reg s R0) else Next t) (IsState p)) inner is in
+    rw inner (one_means p (without_last e) w b c (ended a) t h.1 h.2 (MeansBy-ended p e a s (omega arith) t_is m))
 
 -- ---- instructions
 
 performs_in : (p : Program) (clock : ℕ → ℕ) (e : Assigned) (a : State) (s : Machine.State) (i : Insn) (w : Ways) (b c : State)
-    → is_frame_pointer (writes i) ≡ false → InsnFits i → s.slot + slots_of i ≤ length p.insns → MeansBy p e a s → list_any (unset_in s) (reads i) ≡ false
+    → is_frame_pointer (writes i) ≡ false → InsnFits i → MeansBy p e a s → list_any (unset_in s) (reads i) ≡ false
     → IfNext (act p clock s i) (IsState p) → Performs p a i (Ok w) b c → After (InSome p w b c) (act p clock s i)
 unfolding act
-performs_in p clock e a s (StoreConstant size place k) w b c own fits inside m set is h =
+performs_in p clock e a s (StoreConstant size place k) w b c own fits m set is h =
     let (source, just, stores) = h in
     stores_in p e a s (StoreConstant size place k) size place source (value.Num (unsigned Full64 k)) w b c refl m
     (just_allowed e source (unsigned Full64 k) just) (unsigned_fits Full64 k fits.1) is stores
-performs_in p clock e a s (Store size place r) w b c own fits inside m set is h =
+performs_in p clock e a s (Store size place r) w b c own fits m set is h =
     stores_in p e a s (Store size place r) size place (kind_of a r) (reg s r) w b c refl m
     (reg_allowed p e a s m r) (reg_fits p s r m.is_state) is h
-performs_in p clock e a s (Atomic v op fetched place r) w b c own fits inside m set is h =
+performs_in p clock e a s (Atomic v op fetched place r) w b c own fits m set is h =
     goes_in p e a s (Atomic v op fetched place r) (SwapsAtPlace a v place r (writes (Atomic v op fetched place r)))
     (and_then (atomic_number (reg s r)) (λ y. swaps_in s v place (λ x. alu (atomic_alu op) v x y) (fetched_into fetched r))) w b c refl m
     (λ left swaps. swap_goes p e a s (kind_of a r) (kind_of a place.base) (reg s r) v place (writes (Atomic v op fetched place r)) left
     (λ y x. alu (atomic_alu op) v x y) (fetched_into fetched r) m own (reg_allowed p e a s m r) (reg_allowed p e a s m place.base)
     (fetches v op fetched place r) swaps) is h
-performs_in p clock e a s (Exchange v place r) w b c own fits inside m set is h =
+performs_in p clock e a s (Exchange v place r) w b c own fits m set is h =
     goes_in p e a s (Exchange v place r) (SwapsAtPlace a v place r (Some r))
     (and_then (atomic_number (reg s r)) (λ y. swaps_in s v place (λ x. y) (fetched_into true r))) w b c refl m
     (λ left swaps. swap_goes p e a s (kind_of a r) (kind_of a place.base) (reg s r) v place (Some r) left
     (λ y x. y) (fetched_into true r) m own (reg_allowed p e a s m r) (reg_allowed p e a s m place.base) refl swaps) is h
-performs_in p clock e a s (CompareExchange v place r) w b c own fits inside m set is h =
+performs_in p clock e a s (CompareExchange v place r) w b c own fits m set is h =
     goes_in p e a s (CompareExchange v place r) (ComparesAtPlace a v place r)
     (and_then (atomic_number (reg s r)) (λ y. and_then (atomic_number (reg s R0)) (λ x.
     swaps_in s v place (λ old. if old == low v x then y else old) (fetched_into true R0)))) w b c refl m
     (λ left compares. compare_and_swap_goes p e a s (kind_of a r) (kind_of a place.base) (reg s r) v place left
     (λ y x old. if old == low v x then y else old) (fetched_into true R0) m (reg_allowed p e a s m r) (reg_allowed p e a s m place.base)
     refl compares) is h
-performs_in p clock e a s (Jump by) w b c own fits inside m set is h = jumps_in p e a s by w b c is m h
-performs_in p clock e a s (JumpLong by) w b c own fits inside m set is h = jumps_in p e a s by w b c is m h
-performs_in p clock e a s (JumpIf cond by) w b c own fits inside m set is h =
+performs_in p clock e a s (Jump by) w b c own fits m set is h = jumps_in p e a s by w b c is m h
+performs_in p clock e a s (JumpLong by) w b c own fits m set is h = jumps_in p e a s by w b c is m h
+performs_in p clock e a s (JumpIf cond by) w b c own fits m set is h =
     let (t, says) = test-defined p e a s cond h.compared m in
     subst (λ r. After (InSome p w b c) (branches s p by r)) (sym says)
     (branches_in p e a s cond by w b c t says (subst (λ r. IfNext (branches s p by r) (IsState p)) says is) m h)
-performs_in p clock e a s (CallLocal by) w b c own fits inside m set is h = absurd (cc)
-performs_in p clock e a s Exit w b c own fits inside m set is h = exits_in p e a s w b c m h
-performs_in p clock e a s i w b c own fits inside m set is h = sets_in p clock e a s i w b c fits inside m set h.0 h.1
+performs_in p clock e a s (CallLocal by) w b c own fits m set is h = calls_in p e a s by w b c is m h
+performs_in p clock e a s Exit w b c own fits m set is h = exits_in p e a s w b c (length a.callers.items) refl is m h
+performs_in p clock e a s i w b c own fits m set is h = sets_in p clock e a s i w b c fits is m set h.0 h.1
 
 -- a step that is made passed the tests
 pub tested_rest : (x y : Bool) (u v : Refusal) (w : Ways) (Rest : Type 0) → Tested (if x then Some u else if y then Some v else None) (Ok w) Rest
@@ -379,7 +361,7 @@ tested_rest false false u v w Rest h = (refl, refl, h)
 pub Steps-leads : (p : Program) (a : State) (i : Insn) (w : Ways) (b c : State) → IsProgram p → fetch p a.slot ≡ Some i
     → Steps p a i (Ok w) b c → LeadsTo p a w b c
 unfolding LeadsTo Means step
-Steps-leads p a i w b c program here h = λ clock _ s means.
+Steps-leads p a i w b c program here h = λ clock answers s means.
     let (e, m) = means in
     let (known, own, performs) =
     tested_rest (reads_unset a i) (is_frame_pointer (writes i)) UnsetRegister ReadOnlyRegister w (Performs p a i (Ok w) b c) h in
@@ -387,6 +369,7 @@ Steps-leads p a i w b c program here h = λ clock _ s means.
     let at : fetch p s.slot ≡ Some i = ap (fetch p) m.slot_is ∙ here in
     let fits = program.fits s.slot i at in
     let inside = program.inside s.slot i at in
+    let keeps = act_keeps p clock s i fits inside program.rows (program.named s.slot i at) answers m.is_state in
     let acts : performed_at p clock s (fetch p s.slot) ≡ act p clock s i = ap (performed_at p clock s) at ∙ performed_acts p clock s i set own in
     subst (After (InSome p w b c)) (sym acts)
-    (performs_in p clock e a s i w b c own fits inside m set (act_keeps p clock s i fits inside m.is_state) performs)
+    (performs_in p clock e a s i w b c own fits m set keeps performs)

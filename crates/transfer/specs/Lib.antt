@@ -13,6 +13,9 @@ pub mod ArithmeticLaws
 pub mod StackAccessLaws
 pub mod AccessLaws
 pub mod AtomicLaws
+pub mod RegisterLaws
 pub mod ExactLaws
+pub mod Following
+pub mod ReturnLaws
 pub mod FollowLaws
 pub mod Messages

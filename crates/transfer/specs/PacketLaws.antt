@@ -1,5 +1,5 @@
 -- Through the context and packet pointers: what the machine loads, stores and moves is allowed by what is given for it.
-use Rattle.std.specs.Prelude.{◌≡◌, ℕ, ◌+◌, ◌-◌, ◌*◌, ◌%◌, ◌^◌, ◌<◌, ◌≤◌, ℤ, pos, negsuc, ◌+ℤ◌, ◌≤ℤ◌, FitsSigned, unsigned_abs, nat_le, Bool, true, false, List, map, take, drop, length, Some, Result, Ok, refl}
+use Rattle.std.specs.Prelude.{◌≡◌, ℕ, ◌+◌, ◌-◌, ◌*◌, ◌%◌, ◌^◌, ◌<◌, ◌≤◌, ℤ, pos, negsuc, ◌+ℤ◌, ◌≤ℤ◌, FitsSigned, unsigned_abs, nat_le, Bool, true, false, List, map, take, drop, length, Some, Ok, refl}
 use Rattle.std.specs.List.{splice}
 use Rattle.std.specs.Int.{w8, w16, w32, w64, cast_signed, cast_unsigned}
 use Rattle.std.proofs.Common.{inl, inr, sym, ap, ◌∙◌, subst, arith}
@@ -19,7 +19,6 @@ use Rattle.isa_model.specs.declared.sizes.Width.TheVariants.{Full64}
 use Rattle.isa_model.specs.declared.instructions.AluOp.TheVariants.{Add, Sub}
 use Rattle.isa_model.specs.declared.values.Cell.{Cell}
 use Rattle.isa_model.specs.declared.values.Cell.TheVariants.{Byte}
-use Rattle.isa_model.specs.declared.ends.TrapReason.{TrapReason}
 use Rattle.isa_model.specs.Code.Instructions.{Program}
 use Rattle.isa_model.specs.Code.Numbers.{bytes_of, number_from, signed, sign_extended}
 use Rattle.isa_model.specs.Code.LittleEndian.{EachByte-take, EachByte-drop}

@@ -4,7 +4,7 @@
 ghost use Rattle.std.specs.Prelude.{◌≡◌, Some, IfOk, IsSome};
 ghost use Rattle.isa_model.specs.declared.instructions.Insn.{Insn};
 ghost use Rattle.isa_model.specs.Code.Instructions.{fetch};
-ghost use Rattle.isa_model.specs.Machine.Successors.{Follows};
+ghost use Rattle.transfer.specs.Following.{GoesOnTo};
 ghost use Rattle.transfer.specs.Leading.{Given, LeadsTo, EachWay};
 ghost use Rattle.transfer.specs.Exact.{Steps};
 
@@ -69,8 +69,7 @@ pub fn step_in_place(image: &Image, state: &mut State, other: &mut State) -> Res
     requires { IsSome (fetch image.now state.old.slot) }
     ensures leads { IfOk result (λ ways. LeadsTo image.now state.old ways state.new other.new) }
     ensures follows { IfOk result
-        (λ ways. EachWay ways state.new other.new
-        (λ next. Follows image.now state.old.slot next.slot)) }
+        (λ ways. EachWay ways state.new other.new (GoesOnTo image.now state.old)) }
 
     // The successors or the refusal, exactly.
     ensures steps { (i : Insn) → fetch image.now state.old.slot ≡ Some i

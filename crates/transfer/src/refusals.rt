@@ -44,11 +44,12 @@ pub enum Refusal {
     HelperBytes,
     /// A call at the deepest frame.
     TooManyFrames,
-    /// The last exit without a number in r0, or an exit with a pointer into the frame that ends.
+    /// The last exit without a number in r0, or an inner one with a pointer in r0 into the frame
+    /// that ends.
     ExitValue,
     /// An atomic instruction on the context or the packet.
     PacketAtomic,
-    /// A step that cannot be judged yet.
+    /// A step with a map's value, which cannot be judged yet.
     NotBuilt,
 }
 
@@ -106,8 +107,9 @@ impl Refusal {
                 "there is no such helper, or it does not take such an argument",
             Refusal::HelperBytes =>
                 "the helper's key or value bytes are not all written and in bounds",
-            Refusal::TooManyFrames => "calls are not verified yet",
-            Refusal::ExitValue => "r0 is unset or a pointer at the exit",
+            Refusal::TooManyFrames => "the call makes a ninth frame, and 8 may be live",
+            Refusal::ExitValue =>
+                "r0 is no number at the last exit, or points into the frame that ends",
             Refusal::PacketAtomic => "the atomic instruction is on the context or the packet",
             Refusal::NotBuilt => "the instruction is not verified yet",
         }

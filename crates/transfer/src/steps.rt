@@ -12,7 +12,7 @@ ghost use Rattle.transfer.specs.Exact.{SwapsAtPlace, ComparesAtPlace};
 use crate::Ways;
 use crate::arithmetic::{arithmetic, constant, negated, reordered, sign_extended};
 use crate::atomics::{compare_and_swap, swap};
-use crate::exits::exit;
+use crate::exits::{call, exit};
 use crate::jumps::jump_if;
 use crate::memory::{load, load_signed, store};
 use crate::refusals::Refusal;
@@ -36,8 +36,11 @@ fn is_unset(state: &State, register: Option<Reg>) -> bool
 pub fn reads_unset(state: &State, insn: &Insn) -> bool
     ensures { result ≡ reads_unset state.now insn.now }
 {
-    let (first, second, third) = insn.read();
-    is_unset(state, first) || is_unset(state, second) || is_unset(state, third)
+    let (first, second, third, fourth) = insn.read();
+    is_unset(state, first)
+        || is_unset(state, second)
+        || is_unset(state, third)
+        || is_unset(state, fourth)
 }
 
 // ---- registers set
@@ -173,8 +176,9 @@ pub fn perform(
             Ok(Ways::One)
         }
         Insn::JumpIf(cond, by) => jump_if(cond, i32::from(by), slots, state, other),
-        Insn::CallLocal(_) => Err(Refusal::TooManyFrames),
+        Insn::CallLocal(by) => call(by, slots, state),
         Insn::Exit => exit(state),
+        Insn::LoadMap(..) | Insn::LoadMapValue(..) | Insn::CallHelper(_) => Err(Refusal::NotBuilt),
         Insn::Alu(..)
         | Insn::Neg(..)
         | Insn::MovSx(..)

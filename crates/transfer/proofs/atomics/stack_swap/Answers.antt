@@ -1,5 +1,4 @@
-use Rattle.std.proofs.Common.{ap, rules, subst, ◌+ℤ◌, List, Some}
-use Rattle.stack_state.specs.declared.slots.Slot.{Slot}
+use Rattle.std.proofs.Common.{rules, subst, ◌+ℤ◌, Some}
 use Rattle.stack_state.specs.declared.stacks.StackState.{StackState}
 use Rattle.stack_state.specs.Slots.{IsLoad}
 use Rattle.transfer.specs.StackAccesses.{IsFramePlace}
