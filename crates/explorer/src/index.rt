@@ -10,8 +10,8 @@ use crate::sketches::{Sketch, mixed};
 use std::alloc::{AllocError, Global};
 use std::mem;
 
-/// How many lists there are at first, for the finished entries and for the unfinished ones. There
-/// are always a power of two, and as many again once there are more entries.
+/// How many lists there are at first, for the finished entries and for the unfinished ones: always
+/// a power of two, and at least half as many as the entries in them.
 const LISTS: usize = 64;
 
 /// Where an entry stands in the index. It is in one list at a time.
@@ -22,17 +22,36 @@ struct Link {
     known: u64,
     /// The one after it in its list.
     next: Option<u32>,
-    /// The last finished entry of its list when it was stored.
+    /// The last finished entry of its list when it was stored; none where its mark was not on it.
     before: Option<u32>,
     is_finished: bool,
 }
 
-/// The first and the last entry of a list.
+/// A list of finished entries: those of one fingerprint in the order in which they were stored.
 #[derive(Clone, Copy, Drop)]
-struct Ends {
+struct Finished {
     first: Option<u32>,
     last: Option<u32>,
+    marks: u32,
 }
+
+/// A list of unfinished entries, the newest first.
+#[derive(Clone, Copy, Drop)]
+struct Unfinished {
+    first: Option<u32>,
+    marks: u32,
+}
+
+const NO_FINISHED: Finished = Finished {
+    first: None,
+    last: None,
+    marks: 0,
+};
+
+const NO_UNFINISHED: Unfinished = Unfinished {
+    first: None,
+    marks: 0,
+};
 
 /// A shape that stored states have, and the next one of its slot.
 #[derive(Drop)]
@@ -48,11 +67,12 @@ pub struct Index {
     shapes: Vec<ShapeLink>,
     /// By slot, the first of its shapes.
     first_shapes: Vec<Option<u32>>,
-    /// By shape and what is known in it, the finished entries in the order in which they were
-    /// stored.
-    finished: Vec<Ends>,
-    /// By fingerprint, the unfinished entries, the newest first.
-    unfinished: Vec<Option<u32>>,
+    /// By shape and what is known in it.
+    finished: Vec<Finished>,
+    finished_count: usize,
+    /// By fingerprint.
+    unfinished: Vec<Unfinished>,
+    unfinished_count: usize,
 }
 
 /// Entries of a list.
@@ -108,21 +128,25 @@ fn list_of(fingerprint: u64, lists: usize) -> usize {
     (fingerprint >> 16) as usize & lists.wrapping_sub(1)
 }
 
+/// The mark that an entry with the fingerprint leaves on its list. A list without it has no such
+/// entry, so that no entry need be looked at.
+fn mark_of(fingerprint: u64) -> u32 {
+    1 << (fingerprint >> 59)
+}
+
 impl Index {
     /// The index of no entries, of code with that many slots.
     pub fn new(alloc: Global, slots: usize) -> Result<Self, AllocError>
         ensures room { IfOk result (λ index. vec_len index.first_shapes ≡ slots) }
     {
-        let none = Ends {
-            first: None,
-            last: None,
-        };
         Ok(Index {
             links: Vec::new(alloc),
             shapes: Vec::new(alloc),
             first_shapes: vec![in alloc; None; slots]?,
-            finished: vec![in alloc; none; LISTS]?,
-            unfinished: vec![in alloc; None; LISTS]?,
+            finished: vec![in alloc; NO_FINISHED; LISTS]?,
+            finished_count: 0,
+            unfinished: vec![in alloc; NO_UNFINISHED; LISTS]?,
+            unfinished_count: 0,
         })
     }
 
@@ -146,8 +170,8 @@ impl Index {
     pub fn finished_like(&self, known: u64) -> Entries<'_> {
         let list = list_of(known, self.finished.len());
         let next = match self.finished.get(list) {
-            Some(ends) => ends.first,
-            None => None,
+            Some(list) if list.marks & mark_of(known) != 0 => list.first,
+            _ => None,
         };
         Entries {
             links: &self.links,
@@ -159,9 +183,13 @@ impl Index {
     /// Unfinished entries, all of the fingerprint among them.
     pub fn unfinished_like(&self, fingerprint: u64) -> Entries<'_> {
         let list = list_of(fingerprint, self.unfinished.len());
+        let next = match self.unfinished.get(list) {
+            Some(list) if list.marks & mark_of(fingerprint) != 0 => list.first,
+            _ => None,
+        };
         Entries {
             links: &self.links,
-            next: self.unfinished.get(list).copied().flatten(),
+            next,
             left: self.links.len(),
         }
     }
@@ -213,9 +241,8 @@ impl Index {
 
     /// Adds an entry that is unfinished.
     pub fn add(&mut self, alloc: Global, slot: usize, sketch: &Sketch) -> Result<(), AllocError> {
-        if self.links.len() >= self.finished.len() {
-            self.spread(alloc)?;
-        }
+        self.spread_finished(alloc)?;
+        self.spread_unfinished(alloc)?;
         let shape = self.shape_of(alloc, slot, sketch)?;
         let known = self.known_in(shape, sketch).unwrap_or(0);
         let index = self.links.len();
@@ -226,49 +253,69 @@ impl Index {
             before: None,
             is_finished: false,
         })?;
-        self.list(index);
+        self.unfinished_count = self.unfinished_count.wrapping_add(1);
+        self.list_by_known(index);
+        self.list_by_fingerprint(index);
         Ok(())
     }
 
-    /// Spreads the entries over twice as many lists.
-    fn spread(&mut self, alloc: Global) -> Result<(), AllocError> {
-        let none = Ends {
-            first: None,
-            last: None,
-        };
+    /// Spreads the finished entries over more lists, if there are too many for these.
+    fn spread_finished(&mut self, alloc: Global) -> Result<(), AllocError> {
         let lists = self.finished.len().saturating_mul(2);
-        self.finished = vec![in alloc; none; lists]?;
-        self.unfinished = vec![in alloc; None; lists]?;
+        if self.finished_count < lists {
+            return Ok(());
+        }
+        let lists = lists.max(self.unfinished.len());
+        self.finished = vec![in alloc; NO_FINISHED; lists]?;
         for index in 0..self.links.len() {
-            self.list(index);
+            self.list_by_known(index);
         }
         Ok(())
     }
 
-    /// Puts an entry into its list; all that were stored before it are in theirs, and those after
-    /// it are not.
-    fn list(&mut self, index: usize) {
-        let Some(link) = self.links.get(index).copied() else {
+    /// The same, of the unfinished ones.
+    fn spread_unfinished(&mut self, alloc: Global) -> Result<(), AllocError> {
+        let lists = self.unfinished.len().saturating_mul(2);
+        if self.unfinished_count < lists {
+            return Ok(());
+        }
+        self.unfinished = vec![in alloc; NO_UNFINISHED; lists]?;
+        for index in 0..self.links.len() {
+            self.list_by_fingerprint(index);
+        }
+        Ok(())
+    }
+
+    /// Puts an entry into its list of finished ones, if it is finished, and else notes its place
+    /// there; all that were stored before it were listed, and those after it were not.
+    fn list_by_known(&mut self, index: usize) {
+        let Some(link) = self.links.get_mut(index) else {
             return;
         };
-        let place = u32::try_from(index).ok();
         let list = list_of(link.known, self.finished.len());
-        let last = match self.finished.get(list) {
-            Some(ends) => ends.last,
-            None => None,
+        link.before = match self.finished.get(list) {
+            Some(list) if list.marks & mark_of(link.known) != 0 => list.last,
+            _ => None,
+        };
+        let link = *link;
+        if link.is_finished {
+            self.put_after(link.known, link.before, u32::try_from(index).ok());
+        }
+    }
+
+    /// Puts an entry into its list of unfinished ones, if it is unfinished; all such ones that were
+    /// stored before it were listed, and those after it were not.
+    fn list_by_fingerprint(&mut self, index: usize) {
+        let Some(link) = self.links.get_mut(index) else {
+            return;
         };
         if link.is_finished {
-            self.put_after(list, last, place);
             return;
         }
         let list = list_of(link.fingerprint, self.unfinished.len());
-        let mut next = None;
-        if let Some(first) = self.unfinished.get_mut(list) {
-            next = mem::replace(first, place);
-        }
-        if let Some(link) = self.links.get_mut(index) {
-            link.next = next;
-            link.before = last;
+        if let Some(list) = self.unfinished.get_mut(list) {
+            link.next = mem::replace(&mut list.first, u32::try_from(index).ok());
+            list.marks |= mark_of(link.fingerprint);
         }
     }
 
@@ -280,23 +327,29 @@ impl Index {
         link.is_finished = true;
         let link = *link;
         let list = list_of(link.fingerprint, self.unfinished.len());
-        if let Some(first) = self.unfinished.get_mut(list) {
-            *first = link.next;
+        if let Some(list) = self.unfinished.get_mut(list) {
+            list.first = link.next;
+            if list.first.is_none() {
+                list.marks = 0;
+            }
         }
-        let list = list_of(link.known, self.finished.len());
-        self.put_after(list, link.before, u32::try_from(index).ok());
+        self.unfinished_count = self.unfinished_count.wrapping_sub(1);
+        self.finished_count = self.finished_count.wrapping_add(1);
+        self.put_after(link.known, link.before, u32::try_from(index).ok());
     }
 
-    /// Makes the entry the one after another finished one of the list, or the first.
-    fn put_after(&mut self, list: usize, before: Option<u32>, place: Option<u32>) {
-        let Some(ends) = self.finished.get_mut(list) else {
+    /// Makes the entry the one after another finished one of its list, or the first.
+    fn put_after(&mut self, known: u64, before: Option<u32>, place: Option<u32>) {
+        let list = list_of(known, self.finished.len());
+        let Some(list) = self.finished.get_mut(list) else {
             return;
         };
-        if ends.last == before {
-            ends.last = place;
+        list.marks |= mark_of(known);
+        if list.last == before {
+            list.last = place;
         }
         let next = match before {
-            None => mem::replace(&mut ends.first, place),
+            None => mem::replace(&mut list.first, place),
             Some(before) => match self.links.get_mut(before as usize) {
                 Some(link) => mem::replace(&mut link.next, place),
                 None => None,
