@@ -71,11 +71,15 @@ fall_to-by p slot to h = of (fetch p slot) refl h where
   of None here e = absurd (cc)
   of (Some i) here e = far i (falls_through i) here refl e
 
+-- nothing calls a function
+abbrev pub HasNoCalls : Program → Type 0
+HasNoCalls p = (slot : ℕ) (i : Insn) → fetch p slot ≡ Some i → call_distance i ≡ None
+
 pub no_call : (i : Insn) → IsPlainForm i → call_distance i ≡ None
 no_call (CallLocal by) plain = absurd plain
 no_call i plain = refl
 
-call_to-none : (p : Program) (slot to : ℕ) → ((slot : ℕ) (i : Insn) → fetch p slot ≡ Some i → call_distance i ≡ None) → call_to p slot ≡ Some to → ⊥
+call_to-none : (p : Program) (slot to : ℕ) → HasNoCalls p → call_to p slot ≡ Some to → ⊥
 unfolding call_to
 call_to-none p slot to forms h = of (fetch p slot) refl h where
   of : (o : Option Insn) → fetch p slot ≡ o → option_map (destination p slot) (option_and_then call_distance o) ≡ Some to → ⊥
@@ -86,7 +90,7 @@ call_to-none p slot to forms h = of (fetch p slot) refl h where
       absurd (cc)
 
 -- without calls there is one function
-one_function : (p : Program) (slot to : ℕ) → ((slot : ℕ) (i : Insn) → fetch p slot ≡ Some i → call_distance i ≡ None) → SameFunction p slot to
+one_function : (p : Program) (slot to : ℕ) → HasNoCalls p → SameFunction p slot to
 one_function p slot to forms = record { none = λ f begins. of f begins } where
   of : (f : ℕ) → BeginsFunction p f → (f ≤ slot) ↔ (f ≤ to)
   of f (inl is) = (λ h. omega (arith, is), λ h. omega (arith, is))
@@ -98,7 +102,7 @@ PathTo-reached p zero slot written h = h.0
 PathTo-reached p (suc n) slot written h =
     (h.0, PathTo-reached p n h.0 h.1 h.3, Leads-Follows p h.0 slot (h.2, h.4, h.5))
 
-pub IsFlow-whole : (p : Program) → IsWhole p → ((slot : ℕ) (i : Insn) → fetch p slot ≡ Some i → call_distance i ≡ None) → IsFlow p
+pub IsFlow-whole : (p : Program) → IsWhole p → HasNoCalls p → IsFlow p
 IsFlow-whole p whole forms = record {
   jumps = λ slot to h.
       let j = jump_to-by p slot to h in

@@ -4,11 +4,11 @@ use Rattle.std.proofs.Math.Nat.{pow-le-pow_right, two-pow-succ, add-mul, mul-add
 use Rattle.std.proofs.lemmas.Nat.{pow_pos, mul-le}
 use Rattle.std.specs.Option.{option_flatten}
 use Rattle.std.specs.Prelude.{ℤ, slice_get, cond}
+use Rattle.std.proofs.lemmas.List.{length-map, length-append}
 use Rattle.std.proofs.lemmas.List.Sums.{sum_by-cons}
 use Rattle.isa_model.specs.declared.instructions.Cond.{Cond}
 use Rattle.isa_model.specs.declared.instructions.Insn.{Insn}
-use Rattle.isa_model.specs.declared.instructions.Insn.TheVariants.{LoadNumber, StoreConstant, Store, Atomic, Exchange, CompareExchange, Jump, JumpLong, JumpIf, CallLocal, Exit}
-use Rattle.isa_model.specs.declared.registers.Reg.TheVariants.{R0}
+use Rattle.isa_model.specs.declared.instructions.Insn.TheVariants.{LoadNumber, LoadMap, LoadMapValue, StoreConstant, Store, Atomic, Exchange, CompareExchange, Jump, JumpLong, JumpIf, CallLocal, Exit}
 use Rattle.isa_model.specs.Code.Instructions.{Program, fetch, slots_of}
 use Rattle.isa_model.specs.Machine.Successors.{Follows}
 use Rattle.stack_state.specs.declared.states.State.{State}
@@ -16,19 +16,69 @@ use Rattle.control_flow.specs.FlowLaws.{BeginsInsn-inside, fetch-BeginsInsn}
 use Rattle.transfer.specs.declared.Ways.{Ways}
 use Rattle.transfer.specs.declared.Ways.TheVariants as ways
 use Rattle.transfer.specs.Leading.{EachWay}
-use Rattle.stack_state.specs.Meaning.{depth}
-use Rattle.stack_state.specs.Places.{kind_of}
+use Rattle.stack_state.specs.Meaning.{frames_of, depth}
+use Rattle.stack_state.specs.MeaningLaws.{length-frames_of}
+use Rattle.stack_state.specs.Starts.{start}
 use Rattle.transfer.specs.Exact.{Performs, Makes}
-use Rattle.explorer.proofs.OnNumbers.{Makes-performs, exited_none}
+use Rattle.transfer.specs.Following.{returns_of, GoesOnTo}
 use Rattle.transfer.specs.FollowLaws.{Steps-follows}
+use Rattle.explorer.proofs.Accepted.{HasNoCalls}
+use Rattle.explorer.proofs.OnNumbers.{Makes-performs, exits_not_two}
 use Rattle.explorer.specs.Walks.{StepsTo, Leads, ComesBack, IsAmong}
 use Rattle.explorer.specs.Counts.{StepsInto, HasNumber, LeadsNowhere, LeadsToOne, LeadsToTwo, IsCoveredBy, Takes, Nothing, ItsOwn, OneMore, BothMore}
 use Rattle.isa_model.specs.MustAccept.Paths.{is_conditional, IsForward}
+
+-- ---- without calls there is one frame
+
+-- a step within the only frame
+pub record StaysAlone (p : Program) (a b : State) : Type 0 where
+  pub follows : Follows p a.slot b.slot
+  pub one : depth b ≡ 1
+
+length-returns : (a : State) → length (returns_of a) ≡ depth a
+length-returns a = length-map (frames_of a) (λ f. f.return_slot) ∙ length-frames_of a
+
+pub GoesOnTo-alone : (p : Program) (a b : State) → HasNoCalls p → depth a ≡ 1 → GoesOnTo p a b → StaysAlone p a b
+GoesOnTo-alone p a b free one (inl h) = record {
+  follows = h.follows;
+  one = sym (length-returns b) ∙ ap length h.returns ∙ length-returns a ∙ one;
+}
+GoesOnTo-alone p a b free one (inr (inl h)) = let none = free a.slot (CallLocal h.by) h.here in absurd (cc)
+GoesOnTo-alone p a b free one (inr (inr h)) =
+    let before = sym (length-returns a) ∙ ap length h.returns ∙ length-append (returns_of b) (b.slot ∷ []) in
+    let after = length-returns b in
+    absurd (omega (arith, one, before, after))
+
+pub StepsTo-goes : (p : Program) (a c : State) → StepsTo p a c → GoesOnTo p a c
+StepsTo-goes p a c step = among step.taken step.first step.other (Steps-follows p a step.insn step.taken step.first step.other step.here step.makes) step.among
+  where
+    among : (w : Ways) (x y : State) → EachWay w x y (GoesOnTo p a) → IsAmong w x y c → GoesOnTo p a c
+    among ways.None x y goes is = absurd is
+    among ways.One x y goes is = subst (GoesOnTo p a) (sym is) goes
+    among ways.Two x y goes (inl is) = subst (GoesOnTo p a) (sym is) goes.0
+    among ways.Two x y goes (inr is) = subst (GoesOnTo p a) (sym is) goes.1
+
+pub StepsTo-alone : (p : Program) (a c : State) → HasNoCalls p → depth a ≡ 1 → StepsTo p a c → StaysAlone p a c
+StepsTo-alone p a c free one step = GoesOnTo-alone p a c free one (StepsTo-goes p a c step)
+
+pub StepsTo-follows : (p : Program) (a c : State) → HasNoCalls p → depth a ≡ 1 → StepsTo p a c → Follows p a.slot c.slot
+StepsTo-follows p a c free one step = (StepsTo-alone p a c free one step).follows
+
+pub one_frame-start : depth start ≡ 1
+unfolding start
+one_frame-start = refl
+
+pub Leads-alone : (p : Program) (n : ℕ) (a b : State) → HasNoCalls p → depth a ≡ 1 → Leads p n a b → depth b ≡ 1
+unfolding Leads
+Leads-alone p zero a b free one h = ap depth h ∙ one
+Leads-alone p (suc n) a b free one h = Leads-alone p n h.0 b free (StepsTo-alone p a h.0 free one h.1).one h.2
 
 -- ---- steps lead forward
 
 slots_some : (i : Insn) → 1 ≤ slots_of i
 slots_some (LoadNumber d n) = omega arith
+slots_some (LoadMap d m) = omega arith
+slots_some (LoadMapValue d m offset) = omega arith
 slots_some i = omega arith
 
 pub follows_up : (p : Program) (slot next : ℕ) → IsForward p → Follows p slot next → slot < next
@@ -38,31 +88,41 @@ follows_up p slot next forward (i, here, inr (by, jump, at)) = let up = forward.
 inside : (p : Program) (s : State) (i : Insn) → fetch p s.slot ≡ Some i → s.slot < length p.insns
 inside p s i here = BeginsInsn-inside p s.slot (fetch-BeginsInsn p s.slot i here)
 
-one_up : (p : Program) (s a b : State) → IsForward p → StepsInto p s ways.One a b → s.slot < a.slot
-one_up p s a b forward step = follows_up p s.slot a.slot forward (Steps-follows p s step.insn ways.One a b step.here step.makes)
+-- a step within the only frame, to a slot behind
+record StepsUp (a b : State) : Type 0 where
+  up : a.slot < b.slot
+  one : depth b ≡ 1
 
-two_up : (p : Program) (s a b : State) → IsForward p → StepsInto p s ways.Two a b → (s.slot < a.slot) × (s.slot < b.slot)
-two_up p s a b forward step =
+steps_up : (p : Program) (a b : State) → HasNoCalls p → IsForward p → depth a ≡ 1 → GoesOnTo p a b → StepsUp a b
+steps_up p a b free forward one h =
+    let alone = GoesOnTo-alone p a b free one h in
+    record { up = follows_up p a.slot b.slot forward alone.follows; one = alone.one }
+
+one_up : (p : Program) (s a b : State) → HasNoCalls p → IsForward p → depth s ≡ 1 → StepsInto p s ways.One a b → StepsUp s a
+one_up p s a b free forward one step = steps_up p s a free forward one (Steps-follows p s step.insn ways.One a b step.here step.makes)
+
+two_up : (p : Program) (s a b : State) → HasNoCalls p → IsForward p → depth s ≡ 1 → StepsInto p s ways.Two a b → StepsUp s a × StepsUp s b
+two_up p s a b free forward one step =
     let both = Steps-follows p s step.insn ways.Two a b step.here step.makes in
-    (follows_up p s.slot a.slot forward both.0, follows_up p s.slot b.slot forward both.1)
+    (steps_up p s a free forward one both.0, steps_up p s b free forward one both.1)
 
 -- ---- numbers
 
 -- a state's number is at most the count of slots from its own on
-pub HasNumber-forward : (p : Program) (s : State) (n : ℕ) → IsForward p → HasNumber p s n → n + s.slot ≤ length p.insns
-HasNumber-forward p s n forward (LeadsNowhere _ a b _ step is) = let below = inside p s step.insn step.here in omega (arith, is)
-HasNumber-forward p s n forward (LeadsToOne _ a b m _ step child is) =
-    let up = one_up p s a b forward step in
-    let rest = HasNumber-forward p a m forward child in
-    omega (arith, is)
-HasNumber-forward p s n forward (LeadsToTwo _ a b j k _ step left right is) =
-    let up = two_up p s a b forward step in
-    let first = HasNumber-forward p a j forward left in
-    let other = HasNumber-forward p b k forward right in
-    omega (arith, is, up.0, up.1)
-HasNumber-forward p s n forward (IsCoveredBy _ e steps _ leads same covers number) =
-    let there = HasNumber-forward p e n forward number in
-    omega (arith, same)
+pub HasNumber-forward : (p : Program) (s : State) (n : ℕ) → HasNoCalls p → IsForward p → depth s ≡ 1 → HasNumber p s n → n + s.slot ≤ length p.insns
+HasNumber-forward p s n free forward one (LeadsNowhere _ a b _ step is) = let below = inside p s step.insn step.here in omega (arith, is)
+HasNumber-forward p s n free forward one (LeadsToOne _ a b m _ step child is) =
+    let up = one_up p s a b free forward one step in
+    let rest = HasNumber-forward p a m free forward up.one child in
+    omega (arith, is, up.up, rest)
+HasNumber-forward p s n free forward one (LeadsToTwo _ a b j k _ step left right is) =
+    let up = two_up p s a b free forward one step in
+    let first = HasNumber-forward p a j free forward up.0.one left in
+    let other = HasNumber-forward p b k free forward up.1.one right in
+    omega (arith, is, up.0.up, up.1.up, first, other)
+HasNumber-forward p s n free forward one (IsCoveredBy _ e steps _ leads same covers number) =
+    let there = HasNumber-forward p e n free forward (Leads-alone p steps start e free one_frame-start leads) number in
+    omega (arith, same, there)
 
 -- ---- explored instructions
 
@@ -109,8 +169,8 @@ two_ways_jump p s a b i h = of i (Makes-performs p s i ways.Two a b h) where
   of (JumpIf c by) h = (c, by, refl)
   of (Jump by) h = absurd (cc (h.0))
   of (JumpLong by) h = absurd (cc (h.0))
-  of (CallLocal by) h = absurd (cc h)
-  of Exit h = let none : ways.Two ≡ ways.None = exited_none (depth s) (kind_of s R0) ways.Two h in absurd (cc)
+  of (CallLocal by) h = absurd (cc (h.1))
+  of Exit h = absurd (exits_not_two (length s.callers.items) s a h)
   of (StoreConstant size place k) h = absurd (cc (h.2.0))
   of (Store size place r) h = absurd (cc (h.0))
   of (Atomic w op fetched place r) h = absurd (cc (h.0))
@@ -167,24 +227,25 @@ weight_twice p i j k up up_too below less less_too =
     less_twice (length p.insns - j) (length p.insns - k) (length p.insns - i) (2 ^ conditionals_from p.insns j) (2 ^ conditionals_from p.insns k) (2 ^ conditionals_from p.insns i)
     (omega arith) (omega arith) (double_below _ _ less) (double_below _ _ less_too) (pow_pos (conditionals_from p.insns j))
 
-pub Takes-forward : (p : Program) (s : State) (n : ℕ) → IsForward p → Takes p s n → n ≤ weight p s.slot
-Takes-forward p s n forward (Nothing _ _ is) = omega (arith, is)
-Takes-forward p s n forward (ItsOwn _ _ begins is) = let some = weight_some p s.slot (BeginsInsn-inside p s.slot begins) in omega (arith, some, is)
-Takes-forward p s n forward (OneMore _ a b m _ step rest is) =
-    let less = weight_once p s.slot a.slot (one_up p s a b forward step) (inside p s step.insn step.here) in
-    let few = Takes-forward p a m forward rest in
+pub Takes-forward : (p : Program) (s : State) (n : ℕ) → HasNoCalls p → IsForward p → depth s ≡ 1 → Takes p s n → n ≤ weight p s.slot
+Takes-forward p s n free forward one (Nothing _ _ is) = omega (arith, is)
+Takes-forward p s n free forward one (ItsOwn _ _ begins is) = let some = weight_some p s.slot (BeginsInsn-inside p s.slot begins) in omega (arith, some, is)
+Takes-forward p s n free forward one (OneMore _ a b m _ step rest is) =
+    let up = one_up p s a b free forward one step in
+    let less = weight_once p s.slot a.slot up.up (inside p s step.insn step.here) in
+    let few = Takes-forward p a m free forward up.one rest in
     omega (arith, less, few, is)
-Takes-forward p s n forward (BothMore _ a b j k _ step left right is) =
-    let up = two_up p s a b forward step in
-    let less = weight_twice p s.slot a.slot b.slot up.0 up.1 (inside p s step.insn step.here) (two_less p s a b a.slot step up.0) (two_less p s a b b.slot step up.1) in
-    let few = Takes-forward p a j forward left in
-    let few_too = Takes-forward p b k forward right in
+Takes-forward p s n free forward one (BothMore _ a b j k _ step left right is) =
+    let (first, other) = two_up p s a b free forward one step in
+    let less = weight_twice p s.slot a.slot b.slot first.up other.up (inside p s step.insn step.here) (two_less p s a b a.slot step first.up) (two_less p s a b b.slot step other.up) in
+    let few = Takes-forward p a j free forward first.one left in
+    let few_too = Takes-forward p b k free forward other.one right in
     omega (arith, less, few, few_too, is)
 
 -- fewer than may be explored
-pub Takes-few : (p : Program) (s : State) → IsForward p → Takes p s 1000001 → ⊥
-Takes-few p s forward h =
-    let few = Takes-forward p s 1000001 forward h in
+pub Takes-few : (p : Program) (s : State) → HasNoCalls p → IsForward p → depth s ≡ 1 → Takes p s 1000001 → ⊥
+Takes-few p s free forward one h =
+    let few = Takes-forward p s 1000001 free forward one h in
     let most = pow-le-pow_right {n = 2} (omega arith) {i = conditionals_from p.insns s.slot} {j = count_by is_conditional p.insns} (conditionals_most p.insns s.slot) in
     let bound = mul-le (length p.insns - s.slot) (2 ^ conditionals_from p.insns s.slot) (length p.insns) (2 ^ count_by is_conditional p.insns) (omega arith) most in
     let limit = forward.few in
@@ -192,25 +253,16 @@ Takes-few p s forward h =
 
 -- ---- no way back
 
-pub StepsTo-follows : (p : Program) (a c : State) → StepsTo p a c → Follows p a.slot c.slot
-StepsTo-follows p a c step = among step.taken step.first step.other (Steps-follows p a step.insn step.taken step.first step.other step.here step.makes) step.among
-  where
-    among : (w : Ways) (x y : State) → EachWay w x y (λ next. Follows p a.slot next.slot) → IsAmong w x y c → Follows p a.slot c.slot
-    among ways.None x y follows is = absurd is
-    among ways.One x y follows is = subst (λ (z : State). Follows p a.slot z.slot) (sym is) follows
-    among ways.Two x y follows (inl is) = subst (λ (z : State). Follows p a.slot z.slot) (sym is) follows.0
-    among ways.Two x y follows (inr is) = subst (λ (z : State). Follows p a.slot z.slot) (sym is) follows.1
-
-pub Leads-up : (p : Program) (n : ℕ) (a b : State) → IsForward p → Leads p n a b → a.slot + n ≤ b.slot
+pub Leads-up : (p : Program) (n : ℕ) (a b : State) → HasNoCalls p → IsForward p → depth a ≡ 1 → Leads p n a b → a.slot + n ≤ b.slot
 unfolding Leads
-Leads-up p zero a b forward h = let same = ap (λ (x : State). x.slot) h in omega (arith, same)
-Leads-up p (suc n) a b forward h =
-    let step = h.1 in
-    let up = follows_up p a.slot h.0.slot forward (StepsTo-follows p a h.0 step) in
-    let rest = Leads-up p n h.0 b forward h.2 in
-    omega (arith, up, rest)
+Leads-up p zero a b free forward one h = let same = ap (λ (x : State). x.slot) h in omega (arith, same)
+Leads-up p (suc n) a b free forward one h =
+    let step = steps_up p a h.0 free forward one (StepsTo-goes p a h.0 h.1) in
+    let rest = Leads-up p n h.0 b free forward step.one h.2 in
+    omega (arith, step.up, rest)
 
-pub ComesBack-forward : (p : Program) (slot : ℕ) → IsForward p → ComesBack p slot → ⊥
-ComesBack-forward p slot forward h =
-    let up = Leads-up p (suc h.between) h.first h.again forward h.leads_back in
-    absurd (omega (arith, h.first_slot, h.again_slot))
+pub ComesBack-forward : (p : Program) (slot : ℕ) → HasNoCalls p → IsForward p → ComesBack p slot → ⊥
+ComesBack-forward p slot free forward h =
+    let one = Leads-alone p h.before start h.first free one_frame-start h.leads in
+    let up = Leads-up p (suc h.between) h.first h.again free forward one h.leads_back in
+    absurd (omega (arith, up, h.first_slot, h.again_slot))

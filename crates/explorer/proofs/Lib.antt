@@ -10,3 +10,12 @@ pub mod Accepted
 pub mod OnNumbers
 pub mod Forward
 pub mod Plain
+pub mod StackSlots
+pub mod Beside
+pub mod Along
+pub mod Determined
+pub mod OnPackets
+pub mod GuardedParts
+pub mod Guards
+pub mod GuardedWalks
+pub mod Guarded

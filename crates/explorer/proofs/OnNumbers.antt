@@ -1,6 +1,6 @@
 -- Abstract steps on numbers: what is left, and that they are not refused.
-use Rattle.std.proofs.Common.{◌≡◌, ◌+◌, ◌<◌, ◌∷◌, ℕ, None, Ok, Err, Bool, true, false, List, length, arith, refl, sym, ap, ◌∙◌, subst, inl, inr}
-use Rattle.std.specs.Prelude.{◌≢◌, ℤ, ◌==◌, if◌then◌else◌}
+use Rattle.std.proofs.Common.{◌≡◌, ◌+◌, ◌<◌, ◌∷◌, ℕ, zero, suc, None, Ok, Err, Bool, true, false, List, length, arith, refl, sym, ap, ◌∙◌, subst, inl, inr}
+use Rattle.std.specs.Prelude.{◌≢◌, ℤ}
 use Rattle.std.proofs.lemmas.List.{length-set, get_or-set_same}
 use Rattle.isa_model.specs.declared.sizes.Width.{Width}
 use Rattle.isa_model.specs.declared.sizes.Width.TheVariants.{Low32, Full64}
@@ -31,10 +31,10 @@ use Rattle.branch_refine.specs.Refining.{IsNumber, IsJust, IsNumberOperand, AreC
 use Rattle.transfer.specs.declared.Ways.{Ways}
 use Rattle.transfer.specs.declared.Ways.TheVariants as ways
 use Rattle.transfer.specs.declared.refusals.Refusal.{Refusal}
-use Rattle.transfer.specs.declared.refusals.Refusal.TheVariants.{UnsetRegister, ReadOnlyRegister, NotBuilt}
+use Rattle.transfer.specs.declared.refusals.Refusal.TheVariants.{UnsetRegister, ReadOnlyRegister}
 use Rattle.transfer.specs.Refusing.{register_refusal, reads_unset}
 use Rattle.transfer.specs.Results.{OfNumber, NumberAnd, Combined, Copied, Arithmetic}
-use Rattle.transfer.specs.Exact.{IsOperand, Puts, Sets, Sides, Branches, Performs, Tested, Makes, Refuses, answered, exited}
+use Rattle.transfer.specs.Exact.{IsOperand, Puts, Sets, Sides, Branches, Performs, Tested, Makes, Refuses, answered, ExitsFrom}
 use Rattle.transfer.specs.ExactLaws.{tested_rest}
 use Rattle.explorer.specs.Walks.{IsAmong}
 use Rattle.explorer.proofs.Accepted.{number_is}
@@ -57,25 +57,30 @@ answered_none : (k : Kind) (w : Ways) → Ok w ≡ answered k → w ≡ ways.Non
 answered_none (Number numbers) w h = cc
 answered_none k w h = absurd (cc)
 
-pub exited_none : (frames : ℕ) (k : Kind) (w : Ways) → Ok w ≡ exited frames k → w ≡ ways.None
-exited_none frames k w h =
-    elim (frames == 1) as (λ x. Ok w ≡ (if x then answered k else Err NotBuilt) → w ≡ ways.None)
-    [ true ↦ λ h. answered_none k w h | false ↦ λ h. absurd (cc) ] h
+-- the exit of the only frame, which has no callers, leads nowhere
+pub exited_none : (callers : ℕ) (s b : State) (w : Ways) → callers + 1 ≡ 1 → ExitsFrom callers s (Ok w) b → w ≡ ways.None
+exited_none zero s b w one h = answered_none (kind_of s R0) w h
+exited_none (suc n) s b w one h = absurd (omega (arith, one))
 
-performs_made : (p : Program) (s : State) (i : Insn) (w : Ways) (a b : State) → IsPlainForm i → Performs p s i (Ok w) a b → Made p s i w a b
-performs_made p s (Jump by) w a b plain h = (cc h.0, h.1)
-performs_made p s (JumpLong by) w a b plain h = (cc h.0, h.1)
-performs_made p s (JumpIf c by) w a b plain h = h
-performs_made p s Exit w a b plain h = exited_none (depth s) (kind_of s R0) w h
-performs_made p s (Alu v op d source) w a b plain h = h
-performs_made p s (Neg v d) w a b plain h = h
-performs_made p s (MovSx e d r) w a b plain h = h
-performs_made p s (ByteSwap order span d) w a b plain h = h
-performs_made p s (LoadNumber d n) w a b plain h = h
-performs_made p s i w a b plain h = absurd plain
+-- an exit leads to one state at most
+pub exits_not_two : (callers : ℕ) (s b : State) → ExitsFrom callers s (Ok ways.Two) b → ⊥
+exits_not_two zero s b h = let none : ways.Two ≡ ways.None = answered_none (kind_of s R0) ways.Two h in absurd (cc)
+exits_not_two (suc n) s b h = absurd (cc h.1)
 
-pub Makes-made : (p : Program) (s : State) (i : Insn) (w : Ways) (a b : State) → IsPlainForm i → Makes p s i w a b → Made p s i w a b
-Makes-made p s i w a b plain h = performs_made p s i w a b plain (Makes-performs p s i w a b h)
+performs_made : (p : Program) (s : State) (i : Insn) (w : Ways) (a b : State) → IsPlainForm i → depth s ≡ 1 → Performs p s i (Ok w) a b → Made p s i w a b
+performs_made p s (Jump by) w a b plain one h = (cc h.0, h.1)
+performs_made p s (JumpLong by) w a b plain one h = (cc h.0, h.1)
+performs_made p s (JumpIf c by) w a b plain one h = h
+performs_made p s Exit w a b plain one h = exited_none (length s.callers.items) s a w one h
+performs_made p s (Alu v op d source) w a b plain one h = h
+performs_made p s (Neg v d) w a b plain one h = h
+performs_made p s (MovSx e d r) w a b plain one h = h
+performs_made p s (ByteSwap order span d) w a b plain one h = h
+performs_made p s (LoadNumber d n) w a b plain one h = h
+performs_made p s i w a b plain one h = absurd plain
+
+pub Makes-made : (p : Program) (s : State) (i : Insn) (w : Ways) (a b : State) → IsPlainForm i → depth s ≡ 1 → Makes p s i w a b → Made p s i w a b
+Makes-made p s i w a b plain one h = performs_made p s i w a b plain one (Makes-performs p s i w a b h)
 
 -- ---- registers
 
@@ -289,7 +294,7 @@ made_knows p s a b t i w written plain set makes among known = absurd plain
 
 pub Knows-makes : (p : Program) (s a b t : State) (i : Insn) (w : Ways) (written : List Reg) → IsPlainForm i → Each (NumbersIn s) (reads i) → Makes p s i w a b → IsAmong w a b t
     → Knows s written → Knows t (written_too (writes i) written)
-Knows-makes p s a b t i w written plain set makes among known = made_knows p s a b t i w written plain set (Makes-made p s i w a b plain makes) among known
+Knows-makes p s a b t i w written plain set makes among known = made_knows p s a b t i w written plain set (Makes-made p s i w a b plain known.one makes) among known
 
 -- ---- what is not refused
 
@@ -312,13 +317,15 @@ arithmetic_goes : (s : State) (w : Width) (op : AluOp) (d : Reg) (source : Opera
 arithmetic_goes s w Mov d source b e set operand h = copied_goes w b e (operand_number s w source b set operand) h
 arithmetic_goes s w op d source b e set operand h = combined_goes s op w (kind_of s d) b e set.0 (operand_number s w source b set.1 operand) h
 
-exit_goes : (s : State) (e : Refusal) → depth s ≡ 1 → NumbersIn s R0 → Err e ≡ exited (depth s) (kind_of s R0) → ⊥
-exit_goes s e one number h =
+-- the exit of the only frame with a number in r0 is not refused
+pub exit_goes : (callers : ℕ) (s b : State) (e : Refusal) → callers + 1 ≡ 1 → NumbersIn s R0 → ExitsFrom callers s (Err e) b → ⊥
+exit_goes zero s b e one number h =
     let (x, is) = number_is (kind_of s R0) number in
-    let known : exited (depth s) (kind_of s R0) ≡ Ok ways.None = rw (one, is) refl in
+    let known : answered (kind_of s R0) ≡ Ok ways.None = rw is refl in
     absurd (cc (h, known))
+exit_goes (suc n) s b e one number h = absurd (omega (arith, one))
 
-performs_goes : (p : Program) (s : State) (i : Insn) (e : Refusal) (b c : State) → IsPlainForm i → Each (NumbersIn s) (needs i) → depth s ≡ 1 → Performs p s i (Err e) b c → ⊥
+pub performs_goes : (p : Program) (s : State) (i : Insn) (e : Refusal) (b c : State) → IsPlainForm i → Each (NumbersIn s) (needs i) → depth s ≡ 1 → Performs p s i (Err e) b c → ⊥
 performs_goes p s (Alu w op d source) e b c plain set one h = arithmetic_goes s w op d source h.0 e set h.1 h.2
 performs_goes p s (Neg w d) e b c plain set one h = of_number_goes _ (kind_of s d) e set.0 h
 performs_goes p s (MovSx x d r) e b c plain set one h = of_number_goes _ (kind_of s r) e set.0 h
@@ -329,7 +336,7 @@ performs_goes p s (JumpLong by) e b c plain set one h = absurd (cc (h.0))
 performs_goes p s (JumpIf cond by) e b c plain set one h =
     let compared = are_compared s cond set in
     h.1 (defined_by s cond cond.operand compared.0 compared.1)
-performs_goes p s Exit e b c plain set one h = exit_goes s e one set.0 h
+performs_goes p s Exit e b c plain set one h = exit_goes (length s.callers.items) s b e one set.0 h
 performs_goes p s i e b c plain set one h = absurd plain
 
 -- where the tests of the registers pass, the form's own decides

@@ -7,6 +7,7 @@ use Rattle.isa_model.specs.Machine.Successors.{FallsTo, JumpsTo}
 use Rattle.isa_model.specs.MustAccept.Paths.{Each, IsOneOf, needs, written_too, PathTo}
 use Rattle.isa_model.specs.MustAccept.Plain.{IsPlain}
 use Rattle.stack_state.specs.declared.states.State.{State}
+use Rattle.stack_state.specs.Meaning.{depth}
 use Rattle.stack_state.specs.Starts.{start}
 use Rattle.transfer.specs.declared.refusals.Refusal.{Refusal as StepRefusal}
 use Rattle.explorer.specs.declared.refusals.Refusal.{Refusal}
@@ -14,9 +15,12 @@ use Rattle.explorer.specs.Walks.{StepsTo, Leads, IsStuck}
 use Rattle.explorer.specs.Counts.{HasNumber}
 use Rattle.explorer.specs.Refused.{IsRefused}
 use Rattle.explorer.specs.Accepting.{IsOutOfMemory}
-use Rattle.explorer.proofs.Forward.{StepsTo-follows, HasNumber-forward, Takes-few, ComesBack-forward}
-use Rattle.explorer.proofs.Accepted.{no_call, IsFlow-whole, IsRefused-want, Each-more, needs_reads, tests_pass}
+use Rattle.explorer.proofs.Forward.{StepsTo-follows, one_frame-start, HasNumber-forward, Takes-few, ComesBack-forward}
+use Rattle.explorer.proofs.Accepted.{HasNoCalls, no_call, IsFlow-whole, IsRefused-want, Each-more, needs_reads, tests_pass}
 use Rattle.explorer.proofs.OnNumbers.{NumbersIn, Knows, Knows-makes, not_refused}
+
+IsPlain-no_calls : (p : Program) → IsPlain p → HasNoCalls p
+IsPlain-no_calls p plain = λ slot i here. no_call i (plain.forms slot i here)
 
 -- ---- walks
 
@@ -30,9 +34,9 @@ record IsKnown (p : Program) (s : State) : Type 0 where
 needed : (p : Program) (s : State) (i : Insn) → IsPlain p → fetch p s.slot ≡ Some i → (h : IsKnown p s) → Each (NumbersIn s) (needs i)
 needed p s i plain here h = Each-more (IsOneOf h.written) (NumbersIn s) (needs i) h.known.numbers (plain.written h.steps s.slot h.written i h.path here)
 
-pub follows_here : (p : Program) (s t : State) (step : StepsTo p s t) → FallsTo s.slot step.insn t.slot ⊎ JumpsTo p s.slot step.insn t.slot
-follows_here p s t step =
-    let (i, here, on) = StepsTo-follows p s t step in
+pub follows_here : (p : Program) (s t : State) → HasNoCalls p → depth s ≡ 1 → (step : StepsTo p s t) → FallsTo s.slot step.insn t.slot ⊎ JumpsTo p s.slot step.insn t.slot
+follows_here p s t free one step =
+    let (i, here, on) = StepsTo-follows p s t free one step in
     let same : i ≡ step.insn = cc (here, step.here) in
     subst (λ x. FallsTo s.slot x t.slot ⊎ JumpsTo p s.slot x t.slot) same on
 
@@ -48,7 +52,7 @@ step_known p s t plain step h =
     record {
       steps = suc h.steps;
       written = written_too (writes i) h.written;
-      path = PathTo-more p h.steps s.slot t.slot h.written i h.path step.here (follows_here p s t step);
+      path = PathTo-more p h.steps s.slot t.slot h.written i h.path step.here (follows_here p s t (IsPlain-no_calls p plain) h.known.one step);
       known = Knows-makes p s step.first step.other t i step.taken h.written (plain.forms s.slot i step.here) set step.makes step.among h.known;
     }
 
@@ -74,8 +78,11 @@ never_stuck p e slot plain h =
 
 pub IsPlain-refused : (p : Program) (e : Refusal) (slot : ℕ) → IsRefused p e slot → IsPlain p → IsOutOfMemory e
 IsPlain-refused p e slot refused plain =
-    IsRefused-want p e slot (IsFlow-whole p plain.whole (λ slot i here. no_call i (plain.forms slot i here))) (λ e slot h. never_stuck p e slot plain h) (λ slot h. ComesBack-forward p slot plain.forward h)
-    (λ h. Takes-few p start plain.forward h) refused
+    let free = IsPlain-no_calls p plain in
+    IsRefused-want p e slot (IsFlow-whole p plain.whole free) (λ e slot h. never_stuck p e slot plain h)
+    (λ slot h. ComesBack-forward p slot free plain.forward h) (λ h. Takes-few p start free plain.forward one_frame-start h) refused
 
 pub IsPlain-bound : (p : Program) (n : ℕ) → HasNumber p start n → IsPlain p → n ≤ length p.insns
-IsPlain-bound p n number plain = let most = HasNumber-forward p start n plain.forward number in omega (arith, most)
+IsPlain-bound p n number plain =
+    let most = HasNumber-forward p start n (IsPlain-no_calls p plain) plain.forward one_frame-start number in
+    omega (arith, most)

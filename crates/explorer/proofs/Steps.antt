@@ -1,7 +1,10 @@
 -- What a search keeps, step by step.
 use Rattle.std.proofs.Common.{◌≡◌, ◌≤◌, ◌+◌, ◌∷◌, ◌++◌, [], ℕ, Some, None, Option, List, length, max, arith, refl, sym, ap, ◌∙◌, subst, inl, inr, ◌⊎◌}
 use Rattle.std.specs.Prelude.{IsSome}
+use Rattle.std.specs.List.{All}
+use Rattle.std.proofs.lemmas.List.Elements.{All-nil, All-cons, All-push, All-pop}
 use Rattle.isa_model.specs.declared.instructions.Insn.{Insn}
+use Rattle.isa_model.specs.declared.instructions.Insn.TheVariants.{CallLocal}
 use Rattle.isa_model.specs.Code.Instructions.{Program, fetch}
 use Rattle.image.specs.Images.{IsImage}
 use Rattle.image.specs.ImageLaws.{fetch-zero}
@@ -11,12 +14,13 @@ use Rattle.stack_state.specs.Starts.{start, Means-start}
 use Rattle.stack_state.specs.declared.states.State.{State}
 use Rattle.isa_model.specs.Running.Outcomes.{StartsEnd}
 use Rattle.stack_state.specs.Meaning.{Within}
-use Rattle.isa_model.specs.Machine.Successors.{Follows}
 use Rattle.control_flow.specs.Flows.{IsFlow}
-use Rattle.control_flow.specs.FlowLaws.{IsFlow-Follows}
+use Rattle.control_flow.specs.FlowLaws.{IsFlow-Follows, IsFlow-fall, IsFlow-call}
+use Rattle.control_flow.specs.Graph.{BeginsInsn}
 use Rattle.transfer.specs.declared.Ways.{Ways}
 use Rattle.transfer.specs.declared.Ways.TheVariants as ways
 use Rattle.transfer.specs.Leading.{LeadsTo, EachWay}
+use Rattle.transfer.specs.Following.{returns_of, GoesOnTo}
 use Rattle.transfer.specs.Exact.{Makes}
 use Rattle.explorer.specs.declared.table.Stored.{Stored}
 use Rattle.explorer.specs.declared.trail.Visit.{Visit}
@@ -139,16 +143,28 @@ step_on p m old new a path visit child n rest at current whole fine last on_path
 
 -- ---- a visit that begins
 
--- where control flow is good an instruction begins after each step
-IsReady-next : (p : Program) (slot : ℕ) (next : State) → IsFlow p → Follows p slot next.slot → IsReady p next
-IsReady-next p slot next flow follows = IsFlow-Follows p slot next.slot flow follows
+-- where control flow is good an instruction begins after each step, and where exits lead
+IsReady-next : (p : Program) (s next : State) → IsFlow p → IsReady p s → GoesOnTo p s next → IsReady p next
+IsReady-next p s next flow ready (inl h) = record {
+  begins = IsFlow-Follows p s.slot next.slot flow h.follows;
+  returns = subst (All (BeginsInsn p)) (sym h.returns) ready.returns;
+}
+IsReady-next p s next flow ready (inr (inl h)) = record {
+  begins = subst (BeginsInsn p) (sym h.target) (IsFlow-call p s.slot (CallLocal h.by) h.by flow h.here refl);
+  returns = subst (All (BeginsInsn p)) (sym h.returns)
+      (All-push (BeginsInsn p) (returns_of s) (s.slot + 1) ready.returns (IsFlow-fall p s.slot (CallLocal h.by) flow h.here refl));
+}
+IsReady-next p s next flow ready (inr (inr h)) =
+    let all : All (BeginsInsn p) (returns_of next ++ next.slot ∷ []) = subst (All (BeginsInsn p)) h.returns ready.returns in
+    let (returns, begins) = All-pop (BeginsInsn p) (returns_of next ++ next.slot ∷ []) (returns_of next) (Some next.slot) refl all in
+    record { begins = begins; returns = returns }
 
 some_there : (o : Option Insn) → IsSome o → (i : Insn) × (o ≡ Some i)
 some_there (Some i) h = (i, refl)
 some_there None h = absurd (cc)
 
 pub fetched : (p : Program) (s : State) → IsReady p s → (i : Insn) × (fetch p s.slot ≡ Some i)
-fetched p s ready = some_there (fetch p s.slot) ready
+fetched p s ready = some_there (fetch p s.slot) ready.begins
 
 -- the instruction's state waits for the state after it
 pub record Begins (p : Program) (m : ℕ) (table : List Stored) (visit : Visit) (s next : State) : Type 0 where
@@ -157,31 +173,31 @@ pub record Begins (p : Program) (m : ℕ) (table : List Stored) (visit : Visit) 
   pub spends : Spends p visit s next 1
 
 pub one_way : (p q : Program) (m : ℕ) (table : List Stored) (stored : Option ℕ) (s a b : State) (w : Ways) (pending : Option State) → p ≡ q → IsFlow p → IsReady p s → StoredAt table stored s
-    → LeadsTo q s w a b → ((i : Insn) → fetch q s.slot ≡ Some i → Makes q s i w a b) → EachWay w a b (λ next. Follows q s.slot next.slot) → w ≡ ways.One → pending ≡ None
+    → LeadsTo q s w a b → ((i : Insn) → fetch q s.slot ≡ Some i → Makes q s i w a b) → EachWay w a b (GoesOnTo q s) → w ≡ ways.One → pending ≡ None
     → Begins p m table (record { pending = pending; best = 0; stored = stored }) s a
 one_way p q m table stored s a b w pending same flow ready at leads makes follows is none =
     let (i, here) = fetched p s ready in
     let leads' = subst (λ x. LeadsTo x s ways.One a b) (sym same) (subst (λ x. LeadsTo q s x a b) is leads) in
-    let follows' : Follows p s.slot a.slot = subst (λ x. Follows x s.slot a.slot) (sym same) (subst (λ x. EachWay x a b (λ next. Follows q s.slot next.slot)) is follows) in
+    let follows' : GoesOnTo p s a = subst (λ x. GoesOnTo x s a) (sym same) (subst (λ x. EachWay x a b (GoesOnTo q s)) is follows) in
     let into = into_by p q s a b w ways.One same makes i here is in
     subst (λ x. Begins p m table (record { pending = x; best = 0; stored = stored }) s a) (sym none) (record {
       waiting = record { waits = Waits-one p s a b stored leads'; awaits = Awaits-one p s a b stored into; steps = steps_by p q s a b a w ways.One same makes i here is refl; steps_aside = tt; best = omega arith; stored = at; ready = tt };
-      ready = IsReady-next p s.slot a flow follows';
+      ready = IsReady-next p s a flow ready follows';
       spends = Spends-one p s a b stored into;
     })
 
 pub two_ways : (p q : Program) (m : ℕ) (table : List Stored) (stored : Option ℕ) (s a b : State) (w : Ways) (pending : Option State) → p ≡ q → IsFlow p → IsReady p s → StoredAt table stored s
-    → LeadsTo q s w a b → ((i : Insn) → fetch q s.slot ≡ Some i → Makes q s i w a b) → EachWay w a b (λ next. Follows q s.slot next.slot) → w ≡ ways.Two → pending ≡ Some b
+    → LeadsTo q s w a b → ((i : Insn) → fetch q s.slot ≡ Some i → Makes q s i w a b) → EachWay w a b (GoesOnTo q s) → w ≡ ways.Two → pending ≡ Some b
     → Begins p m table (record { pending = pending; best = 0; stored = stored }) s a
 two_ways p q m table stored s a b w pending same flow ready at leads makes follows is some =
     let (i, here) = fetched p s ready in
     let leads' = subst (λ x. LeadsTo x s ways.Two a b) (sym same) (subst (λ x. LeadsTo q s x a b) is leads) in
-    let follows' : Follows p s.slot a.slot × Follows p s.slot b.slot =
-    subst (λ x. Follows x s.slot a.slot × Follows x s.slot b.slot) (sym same) (subst (λ x. EachWay x a b (λ next. Follows q s.slot next.slot)) is follows) in
+    let follows' : GoesOnTo p s a × GoesOnTo p s b =
+    subst (λ x. GoesOnTo x s a × GoesOnTo x s b) (sym same) (subst (λ x. EachWay x a b (GoesOnTo q s)) is follows) in
     let into = into_by p q s a b w ways.Two same makes i here is in
     subst (λ x. Begins p m table (record { pending = x; best = 0; stored = stored }) s a) (sym some) (record {
-      waiting = record { waits = Waits-two p s a b stored leads'; awaits = Awaits-two p s a b stored into; steps = steps_by p q s a b a w ways.Two same makes i here is (inl refl); steps_aside = steps_by p q s a b b w ways.Two same makes i here is (inr refl); best = omega arith; stored = at; ready = IsReady-next p s.slot b flow follows'.1 };
-      ready = IsReady-next p s.slot a flow follows'.0;
+      waiting = record { waits = Waits-two p s a b stored leads'; awaits = Awaits-two p s a b stored into; steps = steps_by p q s a b a w ways.Two same makes i here is (inl refl); steps_aside = steps_by p q s a b b w ways.Two same makes i here is (inr refl); best = omega arith; stored = at; ready = IsReady-next p s b flow ready follows'.1 };
+      ready = IsReady-next p s a flow ready follows'.0;
       spends = Spends-two p s a b stored into;
     })
 
@@ -222,7 +238,8 @@ start_ready : (p : Program) → IsImage p → IsReady p start
 unfolding start
 start_ready p image =
     let first = fetch-zero p image in
-    subst (λ (o : Option Insn). IsSome o) (sym first.1) refl
+    let begins : BeginsInsn p 0 = subst (λ (o : Option Insn). IsSome o) (sym first.1) refl in
+    record { begins = begins; returns = All-cons (BeginsInsn p) 0 [] begins (All-nil (BeginsInsn p)) }
 
 pub starts_ready : (p q : Program) (s : State) → p ≡ q → IsImage q → s ≡ start → IsReady p s
 starts_ready p q s same image e = subst (IsReady p) (sym e) (start_ready p (subst IsImage (sym same) image))

@@ -11,6 +11,7 @@ use Rattle.stack_state.specs.Meaning.{Means, Within}
 use Rattle.stack_state.specs.Starts.{start}
 use Rattle.control_flow.specs.Graph.{BeginsInsn}
 use Rattle.control_flow.specs.Flows.{IsJoin}
+use Rattle.transfer.specs.Following.{returns_of}
 use Rattle.explorer.specs.declared.verified.TheConstants.{MAX_EXPLORED}
 use Rattle.explorer.specs.declared.refusals.Refusal.{Refusal}
 use Rattle.explorer.specs.declared.refusals.Refusal.TheVariants.{Repeats, Memory}
@@ -86,9 +87,10 @@ IsFine p finished e = 0 < e.number → Settles p e.state e.number × (e.number �
 unfoldable pub AllFine : Program → ℕ → List Stored → Type 0
 AllFine p finished table = All (IsFine p finished) table
 
--- an instruction begins at the state's slot
-abbrev pub IsReady : Program → State → Type 0
-IsReady p s = BeginsInsn p s.slot
+-- an instruction begins at the state's slot, and at each slot to which the exit of a live frame leads
+pub record IsReady (p : Program) (s : State) : Type 0 where
+  pub begins : BeginsInsn p s.slot
+  pub returns : All (BeginsInsn p) (returns_of s)
 
 abbrev pub IfReady : Program → Option State → Type 0
 IfReady p None = Unit {0}

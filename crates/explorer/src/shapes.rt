@@ -1,8 +1,9 @@
 //! Shapes of states: which bits of the numbers in their registers and slots are known.
 //!
 //! A state covers another one only where the other knows each bit that it knows itself, and with
-//! the same value. So stored states are told apart by their shape, and by the bits that are known
-//! in it. No contract rests on that: a search by shape proposes states, and `covers` decides.
+//! the same value, and where the exits of both lead to the same slots. So stored states are told
+//! apart by their shape, and by the bits that are known in it and those slots. No contract rests on
+//! that: a search by shape proposes states, and `covers` decides.
 
 use crate::parts::Part;
 use crate::sketches::{Sketch, mixed};
@@ -66,11 +67,11 @@ impl Shape {
         rest.is_empty()
     }
 
-    /// A fingerprint of the bits that are known in the shape, as they are in a state. There is none
-    /// where the state does not know them all.
+    /// A fingerprint of the bits that are known in the shape, as they are in a state, and of the
+    /// slots to which its frames' exits lead. There is none where the state does not know them all.
     pub fn known_of(&self, sketch: &Sketch) -> Option<u64> {
         let mut rest = self.numbers.as_slice();
-        let mut print = 0;
+        let mut print = sketch.returns;
         for part in &sketch.parts {
             let [first, others @ ..] = rest else {
                 return Some(print);

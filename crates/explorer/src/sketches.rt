@@ -12,11 +12,14 @@ use reg_state::{Kind, Scalar};
 use stack_state::{Slot, State};
 use std::alloc::{AllocError, Global};
 
-/// The parts of a state's innermost frame, and the fingerprint of all its frames: two states that
-/// cover one another have the same one.
+/// The parts of a state's innermost frame, and fingerprints of all its frames.
 #[derive(Drop)]
 pub struct Sketch {
     pub parts: Vec<Part>,
+    /// Of the slots to which the frames' exits lead: a state has the same one as those that cover
+    /// it.
+    pub returns: u64,
+    /// Of all that is known: two states that cover one another have the same one.
     pub fingerprint: u64,
 }
 
@@ -25,6 +28,7 @@ impl Sketch {
     pub fn new(alloc: Global) -> Result<Self, AllocError> {
         Ok(Sketch {
             parts: Vec::with_capacity(alloc, 74)?,
+            returns: 0,
             fingerprint: 0,
         })
     }
@@ -34,13 +38,15 @@ impl Sketch {
         ensures { OnOk result (AreParts self.new.parts.items state.now.innermost) }
     {
         let mut print = state.slot as u64;
+        let mut returns = 0;
         for frame in state.callers.as_slice() {
             take_parts(&mut self.parts, frame)?;
-            print = with_parts(mixed(print, frame.return_slot as u64), &self.parts);
+            returns = mixed(returns, frame.return_slot as u64);
+            print = with_parts(mixed(print, returns), &self.parts);
         }
         take_parts(&mut self.parts, &state.innermost)?;
-        let print = mixed(print, state.innermost.return_slot as u64);
-        self.fingerprint = with_parts(print, &self.parts);
+        self.returns = mixed(returns, state.innermost.return_slot as u64);
+        self.fingerprint = with_parts(mixed(print, self.returns), &self.parts);
         Ok(())
     }
 }

@@ -1,6 +1,7 @@
 //! A module for each crate or subject that is tested.
 
 mod bounds;
+mod calls;
 mod covered;
 mod flows;
 mod loops;

@@ -1,6 +1,6 @@
 //! Programs over the context and the packet, with their bounds or refusals.
 
-use super::programs::are_verdicts;
+use super::programs::{are_verdicts, repeated};
 use std::test::Fail;
 
 #[test]
@@ -67,4 +67,34 @@ fn packets(rt: HostRuntime) -> Result<(), Fail> {
             ("*(u32 *)(r1 + 12) = 1; r0 = 2; exit", "V8 slot 0"),
         ],
     )
+}
+
+/// Loads of each size and sign at the last bytes that the test shows.
+#[test]
+fn loads_at_the_last_proved_byte(rt: HostRuntime) -> Result<(), Fail> {
+    are_verdicts(
+        &rt,
+        &[(
+            "r2 = *(u32 *)(r1 + 0); r3 = *(u32 *)(r1 + 4); r4 = r2; r4 += 8
+             if r4 > r3 goto +8; r0 = *(u8 *)(r2 + 7); r5 = *(u16 *)(r2 + 6)
+             r6 = *(u32 *)(r2 + 4); r7 = *(u64 *)(r2 + 0); r8 = *(s8 *)(r2 + 7)
+             r9 = *(s16 *)(r2 + 6); r5 = *(s32 *)(r2 + 4); if r5 > r6 goto +0
+             r0 = 1; exit",
+            "ok 15",
+        )],
+    )
+}
+
+/// As many slots as code can have: the test, loads of the last byte that it shows, and an answer.
+#[test]
+fn guarded_program_of_the_most_slots(rt: HostRuntime) -> Result<(), Fail> {
+    let text = repeated(
+        rt.alloc(),
+        "r2 = *(u32 *)(r1 + 0); r3 = *(u32 *)(r1 + 4); r4 = r2; r4 += 4096
+         if r4 > r3 goto +4089\n",
+        "r0 = *(s8 *)(r2 + 4095)\n",
+        4089,
+        "r0 = 1; exit",
+    )?;
+    are_verdicts(&rt, &[(text.as_str(), "ok 4096")])
 }

@@ -2,6 +2,7 @@
 //! again of what it stored.
 
 use super::programs::{are_verdicts, repeated};
+use std::alloc::Global;
 use std::test::Fail;
 
 /// Whoever jumps past the first `exit` reads r9, which is unset.
@@ -44,89 +45,60 @@ const NARROW: [(&str, &str); 3] = [
     ),
 ];
 
-/// 128 states come to slot 22, in each of which other bits of r6 are known, and then 128 more,
-/// which only the one with the most unknown bits covers.
-const BEYOND_64: &str = "r0 = 2
-r8 = 1
-r6 = *(u32 *)(r1 + 12)
-r6 &= r8
-r7 = *(u32 *)(r1 + 12)
-if r7 != 0 goto +3
-r8 = 0
-r7 = 0
-goto +13
-r8 += 1
-if r8 != 129 goto -9
-r8 = 128
-r6 = *(u32 *)(r1 + 12)
-r6 &= 127
-r7 = *(u32 *)(r1 + 12)
-if r7 != 0 goto +3
-r8 = 0
-r7 = 0
-goto +3
-r8 += -1
-if r8 != 0 goto -9
-exit
-";
+/// A loop that leaves r6 narrowed in another way at each of its ends, and goes on with r8 and r7
+/// the same: where r8 starts, what narrows r6, how far the end leads, and how r8 goes on and ends.
+fn turns(
+    alloc: Global,
+    start: u32,
+    narrowing: &str,
+    past: u32,
+    step: i32,
+    end: u32,
+) -> Result<String, Fail> {
+    Ok(format!(in alloc;
+        "r8 = {start}
+        r6 = *(u32 *)(r1 + 12)
+        {narrowing}
+        r7 = *(u32 *)(r1 + 12)
+        if r7 != 0 goto +3
+        r8 = 0
+        r7 = 0
+        goto +{past}
+        r8 += {step}
+        if r8 != {end} goto -9\n"
+    )?)
+}
 
-/// 1,024 states come to slot 22, each with another limit of r6 and with the same bits known, and
-/// then 300 more, which only the one with the greatest limit covers.
-const BEYOND_512: &str = "r0 = 2
-r8 = 1025
-r6 = *(u32 *)(r1 + 12)
-r6 %= r8
-r7 = *(u32 *)(r1 + 12)
-if r7 != 0 goto +3
-r8 = 0
-r7 = 0
-goto +13
-r8 += 1
-if r8 != 2049 goto -9
-r8 = 300
-r6 = *(u32 *)(r1 + 12)
-r6 &= 2047
-r7 = *(u32 *)(r1 + 12)
-if r7 != 0 goto +3
-r8 = 0
-r7 = 0
-goto +3
-r8 += -1
-if r8 != 0 goto -9
-exit
-";
+/// Two such loops end at slot 22, and only one of the states that come from the first covers those
+/// that come from the second. Of the first: where r8 starts and ends, and what narrows r6. Of the
+/// second: how many turns it has, and what narrows r6. How many instructions follow slot 22, and
+/// the bound.
+type Crowd = (
+    u32,
+    u32,
+    &'static str,
+    u32,
+    &'static str,
+    usize,
+    &'static str,
+);
 
-/// The same with 4,208 states, and 2,000 more.
-const BEYOND_4096: &str = "r0 = 2
-r8 = 8193
-r6 = *(u32 *)(r1 + 12)
-r6 %= r8
-r7 = *(u32 *)(r1 + 12)
-if r7 != 0 goto +3
-r8 = 0
-r7 = 0
-goto +13
-r8 += 1
-if r8 != 12401 goto -9
-r8 = 2000
-r6 = *(u32 *)(r1 + 12)
-r6 %= 12400
-r7 = *(u32 *)(r1 + 12)
-if r7 != 0 goto +3
-r8 = 0
-r7 = 0
-goto +3
-r8 += -1
-if r8 != 0 goto -9
-exit
-";
-
-/// A text that ends with that many instructions and an exit, and its bound.
-const LONG: [(&str, usize, &str); 3] = [
-    // 128 times 4,000 instructions are explored, and no more
-    (BEYOND_64, 4000, "ok 5541"),
-    (BEYOND_512, 900, "ok 8849"),
-    (BEYOND_4096, 200, "ok 37453"),
+const CROWDS: [Crowd; 3] = [
+    // 128 states, in each of which other bits of r6 are known, and 128 more: 128 times 4,000
+    // instructions are explored, and no more.
+    (1, 129, "r6 &= r8", 128, "r6 &= 127", 4000, "ok 5541"),
+    // 1,024 states, each with another limit of r6 and with the same bits known, and 300 more.
+    (1025, 2049, "r6 %= r8", 300, "r6 &= 2047", 900, "ok 8849"),
+    // 4,208 such states, and 2,000 more.
+    (
+        8193,
+        12401,
+        "r6 %= r8",
+        2000,
+        "r6 %= 12400",
+        200,
+        "ok 37453",
+    ),
 ];
 
 #[test]
@@ -135,9 +107,13 @@ fn numbers_are_narrow(rt: HostRuntime) -> Result<(), Fail> {
 }
 
 #[test]
-fn finds_beyond_512_and_4096_entries(rt: HostRuntime) -> Result<(), Fail> {
-    for (first, times, bound) in LONG.iter() {
-        let text = repeated(rt.alloc(), *first, "r0 = 2\n", *times, "exit")?;
+fn finds_beyond_64_512_and_4096_entries(rt: HostRuntime) -> Result<(), Fail> {
+    let alloc = rt.alloc();
+    for (start, end, narrowing, times, again, more, bound) in CROWDS.iter() {
+        let first = turns(alloc, *start, *narrowing, 13, 1, *end)?;
+        let second = turns(alloc, *times, *again, 3, -1, 0)?;
+        let front = format!(in alloc; "r0 = 2\n{first}{second}exit\n")?;
+        let text = repeated(alloc, front.as_str(), "r0 = 2\n", *more, "exit")?;
         are_verdicts(&rt, &[(text.as_str(), *bound)])?;
     }
     Ok(())

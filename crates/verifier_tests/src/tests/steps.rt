@@ -41,7 +41,7 @@ fn number_in(state: &State, register: Reg) -> Option<u64> {
 }
 
 /// The slot and the refusal at which the walk ends, if it is refused.
-const WALKS: [(&str, Option<(usize, Refusal)>); 20] = [
+const WALKS: [(&str, Option<(usize, Refusal)>); 21] = [
     // registers are tested first
     ("r0 = r2; exit", Some((0, Refusal::UnsetRegister))),
     ("r10 = 0; exit", Some((0, Refusal::ReadOnlyRegister))),
@@ -95,7 +95,8 @@ const WALKS: [(&str, Option<(usize, Refusal)>); 20] = [
         "r0 = *(u32 *)(r1 + 8); exit",
         Some((0, Refusal::ContextAccess)),
     ),
-    ("call pc+0; exit", Some((0, Refusal::TooManyFrames))),
+    ("call pc+0; exit", Some((1, Refusal::ExitValue))),
+    ("call pc-1; exit", Some((0, Refusal::TooManyFrames))),
     ("r0 = -1; r1 = 0; w0 %= w1; r0 >>= 31; exit", None),
 ];
 

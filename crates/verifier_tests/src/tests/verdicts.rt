@@ -36,7 +36,7 @@ fn steps_are_refused_at_their_slot(rt: HostRuntime) -> Result<(), Fail> {
             ("r0 = 0; r0 = *(u32 *)(r1 + 8); exit", "V8 slot 1"),
             ("r0 = 0; if r1 == 0 goto +0; exit", "V13 slot 1"),
             ("r0 = 0; r0 = r10; exit", "V17 slot 2"),
-            ("r0 = 0; call pc+1; exit; exit", "V16 slot 1"),
+            ("r0 = 0; call pc+1; exit; exit", "V17 slot 2"),
             ("r0 = 0; goto -1", "V18 slot 1"),
         ],
     )

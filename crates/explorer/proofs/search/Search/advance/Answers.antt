@@ -36,7 +36,7 @@ unwind-requires-clause-at c =
     let into = into_by p c.args.image.now s c.step_in_place.new.state c.step_in_place.new.other c.in-Ok.ways ways.None c.requires.image c.in-Ok.ensures.steps i here c.in-None.is in
     let back = step_ends c.args.flow.now c.args.image.now c.args.self.now.finished c.args.self.now.table.entries.items c.finish.new.self.entries.items start c.args.self.now.path.items c.args.stored c.args.self.now.current c.step_in_place.new.state c.step_in_place.new.other c.in-Ok.ways
     refl c.requires.image c.requires.at.at.fine c.requires.at.at.path c.requires.at.stored_at c.requires.at.on_path c.in-Ok.ensures.leads into c.in-None.is c.finish.ensures in
-    record { state = back.state; at = record { fine = back.fine; path = back.before }; on_path = back.on_path; within = back.within; spent = spent_here p c.args.self.now.path.items s (c.args.self.now.finished + length c.args.self.now.path.items) 1 (c.args.self.now.finished + 1 + length c.args.self.now.path.items) c.requires.at.spent (ItsOwn s 1 c.requires.at.ready refl) (omega arith); some = omega arith; most = back.most }
+    record { state = back.state; at = record { fine = back.fine; path = back.before }; on_path = back.on_path; within = back.within; spent = spent_here p c.args.self.now.path.items s (c.args.self.now.finished + length c.args.self.now.path.items) 1 (c.args.self.now.finished + 1 + length c.args.self.now.path.items) c.requires.at.spent (ItsOwn s 1 c.requires.at.ready.begins refl) (omega arith); some = omega arith; most = back.most }
 
 pub returns-in-Err-clause-stops : goal.returns-in-Err-clause-stops
 returns-in-Err-clause-stops c =
@@ -51,7 +51,7 @@ returns-in-Err-clause-stops c =
       steps = length c.args.self.now.path.items;
       leads = Path-leads p c.args.self.now.finished c.args.self.now.table.entries.items c.args.self.now.path.items start s at.at.path;
       slot_is = refl;
-      begins = at.ready;
+      begins = at.ready.begins;
       insn = i;
       here = here;
       refused = subst (λ x. Refuses x s i c.in-Err.refusal) (sym c.requires.image)

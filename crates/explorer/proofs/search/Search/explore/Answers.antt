@@ -66,8 +66,8 @@ returns-in-Explore-turn-clause-stops c =
         steps = length search.path.items;
         leads = Path-leads p search.finished search.table.entries.items search.path.items _ search.current goes.at.path;
         slot_is = refl;
-        begins = goes.ready;
+        begins = goes.ready.begins;
       },
       subst (λ n. Takes p start n) (omega (arith, c.loop-explored.invariant.explored))
-          (CountsTo-takes p search.path.items start search.current (search.finished + length search.path.items) 1 goes.spent (ItsOwn search.current 1 goes.ready refl)),
+          (CountsTo-takes p search.path.items start search.current (search.finished + length search.path.items) 1 goes.spent (ItsOwn search.current 1 goes.ready.begins refl)),
     )

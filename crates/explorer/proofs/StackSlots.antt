@@ -1,0 +1,154 @@
+-- Numbers in the stack slots of a state, loaded and stored whole.
+use Rattle.std.proofs.Common.{◌≡◌, ◌*◌, ◌<◌, ℕ, Some, None, Ok, Err, true, List, length, arith, refl, sym, ap, ◌∙◌, subst, inl}
+use Rattle.std.specs.Prelude.{◌≢◌, ◌/◌, pos, ◌+ℤ◌, ◌==◌, slice_set}
+use Rattle.std.proofs.lemmas.Bool.Decides.{nat_tests}
+use Rattle.std.proofs.lemmas.Int.{ints}
+use Rattle.std.proofs.lemmas.List.{length-set, get_or-set_same, get_or-set_other}
+use Rattle.isa_model.specs.declared.sizes.Size.TheVariants.{U64}
+use Rattle.isa_model.specs.declared.registers.Reg.{Reg}
+use Rattle.isa_model.specs.declared.registers.Reg.TheVariants.{R10}
+use Rattle.isa_model.specs.MustAccept.Determined.{slot_offset}
+use Rattle.reg_state.specs.declared.kinds.Kind.{Kind}
+use Rattle.reg_state.specs.declared.kinds.Kind.TheVariants.{Number}
+use Rattle.reg_state.specs.Constants.{IsNumber-only}
+use Rattle.stack_state.specs.declared.slots.Slot.{Slot}
+use Rattle.stack_state.specs.declared.slots.Slot.TheVariants.{Written, Spilled}
+use Rattle.stack_state.specs.declared.states.State.{State}
+use Rattle.stack_state.specs.Meaning.{registers_of, slots_of}
+use Rattle.stack_state.specs.MeaningLaws.{frame_of-innermost}
+use Rattle.stack_state.specs.Slots.{slot_at, kind_in, IsSpill, IsFill}
+use Rattle.stack_state.specs.FramePlaces.{IsPlace}
+use Rattle.stack_state.specs.Effects.{with_slots, with_frame_slots}
+use Rattle.stack_state.specs.Places.{kind_of}
+use Rattle.branch_refine.specs.Refining.{IsNumber, IsJust}
+use Rattle.transfer.specs.declared.refusals.Refusal.{Refusal}
+use Rattle.transfer.specs.declared.refusals.Refusal.TheVariants.{StackPlace, StackBytes}
+use Rattle.transfer.specs.StackAccesses.{IsFramePlace, store_refusal, StackLoads, StackStores, IsStoreRefused}
+
+-- slot j of the innermost frame is this number, known as a constant
+abbrev pub Holds : State → ℕ → ℕ → Type 0
+Holds s j y = IsJust (kind_in (slot_at s.innermost.stack.slots j)) y
+
+abbrev innermost : State → ℕ
+innermost s = length s.callers.items
+
+-- ---- places
+
+slots_here : (s : State) → slots_of s (innermost s) ≡ s.innermost.stack.slots
+slots_here s = ap (λ f. f.stack.slots) (frame_of-innermost s)
+
+starts_at : (j : ℕ) → (pos 0 +ℤ slot_offset j) +ℤ pos 512 ≡ pos (8 * j)
+starts_at j = omega (arith, ints)
+
+slot_of_place : (j at : ℕ) → IsPlace (pos 0 +ℤ slot_offset j) U64 at → at / 8 ≡ j
+slot_of_place j at place =
+    let same : pos at ≡ pos (8 * j) = sym place.from_start ∙ starts_at j in
+    let here : at ≡ 8 * j = cc same in
+    omega (arith, here)
+
+place_there : (s : State) (j : ℕ) → j < 64 → IsFramePlace s (innermost s) (pos 0 +ℤ slot_offset j) U64 (8 * j)
+place_there s j below =
+    record { live = omega arith; place = record { from_start = starts_at j; inside = omega (arith, below); aligned = omega arith } }
+
+-- ---- loads
+
+fill_just : (slot : Slot) (k : Kind) (y : ℕ) → IsFill slot (Some k) → IsJust (kind_in slot) y → IsJust k y
+fill_just (Written marks) k y h just = absurd just
+fill_just (Spilled (Number c)) k y h just = let same : k ≡ Number c = cc h in subst (λ x. IsJust x y) (sym same) just
+fill_just (Spilled other) k y h just = absurd just
+
+fill_some : (slot : Slot) (y : ℕ) → IsFill slot None → IsJust (kind_in slot) y → ⊥
+fill_some (Written marks) y h just = just
+fill_some (Spilled (Number c)) y h just = absurd (cc h)
+fill_some (Spilled other) y h just = just
+
+held_at : (s : State) (j y at : ℕ) → at / 8 ≡ j → Holds s j y
+    → IsJust (kind_in (slot_at (slots_of s (innermost s)) (at / 8))) y
+held_at s j y at same held =
+    subst (λ n. IsJust (kind_in (slot_at (slots_of s (innermost s)) n)) y) (sym same)
+    (subst (λ (slots : List Slot). IsJust (kind_in (slot_at slots j)) y) (sym (slots_here s)) held)
+
+-- what is loaded is the number
+pub load_just : (s : State) (j y : ℕ) (k : Kind) → Holds s j y
+    → StackLoads s (innermost s) (pos 0 +ℤ slot_offset j) U64 (Ok k) → IsJust k y
+load_just s j y k held h =
+    let same = slot_of_place j h.0 h.1.place in
+    fill_just (slot_at (slots_of s (innermost s)) (h.0 / 8)) k y h.2 (held_at s j y h.0 same held)
+
+-- and the load is not refused
+pub load_goes : (s : State) (j y : ℕ) (e : Refusal) → j < 64 → Holds s j y
+    → StackLoads s (innermost s) (pos 0 +ℤ slot_offset j) U64 (Err e) → ⊥
+load_goes s j y StackPlace below held h = h (8 * j) (place_there s j below)
+load_goes s j y StackBytes below held h =
+    let same = slot_of_place j h.0 h.1.place in
+    fill_some (slot_at (slots_of s (innermost s)) (h.0 / 8)) y h.2 (held_at s j y h.0 same held)
+load_goes s j y e below held h = absurd h
+
+-- ---- stores
+
+spill_just : (source : Kind) (slot : Slot) (y : ℕ) → IsSpill source slot → IsJust source y → IsJust (kind_in slot) y
+spill_just (Number c) (Spilled k) y h just = subst (λ x. IsJust x y) (sym h.0) just
+spill_just (Number c) (Written marks) y h just =
+    let none : 0 ≡ y = IsNumber-only c y 0 (inl just.1.0) (h.1 0 (omega arith)) in
+    let one : 1 ≡ y = IsNumber-only c y 1 (inl just.1.0) (h.1 1 (omega arith)) in
+    absurd (omega (arith, none, one))
+spill_just source slot y h just = absurd just
+
+-- the number is in the slot, and all else is as before
+pub record PutsSlot (s t : State) (j y : ℕ) : Type 0 where
+  pub slot : t.slot ≡ s.slot
+  pub callers : t.callers ≡ s.callers
+  pub room : length (registers_of t) ≡ length (registers_of s)
+  pub kinds : (q : Reg) → kind_of t q ≡ kind_of s q
+  pub wide : length t.innermost.stack.slots ≡ length s.innermost.stack.slots
+  pub there : Holds t j y
+  pub others : (k z : ℕ) → k ≢ j → Holds s k z → Holds t k z
+
+abbrev with_own : State → List Slot → State
+with_own s slots = record s { innermost = with_slots s.innermost slots }
+
+kinds_stay : (s : State) (slots : List Slot) (q : Reg) → kind_of (with_own s slots) q ≡ kind_of s q
+kinds_stay s slots R10 = refl
+kinds_stay s slots q = refl
+
+own_slots : (s : State) (slots : List Slot) → with_frame_slots s (innermost s) slots ≡ with_own s slots
+own_slots s slots =
+    let same : (innermost s == innermost s) ≡ true = grind (arith, nat_tests) in
+    rw (same, frame_of-innermost s) refl
+
+puts_in : (s : State) (j y : ℕ) (slot : Slot) → j < length s.innermost.stack.slots → IsJust (kind_in slot) y
+    → PutsSlot s (with_own s (slice_set s.innermost.stack.slots j slot)) j y
+puts_in s j y slot below just = record {
+  slot = refl;
+  callers = refl;
+  room = refl;
+  kinds = λ q. kinds_stay s (slice_set s.innermost.stack.slots j slot) q;
+  wide = length-set s.innermost.stack.slots j slot;
+  there = subst (λ x. IsJust (kind_in x) y) (sym (get_or-set_same s.innermost.stack.slots j slot (Written 0) below)) just;
+  others = λ k z other held.
+      subst (λ x. IsJust (kind_in x) z) (sym (get_or-set_other s.innermost.stack.slots j k slot (Written 0) other)) held;
+}
+
+pub store_puts : (s left : State) (j y : ℕ) (source : Kind) → j < length s.innermost.stack.slots → IsJust source y
+    → StackStores s (innermost s) (pos 0 +ℤ slot_offset j) U64 source left (Ok tt) → PutsSlot s left j y
+store_puts s left j y source below just h =
+    let same = slot_of_place j h.0 h.1.place in
+    let spilled = h.3 in
+    let slot = spilled.slot in
+    let list : slice_set (slots_of s (innermost s)) (h.0 / 8) slot ≡ slice_set s.innermost.stack.slots j slot =
+    ap (λ n. slice_set (slots_of s (innermost s)) n slot) same ∙ ap (λ (slots : List Slot). slice_set slots j slot) (slots_here s) in
+    let is : left ≡ with_own s (slice_set s.innermost.stack.slots j slot) =
+    spilled.left ∙ ap (with_frame_slots s (innermost s)) list ∙ own_slots s (slice_set s.innermost.stack.slots j slot) in
+    subst (λ t. PutsSlot s t j y) (sym is) (puts_in s j y slot below (spill_just source slot y spilled.spill just))
+
+numbers_stored : (s : State) (n : ℕ) (source : Kind) → IsNumber source → store_refusal s n U64 source ≡ None
+numbers_stored s n (Number c) number = refl
+numbers_stored s n source number = absurd number
+
+-- a store of a number is not refused
+pub store_goes : (s left : State) (j : ℕ) (source : Kind) (e : Refusal) → j < 64 → IsNumber source
+    → StackStores s (innermost s) (pos 0 +ℤ slot_offset j) U64 source left (Err e) → ⊥
+store_goes s left j source e below number h = of e h.1 where
+  of : (e : Refusal) → IsStoreRefused s (innermost s) (pos 0 +ℤ slot_offset j) U64 source e → ⊥
+  of StackPlace h = h (8 * j) (place_there s j below)
+  of e h = let stored = numbers_stored s (innermost s) source number in absurd (cc (h.2, stored))
