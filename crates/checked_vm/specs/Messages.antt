@@ -1,7 +1,8 @@
 -- The sentence that says why no machine was made.
 use Rattle.std.specs.Prelude.{ℕ, List, codes}
 use Rattle.checked_vm.specs.declared.errors.VmError.{VmError}
-use Rattle.checked_vm.specs.declared.errors.VmError.TheVariants.{Memory}
+use Rattle.checked_vm.specs.declared.errors.VmError.TheVariants.{Memory, NotBuilt}
 
 abbrev pub sentence_of : VmError → List ℕ
 sentence_of Memory = codes "out of memory"
+sentence_of NotBuilt = codes "programs with maps or helpers are not run yet"

@@ -1,10 +1,12 @@
 //! The checked machine: an image, and the room to run it.
 
-ghost use Rattle.std.specs.Prelude.{◌≡◌, ◌+◌, ◌≤◌, ℕ, [], length, IfOk};
+ghost use Rattle.std.specs.Prelude.{◌≡◌, ◌+◌, ◌≤◌, ℕ, [], length, IfOk, IfErr};
 ghost use Rattle.isa_model.specs.Reporting.Streams.{max_body};
 ghost use Rattle.isa_model.specs.Running.Runs.{max_steps, turn};
 ghost use Rattle.isa_model.specs.Reporting.Reports.{starting_contents};
+ghost use Rattle.checked_vm.specs.Built.{IsBuilt, IsRefusal};
 
+use crate::built::is_built;
 use crate::core_state::Core;
 use crate::errors::VmError;
 use image::Image;
@@ -24,23 +26,28 @@ pub struct Checked {
 impl Model for Checked {
     ghost use Rattle.isa_model.specs.Machine.Calls.{most_frames};
     ghost use Rattle.std.specs.Prelude.{◌≤◌, [], vec_capacity};
+    ghost use Rattle.checked_vm.specs.Built.{IsBuilt};
     ghost use Rattle.checked_vm.specs.Machines.{Running};
 
     ghost Value = { Running };
 
     ghost view = { λ machine. record { program = machine.image; contents = [] } };
 
-    ghost invariant = { λ machine. most_frames ≤ vec_capacity machine.core.frames };
+    ghost invariant = { λ machine. (most_frames ≤ vec_capacity machine.core.frames)
+        × IsBuilt machine.image };
 }
 
 impl Checked {
-    /// Makes all room that runs fill. An image has no maps yet.
+    /// Makes all room that runs fill.
     pub fn new(alloc: Global, image: Image) -> Result<Self, VmError>
-        ensures { IfOk result (λ machine. machine
+        ensures made { IfOk result (λ machine. machine
             ≡ record { program = image; contents = starting_contents image.maps }) }
+        ensures built { IfOk result (λ _. IsBuilt image) }
+        ensures refused { IfErr result (IsRefusal image) }
     {
-        // its clause says that this is an image, so that it has no map rows
-        let _slots = image.slots();
+        if !is_built(&image) {
+            return Err(VmError::NotBuilt);
+        }
         let core = Core::new(alloc)?;
         Ok(Checked { image, core })
     }

@@ -12,6 +12,8 @@ use std::fmt;
 pub enum VmError {
     /// Out of memory.
     Memory,
+    /// The program has maps or calls helpers, which the machine does not have yet.
+    NotBuilt,
 }
 
 impl VmError {
@@ -21,6 +23,7 @@ impl VmError {
     {
         match self {
             VmError::Memory => "out of memory",
+            VmError::NotBuilt => "programs with maps or helpers are not run yet",
         }
     }
 }
@@ -37,6 +40,10 @@ impl fmt::Display for VmError {
 impl Error for VmError {}
 
 impl From<AllocError> for VmError {
+    ghost use Rattle.checked_vm.specs.declared.errors.VmError.TheVariants.{Memory};
+
+    ghost from_gives = { λ _ e. e ≡ Memory };
+
     fn from(_error: AllocError) -> VmError {
         VmError::Memory
     }

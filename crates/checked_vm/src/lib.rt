@@ -8,6 +8,7 @@
 //! the definition of its name in `isa_model` says.
 #![tactic(auto)]
 
+mod built;
 mod cells;
 pub mod checked;
 mod comparisons;

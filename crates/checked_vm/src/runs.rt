@@ -5,6 +5,7 @@ ghost use Rattle.isa_model.specs.Code.Instructions.{Program};
 ghost use Rattle.isa_model.specs.Machine.Calls.{most_frames};
 ghost use Rattle.isa_model.specs.Machine.Steps.{step};
 ghost use Rattle.isa_model.specs.Running.Runs.{progress, turn_of, left, turn};
+ghost use Rattle.checked_vm.specs.Built.{HasBuiltForms};
 ghost use Rattle.checked_vm.specs.Machine.{state_of, IsRunning, StaysRunning};
 ghost use Rattle.checked_vm.specs.Outcomes.{IsStep};
 
@@ -18,6 +19,7 @@ impl Core {
     fn step(&mut self, insns: &[Option<Insn>], packet: &mut [u8]) -> Stepped
         requires running { IsRunning self.old }
         requires serial { self.old.next_serial < 2 ^ 63 }
+        requires built { HasBuiltForms insns.now }
         ensures stays { StaysRunning self.old self.new }
         ensures step { (p : Program) (clock : ℕ → ℕ) → p.insns ≡ insns.now →
             IsStep (step p clock (state_of self.old packet.old [])) result
@@ -33,6 +35,7 @@ impl Core {
     fn steps(&mut self, insns: &[Option<Insn>], packet: &mut [u8], limit: u32) -> End
         requires running { IsRunning self.old }
         requires serial { self.old.next_serial < 2 ^ 62 }
+        requires built { HasBuiltForms insns.now }
         ensures clock { self.new.clock_calls ≡ self.old.clock_calls }
         ensures room { most_frames ≤ vec_capacity self.new.frames }
         ensures turn { (p : Program) (clock : ℕ → ℕ) → p.insns ≡ insns.now →
@@ -59,7 +62,8 @@ impl Core {
         clock: &mut C,
         limit: u32,
     ) -> End
-        requires { most_frames ≤ vec_capacity self.old.frames }
+        requires room { most_frames ≤ vec_capacity self.old.frames }
+        requires built { HasBuiltForms insns.now }
         ensures turn { (p : Program) → p.insns ≡ insns.now →
             turn p limit (C.at clock.old) head packet.old []
             ≡ record {

@@ -8,6 +8,7 @@ ghost use Rattle.isa_model.specs.Code.Registers.{reg_number};
 ghost use Rattle.isa_model.specs.Code.Instructions.{Program, reads};
 ghost use Rattle.isa_model.specs.Machine.States.{value_at};
 ghost use Rattle.isa_model.specs.Machine.Steps.{is_unset, act, performed};
+ghost use Rattle.checked_vm.specs.Built.{IsBuiltForm};
 ghost use Rattle.checked_vm.specs.Machine.{state_of, IsRunning, StaysRunning, PerformsIn};
 ghost use Rattle.checked_vm.specs.Outcomes.{IsStep};
 
@@ -39,8 +40,8 @@ impl Core {
         ensures { result ≡ list_any (λ r. is_unset (value_at self.now.regs (reg_number r)))
             (reads insn.now) }
     {
-        let (first, second, third) = insn.read();
-        self.lacks(first) || self.lacks(second) || self.lacks(third)
+        let (first, second, third, fourth) = insn.read();
+        self.lacks(first) || self.lacks(second) || self.lacks(third) || self.lacks(fourth)
     }
 
     /// What an instruction other than EXIT does, once its registers are set.
@@ -48,6 +49,7 @@ impl Core {
     fn act(&mut self, insn: &Insn, slots: usize, packet: &mut [u8]) -> Result<(), TrapReason>
         requires running { IsRunning self.old }
         requires other { insn.now ≢ Insn.Exit }
+        requires built { IsBuiltForm insn.now }
         requires slot { self.old.slot + 2 < 2 ^ 63 }
         requires serial { self.old.next_serial < 2 ^ 63 }
         ensures stays { StaysRunning self.old self.new }
@@ -89,7 +91,8 @@ impl Core {
                 self.enter(destination(self.slot, by, slots));
                 Ok(())
             }
-            Insn::Exit => unreachable!(),
+            Insn::LoadMap(_, _) | Insn::LoadMapValue(_, _, _) | Insn::CallHelper(_) | Insn::Exit =>
+                unreachable!(),
         }
     }
 
@@ -118,6 +121,7 @@ impl Core {
         requires running { IsRunning self.old }
         requires slot { self.old.slot + 2 < 2 ^ 63 }
         requires serial { self.old.next_serial < 2 ^ 63 }
+        requires built { IsBuiltForm insn.now }
         ensures stays { StaysRunning self.old self.new }
         ensures step { (p : Program) (clock : ℕ → ℕ) → length p.insns ≡ slots →
             IsStep (performed p clock (state_of self.old packet.old []) insn.now) result

@@ -260,7 +260,7 @@ fn commands_that_are_not_built(rt: HostRuntime) -> Result<(), Fail> {
 }
 
 // Files that are no images, and what standard output and standard error have.
-const NO_IMAGES: [(&[u8], &str, &str); 9] = [
+const NO_IMAGES: [(&[u8], &str, &str); 11] = [
     (b"", "refused I2\n", SHORT),
     (
         b"XBP2\0\0\x02\0\xb7\0\0\0\x02\0\0\0\x95\0\0\0\0\0\0\0",
@@ -268,9 +268,15 @@ const NO_IMAGES: [(&[u8], &str, &str); 9] = [
         "the bytes do not begin with XBP1\n",
     ),
     (
-        b"XBP1\x01\0\x02\0\xb7\0\0\0\x02\0\0\0\x95\0\0\0\0\0\0\0",
+        b"XBP1\x11\0\x02\0\xb7\0\0\0\x02\0\0\0\x95\0\0\0\0\0\0\0",
         "refused I4\n",
-        "the image has map rows, and maps are not supported yet\n",
+        "the image has more than 16 map rows\n",
+    ),
+    // the row of a hash map, and one of type 3
+    (
+        b"XBP1\x02\0\x01\0\x01\0\x04\0\x08\0\0\0\x01\0\0\0\x03\0\x04\0\x08\0\0\0\x01\0\0\0\x95\0\0\0\0\0\0\0",
+        "refused I5 map 1\n",
+        "a map row has an unknown type, or a size that is out of its limits\nmap 1\n",
     ),
     (
         b"XBP1\0\0\0\0\xb7\0\0\0\x02\0\0\0\x95\0\0\0\0\0\0\0",
@@ -287,7 +293,7 @@ const NO_IMAGES: [(&[u8], &str, &str); 9] = [
         "refused I3\n",
         "the image is longer than its counts say\n",
     ),
-    // an exit with another register than r0; no opcode; a call of a helper, which there is not
+    // an exit with another register than r0; no opcode; a call of neither a helper nor a function
     (
         b"XBP1\0\0\x01\0\x95\0\x01\0\0\0\0\0",
         "refused I8 slot 0 C4\n",
@@ -299,9 +305,15 @@ const NO_IMAGES: [(&[u8], &str, &str); 9] = [
         "the opcode is unknown\nslot 1\n",
     ),
     (
-        b"XBP1\0\0\x01\0\x85\0\0\0\x05\0\0\0",
+        b"XBP1\0\0\x01\0\x85\x20\0\0\x05\0\0\0",
         "refused I8 slot 0 C5\n",
-        "the selector is unknown; helper calls and map loads are not supported yet\nslot 0\n",
+        "the selector is unknown\nslot 0\n",
+    ),
+    // r1 = map_by_idx(0), and no map
+    (
+        b"XBP1\0\0\x02\0\x18\x51\0\0\0\0\0\0\0\0\0\0\0\0\0\0",
+        "refused I10 slot 0\n",
+        "the instruction names a map that has no row\nslot 0\n",
     ),
 ];
 
@@ -311,6 +323,20 @@ fn no_images(rt: HostRuntime) -> Result<(), Fail> {
     for (bytes, report, why) in NO_IMAGES.iter() {
         fs::write(&rt, "other", *bytes)?;
         answers(&rt, &["trace", "other", "frames", "sent"], 2, *report, *why)?;
+    }
+    remove_files(&rt)
+}
+
+/// A program with a map is verified and not yet run, and the outputs get nothing.
+#[test]
+fn maps_are_not_run_yet(rt: HostRuntime) -> Result<(), Fail> {
+    write_files(&rt)?;
+    write_program(&rt, "other", "map hash 4 8 1; r0 = 2; exit")?;
+    answers(&rt, &["verify", "other"], 0, "ok bound 2\n", "")?;
+    let said = "programs with maps or helpers are not run yet\n";
+    for command in ["run", "trace"] {
+        answers(&rt, &[command, "other", "frames", "sent"], 1, "", said)?;
+        assert_eq!(rt; fs::read(&rt, "sent")?.len(), 0);
     }
     remove_files(&rt)
 }

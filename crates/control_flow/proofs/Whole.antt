@@ -3,7 +3,7 @@ use Rattle.std.proofs.Common.{◌≡◌, ℕ, ◌+◌, ◌<◌, ◌≤◌, Bool,
 use Rattle.std.specs.Prelude.{◌↔◌, ◌⊎◌, ◌≢◌, slice_index_or}
 use Rattle.std.proofs.lemmas.Bool.{cases_lt, cases_eq, cases_Bool}
 use Rattle.isa_model.specs.declared.instructions.Insn.{Insn}
-use Rattle.isa_model.specs.declared.instructions.Insn.TheVariants.{LoadNumber}
+use Rattle.isa_model.specs.declared.instructions.Insn.TheVariants.{LoadNumber, LoadMap, LoadMapValue}
 use Rattle.isa_model.specs.Code.Instructions.{Program, fetch, slots_of}
 use Rattle.image.specs.Images.{IsImage}
 use Rattle.image.specs.ImageLaws.{fetch-next, fetch-second}
@@ -82,6 +82,8 @@ function-BeginsInsn p a b f (inr (from, call)) other = target-BeginsInsn p a b f
 
 slots_of-cases : (i : Insn) → (slots_of i ≡ 1) ⊎ (slots_of i ≡ 2)
 slots_of-cases (LoadNumber d n) = inr refl
+slots_of-cases (LoadMap d m) = inr refl
+slots_of-cases (LoadMapValue d m offset) = inr refl
 slots_of-cases i = inl refl
 
 -- no function begins between a slot and the one after its instruction, nor there

@@ -5,7 +5,7 @@ use Rattle.std.specs.Option.{option_map, option_and_then, option_flatten}
 use Rattle.std.proofs.lemmas.Bool.{cases_lt, cases_order}
 use Rattle.std.proofs.lemmas.Option.{slice_get_past, cond_some}
 use Rattle.isa_model.specs.declared.instructions.Insn.{Insn}
-use Rattle.isa_model.specs.declared.instructions.Insn.TheVariants.{LoadNumber}
+use Rattle.isa_model.specs.declared.instructions.Insn.TheVariants.{LoadNumber, LoadMap, LoadMapValue}
 use Rattle.isa_model.specs.Code.Instructions.{Program, fetch, slots_of}
 use Rattle.isa_model.specs.Machine.Steps.{destination}
 use Rattle.isa_model.specs.Machine.Successors.{jump_distance, falls_through, Follows}
@@ -147,6 +147,8 @@ IsFlow-EndsFunction p slot to up begins same (inr function) =
 
 slots_of-some : (i : Insn) → 1 ≤ slots_of i
 slots_of-some (LoadNumber d n) = omega arith
+slots_of-some (LoadMap d m) = omega arith
+slots_of-some (LoadMapValue d m offset) = omega arith
 slots_of-some i = omega arith
 
 -- control falls through upwards

@@ -2,14 +2,15 @@
 ghost use Rattle.std.specs.Prelude.{◌≡◌, ◌≢◌, ◌≤◌};
 ghost use Rattle.isa_model.specs.Running.Runs.{max_steps};
 ghost use Rattle.isa_model.specs.Reporting.Reports.{checked_report};
-ghost use Rattle.host.specs.Reported.{Reports};
+ghost use Rattle.checked_vm.specs.Built.{IsBuilt};
+ghost use Rattle.host.specs.Reported.{Reports, HasNoMachine};
 
 use super::clocks::FrameClock;
 use super::engine::run_frames;
 use super::errors::HostError;
 use super::runners::Runner;
 use super::tallies::Tally;
-use checked_vm::checked::Checked;
+use checked_vm::{Checked, VmError};
 use image::Image;
 use isa_model::{End, FrameHead};
 use std::alloc::Global;
@@ -56,19 +57,23 @@ pub fn run_checked<R: Read + Drop, W1: Write, W2: Write>(
 ) -> Result<Tally, HostError>
     requires some { 1 ≤ limit }
     requires most { limit ≤ max_steps }
-    ensures report_untouched { result ≡ Err HostError.Memory
+    // A program is run exactly if it has neither maps nor helpers, running out of memory aside.
+    ensures built { result ≢ Err HostError.NotBuilt → IsBuilt image }
+    ensures not_built { result ≡ Err HostError.NotBuilt → ¬ IsBuilt image }
+
+    // Where no machine was made no byte was written, and otherwise the report was.
+    ensures report_untouched { HasNoMachine result
         → W1.contents report.new ≡ W1.contents report.old }
-    ensures out_untouched { result ≡ Err HostError.Memory
-        → W2.contents out.new ≡ W2.contents out.old }
-    ensures reports { result ≢ Err HostError.Memory
+    ensures out_untouched { HasNoMachine result → W2.contents out.new ≡ W2.contents out.old }
+    ensures reports { ¬ HasNoMachine result
         → Reports (R.remaining source) (checked_report image limit)
         record { report = W1.contents report.old; frames = W2.contents out.old }
         record { report = W1.contents report.new; frames = W2.contents out.new } result }
 {
-    // What this call says of the image: it is one, so it has no maps.
-    let _slots = image.slots();
-    let Ok(machine) = Checked::new(alloc, image) else {
-        return Err(HostError::Memory);
+    let machine = match Checked::new(alloc, image) {
+        Ok(machine) => machine,
+        Err(VmError::Memory) => return Err(HostError::Memory),
+        Err(VmError::NotBuilt) => return Err(HostError::NotBuilt),
     };
     let mut runner = CheckedRunner { machine, limit };
     run_frames(&mut runner, limit, source, report, out)

@@ -1,12 +1,12 @@
 //! The run over all frames of a stream, written once for every machine. It takes no memory.
-ghost use Rattle.std.specs.Prelude.{◌≡◌, ◌≢◌, ◌≤◌, [], length, OnOk, OnErr, IfOk, IfErr};
+ghost use Rattle.std.specs.Prelude.{◌≡◌, ◌≤◌, [], length, OnOk, OnErr, IfOk, IfErr};
 ghost use Rattle.std.specs.Io.KnownBytes.{Appends};
 ghost use Rattle.exact_io.specs.Transfers.{AppendsBeginning};
 ghost use Rattle.isa_model.specs.{max_body};
 ghost use Rattle.isa_model.specs.Reporting.Reports.{frame_pieces, last_line, is_sent, report_of};
 ghost use Rattle.host.specs.Tallies.{tally_of};
 ghost use Rattle.host.specs.Writing.{Writes};
-ghost use Rattle.host.specs.Reported.{Reports};
+ghost use Rattle.host.specs.Reported.{Reports, HasNoMachine};
 
 use super::errors::HostError;
 use super::lines::{line_of_finish, line_of_frame};
@@ -47,7 +47,7 @@ fn run_frame<M: Runner, W1: Write, W2: Write>(
         ≡ (M.rule machine.old head body.old (M.contents machine.old)).contents }
     ensures rule { M.rule machine.new ≡ M.rule machine.old }
     ensures rows { M.rows machine.new ≡ M.rows machine.old }
-    ensures kind { result ≢ Err HostError.Memory }
+    ensures made { ¬ HasNoMachine result }
 {
     let size = body.len();
     let end = machine.run(head, body);
@@ -73,6 +73,7 @@ fn end_run<W1: Write>(number: u32, finish: Finish, report: &mut W1) -> Result<Ta
     ensures err { OnErr result (AppendsBeginning (W1.contents report.old) (W1.contents report.new)
         (last_line number finish)) }
     ensures kind { IfErr result (λ error. error ≡ HostError.Report) }
+    ensures made { ¬ HasNoMachine result }
 {
     let line = line_of_finish(number, finish);
     match write_bytes(report, line.as_str().as_bytes()) {
@@ -104,7 +105,7 @@ pub fn run_frames<M: Runner, R: Read + Drop, W1: Write, W2: Write>(
         (M.contents machine.old) found)
         record { report = W1.contents report.old; frames = W2.contents out.old }
         record { report = W1.contents report.new; frames = W2.contents out.new } result }
-    ensures memory { result ≢ Err HostError.Memory }
+    ensures made { ¬ HasNoMachine result }
 {
     match write_bytes(out, b"XPF1") {
         Ok(()) => {}

@@ -8,15 +8,16 @@ use Rattle.isa_model.specs.Machine.States.{Entries}
 use Rattle.isa_model.specs.Reporting.Streams.{max_body}
 use Rattle.isa_model.specs.Running.Runs.{Turn, turn}
 use Rattle.isa_model.specs.Running.RunLaws.{turn-outcome}
-use Rattle.isa_model.specs.Machine.MachineStates.{AreBytes, FitRows, IsClock, IsGiven}
+use Rattle.isa_model.specs.Machine.MachineStates.{AreBytes, IsClock, IsGiven}
 use Rattle.isa_model.specs.Running.Outcomes.{ExitsWithin, ExitsWithin-StartsEnd, FitRows-HasOutcome}
 use Rattle.isa_model.specs.Reporting.Reports.{turn_by, starting_contents}
 use Rattle.image.specs.Programs.{IsProgram-IsImage, FitRows-starting_contents}
 use Rattle.explorer.specs.Bounds.{Bounded, IsVerified}
 use Rattle.machine.specs.Running.{Running, IsRunning, Answers}
 
--- what a run is given, and the outcome that it has
+-- what a run is given, with its clock, and the outcome that it has
 pub record Goes (r : Running) (head : FrameHead) (packet : List ℕ) (clock : ℕ → ℕ) : Type 0 where
+  clock_is : IsClock clock
   given : IsGiven r.program head packet r.contents
   exit : ExitsWithin r.program r.bound head packet r.contents clock
   same : turn r.program r.bound clock head packet r.contents ≡ turn_by exit.outcome
@@ -26,7 +27,7 @@ pub goes : (r : Running) (head : FrameHead) (packet : List ℕ) (clock : ℕ →
 goes r head packet clock fits h short bytes interface queue =
     let given : IsGiven r.program head packet r.contents = record { short = short; bytes = bytes; interface = interface; queue = queue; maps = h.fits } in
     let exit = ExitsWithin-StartsEnd r.program r.bound head packet r.contents clock h.ends fits given in
-    record { given = given; exit = exit; same = turn-outcome r.program head packet r.contents clock exit.outcome r.bound exit.found exit.few }
+    record { clock_is = fits; given = given; exit = exit; same = turn-outcome r.program head packet r.contents clock exit.outcome r.bound exit.found exit.few }
 
 -- a run ends by an exit
 pub always_exits : (r : Running) (head : FrameHead) (packet : List ℕ) (clock : ℕ → ℕ) (e : End) → Goes r head packet clock
@@ -40,7 +41,7 @@ pub still_running : (r : Running) (head : FrameHead) (packet : List ℕ) (clock 
     → IsRunning (record { program = p; bound = r.bound; contents = left })
 still_running r head packet clock p left h g same is_left =
     let o = g.exit.outcome in
-    let fits = FitRows-HasOutcome r.program head packet r.contents clock o h.is_program g.given g.exit.found in
+    let fits = FitRows-HasOutcome r.program head packet r.contents clock o h.is_program g.clock_is g.given g.exit.found in
     let left_is : left ≡ o.contents = is_left ∙ ap (λ (t : Turn). t.contents) g.same in
     rw (same, left_is) record { is_program = h.is_program; ends = h.ends; some = h.some; most = h.most; fits = fits }
 

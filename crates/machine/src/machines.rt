@@ -1,13 +1,14 @@
 //! Machines, and their runs.
 
-ghost use Rattle.std.specs.Prelude.{◌≡◌, ◌<◌, ◌≤◌, ◌^◌, length, IfOk};
+ghost use Rattle.std.specs.Prelude.{◌≡◌, ◌<◌, ◌≤◌, ◌^◌, length, IfOk, IfErr};
 ghost use Rattle.isa_model.specs.Reporting.Streams.{max_body};
 ghost use Rattle.isa_model.specs.Machine.MachineStates.{AreBytes};
 ghost use Rattle.isa_model.specs.Reporting.Reports.{starting_contents};
-ghost use Rattle.machine.specs.Running.{Answers, IsRunning};
+ghost use Rattle.checked_vm.specs.Built.{IsBuilt};
+ghost use Rattle.machine.specs.Running.{Answers, IsRunning, IsRefusal};
 
 use super::errors::VmError;
-use checked_vm::Checked;
+use checked_vm::{Checked, VmError as CheckedError};
 use explorer::Verified;
 use isa_model::{Clock, End, FrameHead};
 use std::alloc::Global;
@@ -62,17 +63,20 @@ fn in_range(head: FrameHead, packet: &[u8])
 impl Machine {
     /// Makes all room that runs fill.
     pub fn new(alloc: Global, verified: Verified) -> Result<Self, VmError>
-        ensures { IfOk result (λ machine. machine ≡ record {
+        ensures made { IfOk result (λ machine. machine ≡ record {
           program = verified.program;
           bound = verified.bound;
           contents = starting_contents verified.program.maps;
         }) }
+        ensures built { IfOk result (λ _. IsBuilt verified.program) }
+        ensures refused { IfErr result (IsRefusal verified.program) }
     {
         let bound = verified.bound();
         let image = verified.into_image();
         match Checked::new(alloc, image) {
             Ok(checked) => Ok(Machine { checked, bound }),
-            Err(_) => Err(VmError::Memory),
+            Err(CheckedError::Memory) => Err(VmError::Memory),
+            Err(CheckedError::NotBuilt) => Err(VmError::NotBuilt),
         }
     }
 

@@ -3,7 +3,7 @@ use Rattle.std.specs.Prelude.{ℕ, Bool, true, false, List, ◌++◌, length, co
 use Rattle.isa_model.specs.{Program}
 use Rattle.insn_codec.specs.Messages as codec
 use Rattle.image.specs.declared.errors.ImageError.{ImageError}
-use Rattle.image.specs.declared.errors.ImageError.TheVariants.{Code}
+use Rattle.image.specs.declared.errors.ImageError.TheVariants.{Code, MapRow, UnknownMap, ValuePointer}
 use Rattle.image.specs.Messages as image
 use Rattle.control_flow.specs.declared.errors.FlowError.TheVariants as flow
 use Rattle.explorer.specs.declared.refusals.Refusal.{Refusal}
@@ -17,6 +17,12 @@ abbrev pub image_line : ImageError → List ℕ
 image_line (Code slot error) =
     codes "refused " ++ (image.code_of (Code slot error)
     ++ (codes " slot " ++ (decimal slot ++ (codes " " ++ (codec.code_of error ++ codes "\n")))))
+image_line (MapRow index) =
+    codes "refused " ++ (image.code_of (MapRow index) ++ (codes " map " ++ (decimal index ++ codes "\n")))
+image_line (UnknownMap slot) =
+    codes "refused " ++ (image.code_of (UnknownMap slot) ++ (codes " slot " ++ (decimal slot ++ codes "\n")))
+image_line (ValuePointer slot) =
+    codes "refused " ++ (image.code_of (ValuePointer slot) ++ (codes " slot " ++ (decimal slot ++ codes "\n")))
 image_line error = codes "refused " ++ (image.code_of error ++ codes "\n")
 
 -- a program is refused, at a slot

@@ -3,7 +3,7 @@ use Rattle.std.specs.Prelude.{ℕ, List, [], ◌++◌, Option, Some, None, codes
 use Rattle.isa_model.specs.declared.instructions.Insn.{Insn}
 use Rattle.isa_model.specs.Text.CanonicalText.{line_of}
 use Rattle.image.specs.declared.errors.ImageError.{ImageError}
-use Rattle.image.specs.declared.errors.ImageError.TheVariants.{Code}
+use Rattle.image.specs.declared.errors.ImageError.TheVariants.{Code, MapRow, UnknownMap, ValuePointer}
 use Rattle.image.specs.Messages as image
 use Rattle.explorer.specs.Messages as explorer
 use Rattle.assembler.specs.Messages as assembler
@@ -29,9 +29,15 @@ abbrev pub text_place : ℕ → ℕ → List ℕ
 text_place line column =
     (codes "line " ++ (decimal line ++ codes " ")) ++ (codes "column " ++ (decimal column ++ codes "\n"))
 
--- an image is refused at a slot, or as a whole
+abbrev pub map_place : ℕ → List ℕ
+map_place index = codes "map " ++ (decimal index ++ codes "\n")
+
+-- an image is refused at a slot, at a map row, or as a whole
 abbrev pub image_place : ImageError → List ℕ
 image_place (Code slot error) = slot_place slot None
+image_place (MapRow index) = map_place index
+image_place (UnknownMap slot) = slot_place slot None
+image_place (ValuePointer slot) = slot_place slot None
 image_place error = []
 
 abbrev pub place_of : Rejection → List ℕ

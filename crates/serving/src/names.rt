@@ -19,6 +19,10 @@ pub fn image_line(alloc: Global, error: ImageError) -> Result<String, AllocError
             let inner = error.code();
             format!(in alloc; "refused {name} slot {slot} {inner}\n")
         }
+        ImageError::MapRow(index) => format!(in alloc; "refused {name} map {index}\n"),
+        ImageError::UnknownMap(slot) | ImageError::ValuePointer(slot) => {
+            format!(in alloc; "refused {name} slot {slot}\n")
+        }
         _ => format!(in alloc; "refused {name}\n"),
     }
 }

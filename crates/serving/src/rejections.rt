@@ -4,7 +4,8 @@ ghost use Rattle.std.specs.Prelude.{◌≡◌, ◌++◌, OnOk, OnErr, codes, dec
 ghost use Rattle.std.specs.Io.KnownBytes.{Appends};
 ghost use Rattle.isa_model.specs.Text.CanonicalText as canonical;
 ghost use Rattle.exact_io.specs.Transfers.{AppendsBeginning};
-ghost use Rattle.serving.specs.Messages.{sentence_of, insn_place, text_place, place_of, reason_of};
+ghost use Rattle.serving.specs.Messages.{sentence_of, map_place, insn_place, text_place, place_of};
+ghost use Rattle.serving.specs.Messages.{reason_of};
 
 use super::texts::write_texts;
 use assembler::AsmError;
@@ -46,7 +47,12 @@ impl Rejection {
             (AppendsBeginning (W.contents err.old) (W.contents err.new) (place_of self)) }
     {
         match self {
-            Rejection::Image(ImageError::Code(slot, _)) => say_slot(err, slot, "\n"),
+            Rejection::Image(ImageError::MapRow(index)) => say_map(err, index),
+            Rejection::Image(
+                ImageError::Code(slot, _)
+                | ImageError::UnknownMap(slot)
+                | ImageError::ValuePointer(slot),
+            ) => say_slot(err, slot, "\n"),
             Rejection::Image(_) => Ok(()),
             Rejection::Program(_, slot, None) => say_slot(err, slot, "\n"),
             Rejection::Program(_, slot, Some(insn)) => say_insn(err, slot, &insn),
@@ -64,6 +70,17 @@ impl Rejection {
         write_texts(err, "", self.sentence(), "\n")?;
         self.say_place(err)
     }
+}
+
+// Writes the index of a map.
+fn say_map<W: Write>(err: &mut W, index: usize) -> io::Result<()>
+    ensures ok { OnOk result (Appends (W.contents err.old) (W.contents err.new)
+        (map_place index)) }
+    ensures err { OnErr result (AppendsBeginning (W.contents err.old) (W.contents err.new)
+        (map_place index)) }
+{
+    let mut buffer = Buffer::new();
+    write_texts(err, "map ", buffer.format(index as u64), "\n")
 }
 
 // Writes a slot, and then a text.

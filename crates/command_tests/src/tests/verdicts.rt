@@ -71,7 +71,7 @@ const REFUSED: [(&str, &str, &str); 8] = [
     (
         "r0 = r10; exit",
         "refused V17 slot 1\n",
-        "r0 is unset or a pointer at the exit\nslot 1: exit\n",
+        "r0 is no number at the last exit, or points into the frame that ends\nslot 1: exit\n",
     ),
     (
         "r0 = 0x1 ll; goto -2",

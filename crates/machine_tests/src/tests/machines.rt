@@ -4,7 +4,7 @@ use super::clocks::Stopped;
 use assembler::assemble;
 use explorer::verify;
 use isa_model::FrameHead;
-use machine::{Exit, Machine};
+use machine::{Exit, Machine, VmError};
 use std::alloc::Global;
 use std::test::Fail;
 
@@ -36,6 +36,59 @@ fn runs_differ_by_interface(rt: HostRuntime) -> Result<(), Fail> {
             steps: *steps,
         };
         assert_eq!(rt; machine.run(head, &mut [], &mut Stopped), exit);
+    }
+    Ok(())
+}
+
+#[test]
+fn maps_are_not_built(rt: HostRuntime) -> Result<(), Fail> {
+    let image = assemble(rt.alloc(), b"map hash 4 8 1; r0 = 2; exit")?;
+    match verify(rt.alloc(), image) {
+        Ok(verified) => {
+            assert_eq!(rt;
+                Machine::new(rt.alloc(), verified).err(),
+                Some(VmError::NotBuilt)
+            );
+            Ok(())
+        }
+        Err((refusal, _slot)) => Err(Fail::from(refusal)),
+    }
+}
+
+/// Programs with functions of their own: the bound, and r0 and the steps of a run.
+const FUNCTIONS: [(&str, u32, u64, u32); 3] = [
+    ("r1 = 5; call pc+1; exit; r0 = r1; r0 -= 3; exit", 6, 2, 6),
+    (
+        "*(u64 *)(r10 - 8) = 2; r1 = r10; r1 += -8; call pc+1; exit; r0 = *(u64 *)(r1 + 0); exit",
+        7,
+        2,
+        7,
+    ),
+    // a function that sees interface 5 answers at once
+    (
+        "r1 = *(u32 *)(r1 + 12); r6 = r1; call pc+2; r0 += r6; exit
+         r0 = 2; if r1 == 5 goto +1; r0 = 1; exit",
+        9,
+        7,
+        8,
+    ),
+];
+
+#[test]
+fn functions_run_within_their_bounds(rt: HostRuntime) -> Result<(), Fail> {
+    for (text, bound, r0, steps) in FUNCTIONS.iter() {
+        let mut machine = machine_of(rt.alloc(), *text)?;
+        assert_eq!(rt; machine.bound(), *bound, "{text}");
+        let head = FrameHead {
+            time: 0,
+            interface: 5,
+            queue: 7,
+        };
+        let exit = Exit {
+            r0: *r0,
+            steps: *steps,
+        };
+        assert_eq!(rt; machine.run(head, &mut [], &mut Stopped), exit, "{text}");
     }
     Ok(())
 }

@@ -13,6 +13,9 @@ use stumbling_io::{Reader, STUMBLES, Stumble, Writer};
 // Passes each frame.
 const PASSES: &str = "r0 = 2; exit";
 
+// The same with a map.
+const MAPPED: &str = "map hash 4 8 1; r0 = 2; exit";
+
 // Turns the two bytes of a frame round, and passes it. It drops longer frames.
 const TURNS: &str = "
     r2 = *(u32 *)(r1 + 0); r3 = *(u32 *)(r1 + 4)
@@ -279,10 +282,11 @@ fn last_lines(rt: HostRuntime) -> Result<(), Fail> {
 // What a verified program's run on two frames answers.
 fn verified(
     alloc: Global,
+    text: &str,
     report: &mut Writer,
     out: &mut Writer,
 ) -> Result<Result<Tally, HostError>, Fail> {
-    let program = verify(alloc, program(alloc, PASSES)?)?;
+    let program = verify(alloc, program(alloc, text)?)?;
     Ok(run(alloc, program, TWO.as_slice(), report, out))
 }
 
@@ -299,7 +303,7 @@ fn verified_programs_run(rt: HostRuntime) -> Result<(), Fail> {
     for (room, wanted, lines, sent) in VERIFIED.iter() {
         let mut report = make_writer(rt.alloc(), *room, Some(Stumble::Nothing));
         let mut out = make_writer(rt.alloc(), 0, None);
-        let result = verified(rt.alloc(), &mut report, &mut out)?;
+        let result = verified(rt.alloc(), PASSES, &mut report, &mut out)?;
         let tally = wanted.map(|frames| Tally {
             frames,
             fault: None,
@@ -307,6 +311,25 @@ fn verified_programs_run(rt: HostRuntime) -> Result<(), Fail> {
         assert_eq!(rt; result, tally);
         assert_eq!(rt; report.taken.as_slice(), *lines);
         assert_eq!(rt; out.taken.as_slice(), *sent);
+    }
+    Ok(())
+}
+
+// No machine has maps yet, and where none is made nothing is written.
+#[test]
+fn maps_are_not_built(rt: HostRuntime) -> Result<(), Fail> {
+    let alloc = rt.alloc();
+    for accepted in [false, true] {
+        let mut report = make_writer(alloc, 0, None);
+        let mut out = make_writer(alloc, 0, None);
+        let result = if accepted {
+            verified(alloc, MAPPED, &mut report, &mut out)?
+        } else {
+            checked(alloc, MAPPED, 100, ONE.as_slice(), &mut report, &mut out)?
+        };
+        assert_eq!(rt; result, Err(HostError::NotBuilt), "accepted {accepted}");
+        assert!(rt; report.taken.as_slice().is_empty());
+        assert!(rt; out.taken.as_slice().is_empty());
     }
     Ok(())
 }
