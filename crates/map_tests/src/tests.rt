@@ -1,4 +1,5 @@
 //! A module for each subject that is tested.
 
 mod answers;
+mod orders;
 mod stores;

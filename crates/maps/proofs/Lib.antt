@@ -1,1 +1,2 @@
 pub mod KeyLemmas
+pub mod AllMaps

@@ -2,6 +2,7 @@ pub mod Rows
 pub mod RowLaws
 pub mod Slots
 pub mod SlotLaws
+pub mod KeyOrder
 pub mod KeyLaws
 pub mod ScanLaws
 pub mod ArrayPlaces
@@ -9,6 +10,7 @@ pub mod ArrayLaws
 pub mod Either
 pub mod Contents
 pub mod ContentLaws
+pub mod ReportOrder
 pub mod LastBelow
 pub mod Chains
 pub mod ChainLaws
@@ -18,3 +20,6 @@ pub mod Changes
 pub mod UpdateLaws
 pub mod Commands
 pub mod CommandLaws
+pub mod Maps
+pub mod StoreStates
+pub mod Messages

@@ -21,6 +21,13 @@ impl ArrayIndex {
     {
         ArrayIndex { entries }
     }
+
+    /// How many indexes there are.
+    pub fn entries(&self) -> u32
+        ensures { result ≡ self.now.entries }
+    {
+        self.entries
+    }
 }
 
 impl Index for ArrayIndex {

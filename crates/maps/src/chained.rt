@@ -1,11 +1,12 @@
 //! Keys found by chains.
 
 ghost use Rattle.std.specs.Prelude.{◌≡◌, ℕ, ◌+◌, ◌-◌, ◌<◌, ◌≤◌, length, None, IfOk, IfSome};
-ghost use Rattle.std.specs.Prelude.{slice_index_or, vec_capacity};
+ghost use Rattle.std.specs.Prelude.{slice_index_or, vec_capacity, is_some, true, Some};
 ghost use Rattle.std.specs.FinMap as map;
 ghost use Rattle.slab.specs.Slab.{get, slab_len};
 ghost use Rattle.isa_model.specs.declared.map_defs.MapKind.TheVariants.{Hash};
 ghost use Rattle.maps.specs.Slots.{places, slot};
+ghost use Rattle.maps.specs.KeyOrder.{used_places};
 ghost use Rattle.maps.specs.Chains.{spot};
 ghost use Rattle.maps.specs.ChainIndexes.{IsChainIndex, HasKey};
 
@@ -54,6 +55,39 @@ impl ChainIndex {
         let chains = Chains::new(alloc, entries.max(1), entries)?;
         let free = all_places(alloc, entries)?;
         Ok(ChainIndex { keys, chains, free })
+    }
+
+    /// The key of a place that has one.
+    pub fn key(&self, place: usize) -> &[u8]
+        requires { is_some (slot self.now.keys.slots place) ≡ true }
+        ensures key { slot self.now.keys.slots place ≡ Some result.now }
+        ensures size { length result.now ≡ self.now.keys.size }
+    {
+        self.keys.key(place)
+    }
+
+    // Fills a list that has room with the places that have a key.
+    fn list_used(&self, list: &mut Vec<usize>)
+        requires { length self.now.keys.slots ≤ vec_capacity list.old }
+        ensures places { list.new.items ≡ used_places 0 self.now.keys.slots }
+        ensures capacity { vec_capacity list.new ≡ vec_capacity list.old }
+    {
+        list.clear();
+        for i in 0..self.keys.places() {
+            if self.keys.is_used(i) {
+                list.push_reserved(i);
+            }
+        }
+    }
+
+    /// Fills a list that has room with the places of all keys, in the order of the keys.
+    pub fn list(&self, list: &mut Vec<usize>)
+        requires { length self.now.keys.slots ≤ vec_capacity list.old }
+        ensures places { list.new.items ≡ map.values (places self.now.keys.slots) }
+        ensures capacity { vec_capacity list.new ≡ vec_capacity list.old }
+    {
+        self.list_used(list);
+        self.keys.sort_places(list.as_mut_slice());
     }
 
     // The number of the link whose place has the key.

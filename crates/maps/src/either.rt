@@ -1,11 +1,15 @@
 //! The index that a map's row asks for.
 
-ghost use Rattle.std.specs.Prelude.{◌≡◌, IfOk};
-ghost use Rattle.isa_model.specs.declared.map_defs.MapKind.TheVariants.{Array};
+ghost use Rattle.std.specs.Prelude.{◌≡◌, ◌≤◌, IfOk, length, vec_capacity};
+ghost use Rattle.std.specs.List.{slice_get};
+ghost use Rattle.std.specs.Option.{option_map};
+ghost use Rattle.isa_model.specs.declared.map_defs.MapKind.TheVariants.{Hash, Array};
 
 use crate::arrays::ArrayIndex;
 use crate::chained::ChainIndex;
 use crate::index::Index;
+use crate::keys::put_bytes;
+use byteorder::{ByteOrder, LittleEndian};
 use isa_model::{MapDef, MapKind};
 use std::alloc::{AllocError, Global};
 
@@ -19,6 +23,7 @@ pub enum EitherIndex {
 impl EitherIndex {
     ghost use Rattle.maps.specs.Either.{kind_of, key_size_of, room_of, places_of};
     ghost use Rattle.maps.specs.Contents.{starting_places};
+    ghost use Rattle.maps.specs.ReportOrder.{IsList, listed_of, with_key_of};
 
     /// The index of a map as it starts.
     pub fn new(alloc: Global, row: MapDef) -> Result<Self, AllocError>
@@ -33,6 +38,43 @@ impl EitherIndex {
             MapKind::Hash => {
                 let index = ChainIndex::new(alloc, row.key_size, row.entries)?;
                 Ok(EitherIndex::Chain(index))
+            }
+        }
+    }
+
+    /// Fills a list that has room with the places of a hash map's keys, in the order of the keys.
+    pub fn list(&self, list: &mut Vec<usize>)
+        requires { kind_of self.now ≡ Hash → room_of self.now ≤ vec_capacity list.old }
+        ensures places { IsList self.now list.new.items }
+        ensures capacity { vec_capacity list.new ≡ vec_capacity list.old }
+    {
+        if let EitherIndex::Chain(index) = self {
+            index.list(list);
+        }
+    }
+
+    /// Puts a key into the front of some bytes, and answers its place: that of an array by its
+    /// index, that of a hash map by its number in the list of all places.
+    pub fn entry(&self, list: &[usize], k: usize, key: &mut [u8]) -> Option<usize>
+        requires list { IsList self.now list.now }
+        requires room { key_size_of self.now ≤ length key.old }
+        ensures place { result ≡ option_map (λ e. e.1) (slice_get (listed_of self.now) k) }
+        ensures key { key.new ≡ with_key_of (slice_get (listed_of self.now) k) key.old }
+    {
+        match self {
+            EitherIndex::Array(index) => {
+                if k >= index.entries() as usize {
+                    return None;
+                }
+                LittleEndian::write_u32(key, k as u32);
+                Some(k)
+            }
+            EitherIndex::Chain(index) => {
+                if k >= list.len() {
+                    return None;
+                }
+                put_bytes(key, 0, index.key(list[k]));
+                Some(list[k])
             }
         }
     }

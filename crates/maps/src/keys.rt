@@ -1,8 +1,11 @@
 //! Keys of one size in a block, by place.
 
 ghost use Rattle.std.specs.Prelude.{◌≡◌, ◌+◌, ◌*◌, ◌≤◌, ◌<◌, length, Some, None, IfOk, replicate};
-ghost use Rattle.std.specs.Prelude.{slice_set, is_some, true};
+ghost use Rattle.std.specs.Prelude.{slice_set, is_some, true, IsPermutation};
 ghost use Rattle.std.specs.List.{splice};
+ghost use Rattle.std.specs.List.Sorted.{IsSortedByKey};
+ghost use Rattle.isa_model.specs.Machine.MapContents.{key_order};
+ghost use Rattle.maps.specs.KeyOrder.{key_or_none};
 ghost use Rattle.maps.specs.Slots.{KeyTable, slot, slots_of};
 
 use std::alloc::{AllocError, Global};
@@ -66,10 +69,33 @@ impl Keys {
     /// The key of a place that has one.
     pub fn key(&self, place: usize) -> &[u8]
         requires { is_some (slot self.now.slots place) ≡ true }
-        ensures { slot self.now.slots place ≡ Some result.now }
+        ensures key { slot self.now.slots place ≡ Some result.now }
+        ensures size { length result.now ≡ self.now.size }
     {
         let start = place * self.size;
         &self.block[start..start + self.size]
+    }
+
+    /// The key of a place, or no bytes where it has none.
+    pub fn key_or_none(&self, place: usize) -> &[u8]
+        ensures { result.now ≡ key_or_none self.now.slots place }
+    {
+        if place >= self.places() {
+            return &[];
+        }
+        if self.is_used(place) {
+            self.key(place)
+        } else {
+            &[]
+        }
+    }
+
+    /// Puts places in the order of their keys.
+    pub fn sort_places(&self, places: &mut [usize])
+        ensures permutation { IsPermutation places.old places.new }
+        ensures sorted { IsSortedByKey (key_or_none self.now.slots) key_order places.new }
+    {
+        places.sort_unstable_by(|a, b| self.key_or_none(*a).cmp(self.key_or_none(*b)));
     }
 
     /// Gives a place a key.

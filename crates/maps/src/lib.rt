@@ -4,23 +4,29 @@
 //! that place. All room is reserved when a map is made; no later call takes memory.
 #![tactic(auto)]
 
+pub mod all;
 pub mod arrays;
 pub mod chained;
 mod chains;
 pub mod commands;
 pub mod either;
+pub mod errors;
 mod hashing;
 mod helpers;
 pub mod index;
 mod keys;
+pub mod ordered;
 pub mod scan;
 pub mod store;
 
+pub use all::Maps;
 pub use arrays::ArrayIndex;
 pub use chained::ChainIndex;
 pub use commands::{Command, Reply, replies};
 pub use either::EitherIndex;
+pub use errors::MapError;
 pub use helpers::{delete, lookup, update};
 pub use index::Index;
+pub use ordered::Ordered;
 pub use scan::ScanIndex;
 pub use store::{ArrayMap, HashMapChain, HashMapScan, MapStore, Store};

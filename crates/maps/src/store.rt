@@ -125,6 +125,13 @@ impl<I: Index> Store<I> {
         Ok(Store { row, index, values })
     }
 
+    /// The index of the keys.
+    pub fn index(&self) -> &I
+        ensures { result.now ≡ self.now.index }
+    {
+        &self.index
+    }
+
     /// The values of all places, place after place.
     pub fn block(&self) -> &[u8]
         ensures { result.now ≡ self.now.values.items }

@@ -35,7 +35,7 @@ loop-next-preserved c =
     let l = c.link-link.result in
     left_next s.keys.slots s.free.items s.chains.count (get s.chains.links) s.index c.args.key.now c.loop-next.next c.loop-next.invariant c.in-Some.at l c.in-Some.is c.link-link.ensures
     (λ h.
-    let f : Some c.key.result.now ≡ Some c.args.key.now = sym c.key.ensures ∙ h in
+    let f : Some c.key.result.now ≡ Some c.args.key.now = sym c.key.ensures.key ∙ h in
     let same : c.key.result.now ≡ c.args.key.now = cc in
     let t : pointwise nat_eq c.key.result.now c.args.key.now ≡ true = (bytes_decides c.key.result.now c.args.key.now).1 same in
     let g = c.eq.ensures in

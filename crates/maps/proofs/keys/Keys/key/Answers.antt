@@ -1,4 +1,5 @@
 use Rattle.std.proofs.Common.{◌≡◌, ℕ, ◌+◌, ◌*◌, ◌-◌, ◌≤◌, List, length, take, drop, ap, sym, ◌∙◌, arith, true, Bool, Some}
+use Rattle.std.proofs.lemmas.List.{length-take, length-drop}
 use Rattle.std.specs.Prelude.{is_some}
 use Rattle.maps.specs.Rows.{row_at}
 use Rattle.maps.specs.RowLaws.{row_end}
@@ -40,8 +41,19 @@ slice_bounds-result-end c =
     let e = ap length c.deref.ensures.value in
     omega arith
 
-pub returns : goal.returns
-returns c =
+pub returns-clause-size : goal.returns-clause-size
+returns-clause-size c =
+    let k = c.self.inside in
+    let start = c.args.place * k.size in
+    let h = row_fits k.size k.block.items k.used.items c.args.self.now c.args.place c.self.view_is c.requires c.self.invariant in
+    let e = ap length c.deref.ensures.value in
+    let f = ap (λ (t : KeyTable). t.size) c.self.view_is in
+    let t = length-take (start + k.size - start) (drop start c.deref.result.now) in
+    let d = length-drop start c.deref.result.now in
+    omega arith
+
+pub returns-clause-key : goal.returns-clause-key
+returns-clause-key c =
     let k = c.self.inside in
     let here = ap (λ (t : KeyTable). is_some (slot t.slots c.args.place)) c.self.view_is ∙ c.requires in
     sym (ap (λ (t : KeyTable). slot t.slots c.args.place) c.self.view_is)

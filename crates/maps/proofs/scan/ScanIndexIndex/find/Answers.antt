@@ -8,7 +8,7 @@ pub returns-then-eq : goal.returns-then-eq
 returns-then-eq c =
     let s = c.args.self.now in
     let same = (bytes_decides c.key.result.now c.args.key.now).0 (sym c.eq.ensures ∙ c.if-eq.true) in
-    sym (get_here s.keys.slots c.loop-i.i c.args.key.now s.scan.distinct (c.key.ensures ∙ ap Some same))
+    sym (get_here s.keys.slots c.loop-i.i c.args.key.now s.scan.distinct (c.key.ensures.key ∙ ap Some same))
 
 pub returns : goal.returns
 returns c =

@@ -1,0 +1,88 @@
+-- The stores of all maps, and the maps that contracts see.
+use Rattle.std.proofs.Common.{◌≡◌, ℕ, ◌<◌, List, length, map, Option, Some, sym, ap, subst, ◌∙◌, arith}
+use Rattle.std.proofs.lemmas.List.{map-set, get_or-map, get_or-set_same, length-map}
+use Rattle.std.specs.Prelude.{slice_index_or, slice_set}
+use Rattle.std.specs.List.{slice_get}
+use Rattle.std.specs.Option.{option_map}
+use Rattle.isa_model.specs.declared.map_defs.MapKind.TheVariants.{Array}
+use Rattle.maps.specs.declared.either.EitherIndex.{EitherIndex}
+use Rattle.maps.specs.declared.either.EitherIndex.TheVariants as either
+use Rattle.maps.specs.contracts.either.EitherIndexIndex.TheImpl as indexes
+use Rattle.maps.specs.declared.store.Store.{Store}
+use Rattle.isa_model.specs.Machine.States.{Entries}
+use Rattle.maps.specs.ArrayPlaces.{array_places}
+use Rattle.maps.specs.Either.{places_of, kind_of, room_of, either_in_range, either_apart, either_few}
+use Rattle.isa_model.specs.Code.MapRows.{IsRow}
+use Rattle.maps.specs.Maps.{MapState, IsMap, map_at, ordered_in}
+use Rattle.maps.specs.ReportOrder.{listed_of, with_key_of, listed-place, entry-value, entry-key}
+use Rattle.maps.specs.Rows.{row_at}
+use Rattle.maps.specs.RowLaws.{below-same, at_most-same}
+use Rattle.maps.specs.StoreStates.{state_by}
+
+abbrev pub EitherStore : Type 0
+EitherStore = Store EitherIndex indexes.ghosts
+
+abbrev pub state : EitherStore → MapState
+state s = state_by places_of s
+
+-- an array's index has the places of its indexes
+array_places_of : (index : EitherIndex) (n : ℕ) → room_of index ≡ n → kind_of index ≡ Array → places_of index ≡ array_places n
+array_places_of (either.Array a) n room kind = ap array_places room
+array_places_of (either.Chain a) n room kind = absurd (cc)
+
+-- a store whose row is one is a map
+pub IsMap-state : (s : EitherStore) → IsRow s.row → IsMap (state s)
+IsMap-state s is = record {
+  in_range = λ k p e. below-same p s.room (either_in_range s.index k p e);
+  apart = λ j k p e f. either_apart s.index j k p e f;
+  few = at_most-same _ s.room (either_few s.index);
+  whole = s.whole;
+  is_row = is;
+  array_places = λ e. array_places_of s.index s.row.entries s.room (s.kind ∙ e);
+}
+
+module _ (maps : List MapState) (stores : List EitherStore) (view : map state stores ≡ maps) (i : ℕ) (low : i < length maps) where
+  inside : i < length stores
+  inside = let e = ap length view in let f = length-map stores state in omega arith
+
+  -- a map is that of the store with its index
+  pub map_at-state : (x : EitherStore) → x ≡ slice_index_or stores i x → map_at maps i ≡ state x
+  map_at-state x e = ap (λ (ms : List MapState). map_at ms i) (sym view) ∙ get_or-map state stores i x _ inside ∙ ap state (sym e)
+
+  -- a store that is written is that map, and leaves the others
+  pub map_at-set : (x : EitherStore) → map_at (map state (slice_set stores i x)) i ≡ state x
+  map_at-set x =
+      ap (λ (ms : List MapState). map_at ms i) (map-set state stores i x)
+      ∙ get_or-set_same (map state stores) i (state x) _ (let e = ap length view in omega arith)
+
+  pub others-set : (x : EitherStore) → map state (slice_set stores i x) ≡ slice_set maps i (map_at (map state (slice_set stores i x)) i)
+  others-set x = map-set state stores i x ∙ (λ k. slice_set (view k) i (sym (map_at-set x) k))
+
+-- ---- entries in the order of the report, by an index that is the store's
+
+module _ (s : EitherStore) (k : ℕ) (es : Entries) (view : ordered_in (state s) ≡ es) (index : EitherIndex) (same : index ≡ s.index) where
+  abbrev block : List ℕ
+  block = s.values.items
+
+  abbrev size : ℕ
+  size = s.row.value_size
+
+  abbrev Placed : EitherIndex → Option ℕ → Type 0
+  Placed i place = place ≡ option_map (λ e. e.1) (slice_get (listed_of i) k)
+
+  -- the place of an entry is one of the map's
+  pub entry_inside : (p : ℕ) → Placed index (Some p) → p < s.row.entries
+  entry_inside p e = let l = listed-place s.index k p (subst (λ (i : EitherIndex). Placed i (Some p)) same e) in let r = s.room in omega arith
+
+  -- its value is the row there
+  pub entry_value : (place : Option ℕ) → Placed index place → option_map (row_at size block) place ≡ option_map (λ e. e.1) (slice_get es k)
+  entry_value place e =
+      sym (entry-value s.index s.row.kind s.row.entries size block s.kind s.room k place (subst (λ (i : EitherIndex). Placed i place) same e))
+      ∙ ap (λ (xs : Entries). option_map (λ (x : List ℕ × List ℕ). x.1) (slice_get xs k)) view
+
+  -- and so is its key
+  pub entry_key : (bytes : List ℕ) → with_key_of (slice_get (listed_of index) k) bytes ≡ with_key_of (slice_get es k) bytes
+  entry_key bytes =
+      ap (λ (i : EitherIndex). with_key_of (slice_get (listed_of i) k) bytes) same
+      ∙ sym (entry-key s.index s.row.kind s.row.entries size block s.kind s.room k bytes)
+      ∙ ap (λ (xs : Entries). with_key_of (slice_get xs k) bytes) view

@@ -1,0 +1,12 @@
+use Rattle.std.proofs.Common.{ℕ, ◌<◌, List, length, subst}
+use Rattle.std.specs.Prelude.{slice_index_or, All}
+use Rattle.std.proofs.lemmas.List.Elements.{All-map}
+use Rattle.maps.specs.Maps.{MapState, IsMap}
+use Rattle.maps.proofs.AllMaps.{EitherStore, state, IsMap-state}
+use Rattle.maps.proofs.all.Maps.count.Goals as goal
+
+pub returns-clause-maps : goal.returns-clause-maps
+returns-clause-maps c =
+    let stores = c.self.inside.stores.items in
+    subst (λ (ms : List MapState). All IsMap ms) c.self.view_is
+    (All-map IsMap state stores (λ (k : ℕ) (d : EitherStore) (l : k < length stores). IsMap-state (slice_index_or stores k d) (c.self.invariant k d l).is_row))

@@ -1,0 +1,42 @@
+use Rattle.std.proofs.Common.{◌≡◌, ℕ, ◌≤◌, ◌+◌, ◌++◌, ◌∷◌, [], length, map, sym, ap, subst, ◌∙◌, arith}
+use Rattle.std.specs.Prelude.{slice_index_or, vec_capacity, All}
+use Rattle.std.proofs.lemmas.List.{map-append, map_more, length-append}
+use Rattle.std.proofs.lemmas.List.Elements.{All-push}
+use Rattle.isa_model.specs.declared.map_defs.MapKind.TheVariants.{Hash}
+use Rattle.isa_model.specs.declared.map_defs.MapDef.{MapDef}
+use Rattle.maps.specs.Either.{places_of}
+use Rattle.isa_model.specs.Code.MapRows.{IsRow}
+use Rattle.maps.specs.Maps.{KeyFits-index, starting_map}
+use Rattle.maps.specs.StoreStates.{IsListed}
+use Rattle.maps.proofs.AllMaps.{state}
+use Rattle.maps.proofs.all.Maps.new.Goals as goal
+
+pub new-requires : goal.new-requires
+new-requires c =
+    let none : MapDef = record { kind = Hash; key_size = 0; value_size = 0; entries = 0 } in
+    let row = slice_index_or c.args.rows.now c.loop-i.i none in
+    KeyFits-index row.kind row.key_size (c.requires c.loop-i.i none c.loop-i-test.true).key
+
+pub loop-i-preserved : goal.loop-i-preserved
+loop-i-preserved c =
+    let rows = c.args.rows.now in
+    let i = c.loop-i.i in
+    let none : MapDef = record { kind = Hash; key_size = 0; value_size = 0; entries = 0 } in
+    let inv = c.loop-i.invariant in
+    let x = c.in_ok-over.field-0 in
+    let made = c.in_ok-over.ensures in
+    let pushed = c.push_reserved.ensures in
+    let places = ap places_of made.index ∙ c.in_ok-index.ensures.places in
+    let same : state x ≡ starting_map (slice_index_or rows i none) = λ k. record { row = made.row k; places = places k; block = made.zeros k } in
+    let cap = vec_capacity c.in_ok-list.list in
+    let row = c.requires i none c.loop-i-test.true in
+    let listed : IsListed cap x = record {
+      is_row = subst IsRow (sym made.row) row;
+      listed = subst (λ (r : MapDef). r.kind ≡ Hash → r.entries ≤ cap) (sym made.row) (λ e. let m = c.most_entries.ensures i none c.loop-i-test.true e in let o = c.in_ok-list.ensures.capacity in omega arith);
+    } in
+    record {
+      made = ap (map state) pushed.items ∙ map-append state c.loop-i.stores.items (x ∷ []) ∙ (λ k. inv.made k ++ same k ∷ []) ∙ sym (map_more starting_map rows i none c.loop-i-test.true);
+      count = ap length pushed.items ∙ length-append c.loop-i.stores.items (x ∷ []) ∙ ap (λ (n : ℕ). n + 1) inv.count;
+      room = let r = inv.room in let p = pushed.capacity in omega arith;
+      listed = subst (All (IsListed cap)) (sym pushed.items) (All-push (IsListed cap) c.loop-i.stores.items x inv.listed listed);
+    }

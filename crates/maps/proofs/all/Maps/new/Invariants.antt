@@ -1,0 +1,14 @@
+use Rattle.std.proofs.Common.{◌≡◌, ◌≤◌, length, map, take, All}
+use Rattle.std.specs.Prelude.{vec_capacity}
+use Rattle.maps.specs.Either.{places_of}
+use Rattle.maps.specs.Maps.{starting_map}
+use Rattle.maps.specs.StoreStates.{state_by, IsListed}
+use Rattle.maps.proofs.all.Maps.new.Given as goal
+
+abbrev pub invariant-loop-i : goal.invariant-loop-i
+invariant-loop-i l = record {
+  made : map (state_by places_of) l.stores.items ≡ map starting_map (take l.i l.rows);
+  count : length l.stores.items ≡ l.i;
+  room : length l.rows ≤ vec_capacity l.stores;
+  listed : All (IsListed (vec_capacity l.list)) l.stores.items;
+}

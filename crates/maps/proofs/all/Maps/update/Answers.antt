@@ -1,0 +1,27 @@
+use Rattle.std.proofs.Common.{map, sym, ap, subst, ◌∙◌}
+use Rattle.std.specs.Prelude.{slice_set}
+use Rattle.isa_model.specs.declared.map_defs.MapDef.{MapDef}
+use Rattle.maps.specs.Contents.{content}
+use Rattle.maps.specs.Maps.{MapState, Updated, map_at}
+use Rattle.maps.proofs.AllMaps.{state, map_at-state, map_at-set, others-set}
+use Rattle.maps.proofs.all.Maps.update.Goals as goal
+
+pub returns-clause-updated : goal.returns-clause-updated
+returns-clause-updated c =
+    let stores = c.self.inside.stores.items in
+    let x = c.index_mut.result.now in
+    let t = c.update.new.store in
+    let e = c.update.ensures in
+    let before = map_at-state c.args.self.now stores c.self.view_is c.args.map c.requires.map x c.index_mut.ensures.value in
+    let after = map_at-set c.args.self.now stores c.self.view_is c.args.map c.requires.map t in
+    let Is : MapState → MapState → Type 0 = λ m n. Updated c.args.key.now c.args.value.now c.args.flags c.update.result m n in
+    let change : Is (state x) (state t) = record {
+      row = e.row;
+      answer = e.answer;
+      content = ap (λ (r : MapDef). content r.value_size (state t).places (state t).block) e.row ∙ e.content;
+      updates = e.updates;
+    } in
+    subst (λ (m : MapState). Is m (map_at (map state (slice_set stores c.args.map t)) c.args.map)) (sym before) (subst (λ (n : MapState). Is (state x) n) (sym after) change)
+
+pub returns-clause-others : goal.returns-clause-others
+returns-clause-others c = others-set c.args.self.now c.self.inside.stores.items c.self.view_is c.args.map c.requires.map c.update.new.store

@@ -1,0 +1,90 @@
+-- The maps of an image as contracts see them: rows, places of keys, and blocks of values.
+use Rattle.std.specs.Prelude.{◌≡◌, ℕ, ◌*◌, ◌<◌, ◌≤◌, List, [], length, map, replicate, slice_index_or, Some, refl}
+use Rattle.std.proofs.Common.{arith}
+use Rattle.std.specs.Coded.{Coded, code_by, coded×, coded_ℕ, coded_list}
+use Rattle.std.specs.FinMap.{empty, get, len, code}
+use Rattle.isa_model.specs.contracts.map_defs.MapDef.{the_row}
+use Rattle.isa_model.specs.declared.map_defs.MapKind.{MapKind}
+use Rattle.isa_model.specs.declared.map_defs.MapKind.TheVariants.{Hash, Array}
+use Rattle.isa_model.specs.declared.map_defs.MapDef.{MapDef}
+use Rattle.isa_model.specs.Code.MapRows.{KeyFits, IsRow}
+use Rattle.isa_model.specs.Machine.States.{Entries}
+use Rattle.isa_model.specs.Machine.MapContents.{update_answer, delete_answer, after_update, after_delete}
+use Rattle.isa_model.specs.Reporting.Reports.{in_report_order}
+use Rattle.maps.specs.ArrayPlaces.{array_places}
+use Rattle.maps.specs.Slots.{Places}
+use Rattle.maps.specs.Contents.{content, starting_places}
+use Rattle.maps.specs.Changes.{Updates, Deletes}
+
+-- a map: the place of each key, and the values in a block, place after place
+pub record MapState : Type 0 where
+  pub row : MapDef
+  pub places : Places
+  pub block : List ℕ
+
+-- how proofs tell maps apart
+abbrev pub map_code : Coded MapState
+map_code =
+    code_by (MapDef × (Places × List ℕ)) (coded× the_row.coded (coded× (code (coded_list coded_ℕ) coded_ℕ) (coded_list coded_ℕ))) (λ m. (m.row, (m.places, m.block)))
+    (λ p. record { row = p.0; places = p.1.0; block = p.1.1 }) (λ _. refl)
+
+-- its content: the value of each key, in the order of the keys
+abbrev pub content_in : MapState → Entries
+content_in m = content m.row.value_size m.places m.block
+
+-- its entries in the order of the report
+abbrev pub ordered_in : MapState → Entries
+ordered_in m = in_report_order m.row.kind m.row.entries (content_in m)
+
+abbrev pub map_at : List MapState → ℕ → MapState
+map_at maps m = slice_index_or maps m
+    (record { row = record { kind = Hash; key_size = 0; value_size = 0; entries = 0 }; places = empty; block = [] })
+
+abbrev pub rows_of : List MapState → List MapDef
+rows_of maps = map (λ m. m.row) maps
+
+abbrev pub contents_of : List MapState → List Entries
+contents_of maps = map content_in maps
+
+-- ---- rows
+
+-- no key has more than 64 bytes
+pub KeyFits-most : (kind : MapKind) (n : ℕ) → KeyFits kind n → n ≤ 64
+KeyFits-most Hash n fits = fits.1
+KeyFits-most Array n fits = omega arith
+
+-- an array's keys have four
+pub KeyFits-index : (kind : MapKind) (n : ℕ) → KeyFits kind n → kind ≡ Array → n ≡ 4
+KeyFits-index Hash n fits e = absurd (cc)
+KeyFits-index Array n fits e = fits
+
+-- each place is below `entries`, no two keys have one place, there are no more keys than `entries`, and the block has
+-- a value for each place; an array has the places of its indexes
+pub record IsMap (m : MapState) : Type 0 where
+  pub in_range : (k : List ℕ) (p : ℕ) → get m.places k ≡ Some p → p < m.row.entries
+  pub apart : (j k : List ℕ) (p : ℕ) → get m.places j ≡ Some p → get m.places k ≡ Some p → j ≡ k
+  pub few : len m.places ≤ m.row.entries
+  pub whole : length m.block ≡ m.row.entries * m.row.value_size
+  pub is_row : IsRow m.row
+  pub array_places : m.row.kind ≡ Array → m.places ≡ array_places m.row.entries
+
+-- ---- the start
+
+-- an array has all its indexes, a hash map no key, and all values are zero-filled
+abbrev pub starting_map : MapDef → MapState
+starting_map row =
+    record { row = row; places = starting_places row.kind row.entries; block = replicate (row.entries * row.value_size) 0 }
+
+-- ---- updates and deletes: what was a map is one that has changed
+
+pub record Updated (key value : List ℕ) (flags result : ℕ) (old new : MapState) : Type 0 where
+  pub row : new.row ≡ old.row
+  pub answer : result ≡ update_answer old.row (content_in old) key flags
+  pub content : content_in new ≡ after_update old.row (content_in old) key value flags
+  pub updates : Updates old.row.value_size result key value old.places old.block new.places new.block
+
+pub record Deleted (key : List ℕ) (result : ℕ) (old new : MapState) : Type 0 where
+  pub row : new.row ≡ old.row
+  pub answer : result ≡ delete_answer old.row (content_in old) key
+  pub content : content_in new ≡ after_delete old.row (content_in old) key
+  pub deletes : Deletes result key old.places old.block new.places new.block

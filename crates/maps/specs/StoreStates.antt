@@ -1,0 +1,17 @@
+-- A store, as contracts of all maps see it.
+use Rattle.std.specs.Prelude.{◌≡◌, ℕ, ◌≤◌}
+use Rattle.isa_model.specs.declared.map_defs.MapKind.TheVariants.{Hash}
+use Rattle.maps.specs.declared.index.Index.{Ghosts}
+use Rattle.maps.specs.declared.store.Store.{Store}
+use Rattle.maps.specs.Slots.{Places}
+use Rattle.isa_model.specs.Code.MapRows.{IsRow}
+use Rattle.maps.specs.Maps.{MapState}
+
+-- by the places of its index's keys
+abbrev pub state_by : {I : Type 0} {g : Ghosts I} → (I → Places) → Store I g → MapState
+state_by places s = record { row = s.row; places = places s.index; block = s.values.items }
+
+-- a list with this room has room for the places of its keys, if it is a hash map
+pub record IsListed {I : Type 0} {g : Ghosts I} (room : ℕ) (s : Store I g) : Type 0 where
+  pub is_row : IsRow s.row
+  pub listed : s.row.kind ≡ Hash → s.row.entries ≤ room

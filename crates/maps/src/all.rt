@@ -1,0 +1,164 @@
+//! All maps of an image.
+
+ghost use Rattle.std.specs.Prelude.{◌≡◌, ◌<◌, ◌≤◌, length, map, All, IfOk, slice_set, option_copied};
+ghost use Rattle.std.specs.FinMap as finmap;
+ghost use Rattle.isa_model.specs.Machine.MapContents.{at_key};
+ghost use Rattle.maps.specs.Rows.{row_at};
+ghost use Rattle.isa_model.specs.declared.map_defs.MapKind.TheVariants.{Hash};
+ghost use Rattle.isa_model.specs.Code.MapRows.{IsRow};
+ghost use Rattle.maps.specs.Maps.{IsMap, Updated, Deleted};
+ghost use Rattle.maps.specs.Maps.{map_at, content_in, starting_map, ordered_in};
+
+use crate::either::EitherIndex;
+use crate::errors::MapError;
+use crate::helpers;
+use crate::ordered::Ordered;
+use crate::store::{MapStore, Store};
+use isa_model::{MapDef, MapKind};
+use std::alloc::Global;
+use std::marker::Model;
+use std::mem;
+
+// The most entries that a hash map of these rows has.
+fn most_entries(rows: &[MapDef]) -> usize
+    ensures { All (λ row. row.kind ≡ Hash → row.entries ≤ result) rows.now }
+{
+    let mut most = 0;
+    for row in rows {
+        if row.kind == MapKind::Hash && row.entries > most {
+            most = row.entries;
+        }
+    }
+    most as usize
+}
+
+/// All maps of an image, by index: arrays, and hash maps by chains. All room is reserved when they
+/// are made; no later call takes memory.
+///
+/// Contracts see of each map its row, the places of its keys, and the block of its values.
+#[derive(Drop)]
+pub struct Maps {
+    stores: Vec<Store<EitherIndex>>,
+    list: Vec<usize>,
+}
+
+impl Model for Maps {
+    ghost use Rattle.std.specs.Prelude.{List, map, All, vec_capacity};
+    ghost use Rattle.std.specs.Coded.{coded_list};
+    ghost use Rattle.maps.specs.Either.{places_of};
+    ghost use Rattle.maps.specs.Maps.{MapState, map_code};
+    ghost use Rattle.maps.specs.StoreStates.{state_by, IsListed};
+
+    ghost Value = { List MapState };
+
+    ghost coded = { coded_list map_code };
+
+    ghost view = { λ maps. map (state_by places_of) maps.stores.items };
+
+    ghost invariant = { λ maps. All (IsListed (vec_capacity maps.list)) maps.stores.items };
+}
+
+impl Maps {
+    /// The maps of these rows as they start: arrays with all their indexes, hash maps without keys,
+    /// and all values zero-filled.
+    pub fn new(alloc: Global, rows: &[MapDef]) -> Result<Self, MapError>
+        requires { All IsRow rows.now }
+        ensures { IfOk result (λ maps. maps ≡ map starting_map rows.now) }
+    {
+        let list = Vec::with_capacity(alloc, most_entries(rows))?;
+        let mut stores = Vec::with_capacity(alloc, rows.len())?;
+        for i in 0..rows.len() {
+            let index = EitherIndex::new(alloc, rows[i])?;
+            stores.push_reserved(Store::over(alloc, rows[i], index)?);
+        }
+        Ok(Maps { stores, list })
+    }
+
+    /// How many maps there are.
+    pub fn count(&self) -> usize
+        ensures count { result ≡ length self.now }
+        ensures maps { All IsMap self.now }
+    {
+        self.stores.len()
+    }
+
+    /// A map's row.
+    pub fn row(&self, map: usize) -> MapDef
+        requires { map < length self.now }
+        ensures { result ≡ (map_at self.now map).row }
+    {
+        self.stores[map].row()
+    }
+
+    /// The place of a key.
+    pub fn find(&self, map: usize, key: &[u8]) -> Option<usize>
+        requires map { map < length self.now }
+        requires key_size { length key.now ≡ (map_at self.now map).row.key_size }
+        ensures { result ≡ finmap.get (map_at self.now map).places key.now }
+    {
+        self.stores[map].find(key)
+    }
+
+    /// The value of a key, if it has one.
+    pub fn lookup(&self, map: usize, key: &[u8]) -> Option<&[u8]>
+        requires map { map < length self.now }
+        requires key_size { length key.now ≡ (map_at self.now map).row.key_size }
+        ensures { option_copied result ≡ at_key key.now (content_in (map_at self.now map)) }
+    {
+        helpers::lookup(&self.stores[map], key)
+    }
+
+    /// Writes the value of a key, or adds the key. The answer is 0, or the error of the first test
+    /// that fails, and then the map stays as it is. A present key keeps its place, and a new one is
+    /// given a free one.
+    pub fn update(&mut self, map: usize, key: &[u8], value: &[u8], flags: u64) -> u64
+        requires map { map < length self.old }
+        requires key_size { length key.now ≡ (map_at self.old map).row.key_size }
+        requires value_size { length value.now ≡ (map_at self.old map).row.value_size }
+        ensures updated { Updated key.now value.now flags result (map_at self.old map)
+            (map_at self.new map) }
+        ensures others { self.new ≡ slice_set self.old map (map_at self.new map) }
+    {
+        helpers::update(&mut self.stores[map], key, value, flags)
+    }
+
+    /// Removes a key. The answer is 0, or an error, and then the map stays as it is.
+    pub fn delete(&mut self, map: usize, key: &[u8]) -> u64
+        requires map { map < length self.old }
+        requires key_size { length key.now ≡ (map_at self.old map).row.key_size }
+        ensures deleted { Deleted key.now result (map_at self.old map) (map_at self.new map) }
+        ensures others { self.new ≡ slice_set self.old map (map_at self.new map) }
+    {
+        helpers::delete(&mut self.stores[map], key)
+    }
+
+    /// The value at a place.
+    pub fn value(&self, map: usize, place: usize) -> &[u8]
+        requires map { map < length self.now }
+        requires place { place < (map_at self.now map).row.entries }
+        ensures { result.now ≡ row_at (map_at self.now map).row.value_size
+            (map_at self.now map).block place }
+    {
+        self.stores[map].value(place)
+    }
+
+    /// The entries of a map in the order of the report. It takes no memory.
+    pub fn order(&mut self, map: usize) -> Ordered<'_>
+        requires { map < length self.old }
+        ensures { result ≡ ordered_in (map_at self.old map) }
+    {
+        let none = Vec::new(*self.list.allocator());
+        let mut list = mem::replace(&mut self.list, none);
+        self.stores[map].index().list(&mut list);
+        self.list = list;
+        Ordered::new(&self.stores[map], self.list.as_slice())
+    }
+
+    /// The values of all places: that at place p begins at p times the value size.
+    pub fn block(&self, map: usize) -> &[u8]
+        requires { map < length self.now }
+        ensures { result.now ≡ (map_at self.now map).block }
+    {
+        self.stores[map].block()
+    }
+}
