@@ -41,6 +41,24 @@ def stack_loop(turns):
     )
 
 
+def functions():
+    """200 calls of a function of 20 slots, each with the same arguments: by the program, and by six functions that call
+    one another, so that 8 frames are live in the last ones. 20 instructions of each are explored, 18 on the longer side
+    of its test."""
+    lines = ["r6 = *(u32 *)(r1 + 12)"]
+    for depth in range(7):
+        if depth > 0:
+            lines += [f"f{depth}: r6 = r1"]
+        lines += ["r1 = r6", "r2 = 7", "call leaf"] * (32 if depth == 0 else 28)
+        if depth < 6:
+            lines += ["r1 = r6", f"call f{depth + 1}"]
+        lines += ["exit"]
+    lines += ["leaf: r0 = r1", "r0 *= 31", "r0 ^= r2", "*(u64 *)(r10 - 8) = r0", "r3 = r0", "r3 >>= 16", "r0 ^= r3"]
+    lines += ["if r1 > 7 goto other", "r1 = 0", "r0 ^= 5", "goto both", "other: r1 = 0", "r0 ^= 9"]
+    lines += ["both: r0 &= 255", "r4 = *(u64 *)(r10 - 8)", "r4 >>= 3", "r0 ^= r4", "r0 += r2", "r0 &= 3", "exit"]
+    return "\n".join(lines) + "\n"
+
+
 def stored(name):
     with open(os.path.join(HERE, name + ".text")) as file:
         return file.read()
@@ -144,6 +162,7 @@ def verification():
         ("20 branches on unknown bits in a row", branches(20), None, 1_000_000),
         ("loop of 100,000 turns, counted on the stack", stack_loop(100_000), "ok bound 400003", 400_003),
         ("loop of 50,000 turns, six values on the stack", stored("spills"), "ok bound 350018", 350_019),
+        ("200 calls of a function of 20 slots", functions(), "ok bound 4226", 200 * 23 + 26),
     ]
     for name, text, answer, explored in rows:
         image = assembled("p", text)
