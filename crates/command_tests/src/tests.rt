@@ -328,19 +328,6 @@ fn no_images(rt: HostRuntime) -> Result<(), Fail> {
 }
 
 /// A program with a map is verified and not yet run, and the outputs get nothing.
-#[test]
-fn maps_are_not_run_yet(rt: HostRuntime) -> Result<(), Fail> {
-    write_files(&rt)?;
-    write_program(&rt, "other", "map hash 4 8 1; r0 = 2; exit")?;
-    answers(&rt, &["verify", "other"], 0, "ok bound 2\n", "")?;
-    let said = "programs with maps or helpers are not run yet\n";
-    for command in ["run", "trace"] {
-        answers(&rt, &[command, "other", "frames", "sent"], 1, "", said)?;
-        assert_eq!(rt; fs::read(&rt, "sent")?.len(), 0);
-    }
-    remove_files(&rt)
-}
-
 // What the stream of two empty records reports where it is cut after that many bytes.
 fn report_cut_at(count: usize) -> (u8, &'static str) {
     match count {
