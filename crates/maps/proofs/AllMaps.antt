@@ -10,8 +10,10 @@ use Rattle.maps.specs.declared.either.EitherIndex.TheVariants as either
 use Rattle.maps.specs.contracts.either.EitherIndexIndex.TheImpl as indexes
 use Rattle.maps.specs.declared.store.Store.{Store}
 use Rattle.isa_model.specs.Machine.States.{Entries}
+use Rattle.isa_model.specs.Machine.MachineStates.{AreBytes}
+use Rattle.maps.specs.Slots.{IsKey}
 use Rattle.maps.specs.ArrayPlaces.{array_places}
-use Rattle.maps.specs.Either.{places_of, kind_of, room_of, either_in_range, either_apart, either_few}
+use Rattle.maps.specs.Either.{places_of, kind_of, room_of, either_in_range, either_apart, either_few, either_keys}
 use Rattle.isa_model.specs.Code.MapRows.{IsRow}
 use Rattle.maps.specs.Maps.{MapState, IsMap, map_at, ordered_in}
 use Rattle.maps.specs.ReportOrder.{listed_of, with_key_of, listed-place, entry-value, entry-key}
@@ -31,12 +33,14 @@ array_places_of (either.Array a) n room kind = ap array_places room
 array_places_of (either.Chain a) n room kind = absurd (cc)
 
 -- a store whose row is one is a map
-pub IsMap-state : (s : EitherStore) → IsRow s.row → IsMap (state s)
-IsMap-state s is = record {
+pub IsMap-state : (s : EitherStore) → IsRow s.row → AreBytes s.values.items → IsMap (state s)
+IsMap-state s is bytes = record {
   in_range = λ k p e. below-same p s.room (either_in_range s.index k p e);
   apart = λ j k p e f. either_apart s.index j k p e f;
   few = at_most-same _ s.room (either_few s.index);
   whole = s.whole;
+  keys = λ k p e. subst (λ (n : ℕ). IsKey n k) s.key_size (either_keys s.index k p e);
+  bytes = bytes;
   is_row = is;
   array_places = λ e. array_places_of s.index s.row.entries s.room (s.kind ∙ e);
 }

@@ -46,7 +46,7 @@ has_chain : (chains : ℕ) (o : Option (List ℕ)) (c : ℕ) (key : List ℕ) �
     → option_map (λ key. chain_of key chains) o ≡ Some c
 has_chain chains o c key e f = ap (option_map (λ key. chain_of key chains)) e ∙ ap Some (sym f)
 
-slot-none : (n i : ℕ) → slot (replicate n None) i ≡ None
+pub slot-none : (n i : ℕ) → slot (replicate n None) i ≡ None
 slot-none zero i = refl
 slot-none (suc n) zero = refl
 slot-none (suc n) (suc i) = slot-none n i

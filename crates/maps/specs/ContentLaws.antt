@@ -5,7 +5,7 @@ use Rattle.std.specs.Option.{option_map}
 use Rattle.std.specs.Ordering.{is_lt}
 use Rattle.std.specs.Cmp.{eq_by_cmp_equiv}
 use Rattle.std.specs.Cmp.Lexicographic.{nat_list_cmp_total}
-use Rattle.std.specs.FinMap.{get, remove, len, entries, entries_sorted, get-entries, len-entries, get-insert, get-remove, slice_cmp-IsAntisymmetric, nat_cmp-IsAntisymmetric}
+use Rattle.std.specs.FinMap.{get, insert, remove, len, entries, entries_sorted, get-entries, len-entries, get-insert, get-remove, slice_cmp-IsAntisymmetric, nat_cmp-IsAntisymmetric}
 use Rattle.std.specs.FinMap.Entries.{find, is_sorted, below_all, find-put, find-where_key, is_sorted-put, is_sorted-where_key, same_entries}
 use Rattle.isa_model.specs.Machine.States.{Entries}
 use Rattle.isa_model.specs.Machine.MapContents.{key_order, is_key, at_key, has_key, with_key, without_key}
@@ -21,7 +21,7 @@ module _ {X Y : Type 0} (f : X → Y) where
   abbrev pub changed : List (List ℕ × X) → List (List ℕ × Y)
   changed es = map (λ e. (e.0, f e.1)) es
 
-  find-changed : (q : List ℕ) (es : List (List ℕ × X)) → find key_order q (changed es) ≡ option_map f (find key_order q es)
+  pub find-changed : (q : List ℕ) (es : List (List ℕ × X)) → find key_order q (changed es) ≡ option_map f (find key_order q es)
   find-changed q [] = refl
   find-changed q (e ∷ es) =
       elim (is_key q e.0) as (λ b. cond b (Some (f e.1)) (find key_order q (changed es)) ≡ option_map f (cond b (Some e.1) (find key_order q es))) [
@@ -33,16 +33,16 @@ module _ {X Y : Type 0} (f : X → Y) where
   below_all-changed k [] = refl
   below_all-changed k (e ∷ es) = ap (λ (b : Bool). is_lt (key_order k e.0) && b) (below_all-changed k es)
 
-  is_sorted-changed : (es : List (List ℕ × X)) → is_sorted key_order (changed es) ≡ is_sorted key_order es
+  pub is_sorted-changed : (es : List (List ℕ × X)) → is_sorted key_order (changed es) ≡ is_sorted key_order es
   is_sorted-changed [] = refl
   is_sorted-changed (e ∷ es) = λ i. below_all-changed e.0 es i && is_sorted-changed es i
 
-  length-changed : (es : List (List ℕ × X)) → length (changed es) ≡ length es
+  pub length-changed : (es : List (List ℕ × X)) → length (changed es) ≡ length es
   length-changed [] = refl
   length-changed (e ∷ es) = let h = length-changed es in omega arith
 
 -- two contents in order that have the same at each key are equal
-same_contents : {X : Type 0} (es fs : List (List ℕ × X)) → T (is_sorted key_order es) → T (is_sorted key_order fs)
+pub same_contents : {X : Type 0} (es fs : List (List ℕ × X)) → T (is_sorted key_order es) → T (is_sorted key_order fs)
     → ((q : List ℕ) → find key_order q es ≡ find key_order q fs) → es ≡ fs
 same_contents es fs g h same = same_entries key_order nat_list_cmp_total (slice_cmp-IsAntisymmetric nat_cmp-IsAntisymmetric) es fs g h same
 
@@ -66,8 +66,22 @@ module _ (size : ℕ) (P : Places) (block : List ℕ) where
   pub length-content : length C ≡ len P
   length-content = length-changed (row_at size block) (entries P) ∙ sym (len-entries P)
 
-  sorted-content : T (is_sorted key_order C)
+  pub sorted-content : T (is_sorted key_order C)
   sorted-content = subst T (sym (is_sorted-changed (row_at size block) (entries P))) (entries_sorted P)
+
+-- a key has a place, and every other key what it had
+pub content-insert : (size : ℕ) (P : Places) (block k : List ℕ) (p : ℕ)
+    → content size (insert P k p) block ≡ with_key k (row_at size block p) (content size P block)
+content-insert size P block k p =
+    let v : List ℕ = row_at size block p in
+    let C : Entries = content size P block in
+    same_contents (content size (insert P k p) block) (with_key k v C) (sorted-content size (insert P k p) block)
+    (is_sorted-put key_order nat_list_cmp_total k v C (sorted-content size P block))
+    (λ q. at_key-content size (insert P k p) block q
+    ∙ ap (option_map (row_at size block)) (get-insert nat_list_cmp_total P k p q)
+    ∙ elim (is_key q k) as (λ b. option_map (row_at size block) (cond b (Some p) (get P q)) ≡ cond b (Some v) (option_map (row_at size block) (get P q))) [ true ↦ refl | false ↦ refl ]
+    ∙ ap (cond (is_key q k) (Some v)) (sym (at_key-content size P block q))
+    ∙ sym (find-put key_order nat_list_cmp_total q k v C))
 
 -- a content with one key more, or one value changed
 module _ (size n : ℕ) (P P' : Places) (block : List ℕ) (k v : List ℕ) (p : ℕ) (long : length v ≡ size) (whole : length block ≡ n * size) (inside : p < n)

@@ -7,6 +7,7 @@ pub mod KeyLaws
 pub mod ScanLaws
 pub mod ArrayPlaces
 pub mod ArrayLaws
+pub mod ArrayOrder
 pub mod Either
 pub mod Contents
 pub mod ContentLaws
@@ -16,10 +17,15 @@ pub mod Chains
 pub mod ChainLaws
 pub mod Hashing
 pub mod ChainIndexes
+pub mod KeyBytes
 pub mod Changes
 pub mod UpdateLaws
 pub mod Commands
 pub mod CommandLaws
 pub mod Maps
+pub mod MapLends
 pub mod StoreStates
+pub mod StoreLends
+pub mod Listing
+pub mod MapLaws
 pub mod Messages

@@ -1,5 +1,5 @@
 -- The maps of an image as contracts see them: rows, places of keys, and blocks of values.
-use Rattle.std.specs.Prelude.{◌≡◌, ℕ, ◌*◌, ◌<◌, ◌≤◌, List, [], length, map, replicate, slice_index_or, Some, refl}
+use Rattle.std.specs.Prelude.{◌≡◌, ℕ, ◌+◌, ◌*◌, ◌<◌, ◌≤◌, List, [], length, map, replicate, slice_index_or, Some, refl}
 use Rattle.std.proofs.Common.{arith}
 use Rattle.std.specs.Coded.{Coded, code_by, coded×, coded_ℕ, coded_list}
 use Rattle.std.specs.FinMap.{empty, get, len, code}
@@ -9,10 +9,13 @@ use Rattle.isa_model.specs.declared.map_defs.MapKind.TheVariants.{Hash, Array}
 use Rattle.isa_model.specs.declared.map_defs.MapDef.{MapDef}
 use Rattle.isa_model.specs.Code.MapRows.{KeyFits, IsRow}
 use Rattle.isa_model.specs.Machine.States.{Entries}
+use Rattle.isa_model.specs.Machine.MachineStates.{AreBytes}
 use Rattle.isa_model.specs.Machine.MapContents.{update_answer, delete_answer, after_update, after_delete}
 use Rattle.isa_model.specs.Reporting.Reports.{in_report_order}
+use Rattle.std.specs.List.{splice}
+use Rattle.maps.specs.Rows.{row_at, with_row}
 use Rattle.maps.specs.ArrayPlaces.{array_places}
-use Rattle.maps.specs.Slots.{Places}
+use Rattle.maps.specs.Slots.{Places, IsKey}
 use Rattle.maps.specs.Contents.{content, starting_places}
 use Rattle.maps.specs.Changes.{Updates, Deletes}
 
@@ -59,12 +62,14 @@ KeyFits-index Hash n fits e = absurd (cc)
 KeyFits-index Array n fits e = fits
 
 -- each place is below `entries`, no two keys have one place, there are no more keys than `entries`, and the block has
--- a value for each place; an array has the places of its indexes
+-- a value for each place; keys are keys of the row's size, and values are bytes; an array has the places of its indexes
 pub record IsMap (m : MapState) : Type 0 where
   pub in_range : (k : List ℕ) (p : ℕ) → get m.places k ≡ Some p → p < m.row.entries
   pub apart : (j k : List ℕ) (p : ℕ) → get m.places j ≡ Some p → get m.places k ≡ Some p → j ≡ k
   pub few : len m.places ≤ m.row.entries
   pub whole : length m.block ≡ m.row.entries * m.row.value_size
+  pub keys : (k : List ℕ) (p : ℕ) → get m.places k ≡ Some p → IsKey m.row.key_size k
+  pub bytes : AreBytes m.block
   pub is_row : IsRow m.row
   pub array_places : m.row.kind ≡ Array → m.places ≡ array_places m.row.entries
 
@@ -88,3 +93,10 @@ pub record Deleted (key : List ℕ) (result : ℕ) (old new : MapState) : Type 0
   pub answer : result ≡ delete_answer old.row (content_in old) key
   pub content : content_in new ≡ after_delete old.row (content_in old) key
   pub deletes : Deletes result key old.places old.block new.places new.block
+
+-- bytes are written into the value at a place
+pub record WritesValue (place at : ℕ) (bytes : List ℕ) (old new : MapState) : Type 0 where
+  pub row : new.row ≡ old.row
+  pub places : new.places ≡ old.places
+  pub block : new.block ≡ with_row old.row.value_size old.block place
+      (splice (row_at old.row.value_size old.block place) at (at + length bytes) bytes)

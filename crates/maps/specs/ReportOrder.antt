@@ -93,7 +93,7 @@ behind_less Less t = refl
 behind_less Equal t = absurd t
 behind_less Greater t = absurd t
 
-above : (x : List ℕ) (es : List (List ℕ × ℕ)) (k : ℕ) (e : List ℕ × ℕ) → T (below_all key_order x es) → slice_get es k ≡ Some e → T (is_lt (key_order x e.0))
+pub above : (x : List ℕ) (es : List (List ℕ × ℕ)) (k : ℕ) (e : List ℕ × ℕ) → T (below_all key_order x es) → slice_get es k ≡ Some e → T (is_lt (key_order x e.0))
 above x [] k e b g = absurd (cc)
 above x (y ∷ es) zero e b g =
     let same : y ≡ e = cc in

@@ -1,6 +1,7 @@
 -- What the rows of a block are after one is written.
 use Rattle.std.proofs.Common.{◌≡◌, ℕ, zero, suc, ◌+◌, ◌-◌, ◌*◌, ◌≤◌, ◌<◌, List, ◌++◌, length, take, drop, sym, ap, ◌∙◌, append_assoc, arith, inl, inr, ◌⊎◌}
-use Rattle.std.proofs.lemmas.List.{take_at, drop_at, drop-drop, drop-take, take-take, length-append, length-take, length-drop, take-append-le}
+use Rattle.std.proofs.Math.Seq.{take-add}
+use Rattle.std.proofs.lemmas.List.{take-append-drop, take_at, drop_at, drop-drop, drop-take, take-take, length-append, length-take, length-drop, take-append-le}
 use native.Mathlib.Nat.{mul-le-mul_right, suc-mul}
 use Rattle.std.specs.List.{splice}
 use Rattle.maps.specs.Rows.{row_at, with_row}
@@ -92,3 +93,55 @@ below-same p e h = omega arith
 
 pub at_most-same : (p : ℕ) {a b : ℕ} → a ≡ b → p ≤ a → p ≤ b
 at_most-same p e h = omega arith
+
+-- ---- part of a row written
+
+module _ (size n : ℕ) (block : List ℕ) (p : ℕ) (whole : length block ≡ n * size) (inside : p < n) (i : ℕ) (v : List ℕ) (fits : i + length v ≤ size) where
+  abbrev pub start : ℕ
+  start = p * size
+
+  abbrev pub row : List ℕ
+  row = row_at size block p
+
+  abbrev pub changed_row : List ℕ
+  changed_row = splice row i (i + length v) v
+
+  pub length-row_at : length row ≡ size
+  length-row_at =
+      let g = row_end p n size inside in
+      let d = length-drop start block in
+      let t = length-take size (drop start block) in
+      omega arith
+
+  pub length-changed_row : length changed_row ≡ size
+  length-changed_row = let e = length-row_at in length-splice row i v (omega arith) ∙ e
+
+  rest_of_row : drop (i + length v) row ++ drop (start + size) block ≡ drop (start + i + length v) block
+  rest_of_row =
+      let k : ℕ = i + length v in
+      let m : ℕ = size - k in
+      let s : k + m ≡ size = omega arith in
+      let a : start + k + m ≡ start + size = omega arith in
+      let b : start + k ≡ start + i + length v = omega arith in
+      let d : List ℕ = drop start block in
+      let front : drop k (take size d) ≡ take m (drop k d) = ap (λ (j : ℕ). drop k (take j d)) (sym s) ∙ drop-take k m d in
+      let back : drop (start + size) block ≡ drop m (drop k d) =
+      ap (λ (j : ℕ). drop j block) (sym a) ∙ sym (drop-drop m (start + k) block) ∙ ap (drop m) (sym (drop-drop k start block)) in
+      (λ j. front j ++ back j) ∙ take-append-drop m (drop k d) ∙ drop-drop k start block ∙ ap (λ (j : ℕ). drop j block) b
+
+  -- bytes written into a row of a block change that row
+  pub splice_in_row : splice block (start + i) (start + i + length v) v ≡ with_row size block p changed_row
+  splice_in_row =
+      let d : List ℕ = drop start block in
+      let long = length-changed_row in
+      let front : take (start + i) block ≡ take start block ++ take i row =
+      take-add start i block ∙ ap (λ (l : List ℕ). take start block ++ l) (sym (take-take i size d (omega arith))) in
+      let tail : List ℕ = drop (start + i + length v) block in
+      let ends : start + size ≡ start + length changed_row = omega arith in
+      let back : tail ≡ drop (i + length v) row ++ drop (start + length changed_row) block =
+      sym rest_of_row ∙ ap (λ (j : ℕ). drop (i + length v) row ++ drop j block) ends in
+      (λ j. front j ++ (v ++ back j))
+      ∙ append_assoc (take start block) (take i row) (v ++ (drop (i + length v) row ++ drop (start + length changed_row) block))
+      ∙ ap (λ (l : List ℕ). take start block ++ l)
+      (ap (λ (l : List ℕ). take i row ++ l) (sym (append_assoc v (drop (i + length v) row) (drop (start + length changed_row) block)))
+      ∙ sym (append_assoc (take i row) (v ++ drop (i + length v) row) (drop (start + length changed_row) block)))

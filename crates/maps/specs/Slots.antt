@@ -1,7 +1,8 @@
 -- Places, each of which may have a key, and the finite map from keys to places that they stand for.
-use Rattle.std.specs.Prelude.{◌≡◌, ◌≢◌, ℕ, ◌+◌, List, [], ◌∷◌, Option, Some, None, Bool, true, false, slice_index_or}
+use Rattle.std.specs.Prelude.{◌≡◌, ◌≢◌, ℕ, ◌+◌, List, [], ◌∷◌, length, Option, Some, None, Bool, true, false, slice_index_or}
 use Rattle.std.specs.FinMap.{FinMap, from_entries, get, insert, len}
 use Rattle.isa_model.specs.Machine.MapContents.{key_order}
+use Rattle.isa_model.specs.Machine.MachineStates.{AreBytes}
 use Rattle.maps.specs.Rows.{row_at}
 
 -- which place each key has
@@ -26,6 +27,14 @@ places slots = from_entries (entries_from 0 slots)
 -- no key has two places
 abbrev pub IsDistinct : Slots → Type 0
 IsDistinct slots = (i j : ℕ) (key : List ℕ) → slot slots i ≡ Some key → slot slots j ≡ Some key → i ≡ j
+
+-- a key has the map's key size
+pub record IsKey (size : ℕ) (key : List ℕ) : Type 0 where
+  pub long : length key ≡ size
+  pub bytes : AreBytes key
+
+abbrev pub AreKeys : ℕ → Slots → Type 0
+AreKeys size slots = (p : ℕ) (key : List ℕ) → slot slots p ≡ Some key → IsKey size key
 
 -- the slots that a block of keys has where its places are in use
 abbrev pub slots_of : ℕ → List ℕ → ℕ → List Bool → Slots

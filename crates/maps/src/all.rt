@@ -1,12 +1,15 @@
 //! All maps of an image.
 
 ghost use Rattle.std.specs.Prelude.{◌≡◌, ◌<◌, ◌≤◌, length, map, All, IfOk, slice_set, option_copied};
+ghost use Rattle.std.specs.Prelude.{◌+◌, vec_capacity};
+ghost use Rattle.std.specs.Borrow.{sem};
 ghost use Rattle.std.specs.FinMap as finmap;
+ghost use Rattle.std.specs.FinMap.{values};
 ghost use Rattle.isa_model.specs.Machine.MapContents.{at_key};
 ghost use Rattle.maps.specs.Rows.{row_at};
 ghost use Rattle.isa_model.specs.declared.map_defs.MapKind.TheVariants.{Hash};
 ghost use Rattle.isa_model.specs.Code.MapRows.{IsRow};
-ghost use Rattle.maps.specs.Maps.{IsMap, Updated, Deleted};
+ghost use Rattle.maps.specs.Maps.{IsMap, Updated, Deleted, WritesValue};
 ghost use Rattle.maps.specs.Maps.{map_at, content_in, starting_map, ordered_in};
 
 use crate::either::EitherIndex;
@@ -14,10 +17,11 @@ use crate::errors::MapError;
 use crate::helpers;
 use crate::ordered::Ordered;
 use crate::store::{MapStore, Store};
+use crate::stores::Stores;
+use image::Image;
 use isa_model::{MapDef, MapKind};
 use std::alloc::Global;
 use std::marker::Model;
-use std::mem;
 
 // The most entries that a hash map of these rows has.
 fn most_entries(rows: &[MapDef]) -> usize
@@ -32,14 +36,22 @@ fn most_entries(rows: &[MapDef]) -> usize
     most as usize
 }
 
+// An image's rows keep their limits.
+fn rows_of(image: &Image) -> &[MapDef]
+    ensures rows { result.now ≡ image.now.maps }
+    ensures limits { All IsRow result.now }
+{
+    let _slots = image.slots();
+    image.maps()
+}
+
 /// All maps of an image, by index: arrays, and hash maps by chains. All room is reserved when they
 /// are made; no later call takes memory.
 ///
 /// Contracts see of each map its row, the places of its keys, and the block of its values.
 #[derive(Drop)]
 pub struct Maps {
-    stores: Vec<Store<EitherIndex>>,
-    list: Vec<usize>,
+    stores: Stores,
 }
 
 impl Model for Maps {
@@ -53,15 +65,25 @@ impl Model for Maps {
 
     ghost coded = { coded_list map_code };
 
-    ghost view = { λ maps. map (state_by places_of) maps.stores.items };
+    ghost view = { λ maps. map (state_by places_of) maps.stores.all.items };
 
-    ghost invariant = { λ maps. All (IsListed (vec_capacity maps.list)) maps.stores.items };
+    ghost invariant = { λ maps. All (IsListed (vec_capacity maps.stores.list)) maps.stores.all.items };
 }
 
 impl Maps {
+    ghost use Rattle.maps.specs.Listing.{listed_entries};
+    ghost use Rattle.maps.specs.MapLends.{Stay};
+
+    /// The maps of an image as they start.
+    pub fn new(alloc: Global, image: &Image) -> Result<Self, MapError>
+        ensures { IfOk result (λ maps. maps ≡ map starting_map image.now.maps) }
+    {
+        Maps::of_rows(alloc, rows_of(image))
+    }
+
     /// The maps of these rows as they start: arrays with all their indexes, hash maps without keys,
     /// and all values zero-filled.
-    pub fn new(alloc: Global, rows: &[MapDef]) -> Result<Self, MapError>
+    pub fn of_rows(alloc: Global, rows: &[MapDef]) -> Result<Self, MapError>
         requires { All IsRow rows.now }
         ensures { IfOk result (λ maps. maps ≡ map starting_map rows.now) }
     {
@@ -71,7 +93,10 @@ impl Maps {
             let index = EitherIndex::new(alloc, rows[i])?;
             stores.push_reserved(Store::over(alloc, rows[i], index)?);
         }
-        Ok(Maps { stores, list })
+        let all = stores;
+        Ok(Maps {
+            stores: Stores { all, list },
+        })
     }
 
     /// How many maps there are.
@@ -79,7 +104,7 @@ impl Maps {
         ensures count { result ≡ length self.now }
         ensures maps { All IsMap self.now }
     {
-        self.stores.len()
+        self.stores.count()
     }
 
     /// A map's row.
@@ -87,7 +112,7 @@ impl Maps {
         requires { map < length self.now }
         ensures { result ≡ (map_at self.now map).row }
     {
-        self.stores[map].row()
+        self.stores.all[map].row()
     }
 
     /// The place of a key.
@@ -96,7 +121,7 @@ impl Maps {
         requires key_size { length key.now ≡ (map_at self.now map).row.key_size }
         ensures { result ≡ finmap.get (map_at self.now map).places key.now }
     {
-        self.stores[map].find(key)
+        self.stores.all[map].find(key)
     }
 
     /// The value of a key, if it has one.
@@ -105,7 +130,7 @@ impl Maps {
         requires key_size { length key.now ≡ (map_at self.now map).row.key_size }
         ensures { option_copied result ≡ at_key key.now (content_in (map_at self.now map)) }
     {
-        helpers::lookup(&self.stores[map], key)
+        helpers::lookup(&self.stores.all[map], key)
     }
 
     /// Writes the value of a key, or adds the key. The answer is 0, or the error of the first test
@@ -119,7 +144,7 @@ impl Maps {
             (map_at self.new map) }
         ensures others { self.new ≡ slice_set self.old map (map_at self.new map) }
     {
-        helpers::update(&mut self.stores[map], key, value, flags)
+        helpers::update(&mut self.stores.all[map], key, value, flags)
     }
 
     /// Removes a key. The answer is 0, or an error, and then the map stays as it is.
@@ -129,7 +154,29 @@ impl Maps {
         ensures deleted { Deleted key.now result (map_at self.old map) (map_at self.new map) }
         ensures others { self.new ≡ slice_set self.old map (map_at self.new map) }
     {
-        helpers::delete(&mut self.stores[map], key)
+        helpers::delete(&mut self.stores.all[map], key)
+    }
+
+    /// Fills a list that has room with the places of a map's keys, in the order of the keys' bytes.
+    pub fn list_places(&self, map: usize, list: &mut Vec<usize>)
+        requires map { map < length self.now }
+        requires room { (map_at self.now map).row.entries ≤ vec_capacity list.old }
+        ensures places { list.new.items ≡ values (map_at self.now map).places }
+        ensures capacity { vec_capacity list.new ≡ vec_capacity list.old }
+    {
+        self.stores.all[map].index().list_places(list);
+    }
+
+    /// Writes bytes into the value at a place, from its `at`th byte on.
+    pub fn write_value(&mut self, map: usize, place: usize, at: usize, bytes: &[u8])
+        requires map { map < length self.old }
+        requires place { place < (map_at self.old map).row.entries }
+        requires within { at + length bytes.now ≤ (map_at self.old map).row.value_size }
+        ensures written { WritesValue place at bytes.now (map_at self.old map)
+            (map_at self.new map) }
+        ensures others { self.new ≡ slice_set self.old map (map_at self.new map) }
+    {
+        self.stores.all[map].write_value(place, at, bytes);
     }
 
     /// The value at a place.
@@ -139,19 +186,17 @@ impl Maps {
         ensures { result.now ≡ row_at (map_at self.now map).row.value_size
             (map_at self.now map).block place }
     {
-        self.stores[map].value(place)
+        self.stores.all[map].value(place)
     }
 
-    /// The entries of a map in the order of the report. It takes no memory.
+    /// The entries of a map in the order of the report. It takes no memory, and the maps stay as
+    /// they are.
     pub fn order(&mut self, map: usize) -> Ordered<'_>
         requires { map < length self.old }
-        ensures { result ≡ ordered_in (map_at self.old map) }
+        ensures entries { listed_entries result ≡ ordered_in (map_at self.old map) }
+        ensures* stay { sem 𝓛 (Stay self.entry) }
     {
-        let none = Vec::new(*self.list.allocator());
-        let mut list = mem::replace(&mut self.list, none);
-        self.stores[map].index().list(&mut list);
-        self.list = list;
-        Ordered::new(&self.stores[map], self.list.as_slice())
+        self.stores.order(map)
     }
 
     /// The values of all places: that at place p begins at p times the value size.
@@ -159,6 +204,6 @@ impl Maps {
         requires { map < length self.now }
         ensures { result.now ≡ (map_at self.now map).block }
     {
-        self.stores[map].block()
+        self.stores.all[map].block()
     }
 }

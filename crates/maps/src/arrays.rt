@@ -1,11 +1,36 @@
 //! The indexes of an array.
 
-ghost use Rattle.std.specs.Prelude.{◌≡◌, ◌<◌, ◌^◌};
+ghost use Rattle.std.specs.Prelude.{◌≡◌, ◌<◌, ◌≤◌, ◌^◌, vec_capacity, IsPermutation};
+ghost use Rattle.std.specs.FinMap.{values};
+ghost use Rattle.std.specs.List.{range_with_len};
+ghost use Rattle.std.specs.List.Sorted.{IsSortedByKey};
+ghost use Rattle.byteorder.specs.Endian.{little_bytes};
 ghost use Rattle.isa_model.specs.declared.map_defs.MapKind.TheVariants.{Array};
+ghost use Rattle.isa_model.specs.Machine.MapContents.{key_order};
 ghost use Rattle.maps.specs.ArrayPlaces.{array_places};
 
 use crate::index::Index;
 use byteorder::{ByteOrder, LittleEndian};
+
+// The key of an index: four bytes, the lowest first.
+fn key_of(index: usize) -> [u8; 4]
+    ensures { result ≡ little_bytes 4 index }
+{
+    [
+        (index % 256) as u8,
+        (index / 256 % 256) as u8,
+        (index / 65536 % 256) as u8,
+        (index / 16777216 % 256) as u8,
+    ]
+}
+
+// Puts indexes in the order of their keys.
+fn sort_by_key(indexes: &mut [usize])
+    ensures permutation { IsPermutation indexes.old indexes.new }
+    ensures sorted { IsSortedByKey (little_bytes 4) key_order indexes.new }
+{
+    indexes.sort_unstable_by(|a, b| key_of(*a).cmp(&key_of(*b)));
+}
 
 /// Which place each key of an array has: its index, which is the key as a number, the lowest byte
 /// first.
@@ -20,6 +45,28 @@ impl ArrayIndex {
         ensures { result.entries ≡ entries }
     {
         ArrayIndex { entries }
+    }
+
+    // Fills a list that has room with the indexes.
+    fn list_indexes(&self, list: &mut Vec<usize>)
+        requires { self.now.entries ≤ vec_capacity list.old }
+        ensures indexes { list.new.items ≡ range_with_len 0 self.now.entries }
+        ensures capacity { vec_capacity list.new ≡ vec_capacity list.old }
+    {
+        list.clear();
+        for i in 0..self.entries as usize {
+            list.push_reserved(i);
+        }
+    }
+
+    /// Fills a list that has room with the indexes in the order of their keys.
+    pub fn list(&self, list: &mut Vec<usize>)
+        requires { self.now.entries ≤ vec_capacity list.old }
+        ensures places { list.new.items ≡ values (array_places self.now.entries) }
+        ensures capacity { vec_capacity list.new ≡ vec_capacity list.old }
+    {
+        self.list_indexes(list);
+        sort_by_key(list.as_mut_slice());
     }
 
     /// How many indexes there are.

@@ -5,7 +5,7 @@ ghost use Rattle.std.specs.Prelude.{slice_index_or, vec_capacity, is_some, true,
 ghost use Rattle.std.specs.FinMap as map;
 ghost use Rattle.slab.specs.Slab.{get, slab_len};
 ghost use Rattle.isa_model.specs.declared.map_defs.MapKind.TheVariants.{Hash};
-ghost use Rattle.maps.specs.Slots.{places, slot};
+ghost use Rattle.maps.specs.Slots.{places, slot, AreKeys};
 ghost use Rattle.maps.specs.KeyOrder.{used_places};
 ghost use Rattle.maps.specs.Chains.{spot};
 ghost use Rattle.maps.specs.ChainIndexes.{IsChainIndex, HasKey};
@@ -39,6 +39,7 @@ pub struct ChainIndex {
     free: Vec<u32>,
     ghost index: { IsChainIndex keys.slots free.items chains.count
         (λ k. spot (get chains.links k)) },
+    ghost sized: { AreKeys keys.size keys.slots },
     ghost chained: { 0 < chains.count },
     ghost linked: { slab_len chains.links + length free.items ≡ length keys.slots },
     ghost links_room: { length keys.slots ≤ chains.links.capacity },

@@ -1,6 +1,7 @@
 //! The index that a map's row asks for.
 
 ghost use Rattle.std.specs.Prelude.{◌≡◌, ◌≤◌, IfOk, length, vec_capacity};
+ghost use Rattle.std.specs.FinMap.{values};
 ghost use Rattle.std.specs.List.{slice_get};
 ghost use Rattle.std.specs.Option.{option_map};
 ghost use Rattle.isa_model.specs.declared.map_defs.MapKind.TheVariants.{Hash, Array};
@@ -50,6 +51,18 @@ impl EitherIndex {
     {
         if let EitherIndex::Chain(index) = self {
             index.list(list);
+        }
+    }
+
+    /// Fills a list that has room with the places of all keys, in the order of the keys' bytes.
+    pub fn list_places(&self, list: &mut Vec<usize>)
+        requires { room_of self.now ≤ vec_capacity list.old }
+        ensures places { list.new.items ≡ values (places_of self.now) }
+        ensures capacity { vec_capacity list.new ≡ vec_capacity list.old }
+    {
+        match self {
+            EitherIndex::Array(index) => index.list(list),
+            EitherIndex::Chain(index) => index.list(list),
         }
     }
 

@@ -18,6 +18,7 @@ mod keys;
 pub mod ordered;
 pub mod scan;
 pub mod store;
+mod stores;
 
 pub use all::Maps;
 pub use arrays::ArrayIndex;

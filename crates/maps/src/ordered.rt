@@ -10,46 +10,34 @@ ghost use Rattle.maps.specs.StoreStates.{state_by};
 
 use crate::either::EitherIndex;
 use crate::store::{MapStore, Store};
-use std::marker::Model;
 
 /// The entries of a map in the order of the report: those of a hash map by the bytes of their keys,
-/// those of an array by their index.
+/// those of an array by their index. Contracts see them as `listed_entries`.
 #[derive(Drop)]
 pub struct Ordered<'a> {
     store: &'a Store<EitherIndex>,
     list: &'a [usize],
-}
-
-impl<'a> Model for Ordered<'a> {
-    ghost use Rattle.std.specs.Prelude.{◌≤◌};
-    ghost use Rattle.isa_model.specs.Machine.States.{Entries};
-    ghost use Rattle.maps.specs.Either.{places_of};
-    ghost use Rattle.maps.specs.Maps.{ordered_in};
-    ghost use Rattle.maps.specs.ReportOrder.{IsList};
-    ghost use Rattle.maps.specs.StoreStates.{state_by};
-
-    ghost Value = { Entries };
-
-    ghost view = { λ o. ordered_in (state_by places_of o.store.now) };
-
-    ghost invariant = { λ o. IsList o.store.now.index o.list.now
-        × (o.store.now.row.key_size ≤ 64) };
+    ghost listed: { IsList store.now.index list.now },
+    ghost key_size: { store.now.row.key_size ≤ 64 },
 }
 
 impl<'a> Ordered<'a> {
+    ghost use Rattle.maps.specs.Listing.{listed_entries};
+
     /// Over a list of the places of a hash map's keys, in the order of the keys.
     pub fn new(store: &'a Store<EitherIndex>, list: &'a [usize]) -> Self
         requires list { IsList store.now.index list.now }
         requires key_size { store.now.row.key_size ≤ 64 }
-        ensures { result ≡ ordered_in (state_by places_of store.now) }
+        ensures { listed_entries result ≡ ordered_in (state_by places_of store.now) }
     {
         Ordered { store, list }
     }
 
     /// The value of the k-th entry, from 0, if there is one; its key is put into the front of `key`.
     pub fn entry(&self, k: usize, key: &mut [u8; 64]) -> Option<&'a [u8]>
-        ensures value { option_copied result ≡ option_map (λ e. e.1) (slice_get self.now k) }
-        ensures key { key.new ≡ with_key_of (slice_get self.now k) key.old }
+        ensures value { option_copied result
+            ≡ option_map (λ e. e.1) (slice_get (listed_entries self.now) k) }
+        ensures key { key.new ≡ with_key_of (slice_get (listed_entries self.now) k) key.old }
     {
         let place = self.store.index().entry(self.list, k, key)?;
         Some(self.store.value(place))

@@ -3,6 +3,7 @@
 ghost use Rattle.std.specs.Prelude.{◌≡◌, ◌+◌, ◌*◌, ◌<◌, ◌≤◌, ℕ, List, length, nat_le, vec_len};
 ghost use Rattle.std.specs.Prelude.{replicate};
 ghost use Rattle.std.specs.Prelude.{None, Some, IsSome, IfSome, IfOk};
+ghost use Rattle.std.specs.List.{splice};
 ghost use Rattle.std.specs.FinMap as map;
 ghost use Rattle.isa_model.specs.declared.map_defs.MapKind.TheVariants.{Hash, Array};
 ghost use Rattle.isa_model.specs.declared.map_defs.MapDef.{MapDef};
@@ -130,6 +131,21 @@ impl<I: Index> Store<I> {
         ensures { result.now ≡ self.now.index }
     {
         &self.index
+    }
+
+    /// Writes bytes into the value at a place, from its `at`th byte on.
+    pub fn write_value(&mut self, place: usize, at: usize, bytes: &[u8])
+        requires place { place < self.old.row.entries }
+        requires within { at + length bytes.now ≤ self.old.row.value_size }
+        ensures row { self.new.row ≡ self.old.row }
+        ensures index { self.new.index ≡ self.old.index }
+        ensures block { self.new.values.items ≡ with_row self.old.row.value_size
+            self.old.values.items place
+            (splice (row_at self.old.row.value_size self.old.values.items place) at
+            (at + length bytes.now) bytes.now) }
+    {
+        let start = place * self.row.value_size as usize;
+        put_bytes(self.values.as_mut_slice(), start + at, bytes);
     }
 
     /// The values of all places, place after place.

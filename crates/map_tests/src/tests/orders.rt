@@ -61,7 +61,7 @@ const KEYS: [(&[(u8, u8)], &[(u8, u8)]); 4] = [
 ];
 
 fn made(alloc: Global) -> Result<Maps, MapError> {
-    Maps::new(alloc, &ROWS)
+    Maps::of_rows(alloc, &ROWS)
 }
 
 /// Writes a value of one byte.

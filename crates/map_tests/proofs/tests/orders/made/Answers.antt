@@ -30,5 +30,5 @@ rows_fit =
     (All-cons IsRow (hash 5) array (hash_fits 5 (omega arith) (omega arith))
     (All-cons IsRow (row Array 4 300) [] (fits Array 4 300 refl (omega arith) (omega arith)) (All-nil IsRow)))))
 
-pub new-requires : goal.new-requires
-new-requires c = rows_fit
+pub of_rows-requires : goal.of_rows-requires
+of_rows-requires c = rows_fit

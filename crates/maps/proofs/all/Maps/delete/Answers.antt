@@ -8,7 +8,7 @@ use Rattle.maps.proofs.all.Maps.delete.Goals as goal
 
 pub returns-clause-deleted : goal.returns-clause-deleted
 returns-clause-deleted c =
-    let stores = c.self.inside.stores.items in
+    let stores = c.self.inside.stores.all.items in
     let x = c.index_mut.result.now in
     let t = c.delete.new.store in
     let e = c.delete.ensures in
@@ -24,4 +24,4 @@ returns-clause-deleted c =
     subst (λ (m : MapState). Is m (map_at (map state (slice_set stores c.args.map t)) c.args.map)) (sym before) (subst (λ (n : MapState). Is (state x) n) (sym after) change)
 
 pub returns-clause-others : goal.returns-clause-others
-returns-clause-others c = others-set c.args.self.now c.self.inside.stores.items c.self.view_is c.args.map c.requires.map c.delete.new.store
+returns-clause-others c = others-set c.args.self.now c.self.inside.stores.all.items c.self.view_is c.args.map c.requires.map c.delete.new.store

@@ -8,7 +8,7 @@ use Rattle.maps.proofs.all.Maps.update.Goals as goal
 
 pub returns-clause-updated : goal.returns-clause-updated
 returns-clause-updated c =
-    let stores = c.self.inside.stores.items in
+    let stores = c.self.inside.stores.all.items in
     let x = c.index_mut.result.now in
     let t = c.update.new.store in
     let e = c.update.ensures in
@@ -24,4 +24,4 @@ returns-clause-updated c =
     subst (λ (m : MapState). Is m (map_at (map state (slice_set stores c.args.map t)) c.args.map)) (sym before) (subst (λ (n : MapState). Is (state x) n) (sym after) change)
 
 pub returns-clause-others : goal.returns-clause-others
-returns-clause-others c = others-set c.args.self.now c.self.inside.stores.items c.self.view_is c.args.map c.requires.map c.update.new.store
+returns-clause-others c = others-set c.args.self.now c.self.inside.stores.all.items c.self.view_is c.args.map c.requires.map c.update.new.store

@@ -1,7 +1,9 @@
-use Rattle.std.proofs.Common.{◌≡◌, ℕ, List, Some, sym, ap, subst, ◌∙◌}
+use Rattle.std.proofs.Common.{◌≡◌, ℕ, ◌<◌, List, Some, sym, ap, subst, ◌∙◌, arith}
+use Rattle.std.proofs.lemmas.List.Elements.{All-from_get_or}
 use Rattle.std.specs.Prelude.{slice_set}
 use Rattle.slab.specs.Slab.{get}
-use Rattle.maps.specs.Slots.{Slots, places}
+use Rattle.maps.specs.Slots.{Slots, places, AreKeys}
+use Rattle.maps.specs.KeyBytes.{AreKeys-put}
 use Rattle.maps.specs.SlotLaws.{got, places-added}
 use Rattle.maps.specs.Hashing.{chain_of}
 use Rattle.maps.specs.Chains.{spot}
@@ -23,6 +25,20 @@ invariant_of-self-2-clause-index c =
     (subst (λ (x : ℕ). IsChainIndex (slice_set slots p (Some key)) rest x new) (sym e.count)
     (chain_index-added slots s.free.items s.chains.count (λ (k : ℕ). spot (get s.chains.links k)) s.index rest p c.in_ok-place.ensures.items key c.requires.absent
     new c.add.result (ap spot e.free) (e.added ∙ (λ i. Some (chain i, p))) (λ j d. e.others j d)))
+
+pub invariant_of-self-2-clause-sized : goal.invariant_of-self-2-clause-sized
+invariant_of-self-2-clause-sized c =
+    let s = c.args.self.now in
+    let slots : Slots = s.keys.slots in
+    let key : List ℕ = c.args.key.now in
+    let p : ℕ = c.in_ok-place.place in
+    let spots = λ (k : ℕ). spot (get s.chains.links k) in
+    let inside = last_inside slots s.free.items s.chains.count spots s.index c.pop.new.self.items p c.in_ok-place.ensures.items in
+    let new = c.put.new.self in
+    subst (λ (n : ℕ). AreKeys n new.slots) (sym c.put.ensures.size)
+    (subst (λ (x : Slots). AreKeys s.keys.size x) (sym c.put.ensures.slots)
+    (AreKeys-put s.keys.size slots s.sized p inside key
+    (record { long = c.requires.size; bytes = All-from_get_or (λ b. b < 256) key 0 (λ j l. omega (arith, c.type_inv.key j)) })))
 
 pub returns-clause-added : goal.returns-clause-added
 returns-clause-added c =

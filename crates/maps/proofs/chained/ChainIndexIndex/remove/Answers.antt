@@ -2,7 +2,8 @@ use Rattle.std.proofs.Common.{◌≡◌, ℕ, List, [], ◌∷◌, ◌++◌, Som
 use Rattle.std.specs.Prelude.{slice_set}
 use Rattle.std.specs.FinMap as map
 use Rattle.slab.specs.Slab.{get}
-use Rattle.maps.specs.Slots.{Slots, slot, places}
+use Rattle.maps.specs.Slots.{Slots, slot, places, AreKeys}
+use Rattle.maps.specs.KeyBytes.{AreKeys-cleared}
 use Rattle.maps.specs.SlotLaws.{places-emptied, remove_absent}
 use Rattle.maps.specs.ScanLaws.{slot_inside}
 use Rattle.maps.specs.Chains.{spot}
@@ -30,6 +31,19 @@ invariant_of-self-clause-index c =
     (subst (λ (x : ℕ). IsChainIndex (slice_set slots p None) (free ++ p ∷ []) x new) (sym e.count)
     (chain_index-removed slots free s.chains.count (λ (k : ℕ). spot (get s.chains.links k)) s.index c.args.key.now p c.in_ok-at.at h.link.chain
     (ap spot h.there ∙ (λ i. Some (h.link.chain, sym place i))) (ap (slot slots) place ∙ h.has) new (ap spot e.removed) (λ j d. e.others j d))))
+
+pub invariant_of-self-clause-sized : goal.invariant_of-self-clause-sized
+invariant_of-self-clause-sized c =
+    let s = c.args.self.now in
+    let slots : Slots = s.keys.slots in
+    let h = c.in_ok-at.ensures.found in
+    let p : ℕ = c.remove-place.result in
+    let place : p ≡ h.link.place = c.remove-place.ensures.place h.link h.there in
+    let has : slot slots p ≡ Some c.args.key.now = ap (slot slots) place ∙ h.has in
+    let new = c.clear.new.self in
+    subst (λ (n : ℕ). AreKeys n new.slots) (sym c.clear.ensures.size)
+    (subst (λ (x : Slots). AreKeys s.keys.size x) (sym c.clear.ensures.slots)
+    (AreKeys-cleared s.keys.size slots s.sized p (slot_inside slots p c.args.key.now has)))
 
 pub returns-clause-hash : goal.returns-clause-hash
 returns-clause-hash c = λ kind.

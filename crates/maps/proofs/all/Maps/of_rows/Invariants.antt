@@ -3,7 +3,7 @@ use Rattle.std.specs.Prelude.{vec_capacity}
 use Rattle.maps.specs.Either.{places_of}
 use Rattle.maps.specs.Maps.{starting_map}
 use Rattle.maps.specs.StoreStates.{state_by, IsListed}
-use Rattle.maps.proofs.all.Maps.new.Given as goal
+use Rattle.maps.proofs.all.Maps.of_rows.Given as goal
 
 abbrev pub invariant-loop-i : goal.invariant-loop-i
 invariant-loop-i l = record {

@@ -9,7 +9,7 @@ use Rattle.isa_model.specs.Code.MapRows.{IsRow}
 use Rattle.maps.specs.Maps.{KeyFits-index, starting_map}
 use Rattle.maps.specs.StoreStates.{IsListed}
 use Rattle.maps.proofs.AllMaps.{state}
-use Rattle.maps.proofs.all.Maps.new.Goals as goal
+use Rattle.maps.proofs.all.Maps.of_rows.Goals as goal
 
 pub new-requires : goal.new-requires
 new-requires c =

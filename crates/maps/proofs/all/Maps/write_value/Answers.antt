@@ -1,0 +1,20 @@
+use Rattle.std.proofs.Common.{map, refl, sym, subst}
+use Rattle.std.specs.Prelude.{slice_set}
+use Rattle.maps.specs.Maps.{MapState, WritesValue, map_at}
+use Rattle.maps.proofs.AllMaps.{state, map_at-state, map_at-set, others-set}
+use Rattle.maps.proofs.all.Maps.write_value.Goals as goal
+
+pub returns-clause-written : goal.returns-clause-written
+returns-clause-written c =
+    let stores = c.self.inside.stores.all.items in
+    let x = c.index_mut.result.now in
+    let t = c.write_value.new.self in
+    let e = c.write_value.ensures in
+    let before = map_at-state c.args.self.now stores c.self.view_is c.args.map c.requires.map x c.index_mut.ensures.value in
+    let after = map_at-set c.args.self.now stores c.self.view_is c.args.map c.requires.map t in
+    let Is : MapState → MapState → Type 0 = λ m n. WritesValue c.args.place c.args.at c.args.bytes.now m n in
+    let change : Is (state x) (state t) = record { row = e.row; places = rw e.index refl; block = e.block } in
+    subst (λ (m : MapState). Is m (map_at (map state (slice_set stores c.args.map t)) c.args.map)) (sym before) (subst (λ (n : MapState). Is (state x) n) (sym after) change)
+
+pub returns-clause-others : goal.returns-clause-others
+returns-clause-others c = others-set c.args.self.now c.self.inside.stores.all.items c.self.view_is c.args.map c.requires.map c.write_value.new.self

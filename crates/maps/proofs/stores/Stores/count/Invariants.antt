@@ -1,0 +1,7 @@
+use Rattle.std.proofs.Common.{take, All}
+use Rattle.isa_model.specs.Machine.MachineStates.{AreBytes}
+use Rattle.maps.proofs.AllMaps.{EitherStore}
+use Rattle.maps.proofs.stores.Stores.count.Given as goal
+
+abbrev pub invariant-loop-store : goal.invariant-loop-store
+invariant-loop-store l = All (λ (s : EitherStore). AreBytes s.values.items) (take l.store-index l.self.all.items)
