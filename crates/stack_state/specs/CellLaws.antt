@@ -45,7 +45,7 @@ all_bytes (Unwritten ∷ cs) h = h 0 (omega arith)
 all_bytes (Byte b ∷ cs) h = all_bytes cs (λ i lt. h (suc i) (omega arith))
 all_bytes (Piece r z k ∷ cs) h = absurd (let e : false ≡ true = h 0 (omega arith) in cc)
 
-none_unwritten : (cs : List Cell) → list_all is_byte cs ≡ true → list_any is_unwritten cs ≡ false
+pub none_unwritten : (cs : List Cell) → list_all is_byte cs ≡ true → list_any is_unwritten cs ≡ false
 none_unwritten [] h = refl
 none_unwritten (Unwritten ∷ cs) h = absurd (let e : false ≡ true = h in cc)
 none_unwritten (Byte b ∷ cs) h = none_unwritten cs h

@@ -22,7 +22,7 @@ use Rattle.stack_state.specs.StackLaws.{StackMeans-map, part_below}
 
 -- ---- read back
 
-any_number : (e : Assigned) (k : Kind) (n : ℕ) → n < 2 ^ 64 → IsAnyNumber k → Allows e k (Num n)
+pub any_number : (e : Assigned) (k : Kind) (n : ℕ) → n < 2 ^ 64 → IsAnyNumber k → Allows e k (Num n)
 any_number e (Number numbers) n below any = (n, refl, any n below)
 any_number e k n below any = absurd any
 

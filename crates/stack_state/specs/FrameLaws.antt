@@ -35,7 +35,7 @@ pub record IsHere (s : State) (serial j at n : ℕ) (z by : ℤ) : Type 0 where
 abbrev pub with_cells : State → ℕ → List Cell → State
 with_cells s j cells = record s { frames = slice_set s.frames j (record (frame_at s.frames j) { cells = cells }) }
 
-read_here : (s : State) (serial j at n : ℕ) (z by : ℤ) → IsHere s serial j at n z by
+pub read_here : (s : State) (serial j at n : ℕ) (z by : ℤ) → IsHere s serial j at n z by
     → read s (region.Frame serial) (index_at (region.Frame serial) (z +ℤ by)) n ≡ Ok (part_of (frame_at s.frames j).cells at n)
 read_here s serial j at n z by h =
     let inside : nat_le (at + n) (length (frame_at s.frames j).cells) ≡ true =

@@ -18,7 +18,10 @@ pub mod EffectLaws
 pub mod FramePlaces
 pub mod FramePlaceLaws
 pub mod PacketEffects
+pub mod ValueEffects
 pub mod Calls
 pub mod CallLaws
 pub mod ExitLaws
 pub mod EndLaws
+pub mod Answers
+pub mod HelperEffects

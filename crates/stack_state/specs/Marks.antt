@@ -6,38 +6,39 @@ use Rattle.std.proofs.lemmas.Bool.{cases_eq, cases_lt}
 use Rattle.std.proofs.lemmas.List.{length-set, get_or_past, get_or-set_same, get_or-set_other}
 use Rattle.reg_state.specs.declared.kinds.Kind.{Kind}
 use Rattle.reg_state.specs.declared.kinds.Kind.TheVariants.{Unset}
-use Rattle.reg_state.specs.KindCover.{packet_identity_of}
+use Rattle.stack_state.specs.declared.identities.Names.{Names}
+use Rattle.stack_state.specs.declared.identities.Names.TheVariants.{Packets, Nulls}
 use Rattle.stack_state.specs.declared.slots.Slot.{Slot}
 use Rattle.stack_state.specs.declared.slots.Slot.TheVariants.{Written}
 use Rattle.stack_state.specs.declared.states.AbstractFrame.{AbstractFrame}
 use Rattle.stack_state.specs.declared.states.State.{State}
 use Rattle.stack_state.specs.Meaning.{frames_of, no_frame, frame_of, kind_at}
 use Rattle.stack_state.specs.MeaningLaws.{length-frames_of, frame_of-caller, frame_of-innermost}
-use Rattle.stack_state.specs.Identities.{IsFreshPacket, IsLeastFreshPacket}
+use Rattle.stack_state.specs.Identities.{named_by, IsFresh, IsLeastFresh}
 use Rattle.stack_state.specs.Slots.{slot_at, kind_in}
 
 -- ---- what does not name an identity
 
 -- no register and no slot of the frame
-pub record IsFreshIn (f : AbstractFrame) (i : ℕ) : Type 0 where
-  pub registers : (k : ℕ) → packet_identity_of (kind_at f.registers k) ≢ Some i
-  pub slots : (k : ℕ) → packet_identity_of (kind_in (slot_at f.stack.slots k)) ≢ Some i
+pub record IsFreshIn (names : Names) (f : AbstractFrame) (i : ℕ) : Type 0 where
+  pub registers : (k : ℕ) → named_by names (kind_at f.registers k) ≢ Some i
+  pub slots : (k : ℕ) → named_by names (kind_in (slot_at f.stack.slots k)) ≢ Some i
 
 -- none of the first n places names it, where a relation says of each place which identities it does not name
 abbrev pub AreFree : (ℕ → ℕ → Type 0) → ℕ → ℕ → Type 0
 AreFree Free n i = (k : ℕ) → k < n → Free k i
 
 -- a register
-abbrev pub IsOther : List Kind → ℕ → ℕ → Type 0
-IsOther kinds k i = packet_identity_of (kind_at kinds k) ≢ Some i
+abbrev pub IsOther : Names → List Kind → ℕ → ℕ → Type 0
+IsOther names kinds k i = named_by names (kind_at kinds k) ≢ Some i
 
 -- a slot
-abbrev pub HoldsOther : List Slot → ℕ → ℕ → Type 0
-HoldsOther slots k i = packet_identity_of (kind_in (slot_at slots k)) ≢ Some i
+abbrev pub HoldsOther : Names → List Slot → ℕ → ℕ → Type 0
+HoldsOther names slots k i = named_by names (kind_in (slot_at slots k)) ≢ Some i
 
 -- a frame
-abbrev pub IsFreshAt : List AbstractFrame → ℕ → ℕ → Type 0
-IsFreshAt frames j i = IsFreshIn (slice_index_or frames j no_frame) i
+abbrev pub IsFreshAt : Names → List AbstractFrame → ℕ → ℕ → Type 0
+IsFreshAt names frames j i = IsFreshIn names (slice_index_or frames j no_frame) i
 
 -- ---- marks
 
@@ -140,36 +141,41 @@ Marks-more Free k m n old mid new =
     Marks-then (AreFree Free k) (Free k) (AreFree Free (k + 1)) m n old mid new
     (λ i before here. below_more (λ j. Free j i) k before here) (λ i all j below. all j (omega arith)) (λ i all. all k (omega arith))
 
+-- Unset names none
+unset_names : (names : Names) (i : ℕ) → named_by names Unset ≢ Some i
+unset_names Packets i = λ e. absurd (cc)
+unset_names Nulls i = λ e. absurd (cc)
+
 -- past the last register, and past the last slot, no kind names one
-pub Marks-registers : (kinds : List Kind) (n m : ℕ) (old new : List Bool) → length kinds ≤ n → Marks (AreFree (IsOther kinds) n) m old new
-    → Marks (λ i. (k : ℕ) → IsOther kinds k i) m old new
-Marks-registers kinds n m old new all =
-    Marks-same (AreFree (IsOther kinds) n) (λ i. (k : ℕ) → IsOther kinds k i) m old new
+pub Marks-registers : (names : Names) (kinds : List Kind) (n m : ℕ) (old new : List Bool) → length kinds ≤ n → Marks (AreFree (IsOther names kinds) n) m old new
+    → Marks (λ i. (k : ℕ) → IsOther names kinds k i) m old new
+Marks-registers names kinds n m old new all =
+    Marks-same (AreFree (IsOther names kinds) n) (λ i. (k : ℕ) → IsOther names kinds k i) m old new
     (λ i below k. elim (cases_lt k n) [
       | inl l ↦ below k l
-      | inr past ↦ rw (get_or_past kinds k Unset (omega arith)) (λ e. absurd (cc))
+      | inr past ↦ rw (get_or_past kinds k Unset (omega arith)) (unset_names names i)
     ]) (λ i free k below. free k)
 
-pub Marks-slots : (slots : List Slot) (n m : ℕ) (old new : List Bool) → length slots ≤ n → Marks (AreFree (HoldsOther slots) n) m old new
-    → Marks (λ i. (k : ℕ) → HoldsOther slots k i) m old new
-Marks-slots slots n m old new all =
-    Marks-same (AreFree (HoldsOther slots) n) (λ i. (k : ℕ) → HoldsOther slots k i) m old new
+pub Marks-slots : (names : Names) (slots : List Slot) (n m : ℕ) (old new : List Bool) → length slots ≤ n → Marks (AreFree (HoldsOther names slots) n) m old new
+    → Marks (λ i. (k : ℕ) → HoldsOther names slots k i) m old new
+Marks-slots names slots n m old new all =
+    Marks-same (AreFree (HoldsOther names slots) n) (λ i. (k : ℕ) → HoldsOther names slots k i) m old new
     (λ i below k. elim (cases_lt k n) [
       | inl l ↦ below k l
-      | inr past ↦ rw (get_or_past slots k (Written 0) (omega arith)) (λ e. absurd (cc))
+      | inr past ↦ rw (get_or_past slots k (Written 0) (omega arith)) (unset_names names i)
     ]) (λ i free k below. free k)
 
 -- both of a frame
-pub Marks-frame : (f : AbstractFrame) (m n : ℕ) (old mid new : List Bool) → Marks (λ i. (k : ℕ) → IsOther f.registers k i) m old mid
-    → Marks (λ i. (k : ℕ) → HoldsOther f.stack.slots k i) n mid new → Marks (IsFreshIn f) (m + n) old new
-Marks-frame f m n old mid new =
-    Marks-then (λ i. (k : ℕ) → IsOther f.registers k i) (λ i. (k : ℕ) → HoldsOther f.stack.slots k i) (IsFreshIn f) m n old mid new
+pub Marks-frame : (names : Names) (f : AbstractFrame) (m n : ℕ) (old mid new : List Bool) → Marks (λ i. (k : ℕ) → IsOther names f.registers k i) m old mid
+    → Marks (λ i. (k : ℕ) → HoldsOther names f.stack.slots k i) n mid new → Marks (IsFreshIn names f) (m + n) old new
+Marks-frame names f m n old mid new =
+    Marks-then (λ i. (k : ℕ) → IsOther names f.registers k i) (λ i. (k : ℕ) → HoldsOther names f.stack.slots k i) (IsFreshIn names f) m n old mid new
     (λ i r s. record { registers = r; slots = s }) (λ i free. free.registers) (λ i free. free.slots)
 
 -- of a kind that names the identity
-pub Marks-named : (k : Kind) (i : ℕ) (marks : List Bool) → packet_identity_of k ≡ Some i → i < length marks
-    → Marks (λ j. packet_identity_of k ≢ Some j) 1 marks (slice_set marks i true)
-Marks-named k i marks is inside = record {
+pub Marks-named : (names : Names) (k : Kind) (i : ℕ) (marks : List Bool) → named_by names k ≡ Some i → i < length marks
+    → Marks (λ j. named_by names k ≢ Some j) 1 marks (slice_set marks i true)
+Marks-named names k i marks is inside = record {
   named = λ j m. elim (cases_eq j i) [
     | inl same ↦ inr (λ free. free (is ∙ ap Some (sym same)))
     | inr other ↦ inl (sym (get_or-set_other marks i j true false other) ∙ m)
@@ -183,55 +189,55 @@ Marks-named k i marks is inside = record {
 }
 
 -- of a kind that names none so low
-pub Marks-other : (k : Kind) (marks : List Bool) → ((i : ℕ) → i < length marks → packet_identity_of k ≢ Some i)
-    → Marks (λ j. packet_identity_of k ≢ Some j) 1 marks marks
-Marks-other k marks none =
+pub Marks-other : (names : Names) (k : Kind) (marks : List Bool) → ((i : ℕ) → i < length marks → named_by names k ≢ Some i)
+    → Marks (λ j. named_by names k ≢ Some j) 1 marks marks
+Marks-other names k marks none =
     record { named = λ j m. inl m; free = λ j inside not. (not, none j inside); few = omega arith; long = refl }
 
 -- an empty frame names none
-nothing_names : (i : ℕ) → IsFreshIn no_frame i
-nothing_names i = record { registers = λ k e. absurd (cc); slots = λ k e. absurd (cc) }
+nothing_names : (names : Names) (i : ℕ) → IsFreshIn names no_frame i
+nothing_names names i = record { registers = λ k. unset_names names i; slots = λ k. unset_names names i }
 
-fresh_at : (a : State) (i j : ℕ) → AreFree (IsFreshAt a.callers.items) (length a.callers.items) i → IsFreshIn a.innermost i → IsFreshIn (frame_of a j) i
-fresh_at a i j callers innermost =
+fresh_at : (names : Names) (a : State) (i j : ℕ) → AreFree (IsFreshAt names a.callers.items) (length a.callers.items) i → IsFreshIn names a.innermost i → IsFreshIn names (frame_of a j) i
+fresh_at names a i j callers innermost =
     let n : ℕ = length a.callers.items in
     let long = length-frames_of a in
     elim (cases_lt j n) [
-      | inl below ↦ subst (λ f. IsFreshIn f i) (sym (frame_of-caller a j (omega arith))) (callers j below)
+      | inl below ↦ subst (λ f. IsFreshIn names f i) (sym (frame_of-caller a j (omega arith))) (callers j below)
       | inr not ↦ elim (cases_eq j n) [
-        | inl last ↦ subst (λ f. IsFreshIn f i) (sym (ap (frame_of a) last ∙ frame_of-innermost a)) innermost
-        | inr past ↦ subst (λ f. IsFreshIn f i) (sym (get_or_past (frames_of a) j no_frame (omega arith))) (nothing_names i)
+        | inl last ↦ subst (λ f. IsFreshIn names f i) (sym (ap (frame_of a) last ∙ frame_of-innermost a)) innermost
+        | inr past ↦ subst (λ f. IsFreshIn names f i) (sym (get_or_past (frames_of a) j no_frame (omega arith))) (nothing_names names i)
       ]
     ]
 
 -- the identities that no frame names are the fresh ones
-pub IsFreshPacket-all : (a : State) (i : ℕ) → AreFree (IsFreshAt a.callers.items) (length a.callers.items) i → IsFreshIn a.innermost i
-    → IsFreshPacket a i
-IsFreshPacket-all a i callers innermost =
+pub IsFresh-all : (names : Names) (a : State) (i : ℕ) → AreFree (IsFreshAt names a.callers.items) (length a.callers.items) i → IsFreshIn names a.innermost i
+    → IsFresh names a i
+IsFresh-all names a i callers innermost =
     record {
-      registers = λ j. (fresh_at a i j callers innermost).registers;
-      slots = λ j. (fresh_at a i j callers innermost).slots;
+      registers = λ j. (fresh_at names a i j callers innermost).registers;
+      slots = λ j. (fresh_at names a i j callers innermost).slots;
     }
 
-pub IsFreshAt-callers : (a : State) (i : ℕ) → IsFreshPacket a i → AreFree (IsFreshAt a.callers.items) (length a.callers.items) i
-IsFreshAt-callers a i h j below =
+pub IsFreshAt-callers : (names : Names) (a : State) (i : ℕ) → IsFresh names a i → AreFree (IsFreshAt names a.callers.items) (length a.callers.items) i
+IsFreshAt-callers names a i h j below =
     let same = frame_of-caller a j (omega arith) in
-    subst (λ f. IsFreshIn f i) same (record { registers = h.registers j; slots = h.slots j })
+    subst (λ f. IsFreshIn names f i) same (record { registers = h.registers j; slots = h.slots j })
 
-pub IsFreshIn-innermost : (a : State) (i : ℕ) → IsFreshPacket a i → IsFreshIn a.innermost i
-IsFreshIn-innermost a i h =
+pub IsFreshIn-innermost : (names : Names) (a : State) (i : ℕ) → IsFresh names a i → IsFreshIn names a.innermost i
+IsFreshIn-innermost names a i h =
     let n : ℕ = length a.callers.items in
-    subst (λ f. IsFreshIn f i) (frame_of-innermost a) (record { registers = h.registers n; slots = h.slots n })
+    subst (λ f. IsFreshIn names f i) (frame_of-innermost a) (record { registers = h.registers n; slots = h.slots n })
 
 -- the first one from 1 up without a mark, after a search of all frames
-pub IsLeastFreshPacket-marks : (a : State) (m n i : ℕ) (none mid marks : List Bool)
-    → Marks (AreFree (IsFreshAt a.callers.items) (length a.callers.items)) m none mid → Marks (IsFreshIn a.innermost) n mid marks
+pub IsLeastFresh-marks : (names : Names) (a : State) (m n i : ℕ) (none mid marks : List Bool)
+    → Marks (AreFree (IsFreshAt names a.callers.items) (length a.callers.items)) m none mid → Marks (IsFreshIn names a.innermost) n mid marks
     → ((j : ℕ) → is_marked none j ≡ false) → 0 < i → i < length marks → is_marked marks i ≡ false
-    → ((j : ℕ) → 0 < j → j < i → is_marked marks j ≡ true) → IsLeastFreshPacket a i
-IsLeastFreshPacket-marks a m n i none mid marks callers innermost empty some inside free least =
-    let all : Marks (IsFreshPacket a) (m + n) none marks =
-    Marks-then (AreFree (IsFreshAt a.callers.items) (length a.callers.items)) (IsFreshIn a.innermost) (IsFreshPacket a) m n none mid marks
-    (IsFreshPacket-all a) (IsFreshAt-callers a) (IsFreshIn-innermost a) callers innermost in
+    → ((j : ℕ) → 0 < j → j < i → is_marked marks j ≡ true) → IsLeastFresh names a i
+IsLeastFresh-marks names a m n i none mid marks callers innermost empty some inside free least =
+    let all : Marks (IsFresh names a) (m + n) none marks =
+    Marks-then (AreFree (IsFreshAt names a.callers.items) (length a.callers.items)) (IsFreshIn names a.innermost) (IsFresh names a) m n none mid marks
+    (IsFresh-all names a) (IsFreshAt-callers names a) (IsFreshIn-innermost names a) callers innermost in
     record {
       some = some;
       fresh = (all.free i inside free).1;

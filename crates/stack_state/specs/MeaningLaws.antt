@@ -127,7 +127,7 @@ pub frame_of-with : (a : State) (r : Reg) (k : Kind) (j : ℕ) → suc j < depth
 frame_of-with a r k j below = frame_of-caller (with_register a r k) j below ∙ sym (frame_of-caller a j below)
 
 -- where the last of two lists of frames have one stack, all frames have those that they had
-stack_at-last : (fs : List AbstractFrame) (f g : AbstractFrame) (j : ℕ) → f.stack ≡ g.stack
+pub stack_at-last : (fs : List AbstractFrame) (f g : AbstractFrame) (j : ℕ) → f.stack ≡ g.stack
     → (slice_index_or (fs ++ f ∷ []) j no_frame).stack ≡ (slice_index_or (fs ++ g ∷ []) j no_frame).stack
 stack_at-last [] f g zero same = same
 stack_at-last [] f g (suc j) same = refl

@@ -63,7 +63,7 @@ impl AbstractFrame {
     }
 
     /// It goes on after a call with this in r0.
-    fn resume(&mut self, answer: Kind)
+    pub(crate) fn resume(&mut self, answer: Kind)
         ensures { self.new ≡ resumed_of self.old answer }
     {
         self.registers = left_kinds(answer, &self.registers);

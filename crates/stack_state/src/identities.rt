@@ -1,8 +1,8 @@
-//! A packet identity that no kind of a state names.
+//! Identities that no kind of a state names.
 
 ghost use Rattle.std.specs.Prelude.{◌≡◌, ◌≢◌, ℕ, ◌*◌, ◌<◌, ◌≤◌, Some, true, false, length};
-ghost use Rattle.reg_state.specs.KindCover.{packet_identity_of};
-ghost use Rattle.stack_state.specs.Identities.{IsLeastFreshPacket};
+ghost use Rattle.stack_state.specs.Identities.{named_by, IsLeastFresh};
+ghost use Rattle.stack_state.specs.Identities.{IsLeastFreshPacket, IsLeastFreshNull};
 ghost use Rattle.stack_state.specs.Marks.{AreFree, IsOther, HoldsOther, IsFreshIn, IsFreshAt};
 ghost use Rattle.stack_state.specs.Marks.{Marks, is_marked, marked};
 
@@ -10,49 +10,70 @@ use crate::slots::Slot;
 use crate::states::{AbstractFrame, State};
 use reg_state::Kind;
 
+/// The sorts of identities.
+#[derive(Clone, Copy, PartialEq, Eq, Debug)]
+pub enum Names {
+    /// Those of packet pointers.
+    Packets,
+    /// Those of what was looked up.
+    Nulls,
+}
+
+impl Names {
+    /// The identity of the sort that a kind names.
+    fn named_by(self, kind: Kind) -> Option<u32>
+        ensures { result ≡ named_by self kind }
+    {
+        match self {
+            Names::Packets => kind.packet_identity(),
+            Names::Nulls => kind.null_identity(),
+        }
+    }
+}
+
 // Which of the lowest identities are named. The ten registers and 64 slots of eight frames name 592
 // of them at most, so that one from 1 to 593 is free.
 type Named = [bool; 594];
 
-fn mark(named: &mut Named, kind: Kind)
-    ensures { Marks (λ i. packet_identity_of kind ≢ Some i) 1 named.old named.new }
+fn mark(names: Names, named: &mut Named, kind: Kind)
+    ensures { Marks (λ i. named_by names kind ≢ Some i) 1 named.old named.new }
 {
-    if let Some(identity) = kind.packet_identity() {
+    if let Some(identity) = names.named_by(kind) {
         if identity < 594 {
             named[identity as usize] = true;
         }
     }
 }
 
-fn mark_registers(named: &mut Named, registers: &[Kind; 10])
-    ensures { Marks (λ i. (k : ℕ) → IsOther registers.now k i) 10 named.old named.new }
+fn mark_registers(names: Names, named: &mut Named, registers: &[Kind; 10])
+    ensures { Marks (λ i. (k : ℕ) → IsOther names registers.now k i) 10 named.old named.new }
 {
     for index in 0..10 {
-        mark(named, registers[index]);
+        mark(names, named, registers[index]);
     }
 }
 
-fn mark_slots(named: &mut Named, slots: &[Slot; 64])
-    ensures { Marks (λ i. (k : ℕ) → HoldsOther slots.now k i) 64 named.old named.new }
+fn mark_slots(names: Names, named: &mut Named, slots: &[Slot; 64])
+    ensures { Marks (λ i. (k : ℕ) → HoldsOther names slots.now k i) 64 named.old named.new }
 {
     for index in 0..64 {
-        mark(named, slots[index].kind());
+        mark(names, named, slots[index].kind());
     }
 }
 
-fn mark_frame(named: &mut Named, frame: &AbstractFrame)
-    ensures { Marks (IsFreshIn frame.now) 74 named.old named.new }
+fn mark_frame(names: Names, named: &mut Named, frame: &AbstractFrame)
+    ensures { Marks (IsFreshIn names frame.now) 74 named.old named.new }
 {
-    mark_registers(named, &frame.registers);
-    mark_slots(named, &frame.stack.slots);
+    mark_registers(names, named, &frame.registers);
+    mark_slots(names, named, &frame.stack.slots);
 }
 
-fn mark_frames(named: &mut Named, frames: &[AbstractFrame])
-    ensures { Marks (AreFree (IsFreshAt frames.now) (length frames.now)) (74 * length frames.now)
+fn mark_frames(names: Names, named: &mut Named, frames: &[AbstractFrame])
+    ensures { Marks (AreFree (IsFreshAt names frames.now) (length frames.now)) (74 * length frames.now)
         named.old named.new }
 {
     for index in 0..frames.len() {
-        mark_frame(named, &frames[index]);
+        mark_frame(names, named, &frames[index]);
     }
 }
 
@@ -73,13 +94,27 @@ fn first_free(named: &Named) -> u32
 }
 
 impl State {
+    // The smallest identity from 1 up that no kind names.
+    fn fresh_identity(&self, names: Names) -> u32
+        ensures { IsLeastFresh names self.now result }
+    {
+        let mut named = [false; 594];
+        mark_frames(names, &mut named, self.callers.as_slice());
+        mark_frame(names, &mut named, &self.innermost);
+        first_free(&named)
+    }
+
     /// The smallest packet identity from 1 up that no kind names, in any register or slot.
     pub fn fresh_packet_identity(&self) -> u32
         ensures { IsLeastFreshPacket self.now result }
     {
-        let mut named = [false; 594];
-        mark_frames(&mut named, self.callers.as_slice());
-        mark_frame(&mut named, &self.innermost);
-        first_free(&named)
+        self.fresh_identity(Names::Packets)
+    }
+
+    /// The smallest null identity from 1 up that no kind names, in any register or slot.
+    pub fn fresh_null_identity(&self) -> u32
+        ensures { IsLeastFreshNull self.now result }
+    {
+        self.fresh_identity(Names::Nulls)
     }
 }

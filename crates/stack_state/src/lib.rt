@@ -3,6 +3,7 @@
 
 pub mod calls;
 pub mod facts;
+pub mod helpers;
 pub mod identities;
 pub mod live_frames;
 pub mod slots;

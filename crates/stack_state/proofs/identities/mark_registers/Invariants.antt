@@ -3,4 +3,4 @@ use Rattle.stack_state.proofs.identities.mark_registers.Given as goal
 
 -- the places before it are marked
 abbrev pub invariant-loop-index : goal.invariant-loop-index
-invariant-loop-index l = Marks (AreFree (IsOther l.registers) l.index) l.index l.initial.named l.named
+invariant-loop-index l = Marks (AreFree (IsOther l.names l.registers) l.index) l.index l.initial.named l.named

@@ -1,6 +1,6 @@
 use Rattle.std.proofs.Common.{◌*◌, Bool, false, List, length, replicate, subst, arith}
-use Rattle.stack_state.specs.Marks.{AreFree, IsFreshAt, Marks, marked-replicate, is_marked-replicate, IsLeastFreshPacket-marks}
-use Rattle.stack_state.proofs.states.State.fresh_packet_identity.Goals as goal
+use Rattle.stack_state.specs.Marks.{AreFree, IsFreshAt, Marks, marked-replicate, is_marked-replicate, IsLeastFresh-marks}
+use Rattle.stack_state.proofs.states.State.fresh_identity.Goals as goal
 
 pub first_free-requires : goal.first_free-requires
 first_free-requires c =
@@ -13,9 +13,9 @@ pub returns : goal.returns
 returns c =
     let a = c.args.self.now in
     let none : List Bool = replicate 594 false in
-    let callers : Marks (AreFree (IsFreshAt a.callers.items) (length a.callers.items)) (74 * length a.callers.items) none c.mark_frames.new.named =
-    subst (λ fs. Marks (AreFree (IsFreshAt fs) (length fs)) (74 * length fs) none c.mark_frames.new.named)
+    let callers : Marks (AreFree (IsFreshAt c.args.names a.callers.items) (length a.callers.items)) (74 * length a.callers.items) none c.mark_frames.new.named =
+    subst (λ fs. Marks (AreFree (IsFreshAt c.args.names fs) (length fs)) (74 * length fs) none c.mark_frames.new.named)
     c.as_slice.ensures.value c.mark_frames.ensures in
     let first = c.first_free.ensures in
-    IsLeastFreshPacket-marks a (74 * length a.callers.items) 74 c.first_free.result none c.mark_frames.new.named c.mark_frame.new.named
+    IsLeastFresh-marks c.args.names a (74 * length a.callers.items) 74 c.first_free.result none c.mark_frames.new.named c.mark_frame.new.named
     callers c.mark_frame.ensures (is_marked-replicate 594) first.some (omega arith) first.free first.least

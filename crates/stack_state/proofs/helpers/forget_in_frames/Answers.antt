@@ -1,0 +1,18 @@
+use Rattle.std.proofs.Common.{arith, ap, length-set, get_or, set, ◌∙◌}
+use Rattle.std.proofs.lemmas.List.{get_or_default}
+use Rattle.std.proofs.lemmas.List.Edits.{map_over_more}
+use Rattle.stack_state.specs.Effects.{forgotten_frame}
+use Rattle.stack_state.proofs.helpers.forget_in_frames.Goals as goal
+
+pub loop-place-preserved : goal.loop-place-preserved
+loop-place-preserved c =
+    let xs = c.args.frames.now in
+    let ys = c.loop-place.frames in
+    let i = c.loop-place.place in
+    let x = get_or ys i c.index-frames-place.result in
+    record {
+      length = length-set ys i c.forget_in_frame.new.frame ∙ c.loop-place.invariant.length;
+      done = ap (set ys i) c.forget_in_frame.ensures
+          ∙ map_over_more (forgotten_frame c.args.index) xs ys i x (omega arith) c.loop-place.invariant.done
+          (get_or_default ys i c.index-frames-place.result x (omega arith));
+    }

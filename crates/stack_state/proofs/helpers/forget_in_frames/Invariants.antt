@@ -1,0 +1,9 @@
+use Rattle.std.proofs.Common.{◌≡◌, ◌++◌, map, take, drop, length}
+use Rattle.stack_state.specs.Effects.{forgotten_frame}
+use Rattle.stack_state.proofs.helpers.forget_in_frames.Given as goal
+
+abbrev pub invariant-loop-place : goal.invariant-loop-place
+invariant-loop-place l = record {
+  length : length l.frames ≡ length l.fn.frames;
+  done : l.frames ≡ map (forgotten_frame l.index) (take l.place l.fn.frames) ++ drop l.place l.fn.frames;
+}

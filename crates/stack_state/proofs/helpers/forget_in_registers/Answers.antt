@@ -1,0 +1,16 @@
+use Rattle.std.proofs.Common.{arith, ap, length-set, set, ◌∙◌}
+use Rattle.std.proofs.lemmas.List.Edits.{map_over_more}
+use Rattle.stack_state.specs.Effects.{forgotten_register}
+use Rattle.stack_state.proofs.helpers.forget_in_registers.Goals as goal
+
+pub loop-place-preserved : goal.loop-place-preserved
+loop-place-preserved c =
+    let xs = c.args.kinds.now in
+    let ys = c.loop-place.kinds in
+    let i = c.loop-place.place in
+    let x = c.index-kinds-place.result in
+    record {
+      length = length-set ys i c.forgotten_kind.result ∙ c.loop-place.invariant.length;
+      done = ap (set ys i) c.forgotten_kind.ensures
+          ∙ map_over_more (forgotten_register c.args.index) xs ys i x (omega arith) c.loop-place.invariant.done c.index-kinds-place.is;
+    }

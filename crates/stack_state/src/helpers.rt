@@ -1,0 +1,57 @@
+//! What a helper leaves: its answer in r0, and pointers to values of a map forgotten.
+
+ghost use Rattle.std.specs.Prelude.{◌≡◌, map};
+ghost use Rattle.stack_state.specs.Effects.{forgotten_register, forgotten_frame, forgotten_in};
+ghost use Rattle.stack_state.specs.Answers.{with_answer};
+
+use crate::slots::{Slot, forgotten};
+use crate::states::{AbstractFrame, State};
+use reg_state::Kind;
+
+/// The kind, if it does not speak of values of the map.
+fn forgotten_kind(kind: Kind, index: u8) -> Kind
+    ensures { result ≡ forgotten_register index kind }
+{
+    forgotten(Slot::Spilled(kind), index).kind()
+}
+
+fn forget_in_registers(kinds: &mut [Kind], index: u8)
+    ensures { kinds.new ≡ map (forgotten_register index) kinds.old }
+{
+    for place in 0..kinds.len() {
+        kinds[place] = forgotten_kind(kinds[place], index);
+    }
+}
+
+fn forget_in_frame(frame: &mut AbstractFrame, index: u8)
+    ensures { frame.new ≡ forgotten_frame index frame.old }
+{
+    forget_in_registers(&mut frame.registers, index);
+    frame.stack.forget_map(index);
+}
+
+fn forget_in_frames(frames: &mut [AbstractFrame], index: u8)
+    ensures { frames.new ≡ map (forgotten_frame index) frames.old }
+{
+    for place in 0..frames.len() {
+        forget_in_frame(&mut frames[place], index);
+    }
+}
+
+impl State {
+    /// Pointers to values of the map are forgotten in registers, in those that calls kept, and in
+    /// slots of all live frames.
+    pub fn forget_map(&mut self, index: u8)
+        ensures { self.new ≡ forgotten_in index self.old }
+    {
+        forget_in_frames(self.callers.as_mut_slice(), index);
+        forget_in_frame(&mut self.innermost, index);
+    }
+
+    /// A helper has answered: r0 holds a value of the kind, and r1 to r5 are unset.
+    pub fn answer(&mut self, kind: Kind)
+        ensures { self.new ≡ with_answer self.old kind }
+    {
+        self.innermost.resume(kind);
+    }
+}
