@@ -16,14 +16,15 @@ use Rattle.isa_model.specs.Machine.MachineStates.{IsValue}
 use Rattle.isa_model.specs.Code.Instructions.{Program}
 use Rattle.reg_state.specs.declared.scalars.Scalar.{Scalar}
 use Rattle.reg_state.specs.declared.kinds.Kind.{Kind}
-use Rattle.reg_state.specs.declared.kinds.Kind.TheVariants.{Number, Stack, Packet}
+use Rattle.reg_state.specs.declared.kinds.Kind.TheVariants.{Number, Stack, Packet, MapValue}
 use Rattle.reg_state.specs.Scalars.{Has}
-use Rattle.reg_state.specs.Kinds.{Assigned, Allows}
+use Rattle.reg_state.specs.Kinds.{Assigned, Allows, AllowsMapValue}
 use Rattle.stack_state.specs.declared.states.State.{State}
 use Rattle.stack_state.specs.Meaning.{MeansBy}
 use Rattle.transfer.specs.Results.{packet_pointer, IsLowWord, OfNumber, moved_offset, Moves, PointerAndNumber, NumberAndPointer, NumberAnd, PointerAnd, Combined, Copied, Arithmetic}
 use Rattle.transfer.specs.ResultLaws.{Yields, YieldsUnder, frame_moves}
 use Rattle.transfer.specs.PacketLaws.{packet_plus_yields, packet_minus_yields, number_plus_packet_yields}
+use Rattle.transfer.specs.ValueLaws.{value_moves_yields}
 
 -- ---- pointers
 
@@ -34,6 +35,12 @@ stack_moves_yields p e a s back frame offset by k x v m h member allowed =
     let (n, found, is) = allowed in
     let (o, only, left) = h in
     (n, is, (e, m, frame_moves e back frame offset by k x n o only member left found))
+
+value_moves_under : (p : Program) (e : Assigned) (a : State) (s : Machine.State) (back : Bool) (m : ℕ) (least greatest : ℤ) (by : Scalar) (k : Kind) (x : ℕ) (v : Value)
+    → MeansBy p e a s → Moves a back (MapValue m least greatest) by (Ok k) → Has by x → (h : AllowsMapValue e m least greatest v)
+    → YieldsUnder p a s k (moved_to (region.MapValue m h.serial) (moved_offset back h.offset x))
+value_moves_under p e a s back m least greatest by k x v means (o, only, moves) member allowed =
+    (e, means, value_moves_yields e back m least greatest by o k x v only moves member allowed)
 
 -- pointer and number
 pub pointer_and_number_yields : (p : Program) (e : Assigned) (a : State) (s : Machine.State) (op : AluOp) (w : Width) (pointer : Kind) (by : Scalar) (k : Kind) (x : ℕ) (v : Value)
@@ -49,6 +56,10 @@ pointer_and_number_yields p e a s Add Full64 (Packet fixed identity least greate
     packet_plus_yields p e a s (packet_pointer fixed identity least greatest proved) by k x v h member allowed m
 pointer_and_number_yields p e a s Sub Full64 (Packet fixed identity least greatest proved) by k x v m h member allowed =
     packet_minus_yields p e a s (packet_pointer fixed identity least greatest proved) by k x v h member allowed m
+pointer_and_number_yields p e a s Add Full64 (MapValue j least greatest) by k x v m h member allowed =
+    rw allowed.points (value_moves_under p e a s false j least greatest by k x v m h member allowed)
+pointer_and_number_yields p e a s Sub Full64 (MapValue j least greatest) by k x v m h member allowed =
+    rw allowed.points (value_moves_under p e a s true j least greatest by k x v m h member allowed)
 pointer_and_number_yields p e a s Add Full64 pointer by k x v m h member allowed = absurd (cc)
 pointer_and_number_yields p e a s Sub Full64 pointer by k x v m h member allowed = absurd (cc)
 pointer_and_number_yields p e a s op w pointer by k x v m h member allowed = absurd (cc)
@@ -62,6 +73,8 @@ number_and_pointer_yields p e a s Add Full64 by (Stack frame offset) k x v m h m
     rw is yields
 number_and_pointer_yields p e a s Add Full64 by (Packet fixed identity least greatest proved) k x v m h member allowed =
     number_plus_packet_yields p e a s (packet_pointer fixed identity least greatest proved) by k x v h member allowed m
+number_and_pointer_yields p e a s Add Full64 by (MapValue j least greatest) k x v m h member allowed =
+    rw allowed.points (value_moves_under p e a s false j least greatest by k x v m h member allowed)
 number_and_pointer_yields p e a s Add Full64 by pointer k x v m h member allowed = absurd (cc)
 number_and_pointer_yields p e a s op w by pointer k x v m h member allowed = absurd (cc)
 

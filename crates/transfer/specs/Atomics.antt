@@ -1,8 +1,9 @@
 -- Atomic instructions: what they leave, and why they are refused.
-use Rattle.std.specs.Prelude.{◌≡◌, ℕ, ℤ, ◌+ℤ◌, Option, Some, None, Result, Ok, Err}
+use Rattle.std.specs.Prelude.{◌≡◌, ℕ, ℤ, ◌+ℤ◌, List, slice_get, Option, Some, None, Result, Ok, Err}
 use Rattle.isa_model.specs.declared.registers.Reg.{Reg}
 use Rattle.isa_model.specs.declared.registers.Reg.TheVariants.{R0}
 use Rattle.isa_model.specs.declared.sizes.Size.{Size}
+use Rattle.isa_model.specs.declared.map_defs.MapDef.{MapDef}
 use Rattle.isa_model.specs.Code.Sizes.{size_bytes}
 use Rattle.reg_state.specs.declared.scalars.Scalar.{Scalar}
 use Rattle.reg_state.specs.declared.kinds.Kind.{Kind}
@@ -13,9 +14,10 @@ use Rattle.stack_state.specs.Places.{kind_of, with_register}
 use Rattle.stack_state.specs.Slots.{IsLoad}
 use Rattle.stack_state.specs.FramePlaces.{IsStoredIn}
 use Rattle.transfer.specs.declared.refusals.Refusal.{Refusal}
-use Rattle.transfer.specs.declared.refusals.Refusal.TheVariants.{PointerOperand, NotMemory, StackPlace, StackBytes, PacketBytes, NullNotTested, PacketAtomic, NotBuilt}
+use Rattle.transfer.specs.declared.refusals.Refusal.TheVariants.{PointerOperand, NotMemory, StackPlace, StackBytes, PacketBytes, MapValueBytes, NullNotTested, PacketAtomic}
 use Rattle.transfer.specs.StackAccesses.{IsFramePlace, IsNoFramePlace}
-use Rattle.transfer.specs.Packets.{AreInPacket}
+use Rattle.transfer.specs.Packets.{AreInPacket, IsOfSize}
+use Rattle.transfer.specs.Values.{value_size, AreInValue}
 
 -- ---- frames
 
@@ -52,27 +54,33 @@ IsPacketRefusal fixed least proved by size PacketAtomic = AreInPacket fixed leas
 IsPacketRefusal fixed least proved by size PacketBytes = ¬ AreInPacket fixed least proved by (size_bytes size)
 IsPacketRefusal fixed least proved by size e = ⊥
 
--- on numbers, through a base of that kind
-abbrev pub SwapsAt : State → Kind → ℤ → Size → Option Reg → State → Result (Unit {0}) Refusal → Type 0
-SwapsAt a (Stack frame z) by size register b result = StackSwaps a frame (z +ℤ by) size register b result
-SwapsAt a Context by size register b result = IsRefused a b result PacketAtomic
-SwapsAt a (Packet fixed identity least greatest proved) by size register b result =
+-- in a map's value an unknown number gives way to another
+abbrev pub ValueSwaps : Type 0 → State → Size → Option Reg → State → Result (Unit {0}) Refusal → Type 0
+ValueSwaps inside a size register b (Ok done) = inside × ((old : Scalar) × IsOfSize size old × (b ≡ with_old register old a))
+ValueSwaps inside a size register b (Err e) = (¬ inside) × IsRefused a b (Err e) MapValueBytes
+
+-- on numbers, through a base of that kind; `rows` are the rows of the maps
+abbrev pub SwapsAt : List MapDef → State → Kind → ℤ → Size → Option Reg → State → Result (Unit {0}) Refusal → Type 0
+SwapsAt rows a (Stack frame z) by size register b result = StackSwaps a frame (z +ℤ by) size register b result
+SwapsAt rows a Context by size register b result = IsRefused a b result PacketAtomic
+SwapsAt rows a (Packet fixed identity least greatest proved) by size register b result =
     (e : Refusal) × IsPacketRefusal fixed least proved by size e × IsRefused a b result e
-SwapsAt a (MapValue m least greatest) by size register b result = IsRefused a b result NotBuilt
-SwapsAt a (MapValueOrNull m identity) by size register b result = IsRefused a b result NullNotTested
-SwapsAt a k by size register b result = IsRefused a b result NotMemory
+SwapsAt rows a (MapValue m least greatest) by size register b result =
+    ValueSwaps (AreInValue (value_size (slice_get rows m)) least greatest by (size_bytes size)) a size register b result
+SwapsAt rows a (MapValueOrNull m identity) by size register b result = IsRefused a b result NullNotTested
+SwapsAt rows a k by size register b result = IsRefused a b result NotMemory
 
 -- ---- operands
 
 -- the operand is tested first
-abbrev pub Swaps : State → Kind → Kind → ℤ → Size → Option Reg → State → Result (Unit {0}) Refusal → Type 0
-Swaps a (Number numbers) base by size register b result = SwapsAt a base by size register b result
-Swaps a source base by size register b result = IsRefused a b result PointerOperand
+abbrev pub Swaps : List MapDef → State → Kind → Kind → ℤ → Size → Option Reg → State → Result (Unit {0}) Refusal → Type 0
+Swaps rows a (Number numbers) base by size register b result = SwapsAt rows a base by size register b result
+Swaps rows a source base by size register b result = IsRefused a b result PointerOperand
 
 -- and what it is compared with, which is in r0 and gives way to the old number
-abbrev pub ComparesIn : State → Kind → Kind → Kind → ℤ → Size → State → Result (Unit {0}) Refusal → Type 0
-ComparesIn a (Number numbers) source base by size b result = Swaps a source base by size (Some R0) b result
-ComparesIn a compared source base by size b result = IsRefused a b result PointerOperand
+abbrev pub ComparesIn : List MapDef → State → Kind → Kind → Kind → ℤ → Size → State → Result (Unit {0}) Refusal → Type 0
+ComparesIn rows a (Number numbers) source base by size b result = Swaps rows a source base by size (Some R0) b result
+ComparesIn rows a compared source base by size b result = IsRefused a b result PointerOperand
 
-abbrev pub Compares : State → Kind → Kind → ℤ → Size → State → Result (Unit {0}) Refusal → Type 0
-Compares a source base by size b result = ComparesIn a (kind_of a R0) source base by size b result
+abbrev pub Compares : List MapDef → State → Kind → Kind → ℤ → Size → State → Result (Unit {0}) Refusal → Type 0
+Compares rows a source base by size b result = ComparesIn rows a (kind_of a R0) source base by size b result

@@ -1,5 +1,5 @@
 -- What an instruction makes of an abstract state, and why it is refused, exactly.
-use Rattle.std.specs.Prelude.{◌≡◌, ◌≢◌, ℕ, zero, suc, ◌+◌, ◌<◌, ◌≤◌, ◌==◌, ℤ, Bool, true, false, length, Option, Some, None, Result, Ok, Err}
+use Rattle.std.specs.Prelude.{◌≡◌, ◌≢◌, ℕ, zero, suc, ◌+◌, ◌<◌, ◌≤◌, ◌==◌, ℤ, pos, Bool, true, false, List, length, Option, Some, None, Result, Ok, Err}
 use Rattle.isa_model.specs.declared.sizes.Width.{Width}
 use Rattle.isa_model.specs.declared.sizes.Width.TheVariants.{Full64}
 use Rattle.isa_model.specs.declared.sizes.Size.{Size}
@@ -10,14 +10,15 @@ use Rattle.isa_model.specs.declared.instructions.Operand.{Operand}
 use Rattle.isa_model.specs.declared.instructions.Operand.TheVariants.{Constant, Register}
 use Rattle.isa_model.specs.declared.instructions.Place.{Place}
 use Rattle.isa_model.specs.declared.instructions.Insn.{Insn}
-use Rattle.isa_model.specs.declared.instructions.Insn.TheVariants.{Alu, Neg, MovSx, ByteSwap, LoadNumber, Load, LoadSx, StoreConstant, Store, Atomic, Exchange, CompareExchange, Jump, JumpLong, JumpIf, CallLocal, Exit}
+use Rattle.isa_model.specs.declared.instructions.Insn.TheVariants.{Alu, Neg, MovSx, ByteSwap, LoadNumber, LoadMap, LoadMapValue, Load, LoadSx, StoreConstant, Store, Atomic, Exchange, CompareExchange, Jump, JumpLong, JumpIf, CallHelper, CallLocal, Exit}
+use Rattle.isa_model.specs.declared.map_defs.MapDef.{MapDef}
 use Rattle.isa_model.specs.Code.Sizes.{width_size}
 use Rattle.isa_model.specs.Code.Numbers.{unsigned}
 use Rattle.isa_model.specs.Code.Instructions.{Program, slots_of, writes}
 use Rattle.isa_model.specs.Machine.Calls.{most_frames}
 use Rattle.isa_model.specs.Machine.Steps.{destination}
 use Rattle.reg_state.specs.declared.kinds.Kind.{Kind}
-use Rattle.reg_state.specs.declared.kinds.Kind.TheVariants.{Number, Stack}
+use Rattle.reg_state.specs.declared.kinds.Kind.TheVariants.{Number, Stack, Map, MapValue}
 use Rattle.reg_state.specs.Arithmetic.{IsNegated, IsReordered, IsSignExtended}
 use Rattle.stack_state.specs.declared.states.State.{State}
 use Rattle.stack_state.specs.Meaning.{depth}
@@ -28,11 +29,12 @@ use Rattle.branch_refine.specs.Comparing.{compared_by, IsDefined}
 use Rattle.transfer.specs.declared.Ways.{Ways}
 use Rattle.transfer.specs.declared.Ways.TheVariants as ways
 use Rattle.transfer.specs.declared.refusals.Refusal.{Refusal}
-use Rattle.transfer.specs.declared.refusals.Refusal.TheVariants.{TooManyFrames, ExitValue, NotBuilt}
+use Rattle.transfer.specs.declared.refusals.Refusal.TheVariants.{TooManyFrames, ExitValue}
 use Rattle.transfer.specs.Refusing.{register_refusal, comparison_refusal}
 use Rattle.transfer.specs.Results.{OfNumber, Arithmetic}
 use Rattle.transfer.specs.Accesses.{Loads, LoadsSigned, Stores}
 use Rattle.transfer.specs.Atomics.{Swaps, Compares}
+use Rattle.transfer.specs.HelperCalls.{CallsHelper}
 
 -- ---- registers set
 
@@ -41,29 +43,44 @@ abbrev pub IsOperand : State → Width → Operand → Kind → Type 0
 IsOperand a w (Constant k) b = IsJust b (unsigned w k)
 IsOperand a w (Register r) b = b ≡ kind_of a r
 
--- the kind that a form puts into its register, or why it does not
-abbrev pub Puts : State → Insn → Result Kind Refusal → Type 0
-Puts a (Alu w op d source) result = (b : Kind) × IsOperand a w source b × Arithmetic a op w (kind_of a d) b result
-Puts a (Neg w d) result = OfNumber (IsNegated w) (kind_of a d) result
-Puts a (MovSx e d r) result = OfNumber (IsSignExtended e) (kind_of a r) result
-Puts a (ByteSwap order span d) result = OfNumber (IsReordered order span) (kind_of a d) result
-Puts a (LoadNumber d n) result = (k : Kind) × IsJust k n × (result ≡ Ok k)
-Puts a (Load size d place) result = Loads a size (kind_of a place.base) place.offset result
-Puts a (LoadSx size d place) result = LoadsSigned a size (kind_of a place.base) place.offset result
-Puts a i result = result ≡ Err NotBuilt
+-- the forms that set a register and leave all else as it is
+abbrev pub IsSetter : Insn → Type 0
+IsSetter (Alu w op d source) = Unit {0}
+IsSetter (Neg w d) = Unit {0}
+IsSetter (MovSx e d r) = Unit {0}
+IsSetter (ByteSwap order span d) = Unit {0}
+IsSetter (LoadNumber d n) = Unit {0}
+IsSetter (LoadMap d m) = Unit {0}
+IsSetter (LoadMapValue d m offset) = Unit {0}
+IsSetter (Load size d place) = Unit {0}
+IsSetter (LoadSx size d place) = Unit {0}
+IsSetter i = ⊥
+
+-- the kind that such a form puts into its register, or why it does not; `rows` are the rows of the maps
+abbrev pub Puts : List MapDef → State → Insn → Result Kind Refusal → Type 0
+Puts rows a (Alu w op d source) result = (b : Kind) × IsOperand a w source b × Arithmetic a op w (kind_of a d) b result
+Puts rows a (Neg w d) result = OfNumber (IsNegated w) (kind_of a d) result
+Puts rows a (MovSx e d r) result = OfNumber (IsSignExtended e) (kind_of a r) result
+Puts rows a (ByteSwap order span d) result = OfNumber (IsReordered order span) (kind_of a d) result
+Puts rows a (LoadNumber d n) result = (k : Kind) × IsJust k n × (result ≡ Ok k)
+Puts rows a (LoadMap d m) result = result ≡ Ok (Map m)
+Puts rows a (LoadMapValue d m offset) result = result ≡ Ok (MapValue m (pos offset) (pos offset))
+Puts rows a (Load size d place) result = Loads rows a size (kind_of a place.base) place.offset result
+Puts rows a (LoadSx size d place) result = LoadsSigned rows a size (kind_of a place.base) place.offset result
+Puts rows a i result = ⊥
 
 -- the next instruction, with a kind in the register that is written and all else as before
-pub record Sets (a : State) (i : Insn) (b : State) : Type 0 where
+pub record Sets (rows : List MapDef) (a : State) (i : Insn) (b : State) : Type 0 where
   pub register : Reg
   pub written : writes i ≡ Some register
   pub own : register ≢ R10
   pub kind : Kind
-  pub puts : Puts a i (Ok kind)
+  pub puts : Puts rows a i (Ok kind)
   pub next : b ≡ go_to (with_register a register kind) (a.slot + slots_of i)
 
-abbrev pub SetsOr : State → Insn → Result Ways Refusal → State → Type 0
-SetsOr a i (Ok w) b = (w ≡ ways.One) × Sets a i b
-SetsOr a i (Err e) b = Puts a i (Err e)
+abbrev pub SetsOr : List MapDef → State → Insn → Result Ways Refusal → State → Type 0
+SetsOr rows a i (Ok w) b = (w ≡ ways.One) × Sets rows a i b
+SetsOr rows a i (Err e) b = Puts rows a i (Err e)
 
 -- ---- memory
 
@@ -77,15 +94,15 @@ abbrev pub GoesOn : State → (State → Result (Unit {0}) Refusal → Type 0) �
 GoesOn a leaves (Ok w) b = (w ≡ ways.One) × GoesOnWith a leaves b
 GoesOn a leaves (Err e) b = (left : State) × leaves left (Err e)
 
-abbrev pub StoresAt : State → Size → Place → Kind → State → Result (Unit {0}) Refusal → Type 0
-StoresAt a size place source left result = Stores a size (kind_of a place.base) place.offset source left result
+abbrev pub StoresAt : List MapDef → State → Size → Place → Kind → State → Result (Unit {0}) Refusal → Type 0
+StoresAt rows a size place source left result = Stores rows a size (kind_of a place.base) place.offset source left result
 
 -- with a register, and its kind as it was
-abbrev pub SwapsAtPlace : State → Width → Place → Reg → Option Reg → State → Result (Unit {0}) Refusal → Type 0
-SwapsAtPlace a w place r kept left result = Swaps a (kind_of a r) (kind_of a place.base) place.offset (width_size w) kept left result
+abbrev pub SwapsAtPlace : List MapDef → State → Width → Place → Reg → Option Reg → State → Result (Unit {0}) Refusal → Type 0
+SwapsAtPlace rows a w place r kept left result = Swaps rows a (kind_of a r) (kind_of a place.base) place.offset (width_size w) kept left result
 
-abbrev pub ComparesAtPlace : State → Width → Place → Reg → State → Result (Unit {0}) Refusal → Type 0
-ComparesAtPlace a w place r left result = Compares a (kind_of a r) (kind_of a place.base) place.offset (width_size w) left result
+abbrev pub ComparesAtPlace : List MapDef → State → Width → Place → Reg → State → Result (Unit {0}) Refusal → Type 0
+ComparesAtPlace rows a w place r left result = Compares rows a (kind_of a r) (kind_of a place.base) place.offset (width_size w) left result
 
 -- ---- jumps
 
@@ -150,18 +167,19 @@ Exits a result b = ExitsFrom (length a.callers.items) a result b
 -- once the tests of its registers pass
 abbrev pub Performs : Program → State → Insn → Result Ways Refusal → State → State → Type 0
 Performs p a (StoreConstant size place k) result b c =
-    (source : Kind) × IsJust source (unsigned Full64 k) × GoesOn a (StoresAt a size place source) result b
-Performs p a (Store size place r) result b c = GoesOn a (StoresAt a size place (kind_of a r)) result b
+    (source : Kind) × IsJust source (unsigned Full64 k) × GoesOn a (StoresAt p.maps a size place source) result b
+Performs p a (Store size place r) result b c = GoesOn a (StoresAt p.maps a size place (kind_of a r)) result b
 Performs p a (Atomic w op fetched place r) result b c =
-    GoesOn a (SwapsAtPlace a w place r (writes (Atomic w op fetched place r))) result b
-Performs p a (Exchange w place r) result b c = GoesOn a (SwapsAtPlace a w place r (Some r)) result b
-Performs p a (CompareExchange w place r) result b c = GoesOn a (ComparesAtPlace a w place r) result b
+    GoesOn a (SwapsAtPlace p.maps a w place r (writes (Atomic w op fetched place r))) result b
+Performs p a (Exchange w place r) result b c = GoesOn a (SwapsAtPlace p.maps a w place r (Some r)) result b
+Performs p a (CompareExchange w place r) result b c = GoesOn a (ComparesAtPlace p.maps a w place r) result b
 Performs p a (Jump by) result b c = JumpsTo p a by result b
 Performs p a (JumpLong by) result b c = JumpsTo p a by result b
 Performs p a (JumpIf cond by) result b c = BranchesOr p a cond by result b c
 Performs p a (CallLocal by) result b c = Calls p a by result b
 Performs p a Exit result b c = Exits a result b
-Performs p a i result b c = SetsOr a i result b
+Performs p a (CallHelper number) result b c = GoesOn a (CallsHelper p.maps a number) result b
+Performs p a i result b c = SetsOr p.maps a i result b
 
 -- a test that fails decides, and where it passes the rest does
 abbrev pub Tested : Option Refusal → Result Ways Refusal → Type 0 → Type 0

@@ -1,5 +1,5 @@
 -- What an instruction makes of an abstract state means what the machine does.
-use Rattle.std.specs.Prelude.{◌≡◌, ◌≢◌, ℕ, zero, suc, ◌+◌, ◌<◌, ◌==◌, ℤ, Bool, true, false, if◌then◌else◌, length, Some, None, Result, Ok, Err, refl}
+use Rattle.std.specs.Prelude.{◌≡◌, ◌≢◌, ℕ, zero, suc, ◌+◌, ◌<◌, ◌==◌, ℤ, pos, Bool, true, false, if◌then◌else◌, length, All, Some, None, Result, Ok, Err, refl}
 use Rattle.std.specs.List.{list_any}
 use Rattle.std.proofs.Common.{inl, inr, sym, ap, ◌∙◌, subst, arith}
 use Rattle.std.proofs.lemmas.Bool.Decides.{nat_tests}
@@ -17,7 +17,7 @@ use Rattle.isa_model.specs.declared.instructions.Operand.{Operand}
 use Rattle.isa_model.specs.declared.instructions.Operand.TheVariants.{Constant, Register}
 use Rattle.isa_model.specs.declared.instructions.Place.{Place}
 use Rattle.isa_model.specs.declared.instructions.Insn.{Insn}
-use Rattle.isa_model.specs.declared.instructions.Insn.TheVariants.{Alu, Neg, MovSx, ByteSwap, LoadNumber, Load, LoadSx, StoreConstant, Store, Atomic, Exchange, CompareExchange, Jump, JumpLong, JumpIf, CallLocal, Exit}
+use Rattle.isa_model.specs.declared.instructions.Insn.TheVariants.{Alu, Neg, MovSx, ByteSwap, LoadNumber, LoadMap, LoadMapValue, Load, LoadSx, StoreConstant, Store, Atomic, Exchange, CompareExchange, Jump, JumpLong, JumpIf, CallHelper, CallLocal, Exit}
 use Rattle.isa_model.specs.declared.values.Value.{Value}
 use Rattle.isa_model.specs.declared.values.Value.TheVariants as value
 use Rattle.isa_model.specs.declared.ends.TrapReason.{TrapReason}
@@ -26,14 +26,17 @@ use Rattle.isa_model.specs.Code.Registers.{reg_number}
 use Rattle.isa_model.specs.Code.Numbers.{alu, low, unsigned, atomic_alu, negated, sign_extended, reordered}
 use Rattle.isa_model.specs.Code.Spelling.{InsnFits, OperandFits}
 use Rattle.isa_model.specs.Code.Instructions.{Program, fetch, slots_of, operand_reads, alu_reads, reads, writes, is_frame_pointer}
+use Rattle.isa_model.specs.Code.Helpers.{helper_numbered}
+use Rattle.isa_model.specs.Code.MapRows.{IsRow, NamesRows}
 use Rattle.isa_model.specs.Machine.Pointers.{arithmetic, on_number}
 use Rattle.isa_model.specs.Machine.States.{reg, set_reg}
 use Rattle.isa_model.specs.Machine.States as Machine
 use Rattle.isa_model.specs.Machine.Calls.{most_frames, enter, leave}
 use Rattle.isa_model.specs.Machine.Memory.{and_then, load, load_signed, store}
-use Rattle.isa_model.specs.Machine.Steps.{Next, Trapped, operand_value, base_of, destination, sets, goes_on, jumps, branches, test_of, calls, atomic_number, swaps_in, fetched_into, finishes, exits, act, is_unset, performed_at, step}
+use Rattle.isa_model.specs.Machine.Steps.{Next, Trapped, map_pointer, value_pointer, operand_value, base_of, destination, sets, goes_on, jumps, branches, test_of, calls, atomic_number, swaps_in, fetched_into, finishes, exits, act, is_unset, performed_at, step}
 use Rattle.isa_model.specs.Running.Ends.{After, After-weaker}
-use Rattle.isa_model.specs.Machine.MachineStates.{IsProgram, IsState, IsValue}
+use Rattle.isa_model.specs.Machine.HelperCalls.{helper_call, after_call}
+use Rattle.isa_model.specs.Machine.MachineStates.{IsClock, IsProgram, IsState, IsValue}
 use Rattle.isa_model.specs.Machine.ValueLaws.{unsigned_fits}
 use Rattle.isa_model.specs.Machine.StateLaws.{reg_fits}
 use Rattle.isa_model.specs.Machine.StepLaws.{IfNext, act_keeps}
@@ -60,8 +63,11 @@ use Rattle.transfer.specs.RegisterLaws.{neither, unset_in, none_unset, performed
 use Rattle.transfer.specs.ResultLaws.{Yields, YieldsUnder, on_number_yields}
 use Rattle.transfer.specs.ArithmeticLaws.{arithmetic_yields}
 use Rattle.transfer.specs.StackAccessLaws.{GoesInto}
+use Rattle.transfer.specs.ValueLaws.{GoesIntoSome, value_pointer_allowed}
 use Rattle.transfer.specs.AccessLaws.{load_yields, load_signed_yields, store_goes}
 use Rattle.transfer.specs.AtomicLaws.{keep_old, swap_goes, compare_and_swap_goes}
+use Rattle.transfer.specs.HelperCalls.{CallsHelper}
+use Rattle.transfer.specs.HelperCallLaws.{helper_call_goes}
 use Rattle.transfer.specs.Exact.{IsOperand, Puts, Sets, GoesOn, StoresAt, SwapsAtPlace, ComparesAtPlace, Sides, Branches, JumpsTo, answered, Calls, ExitsFrom, Performs, Tested, Steps}
 
 -- ---- operands
@@ -100,10 +106,10 @@ just_allowed e k n h = absurd h
 
 -- what a form puts into its register is there, and its kind allows it
 puts_yields : (p : Program) (clock : ℕ → ℕ) (e : Assigned) (a : State) (s : Machine.State) (i : Insn) (d : Reg) (k : Kind) → InsnFits i
-    → MeansBy p e a s → list_any (unset_in s) (reads i) ≡ false → writes i ≡ Some d → Puts a i (Ok k)
+    → MeansBy p e a s → list_any (unset_in s) (reads i) ≡ false → writes i ≡ Some d → NamesRows p.maps i → Puts p.maps a i (Ok k)
     → (r : Result Value TrapReason) × (act p clock s i ≡ sets s i d r) × YieldsUnder p a s k r
 unfolding act
-puts_yields p clock e a s (Alu w op x source) d k fits m set written h =
+puts_yields p clock e a s (Alu w op x source) d k fits m set written names h =
     let same : x ≡ d = cc in
     let (b, operand, gives) = h in
     let result : Result Value TrapReason = arithmetic op w (reg s x) (operand_value s w source) in (
@@ -113,47 +119,58 @@ puts_yields p clock e a s (Alu w op x source) d k fits m set written h =
           (operand_fits p s w source fits m.is_state) (alu_operand_set s w op x source set)
           (reg_allowed p e a s m x) (operand_allowed p e a s w source b m operand),
     )
-puts_yields p clock e a s (Neg w x) d k fits m set written h =
+puts_yields p clock e a s (Neg w x) d k fits m set written names h =
     let same : x ≡ d = cc in (
       on_number (negated w) (reg s x),
       ap (λ y. sets s (Neg w x) y (on_number (negated w) (reg s x))) same,
       yields_in p e a s k _ m (on_number_yields e (negated w) (IsNegated w) (kind_of a x) k (reg s x) (λ b c is. is.contains) h
           (reg_allowed p e a s m x)),
     )
-puts_yields p clock e a s (MovSx by x r) d k fits m set written h =
+puts_yields p clock e a s (MovSx by x r) d k fits m set written names h =
     let same : x ≡ d = cc in (
       on_number (sign_extended by) (reg s r),
       ap (λ y. sets s (MovSx by x r) y (on_number (sign_extended by) (reg s r))) same,
       yields_in p e a s k _ m (on_number_yields e (sign_extended by) (IsSignExtended by) (kind_of a r) k (reg s r) (λ b c is. is.contains) h
           (reg_allowed p e a s m r)),
     )
-puts_yields p clock e a s (ByteSwap order span x) d k fits m set written h =
+puts_yields p clock e a s (ByteSwap order span x) d k fits m set written names h =
     let same : x ≡ d = cc in (
       on_number (reordered order span) (reg s x),
       ap (λ y. sets s (ByteSwap order span x) y (on_number (reordered order span) (reg s x))) same,
       yields_in p e a s k _ m (on_number_yields e (reordered order span) (IsReordered order span) (kind_of a x) k (reg s x) (λ b c is. is.contains) h
           (reg_allowed p e a s m x)),
     )
-puts_yields p clock e a s (LoadNumber x n) d k fits m set written h =
+puts_yields p clock e a s (LoadNumber x n) d k fits m set written names h =
     let same : x ≡ d = cc in
     let (b, just, is) = h in
     let kind : k ≡ b = cc in
     (Ok (value.Num n), ap (λ y. sets s (LoadNumber x n) y (Ok (value.Num n))) same, yields_in p e a s k (Ok (value.Num n)) m (rw kind (just_allowed e b n just)))
-puts_yields p clock e a s (Load size x place) d k fits m set written h =
+puts_yields p clock e a s (LoadMap x j) d k fits m set written names h =
+    let same : x ≡ d = cc in
+    let kind : k ≡ kind.Map j = cc in
+    (Ok (map_pointer j), ap (λ y. sets s (LoadMap x j) y (Ok (map_pointer j))) same, yields_in p e a s k (Ok (map_pointer j)) m (rw kind refl))
+puts_yields p clock e a s (LoadMapValue x j offset) d k fits m set written names h =
+    let same : x ≡ d = cc in
+    let kind : k ≡ kind.MapValue j (pos offset) (pos offset) = cc in (
+      Ok (value_pointer s j offset),
+      ap (λ y. sets s (LoadMapValue x j offset) y (Ok (value_pointer s j offset))) same,
+      yields_in p e a s k (Ok (value_pointer s j offset)) m (rw kind (value_pointer_allowed p e a s j offset m names)),
+    )
+puts_yields p clock e a s (Load size x place) d k fits m set written names h =
     let same : x ≡ d = cc in
     let result : Result Value TrapReason = load s size (base_of s place) place.offset in (
       result,
       ap (λ y. sets s (Load size x place) y result) same,
       yields_in p e a s k result m (load_yields p e a s size (kind_of a place.base) k place.offset (base_of s place) m h (reg_allowed p e a s m place.base)),
     )
-puts_yields p clock e a s (LoadSx size x place) d k fits m set written h =
+puts_yields p clock e a s (LoadSx size x place) d k fits m set written names h =
     let same : x ≡ d = cc in
     let result : Result Value TrapReason = load_signed s size (base_of s place) place.offset in (
       result,
       ap (λ y. sets s (LoadSx size x place) y result) same,
       yields_in p e a s k result m (load_signed_yields p e a s size (kind_of a place.base) k place.offset (base_of s place) m h (reg_allowed p e a s m place.base)),
     )
-puts_yields p clock e a s i d k fits m set written h = absurd (cc)
+puts_yields p clock e a s i d k fits m set written names h = absurd h
 
 below_eleven : (r : Reg) → reg_number r < 11
 below_eleven R0 = omega arith
@@ -183,10 +200,10 @@ unfolding Means
 one_means p e w b c next t one is m = subst (λ x. InSome p x b c t) (sym one) (e, subst (λ y. MeansBy p e y t) (sym is) m)
 
 sets_in : (p : Program) (clock : ℕ → ℕ) (e : Assigned) (a : State) (s : Machine.State) (i : Insn) (w : Ways) (b c : State)
-    → InsnFits i → IfNext (act p clock s i) (IsState p) → MeansBy p e a s → list_any (unset_in s) (reads i) ≡ false
-    → w ≡ ways.One → Sets a i b → After (InSome p w b c) (act p clock s i)
-sets_in p clock e a s i w b c fits keeps m set one h =
-    let (r, is, y) = puts_yields p clock e a s i h.register h.kind fits m set h.written h.puts in
+    → InsnFits i → NamesRows p.maps i → IfNext (act p clock s i) (IsState p) → MeansBy p e a s → list_any (unset_in s) (reads i) ≡ false
+    → w ≡ ways.One → Sets p.maps a i b → After (InSome p w b c) (act p clock s i)
+sets_in p clock e a s i w b c fits names keeps m set one h =
+    let (r, is, y) = puts_yields p clock e a s i h.register h.kind fits m set h.written names h.puts in
     let next : State = go_to (with_register a h.register h.kind) (a.slot + slots_of i) in
     After-weaker (MeansBy p y.0 next) (InSome p w b c) (act p clock s i) (λ t means. one_means p y.0 w b c next t one h.next means)
     (sets_goes p clock y.0 a s i h.register h.kind r keeps y.1 h.own is y.2)
@@ -194,30 +211,31 @@ sets_in p clock e a s i w b c fits keeps m set one h =
 -- ---- stores
 
 -- the machine goes on with what is left
-left_goes : (p : Program) (e : Assigned) (a : State) (s : Machine.State) (i : Insn) (went : Result Machine.State TrapReason) (w : Ways) (b c left : State)
-    → slots_of i ≡ 1 → IfNext (goes_on s i went) (IsState p) → MeansBy p e a s → GoesInto p e left went → w ≡ ways.One → b ≡ go_to left (a.slot + 1)
+left_goes : (p : Program) (e f : Assigned) (a : State) (s : Machine.State) (i : Insn) (went : Result Machine.State TrapReason) (w : Ways) (b c left : State)
+    → slots_of i ≡ 1 → IfNext (goes_on s i went) (IsState p) → MeansBy p e a s → GoesInto p f left went → w ≡ ways.One → b ≡ go_to left (a.slot + 1)
     → After (InSome p w b c) (goes_on s i went)
-left_goes p e a s i (Ok t) w b c left one is m goes way next =
+left_goes p e f a s i (Ok t) w b c left one is m goes way next =
     let n : ℕ = s.slot + slots_of i in
-    let gone = MeansBy-go_to p e left t n is.slot goes in
+    let gone = MeansBy-go_to p f left t n is.slot goes in
     let same : n ≡ a.slot + 1 = ap (λ k. s.slot + k) one ∙ ap (λ k. k + 1) m.slot_is in
-    one_means p e w b c (go_to left (a.slot + 1)) (Machine.go_to t n) way next
-    (subst (λ k. MeansBy p e (go_to left k) (Machine.go_to t n)) same gone)
-left_goes p e a s i (Err reason) w b c left one is m goes way next = absurd goes
+    one_means p f w b c (go_to left (a.slot + 1)) (Machine.go_to t n) way next
+    (subst (λ k. MeansBy p f (go_to left k) (Machine.go_to t n)) same gone)
+left_goes p e f a s i (Err reason) w b c left one is m goes way next = absurd goes
 
 goes_in : (p : Program) (e : Assigned) (a : State) (s : Machine.State) (i : Insn) (leaves : State → Result (Unit {0}) Refusal → Type 0)
     (went : Result Machine.State TrapReason) (w : Ways) (b c : State) → slots_of i ≡ 1 → MeansBy p e a s
-    → ((left : State) → leaves left (Ok tt) → GoesInto p e left went) → IfNext (goes_on s i went) (IsState p) → GoesOn a leaves (Ok w) b
+    → ((left : State) → leaves left (Ok tt) → GoesIntoSome p left went) → IfNext (goes_on s i went) (IsState p) → GoesOn a leaves (Ok w) b
     → After (InSome p w b c) (goes_on s i went)
 goes_in p e a s i leaves went w b c one m goes is h =
-    left_goes p e a s i went w b c h.1.left one is m (goes h.1.left h.1.leaving) h.0 h.1.next
+    let (f, left) = goes h.1.left h.1.leaving in
+    left_goes p e f a s i went w b c h.1.left one is m left h.0 h.1.next
 
 stores_in : (p : Program) (e : Assigned) (a : State) (s : Machine.State) (i : Insn) (size : Size) (place : Place) (source : Kind) (u : Value) (w : Ways) (b c : State)
     → slots_of i ≡ 1 → MeansBy p e a s → Allows e source u → IsValue (length p.maps) s.next_serial u
-    → IfNext (goes_on s i (store s size (base_of s place) place.offset u)) (IsState p) → GoesOn a (StoresAt a size place source) (Ok w) b
+    → IfNext (goes_on s i (store s size (base_of s place) place.offset u)) (IsState p) → GoesOn a (StoresAt p.maps a size place source) (Ok w) b
     → After (InSome p w b c) (goes_on s i (store s size (base_of s place) place.offset u))
 stores_in p e a s i size place source u w b c one m allowed fits is h =
-    goes_in p e a s i (StoresAt a size place source) (store s size (base_of s place) place.offset u) w b c one m
+    goes_in p e a s i (StoresAt p.maps a size place source) (store s size (base_of s place) place.offset u) w b c one m
     (λ left stores. store_goes p e a s size (kind_of a place.base) source place.offset (base_of s place) u left m stores
     (reg_allowed p e a s m place.base) allowed fits) is h
 
@@ -311,44 +329,47 @@ exits_in p e a s w b c (suc n) callers is m h =
 
 -- ---- instructions
 
-performs_in : (p : Program) (clock : ℕ → ℕ) (e : Assigned) (a : State) (s : Machine.State) (i : Insn) (w : Ways) (b c : State)
-    → is_frame_pointer (writes i) ≡ false → InsnFits i → MeansBy p e a s → list_any (unset_in s) (reads i) ≡ false
+performs_in : (p : Program) (clock : ℕ → ℕ) → IsClock clock → All IsRow p.maps → (e : Assigned) (a : State) (s : Machine.State) (i : Insn) (w : Ways) (b c : State)
+    → is_frame_pointer (writes i) ≡ false → InsnFits i → NamesRows p.maps i → MeansBy p e a s → list_any (unset_in s) (reads i) ≡ false
     → IfNext (act p clock s i) (IsState p) → Performs p a i (Ok w) b c → After (InSome p w b c) (act p clock s i)
 unfolding act
-performs_in p clock e a s (StoreConstant size place k) w b c own fits m set is h =
+performs_in p clock answers rows e a s (StoreConstant size place k) w b c own fits names m set is h =
     let (source, just, stores) = h in
     stores_in p e a s (StoreConstant size place k) size place source (value.Num (unsigned Full64 k)) w b c refl m
     (just_allowed e source (unsigned Full64 k) just) (unsigned_fits Full64 k fits.1) is stores
-performs_in p clock e a s (Store size place r) w b c own fits m set is h =
+performs_in p clock answers rows e a s (Store size place r) w b c own fits names m set is h =
     stores_in p e a s (Store size place r) size place (kind_of a r) (reg s r) w b c refl m
     (reg_allowed p e a s m r) (reg_fits p s r m.is_state) is h
-performs_in p clock e a s (Atomic v op fetched place r) w b c own fits m set is h =
-    goes_in p e a s (Atomic v op fetched place r) (SwapsAtPlace a v place r (writes (Atomic v op fetched place r)))
+performs_in p clock answers rows e a s (Atomic v op fetched place r) w b c own fits names m set is h =
+    goes_in p e a s (Atomic v op fetched place r) (SwapsAtPlace p.maps a v place r (writes (Atomic v op fetched place r)))
     (and_then (atomic_number (reg s r)) (λ y. swaps_in s v place (λ x. alu (atomic_alu op) v x y) (fetched_into fetched r))) w b c refl m
     (λ left swaps. swap_goes p e a s (kind_of a r) (kind_of a place.base) (reg s r) v place (writes (Atomic v op fetched place r)) left
     (λ y x. alu (atomic_alu op) v x y) (fetched_into fetched r) m own (reg_allowed p e a s m r) (reg_allowed p e a s m place.base)
     (fetches v op fetched place r) swaps) is h
-performs_in p clock e a s (Exchange v place r) w b c own fits m set is h =
-    goes_in p e a s (Exchange v place r) (SwapsAtPlace a v place r (Some r))
+performs_in p clock answers rows e a s (Exchange v place r) w b c own fits names m set is h =
+    goes_in p e a s (Exchange v place r) (SwapsAtPlace p.maps a v place r (Some r))
     (and_then (atomic_number (reg s r)) (λ y. swaps_in s v place (λ x. y) (fetched_into true r))) w b c refl m
     (λ left swaps. swap_goes p e a s (kind_of a r) (kind_of a place.base) (reg s r) v place (Some r) left
     (λ y x. y) (fetched_into true r) m own (reg_allowed p e a s m r) (reg_allowed p e a s m place.base) refl swaps) is h
-performs_in p clock e a s (CompareExchange v place r) w b c own fits m set is h =
-    goes_in p e a s (CompareExchange v place r) (ComparesAtPlace a v place r)
+performs_in p clock answers rows e a s (CompareExchange v place r) w b c own fits names m set is h =
+    goes_in p e a s (CompareExchange v place r) (ComparesAtPlace p.maps a v place r)
     (and_then (atomic_number (reg s r)) (λ y. and_then (atomic_number (reg s R0)) (λ x.
     swaps_in s v place (λ old. if old == low v x then y else old) (fetched_into true R0)))) w b c refl m
     (λ left compares. compare_and_swap_goes p e a s (kind_of a r) (kind_of a place.base) (reg s r) v place left
     (λ y x old. if old == low v x then y else old) (fetched_into true R0) m (reg_allowed p e a s m r) (reg_allowed p e a s m place.base)
     refl compares) is h
-performs_in p clock e a s (Jump by) w b c own fits m set is h = jumps_in p e a s by w b c is m h
-performs_in p clock e a s (JumpLong by) w b c own fits m set is h = jumps_in p e a s by w b c is m h
-performs_in p clock e a s (JumpIf cond by) w b c own fits m set is h =
+performs_in p clock answers rows e a s (Jump by) w b c own fits names m set is h = jumps_in p e a s by w b c is m h
+performs_in p clock answers rows e a s (JumpLong by) w b c own fits names m set is h = jumps_in p e a s by w b c is m h
+performs_in p clock answers rows e a s (JumpIf cond by) w b c own fits names m set is h =
     let (t, says) = test-defined p e a s cond h.compared m in
     subst (λ r. After (InSome p w b c) (branches s p by r)) (sym says)
     (branches_in p e a s cond by w b c t says (subst (λ r. IfNext (branches s p by r) (IsState p)) says is) m h)
-performs_in p clock e a s (CallLocal by) w b c own fits m set is h = calls_in p e a s by w b c is m h
-performs_in p clock e a s Exit w b c own fits m set is h = exits_in p e a s w b c (length a.callers.items) refl is m h
-performs_in p clock e a s i w b c own fits m set is h = sets_in p clock e a s i w b c fits is m set h.0 h.1
+performs_in p clock answers rows e a s (CallLocal by) w b c own fits names m set is h = calls_in p e a s by w b c is m h
+performs_in p clock answers rows e a s Exit w b c own fits names m set is h = exits_in p e a s w b c (length a.callers.items) refl is m h
+performs_in p clock answers rows e a s (CallHelper number) w b c own fits names m set is h =
+    goes_in p e a s (CallHelper number) (CallsHelper p.maps a number) (after_call (helper_call p clock s (helper_numbered number))) w b c refl m
+    (λ left calls. helper_call_goes p clock e a s number left answers rows m calls) is h
+performs_in p clock answers rows e a s i w b c own fits names m set is h = sets_in p clock e a s i w b c fits names is m set h.0 h.1
 
 -- a step that is made passed the tests
 pub tested_rest : (x y : Bool) (u v : Refusal) (w : Ways) (Rest : Type 0) → Tested (if x then Some u else if y then Some v else None) (Ok w) Rest
@@ -372,4 +393,4 @@ Steps-leads p a i w b c program here h = λ clock answers s means.
     let keeps = act_keeps p clock s i fits inside program.rows (program.named s.slot i at) answers m.is_state in
     let acts : performed_at p clock s (fetch p s.slot) ≡ act p clock s i = ap (performed_at p clock s) at ∙ performed_acts p clock s i set own in
     subst (After (InSome p w b c)) (sym acts)
-    (performs_in p clock e a s i w b c own fits m set keeps performs)
+    (performs_in p clock answers program.rows e a s i w b c own fits (program.named s.slot i at) m set keeps performs)

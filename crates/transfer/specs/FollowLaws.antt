@@ -4,7 +4,7 @@ use Rattle.std.proofs.Common.{inl, inr, sym, ap, ◌∙◌, subst, arith}
 use Rattle.isa_model.specs.declared.registers.Reg.TheVariants.{R0}
 use Rattle.isa_model.specs.declared.instructions.Cond.{Cond}
 use Rattle.isa_model.specs.declared.instructions.Insn.{Insn}
-use Rattle.isa_model.specs.declared.instructions.Insn.TheVariants.{StoreConstant, Store, Atomic, Exchange, CompareExchange, Jump, JumpLong, JumpIf, CallLocal, Exit}
+use Rattle.isa_model.specs.declared.instructions.Insn.TheVariants.{StoreConstant, Store, Atomic, Exchange, CompareExchange, Jump, JumpLong, JumpIf, CallHelper, CallLocal, Exit}
 use Rattle.isa_model.specs.Code.Sizes.{width_size}
 use Rattle.isa_model.specs.Code.Instructions.{Program, fetch, slots_of, writes, is_frame_pointer}
 use Rattle.isa_model.specs.Machine.Steps.{destination}
@@ -23,7 +23,8 @@ use Rattle.transfer.specs.declared.Ways.TheVariants as ways
 use Rattle.transfer.specs.Leading.{EachWay}
 use Rattle.transfer.specs.Refusing.{reads_unset}
 use Rattle.transfer.specs.Following.{returns_of, GoesOnTo}
-use Rattle.transfer.specs.ReturnLaws.{returns-stores, returns-swaps, returns-compares, returns-refines}
+use Rattle.transfer.specs.ReturnLaws.{returns-stores, returns-swaps, returns-compares, returns-refines, returns-calls_helper}
+use Rattle.transfer.specs.HelperCalls.{CallsHelper}
 use Rattle.transfer.specs.Exact.{Sets, GoesOn, Sides, Branches, Calls, answered, ExitsFrom, Performs, Steps}
 use Rattle.transfer.specs.ExactLaws.{tested_rest}
 
@@ -53,7 +54,7 @@ one_after p a i w b c left here falls one next returns =
     }))
 
 sets_follows : (p : Program) (a : State) (i : Insn) (w : Ways) (b c : State) → fetch p a.slot ≡ Some i → falls_through i ≡ true
-    → w ≡ ways.One → Sets a i b → EachWay w b c (GoesOnTo p a)
+    → w ≡ ways.One → Sets p.maps a i b → EachWay w b c (GoesOnTo p a)
 sets_follows p a i w b c here falls one h =
     one_after p a i w b c (with_register a h.register h.kind) here falls one h.next (returns-with a h.register h.kind)
 
@@ -114,19 +115,21 @@ performs_follows p a (CallLocal by) w b c here h = calls_follow p a by w b c her
 performs_follows p a Exit w b c here h = exits_follow p a w b c (length a.callers.items) refl here h
 performs_follows p a (StoreConstant size place k) w b c here h =
     goes_follows p a (StoreConstant size place k) _ w b c here refl refl
-    (λ left. returns-stores a left size (kind_of a place.base) place.offset h.0) h.2
+    (λ left. returns-stores p.maps a left size (kind_of a place.base) place.offset h.0) h.2
 performs_follows p a (Store size place r) w b c here h =
     goes_follows p a (Store size place r) _ w b c here refl refl
-    (λ left. returns-stores a left size (kind_of a place.base) place.offset (kind_of a r)) h
+    (λ left. returns-stores p.maps a left size (kind_of a place.base) place.offset (kind_of a r)) h
 performs_follows p a (Atomic v op fetched place r) w b c here h =
     goes_follows p a (Atomic v op fetched place r) _ w b c here refl refl
-    (λ left. returns-swaps a left (kind_of a r) (kind_of a place.base) place.offset (width_size v) (writes (Atomic v op fetched place r))) h
+    (λ left. returns-swaps p.maps a left (kind_of a r) (kind_of a place.base) place.offset (width_size v) (writes (Atomic v op fetched place r))) h
 performs_follows p a (Exchange v place r) w b c here h =
     goes_follows p a (Exchange v place r) _ w b c here refl refl
-    (λ left. returns-swaps a left (kind_of a r) (kind_of a place.base) place.offset (width_size v) (Some r)) h
+    (λ left. returns-swaps p.maps a left (kind_of a r) (kind_of a place.base) place.offset (width_size v) (Some r)) h
 performs_follows p a (CompareExchange v place r) w b c here h =
     goes_follows p a (CompareExchange v place r) _ w b c here refl refl
-    (λ left. returns-compares a left (kind_of a R0) (kind_of a r) (kind_of a place.base) place.offset (width_size v)) h
+    (λ left. returns-compares p.maps a left (kind_of a R0) (kind_of a r) (kind_of a place.base) place.offset (width_size v)) h
+performs_follows p a (CallHelper number) w b c here h =
+    goes_follows p a (CallHelper number) (CallsHelper p.maps a number) w b c here refl refl (λ left. returns-calls_helper p.maps a left number) h
 performs_follows p a i w b c here h = sets_follows p a i w b c here refl h.0 h.1
 
 -- each successor is at a slot that the instruction leads to, with the frames that it leaves

@@ -80,12 +80,12 @@ context_load_yields e s size by k v h of interface queue allowed = absurd (cc h)
 -- ---- places in the packet
 
 -- the bytes from an offset on
-place_from : (z : ℤ) (n m : ℕ) → pos 0 ≤ℤ z → (z +ℤ pos n) ≤ℤ pos m → (i : ℕ) × (index_from z ≡ Some i) × (i + n ≤ m)
+pub place_from : (z : ℤ) (n m : ℕ) → pos 0 ≤ℤ z → (z +ℤ pos n) ≤ℤ pos m → (i : ℕ) × (index_from z ≡ Some i) × (i + n ≤ m)
 place_from (pos i) n m from to = (i, refl, omega (arith, ints))
 place_from (negsuc i) n m from to = absurd (omega (arith, ints))
 
 -- bytes that are known to be in the packet are there
-packet_place : (e : Assigned) (s : Machine.State) (fixed least greatest : ℤ) (identity proved bytes : ℕ) (by : ℤ) (v : Value) → IsOf e s
+pub packet_place : (e : Assigned) (s : Machine.State) (fixed least greatest : ℤ) (identity proved bytes : ℕ) (by : ℤ) (v : Value) → IsOf e s
     → AreInPacket fixed least proved by bytes → AllowsPacket e fixed identity least greatest proved v
     → (i : ℕ) × (index_from ((fixed +ℤ e.offset identity) +ℤ by) ≡ Some i) × (i + bytes ≤ length s.packet)
 packet_place e s fixed least greatest identity proved bytes by v of h allowed =
@@ -133,7 +133,7 @@ packet_number_below p s size i is inside =
     number_from_below size (bytes_at s i (size_bytes size)) long
     (EachByte-take (size_bytes size) (drop i s.packet) (EachByte-drop i s.packet (slice_index_fits s.packet is.packet)))
 
-number_yields : (e : Assigned) (says : Scalar → Type 0) (k : Kind) (x : ℕ) → ((c : Scalar) → says c → Has c x) → IsNumberOf says k → Allows e k (Num x)
+pub number_yields : (e : Assigned) (says : Scalar → Type 0) (k : Kind) (x : ℕ) → ((c : Scalar) → says c → Has c x) → IsNumberOf says k → Allows e k (Num x)
 number_yields e says (Number c) x each h = (x, refl, each c h)
 number_yields e says k x each h = absurd h
 
@@ -156,7 +156,7 @@ back_16 z f = let wide : FitsSigned w64 z = record { sfits = let s = f.sfits in 
 back_32 : (z : ℤ) → FitsSigned w32 z → FitsSigned w32 (cast_signed w64 (cast_unsigned w64 z))
 back_32 z f = let wide : FitsSigned w64 z = record { sfits = let s = f.sfits in omega arith } in rw (to_z-of_z w64 z wide) f
 
-extended_fits : (size : Narrow) (n : ℕ)
+pub extended_fits : (size : Narrow) (n : ℕ)
     → FitsSigned (extension_signed (narrow_extension size)) (cast_signed w64 (sign_extended (narrow_extension size) n))
 unfolding sign_extended
 extended_fits S8 n = back_8 (cast_signed w8 (n % 2 ^ 8)) (sfits_to_z {w = w8} {n = n % 2 ^ 8} (record { fits = omega arith }))
@@ -213,7 +213,7 @@ moved_between true p off near far by from to low high = (omega (arith, ints), om
 moved_between false p off near far by from to low high = (omega (arith, ints), omega (arith, ints))
 
 -- what is between two offsets of pointers is one
-offset_between : (from to z : ℤ) → AreOffsets from to → from ≤ℤ z → z ≤ℤ to → unsigned_abs z ≤ offset_limit
+pub offset_between : (from to z : ℤ) → AreOffsets from to → from ≤ℤ z → z ≤ℤ to → unsigned_abs z ≤ offset_limit
 offset_between from to z h low high = let a = h.from_is in let b = h.to_is in omega (arith, ints)
 
 -- the fixed part moves, the variable one stays

@@ -50,18 +50,18 @@ abbrev pub IsNumberOf : (Scalar → Type 0) → Kind → Type 0
 IsNumberOf says (Number c) = says c
 IsNumberOf says k = ⊥
 
--- a kind is given where the bytes are in the packet
-abbrev pub GivesIf : Type 0 → (Scalar → Type 0) → Result Kind Refusal → Type 0
-GivesIf inside says (Ok k) = inside × IsNumberOf says k
-GivesIf inside says (Err e) = (e ≡ PacketBytes) × ¬ inside
+-- a number is given where the bytes are there, and else the refusal
+abbrev pub GivesIf : Refusal → Type 0 → (Scalar → Type 0) → Result Kind Refusal → Type 0
+GivesIf refusal inside says (Ok k) = inside × IsNumberOf says k
+GivesIf refusal inside says (Err e) = (e ≡ refusal) × ¬ inside
 
 abbrev pub PacketLoads : Size → ℤ → ℤ → ℕ → ℤ → Result Kind Refusal → Type 0
 PacketLoads size fixed least proved by answer =
-    GivesIf (AreInPacket fixed least proved by (size_bytes size)) (IsOfSize size) answer
+    GivesIf PacketBytes (AreInPacket fixed least proved by (size_bytes size)) (IsOfSize size) answer
 
 abbrev pub PacketLoadsSigned : Narrow → ℤ → ℤ → ℕ → ℤ → Result Kind Refusal → Type 0
 PacketLoadsSigned size fixed least proved by answer =
-    GivesIf (AreInPacket fixed least proved by (size_bytes (narrow_size size))) (IsOfSignedSize size) answer
+    GivesIf PacketBytes (AreInPacket fixed least proved by (size_bytes (narrow_size size))) (IsOfSignedSize size) answer
 
 -- ---- stores
 
@@ -72,13 +72,13 @@ IsStored (MapValueOrNull m identity) answer = answer ≡ Err NullNotTested
 IsStored k answer = answer ≡ Err PointerStored
 
 -- the bytes are tested first
-abbrev pub StoresIf : Type 0 → Kind → Result (Unit {0}) Refusal → Type 0
-StoresIf inside source answer =
-    (inside × IsStored source answer) ⊎ ((¬ inside) × (answer ≡ Err PacketBytes))
+abbrev pub StoresIf : Refusal → Type 0 → Kind → Result (Unit {0}) Refusal → Type 0
+StoresIf refusal inside source answer =
+    (inside × IsStored source answer) ⊎ ((¬ inside) × (answer ≡ Err refusal))
 
 abbrev pub PacketStores : Size → ℤ → ℤ → ℕ → ℤ → Kind → Result (Unit {0}) Refusal → Type 0
 PacketStores size fixed least proved by source answer =
-    StoresIf (AreInPacket fixed least proved by (size_bytes size)) source answer
+    StoresIf PacketBytes (AreInPacket fixed least proved by (size_bytes size)) source answer
 
 -- ---- moves
 

@@ -12,7 +12,7 @@ use Rattle.reg_state.specs.declared.kinds.Kind.TheVariants as kind
 use Rattle.stack_state.specs.declared.states.State.{State}
 use Rattle.stack_state.specs.Places.{kind_of}
 use Rattle.transfer.specs.declared.refusals.Refusal.{Refusal}
-use Rattle.transfer.specs.declared.refusals.Refusal.TheVariants.{UnsetRegister, ReadOnlyRegister, NotMemory, ContextAccess, NullNotTested, Comparison, NotBuilt}
+use Rattle.transfer.specs.declared.refusals.Refusal.TheVariants.{UnsetRegister, ReadOnlyRegister, NotMemory, ContextAccess, NullNotTested, Comparison}
 
 abbrev pub is_unset : Kind → Bool
 is_unset kind.Unset = true
@@ -35,7 +35,6 @@ register_refusal a i =
 -- why there is no access through a kind, where no other test decides
 abbrev pub access_refusal : Kind → Refusal
 access_refusal kind.Context = ContextAccess
-access_refusal (kind.MapValue index least greatest) = NotBuilt
 access_refusal (kind.MapValueOrNull index identity) = NullNotTested
 access_refusal k = NotMemory
 

@@ -13,9 +13,10 @@ use Rattle.reg_state.specs.Scalars.{Has, IsNumber}
 use Rattle.reg_state.specs.Arithmetic.{IsAlu}
 use Rattle.transfer.specs.declared.packets.PacketPointer.{PacketPointer}
 use Rattle.transfer.specs.declared.refusals.Refusal.{Refusal}
-use Rattle.transfer.specs.declared.refusals.Refusal.TheVariants.{PointerOperand, PointerOffset, NullNotTested, NotBuilt}
+use Rattle.transfer.specs.declared.refusals.Refusal.TheVariants.{PointerOperand, PointerOffset, NullNotTested}
 use Rattle.stack_state.specs.declared.states.State.{State}
 use Rattle.transfer.specs.Packets.{PacketMoves}
+use Rattle.transfer.specs.Values.{nearest, farthest, ValueMoves}
 
 -- ---- numbers
 
@@ -63,7 +64,8 @@ abbrev pub Moves : State → Bool → Kind → Scalar → Result Kind Refusal �
 Moves a back (Stack frame offset) by result = (o : Option ℕ) × LeavesNumber by o × (result ≡ moved_frame back frame offset o)
 Moves a back (Packet fixed identity least greatest proved) by result =
     PacketMoves a back (packet_pointer fixed identity least greatest proved) by result
-Moves a back (MapValue index least greatest) by result = result ≡ Err NotBuilt
+Moves a back (MapValue m least greatest) by result =
+    (o : Option ℕ) × LeavesNumber by o × ValueMoves back m least greatest (nearest by o) (farthest by o) result
 Moves a back (MapValueOrNull index identity) by result = result ≡ Err NullNotTested
 Moves a back pointer by result = result ≡ Err PointerOperand
 

@@ -1,5 +1,5 @@
 -- Every instruction but a local call and an exit leaves the live frames' exits where they lead.
-use Rattle.std.specs.Prelude.{◌≡◌, ℕ, ◌<◌, ℤ, Bool, true, false, if◌then◌else◌, List, [], ◌∷◌, ◌++◌, map, Option, Some, None, Ok, refl}
+use Rattle.std.specs.Prelude.{◌≡◌, ℕ, ◌<◌, ℤ, Bool, true, false, if◌then◌else◌, List, [], ◌∷◌, ◌++◌, map, Option, Some, None, Result, Ok, Err, refl}
 use Rattle.std.proofs.Common.{sym, ap, ◌∙◌}
 use Rattle.std.proofs.lemmas.List.{map-append}
 use Rattle.std.proofs.Math.Seq.{map-set_same}
@@ -8,6 +8,7 @@ use Rattle.isa_model.specs.declared.sizes.Size.TheVariants.{U64}
 use Rattle.isa_model.specs.declared.registers.Reg.{Reg}
 use Rattle.isa_model.specs.declared.registers.Reg.TheVariants.{R0}
 use Rattle.isa_model.specs.declared.instructions.Cond.{Cond}
+use Rattle.isa_model.specs.declared.map_defs.MapDef.{MapDef}
 use Rattle.reg_state.specs.declared.scalars.Scalar.{Scalar}
 use Rattle.reg_state.specs.declared.kinds.Kind.{Kind}
 use Rattle.reg_state.specs.declared.kinds.Kind.TheVariants as kind
@@ -15,7 +16,7 @@ use Rattle.stack_state.specs.declared.slots.Slot.{Slot}
 use Rattle.stack_state.specs.declared.states.State.{State}
 use Rattle.stack_state.specs.Meaning.{frames_of, frame_of, no_frame, depth}
 use Rattle.stack_state.specs.MeaningLaws.{returns-with}
-use Rattle.stack_state.specs.Effects.{with_slots, with_frame_slots, with_kinds, map_kinds, proved_kind}
+use Rattle.stack_state.specs.Effects.{with_slots, with_frame_slots, forgotten_frame, with_kinds, map_kinds, proved_kind}
 use Rattle.stack_state.specs.EffectLaws.{frames_of-with_frame, frames_of-map, same_returns}
 use Rattle.branch_refine.specs.Comparing.{compared_by, same}
 use Rattle.branch_refine.specs.Refining.{Narrows, Leaves, Refines}
@@ -25,6 +26,15 @@ use Rattle.branch_refine.specs.declared.comparing.Compared.TheVariants as compar
 use Rattle.transfer.specs.StackAccesses.{IsLeft}
 use Rattle.transfer.specs.Accesses.{Stores}
 use Rattle.transfer.specs.Atomics.{with_old, IsSwapped, SwapsAt, Swaps, ComparesIn}
+use Rattle.isa_model.specs.declared.map_defs.MapKind.{MapKind}
+use Rattle.isa_model.specs.declared.map_defs.MapKind.TheVariants.{Hash, Array}
+use Rattle.isa_model.specs.declared.helpers.Helper.{Helper}
+use Rattle.isa_model.specs.declared.helpers.Helper.TheVariants.{MapLookupElem, MapUpdateElem, MapDeleteElem, KtimeGetNs}
+use Rattle.isa_model.specs.Code.Helpers.{helper_numbered}
+use Rattle.stack_state.specs.HelperEffects.{returns-with_answer}
+use Rattle.transfer.specs.declared.refusals.Refusal.{Refusal}
+use Rattle.transfer.specs.declared.helpers.CalledMap.{CalledMap}
+use Rattle.transfer.specs.HelperCalls.{key_arguments, update_arguments, KeyIsKnown, ValueIsKnown, AnswersNumber, AnswersValue, without_values, LeavesIf, Helps, CallsHelper}
 use Rattle.transfer.specs.Following.{returns_of}
 
 -- ---- memory
@@ -39,10 +49,10 @@ returns-left a b frame at U64 source live h = ap returns_of h.left ∙ returns-w
 returns-left a b frame at size source live h = ap returns_of h.left ∙ returns-with_frame_slots a frame _ live
 
 -- a store
-pub returns-stores : (a b : State) (size : Size) (base : Kind) (by : ℤ) (source : Kind) → Stores a size base by source b (Ok tt) → returns_of b ≡ returns_of a
-returns-stores a b size (kind.Stack frame z) by source h = returns-left a b frame h.0 size source h.1.live h.3
-returns-stores a b size (kind.Packet fixed identity least greatest proved) by source h = ap returns_of h.0
-returns-stores a b size base by source h = ap returns_of h.0
+pub returns-stores : (rows : List MapDef) (a b : State) (size : Size) (base : Kind) (by : ℤ) (source : Kind) → Stores rows a size base by source b (Ok tt) → returns_of b ≡ returns_of a
+returns-stores rows a b size (kind.Stack frame z) by source h = returns-left a b frame h.0 size source h.1.live h.3
+returns-stores rows a b size (kind.Packet fixed identity least greatest proved) by source h = ap returns_of h.0
+returns-stores rows a b size base by source h = ap returns_of h.0
 
 returns-with_old : (a : State) (register : Option Reg) (old : Scalar) → returns_of (with_old register old a) ≡ returns_of a
 returns-with_old a None old = refl
@@ -52,22 +62,23 @@ returns-swapped : (a b : State) (frame at : ℕ) (size : Size) (register : Optio
 returns-swapped a b frame at size register live h =
     ap returns_of h.kept ∙ returns-with_old h.after register h.old ∙ ap returns_of h.stored.left ∙ returns-with_frame_slots a frame _ live
 
-returns-swaps_at : (a b : State) (base : Kind) (by : ℤ) (size : Size) (register : Option Reg) → SwapsAt a base by size register b (Ok tt) → returns_of b ≡ returns_of a
-returns-swaps_at a b (kind.Stack frame z) by size register h = returns-swapped a b frame h.0 size register h.1.live h.2
-returns-swaps_at a b (kind.Packet fixed identity least greatest proved) by size register h = ap returns_of h.2.0
-returns-swaps_at a b base by size register h = ap returns_of h.0
+returns-swaps_at : (rows : List MapDef) (a b : State) (base : Kind) (by : ℤ) (size : Size) (register : Option Reg) → SwapsAt rows a base by size register b (Ok tt) → returns_of b ≡ returns_of a
+returns-swaps_at rows a b (kind.Stack frame z) by size register h = returns-swapped a b frame h.0 size register h.1.live h.2
+returns-swaps_at rows a b (kind.Packet fixed identity least greatest proved) by size register h = ap returns_of h.2.0
+returns-swaps_at rows a b (kind.MapValue m least greatest) by size register h = ap returns_of h.1.2 ∙ returns-with_old a register h.1.0
+returns-swaps_at rows a b base by size register h = ap returns_of h.0
 
 -- an atomic instruction
-pub returns-swaps : (a b : State) (source base : Kind) (by : ℤ) (size : Size) (register : Option Reg) → Swaps a source base by size register b (Ok tt)
+pub returns-swaps : (rows : List MapDef) (a b : State) (source base : Kind) (by : ℤ) (size : Size) (register : Option Reg) → Swaps rows a source base by size register b (Ok tt)
     → returns_of b ≡ returns_of a
-returns-swaps a b (kind.Number numbers) base by size register h = returns-swaps_at a b base by size register h
-returns-swaps a b source base by size register h = ap returns_of h.0
+returns-swaps rows a b (kind.Number numbers) base by size register h = returns-swaps_at rows a b base by size register h
+returns-swaps rows a b source base by size register h = ap returns_of h.0
 
 -- CMPXCHG
-pub returns-compares : (a b : State) (compared source base : Kind) (by : ℤ) (size : Size) → ComparesIn a compared source base by size b (Ok tt)
+pub returns-compares : (rows : List MapDef) (a b : State) (compared source base : Kind) (by : ℤ) (size : Size) → ComparesIn rows a compared source base by size b (Ok tt)
     → returns_of b ≡ returns_of a
-returns-compares a b (kind.Number numbers) source base by size h = returns-swaps a b source base by size (Some R0) h
-returns-compares a b compared source base by size h = ap returns_of h.0
+returns-compares rows a b (kind.Number numbers) source base by size h = returns-swaps rows a b source base by size (Some R0) h
+returns-compares rows a b compared source base by size h = ap returns_of h.0
 
 -- ---- jumps
 
@@ -100,3 +111,36 @@ returns-leaves cond taken a some b compared.Undefined is h l = ap returns_of l.1
 -- each side of a conditional jump
 pub returns-refines : (cond : Cond) (taken : Bool) (a : State) (some : Bool) (b : State) → Refines cond taken a some b → returns_of b ≡ returns_of a
 returns-refines cond taken a some b h = returns-leaves cond taken a some b (compared_by a cond) refl h h.pointers
+
+-- ---- helpers
+
+returns-without_values : (kind : MapKind) (m : ℕ) (a : State) → returns_of (without_values kind m a) ≡ returns_of a
+returns-without_values Hash m a =
+    ap (λ fs. map (λ f. f.return_slot) fs) (frames_of-map (forgotten_frame m) a)
+    ∙ same_returns (forgotten_frame m) (frames_of a) (λ f. refl)
+returns-without_values Array m a = refl
+
+returns-leaves_if : (a b : State) (map : Result CalledMap Refusal) (Known : CalledMap → Type 0) (leaves : CalledMap → State → Type 0)
+    → ((m : CalledMap) → leaves m b → returns_of b ≡ returns_of a) → LeavesIf map Known leaves b (Ok tt) → returns_of b ≡ returns_of a
+returns-leaves_if a b (Ok m) Known leaves same h = same m h.1
+returns-leaves_if a b (Err e) Known leaves same h = absurd (cc)
+
+returns-number : (a b : State) → AnswersNumber a b → returns_of b ≡ returns_of a
+returns-number a b h = ap returns_of h.2 ∙ returns-with_answer a h.0
+
+returns-helps : (rows : List MapDef) (a b : State) (helper : Option Helper) → Helps rows a helper b (Ok tt) → returns_of b ≡ returns_of a
+returns-helps rows a b (Some MapLookupElem) h =
+    returns-leaves_if a b (key_arguments rows a) (KeyIsKnown rows a) (AnswersValue a)
+    (λ m left. ap returns_of left.2 ∙ returns-with_answer a (kind.MapValueOrNull m.index left.0)) h
+returns-helps rows a b (Some MapUpdateElem) h =
+    returns-leaves_if a b (update_arguments rows a) (λ m. KeyIsKnown rows a m × ValueIsKnown rows a m) (λ m. AnswersNumber a)
+    (λ m left. returns-number a b left) h
+returns-helps rows a b (Some MapDeleteElem) h =
+    returns-leaves_if a b (key_arguments rows a) (KeyIsKnown rows a) (λ m. AnswersNumber (without_values m.row.kind m.index a))
+    (λ m left. returns-number (without_values m.row.kind m.index a) b left ∙ returns-without_values m.row.kind m.index a) h
+returns-helps rows a b (Some KtimeGetNs) h = returns-number a b h.1
+returns-helps rows a b None h = absurd (cc)
+
+-- the call of a helper
+pub returns-calls_helper : (rows : List MapDef) (a b : State) (number : ℤ) → CallsHelper rows a number b (Ok tt) → returns_of b ≡ returns_of a
+returns-calls_helper rows a b number h = returns-helps rows a b (helper_numbered number) h

@@ -2,12 +2,15 @@
 
 ghost use Rattle.std.specs.Prelude.{false, ◌≡◌, ◌+ℤ◌};
 ghost use Rattle.isa_model.specs.Code.Instructions.{is_frame_pointer};
-ghost use Rattle.transfer.specs.Atomics.{with_old, StackSwaps, IsPacketRefusal, SwapsAt, Swaps};
+ghost use Rattle.isa_model.specs.Code.Sizes.{size_bytes};
+ghost use Rattle.transfer.specs.Values.{AreInValue};
+ghost use Rattle.transfer.specs.Atomics.{with_old, StackSwaps, ValueSwaps, IsPacketRefusal, SwapsAt, Swaps};
 ghost use Rattle.transfer.specs.Atomics.{Compares};
 
-use crate::packets::are_in_packet;
+use crate::packets::{are_in_packet, of_size};
 use crate::refusals::Refusal;
-use isa_model::{Reg, Size};
+use crate::values::{are_in_value, value_size};
+use isa_model::{MapDef, Reg, Size};
 use reg_state::{Kind, Scalar};
 use stack_state::{State, stack_place};
 
@@ -47,6 +50,27 @@ fn stack_swap(
     Ok(())
 }
 
+/// In a map's value, of whose bytes nothing is known.
+fn value_swap(
+    state: &mut State,
+    room: u32,
+    least: i32,
+    greatest: i32,
+    by: i16,
+    size: Size,
+    register: Option<Reg>,
+) -> Result<(), Refusal>
+    requires { is_frame_pointer register ≡ false }
+    ensures { ValueSwaps (AreInValue room least greatest by (size_bytes size)) state.old size register
+        state.new result }
+{
+    if !are_in_value(room, least, greatest, by, size) {
+        return Err(Refusal::MapValueBytes);
+    }
+    keep_old(state, register, of_size(size));
+    Ok(())
+}
+
 /// Why there is none in the packet: its bytes are tested first.
 fn packet_refusal(fixed: i32, least: i32, proved: u32, by: i16, size: Size) -> Refusal
     ensures { IsPacketRefusal fixed least proved by size result }
@@ -60,6 +84,7 @@ fn packet_refusal(fixed: i32, least: i32, proved: u32, by: i16, size: Size) -> R
 
 /// On numbers, through a base of that kind.
 fn swap_at(
+    maps: &[MapDef],
     state: &mut State,
     base: Kind,
     by: i16,
@@ -67,7 +92,7 @@ fn swap_at(
     register: Option<Reg>,
 ) -> Result<(), Refusal>
     requires { is_frame_pointer register ≡ false }
-    ensures { SwapsAt state.old base by size register state.new result }
+    ensures { SwapsAt maps.now state.old base by size register state.new result }
 {
     match base {
         Kind::Stack { frame, offset } => stack_swap(state, frame, offset, by, size, register),
@@ -78,7 +103,19 @@ fn swap_at(
             proved,
             ..
         } => Err(packet_refusal(fixed, least, proved, by, size)),
-        Kind::MapValue { .. } => Err(Refusal::NotBuilt),
+        Kind::MapValue {
+            index,
+            least,
+            greatest,
+        } => value_swap(
+            state,
+            value_size(maps, index),
+            least,
+            greatest,
+            by,
+            size,
+            register,
+        ),
         Kind::MapValueOrNull { .. } => Err(Refusal::NullNotTested),
         _ => Err(Refusal::NotMemory),
     }
@@ -87,6 +124,7 @@ fn swap_at(
 /// An atomic instruction that puts the old number into a register, if one is given. After a refusal
 /// the state is as before.
 pub fn swap(
+    maps: &[MapDef],
     state: &mut State,
     source: Kind,
     base: Kind,
@@ -95,26 +133,27 @@ pub fn swap(
     register: Option<Reg>,
 ) -> Result<(), Refusal>
     requires { is_frame_pointer register ≡ false }
-    ensures { Swaps state.old source base by size register state.new result }
+    ensures { Swaps maps.now state.old source base by size register state.new result }
 {
     match source {
-        Kind::Number(_) => swap_at(state, base, by, size, register),
+        Kind::Number(_) => swap_at(maps, state, base, by, size, register),
         _ => Err(Refusal::PointerOperand),
     }
 }
 
 /// CMPXCHG: r0 is an operand too, and takes the old number.
 pub fn compare_and_swap(
+    maps: &[MapDef],
     state: &mut State,
     source: Kind,
     base: Kind,
     by: i16,
     size: Size,
 ) -> Result<(), Refusal>
-    ensures { Compares state.old source base by size state.new result }
+    ensures { Compares maps.now state.old source base by size state.new result }
 {
     match state.kind_of(Reg::R0) {
-        Kind::Number(_) => swap(state, source, base, by, size, Some(Reg::R0)),
+        Kind::Number(_) => swap(maps, state, source, base, by, size, Some(Reg::R0)),
         _ => Err(Refusal::PointerOperand),
     }
 }

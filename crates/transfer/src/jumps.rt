@@ -23,7 +23,7 @@ fn is_defined(cond: Cond, state: &State) -> bool
     }
 }
 
-fn is_untested(kind: Kind) -> bool
+pub fn is_untested(kind: Kind) -> bool
     ensures { result ≡ is_untested kind }
 {
     match kind {

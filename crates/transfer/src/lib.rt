@@ -12,13 +12,16 @@ mod arithmetic;
 mod atomics;
 mod context;
 mod exits;
+mod helpers;
 mod jumps;
 mod memory;
+mod offsets;
 mod packets;
 mod pointers;
 pub mod refusals;
 mod stacks;
 mod steps;
+mod values;
 
 use crate::steps::{perform, reads_unset};
 use image::Image;
@@ -84,6 +87,6 @@ pub fn step_in_place(image: &Image, state: &mut State, other: &mut State) -> Res
     if insn.writes_frame_pointer() {
         return Err(Refusal::ReadOnlyRegister);
     }
-    let ways = perform(insn, image.slots(), state, other)?;
+    let ways = perform(insn, image.slots(), image.maps(), state, other)?;
     Ok(ways)
 }

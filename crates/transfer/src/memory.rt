@@ -8,7 +8,8 @@ use crate::context::context_load;
 use crate::packets::{packet_load, packet_load_signed, packet_store};
 use crate::refusals::Refusal;
 use crate::stacks::{stack_load, stack_load_signed, stack_store};
-use isa_model::{Narrow, Size};
+use crate::values::{value_load, value_load_signed, value_size, value_store};
+use isa_model::{MapDef, Narrow, Size};
 use reg_state::Kind;
 use stack_state::State;
 
@@ -18,15 +19,20 @@ fn access_refusal(base: Kind) -> Refusal
 {
     match base {
         Kind::Context => Refusal::ContextAccess,
-        Kind::MapValue { .. } => Refusal::NotBuilt,
         Kind::MapValueOrNull { .. } => Refusal::NullNotTested,
         _ => Refusal::NotMemory,
     }
 }
 
 /// What a load gives.
-pub fn load(state: &State, size: Size, base: Kind, by: i16) -> Result<Kind, Refusal>
-    ensures { Loads state.now size base by result }
+pub fn load(
+    maps: &[MapDef],
+    state: &State,
+    size: Size,
+    base: Kind,
+    by: i16,
+) -> Result<Kind, Refusal>
+    ensures { Loads maps.now state.now size base by result }
 {
     match base {
         Kind::Context => context_load(size, by),
@@ -37,13 +43,24 @@ pub fn load(state: &State, size: Size, base: Kind, by: i16) -> Result<Kind, Refu
             proved,
             ..
         } => packet_load(size, fixed, least, proved, by),
+        Kind::MapValue {
+            index,
+            least,
+            greatest,
+        } => value_load(size, value_size(maps, index), least, greatest, by),
         _ => Err(access_refusal(base)),
     }
 }
 
 /// What a sign-extending load gives.
-pub fn load_signed(state: &State, size: Narrow, base: Kind, by: i16) -> Result<Kind, Refusal>
-    ensures { LoadsSigned state.now size base by result }
+pub fn load_signed(
+    maps: &[MapDef],
+    state: &State,
+    size: Narrow,
+    base: Kind,
+    by: i16,
+) -> Result<Kind, Refusal>
+    ensures { LoadsSigned maps.now state.now size base by result }
 {
     match base {
         Kind::Stack { frame, offset } => stack_load_signed(state, frame, offset, by, size),
@@ -53,19 +70,25 @@ pub fn load_signed(state: &State, size: Narrow, base: Kind, by: i16) -> Result<K
             proved,
             ..
         } => packet_load_signed(size, fixed, least, proved, by),
+        Kind::MapValue {
+            index,
+            least,
+            greatest,
+        } => value_load_signed(size, value_size(maps, index), least, greatest, by),
         _ => Err(access_refusal(base)),
     }
 }
 
 /// Stores a value.
 pub fn store(
+    maps: &[MapDef],
     state: &mut State,
     size: Size,
     base: Kind,
     by: i16,
     source: Kind,
 ) -> Result<(), Refusal>
-    ensures { Stores state.old size base by source state.new result }
+    ensures { Stores maps.now state.old size base by source state.new result }
 {
     match base {
         Kind::Stack { frame, offset } => stack_store(state, frame, offset, by, size, source),
@@ -75,6 +98,11 @@ pub fn store(
             proved,
             ..
         } => packet_store(size, fixed, least, proved, by, source),
+        Kind::MapValue {
+            index,
+            least,
+            greatest,
+        } => value_store(size, value_size(maps, index), least, greatest, by, source),
         _ => Err(access_refusal(base)),
     }
 }

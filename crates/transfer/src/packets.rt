@@ -2,13 +2,13 @@
 
 ghost use Rattle.std.specs.Prelude.{◌≡◌, ◌+◌, ◌*◌, ◌^◌, ◌↔◌, ◌+ℤ◌, IsTrue};
 ghost use Rattle.isa_model.specs.Code.Sizes.{size_bytes, narrow_size};
-ghost use Rattle.isa_model.specs.Machine.Pointers.{offset_limit};
 ghost use Rattle.transfer.specs.Packets.{AreInPacket, IsOfSize, IsOfSignedSize};
 ghost use Rattle.transfer.specs.Packets.{PacketLoads, PacketLoadsSigned, IsStored, PacketStores};
-ghost use Rattle.transfer.specs.Packets.{moved_by, lowest, highest, IsLimited, AreLimited};
+ghost use Rattle.transfer.specs.Packets.{lowest, highest, AreLimited};
 ghost use Rattle.transfer.specs.Packets.{IsFixedPart};
 ghost use Rattle.transfer.specs.Packets.{IsFreshPointer, MovesBetween, MovesBy, PacketMoves};
 
+use crate::offsets::{limits, moved_by, sum};
 use crate::refusals::Refusal;
 use crate::stacks::narrow_size;
 use isa_model::{Narrow, Size, Width};
@@ -25,24 +25,6 @@ pub struct PacketPointer {
     pub least: i32,
     pub greatest: i32,
     pub proved: u32,
-}
-
-/// The sum of two offsets.
-fn sum(left: i32, right: i32) -> i64
-    ensures { result ≡ left +ℤ right }
-{
-    i64::from(left) + i64::from(right)
-}
-
-/// The place after a move, back or on.
-fn moved_by(back: bool, place: i64, distance: i64) -> i128
-    ensures { result ≡ moved_by back place distance }
-{
-    if back {
-        i128::from(place) - i128::from(distance)
-    } else {
-        i128::from(place) + i128::from(distance)
-    }
 }
 
 /// Whether the bytes are in the packet, wherever the variable part is.
@@ -75,7 +57,7 @@ fn greatest(size: Size) -> u64
 }
 
 /// Any number of that many bytes.
-fn of_size(size: Size) -> Scalar
+pub fn of_size(size: Size) -> Scalar
     ensures { IsOfSize size result }
 {
     let greatest = greatest(size);
@@ -86,7 +68,7 @@ fn of_size(size: Size) -> Scalar
 }
 
 /// Any number of that many bytes with a sign.
-fn of_signed_size(size: Narrow) -> Scalar
+pub fn of_signed_size(size: Narrow) -> Scalar
     ensures { IsOfSignedSize size result }
 {
     let range = match size {
@@ -135,7 +117,7 @@ pub fn packet_load_signed(
 }
 
 /// Numbers may be stored anywhere, pointers on the stack only.
-fn stored(source: Kind) -> Result<(), Refusal>
+pub fn stored(source: Kind) -> Result<(), Refusal>
     ensures { IsStored source result }
 {
     match source {
@@ -160,20 +142,6 @@ pub fn packet_store(
         stored(source)
     } else {
         Err(Refusal::PacketBytes)
-    }
-}
-
-/// The greatest offset of a pointer, and the least one with its sign changed.
-const OFFSET_LIMIT: i128 = 0x2000_0000;
-
-/// An offset that a pointer may have.
-fn limited(offset: i128) -> Result<i32, Refusal>
-    ensures { IsLimited offset result }
-{
-    if -OFFSET_LIMIT <= offset && offset <= OFFSET_LIMIT {
-        Ok(offset as i32)
-    } else {
-        Err(Refusal::PointerOffset)
     }
 }
 
@@ -202,16 +170,13 @@ fn highest(back: bool, pointer: PacketPointer, near: i64, far: i64) -> i128
 }
 
 /// Both of them.
-fn limits(back: bool, pointer: PacketPointer, near: i64, far: i64) -> Result<(i32, i32), Refusal>
+fn both(back: bool, pointer: PacketPointer, near: i64, far: i64) -> Result<(i32, i32), Refusal>
     ensures { AreLimited (lowest back pointer near far) (highest back pointer near far) result }
 {
-    let Ok(from) = limited(lowest(back, pointer, near, far)) else {
-        return Err(Refusal::PointerOffset);
-    };
-    let Ok(to) = limited(highest(back, pointer, near, far)) else {
-        return Err(Refusal::PointerOffset);
-    };
-    Ok((from, to))
+    limits(
+        lowest(back, pointer, near, far),
+        highest(back, pointer, near, far),
+    )
 }
 
 /// The fixed part of a pointer, if it has room there.
@@ -248,7 +213,7 @@ fn moved_between(
 ) -> Result<Kind, Refusal>
     ensures { MovesBetween state.now back pointer near far result }
 {
-    let Ok((from, to)) = limits(back, pointer, near, far) else {
+    let Ok((from, to)) = both(back, pointer, near, far) else {
         return Err(Refusal::PointerOffset);
     };
     Ok(fresh_pointer(state, from, to))
@@ -259,7 +224,7 @@ fn moved_between(
 fn moved(state: &State, back: bool, pointer: PacketPointer, distance: i64) -> Result<Kind, Refusal>
     ensures { MovesBy state.now back pointer distance result }
 {
-    let Ok((from, to)) = limits(back, pointer, distance, distance) else {
+    let Ok((from, to)) = both(back, pointer, distance, distance) else {
         return Err(Refusal::PointerOffset);
     };
     match fixed_part(moved_by(back, i64::from(pointer.fixed), distance)) {

@@ -4,14 +4,13 @@ ghost use Rattle.std.specs.Prelude.{◌≡◌};
 ghost use Rattle.transfer.specs.Results.{moved_offset, frame_pointer, moved_frame, Moves};
 ghost use Rattle.transfer.specs.Results.{PointerAndNumber, NumberAndPointer};
 
+use crate::offsets::OFFSET_LIMIT;
 use crate::packets::{PacketPointer, packet_moved};
 use crate::refusals::Refusal;
+use crate::values::{farthest, nearest, value_moved};
 use isa_model::{AluOp, Width};
 use reg_state::{Domain, Kind, Scalar};
 use stack_state::State;
-
-/// The greatest offset of a pointer, and the least one with its sign changed.
-const OFFSET_LIMIT: i128 = 0x2000_0000;
 
 /// The offset after a move, back or on; the number counts as a signed one.
 fn moved_offset(back: bool, offset: i32, number: u64) -> i128
@@ -71,7 +70,16 @@ fn moved(state: &State, back: bool, pointer: Kind, by: Scalar) -> Result<Kind, R
             };
             packet_moved(state, back, pointer, by)
         }
-        Kind::MapValue { .. } => Err(Refusal::NotBuilt),
+        Kind::MapValue {
+            index,
+            least,
+            greatest,
+        } => {
+            let number = by.number();
+            let near = nearest(by, number);
+            let far = farthest(by, number);
+            value_moved(back, index, least, greatest, near, far)
+        }
         Kind::MapValueOrNull { .. } => Err(Refusal::NullNotTested),
         _ => Err(Refusal::PointerOperand),
     }

@@ -49,8 +49,6 @@ pub enum Refusal {
     ExitValue,
     /// An atomic instruction on the context or the packet.
     PacketAtomic,
-    /// A step with a map's value, which cannot be judged yet.
-    NotBuilt,
 }
 
 impl Refusal {
@@ -77,7 +75,6 @@ impl Refusal {
             Refusal::TooManyFrames => "V16",
             Refusal::ExitValue => "V17",
             Refusal::PacketAtomic => "V20",
-            Refusal::NotBuilt => "not built",
         }
     }
 
@@ -111,7 +108,6 @@ impl Refusal {
             Refusal::ExitValue =>
                 "r0 is no number at the last exit, or points into the frame that ends",
             Refusal::PacketAtomic => "the atomic instruction is on the context or the packet",
-            Refusal::NotBuilt => "the instruction is not verified yet",
         }
     }
 }

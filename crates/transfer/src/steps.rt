@@ -6,18 +6,22 @@ ghost use Rattle.std.specs.Option.{option_to_list};
 ghost use Rattle.isa_model.specs.Code.Instructions.{Program, slots_of};
 ghost use Rattle.isa_model.specs.Code.Instructions.{writes, is_frame_pointer};
 ghost use Rattle.transfer.specs.Refusing.{is_unset_in, reads_unset};
-ghost use Rattle.transfer.specs.Exact.{IsOperand, Puts, SetsOr, Performs, GoesOn, StoresAt};
+ghost use Rattle.transfer.specs.Exact.{IsOperand, IsSetter, Puts, SetsOr, Performs, GoesOn, StoresAt};
 ghost use Rattle.transfer.specs.Exact.{SwapsAtPlace, ComparesAtPlace};
+ghost use Rattle.transfer.specs.HelperCalls.{CallsHelper};
+ghost use Rattle.transfer.specs.Values.{NamesFit};
 
 use crate::Ways;
 use crate::arithmetic::{arithmetic, constant, negated, reordered, sign_extended};
 use crate::atomics::{compare_and_swap, swap};
 use crate::exits::{call, exit};
+use crate::helpers::call_helper;
 use crate::jumps::jump_if;
 use crate::memory::{load, load_signed, store};
 use crate::refusals::Refusal;
+use crate::values::{map_pointer, value_pointer};
 use isa_model::numbers::unsigned;
-use isa_model::{Insn, Operand, Place, Reg, Size, Width, destination};
+use isa_model::{Insn, MapDef, Operand, Place, Reg, Size, Width, destination};
 use reg_state::Kind;
 use stack_state::State;
 
@@ -56,8 +60,10 @@ fn operand(state: &State, width: Width, source: Operand) -> Kind
 }
 
 /// The kind that a form puts into its register, or why it does not.
-fn result_kind(state: &State, insn: &Insn) -> Result<Kind, Refusal>
-    ensures { Puts state.now insn.now result }
+fn result_kind(maps: &[MapDef], state: &State, insn: &Insn) -> Result<Kind, Refusal>
+    requires named { NamesFit insn.now }
+    requires setter { IsSetter insn.now }
+    ensures { Puts maps.now state.now insn.now result }
 {
     match *insn {
         Insn::Alu(width, op, d, source) => {
@@ -73,21 +79,27 @@ fn result_kind(state: &State, insn: &Insn) -> Result<Kind, Refusal>
         Insn::MovSx(extension, _, source) => sign_extended(extension, state.kind_of(source)),
         Insn::ByteSwap(order, span, d) => reordered(order, span, state.kind_of(d)),
         Insn::LoadNumber(_, number) => Ok(constant(number)),
-        Insn::Load(size, _, place) => { load(state, size, state.kind_of(place.base), place.offset) }
-        Insn::LoadSx(size, _, place) => {
-            load_signed(state, size, state.kind_of(place.base), place.offset)
+        Insn::LoadMap(_, index) => Ok(map_pointer(index)),
+        Insn::LoadMapValue(_, index, offset) => Ok(value_pointer(index, offset)),
+        Insn::Load(size, _, place) => {
+            load(maps, state, size, state.kind_of(place.base), place.offset)
         }
-        _ => Err(Refusal::NotBuilt),
+        Insn::LoadSx(size, _, place) => {
+            load_signed(maps, state, size, state.kind_of(place.base), place.offset)
+        }
+        _ => unreachable!(),
     }
 }
 
 /// Sets the register that a form writes, and goes on to the next instruction.
-fn set(state: &mut State, insn: &Insn) -> Result<Ways, Refusal>
+fn set(maps: &[MapDef], state: &mut State, insn: &Insn) -> Result<Ways, Refusal>
     requires writable { is_frame_pointer (writes insn.now) ≡ false }
     requires slot { state.old.slot + slots_of insn.now < 2 ^ 63 }
-    ensures { SetsOr state.old insn.now result state.new }
+    requires named { NamesFit insn.now }
+    requires setter { IsSetter insn.now }
+    ensures { SetsOr maps.now state.old insn.now result state.new }
 {
-    let kind = result_kind(state, insn)?;
+    let kind = result_kind(maps, state, insn)?;
     let Some(register) = insn.written() else {
         unreachable!()
     };
@@ -99,18 +111,25 @@ fn set(state: &mut State, insn: &Insn) -> Result<Ways, Refusal>
 // ---- memory
 
 /// Stores a value, and goes on to the next instruction.
-fn store_at(state: &mut State, size: Size, place: Place, source: Kind) -> Result<Ways, Refusal>
+fn store_at(
+    maps: &[MapDef],
+    state: &mut State,
+    size: Size,
+    place: Place,
+    source: Kind,
+) -> Result<Ways, Refusal>
     requires { state.old.slot + 1 < 2 ^ 63 }
-    ensures { GoesOn state.old (StoresAt state.old size place source) result state.new }
+    ensures { GoesOn state.old (StoresAt maps.now state.old size place source) result state.new }
 {
     let base = state.kind_of(place.base);
-    store(state, size, base, place.offset, source)?;
+    store(maps, state, size, base, place.offset, source)?;
     state.slot += 1;
     Ok(Ways::One)
 }
 
 /// An atomic instruction that puts the old number into a register, if one is given.
 fn swap_at(
+    maps: &[MapDef],
     state: &mut State,
     width: Width,
     place: Place,
@@ -120,24 +139,52 @@ fn swap_at(
     requires writable { is_frame_pointer register ≡ false }
     requires slot { state.old.slot + 1 < 2 ^ 63 }
     ensures { GoesOn state.old
-        (SwapsAtPlace state.old width place source register) result state.new }
+        (SwapsAtPlace maps.now state.old width place source register) result state.new }
 {
     let base = state.kind_of(place.base);
     let value = state.kind_of(source);
-    swap(state, value, base, place.offset, width.size(), register)?;
+    swap(
+        maps,
+        state,
+        value,
+        base,
+        place.offset,
+        width.size(),
+        register,
+    )?;
     state.slot += 1;
     Ok(Ways::One)
 }
 
 /// CMPXCHG.
-fn compare_at(state: &mut State, width: Width, place: Place, source: Reg) -> Result<Ways, Refusal>
+fn compare_at(
+    maps: &[MapDef],
+    state: &mut State,
+    width: Width,
+    place: Place,
+    source: Reg,
+) -> Result<Ways, Refusal>
     requires slot { state.old.slot + 1 < 2 ^ 63 }
-    ensures { GoesOn state.old (ComparesAtPlace state.old width place source) result state.new }
+    ensures { GoesOn state.old
+        (ComparesAtPlace maps.now state.old width place source) result state.new }
 {
     let base = state.kind_of(place.base);
     let value = state.kind_of(source);
-    compare_and_swap(state, value, base, place.offset, width.size())?;
+    compare_and_swap(maps, state, value, base, place.offset, width.size())?;
     state.slot += 1;
+    Ok(Ways::One)
+}
+
+// ---- helpers
+
+/// Calls a helper, and goes on to the next instruction.
+fn help(maps: &[MapDef], number: i32, state: &mut State) -> Result<Ways, Refusal>
+    requires { state.old.slot + 1 < 2 ^ 63 }
+    ensures { GoesOn state.old (CallsHelper maps.now state.old number) result state.new }
+{
+    let next = state.slot + 1;
+    call_helper(maps, number, state)?;
+    state.slot = next;
     Ok(Ways::One)
 }
 
@@ -147,26 +194,36 @@ fn compare_at(state: &mut State, width: Width, place: Place, source: Reg) -> Res
 pub fn perform(
     insn: &Insn,
     slots: usize,
+    maps: &[MapDef],
     state: &mut State,
     other: &mut State,
 ) -> Result<Ways, Refusal>
     requires writable { is_frame_pointer (writes insn.now) ≡ false }
     requires slot { state.old.slot + slots_of insn.now < 2 ^ 63 }
-    ensures { (p : Program) → length p.insns ≡ slots
+    requires named { NamesFit insn.now }
+    ensures { (p : Program) → length p.insns ≡ slots → p.maps ≡ maps.now
         → Performs p state.old insn.now result state.new other.new }
 {
     match *insn {
         Insn::StoreConstant(size, place, k) => {
-            store_at(state, size, place, constant(unsigned(Width::Full64, k)))
+            store_at(
+                maps,
+                state,
+                size,
+                place,
+                constant(unsigned(Width::Full64, k)),
+            )
         }
         Insn::Store(size, place, register) => {
             let source = state.kind_of(register);
-            store_at(state, size, place, source)
+            store_at(maps, state, size, place, source)
         }
         Insn::Atomic(width, _, _, place, source) | Insn::Exchange(width, place, source) => {
-            swap_at(state, width, place, source, insn.written())
+            swap_at(maps, state, width, place, source, insn.written())
         }
-        Insn::CompareExchange(width, place, source) => compare_at(state, width, place, source),
+        Insn::CompareExchange(width, place, source) => {
+            compare_at(maps, state, width, place, source)
+        }
         Insn::Jump(by) => {
             state.slot = destination(state.slot, i32::from(by), slots);
             Ok(Ways::One)
@@ -178,13 +235,15 @@ pub fn perform(
         Insn::JumpIf(cond, by) => jump_if(cond, i32::from(by), slots, state, other),
         Insn::CallLocal(by) => call(by, slots, state),
         Insn::Exit => exit(state),
-        Insn::LoadMap(..) | Insn::LoadMapValue(..) | Insn::CallHelper(_) => Err(Refusal::NotBuilt),
+        Insn::CallHelper(number) => help(maps, number, state),
         Insn::Alu(..)
         | Insn::Neg(..)
         | Insn::MovSx(..)
         | Insn::ByteSwap(..)
         | Insn::LoadNumber(..)
+        | Insn::LoadMap(..)
+        | Insn::LoadMapValue(..)
         | Insn::Load(..)
-        | Insn::LoadSx(..) => set(state, insn),
+        | Insn::LoadSx(..) => set(maps, state, insn),
     }
 }

@@ -2,6 +2,7 @@ use Rattle.std.proofs.Common.{◌≡◌, ◌∙◌, sym, false}
 use Rattle.isa_model.specs.Code.Instructions.{writes, is_frame_pointer}
 use Rattle.image.specs.Programs.{IsProgram-IsImage}
 use Rattle.transfer.specs.Refusing.{reads_unset}
+use Rattle.transfer.specs.ValueLaws.{NamesFit-fetch}
 use Rattle.transfer.specs.ExactLaws.{Steps-leads}
 use Rattle.transfer.specs.FollowLaws.{Steps-follows}
 use Rattle.transfer.proofs.step_in_place.Goals as goal
@@ -12,7 +13,7 @@ returns-clause-leads c =
     let own : is_frame_pointer (writes c.in-Some.insn.now) ≡ false = sym c.writes_frame_pointer.ensures ∙ c.if-writes_frame_pointer.false in
     Steps-leads c.args.image.now c.args.state.now c.in-Some.insn.now c.in_ok-ways.ways c.perform.new.state c.perform.new.other
     (IsProgram-IsImage c.args.image.now c.slots.ensures.fits) (sym c.in-Some.ensures)
-    (rw (known, own) (c.in_ok-ways.ensures c.args.image.now (sym c.slots.ensures.count)))
+    (rw (known, own) (c.in_ok-ways.ensures c.args.image.now (sym c.slots.ensures.count) (sym c.maps.ensures)))
 
 pub returns-clause-follows : goal.returns-clause-follows
 returns-clause-follows c =
@@ -20,4 +21,8 @@ returns-clause-follows c =
     let own : is_frame_pointer (writes c.in-Some.insn.now) ≡ false = sym c.writes_frame_pointer.ensures ∙ c.if-writes_frame_pointer.false in
     Steps-follows c.args.image.now c.args.state.now c.in-Some.insn.now c.in_ok-ways.ways c.perform.new.state c.perform.new.other
     (sym c.in-Some.ensures)
-    (rw (known, own) (c.in_ok-ways.ensures c.args.image.now (sym c.slots.ensures.count)))
+    (rw (known, own) (c.in_ok-ways.ensures c.args.image.now (sym c.slots.ensures.count) (sym c.maps.ensures)))
+
+pub perform-requires-clause-named : goal.perform-requires-clause-named
+perform-requires-clause-named c =
+    NamesFit-fetch c.args.image.now c.args.state.now.slot c.in-Some.insn.now c.slots.ensures.fits (sym c.in-Some.ensures)

@@ -1,11 +1,12 @@
-use Rattle.std.proofs.Common.{◌≡◌, ℕ, ◌↔◌, Option, Some, None, rules, refl}
+use Rattle.std.proofs.Common.{◌≡◌, ℕ, ◌↔◌, Option, Some, None, rules, refl, subst}
 use Rattle.std.proofs.lemmas.Int.{to_z-of_z}
 use Rattle.std.proofs.lemmas.Option.{none-some}
 use mir.Val.{SFits}
-use mir.Syntax.{w32}
+use mir.Syntax.{w32, w64}
 use Rattle.reg_state.specs.declared.scalars.Scalar.{Scalar}
 use Rattle.reg_state.specs.Scalars.{IsNumber}
 use Rattle.transfer.specs.Results.{LeavesNumber}
+use Rattle.transfer.specs.Values.{nearest, farthest, ValueMoves}
 use Rattle.transfer.proofs.pointers.moved.Goals as goal
 
 leaves : (by : Scalar) (o : Option ℕ) → ((n : ℕ) → ((o ≡ Some n) ↔ IsNumber by n)) → LeavesNumber by o
@@ -25,3 +26,16 @@ returns-in-Packet c =
     let greatest : SFits w32 c.in-Packet.greatest = search rules in
     let made = simp to_z-of_z at c.packet_moved.ensures in
     rw c.in-Packet.is made
+
+pub returns-in-MapValue : goal.returns-in-MapValue
+returns-in-MapValue c =
+    let o : Option ℕ = c.number-number.result in
+    let least : SFits w32 c.in-MapValue.least = search rules in
+    let greatest : SFits w32 c.in-MapValue.greatest = search rules in
+    let near : SFits w64 c.nearest-near.result = search rules in
+    let far : SFits w64 c.farthest-far.result = search rules in
+    let made = simp to_z-of_z at c.value_moved.ensures in
+    let moves : ValueMoves c.args.back c.in-MapValue.index c.in-MapValue.least c.in-MapValue.greatest (nearest c.args.by o) (farthest c.args.by o) c.value_moved.result =
+    subst (λ z. ValueMoves c.args.back c.in-MapValue.index c.in-MapValue.least c.in-MapValue.greatest z (farthest c.args.by o) c.value_moved.result) c.nearest-near.ensures
+    (subst (λ z. ValueMoves c.args.back c.in-MapValue.index c.in-MapValue.least c.in-MapValue.greatest c.nearest-near.result z c.value_moved.result) c.farthest-far.ensures made) in
+    rw c.in-MapValue.is (o, leaves c.args.by o c.number-number.ensures.value, moves)

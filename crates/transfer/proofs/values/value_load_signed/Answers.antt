@@ -1,0 +1,14 @@
+use Rattle.std.proofs.Common.{w16, w32, subst}
+use Rattle.std.specs.Prelude.{FitsSigned}
+use Rattle.std.proofs.lemmas.Int.{to_z-of_z}
+use Rattle.isa_model.specs.Code.Sizes.{size_bytes}
+use Rattle.transfer.specs.Values.{AreInValue}
+use Rattle.transfer.proofs.values.value_load_signed.Goals as goal
+
+pub returns-then-are_in_value : goal.returns-then-are_in_value
+returns-then-are_in_value c =
+    let least : FitsSigned w32 c.args.least = c.ranges.least in
+    let greatest : FitsSigned w32 c.args.greatest = c.ranges.greatest in
+    let by : FitsSigned w16 c.args.by = c.ranges.by in
+    let inside = simp to_z-of_z at (c.are_in_value.ensures.0 c.if-are_in_value.true) in
+    (subst (λ z. AreInValue c.args.room c.args.least c.args.greatest c.args.by (size_bytes z)) c.narrow_size.ensures inside, c.of_signed_size.ensures)

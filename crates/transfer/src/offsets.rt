@@ -1,0 +1,51 @@
+//! Offsets of pointers: moves, and the limit.
+
+ghost use Rattle.std.specs.Prelude.{◌≡◌, ◌+ℤ◌};
+ghost use Rattle.transfer.specs.Packets.{moved_by, IsLimited, AreLimited};
+
+use crate::refusals::Refusal;
+
+/// The greatest offset of a pointer, and the least one with its sign changed.
+pub const OFFSET_LIMIT: i128 = 0x2000_0000;
+
+/// The sum of two offsets.
+pub fn sum(left: i32, right: i32) -> i64
+    ensures { result ≡ left +ℤ right }
+{
+    i64::from(left) + i64::from(right)
+}
+
+/// The place after a move, back or on.
+pub fn moved_by(back: bool, place: i64, distance: i64) -> i128
+    ensures { result ≡ moved_by back place distance }
+{
+    if back {
+        i128::from(place) - i128::from(distance)
+    } else {
+        i128::from(place) + i128::from(distance)
+    }
+}
+
+/// An offset that a pointer may have.
+fn limited(offset: i128) -> Result<i32, Refusal>
+    ensures { IsLimited offset result }
+{
+    if -OFFSET_LIMIT <= offset && offset <= OFFSET_LIMIT {
+        Ok(offset as i32)
+    } else {
+        Err(Refusal::PointerOffset)
+    }
+}
+
+/// Two of them.
+pub fn limits(from: i128, to: i128) -> Result<(i32, i32), Refusal>
+    ensures { AreLimited from to result }
+{
+    let Ok(from) = limited(from) else {
+        return Err(Refusal::PointerOffset);
+    };
+    let Ok(to) = limited(to) else {
+        return Err(Refusal::PointerOffset);
+    };
+    Ok((from, to))
+}

@@ -1,0 +1,185 @@
+//! Wide loads of maps; loads, stores and moves through pointers to map values.
+
+ghost use Rattle.std.specs.Prelude.{◌≡◌, ◌^◌, ◌<◌, ◌↔◌, pos, slice_get, IsTrue, Ok};
+ghost use Rattle.isa_model.specs.Code.Sizes.{size_bytes};
+ghost use Rattle.transfer.specs.Values.{value_size, AreInValue, ValueLoads, ValueLoadsSigned};
+ghost use Rattle.transfer.specs.Values.{ValueStores, nearest, farthest, moved_least};
+ghost use Rattle.transfer.specs.Values.{moved_greatest, ValueMoves};
+
+use crate::offsets::{limits, moved_by, sum};
+use crate::packets::{of_signed_size, of_size, stored};
+use crate::refusals::Refusal;
+use crate::stacks::narrow_size;
+use isa_model::{MapDef, Narrow, Size};
+use reg_state::{Kind, Scalar};
+
+// ---- wide loads
+
+/// A pointer to a map.
+pub fn map_pointer(index: u32) -> Kind
+    requires { index < 2 ^ 8 }
+    ensures { result ≡ Kind.Map index }
+{
+    Kind::Map { index: index as u8 }
+}
+
+/// A pointer into the value of a map's only key.
+pub fn value_pointer(index: u32, offset: u32) -> Kind
+    requires index { index < 2 ^ 8 }
+    requires offset { offset < 2 ^ 31 }
+    ensures { result ≡ Kind.MapValue index (pos offset) (pos offset) }
+{
+    Kind::MapValue {
+        index: index as u8,
+        least: offset as i32,
+        greatest: offset as i32,
+    }
+}
+
+// ---- bytes
+
+/// How many bytes each value of the map has: none, if there is no such map.
+pub fn value_size(maps: &[MapDef], index: u8) -> u32
+    ensures { result ≡ value_size (slice_get maps.now index) }
+{
+    match maps.get(usize::from(index)) {
+        Some(row) => row.value_size,
+        None => 0,
+    }
+}
+
+/// Whether the bytes are in the value, wherever between its limits the pointer points.
+pub fn are_in_value(room: u32, least: i32, greatest: i32, by: i16, size: Size) -> bool
+    ensures { IsTrue result ↔ AreInValue room least greatest by (size_bytes size) }
+{
+    if sum(least, i32::from(by)) < 0 {
+        return false;
+    }
+    let place = sum(greatest, i32::from(by));
+    if moved_by(false, place, size.bytes() as i64) > i128::from(room) {
+        return false;
+    }
+    true
+}
+
+// ---- loads and stores
+
+/// What a load without a sign gives.
+pub fn value_load(
+    size: Size,
+    room: u32,
+    least: i32,
+    greatest: i32,
+    by: i16,
+) -> Result<Kind, Refusal>
+    ensures { ValueLoads size room least greatest by result }
+{
+    if are_in_value(room, least, greatest, by, size) {
+        Ok(Kind::Number(of_size(size)))
+    } else {
+        Err(Refusal::MapValueBytes)
+    }
+}
+
+/// What a load with a sign gives.
+pub fn value_load_signed(
+    size: Narrow,
+    room: u32,
+    least: i32,
+    greatest: i32,
+    by: i16,
+) -> Result<Kind, Refusal>
+    ensures { ValueLoadsSigned size room least greatest by result }
+{
+    if are_in_value(room, least, greatest, by, narrow_size(size)) {
+        Ok(Kind::Number(of_signed_size(size)))
+    } else {
+        Err(Refusal::MapValueBytes)
+    }
+}
+
+/// Whether the kind may be stored.
+pub fn value_store(
+    size: Size,
+    room: u32,
+    least: i32,
+    greatest: i32,
+    by: i16,
+    source: Kind,
+) -> Result<(), Refusal>
+    ensures { ValueStores size room least greatest by source result }
+{
+    if are_in_value(room, least, greatest, by, size) {
+        stored(source)
+    } else {
+        Err(Refusal::MapValueBytes)
+    }
+}
+
+// ---- moves
+
+/// The least distance by which a number moves a pointer; `number` is the one that is left, if one
+/// only is.
+pub fn nearest(by: Scalar, number: Option<u64>) -> i64
+    ensures { result ≡ nearest by number }
+{
+    match number {
+        Some(number) => number.cast_signed(),
+        None => by.range.signed_least,
+    }
+}
+
+/// The greatest such distance.
+pub fn farthest(by: Scalar, number: Option<u64>) -> i64
+    ensures { result ≡ farthest by number }
+{
+    match number {
+        Some(number) => number.cast_signed(),
+        None => by.range.signed_greatest,
+    }
+}
+
+/// The least offset after a move by something between two distances.
+fn moved_least(back: bool, least: i32, near: i64, far: i64) -> i128
+    ensures { result ≡ moved_least back least near far }
+{
+    if back {
+        moved_by(true, i64::from(least), far)
+    } else {
+        moved_by(false, i64::from(least), near)
+    }
+}
+
+/// The greatest offset after it.
+fn moved_greatest(back: bool, greatest: i32, near: i64, far: i64) -> i128
+    ensures { result ≡ moved_greatest back greatest near far }
+{
+    if back {
+        moved_by(true, i64::from(greatest), near)
+    } else {
+        moved_by(false, i64::from(greatest), far)
+    }
+}
+
+/// The pointer after a move by something between two distances, back or on.
+pub fn value_moved(
+    back: bool,
+    index: u8,
+    least: i32,
+    greatest: i32,
+    near: i64,
+    far: i64,
+) -> Result<Kind, Refusal>
+    ensures { ValueMoves back index least greatest near far result }
+{
+    let from = moved_least(back, least, near, far);
+    let to = moved_greatest(back, greatest, near, far);
+    let Ok((least, greatest)) = limits(from, to) else {
+        return Err(Refusal::PointerOffset);
+    };
+    Ok(Kind::MapValue {
+        index,
+        least,
+        greatest,
+    })
+}
