@@ -143,7 +143,7 @@ goes_along p steps d k s b t i slot to along here silent goes mirrors = record {
 
 -- a form that sets a register goes on
 sets_along : (p : Program) (steps : ℕ) (d : IsDetermined p steps) (k : ℕ) (s a : State) (t : Machine.State) (i : Insn)
-    → Along p steps d k s t → fetch p t.slot ≡ Some i → Sets s i a
+    → Along p steps d k s t → fetch p t.slot ≡ Some i → Sets p.maps s i a
     → (u : Machine.State) × Along p steps d (suc k) a u
 sets_along p steps d k s a t i along here h =
     let acts = run_acts p steps d k s t i along here in
@@ -283,7 +283,7 @@ goes_on_along : (p : Program) (steps : ℕ) (d : IsDetermined p steps) (k : ℕ)
     → (along : Along p steps d k s t)
     → fetch p t.slot ≡ Some i → writes i ≡ None → j < 64 → IsJust source y
     → act p d.run.clock t i ≡ Next (Machine.go_to (stored t along.mirrors.stack.frame j y) (t.slot + 1))
-    → w ≡ ways.One → GoesOnWith s (StoresAt s U64 (slot_place j) source) a → NextAlong p steps d k w a
+    → w ≡ ways.One → GoesOnWith s (StoresAt p.maps s U64 (slot_place j) source) a → NextAlong p steps d k w a
 goes_on_along p steps d k s t i j y source w a along here silent below just acts one h =
     let wide = along.mirrors.cells in
     let put = store_puts s h.left j y source (omega (arith, below, wide)) just h.leaving in
@@ -292,11 +292,11 @@ goes_on_along p steps d k s t i j y source w a along here silent below just acts
 
 store_along : (p : Program) (steps : ℕ) (d : IsDetermined p steps) (k : ℕ) (s : State) (t : Machine.State) (place : Place) (r : Reg) (w : Ways) (a : State)
     → Along p steps d k s t → IsSlotPlace place
-    → fetch p t.slot ≡ Some (Store U64 place r) → w ≡ ways.One → GoesOnWith s (StoresAt s U64 place (kind_of s r)) a
+    → fetch p t.slot ≡ Some (Store U64 place r) → w ≡ ways.One → GoesOnWith s (StoresAt p.maps s U64 place (kind_of s r)) a
     → NextAlong p steps d k w a
-store_along p steps d k s t place r w a along (j, below, is) here one h = of (subst (λ q. fetch p t.slot ≡ Some (Store U64 q r)) is here) (subst (λ q. GoesOnWith s (StoresAt s U64 q (kind_of s r)) a) is h) where
+store_along p steps d k s t place r w a along (j, below, is) here one h = of (subst (λ q. fetch p t.slot ≡ Some (Store U64 q r)) is here) (subst (λ q. GoesOnWith s (StoresAt p.maps s U64 q (kind_of s r)) a) is h) where
   of : fetch p t.slot ≡ Some (Store U64 (slot_place j) r)
-      → GoesOnWith s (StoresAt s U64 (slot_place j) (kind_of s r)) a → NextAlong p steps d k w a
+      → GoesOnWith s (StoresAt p.maps s U64 (slot_place j) (kind_of s r)) a → NextAlong p steps d k w a
   of here h =
       let (y, there, just) = (read_numbers p steps d k s t (Store U64 (slot_place j) r) along here).0 in
       goes_on_along p steps d k s t (Store U64 (slot_place j) r) j y (kind_of s r) w a along here refl below just
@@ -305,11 +305,11 @@ store_along p steps d k s t place r w a along (j, below, is) here one h = of (su
 store_constant_along : (p : Program) (steps : ℕ) (d : IsDetermined p steps) (k : ℕ) (s : State) (t : Machine.State) (place : Place) (n : ℤ) (source : Kind) (w : Ways) (a : State)
     → Along p steps d k s t → IsSlotPlace place
     → fetch p t.slot ≡ Some (StoreConstant U64 place n) → IsJust source (unsigned Full64 n) → w ≡ ways.One
-    → GoesOnWith s (StoresAt s U64 place source) a → NextAlong p steps d k w a
+    → GoesOnWith s (StoresAt p.maps s U64 place source) a → NextAlong p steps d k w a
 store_constant_along p steps d k s t place n source w a along (j, below, is) here just one h =
-    of (subst (λ q. fetch p t.slot ≡ Some (StoreConstant U64 q n)) is here) (subst (λ q. GoesOnWith s (StoresAt s U64 q source) a) is h) where
+    of (subst (λ q. fetch p t.slot ≡ Some (StoreConstant U64 q n)) is here) (subst (λ q. GoesOnWith s (StoresAt p.maps s U64 q source) a) is h) where
       of : fetch p t.slot ≡ Some (StoreConstant U64 (slot_place j) n)
-          → GoesOnWith s (StoresAt s U64 (slot_place j) source) a → NextAlong p steps d k w a
+          → GoesOnWith s (StoresAt p.maps s U64 (slot_place j) source) a → NextAlong p steps d k w a
       of here h =
           goes_on_along p steps d k s t (StoreConstant U64 (slot_place j) n) j (unsigned Full64 n) source w a along here refl below just
           (store_constant_acts (Holds s) p d.run.clock t n j along.mirrors.stack below) one h
@@ -317,7 +317,7 @@ store_constant_along p steps d k s t place n source w a along (j, below, is) her
 -- ---- any step
 
 set_next : (p : Program) (steps : ℕ) (d : IsDetermined p steps) (k : ℕ) (s : State) (t : Machine.State) (i : Insn) (w : Ways) (a : State)
-    → Along p steps d k s t → fetch p t.slot ≡ Some i → w ≡ ways.One → Sets s i a
+    → Along p steps d k s t → fetch p t.slot ≡ Some i → w ≡ ways.One → Sets p.maps s i a
     → NextAlong p steps d k w a
 set_next p steps d k s t i w a along here one h =
     let (u, next) = sets_along p steps d k s a t i along here h in

@@ -199,24 +199,24 @@ pub record Computed (p : Program) (clock : ℕ → ℕ) (t : Machine.State) (i :
 -- 8 bytes that a run loads from a slot
 load_computed : (p : Program) (clock : ℕ → ℕ) (s : State) (t : Machine.State) (d : Reg) (k : Kind) (place : Place)
     → Slots (Holds s) t → IsSlotPlace place
-    → ((e : TrapReason) → act p clock t (Load U64 d place) ≡ Trapped e → ⊥) → Puts s (Load U64 d place) (Ok k)
+    → ((e : TrapReason) → act p clock t (Load U64 d place) ≡ Trapped e → ⊥) → Puts p.maps s (Load U64 d place) (Ok k)
     → Computed p clock t (Load U64 d place) d k
 load_computed p clock s t d k place stack (j, below, is) goes h = of place is goes h where
   there : ((e : TrapReason) → act p clock t (Load U64 d (slot_place j)) ≡ Trapped e → ⊥)
-      → Puts s (Load U64 d (slot_place j)) (Ok k) → Computed p clock t (Load U64 d (slot_place j)) d k
+      → Puts p.maps s (Load U64 d (slot_place j)) (Ok k) → Computed p clock t (Load U64 d (slot_place j)) d k
   there goes h =
       let (y, held, acts) = load_acts (Holds s) p clock t d j stack below goes in
       record { number = y; acts = acts; just = load_just s j y k held h }
 
   of : (place : Place) → place ≡ slot_place j
-      → ((e : TrapReason) → act p clock t (Load U64 d place) ≡ Trapped e → ⊥) → Puts s (Load U64 d place) (Ok k)
+      → ((e : TrapReason) → act p clock t (Load U64 d place) ≡ Trapped e → ⊥) → Puts p.maps s (Load U64 d place) (Ok k)
       → Computed p clock t (Load U64 d place) d k
   of place is =
-      subst (λ q. ((e : TrapReason) → act p clock t (Load U64 d q) ≡ Trapped e → ⊥) → Puts s (Load U64 d q) (Ok k) → Computed p clock t (Load U64 d q) d k) (sym is) there
+      subst (λ q. ((e : TrapReason) → act p clock t (Load U64 d q) ≡ Trapped e → ⊥) → Puts p.maps s (Load U64 d q) (Ok k) → Computed p clock t (Load U64 d q) d k) (sym is) there
 
 pub computed : (p : Program) (clock : ℕ → ℕ) (s : State) (t : Machine.State) (i : Insn) (d : Reg) (k : Kind)
     → IsDeterminedForm i → Each (Reads s t) (operands i) → Slots (Holds s) t
-    → ((e : TrapReason) → act p clock t i ≡ Trapped e → ⊥) → writes i ≡ Some d → Puts s i (Ok k)
+    → ((e : TrapReason) → act p clock t i ≡ Trapped e → ⊥) → writes i ≡ Some d → Puts p.maps s i (Ok k)
     → Computed p clock t i d k
 unfolding act
 computed p clock s t (Alu w op x source) d k plain set stack traps written h =

@@ -1,7 +1,8 @@
 -- Determined programs are accepted, and their bound is the count of steps of their run.
 use Rattle.std.proofs.Common.{◌≡◌, ◌≤◌, ◌+◌, ◌<◌, ℕ, zero, suc, Some, None, Err, true, false, length, set, arith, refl, sym, ap, ◌∙◌, subst}
-use Rattle.std.specs.Prelude.{◌==◌}
+use Rattle.std.specs.Prelude.{◌==◌, List}
 use Rattle.std.proofs.lemmas.Bool.Decides.{nat_tests}
+use Rattle.isa_model.specs.declared.map_defs.MapDef.{MapDef}
 use Rattle.isa_model.specs.declared.sizes.Size.TheVariants.{U64}
 use Rattle.isa_model.specs.declared.sizes.Width.TheVariants.{Full64}
 use Rattle.isa_model.specs.declared.registers.Reg.{Reg}
@@ -117,29 +118,29 @@ exit_number p steps d k s t along here = of (reg t R0) refl (along.mirrors.regs 
 -- a load finds the number that the run finds
 load_along : (p : Program) (steps : ℕ) (d : IsDetermined p steps) (k : ℕ) (s : State) (t : Machine.State) (x : Reg) (place : Place) (e : StepRefusal)
     → Along p steps d k s t → fetch p t.slot ≡ Some (Load U64 x place)
-    → IsSlotPlace place → Puts s (Load U64 x place) (Err e) → ⊥
+    → IsSlotPlace place → Puts p.maps s (Load U64 x place) (Err e) → ⊥
 load_along p steps d k s t x place e along here (j, below, is) h =
-    of (subst (λ q. fetch p t.slot ≡ Some (Load U64 x q)) is here) (subst (λ q. Puts s (Load U64 x q) (Err e)) is h) where
-      of : fetch p t.slot ≡ Some (Load U64 x (slot_place j)) → Puts s (Load U64 x (slot_place j)) (Err e) → ⊥
+    of (subst (λ q. fetch p t.slot ≡ Some (Load U64 x q)) is here) (subst (λ q. Puts p.maps s (Load U64 x q) (Err e)) is h) where
+      of : fetch p t.slot ≡ Some (Load U64 x (slot_place j)) → Puts p.maps s (Load U64 x (slot_place j)) (Err e) → ⊥
       of here h =
           let acts = run_acts p steps d k s t (Load U64 x (slot_place j)) along here in
           let (y, held, is) = load_acts (Holds s) p d.run.clock t x j along.mirrors.stack below
           (λ f trap. no_trap p d.run.clock (first p steps d) steps d.run.number k t f d.run.runs along.reached (acts ∙ trap)) in
           load_goes s j y e below held h
 
-refuses_store : (s b : State) (place : Place) (source : Kind) (e : StepRefusal) → IsSlotPlace place
-    → IsNumber source → StoresAt s U64 place source b (Err e) → ⊥
-refuses_store s b place source e (j, below, is) number h = store_goes s b j source e below number (subst (λ q. StoresAt s U64 q source b (Err e)) is h)
+refuses_store : (rows : List MapDef) (s b : State) (place : Place) (source : Kind) (e : StepRefusal) → IsSlotPlace place
+    → IsNumber source → StoresAt rows s U64 place source b (Err e) → ⊥
+refuses_store rows s b place source e (j, below, is) number h = store_goes s b j source e below number (subst (λ q. StoresAt rows s U64 q source b (Err e)) is h)
 
 goes_along_run : (p : Program) (steps : ℕ) (d : IsDetermined p steps) (k : ℕ) (s : State) (t : Machine.State) (i : Insn) (e : StepRefusal) (b c : State)
     → Along p steps d k s t → fetch p t.slot ≡ Some i
     → IsDeterminedForm i → Each (NumbersIn s) (operands i) → Performs p s i (Err e) b c → ⊥
 goes_along_run p steps d k s t (Load U64 x place) e b c along here form set h = load_along p steps d k s t x place e along here form h
 goes_along_run p steps d k s t (Load size x place) e b c along here form set h = form
-goes_along_run p steps d k s t (Store U64 place r) e b c along here form set h = refuses_store s h.0 place (kind_of s r) e form set.0 h.1
+goes_along_run p steps d k s t (Store U64 place r) e b c along here form set h = refuses_store p.maps s h.0 place (kind_of s r) e form set.0 h.1
 goes_along_run p steps d k s t (Store size place r) e b c along here form set h = form
 goes_along_run p steps d k s t (StoreConstant U64 place n) e b c along here form set h =
-    refuses_store s h.2.0 place h.0 e form (just_number h.0 (unsigned Full64 n) h.1) h.2.1
+    refuses_store p.maps s h.2.0 place h.0 e form (just_number h.0 (unsigned Full64 n) h.1) h.2.1
 goes_along_run p steps d k s t (StoreConstant size place n) e b c along here form set h = form
 goes_along_run p steps d k s t Exit e b c along here form set h =
     performs_goes p s Exit e b c tt (exit_number p steps d k s t along here, tt) along.mirrors.one h

@@ -65,14 +65,14 @@ body_accepted p len g s (Load size d place) h behind before here body =
     let (m, is, most) = h.proved behind before in
     let some = g.some in (
       load_tests s (Load size d place) d place m refl refl base is own,
-      λ e b c fails. load_passes s size place m at e (ap (kind_of s) base ∙ is) offset (omega (arith, most, some)) (omega (arith, inside, most)) fails,
+      λ e b c fails. load_passes p.maps s size place m at e (ap (kind_of s) base ∙ is) offset (omega (arith, most, some)) (omega (arith, inside, most)) fails,
     )
 body_accepted p len g s (LoadSx size d place) h behind before here body =
     let (own, base, at, offset, inside) = load_parts (size_bytes (narrow_size size)) len d place body in
     let (m, is, most) = h.proved behind before in
     let some = g.some in (
       load_tests s (LoadSx size d place) d place m refl refl base is own,
-      λ e b c fails. load_signed_passes s size place m at e (ap (kind_of s) base ∙ is) offset (omega (arith, most, some)) (omega (arith, inside, most)) fails,
+      λ e b c fails. load_signed_passes p.maps s size place m at e (ap (kind_of s) base ∙ is) offset (omega (arith, most, some)) (omega (arith, inside, most)) fails,
     )
 body_accepted p len g s i h behind before here body =
     let plain = plain_form len i body tt in
@@ -91,16 +91,16 @@ guards_accepted p len g s i here h = of (part_at p len s.slot i g here) where
   of : Part g.tail s.slot → Passes p s i
   of (AtPacket at) =
       let one = one_insn p s.slot 0 i (Load U32 R2 (record { base = R1; offset = pos 0 })) at g.packet here in
-      subst (Passes p s) one (rw (h.context (omega (arith, at))) refl, λ e b c fails. field_goes s R1 (pos 0) e (h.context (omega (arith, at))) (inl refl) fails)
+      subst (Passes p s) one (rw (h.context (omega (arith, at))) refl, λ e b c fails. field_goes p.maps s R1 (pos 0) e (h.context (omega (arith, at))) (inl refl) fails)
   of (AtEnd at) =
       let one = one_insn p s.slot 1 i (Load U32 R3 (record { base = R1; offset = pos 4 })) at g.packet_end here in
-      subst (Passes p s) one (rw (h.context (omega (arith, at))) refl, λ e b c fails. field_goes s R1 (pos 4) e (h.context (omega (arith, at))) (inr (inl refl)) fails)
+      subst (Passes p s) one (rw (h.context (omega (arith, at))) refl, λ e b c fails. field_goes p.maps s R1 (pos 4) e (h.context (omega (arith, at))) (inr (inl refl)) fails)
   of (AtCopy at) =
       let one = one_insn p s.slot 2 i (Alu Full64 Mov R4 (Register R2)) at g.copy here in
-      subst (Passes p s) one (rw (h.packet (omega (arith, at)) (omega (arith, at))) refl, λ e b c fails. copy_goes s R4 R2 e fails)
+      subst (Passes p s) one (rw (h.packet (omega (arith, at)) (omega (arith, at))) refl, λ e b c fails. copy_goes p.maps s R4 R2 e fails)
   of (AtAhead at) =
       let one = one_insn p s.slot 3 i (Alu Full64 Add R4 (Constant (pos len))) at g.ahead here in
-      subst (Passes p s) one (rw (h.copied at) refl, λ e b c fails. ahead_goes s R4 0 0 len e (h.copied at) (let most = g.most in omega (arith, most)) fails)
+      subst (Passes p s) one (rw (h.copied at) refl, λ e b c fails. ahead_goes p.maps s R4 0 0 len e (h.copied at) (let most = g.most in omega (arith, most)) fails)
   of (AtTest at) =
       let one = one_insn p s.slot 4 i (JumpIf (end_test R4 R3) g.by) at g.test here in
       subst (Passes p s) one (rw (h.ahead at, h.packet_end (omega (arith, at)) (omega (arith, at))) refl, λ e b c fails. test_goes p s R4 R3 g.by len 0 e b c (h.ahead at) (h.packet_end (omega (arith, at)) (omega (arith, at))) fails)

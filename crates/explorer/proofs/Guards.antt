@@ -1,6 +1,7 @@
 -- What is known at each slot of a guarded program, and that it stays so.
 use Rattle.std.proofs.Common.{◌≡◌, ◌≤◌, ◌+◌, ◌<◌, ◌∷◌, [], ℕ, suc, Some, None, Option, true, List, arith, refl, sym, ap, ◌∙◌, subst, inl, inr}
 use Rattle.std.specs.Prelude.{◌≢◌}
+use Rattle.isa_model.specs.declared.map_defs.MapDef.{MapDef}
 use Rattle.isa_model.specs.declared.registers.Reg.{Reg}
 use Rattle.isa_model.specs.declared.registers.Reg.TheVariants.{R1, R2, R3, R4, R10}
 use Rattle.isa_model.specs.declared.instructions.AluOp.{AluOp}
@@ -237,9 +238,9 @@ load_step p len g s t i d k w a b h behind before here written falls one free nu
     }
 
 -- r2 stays
-sets_aside : (s a : State) (i : Insn) (d : Reg) → writes i ≡ Some d → IsFree d → Sets s i a
+sets_aside : (rows : List MapDef) (s a : State) (i : Insn) (d : Reg) → writes i ≡ Some d → IsFree d → Sets rows s i a
     → kind_of a R2 ≡ kind_of s R2
-sets_aside s a i d written free h =
+sets_aside rows s a i d written free h =
     let same : h.register ≡ d = cc (sym h.written ∙ written) in
     ap (λ (x : State). kind_of x R2) h.next ∙ kind_of-go_to (with_register s h.register h.kind) (s.slot + slots_of i) R2
     ∙ kind_of-with_other s h.register R2 h.kind (λ e. subst IsFree (sym (e ∙ same)) free)
@@ -258,9 +259,9 @@ body_keeps p len s t (JumpIf c by) w a b plain set body makes among =
     (kind_of-go_to makes.stay (s.slot + 1) R2 ∙ makes.left_there.others (are_compared s c set) R2 (unnamed c body.0 body.1))
     (kind_of-go_to makes.go (destination p s.slot by) R2 ∙ makes.taken_there.others (are_compared s c set) R2 (unnamed c body.0 body.1))
 body_keeps p len s t Exit w a b plain set body makes among = absurd (none_among w a b t makes among)
-body_keeps p len s t (Alu v op d source) w a b plain set body makes among = ap (λ (x : State). kind_of x R2) (one_among w a b t makes.0 among) ∙ sets_aside s a (Alu v op d source) d refl body.0 makes.1
-body_keeps p len s t (Neg v d) w a b plain set body makes among = ap (λ (x : State). kind_of x R2) (one_among w a b t makes.0 among) ∙ sets_aside s a (Neg v d) d refl body makes.1
-body_keeps p len s t (MovSx e d r) w a b plain set body makes among = ap (λ (x : State). kind_of x R2) (one_among w a b t makes.0 among) ∙ sets_aside s a (MovSx e d r) d refl body.0 makes.1
-body_keeps p len s t (ByteSwap order span d) w a b plain set body makes among = ap (λ (x : State). kind_of x R2) (one_among w a b t makes.0 among) ∙ sets_aside s a (ByteSwap order span d) d refl body makes.1
-body_keeps p len s t (LoadNumber d n) w a b plain set body makes among = ap (λ (x : State). kind_of x R2) (one_among w a b t makes.0 among) ∙ sets_aside s a (LoadNumber d n) d refl body makes.1
+body_keeps p len s t (Alu v op d source) w a b plain set body makes among = ap (λ (x : State). kind_of x R2) (one_among w a b t makes.0 among) ∙ sets_aside p.maps s a (Alu v op d source) d refl body.0 makes.1
+body_keeps p len s t (Neg v d) w a b plain set body makes among = ap (λ (x : State). kind_of x R2) (one_among w a b t makes.0 among) ∙ sets_aside p.maps s a (Neg v d) d refl body makes.1
+body_keeps p len s t (MovSx e d r) w a b plain set body makes among = ap (λ (x : State). kind_of x R2) (one_among w a b t makes.0 among) ∙ sets_aside p.maps s a (MovSx e d r) d refl body.0 makes.1
+body_keeps p len s t (ByteSwap order span d) w a b plain set body makes among = ap (λ (x : State). kind_of x R2) (one_among w a b t makes.0 among) ∙ sets_aside p.maps s a (ByteSwap order span d) d refl body makes.1
+body_keeps p len s t (LoadNumber d n) w a b plain set body makes among = ap (λ (x : State). kind_of x R2) (one_among w a b t makes.0 among) ∙ sets_aside p.maps s a (LoadNumber d n) d refl body makes.1
 body_keeps p len s t i w a b plain set body makes among = absurd plain

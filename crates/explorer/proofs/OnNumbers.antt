@@ -2,6 +2,7 @@
 use Rattle.std.proofs.Common.{◌≡◌, ◌+◌, ◌<◌, ◌∷◌, ℕ, zero, suc, None, Ok, Err, Bool, true, false, List, length, arith, refl, sym, ap, ◌∙◌, subst, inl, inr}
 use Rattle.std.specs.Prelude.{◌≢◌, ℤ}
 use Rattle.std.proofs.lemmas.List.{length-set, get_or-set_same}
+use Rattle.isa_model.specs.declared.map_defs.MapDef.{MapDef}
 use Rattle.isa_model.specs.declared.sizes.Width.{Width}
 use Rattle.isa_model.specs.declared.sizes.Width.TheVariants.{Low32, Full64}
 use Rattle.isa_model.specs.declared.registers.Reg.{Reg}
@@ -47,7 +48,7 @@ Made p s (Jump by) w a b = (w ≡ ways.One) × (a ≡ go_to s (destination p s.s
 Made p s (JumpLong by) w a b = (w ≡ ways.One) × (a ≡ go_to s (destination p s.slot by))
 Made p s (JumpIf c by) w a b = Branches p s c by w a b
 Made p s Exit w a b = w ≡ ways.None
-Made p s i w a b = (w ≡ ways.One) × Sets s i a
+Made p s i w a b = (w ≡ ways.One) × Sets p.maps s i a
 
 pub Makes-performs : (p : Program) (s : State) (i : Insn) (w : Ways) (a b : State) → Makes p s i w a b → Performs p s i (Ok w) a b
 Makes-performs p s i w a b h =
@@ -138,17 +139,17 @@ arithmetic_number : (s : State) (w : Width) (op : AluOp) (d : Reg) (source : Ope
 arithmetic_number s w Mov d source b k set operand h = copied_number w b k (operand_number s w source b set operand) h
 arithmetic_number s w op d source b k set operand h = combined_number s op w (kind_of s d) b k set.0 (operand_number s w source b set.1 operand) h
 
-puts_number : (s : State) (i : Insn) (k : Kind) → IsPlainForm i → Each (NumbersIn s) (reads i) → Puts s i (Ok k) → IsNumber k
-puts_number s (Alu w op d source) k plain set h = arithmetic_number s w op d source h.0 k set h.1 h.2
-puts_number s (Neg w d) k plain set h = of_number _ (kind_of s d) k set.0 h
-puts_number s (MovSx e d r) k plain set h = of_number _ (kind_of s r) k set.0 h
-puts_number s (ByteSwap order span d) k plain set h = of_number _ (kind_of s d) k set.0 h
-puts_number s (LoadNumber d n) k plain set h = let same : k ≡ h.0 = cc (h.2) in subst IsNumber (sym same) (just_number h.0 n h.1)
-puts_number s Exit k plain set h = absurd (cc h)
-puts_number s (Jump by) k plain set h = absurd (cc h)
-puts_number s (JumpLong by) k plain set h = absurd (cc h)
-puts_number s (JumpIf c by) k plain set h = absurd (cc h)
-puts_number s i k plain set h = absurd plain
+puts_number : (rows : List MapDef) (s : State) (i : Insn) (k : Kind) → IsPlainForm i → Each (NumbersIn s) (reads i) → Puts rows s i (Ok k) → IsNumber k
+puts_number rows s (Alu w op d source) k plain set h = arithmetic_number s w op d source h.0 k set h.1 h.2
+puts_number rows s (Neg w d) k plain set h = of_number _ (kind_of s d) k set.0 h
+puts_number rows s (MovSx e d r) k plain set h = of_number _ (kind_of s r) k set.0 h
+puts_number rows s (ByteSwap order span d) k plain set h = of_number _ (kind_of s d) k set.0 h
+puts_number rows s (LoadNumber d n) k plain set h = let same : k ≡ h.0 = cc (h.2) in subst IsNumber (sym same) (just_number h.0 n h.1)
+puts_number rows s Exit k plain set h = absurd h
+puts_number rows s (Jump by) k plain set h = absurd h
+puts_number rows s (JumpLong by) k plain set h = absurd h
+puts_number rows s (JumpIf c by) k plain set h = absurd h
+puts_number rows s i k plain set h = absurd plain
 
 -- ---- comparisons
 
@@ -258,9 +259,9 @@ Knows-with s r k written own number h =
       ];
     }
 
-Knows-sets : (s t : State) (i : Insn) (written : List Reg) → IsPlainForm i → Each (NumbersIn s) (reads i) → Sets s i t → Knows s written → Knows t (written_too (writes i) written)
-Knows-sets s t i written plain set h known =
-    let number = puts_number s i h.kind plain set h.puts in
+Knows-sets : (rows : List MapDef) (s t : State) (i : Insn) (written : List Reg) → IsPlainForm i → Each (NumbersIn s) (reads i) → Sets rows s i t → Knows s written → Knows t (written_too (writes i) written)
+Knows-sets rows s t i written plain set h known =
+    let number = puts_number rows s i h.kind plain set h.puts in
     let put = Knows-with s h.register h.kind written h.own number known in
     let there : Knows t (h.register ∷ written) =
     subst (λ x. Knows x (h.register ∷ written)) (sym h.next) (Knows-go_to (with_register s h.register h.kind) (s.slot + slots_of i) (h.register ∷ written) put) in
@@ -281,15 +282,15 @@ made_knows p s a b t (JumpIf c by) w written plain set makes among known =
     (Knows-go_to makes.go (destination p s.slot by) written (Knows-remains s makes.go written (Refines-remains c true makes.goes s makes.go compared makes.taken_there) known))
 made_knows p s a b t Exit w written plain set makes among known = absurd (none_among w a b t makes among)
 made_knows p s a b t (Alu v op d source) w written plain set makes among known =
-    subst (λ x. Knows x (d ∷ written)) (sym (one_among w a b t makes.0 among)) (Knows-sets s a (Alu v op d source) written plain set makes.1 known)
+    subst (λ x. Knows x (d ∷ written)) (sym (one_among w a b t makes.0 among)) (Knows-sets p.maps s a (Alu v op d source) written plain set makes.1 known)
 made_knows p s a b t (Neg v d) w written plain set makes among known =
-    subst (λ x. Knows x (d ∷ written)) (sym (one_among w a b t makes.0 among)) (Knows-sets s a (Neg v d) written plain set makes.1 known)
+    subst (λ x. Knows x (d ∷ written)) (sym (one_among w a b t makes.0 among)) (Knows-sets p.maps s a (Neg v d) written plain set makes.1 known)
 made_knows p s a b t (MovSx e d r) w written plain set makes among known =
-    subst (λ x. Knows x (d ∷ written)) (sym (one_among w a b t makes.0 among)) (Knows-sets s a (MovSx e d r) written plain set makes.1 known)
+    subst (λ x. Knows x (d ∷ written)) (sym (one_among w a b t makes.0 among)) (Knows-sets p.maps s a (MovSx e d r) written plain set makes.1 known)
 made_knows p s a b t (ByteSwap order span d) w written plain set makes among known =
-    subst (λ x. Knows x (d ∷ written)) (sym (one_among w a b t makes.0 among)) (Knows-sets s a (ByteSwap order span d) written plain set makes.1 known)
+    subst (λ x. Knows x (d ∷ written)) (sym (one_among w a b t makes.0 among)) (Knows-sets p.maps s a (ByteSwap order span d) written plain set makes.1 known)
 made_knows p s a b t (LoadNumber d n) w written plain set makes among known =
-    subst (λ x. Knows x (d ∷ written)) (sym (one_among w a b t makes.0 among)) (Knows-sets s a (LoadNumber d n) written plain set makes.1 known)
+    subst (λ x. Knows x (d ∷ written)) (sym (one_among w a b t makes.0 among)) (Knows-sets p.maps s a (LoadNumber d n) written plain set makes.1 known)
 made_knows p s a b t i w written plain set makes among known = absurd plain
 
 pub Knows-makes : (p : Program) (s a b t : State) (i : Insn) (w : Ways) (written : List Reg) → IsPlainForm i → Each (NumbersIn s) (reads i) → Makes p s i w a b → IsAmong w a b t

@@ -1,10 +1,11 @@
 -- Abstract steps on the packet's first byte and its end: what is left, and that they are not refused.
 use Rattle.std.proofs.Common.{◌≡◌, ◌≤◌, ◌+◌, ℕ, Some, Ok, Err, true, false, length, map, arith, refl, sym, ap, ◌∙◌, subst, inl, inr, ◌⊎◌}
-use Rattle.std.specs.Prelude.{◌≢◌, ℤ, pos, ◌+ℤ◌, FitsSigned, unsigned_abs, max, slice_index_or}
+use Rattle.std.specs.Prelude.{◌≢◌, ℤ, pos, ◌+ℤ◌, FitsSigned, unsigned_abs, max, slice_index_or, List}
 use Rattle.std.specs.Int.{w32, w64}
 use Rattle.std.proofs.lemmas.Int.{ints, to_z-of_z}
 use Rattle.std.proofs.lemmas.List.{length-map}
 use Rattle.std.proofs.Math.ListN.{get_or-map as get_or-map_default}
+use Rattle.isa_model.specs.declared.map_defs.MapDef.{MapDef}
 use Rattle.isa_model.specs.declared.sizes.Width.TheVariants.{Full64}
 use Rattle.isa_model.specs.declared.sizes.Size.{Size}
 use Rattle.isa_model.specs.declared.sizes.Size.TheVariants.{U32}
@@ -59,41 +60,41 @@ packet_from fixed proved = kind.Packet (pos fixed) 0 (pos 0) (pos 0) proved
 abbrev pub GivesKind : State → Reg → Kind → Ways → State → Type 0
 GivesKind s d k w a = (w ≡ ways.One) × (a ≡ go_to (with_register s d k) (s.slot + 1))
 
-gives_only : (s : State) (i : Insn) (d : Reg) (w : Ways) (a : State) → (made : (w ≡ ways.One) × Sets s i a)
+gives_only : (rows : List MapDef) (s : State) (i : Insn) (d : Reg) (w : Ways) (a : State) → (made : (w ≡ ways.One) × Sets rows s i a)
     → writes i ≡ Some d → slots_of i ≡ 1 → GivesKind s d made.1.kind w a
-gives_only s i d w a made written one =
+gives_only rows s i d w a made written one =
     let h = made.1 in
     let same : h.register ≡ d = cc (h.written, written) in
     (made.0, h.next ∙ ap (λ r. go_to (with_register s r h.kind) (s.slot + slots_of i)) same ∙ ap (λ n. go_to (with_register s d h.kind) (s.slot + n)) one)
 
-gives_of : (s : State) (i : Insn) (d : Reg) (k : Kind) (w : Ways) (a : State) → (w ≡ ways.One) × Sets s i a
+gives_of : (rows : List MapDef) (s : State) (i : Insn) (d : Reg) (k : Kind) (w : Ways) (a : State) → (w ≡ ways.One) × Sets rows s i a
     → writes i ≡ Some d → slots_of i ≡ 1
-    → ((l : Kind) → Puts s i (Ok l) → l ≡ k) → GivesKind s d k w a
-gives_of s i d k w a made written one is =
-    subst (λ l. GivesKind s d l w a) (is made.1.kind made.1.puts) (gives_only s i d w a made written one)
+    → ((l : Kind) → Puts rows s i (Ok l) → l ≡ k) → GivesKind s d k w a
+gives_of rows s i d k w a made written one is =
+    subst (λ l. GivesKind s d l w a) (is made.1.kind made.1.puts) (gives_only rows s i d w a made written one)
 
 -- ---- the context's fields
 
-field_kind : (s : State) (b : Reg) (at : ℤ) (k : Kind) → kind_of s b ≡ kind.Context
-    → Loads s U32 (kind_of s b) at (Ok k) → IsFieldKind at k
-field_kind s b at k is h = subst (λ x. Loads s U32 x at (Ok k)) is h
+field_kind : (rows : List MapDef) (s : State) (b : Reg) (at : ℤ) (k : Kind) → kind_of s b ≡ kind.Context
+    → Loads rows s U32 (kind_of s b) at (Ok k) → IsFieldKind at k
+field_kind rows s b at k is h = subst (λ x. Loads rows s U32 x at (Ok k)) is h
 
 pub packet_gives : (p : Program) (s : State) (d b : Reg) (w : Ways) (a c : State) → kind_of s b ≡ kind.Context
     → Makes p s (Load U32 d (record { base = b; offset = pos 0 })) w a c → GivesKind s d (packet_from 0 0) w a
 packet_gives p s d b w a c is makes =
     let i = Load U32 d (record { base = b; offset = pos 0 }) in
-    gives_of s i d (packet_from 0 0) w a (Makes-performs p s i w a c makes) refl refl (λ k puts. (field_kind s b (pos 0) k is puts).packet refl)
+    gives_of p.maps s i d (packet_from 0 0) w a (Makes-performs p s i w a c makes) refl refl (λ k puts. (field_kind p.maps s b (pos 0) k is puts).packet refl)
 
 pub packet_end_gives : (p : Program) (s : State) (d b : Reg) (w : Ways) (a c : State) → kind_of s b ≡ kind.Context
     → Makes p s (Load U32 d (record { base = b; offset = pos 4 })) w a c → GivesKind s d kind.PacketEnd w a
 packet_end_gives p s d b w a c is makes =
     let i = Load U32 d (record { base = b; offset = pos 4 }) in
-    gives_of s i d kind.PacketEnd w a (Makes-performs p s i w a c makes) refl refl (λ k puts. (field_kind s b (pos 4) k is puts).packet_end refl)
+    gives_of p.maps s i d kind.PacketEnd w a (Makes-performs p s i w a c makes) refl refl (λ k puts. (field_kind p.maps s b (pos 4) k is puts).packet_end refl)
 
-pub field_goes : (s : State) (b : Reg) (at : ℤ) (e : Refusal) → kind_of s b ≡ kind.Context → IsField at
-    → Loads s U32 (kind_of s b) at (Err e) → ⊥
-field_goes s b at e is field h =
-    let fails : FieldLoads at (Err e) = subst (λ x. Loads s U32 x at (Err e)) is h in
+pub field_goes : (rows : List MapDef) (s : State) (b : Reg) (at : ℤ) (e : Refusal) → kind_of s b ≡ kind.Context → IsField at
+    → Loads rows s U32 (kind_of s b) at (Err e) → ⊥
+field_goes rows s b at e is field h =
+    let fails : FieldLoads at (Err e) = subst (λ x. Loads rows s U32 x at (Err e)) is h in
     fails.1 field
 
 -- ---- copies
@@ -102,11 +103,11 @@ pub copy_gives : (p : Program) (s : State) (d r : Reg) (k : Kind) (w : Ways) (a 
     → Makes p s (Alu Full64 Mov d (Register r)) w a c → GivesKind s d k w a
 copy_gives p s d r k w a c is makes =
     let i = Alu Full64 Mov d (Register r) in
-    gives_of s i d k w a (Makes-performs p s i w a c makes) refl refl
+    gives_of p.maps s i d k w a (Makes-performs p s i w a c makes) refl refl
     (λ l puts. let same : l ≡ puts.0 = cc (puts.2) in same ∙ puts.1 ∙ is)
 
-pub copy_goes : (s : State) (d r : Reg) (e : Refusal) → Puts s (Alu Full64 Mov d (Register r)) (Err e) → ⊥
-copy_goes s d r e h = absurd (cc (h.2))
+pub copy_goes : (rows : List MapDef) (s : State) (d r : Reg) (e : Refusal) → Puts rows s (Alu Full64 Mov d (Register r)) (Err e) → ⊥
+copy_goes rows s d r e h = absurd (cc (h.2))
 
 -- ---- moves
 
@@ -160,7 +161,7 @@ pub ahead_gives : (p : Program) (s : State) (d : Reg) (fixed m n : ℕ) (w : Way
     → Makes p s (Alu Full64 Add d (Constant (pos n))) w a c → GivesKind s d (packet_from (fixed + n) m) w a
 ahead_gives p s d fixed m n w a c is most makes =
     let i = Alu Full64 Add d (Constant (pos n)) in
-    gives_of s i d (packet_from (fixed + n) m) w a (Makes-performs p s i w a c makes) refl refl
+    gives_of p.maps s i d (packet_from (fixed + n) m) w a (Makes-performs p s i w a c makes) refl refl
     (λ k puts. ahead_kind s fixed m n puts.0 k most puts.1 (subst (λ x. Arithmetic s Add Full64 x puts.0 (Ok k)) is puts.2))
 
 ahead_fails : (s : State) (fixed m n : ℕ) (b : Kind) (e : Refusal) → fixed + n ≤ 4096
@@ -168,10 +169,10 @@ ahead_fails : (s : State) (fixed m n : ℕ) (b : Kind) (e : Refusal) → fixed +
 ahead_fails s fixed m n (kind.Number by) e most just h = moves_go s fixed m n by e most just.0 just.1 h
 ahead_fails s fixed m n b e most just h = absurd just
 
-pub ahead_goes : (s : State) (d : Reg) (fixed m n : ℕ) (e : Refusal) → kind_of s d ≡ packet_from fixed m
+pub ahead_goes : (rows : List MapDef) (s : State) (d : Reg) (fixed m n : ℕ) (e : Refusal) → kind_of s d ≡ packet_from fixed m
     → fixed + n ≤ 4096
-    → Puts s (Alu Full64 Add d (Constant (pos n))) (Err e) → ⊥
-ahead_goes s d fixed m n e is most h =
+    → Puts rows s (Alu Full64 Add d (Constant (pos n))) (Err e) → ⊥
+ahead_goes rows s d fixed m n e is most h =
     ahead_fails s fixed m n h.0 e most h.1 (subst (λ x. Arithmetic s Add Full64 x h.0 (Err e)) is h.2)
 
 -- ---- loads of bytes that are proved to be there
@@ -190,8 +191,8 @@ pub load_gives : (p : Program) (s : State) (size : Size) (d : Reg) (place : Plac
 load_gives p s size d place m at w a c is offset makes =
     let i = Load size d place in
     let made = Makes-performs p s i w a c makes in
-    let loads = subst (λ x. Loads s size x place.offset (Ok made.1.kind)) is made.1.puts in
-    (made.1.kind, number_of _ made.1.kind loads.1, gives_only s i d w a made refl refl)
+    let loads = subst (λ x. Loads p.maps s size x place.offset (Ok made.1.kind)) is made.1.puts in
+    (made.1.kind, number_of _ made.1.kind loads.1, gives_only p.maps s i d w a made refl refl)
 
 pub load_signed_gives : (p : Program) (s : State) (size : Narrow) (d : Reg) (place : Place) (m at : ℕ) (w : Ways) (a c : State)
     → kind_of s place.base ≡ packet_from 0 m
@@ -199,23 +200,23 @@ pub load_signed_gives : (p : Program) (s : State) (size : Narrow) (d : Reg) (pla
 load_signed_gives p s size d place m at w a c is offset makes =
     let i = LoadSx size d place in
     let made = Makes-performs p s i w a c makes in
-    let loads = subst (λ x. LoadsSigned s size x place.offset (Ok made.1.kind)) is made.1.puts in
-    (made.1.kind, number_of _ made.1.kind loads.1, gives_only s i d w a made refl refl)
+    let loads = subst (λ x. LoadsSigned p.maps s size x place.offset (Ok made.1.kind)) is made.1.puts in
+    (made.1.kind, number_of _ made.1.kind loads.1, gives_only p.maps s i d w a made refl refl)
 
-pub load_passes : (s : State) (size : Size) (place : Place) (m at : ℕ) (e : Refusal)
+pub load_passes : (rows : List MapDef) (s : State) (size : Size) (place : Place) (m at : ℕ) (e : Refusal)
     → kind_of s place.base ≡ packet_from 0 m → place.offset ≡ pos at → 1 ≤ m → at + size_bytes size ≤ m
-    → Loads s size (kind_of s place.base) place.offset (Err e) → ⊥
-load_passes s size place m at e is offset some inside h =
-    let based = subst (λ x. Loads s size x place.offset (Err e)) is h in
-    let there = subst (λ z. Loads s size (packet_from 0 m) z (Err e)) offset based in
+    → Loads rows s size (kind_of s place.base) place.offset (Err e) → ⊥
+load_passes rows s size place m at e is offset some inside h =
+    let based = subst (λ x. Loads rows s size x place.offset (Err e)) is h in
+    let there = subst (λ z. Loads rows s size (packet_from 0 m) z (Err e)) offset based in
     there.1 (inside_packet (size_bytes size) m at some inside)
 
-pub load_signed_passes : (s : State) (size : Narrow) (place : Place) (m at : ℕ) (e : Refusal)
+pub load_signed_passes : (rows : List MapDef) (s : State) (size : Narrow) (place : Place) (m at : ℕ) (e : Refusal)
     → kind_of s place.base ≡ packet_from 0 m → place.offset ≡ pos at → 1 ≤ m
-    → at + size_bytes (narrow_size size) ≤ m → LoadsSigned s size (kind_of s place.base) place.offset (Err e) → ⊥
-load_signed_passes s size place m at e is offset some inside h =
-    let based = subst (λ x. LoadsSigned s size x place.offset (Err e)) is h in
-    let there = subst (λ z. LoadsSigned s size (packet_from 0 m) z (Err e)) offset based in
+    → at + size_bytes (narrow_size size) ≤ m → LoadsSigned rows s size (kind_of s place.base) place.offset (Err e) → ⊥
+load_signed_passes rows s size place m at e is offset some inside h =
+    let based = subst (λ x. LoadsSigned rows s size x place.offset (Err e)) is h in
+    let there = subst (λ z. LoadsSigned rows s size (packet_from 0 m) z (Err e)) offset based in
     there.1 (inside_packet (size_bytes (narrow_size size)) m at some inside)
 
 -- ---- the test against the packet's end

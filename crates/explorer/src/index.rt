@@ -247,7 +247,7 @@ impl Index {
         let known = self.known_in(shape, sketch).unwrap_or(0);
         let index = self.links.len();
         self.links.push(Link {
-            fingerprint: sketch.fingerprint,
+            fingerprint: sketch.prints.fingerprint,
             known,
             next: None,
             before: None,

@@ -3,7 +3,8 @@
 ghost use Rattle.std.specs.Prelude.{◌≡◌, ◌≤◌, IfOk, IsTrue, length};
 ghost use Rattle.explorer.specs.Keeping.{AreParts};
 
-use crate::parts::{Part, may_cover_place, room_for, take_parts, write};
+use crate::parts::{Part, may_cover_place, take_parts, write};
+use crate::sketches::{Prints, Sketch};
 use arrayvec::ArrayVec;
 use reg_state::Kind;
 use stack_state::{AbstractFrame, State};
@@ -44,12 +45,12 @@ impl KeptFrame {
         }
     }
 
-    /// Keeps a frame, with no room to spare.
-    fn of(alloc: Global, frame: &AbstractFrame) -> Result<Self, AllocError>
+    /// Keeps a frame, whose parts are taken in the room for them.
+    fn of(alloc: Global, frame: &AbstractFrame, room: &mut Vec<Part>) -> Result<Self, AllocError>
         ensures { IfOk result (λ kept. kept ≡ frame.now) }
     {
-        let mut parts = Vec::with_capacity(alloc, room_for(frame))?;
-        take_parts(&mut parts, frame)?;
+        take_parts(room, frame)?;
+        let parts = Vec::from_slice(alloc, room.as_slice())?;
         Ok(KeptFrame::with_parts(frame, parts))
     }
 
@@ -81,27 +82,34 @@ impl KeptFrame {
 }
 
 /// Keeps each frame.
-fn keep_all(alloc: Global, frames: &[AbstractFrame]) -> Result<Vec<KeptFrame>, AllocError>
+fn keep_all(
+    alloc: Global,
+    frames: &[AbstractFrame],
+    room: &mut Vec<Part>,
+) -> Result<Vec<KeptFrame>, AllocError>
     ensures { IfOk result (λ kept. kept.items ≡ frames.now) }
 {
     let mut kept = Vec::new(alloc);
     for index in 0..frames.len() {
-        let frame = KeptFrame::of(alloc, &frames[index])?;
+        let frame = KeptFrame::of(alloc, &frames[index], room)?;
         kept.push(frame)?;
     }
     Ok(kept)
 }
 
-/// Makes the frames like the ones that were kept.
-fn restore_all(kept: &[KeptFrame], frames: &mut ArrayVec<AbstractFrame, 7>)
+/// Makes the frames like the ones that were kept, by way of a frame that is free for it.
+fn restore_all(
+    kept: &[KeptFrame],
+    frames: &mut ArrayVec<AbstractFrame, 7>,
+    free: &mut AbstractFrame,
+)
     requires { length kept.now ≤ 7 }
     ensures { frames.new.items ≡ kept.now }
 {
     frames.clear();
     for index in 0..kept.len() {
-        let mut frame = AbstractFrame::default();
-        kept[index].restore(&mut frame);
-        frames.push(frame);
+        kept[index].restore(free);
+        frames.push(*free);
     }
 }
 
@@ -131,16 +139,23 @@ impl Model for Kept {
 }
 
 impl Kept {
-    /// Keeps a state, with its innermost frame.
-    fn with_innermost(
-        alloc: Global,
-        state: &State,
-        innermost: KeptFrame,
-    ) -> Result<Self, AllocError>
-        requires { innermost ≡ state.now.innermost }
+    /// Keeps a state, the parts of whose frames are taken in the room for them.
+    pub fn of(alloc: Global, state: &State, room: &mut Vec<Part>) -> Result<Self, AllocError>
         ensures { IfOk result (λ kept. kept ≡ state.now) }
     {
-        let callers = keep_all(alloc, state.callers.as_slice())?;
+        take_parts(room, &state.innermost)?;
+        Kept::of_parts(alloc, state, room)
+    }
+
+    /// Keeps a state, of whose innermost frame these are the parts. Those of the others are taken
+    /// in the same room.
+    pub fn of_parts(alloc: Global, state: &State, parts: &mut Vec<Part>) -> Result<Self, AllocError>
+        requires { AreParts parts.old.items state.now.innermost }
+        ensures { IfOk result (λ kept. kept ≡ state.now) }
+    {
+        let own = Vec::from_slice(alloc, parts.as_slice())?;
+        let innermost = KeptFrame::with_parts(&state.innermost, own);
+        let callers = keep_all(alloc, state.callers.as_slice(), parts)?;
         Ok(Kept {
             slot: state.slot,
             callers,
@@ -148,22 +163,16 @@ impl Kept {
         })
     }
 
-    /// Keeps a state.
-    pub fn of(alloc: Global, state: &State) -> Result<Self, AllocError>
-        ensures { IfOk result (λ kept. kept ≡ state.now) }
-    {
-        let innermost = KeptFrame::of(alloc, &state.innermost)?;
-        Kept::with_innermost(alloc, state, innermost)
-    }
-
-    /// Keeps a state, of whose innermost frame these are the parts.
-    pub fn of_parts(alloc: Global, state: &State, parts: &[Part]) -> Result<Self, AllocError>
-        requires { AreParts parts.now state.now.innermost }
-        ensures { IfOk result (λ kept. kept ≡ state.now) }
-    {
-        let parts = Vec::from_slice(alloc, parts)?;
-        let innermost = KeptFrame::with_parts(&state.innermost, parts);
-        Kept::with_innermost(alloc, state, innermost)
+    /// Draws the state into the sketch.
+    pub fn draw(&self, sketch: &mut Sketch) -> Result<(), AllocError> {
+        let mut prints = Prints::of(self.slot);
+        for frame in self.callers.as_slice() {
+            prints = prints.with_frame(frame.return_slot, frame.parts.as_slice());
+        }
+        let parts = self.innermost.parts.as_slice();
+        sketch.prints = prints.with_frame(self.innermost.return_slot, parts);
+        sketch.parts.clear();
+        sketch.parts.extend_from_slice(parts)
     }
 
     /// A quick test whether the state may be one that this one covers: a no says that it is not.
@@ -178,7 +187,11 @@ impl Kept {
         ensures { state.new ≡ self.now }
     {
         state.slot = self.slot;
-        restore_all(self.callers.as_slice(), &mut state.callers);
+        restore_all(
+            self.callers.as_slice(),
+            &mut state.callers,
+            &mut state.innermost,
+        );
         self.innermost.restore(&mut state.innermost);
     }
 }

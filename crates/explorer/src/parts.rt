@@ -68,22 +68,6 @@ fn push_slots(parts: &mut Vec<Part>, slots: &[Slot; 64]) -> Result<(), AllocErro
     Ok(())
 }
 
-/// How many parts a frame has.
-pub fn room_for(frame: &AbstractFrame) -> usize {
-    let mut room = 0usize;
-    for kind in &frame.registers {
-        if !matches!(kind, Kind::Unset) {
-            room = room.wrapping_add(1);
-        }
-    }
-    for slot in &frame.stack.slots {
-        if !matches!(slot, Slot::Written(0)) {
-            room = room.wrapping_add(1);
-        }
-    }
-    room
-}
-
 /// Becomes the parts of the frame.
 pub fn take_parts(parts: &mut Vec<Part>, frame: &AbstractFrame) -> Result<(), AllocError>
     ensures { OnOk result (AreParts parts.new.items frame.now) }

@@ -1,7 +1,7 @@
 //! The search through abstract states, depth first.
 
 ghost use Rattle.std.specs.Prelude.{◌≡◌, ◌≢◌, ◌≤◌, ◌+◌, ◌<◌, Some, length, vec_len};
-ghost use Rattle.std.specs.Prelude.{IfOk, IfErr, OnOk, OnErr};
+ghost use Rattle.std.specs.Prelude.{IfOk, IfErr, IfSome, OnOk, OnErr};
 ghost use Rattle.stack_state.specs.Starts.{start};
 ghost use Rattle.stack_state.specs.Meaning.{Within};
 ghost use Rattle.explorer.specs.Counts.{HasNumber};
@@ -12,6 +12,7 @@ ghost use Rattle.explorer.specs.Search.{Arrives, TurnsBack, IsResumed, IsNew};
 ghost use Rattle.explorer.specs.Search.{HasEnded, HasEntered, Goes, IsFull};
 
 use crate::kept::Kept;
+use crate::parts::Part;
 use crate::refusals::Refusal;
 use crate::table::Table;
 use crate::trail::{Trail, Visit};
@@ -64,14 +65,16 @@ pub struct Search {
     pub scratch: State,
 }
 
-/// A path comes to a state.
+/// A path comes to a state, which may have been kept already.
 pub fn arrive(
     alloc: Global,
     flow: &Flow<'_>,
     table: &mut Table,
     state: &State,
+    kept: Option<Kept>,
     scratch: &mut State,
 ) -> Result<Arrival, Refused>
+    requires { IfSome kept (λ s. s ≡ state.now) }
     ensures arrives { IfOk result (λ a. Arrives flow.now table.old.entries.items
         state.now a table.new.entries.items) }
     ensures refused { IfErr result (λ r. TurnsBack flow.now table.old.entries.items
@@ -82,7 +85,7 @@ pub fn arrive(
     if !flow.is_join(state.slot) {
         return Ok(Arrival::New(None));
     }
-    let Ok(()) = table.turn_to(state) else {
+    let Ok(()) = table.turn_to(state, &kept) else {
         return Err(NO_MEMORY);
     };
     if let Some(number) = table.number_of(state, scratch) {
@@ -91,7 +94,7 @@ pub fn arrive(
     if table.repeats(state, scratch) {
         return Err((Refusal::Repeats, state.slot));
     }
-    match table.store(alloc, state) {
+    match table.store(alloc, state, kept) {
         Ok(index) => Ok(Arrival::New(Some(index))),
         Err(_) => Err(NO_MEMORY),
     }
@@ -124,7 +127,7 @@ fn resume(
         return Ok(Resumed::Ended(best));
     };
     other.restore(current);
-    match arrive(alloc, flow, table, current, scratch)? {
+    match arrive(alloc, flow, table, current, Some(other), scratch)? {
         Arrival::Known(known) => Ok(Resumed::Ended(best.max(known))),
         Arrival::New(at) => {
             let rest = Visit {
@@ -191,13 +194,15 @@ impl Search {
         Ok(Turn::Done(number))
     }
 
-    /// Explores the instruction at the current state, which is stored there.
+    /// Explores the instruction at the current state, which is stored there. What is then pending
+    /// is kept by way of the room for its parts.
     fn advance(
         &mut self,
         alloc: Global,
         image: &Image,
         flow: &Flow<'_>,
         stored: Option<usize>,
+        room: &mut Vec<Part>,
     ) -> Result<Turn, Refused>
         requires image { flow.now ≡ image.now }
         requires good { IsFlow flow.now }
@@ -221,7 +226,7 @@ impl Search {
                 return self.unwind(alloc, flow, 1);
             }
             Ways::One => None,
-            Ways::Two => match Kept::of(alloc, &self.scratch) {
+            Ways::Two => match Kept::of(alloc, &self.scratch, room) {
                 Ok(other) => Some(other),
                 Err(_) => return Err(NO_MEMORY),
             },
@@ -259,6 +264,7 @@ impl Search {
             flow,
             &mut self.table,
             &self.current,
+            None,
             &mut self.scratch,
         )? {
             Arrival::Known(number) => self.unwind(alloc, flow, number),
@@ -266,8 +272,15 @@ impl Search {
         }
     }
 
-    /// Explores all that the start leads to, and answers its number.
-    pub fn explore(&mut self, alloc: Global, image: &Image, flow: &Flow<'_>) -> Result<u32, Refused>
+    /// Explores all that the start leads to, and answers its number. States are kept by way of the
+    /// room for their parts.
+    pub fn explore(
+        &mut self,
+        alloc: Global,
+        image: &Image,
+        flow: &Flow<'_>,
+        room: &mut Vec<Part>,
+    ) -> Result<u32, Refused>
         requires image { flow.now ≡ image.now }
         requires whole { IsImage image.now }
         requires good { IsFlow flow.now }
@@ -284,6 +297,7 @@ impl Search {
             flow,
             &mut self.table,
             &self.current,
+            None,
             &mut self.scratch,
         )? {
             Arrival::Known(number) => Turn::Done(number),
@@ -292,7 +306,7 @@ impl Search {
         for _explored in 0..MAX_EXPLORED {
             match turn {
                 Turn::Done(number) => return Ok(number),
-                Turn::Explore(stored) => turn = self.advance(alloc, image, flow, stored)?,
+                Turn::Explore(stored) => turn = self.advance(alloc, image, flow, stored, room)?,
             }
         }
         match turn {

@@ -71,7 +71,7 @@ impl Shape {
     /// slots to which its frames' exits lead. There is none where the state does not know them all.
     pub fn known_of(&self, sketch: &Sketch) -> Option<u64> {
         let mut rest = self.numbers.as_slice();
-        let mut print = sketch.returns;
+        let mut print = sketch.prints.returns;
         for part in &sketch.parts {
             let [first, others @ ..] = rest else {
                 return Some(print);

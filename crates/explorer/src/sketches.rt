@@ -12,10 +12,9 @@ use reg_state::{Kind, Scalar};
 use stack_state::{Slot, State};
 use std::alloc::{AllocError, Global};
 
-/// The parts of a state's innermost frame, and fingerprints of all its frames.
-#[derive(Drop)]
-pub struct Sketch {
-    pub parts: Vec<Part>,
+/// Fingerprints of frames from the outermost on.
+#[derive(Clone, Copy, Drop)]
+pub struct Prints {
     /// Of the slots to which the frames' exits lead: a state has the same one as those that cover
     /// it.
     pub returns: u64,
@@ -23,13 +22,38 @@ pub struct Sketch {
     pub fingerprint: u64,
 }
 
+impl Prints {
+    /// Of no frames yet, of a state at the slot.
+    pub fn of(slot: usize) -> Self {
+        Prints {
+            returns: 0,
+            fingerprint: slot as u64,
+        }
+    }
+
+    /// With the next frame, which has these parts.
+    pub fn with_frame(self, return_slot: usize, parts: &[Part]) -> Self {
+        let returns = mixed(self.returns, return_slot as u64);
+        Prints {
+            returns,
+            fingerprint: with_parts(mixed(self.fingerprint, returns), parts),
+        }
+    }
+}
+
+/// The parts of a state's innermost frame, and fingerprints of all its frames.
+#[derive(Drop)]
+pub struct Sketch {
+    pub parts: Vec<Part>,
+    pub prints: Prints,
+}
+
 impl Sketch {
     /// A sketch of nothing, with room for all parts of a frame.
     pub fn new(alloc: Global) -> Result<Self, AllocError> {
         Ok(Sketch {
             parts: Vec::with_capacity(alloc, 74)?,
-            returns: 0,
-            fingerprint: 0,
+            prints: Prints::of(0),
         })
     }
 
@@ -37,16 +61,13 @@ impl Sketch {
     pub fn draw(&mut self, state: &State) -> Result<(), AllocError>
         ensures { OnOk result (AreParts self.new.parts.items state.now.innermost) }
     {
-        let mut print = state.slot as u64;
-        let mut returns = 0;
+        let mut prints = Prints::of(state.slot);
         for frame in state.callers.as_slice() {
             take_parts(&mut self.parts, frame)?;
-            returns = mixed(returns, frame.return_slot as u64);
-            print = with_parts(mixed(print, returns), &self.parts);
+            prints = prints.with_frame(frame.return_slot, &self.parts);
         }
         take_parts(&mut self.parts, &state.innermost)?;
-        self.returns = mixed(returns, state.innermost.return_slot as u64);
-        self.fingerprint = with_parts(mixed(print, self.returns), &self.parts);
+        self.prints = prints.with_frame(state.innermost.return_slot, &self.parts);
         Ok(())
     }
 }

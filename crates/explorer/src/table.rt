@@ -1,6 +1,6 @@
 //! The states that were met at joins.
 
-ghost use Rattle.std.specs.Prelude.{◌≡◌, ℕ, ◌<◌, ◌++◌, ◌∷◌, [], Some, length, vec_len};
+ghost use Rattle.std.specs.Prelude.{◌≡◌, ℕ, ◌<◌, ◌++◌, ◌∷◌, [], Some, None, length, vec_len};
 ghost use Rattle.std.specs.Prelude.{IsTrue, IfSome, IfOk, OnOk, OnErr};
 ghost use Rattle.stack_state.specs.declared.states.State.{State as TheState};
 ghost use Rattle.explorer.specs.Keeping.{AreParts};
@@ -44,12 +44,16 @@ impl Table {
         })
     }
 
-    /// Turns to a state, which is then looked for and stored.
-    pub fn turn_to(&mut self, state: &State) -> Result<(), AllocError>
+    /// Turns to a state, which is then looked for and stored. It may have been kept already.
+    pub fn turn_to(&mut self, state: &State, kept: &Option<Kept>) -> Result<(), AllocError>
         ensures same { self.new.entries.items ≡ self.old.entries.items }
-        ensures drawn { OnOk result (AreParts self.new.sketch.parts.items state.now.innermost) }
+        ensures drawn { OnOk result (kept.now ≡ None
+            → AreParts self.new.sketch.parts.items state.now.innermost) }
     {
-        self.sketch.draw(state)
+        match kept {
+            None => self.sketch.draw(state),
+            Some(kept) => kept.draw(&mut self.sketch),
+        }
     }
 
     /// The number of an entry that is finished and covers the state.
@@ -131,7 +135,7 @@ impl Table {
     pub fn repeats(&self, state: &State, scratch: &mut State) -> bool
         ensures { IsTrue result → IsRepeated self.now.entries.items state.now }
     {
-        let fingerprint = self.sketch.fingerprint;
+        let fingerprint = self.sketch.prints.fingerprint;
         for index in self.index.unfinished_like(fingerprint) {
             if self.index.is_like(index, fingerprint) && self.is_equal(index, state, scratch) {
                 return true;
@@ -141,8 +145,14 @@ impl Table {
     }
 
     /// Stores the state to which the table turned, and answers its place.
-    pub fn store(&mut self, alloc: Global, state: &State) -> Result<usize, AllocError>
-        requires { AreParts self.old.sketch.parts.items state.now.innermost }
+    pub fn store(
+        &mut self,
+        alloc: Global,
+        state: &State,
+        kept: Option<Kept>,
+    ) -> Result<usize, AllocError>
+        requires drawn { kept ≡ None → AreParts self.old.sketch.parts.items state.now.innermost }
+        requires kept { IfSome kept (λ s. s ≡ state.now) }
         ensures place { IfOk result (λ k. k ≡ length self.old.entries.items) }
         ensures stored { IfOk result (λ _. self.new.entries.items
             ≡ self.old.entries.items ++ record { state = state.now; number = 0 } ∷ []) }
@@ -150,7 +160,10 @@ impl Table {
     {
         let index = self.entries.len();
         self.index.add(alloc, state.slot, &self.sketch)?;
-        let state = Kept::of_parts(alloc, state, self.sketch.parts.as_slice())?;
+        let state = match kept {
+            Some(kept) => kept,
+            None => Kept::of_parts(alloc, state, &mut self.sketch.parts)?,
+        };
         self.entries.push(Stored { state, number: 0 })?;
         Ok(index)
     }

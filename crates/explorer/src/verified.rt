@@ -81,7 +81,8 @@ fn bound_of(alloc: Global, image: &Image) -> Result<u32, (Refusal, usize)>
     let Ok(mut search) = Search::new(alloc, slots) else {
         return Err((Refusal::Memory, 0));
     };
-    let bound = search.explore(alloc, image, &flow)?;
+    let mut room = Vec::new(alloc);
+    let bound = search.explore(alloc, image, &flow, &mut room)?;
     Ok(bound)
 }
 
