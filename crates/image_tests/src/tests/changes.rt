@@ -1,8 +1,8 @@
 //! Every front of an image, and every change of one byte, by a rule of the format.
 
-use super::images::TWO_SLOTS;
+use super::images::{TWO_SLOTS, refusal_of};
+use image::ImageError;
 use image::ImageError::{Code, Long, Magic, Short, SlotCount, TooManyMaps};
-use image::{Image, ImageError};
 use insn_codec::CodecError;
 use std::test::Fail;
 
@@ -10,13 +10,12 @@ use std::test::Fail;
 #[test]
 fn refuses_each_front_and_more(rt: HostRuntime) -> Result<(), Fail> {
     for length in 0..TWO_SLOTS.len() {
-        let front = Image::parse(rt.alloc(), &TWO_SLOTS[..length]);
-        assert_eq!(rt; front.err(), Some(Short), "{length} bytes");
+        let refused = refusal_of(rt.alloc(), &TWO_SLOTS[..length]);
+        assert_eq!(rt; refused, Some(Short), "{length} bytes");
     }
-    let mut more = Vec::new(rt.alloc());
-    more.extend_from_slice(&TWO_SLOTS)?;
+    let mut more = TWO_SLOTS.to_vec(rt.alloc())?;
     more.push(0)?;
-    assert_eq!(rt; Image::parse(rt.alloc(), &more).err(), Some(Long));
+    assert_eq!(rt; refusal_of(rt.alloc(), &more), Some(Long));
     Ok(())
 }
 
@@ -98,7 +97,7 @@ fn answers_each_changed_byte(rt: HostRuntime) -> Result<(), Fail> {
             }
             let mut bytes = TWO_SLOTS;
             bytes[place] = value;
-            let answer = Image::parse(rt.alloc(), &bytes).err();
+            let answer = refusal_of(rt.alloc(), &bytes);
             assert_eq!(rt;
                 answer,
                 refusal_of_change(place, value),

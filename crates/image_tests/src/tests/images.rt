@@ -8,7 +8,7 @@ use image::{Image, ImageError};
 use insn_codec::CodecError;
 use isa_model::Operand::Constant;
 use isa_model::{AluOp, Insn, MapDef, MapKind, Reg, Width};
-use std::alloc::{AllocError, Global};
+use std::alloc::Global;
 use std::io::ErrorKind;
 use std::test::Fail;
 
@@ -22,43 +22,68 @@ const WIDE_NUMBER: Insn = Insn::LoadNumber(Reg::R0, 0x1_0000_0002);
 
 const TWO: Insn = Insn::Alu(Width::Full64, AluOp::Mov, Reg::R0, Constant(2));
 
+const WIDE_CODE: [Option<Insn>; 3] = [Some(WIDE_NUMBER), None, Some(Insn::Exit)];
+
 /// The bytes of an image, and its slots.
 const IMAGES: [(&[u8], &[Option<Insn>]); 2] = [
     (&TWO_SLOTS, &[Some(TWO), Some(Insn::Exit)]),
-    (&WIDE, &[Some(WIDE_NUMBER), None, Some(Insn::Exit)]),
+    (&WIDE, &WIDE_CODE),
 ];
 
-/// The image that bytes are, and the bytes that it writes.
-fn written(alloc: Global, bytes: &[u8]) -> Result<(Image, Vec<u8>), Fail> {
-    let image = Image::parse(alloc, bytes)?;
+/// Why bytes are no image, if they are none.
+pub fn refusal_of(alloc: Global, bytes: &[u8]) -> Option<ImageError> {
+    Image::parse(alloc, bytes).err()
+}
+
+/// Why map rows and instructions are no image, if they are none.
+fn refusal_of_parts(alloc: Global, maps: &[MapDef], insns: &[Insn]) -> Option<ImageError> {
+    Image::of(alloc, maps, insns).err()
+}
+
+fn parsed(alloc: Global, bytes: &[u8]) -> Result<Image, Fail> {
+    Ok(Image::parse(alloc, bytes)?)
+}
+
+fn written(alloc: Global, image: &Image) -> Result<Vec<u8>, Fail> {
     let mut out = Vec::new(alloc);
     image.write(&mut out)?;
-    Ok((image, out))
+    Ok(out)
+}
+
+fn insn_at(image: &Image, slot: usize) -> Option<Insn> {
+    image.at(slot).copied()
 }
 
 #[test]
 fn reads_and_writes(rt: HostRuntime) -> Result<(), Fail> {
     for (bytes, code) in IMAGES.iter() {
-        let (image, out) = written(rt.alloc(), *bytes)?;
-        assert_eq!(rt; out.as_slice(), *bytes);
+        let image = parsed(rt.alloc(), *bytes)?;
+        assert_eq!(rt; written(rt.alloc(), &image)?.as_slice(), *bytes);
         assert_eq!(rt; (image.maps().len(), image.slots()), (0, code.len()));
         assert_eq!(rt; image.code(), *code);
         for slot in 0..5usize {
             let insn = code.get(slot).copied().flatten();
-            assert_eq!(rt; image.at(slot).copied(), insn, "slot {slot}");
+            assert_eq!(rt; insn_at(&image, slot), insn, "slot {slot}");
         }
     }
     Ok(())
 }
 
+/// Why writing an image fails, if it does.
+fn failure_of_writing(image: &Image, mut writer: &mut [u8]) -> Option<ErrorKind> {
+    match image.write(&mut writer) {
+        Ok(()) => None,
+        Err(error) => Some(error.kind()),
+    }
+}
+
 #[test]
 fn fails_to_write(rt: HostRuntime) -> Result<(), Fail> {
-    let image = Image::parse(rt.alloc(), &TWO_SLOTS)?;
+    let image = parsed(rt.alloc(), &TWO_SLOTS)?;
     for room in 0..24usize {
         let mut taken = [0; 24];
-        let mut writer = &mut taken[..room];
-        let kind = image.write(&mut writer).map_err(|error| error.kind());
-        assert_eq!(rt; kind, Err(ErrorKind::WriteZero), "{room} bytes");
+        let kind = failure_of_writing(&image, &mut taken[..room]);
+        assert_eq!(rt; kind, Some(ErrorKind::WriteZero), "{room} bytes");
         assert_eq!(rt; &taken[..room], &TWO_SLOTS[..room], "{room} bytes");
     }
     Ok(())
@@ -68,33 +93,44 @@ fn fails_to_write(rt: HostRuntime) -> Result<(), Fail> {
 fn makes_of_instructions(rt: HostRuntime) -> Result<(), Fail> {
     let image = Image::of(rt.alloc(), &[], &[WIDE_NUMBER, Insn::Exit])?;
     assert_eq!(rt; image.maps().len(), 0);
-    assert_eq!(rt;
-        image.code(),
-        [Some(WIDE_NUMBER), None, Some(Insn::Exit)].as_slice()
-    );
-    for (count, wanted) in [(0, Some(SlotCount)), (2048, None), (2049, Some(SlotCount))] {
+    assert_eq!(rt; image.code(), WIDE_CODE.as_slice());
+    Ok(())
+}
+
+/// Counts of wide loads, and why so many are no image.
+const WIDE_COUNTS: [(u32, Option<ImageError>); 3] = [
+    (0, Some(SlotCount)),
+    (2048, None),
+    (2049, Some(SlotCount)),
+];
+
+#[test]
+fn makes_of_as_many_as_fit(rt: HostRuntime) -> Result<(), Fail> {
+    for (count, wanted) in WIDE_COUNTS.iter() {
         let mut insns = Vec::new(rt.alloc());
-        for _ in 0..count {
+        for _ in 0..*count {
             insns.push(WIDE_NUMBER)?;
         }
-        let refused = Image::of(rt.alloc(), &[], &insns).err();
-        assert_eq!(rt; refused, wanted, "{count} instructions");
+        let refused = refusal_of_parts(rt.alloc(), &[], &insns);
+        assert_eq!(rt; refused, *wanted, "{count} instructions");
     }
     Ok(())
 }
 
+/// Heads, counts of slots, and why they are no image.
+const LONGEST: [(&[u8], u32, Option<ImageError>); 2] = [
+    (b"XBP1\0\0\0\x10", 4096, None),
+    (b"XBP1\0\0\x01\x10", 4097, Some(SlotCount)),
+];
+
 #[test]
 fn reads_the_longest(rt: HostRuntime) -> Result<(), Fail> {
-    for (head, count, wanted) in [
-        (b"XBP1\0\0\0\x10", 4096, None),
-        (b"XBP1\0\0\x01\x10", 4097, Some(SlotCount)),
-    ] {
-        let mut bytes = Vec::new(rt.alloc());
-        bytes.extend_from_slice(head)?;
-        for _ in 0..count {
+    for (head, count, wanted) in LONGEST.iter() {
+        let mut bytes = head.to_vec(rt.alloc())?;
+        for _ in 0..*count {
             bytes.extend_from_slice(&TWO_SLOTS[16..])?;
         }
-        assert_eq!(rt; Image::parse(rt.alloc(), &bytes).err(), wanted);
+        assert_eq!(rt; refusal_of(rt.alloc(), &bytes), *wanted);
     }
     Ok(())
 }
@@ -126,7 +162,7 @@ const REFUSED: [(&[u8], ImageError); 11] = [
 #[test]
 fn refuses_in_order(rt: HostRuntime) -> Result<(), Fail> {
     for (bytes, wanted) in REFUSED.iter() {
-        let refused = Image::parse(rt.alloc(), *bytes).err();
+        let refused = refusal_of(rt.alloc(), *bytes);
         assert_eq!(rt; refused, Some(*wanted), "{bytes:?}");
     }
     Ok(())
@@ -214,15 +250,20 @@ fn map_of(row: Row) -> MapDef {
     }
 }
 
+fn maps_of(alloc: Global, rows: &[Row]) -> Result<Vec<MapDef>, Fail> {
+    let mut maps = Vec::new(alloc);
+    for row in rows {
+        maps.push(map_of(*row))?;
+    }
+    Ok(maps)
+}
+
 #[test]
 fn refuses_parts_in_order(rt: HostRuntime) -> Result<(), Fail> {
-    for (rows, insns, wanted) in REFUSED_PARTS.iter() {
-        let mut maps = Vec::new(rt.alloc());
-        for row in *rows {
-            maps.push(map_of(*row))?;
-        }
-        let refused = Image::of(rt.alloc(), &maps, *insns).err();
-        assert_eq!(rt; refused, *wanted, "{maps:?} {insns:?}");
+    for (index, (rows, insns, wanted)) in REFUSED_PARTS.iter().enumerate() {
+        let maps = maps_of(rt.alloc(), *rows)?;
+        let refused = refusal_of_parts(rt.alloc(), &maps, *insns);
+        assert_eq!(rt; refused, *wanted, "row {index}");
     }
     Ok(())
 }
@@ -233,57 +274,68 @@ const WITH_MAP: [u8; 60] = *b"XBP1\x01\0\x05\0\x02\0\x04\0\x08\0\0\0\x01\0\0\0\
 
 #[test]
 fn reads_and_writes_maps(rt: HostRuntime) -> Result<(), Fail> {
-    let (image, out) = written(rt.alloc(), &WITH_MAP)?;
-    assert_eq!(rt; out.as_slice(), WITH_MAP.as_slice());
-    assert_eq!(rt; image.maps(), [map_of(ONE_VALUE)].as_slice());
+    let image = parsed(rt.alloc(), &WITH_MAP)?;
     assert_eq!(rt;
-        image.at(2).copied(),
-        Some(Insn::LoadMapValue(Reg::R1, 0, 4))
+        written(rt.alloc(), &image)?.as_slice(),
+        WITH_MAP.as_slice()
     );
-    // the byte, its value, and the refusal
-    for (place, value, wanted) in [
-        (8, 3, MapRow(0)),
-        (18, 1, MapRow(0)),
-        (17, 1, ValuePointer(2)),
-        (24, 1, UnknownMap(0)),
-        (27, 0x80, UnknownMap(0)),
-        (40, 1, UnknownMap(2)),
-        (48, 8, ValuePointer(2)),
-        (32, 1, Code(0, CodecError::SecondSlot)),
-    ] {
+    assert_eq!(rt; image.maps(), [map_of(ONE_VALUE)].as_slice());
+    assert_eq!(rt; insn_at(&image, 2), Some(Insn::LoadMapValue(Reg::R1, 0, 4)));
+    Ok(())
+}
+
+/// A byte of the image with a map, another value of it, and the refusal.
+const CHANGED: [(usize, u8, ImageError); 8] = [
+    (8, 3, MapRow(0)),
+    (18, 1, MapRow(0)),
+    (17, 1, ValuePointer(2)),
+    (24, 1, UnknownMap(0)),
+    (27, 0x80, UnknownMap(0)),
+    (40, 1, UnknownMap(2)),
+    (48, 8, ValuePointer(2)),
+    (32, 1, Code(0, CodecError::SecondSlot)),
+];
+
+#[test]
+fn refuses_changed_maps(rt: HostRuntime) -> Result<(), Fail> {
+    for (place, value, wanted) in CHANGED.iter() {
         let mut bytes = WITH_MAP;
-        bytes[place] = value;
-        assert_eq!(rt;
-            Image::parse(rt.alloc(), &bytes).err(),
-            Some(wanted),
-            "byte {place}"
-        );
+        *bytes.get_mut(*place).ok_or("no such byte")? = *value;
+        let refused = refusal_of(rt.alloc(), &bytes);
+        assert_eq!(rt; refused, Some(*wanted), "byte {place}");
     }
     Ok(())
 }
 
+const CODES: [(ImageError, &str); 12] = [
+    (Magic, "I1"),
+    (Short, "I2"),
+    (Long, "I3"),
+    (TooManyMaps, "I4"),
+    (MapRow(2), "I5"),
+    (SlotCount, "I6"),
+    (MapRoom, "I7"),
+    (Code(0, CodecError::UnusedField), "I8"),
+    (Code(4095, CodecError::SecondSlot), "I8"),
+    (Memory, "I9"),
+    (UnknownMap(3), "I10"),
+    (ValuePointer(0), "I11"),
+];
+
+fn code_of(error: ImageError) -> &'static str {
+    error.code()
+}
+
+fn sentence_of(alloc: Global, error: ImageError) -> Result<String, Fail> {
+    Ok(error.to_string(alloc)?)
+}
+
 #[test]
-fn names_refusals(rt: HostRuntime) -> Result<(), AllocError> {
-    for (error, code) in [
-        (Magic, "I1"),
-        (Short, "I2"),
-        (Long, "I3"),
-        (TooManyMaps, "I4"),
-        (MapRow(2), "I5"),
-        (SlotCount, "I6"),
-        (MapRoom, "I7"),
-        (Code(0, CodecError::UnusedField), "I8"),
-        (Code(4095, CodecError::SecondSlot), "I8"),
-        (Memory, "I9"),
-        (UnknownMap(3), "I10"),
-        (ValuePointer(0), "I11"),
-    ] {
-        assert_eq!(rt; error.code(), code);
+fn names_refusals(rt: HostRuntime) -> Result<(), Fail> {
+    for (error, code) in CODES.iter() {
+        assert_eq!(rt; code_of(*error), *code);
     }
-    let error = Code(7, CodecError::UnknownOpcode);
-    assert_eq!(rt;
-        error.to_string(rt.alloc())?.as_str(),
-        "the opcode is unknown"
-    );
+    let sentence = sentence_of(rt.alloc(), Code(7, CodecError::UnknownOpcode))?;
+    assert_eq!(rt; sentence.as_str(), "the opcode is unknown");
     Ok(())
 }

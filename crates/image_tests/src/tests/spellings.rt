@@ -11,7 +11,7 @@ use isa_model::{
     AtomicOp, ByteOrder, Comparison, Cond, Extension, Insn, Narrow, Operand, Place, Reg, Size,
     Span, Width,
 };
-use std::alloc::AllocError;
+use std::alloc::{AllocError, Global};
 use std::process::Abort;
 
 fn at(base: Reg, offset: i16) -> Place {
@@ -31,11 +31,21 @@ fn jump_if(width: Width, comparison: Comparison, operand: Operand, by: i16) -> I
     )
 }
 
-/// What encoding answers, the bytes that it leaves of 16 times 0xaa, and what they decode to.
-pub fn both_ways(insn: Insn) -> (usize, [u8; 16], Result<(Insn, usize), CodecError>) {
+/// What encoding answers, and the bytes that it leaves of 16 times 0xaa.
+fn encoded(insn: Insn) -> (usize, [u8; 16]) {
     let mut out = [0xaa; 16];
     let length = encode(&insn, &mut out);
-    (length, out, decode(&out))
+    (length, out)
+}
+
+fn decoded(bytes: &[u8]) -> Result<(Insn, usize), CodecError> {
+    decode(bytes)
+}
+
+/// What encoding answers, the bytes that it leaves, and what they decode to.
+pub fn both_ways(insn: Insn) -> (usize, [u8; 16], Result<(Insn, usize), CodecError>) {
+    let (length, out) = encoded(insn);
+    (length, out, decoded(&out))
 }
 
 /// Encodes to these 8 bytes, written from left to right, and they decode to it whatever follows.
@@ -49,7 +59,7 @@ fn assert_spelled(rt: &impl Abort, insn: Insn, bytes: u64) {
 
 /// Why bytes are no instruction, if they are none.
 pub fn refusal_of(bytes: &[u8]) -> Option<CodecError> {
-    decode(bytes).err()
+    decoded(bytes).err()
 }
 
 const ARITHMETIC: [(Insn, u64); 28] = [
@@ -341,22 +351,29 @@ fn refuses_in_order(rt: HostRuntime) {
     }
 }
 
+const CODES: [(CodecError, &str); 6] = [
+    (CodecError::Short, "C1"),
+    (CodecError::UnknownOpcode, "C2"),
+    (CodecError::UnknownRegister, "C3"),
+    (CodecError::UnusedField, "C4"),
+    (CodecError::UnknownSelector, "C5"),
+    (CodecError::SecondSlot, "C6"),
+];
+
+fn code_of(error: CodecError) -> &'static str {
+    error.code()
+}
+
+fn sentence_of(alloc: Global, error: CodecError) -> Result<String, AllocError> {
+    error.to_string(alloc)
+}
+
 #[test]
 fn names_refusals(rt: HostRuntime) -> Result<(), AllocError> {
-    for (error, code) in [
-        (CodecError::Short, "C1"),
-        (CodecError::UnknownOpcode, "C2"),
-        (CodecError::UnknownRegister, "C3"),
-        (CodecError::UnusedField, "C4"),
-        (CodecError::UnknownSelector, "C5"),
-        (CodecError::SecondSlot, "C6"),
-    ] {
-        assert_eq!(rt; error.code(), code);
+    for (error, code) in CODES.iter() {
+        assert_eq!(rt; code_of(*error), *code);
     }
-    let error = CodecError::UnknownRegister;
-    assert_eq!(rt;
-        error.to_string(rt.alloc())?.as_str(),
-        "a register number is over 10"
-    );
+    let sentence = sentence_of(rt.alloc(), CodecError::UnknownRegister)?;
+    assert_eq!(rt; sentence.as_str(), "a register number is over 10");
     Ok(())
 }

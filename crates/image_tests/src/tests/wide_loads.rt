@@ -1,9 +1,10 @@
 //! Spellings of wide loads: of a number, of a map, and of a pointer into a map's value.
 
 use super::spellings::{both_ways, refusal_of};
-use insn_codec::{CodecError, encode};
+use insn_codec::CodecError;
 use isa_model::Insn;
 use isa_model::Reg::R1;
+use std::process::Abort;
 
 /// A wide load of r1: 0x18, the register byte, the low half, the reserved bits and the high half.
 const WIDE: [u8; 16] = [
@@ -43,17 +44,21 @@ const MAP_LOADS: [(Insn, u64, u64); 3] = [
     ),
 ];
 
+/// Encodes to these two slots, and they decode to it.
+fn assert_slots(rt: &impl Abort, insn: Insn, first: u64, second: u64) {
+    let (length, out, decoded) = both_ways(insn);
+    assert_eq!(rt; length, 16);
+    assert_eq!(rt; &out[..8], first.to_be_bytes().as_slice(), "{insn:?}");
+    assert_eq!(rt; &out[8..], second.to_be_bytes().as_slice(), "{insn:?}");
+    assert_eq!(rt; decoded, Ok((insn, 16)), "{insn:?}");
+}
+
 #[test]
 fn spells_map_loads(rt: HostRuntime) {
     for (insn, first, second) in MAP_LOADS.iter() {
-        let (length, out, decoded) = both_ways(*insn);
-        assert_eq!(rt; length, 16);
-        assert_eq!(rt; &out[..8], first.to_be_bytes().as_slice(), "{insn:?}");
-        assert_eq!(rt; &out[8..], second.to_be_bytes().as_slice(), "{insn:?}");
-        assert_eq!(rt; decoded, Ok((*insn, 16)), "{insn:?}");
+        assert_slots(&rt, *insn, *first, *second);
     }
-    let mut with_next = [0; 16];
-    encode(&Insn::LoadMap(R1, 0), &mut with_next);
+    let (_, mut with_next, _) = both_ways(Insn::LoadMap(R1, 0));
     with_next[12] = 1;
     assert_eq!(rt; refusal_of(&with_next), Some(CodecError::SecondSlot));
 }

@@ -1,6 +1,6 @@
 //! Texts of each form and of names, and the code that they are.
 
-use assembler::assemble;
+use super::image_bytes_of;
 use std::test::Fail;
 
 /// Each text, and its slots: opcode, registers, offset and imm of the tables of the encoding.
@@ -122,10 +122,9 @@ const CODES: [(&str, &[u8]); 50] = [
 
 #[test]
 fn codes(rt: HostRuntime) -> Result<(), Fail> {
-    for (text, code) in CODES {
-        let mut bytes = Vec::new(rt.alloc());
-        assemble(rt.alloc(), text.as_bytes())?.write(&mut bytes)?;
-        assert_eq!(rt; bytes.get(8..), Some(code), "{text}");
+    for (text, code) in CODES.iter() {
+        let bytes = image_bytes_of(rt.alloc(), *text)?;
+        assert_eq!(rt; bytes.get(8..), Some(*code), "{text}");
     }
     Ok(())
 }

@@ -1,5 +1,6 @@
 //! A text that was worked out by hand from the forms, and outputs that fail.
 
+use super::{image_of, text_of};
 use disassembler::disassemble;
 use image::Image;
 use std::alloc::Global;
@@ -75,21 +76,19 @@ const FORMS: [(u64, &str); 58] = [
 ];
 
 /// The image of all those slots.
-fn image(alloc: Global) -> Result<Image, Fail> {
-    let mut bytes = Vec::new(alloc);
-    bytes.extend_from_slice(b"XBP1\0\0\x3a\0")?;
-    for (slot, _) in FORMS {
+fn image_of_forms(alloc: Global) -> Result<Image, Fail> {
+    let mut bytes = b"XBP1\0\0\x3a\0".to_vec(alloc)?;
+    for (slot, _) in FORMS.iter() {
         bytes.extend_from_slice(&slot.to_be_bytes())?;
     }
-    Ok(Image::parse(alloc, &bytes)?)
+    image_of(alloc, &bytes)
 }
 
 #[test]
 fn each_form(rt: HostRuntime) -> Result<(), Fail> {
-    let mut out = Vec::new(rt.alloc());
-    disassemble(&image(rt.alloc())?, &mut out)?;
+    let out = text_of(rt.alloc(), &image_of_forms(rt.alloc())?)?;
     let mut rest = out.as_slice();
-    for (_, line) in FORMS {
+    for (_, line) in FORMS.iter() {
         let (front, behind) = rest.split_at(line.len().min(rest.len()));
         assert_eq!(rt; front, line.as_bytes(), "{line}");
         rest = behind;
@@ -98,17 +97,23 @@ fn each_form(rt: HostRuntime) -> Result<(), Fail> {
     Ok(())
 }
 
+/// Why writing the text fails, if it does.
+fn failure_of_writing(image: &Image, mut out: &mut [u8]) -> Option<ErrorKind> {
+    match disassemble(image, &mut out) {
+        Ok(()) => None,
+        Err(error) => Some(error.kind()),
+    }
+}
+
 /// An output that is full has what came before, and its failure is handed on.
 #[test]
 fn full_outputs(rt: HostRuntime) -> Result<(), Fail> {
-    let image = image(rt.alloc())?;
-    let mut text = Vec::new(rt.alloc());
-    disassemble(&image, &mut text)?;
+    let image = image_of_forms(rt.alloc())?;
+    let text = text_of(rt.alloc(), &image)?;
     for room in 0..99usize {
         let mut taken = [0; 99];
-        let mut out = &mut taken[..room];
-        let kind = disassemble(&image, &mut out).map_err(|error| error.kind());
-        assert_eq!(rt; kind, Err(ErrorKind::WriteZero), "{room} bytes");
+        let kind = failure_of_writing(&image, &mut taken[..room]);
+        assert_eq!(rt; kind, Some(ErrorKind::WriteZero), "{room} bytes");
         assert_eq!(rt; Some(&taken[..room]), text.get(..room), "{room} bytes");
     }
     Ok(())

@@ -1,8 +1,6 @@
 //! Canonical texts with maps and calls of helpers, and the images that they are.
 
-use assembler::assemble;
-use disassembler::disassemble;
-use image::Image;
+use super::{image_bytes_of, image_of, text_of};
 use std::test::Fail;
 
 /// Each text, and its image after the magic.
@@ -44,15 +42,12 @@ const IMAGES: [(&str, &[u8]); 5] = [
 
 #[test]
 fn texts_and_images(rt: HostRuntime) -> Result<(), Fail> {
-    for (text, image) in IMAGES {
-        let mut bytes = Vec::new(rt.alloc());
-        bytes.extend_from_slice(b"XBP1")?;
-        bytes.extend_from_slice(image)?;
-        let mut made = Vec::new(rt.alloc());
-        assemble(rt.alloc(), text.as_bytes())?.write(&mut made)?;
+    for (text, image) in IMAGES.iter() {
+        let mut bytes = b"XBP1".to_vec(rt.alloc())?;
+        bytes.extend_from_slice(*image)?;
+        let made = image_bytes_of(rt.alloc(), *text)?;
         assert_eq!(rt; made.as_slice(), bytes.as_slice(), "{text}");
-        let mut written = Vec::new(rt.alloc());
-        disassemble(&Image::parse(rt.alloc(), &bytes)?, &mut written)?;
+        let written = text_of(rt.alloc(), &image_of(rt.alloc(), &bytes)?)?;
         assert_eq!(rt; written.as_slice(), text.as_bytes(), "{text}");
     }
     Ok(())

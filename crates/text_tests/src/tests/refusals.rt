@@ -5,7 +5,7 @@ use assembler::AsmErrorKind::{
     SlotCount, UnknownByte,
 };
 use assembler::{AsmError, AsmErrorKind, assemble};
-use std::process::Abort;
+use std::alloc::Global;
 use std::test::Fail;
 
 /// Seventeen map lines.
@@ -114,39 +114,40 @@ const REFUSALS: [(&[u8], AsmErrorKind, usize, usize); 58] = [
     ),
 ];
 
-fn is_refused(
-    rt: &(impl Abort + AllocGlobal),
-    text: &[u8],
-    kind: AsmErrorKind,
-    line: usize,
-    column: usize,
-) {
-    let error = assemble(rt.alloc(), text).map(|_| ());
-    assert_eq!(rt; error, Err(AsmError { kind, line, column }));
+/// The slots of a text's image, or why it is refused.
+fn slots_of(alloc: Global, text: &[u8]) -> Result<usize, AsmError> {
+    Ok(assemble(alloc, text)?.slots())
 }
 
 #[test]
 fn refusals(rt: HostRuntime) {
-    for (text, kind, line, column) in REFUSALS {
-        is_refused(&rt, text, kind, line, column);
+    for (text, kind, line, column) in REFUSALS.iter() {
+        let (kind, line, column) = (*kind, *line, *column);
+        let refused = slots_of(rt.alloc(), *text).err();
+        assert_eq!(rt; refused, Some(AsmError { kind, line, column }));
     }
 }
 
+/// How a text of 4,096 slots goes on, and its slots or why it is refused at the tenth column.
+const TOO_MANY: [(&[u8], Result<usize, AsmErrorKind>); 3] = [
+    (b"", Ok(4096)),
+    (b";a:; exit", Err(SlotCount)),
+    // a name that is defined already goes first
+    (b";a:; a: exit", Err(DefinedTwice)),
+];
+
 #[test]
 fn refuses_a_slot_too_many(rt: HostRuntime) -> Result<(), Fail> {
-    let mut text: Vec<u8> = Vec::new(rt.alloc());
-    for _ in 0..4095 {
-        text.extend_from_slice(b"exit\n")?;
+    for (end, wanted) in TOO_MANY.iter() {
+        let mut text = b"exit".to_vec(rt.alloc())?;
+        for _ in 0..4095u32 {
+            text.extend_from_slice(b"\nexit")?;
+        }
+        text.extend_from_slice(*end)?;
+        let (line, column) = (4096, 10);
+        let wanted = wanted.map_err(|kind| AsmError { kind, line, column });
+        assert_eq!(rt; slots_of(rt.alloc(), &text), wanted);
     }
-    text.extend_from_slice(b"exit")?;
-    let full = assemble(rt.alloc(), text.as_slice())?;
-    assert_eq!(rt; full.slots(), 4096);
-    text.extend_from_slice(b";a:; exit")?;
-    is_refused(&rt, text.as_slice(), SlotCount, 4096, 10);
-    // a name that is defined already goes first
-    text.truncate(text.len() - 4);
-    text.extend_from_slice(b"a: exit")?;
-    is_refused(&rt, text.as_slice(), DefinedTwice, 4096, 10);
     Ok(())
 }
 
@@ -157,8 +158,9 @@ fn prints_refusals(rt: HostRuntime) -> Result<(), Fail> {
         line: 1,
         column: 6,
     };
+    let printed = error.to_string(rt.alloc())?;
     assert_eq!(rt;
-        format!(in rt.alloc(); "{error}")?.as_str(),
+        printed.as_str(),
         "the name is not defined, line 1 column 6"
     );
     Ok(())
