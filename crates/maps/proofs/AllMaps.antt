@@ -11,14 +11,14 @@ use Rattle.maps.specs.contracts.either.EitherIndexIndex.TheImpl as indexes
 use Rattle.maps.specs.declared.store.Store.{Store}
 use Rattle.isa_model.specs.Machine.States.{Entries}
 use Rattle.isa_model.specs.Machine.MachineStates.{AreBytes}
-use Rattle.maps.specs.Slots.{IsKey}
-use Rattle.maps.specs.ArrayPlaces.{array_places}
+use Rattle.map_indexes.specs.Slots.{IsKey}
+use Rattle.map_indexes.specs.ArrayPlaces.{array_places}
 use Rattle.maps.specs.Either.{places_of, kind_of, room_of, either_in_range, either_apart, either_few, either_keys}
 use Rattle.isa_model.specs.Code.MapRows.{IsRow}
-use Rattle.maps.specs.Maps.{MapState, IsMap, map_at, ordered_in}
+use Rattle.maps.specs.Maps.{MapState, IsMap, map_at, with_block, ordered_in}
 use Rattle.maps.specs.ReportOrder.{listed_of, with_key_of, listed-place, entry-value, entry-key}
-use Rattle.maps.specs.Rows.{row_at}
-use Rattle.maps.specs.RowLaws.{below-same, at_most-same}
+use Rattle.map_indexes.specs.Rows.{row_at}
+use Rattle.map_indexes.specs.RowLaws.{below-same, at_most-same}
 use Rattle.maps.specs.StoreStates.{state_by}
 
 abbrev pub EitherStore : Type 0
@@ -61,6 +61,14 @@ module _ (maps : List MapState) (stores : List EitherStore) (view : map state st
 
   pub others-set : (x : EitherStore) → map state (slice_set stores i x) ≡ slice_set maps i (map_at (map state (slice_set stores i x)) i)
   others-set x = map-set state stores i x ∙ (λ k. slice_set (view k) i (sym (map_at-set x) k))
+
+  -- and so does one of which the block alone is written
+  pub block-set : (x t : EitherStore) → x ≡ slice_index_or stores i x → t.row ≡ x.row → t.index ≡ x.index → (change : List ℕ → List ℕ)
+      → t.values.items ≡ change x.values.items → map state (slice_set stores i t) ≡ with_block maps i (change (map_at maps i).block)
+  block-set x t e row index change block =
+      let was : map_at maps i ≡ state x = map_at-state x e in
+      let is : state t ≡ record (state x) { block = change (state x).block } = λ k. record { row = row k; places = places_of (index k); block = block k } in
+      map-set state stores i t ∙ (λ k. slice_set (view k) i (is k)) ∙ ap (λ (m : MapState). slice_set maps i (record m { block = change m.block })) (sym was)
 
 -- ---- entries in the order of the report, by an index that is the store's
 

@@ -1,2 +1,1 @@
-pub mod KeyLemmas
 pub mod AllMaps

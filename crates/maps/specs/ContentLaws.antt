@@ -9,10 +9,10 @@ use Rattle.std.specs.FinMap.{get, insert, remove, len, entries, entries_sorted, 
 use Rattle.std.specs.FinMap.Entries.{find, is_sorted, below_all, find-put, find-where_key, is_sorted-put, is_sorted-where_key, same_entries}
 use Rattle.isa_model.specs.Machine.States.{Entries}
 use Rattle.isa_model.specs.Machine.MapContents.{key_order, is_key, at_key, has_key, with_key, without_key}
-use Rattle.maps.specs.Rows.{row_at, with_row}
-use Rattle.maps.specs.RowLaws.{row_at-with_row, row_at-other}
-use Rattle.maps.specs.Slots.{Places, TakesPlace}
-use Rattle.maps.specs.SlotLaws.{is_key-itself, is_key-equal}
+use Rattle.map_indexes.specs.Rows.{row_at, with_row}
+use Rattle.map_indexes.specs.RowLaws.{row_at-with_row, row_at-other}
+use Rattle.map_indexes.specs.Slots.{Places, TakesPlace}
+use Rattle.map_indexes.specs.SlotLaws.{is_key-itself, is_key-equal}
 use Rattle.maps.specs.Contents.{content}
 
 -- ---- entries whose values change, and whose keys stay

@@ -5,9 +5,9 @@ use Rattle.isa_model.specs.declared.map_defs.MapKind.{MapKind}
 use Rattle.isa_model.specs.declared.map_defs.MapKind.TheVariants.{Hash, Array}
 use Rattle.isa_model.specs.declared.map_defs.MapDef.{MapDef}
 use Rattle.isa_model.specs.Machine.States.{Entries}
-use Rattle.maps.specs.Rows.{row_at}
-use Rattle.maps.specs.ArrayPlaces.{array_places}
-use Rattle.maps.specs.Slots.{Places}
+use Rattle.map_indexes.specs.Rows.{row_at}
+use Rattle.map_indexes.specs.ArrayPlaces.{array_places}
+use Rattle.map_indexes.specs.Slots.{Places}
 
 -- the value of each key, in the order of the keys
 abbrev pub content : ℕ → Places → List ℕ → Entries

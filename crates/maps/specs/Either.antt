@@ -5,11 +5,11 @@ use Rattle.isa_model.specs.declared.map_defs.MapKind.{MapKind}
 use Rattle.isa_model.specs.declared.map_defs.MapKind.TheVariants.{Hash, Array}
 use Rattle.maps.specs.declared.either.EitherIndex.{EitherIndex}
 use Rattle.maps.specs.declared.either.EitherIndex.TheVariants as either
-use Rattle.maps.specs.ArrayPlaces.{array_places}
-use Rattle.maps.specs.ArrayLaws.{array_in_range, array_apart, array_few}
-use Rattle.maps.specs.ScanLaws.{scan_in_range, scan_apart, scan_few}
-use Rattle.maps.specs.KeyBytes.{key_found, index_found}
-use Rattle.maps.specs.Slots.{Places, places, IsKey}
+use Rattle.map_indexes.specs.ArrayPlaces.{array_places}
+use Rattle.map_indexes.specs.ArrayLaws.{array_in_range, array_apart, array_few}
+use Rattle.map_indexes.specs.ScanLaws.{scan_in_range, scan_apart, scan_few}
+use Rattle.map_indexes.specs.KeyBytes.{key_found, index_found}
+use Rattle.map_indexes.specs.Slots.{Places, places, IsKey}
 
 abbrev pub places_of : EitherIndex → Places
 places_of (either.Array s) = array_places s.entries

@@ -1,10 +1,10 @@
 -- What maps have fits their rows; what they start with is what programs start with; and one map changed leaves the
 -- contents of the others.
-use Rattle.std.specs.Prelude.{◌≡◌, ℕ, zero, suc, ◌+◌, ◌-◌, ◌*◌, ◌^◌, ◌<◌, ◌≤◌, true, List, [], ◌∷◌, ◌++◌, length, map, fold, take, replicate, slice_index_or, slice_set, All, Some, refl}
+use Rattle.std.specs.Prelude.{◌≡◌, ℕ, zero, suc, ◌+◌, ◌-◌, ◌*◌, ◌^◌, ◌<◌, ◌≤◌, List, [], ◌∷◌, ◌++◌, length, map, fold, take, replicate, slice_index_or, slice_set, All, Some, refl}
 use Rattle.std.specs.Prelude.{is_some}
 use Rattle.std.specs.List.{range_with_len}
 use Rattle.std.specs.FinMap.{empty, entries, get, len-empty}
-use Rattle.std.proofs.Common.{sym, ap, subst, ◌∙◌, arith}
+use Rattle.std.proofs.Common.{sym, ap, ◌∙◌, arith}
 use Rattle.std.proofs.lemmas.List.{drop-replicate, take-replicate, map-set, length-map, get_or-map}
 use Rattle.std.proofs.lemmas.List.Elements.{All-head, All-tail, All-map, All-take, All-drop, All-from_get_or}
 use Rattle.std.proofs.lemmas.List.Sums.{fold-append}
@@ -20,15 +20,15 @@ use Rattle.isa_model.specs.Machine.MapContents.{key_order, with_key}
 use Rattle.isa_model.specs.Machine.MachineStates.{IsEntry, KeysFit, keys_of, FitsRow, FitRows}
 use Rattle.isa_model.specs.Machine.PutLaws.{IsStrictlySortedBy-is_sorted, Contains-has_key}
 use Rattle.isa_model.specs.Reporting.Reports.{starting_entries, starting_contents}
-use Rattle.maps.specs.ArrayPlaces.{array_places}
-use Rattle.maps.specs.ArrayLaws.{got_index, get_index}
+use Rattle.map_indexes.specs.ArrayPlaces.{array_places}
+use Rattle.map_indexes.specs.ArrayLaws.{got_index, get_index}
 use Rattle.maps.specs.Contents.{content, starting_places}
 use Rattle.maps.specs.ContentLaws.{sorted-content, length-content, has_key-content, content-insert}
 use Rattle.maps.specs.Maps.{MapState, IsMap, content_in, contents_of, rows_of, map_at, starting_map}
 use Rattle.maps.specs.ReportOrder.{get_at}
-use Rattle.maps.specs.Rows.{row_at}
-use Rattle.maps.specs.RowLaws.{row_end, length-row_at}
-use Rattle.maps.specs.Slots.{Places}
+use Rattle.map_indexes.specs.Rows.{row_at}
+use Rattle.map_indexes.specs.RowLaws.{row_end, length-row_at}
+use Rattle.map_indexes.specs.Slots.{Places}
 
 -- ---- a map's content fits its row
 

@@ -1,5 +1,5 @@
 -- The maps of an image as contracts see them: rows, places of keys, and blocks of values.
-use Rattle.std.specs.Prelude.{◌≡◌, ℕ, ◌+◌, ◌*◌, ◌<◌, ◌≤◌, List, [], length, map, replicate, slice_index_or, Some, refl}
+use Rattle.std.specs.Prelude.{◌≡◌, ℕ, ◌+◌, ◌*◌, ◌<◌, ◌≤◌, List, [], length, map, replicate, slice_index_or, slice_set, Some, refl}
 use Rattle.std.proofs.Common.{arith}
 use Rattle.std.specs.Coded.{Coded, code_by, coded×, coded_ℕ, coded_list}
 use Rattle.std.specs.FinMap.{empty, get, len, code}
@@ -13,9 +13,9 @@ use Rattle.isa_model.specs.Machine.MachineStates.{AreBytes}
 use Rattle.isa_model.specs.Machine.MapContents.{update_answer, delete_answer, after_update, after_delete}
 use Rattle.isa_model.specs.Reporting.Reports.{in_report_order}
 use Rattle.std.specs.List.{splice}
-use Rattle.maps.specs.Rows.{row_at, with_row}
-use Rattle.maps.specs.ArrayPlaces.{array_places}
-use Rattle.maps.specs.Slots.{Places, IsKey}
+use Rattle.map_indexes.specs.Rows.{row_at, with_row}
+use Rattle.map_indexes.specs.ArrayPlaces.{array_places}
+use Rattle.map_indexes.specs.Slots.{Places, IsKey}
 use Rattle.maps.specs.Contents.{content, starting_places}
 use Rattle.maps.specs.Changes.{Updates, Deletes}
 
@@ -42,6 +42,10 @@ ordered_in m = in_report_order m.row.kind m.row.entries (content_in m)
 abbrev pub map_at : List MapState → ℕ → MapState
 map_at maps m = slice_index_or maps m
     (record { row = record { kind = Hash; key_size = 0; value_size = 0; entries = 0 }; places = empty; block = [] })
+
+-- the maps with another block of values in one
+abbrev pub with_block : List MapState → ℕ → List ℕ → List MapState
+with_block maps m block = slice_set maps m (record (map_at maps m) { block = block })
 
 abbrev pub rows_of : List MapState → List MapDef
 rows_of maps = map (λ m. m.row) maps

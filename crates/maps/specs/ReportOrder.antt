@@ -20,14 +20,14 @@ use Rattle.isa_model.specs.Machine.States.{Entries}
 use Rattle.isa_model.specs.Reporting.Reports.{in_report_order, entry_by_index}
 use Rattle.maps.specs.declared.either.EitherIndex.{EitherIndex}
 use Rattle.maps.specs.declared.either.EitherIndex.TheVariants as either
-use Rattle.maps.specs.ArrayLaws.{get_index}
-use Rattle.maps.specs.ArrayPlaces.{array_places}
+use Rattle.map_indexes.specs.ArrayLaws.{get_index}
+use Rattle.map_indexes.specs.ArrayPlaces.{array_places}
 use Rattle.maps.specs.ContentLaws.{at_key-content}
 use Rattle.maps.specs.Contents.{content}
 use Rattle.maps.specs.Either.{places_of, kind_of, room_of, either_in_range}
-use Rattle.maps.specs.Rows.{row_at}
-use Rattle.maps.specs.Slots.{Places, Slots, slot, places}
-use Rattle.maps.specs.SlotLaws.{is_key-itself, got}
+use Rattle.map_indexes.specs.Rows.{row_at}
+use Rattle.map_indexes.specs.Slots.{Places, Slots, slot, places}
+use Rattle.map_indexes.specs.SlotLaws.{is_key-itself, got}
 
 -- an array's keys by their index, a hash map's by their bytes
 abbrev pub listed_of : EitherIndex → List (List ℕ × ℕ)

@@ -1,9 +1,9 @@
 -- A store, as contracts of all maps see it.
 use Rattle.std.specs.Prelude.{◌≡◌, ℕ, ◌≤◌}
 use Rattle.isa_model.specs.declared.map_defs.MapKind.TheVariants.{Hash}
-use Rattle.maps.specs.declared.index.Index.{Ghosts}
+use Rattle.map_indexes.specs.declared.index.Index.{Ghosts}
 use Rattle.maps.specs.declared.store.Store.{Store}
-use Rattle.maps.specs.Slots.{Places}
+use Rattle.map_indexes.specs.Slots.{Places}
 use Rattle.isa_model.specs.Code.MapRows.{IsRow}
 use Rattle.maps.specs.Maps.{MapState}
 

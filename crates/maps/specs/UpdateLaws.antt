@@ -7,10 +7,10 @@ use Rattle.isa_model.specs.declared.map_defs.MapKind.TheVariants.{Hash, Array}
 use Rattle.isa_model.specs.declared.map_defs.MapDef.{MapDef}
 use Rattle.isa_model.specs.Machine.States.{Entries}
 use Rattle.isa_model.specs.Machine.MapContents.{with_key, without_key, enoent, e2big, exist, update_answer_by, delete_answer_by, update_answer, delete_answer, after_update, after_delete}
-use Rattle.maps.specs.Rows.{with_row}
+use Rattle.map_indexes.specs.Rows.{with_row}
 use Rattle.maps.specs.Contents.{content}
 use Rattle.maps.specs.ContentLaws.{has_key-content, length-content, content-written, content-added, content-removed, get-taken}
-use Rattle.maps.specs.Slots.{Places, TakesPlace}
+use Rattle.map_indexes.specs.Slots.{Places, TakesPlace}
 use Rattle.maps.specs.Changes.{Writes, Updates, Deletes}
 
 -- a test of a number for 0

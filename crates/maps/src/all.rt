@@ -6,7 +6,7 @@ ghost use Rattle.std.specs.Borrow.{sem};
 ghost use Rattle.std.specs.FinMap as finmap;
 ghost use Rattle.std.specs.FinMap.{values};
 ghost use Rattle.isa_model.specs.Machine.MapContents.{at_key};
-ghost use Rattle.maps.specs.Rows.{row_at};
+ghost use Rattle.map_indexes.specs.Rows.{row_at};
 ghost use Rattle.isa_model.specs.declared.map_defs.MapKind.TheVariants.{Hash};
 ghost use Rattle.isa_model.specs.Code.MapRows.{IsRow};
 ghost use Rattle.maps.specs.Maps.{IsMap, Updated, Deleted, WritesValue};
@@ -72,7 +72,7 @@ impl Model for Maps {
 
 impl Maps {
     ghost use Rattle.maps.specs.Listing.{listed_entries};
-    ghost use Rattle.maps.specs.MapLends.{Stay};
+    ghost use Rattle.maps.specs.MapLends.{Stay, LendsBlock};
 
     /// The maps of an image as they start.
     pub fn new(alloc: Global, image: &Image) -> Result<Self, MapError>
@@ -205,5 +205,16 @@ impl Maps {
         ensures { result.now ≡ (map_at self.now map).block }
     {
         self.stores.all[map].block()
+    }
+
+    /// The values of all places, to be written.
+    #[inline(always)]
+    pub fn block_mut(&mut self, map: usize) -> &mut [u8]
+        requires { map < length self.old }
+        ensures* lends { sem 𝓛 (LendsBlock self.entry map result) }
+        ensures value { result.now ≡ (map_at self.old map).block }
+    {
+        let store = &mut self.stores.all[map];
+        store.block_mut()
     }
 }

@@ -6,12 +6,9 @@ ghost use Rattle.std.specs.List.{slice_get};
 ghost use Rattle.std.specs.Option.{option_map};
 ghost use Rattle.isa_model.specs.declared.map_defs.MapKind.TheVariants.{Hash, Array};
 
-use crate::arrays::ArrayIndex;
-use crate::chained::ChainIndex;
-use crate::index::Index;
-use crate::keys::put_bytes;
 use byteorder::{ByteOrder, LittleEndian};
 use isa_model::{MapDef, MapKind};
+use map_indexes::{ArrayIndex, ChainIndex, Index, put_bytes};
 use std::alloc::{AllocError, Global};
 
 /// Which place each key has: an array's indexes, or the keys of a hash map by chains.

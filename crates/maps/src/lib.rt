@@ -5,29 +5,19 @@
 #![tactic(auto)]
 
 pub mod all;
-pub mod arrays;
-pub mod chained;
-mod chains;
 pub mod commands;
 pub mod either;
 pub mod errors;
-mod hashing;
 mod helpers;
-pub mod index;
-mod keys;
 pub mod ordered;
-pub mod scan;
 pub mod store;
 mod stores;
 
 pub use all::Maps;
-pub use arrays::ArrayIndex;
-pub use chained::ChainIndex;
 pub use commands::{Command, Reply, replies};
 pub use either::EitherIndex;
 pub use errors::MapError;
 pub use helpers::{delete, lookup, update};
-pub use index::Index;
+pub use map_indexes::{ArrayIndex, ChainIndex, Index, ScanIndex, arrays, chained, index, scan};
 pub use ordered::Ordered;
-pub use scan::ScanIndex;
 pub use store::{ArrayMap, HashMapChain, HashMapScan, MapStore, Store};

@@ -1,22 +1,20 @@
 //! The entries of one map.
 
 ghost use Rattle.std.specs.Prelude.{◌≡◌, ◌+◌, ◌*◌, ◌<◌, ◌≤◌, ℕ, List, length, nat_le, vec_len};
-ghost use Rattle.std.specs.Prelude.{replicate};
+ghost use Rattle.std.specs.Prelude.{replicate, refl};
+ghost use Rattle.std.specs.Borrow.{sem};
+ghost use Rattle.maps.specs.LentBytes.{LendsBytes};
 ghost use Rattle.std.specs.Prelude.{None, Some, IsSome, IfSome, IfOk};
 ghost use Rattle.std.specs.List.{splice};
 ghost use Rattle.std.specs.FinMap as map;
 ghost use Rattle.isa_model.specs.declared.map_defs.MapKind.TheVariants.{Hash, Array};
 ghost use Rattle.isa_model.specs.declared.map_defs.MapDef.{MapDef};
-ghost use Rattle.maps.specs.Rows.{row_at, with_row};
+ghost use Rattle.map_indexes.specs.Rows.{row_at, with_row};
 ghost use Rattle.maps.specs.Contents.{hash_row};
-ghost use Rattle.maps.specs.Slots.{Places, TakesPlace};
+ghost use Rattle.map_indexes.specs.Slots.{Places, TakesPlace};
 
-use crate::arrays::ArrayIndex;
-use crate::chained::ChainIndex;
-use crate::index::Index;
-use crate::keys::put_bytes;
-use crate::scan::ScanIndex;
 use isa_model::{MapDef, MapKind};
+use map_indexes::{ArrayIndex, ChainIndex, Index, ScanIndex, put_bytes};
 use std::alloc::{AllocError, Global};
 
 /// The entries of a map by its row. Each key has a place, which it keeps until it is removed, and
@@ -27,6 +25,9 @@ pub trait MapStore {
     ghost places: { Self → Places };
 
     ghost block: { Self → List ℕ };
+
+    // The map with other bytes for the value at a place.
+    ghost with_value: { Self → ℕ → List ℕ → Self };
 
     /// The map's row.
     fn row(&self) -> MapDef
@@ -76,6 +77,13 @@ pub trait MapStore {
         requires { place < (row_of self.now).entries }
         ensures { result.now ≡ row_at (row_of self.now).value_size (block self.now) place };
 
+    /// The value at a place, to be written.
+    fn value_mut(&mut self, place: usize) -> &mut [u8]
+        requires { place < (row_of self.old).entries }
+        ensures* lends { sem 𝓛 (LendsBytes Self.row self.entry result
+            (with_value self.old place)) }
+        ensures value { result.now ≡ row_at (row_of self.old).value_size (block self.old) place };
+
     /// Writes the value at a place.
     fn write(&mut self, place: usize, value: &[u8])
         requires place { place < (row_of self.old).entries }
@@ -83,7 +91,10 @@ pub trait MapStore {
         ensures block { block self.new
             ≡ with_row (row_of self.old).value_size (block self.old) place value.now }
         ensures places { places self.new ≡ places self.old }
-        ensures row { row_of self.new ≡ row_of self.old };
+        ensures row { row_of self.new ≡ row_of self.old }
+    {
+        self.value_mut(place).copy_from_slice(value);
+    }
 
     // Each place is below `entries`, no two keys have one place, there are no more keys than
     // `entries`, and the block has a value for each place.
@@ -96,6 +107,15 @@ pub trait MapStore {
     ghost few: { (s : Self) → map.len (places s) ≤ (row_of s).entries };
 
     ghost whole: { (s : Self) → length (block s) ≡ (row_of s).entries * (row_of s).value_size };
+
+    // What is written into a value changes its row of the block, and nothing else.
+    ghost written_row: { (s : Self) (p : ℕ) (v : List ℕ) → row_of (with_value s p v) ≡ row_of s };
+
+    ghost written_places: { (s : Self) (p : ℕ) (v : List ℕ) → places (with_value s p v) ≡ places s };
+
+    ghost written: { (s : Self) (p : ℕ) (v : List ℕ) → p < (row_of s).entries
+        → length v ≡ (row_of s).value_size
+        → block (with_value s p v) ≡ with_row (row_of s).value_size (block s) p v };
 }
 
 /// The entries of a map over an index of its keys.
@@ -111,6 +131,8 @@ pub struct Store<I: Index> {
 }
 
 impl<I: Index> Store<I> {
+    ghost use Rattle.maps.specs.Lending.{LendsBlock};
+
     /// The entries of a map as it starts: its values are zero-filled.
     pub fn over(alloc: Global, row: MapDef, index: I) -> Result<Self, AllocError>
         requires kind { I.kind index ≡ row.kind }
@@ -154,16 +176,27 @@ impl<I: Index> Store<I> {
     {
         self.values.as_slice()
     }
+
+    /// The values of all places, to be written.
+    pub fn block_mut(&mut self) -> &mut [u8]
+        ensures* lends { sem 𝓛 (LendsBlock I.row I.Index self.entry result) }
+        ensures value { result.now ≡ self.old.values.items }
+    {
+        self.values.as_mut_slice()
+    }
 }
 
 impl<I: Index> MapStore for Store<I> {
-    ghost use Rattle.maps.specs.RowLaws.{below-same, at_most-same};
+    ghost use Rattle.map_indexes.specs.RowLaws.{below-same, at_most-same};
+    ghost use Rattle.maps.specs.Lending.{stored_at, stored_at-with_row};
 
     ghost row_of = { λ s. s.row };
 
     ghost places = { λ s. I.places s.index };
 
     ghost block = { λ s. s.values.items };
+
+    ghost with_value = { stored_at };
 
     fn row(&self) -> MapDef {
         self.row
@@ -195,9 +228,10 @@ impl<I: Index> MapStore for Store<I> {
         &self.values[place * size..place * size + size]
     }
 
-    fn write(&mut self, place: usize, value: &[u8]) {
-        let start = place * self.row.value_size as usize;
-        put_bytes(self.values.as_mut_slice(), start, value);
+    fn value_mut(&mut self, place: usize) -> &mut [u8] {
+        let size = self.row.value_size as usize;
+        let start = place * size;
+        self.values.slice_mut(start..start + size)
     }
 
     ghost in_range = { λ s k p e. below-same p s.room (I.in_range s.index k p e) };
@@ -207,6 +241,12 @@ impl<I: Index> MapStore for Store<I> {
     ghost few = { λ s. at_most-same (map.len (I.places s.index)) s.room (I.few s.index) };
 
     ghost whole = { λ s. s.whole };
+
+    ghost written_row = { λ s p v. refl };
+
+    ghost written_places = { λ s p v. refl };
+
+    ghost written = { λ s p v inside size. stored_at-with_row s p v inside size };
 }
 
 // The row of a hash map.
@@ -225,7 +265,7 @@ fn hash_row(key_size: u16, value_size: u32, entries: u32) -> MapDef
 pub type ArrayMap = Store<ArrayIndex>;
 
 impl Store<ArrayIndex> {
-    ghost use Rattle.maps.specs.ArrayPlaces.{array_places};
+    ghost use Rattle.map_indexes.specs.ArrayPlaces.{array_places};
 
     /// An array with all its indexes, and values that are zero-filled.
     pub fn new(alloc: Global, value_size: u32, entries: u32) -> Result<Self, AllocError>

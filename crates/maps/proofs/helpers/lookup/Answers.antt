@@ -1,7 +1,7 @@
 use Rattle.std.proofs.Common.{Some, ap, sym, ◌∙◌}
 use Rattle.std.specs.Prelude.{option_copied}
 use Rattle.std.specs.Option.{option_map}
-use Rattle.maps.specs.Rows.{row_at}
+use Rattle.map_indexes.specs.Rows.{row_at}
 use Rattle.maps.specs.ContentLaws.{at_key-content}
 use Rattle.maps.proofs.helpers.lookup.Goals as goal
 

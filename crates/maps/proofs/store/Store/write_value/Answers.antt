@@ -1,7 +1,7 @@
-use Rattle.std.proofs.Common.{◌≡◌, ◌+◌, ◌*◌, ℕ, List, length, sym, ap, ◌∙◌}
+use Rattle.std.proofs.Common.{◌≡◌, ◌+◌, ◌*◌, ℕ, List, length, drop, sym, ap, ◌∙◌}
+use Rattle.std.proofs.lemmas.List.{take_at}
 use Rattle.std.specs.List.{splice}
-use Rattle.maps.specs.RowLaws.{splice_in_row, changed_row, length-changed_row, length-with_row}
-use Rattle.maps.proofs.KeyLemmas.{lent_whole}
+use Rattle.map_indexes.specs.RowLaws.{splice_in_row, changed_row, length-changed_row, length-with_row}
 use Rattle.maps.proofs.store.Store.write_value.Goals as goal
 
 pub returns-clause-block : goal.returns-clause-block
@@ -18,4 +18,5 @@ returns-clause-block g c =
     let row = changed_row size n items p s.whole c.requires.place i v c.requires.within in
     let long = length-with_row size items p row n (length-changed_row size n items p s.whole c.requires.place i v c.requires.within) s.whole c.requires.place in
     let same : length c.put_bytes.new.block ≡ s.values.len = ap length put ∙ long ∙ sym s.whole ∙ sym s.values.ok.0 in
-    lent_whole c.put_bytes.new.block items s.values.len same ∙ put
+    let back = c.put_bytes.new.block in
+    take_at back (drop (length back) items) s.values.len same ∙ put

@@ -1,0 +1,13 @@
+use Rattle.std.proofs.Common.{◌≤◌, arith}
+use Rattle.std.specs.FinMap.{len}
+use Rattle.map_indexes.specs.ArrayPlaces.{array_places}
+use Rattle.map_indexes.specs.ArrayLaws.{len-array_places}
+use Rattle.map_indexes.proofs.arrays.ArrayIndexIndex.is_full.Goals as goal
+
+pub returns : goal.returns
+returns c =
+    let s = c.args.self.now in
+    let small = s.small in
+    let e = len-array_places s.entries (omega arith) in
+    let l : s.entries ≤ len (array_places s.entries) = omega arith in
+    grind arith

@@ -1,0 +1,24 @@
+use Rattle.std.proofs.Common.{ℕ, sym, ap, subst, ◌∙◌}
+use Rattle.slab.specs.Slab.{get}
+use Rattle.map_indexes.specs.Slots.{Slots, places, AreKeys}
+use Rattle.map_indexes.specs.KeyBytes.{AreKeys-none}
+use Rattle.map_indexes.specs.ScanLaws.{places-none}
+use Rattle.map_indexes.specs.Chains.{spot}
+use Rattle.map_indexes.specs.ChainIndexes.{IsChainIndex, chain_index-none}
+use Rattle.map_indexes.proofs.chained.ChainIndex.new.Goals as goal
+
+pub invariant_of-result-clause-index : goal.invariant_of-result-clause-index
+invariant_of-result-clause-index c =
+    let chains = c.in_ok-chains.chains in
+    let free = c.in_ok-free.free in
+    let spots = λ (k : ℕ). spot (get chains.links k) in
+    subst (λ (x : Slots). IsChainIndex x free.items chains.count spots) (sym c.in_ok-keys.ensures.empty)
+    (chain_index-none c.args.entries chains.count free.items spots c.in_ok-free.ensures.len c.in_ok-free.ensures.places (λ k. ap spot (c.in_ok-chains.ensures.empty k)))
+
+pub invariant_of-result-clause-sized : goal.invariant_of-result-clause-sized
+invariant_of-result-clause-sized c =
+    let size = c.in_ok-keys.keys.size in
+    subst (λ (x : Slots). AreKeys size x) (sym c.in_ok-keys.ensures.empty) (AreKeys-none size c.args.entries)
+
+pub returns-clause-empty : goal.returns-clause-empty
+returns-clause-empty c = ap (λ (x : Slots). places x) c.in_ok-keys.ensures.empty ∙ places-none c.args.entries

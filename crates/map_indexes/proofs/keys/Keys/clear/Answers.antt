@@ -1,0 +1,20 @@
+use Rattle.std.proofs.Common.{ap, ◌∙◌, arith}
+use Rattle.std.specs.Prelude.{slice_set, None}
+use Rattle.map_indexes.specs.Slots.{KeyTable}
+use Rattle.map_indexes.specs.KeyLaws.{slots_of-unused}
+use Rattle.map_indexes.proofs.KeyLemmas.{table_places}
+use Rattle.map_indexes.proofs.keys.Keys.clear.Goals as goal
+
+pub index_mut-requires : goal.index_mut-requires
+index_mut-requires c =
+    let k = c.self.inside in
+    let e = table_places k.size k.block.items k.used.items c.args.self.now c.self.view_is in
+    let f = k.used.ok.0 in
+    let h = c.requires.place in
+    omega arith
+
+pub returns-clause-slots : goal.returns-clause-slots
+returns-clause-slots c =
+    let k = c.self.inside in
+    slots_of-unused k.size k.block.items 0 k.used.items c.args.place
+    ∙ ap (λ (t : KeyTable). slice_set t.slots c.args.place None) c.self.view_is

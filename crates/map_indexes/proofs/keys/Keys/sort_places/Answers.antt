@@ -1,0 +1,12 @@
+use Rattle.std.proofs.Common.{rules, is_lt}
+use Rattle.std.proofs.lemmas.Fn.{always_returns_same}
+use Rattle.std.proofs.lemmas.List.Sorted.{ranks_by}
+use Rattle.std.specs.Cmp.Lexicographic.{nat_list_cmp_total}
+use Rattle.isa_model.specs.Machine.MapContents.{key_order}
+use Rattle.map_indexes.specs.KeyOrder.{key_or_none}
+use Rattle.map_indexes.proofs.keys.Keys.sort_places.Goals as goal
+
+pub returns-clause-sorted : goal.returns-clause-sorted
+returns-clause-sorted c =
+    let key = key_or_none c.args.self.now.slots in
+    c.sort_unstable_by.ensures.sorted (λ x y. is_lt (key_order (key x) (key y))) (ranks_by nat_list_cmp_total key) (always_returns_same _ _ _ (λ a r q k. search rules))

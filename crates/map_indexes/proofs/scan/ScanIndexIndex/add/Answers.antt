@@ -1,0 +1,43 @@
+use Rattle.std.proofs.Common.{ap, sym, ◌∙◌, subst, arith, ◌+◌}
+use Rattle.map_indexes.specs.Slots.{Slots, IsScan, places}
+use Rattle.map_indexes.specs.SlotLaws.{got, places-added}
+use Rattle.map_indexes.specs.ScanLaws.{scan_few, scan-added}
+use Rattle.map_indexes.proofs.scan.ScanIndexIndex.add.Goals as goal
+
+pub vacant-place-requires : goal.vacant-place-requires
+vacant-place-requires c =
+    let s = c.args.self.now in
+    let few = scan_few s.keys.slots s.len s.scan in
+    let mapped = s.scan.mapped in
+    let n = c.places.ensures in
+    let apart = c.if-self-places.false in
+    grind arith
+
+pub overflow_add-self : goal.overflow_add-self
+overflow_add-self c =
+    let s = c.args.self.now in
+    let few = scan_few s.keys.slots s.len s.scan in
+    let mapped = s.scan.mapped in
+    let n = c.places.ensures in
+    let fits = c.places.type_inv in
+    let apart = c.if-self-places.false in
+    grind arith
+
+pub invariant_of-self : goal.invariant_of-self
+invariant_of-self c =
+    let s = c.args.self.now in
+    let v = c.vacant-place in
+    record {
+      scan = subst (λ (slots : Slots). IsScan slots (s.len + 1)) (sym c.put.ensures.slots)
+          (scan-added s.keys.slots s.len s.scan c.args.key.now v.result v.ensures.in_range v.ensures.free c.requires.absent);
+    }
+
+pub returns-clause-added : goal.returns-clause-added
+returns-clause-added c =
+    let s = c.args.self.now in
+    let v = c.vacant-place in
+    record {
+      added = ap (λ (slots : Slots). places slots) c.put.ensures.slots
+          ∙ places-added s.keys.slots v.result c.args.key.now v.ensures.in_range s.scan.distinct c.requires.absent v.ensures.free;
+      free = λ k e. let h = got s.keys.slots k v.result e in let f = v.ensures.free in cc;
+    }

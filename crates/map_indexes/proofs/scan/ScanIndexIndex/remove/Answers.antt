@@ -1,0 +1,36 @@
+use Rattle.std.proofs.Common.{ap, sym, ◌∙◌, subst, rules, ◌-◌}
+use Rattle.map_indexes.specs.Slots.{Slots, IsScan, places}
+use Rattle.map_indexes.specs.SlotLaws.{got, places-emptied, remove_absent}
+use Rattle.map_indexes.specs.ScanLaws.{slot_inside, scan_some, scan-emptied}
+use Rattle.map_indexes.proofs.scan.ScanIndexIndex.remove.Goals as goal
+
+pub returns-in_err-place-clause-hash : goal.returns-in_err-place-clause-hash
+returns-in_err-place-clause-hash c = λ kind. (search rules, sym (remove_absent _ c.args.key.now (sym c.in_err-place.ensures)))
+
+pub clear-requires : goal.clear-requires
+clear-requires c =
+    let s = c.args.self.now in
+    record { place = slot_inside s.keys.slots c.in_ok-place.place c.args.key.now (got s.keys.slots c.args.key.now c.in_ok-place.place (sym c.in_ok-place.ensures)) }
+
+pub overflow_sub-self : goal.overflow_sub-self
+overflow_sub-self c =
+    let s = c.args.self.now in
+    scan_some s.keys.slots s.len s.scan c.args.key.now c.in_ok-place.place (got s.keys.slots c.args.key.now c.in_ok-place.place (sym c.in_ok-place.ensures))
+
+pub invariant_of-self : goal.invariant_of-self
+invariant_of-self c =
+    let s = c.args.self.now in
+    let here = got s.keys.slots c.args.key.now c.in_ok-place.place (sym c.in_ok-place.ensures) in
+    record {
+      scan = subst (λ (slots : Slots). IsScan slots (s.len - 1)) (sym c.clear.ensures.slots)
+          (scan-emptied s.keys.slots s.len s.scan c.args.key.now c.in_ok-place.place here);
+    }
+
+pub returns-clause-hash : goal.returns-clause-hash
+returns-clause-hash c = λ kind.
+    let s = c.args.self.now in
+    let here = got s.keys.slots c.args.key.now c.in_ok-place.place (sym c.in_ok-place.ensures) in (
+      c.in_ok-place.ensures,
+      ap (λ (slots : Slots). places slots) c.clear.ensures.slots
+          ∙ places-emptied s.keys.slots c.in_ok-place.place c.args.key.now (slot_inside s.keys.slots c.in_ok-place.place c.args.key.now here) s.scan.distinct here,
+    )

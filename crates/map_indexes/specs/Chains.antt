@@ -1,0 +1,47 @@
+-- Chains: links by number, and the first link of each chain. The links of a chain stand in the order of falling numbers.
+use Rattle.std.specs.Prelude.{◌≡◌, ℕ, ◌<◌, List, length, slice_index_or, slice_set, Option, Some, None, Bool, true, false, nat_eq, ◌+◌, if◌then◌else◌}
+use Rattle.map_indexes.specs.declared.chains.Link.{Link}
+use Rattle.map_indexes.specs.LastBelow.{last_below}
+
+abbrev pub is_in : ℕ → Option Link → Bool
+is_in chain None = false
+is_in chain (Some link) = nat_eq link.chain chain
+
+abbrev pub in_chain : (ℕ → Option Link) → ℕ → ℕ → Bool
+in_chain links chain k = is_in chain (links k)
+
+-- each chain begins with its link of the highest number, and each link leads to the one of the next lower number; room is above all numbers
+pub record IsChained (heads : List (Option ℕ)) (room : ℕ) (links : ℕ → Option Link) : Type 0 where
+  pub first : (chain : ℕ) → chain < length heads → slice_index_or heads chain None ≡ last_below (in_chain links chain) room
+  pub falls : (k : ℕ) (link : Link) → links k ≡ Some link → link.next ≡ last_below (in_chain links link.chain) k
+  pub within : (k : ℕ) (link : Link) → links k ≡ Some link → k < room
+  pub known : (k : ℕ) (link : Link) → links k ≡ Some link → link.chain < length heads
+
+-- the link of a chain behind which a link with the number `at` stands; none where it stands first
+abbrev pub StandsBehind : (ℕ → Bool) → ℕ → Option ℕ → Type 0
+StandsBehind test at None = (j : ℕ) → at < j → test j ≡ false
+StandsBehind test at (Some k) = (at < k) × (test k ≡ true) × ((j : ℕ) → at < j → j < k → test j ≡ false)
+
+-- a link's chain and place
+abbrev pub spot : Option Link → Option (ℕ × ℕ)
+spot None = None
+spot (Some link) = Some (link.chain, link.place)
+
+-- one more than a link's number, or 0 at the end of a chain
+abbrev pub height : Option ℕ → ℕ
+height None = 0
+height (Some k) = k + 1
+
+-- ---- one link, or the start of a chain, leads to another one
+
+abbrev pub heads_led : Option ℕ → ℕ → Option ℕ → List (Option ℕ) → List (Option ℕ)
+heads_led None chain to heads = slice_set heads chain to
+heads_led (Some k) chain to heads = heads
+
+abbrev pub next_led : Option ℕ → Option ℕ → ℕ → Option ℕ → Option ℕ
+next_led None to j next = next
+next_led (Some k) to j next = if nat_eq j k then to else next
+
+abbrev pub link_led : Option ℕ → Option ℕ → ℕ → Option Link → Option Link
+link_led from to j None = None
+link_led from to j (Some link) = Some (record link { next = next_led from to j link.next })

@@ -1,0 +1,65 @@
+-- Places, each of which may have a key, and the finite map from keys to places that they stand for.
+use Rattle.std.specs.Prelude.{◌≡◌, ◌≢◌, ℕ, ◌+◌, List, [], ◌∷◌, length, Option, Some, None, Bool, true, false, slice_index_or}
+use Rattle.std.specs.FinMap.{FinMap, from_entries, get, insert, len}
+use Rattle.isa_model.specs.Machine.MapContents.{key_order}
+use Rattle.isa_model.specs.Machine.MachineStates.{AreBytes}
+use Rattle.map_indexes.specs.Rows.{row_at}
+
+-- which place each key has
+abbrev pub Places : Type 0
+Places = FinMap key_order ℕ
+
+-- the key of each place, from place 0 on
+abbrev pub Slots : Type 0
+Slots = List (Option (List ℕ))
+
+abbrev pub slot : Slots → ℕ → Option (List ℕ)
+slot slots place = slice_index_or slots place None
+
+abbrev pub entries_from : ℕ → Slots → List (List ℕ × ℕ)
+entries_from at [] = []
+entries_from at (None ∷ slots) = entries_from (at + 1) slots
+entries_from at (Some key ∷ slots) = (key, at) ∷ entries_from (at + 1) slots
+
+abbrev pub places : Slots → Places
+places slots = from_entries (entries_from 0 slots)
+
+-- no key has two places
+abbrev pub IsDistinct : Slots → Type 0
+IsDistinct slots = (i j : ℕ) (key : List ℕ) → slot slots i ≡ Some key → slot slots j ≡ Some key → i ≡ j
+
+-- a key has the map's key size
+pub record IsKey (size : ℕ) (key : List ℕ) : Type 0 where
+  pub long : length key ≡ size
+  pub bytes : AreBytes key
+
+abbrev pub AreKeys : ℕ → Slots → Type 0
+AreKeys size slots = (p : ℕ) (key : List ℕ) → slot slots p ≡ Some key → IsKey size key
+
+-- the slots that a block of keys has where its places are in use
+abbrev pub slots_of : ℕ → List ℕ → ℕ → List Bool → Slots
+slots_of size block at [] = []
+slots_of size block at (true ∷ used) = Some (row_at size block at) ∷ slots_of size block (at + 1) used
+slots_of size block at (false ∷ used) = None ∷ slots_of size block (at + 1) used
+
+-- the keys of one size by place
+pub record KeyTable : Type 0 where
+  pub size : ℕ
+  pub slots : Slots
+
+-- the key takes a place that no key had, and every other key keeps its own
+pub record TakesPlace (old : Places) (key : List ℕ) (p : ℕ) (new : Places) : Type 0 where
+  pub added : new ≡ insert old key p
+  pub free : (k : List ℕ) → get old k ≢ Some p
+
+-- how many places have a key
+abbrev pub key_count : Slots → ℕ
+key_count [] = 0
+key_count (None ∷ slots) = key_count slots
+key_count (Some key ∷ slots) = key_count slots + 1
+
+-- no key has two places, and this is how many places have one
+pub record IsScan (slots : Slots) (count : ℕ) : Type 0 where
+  pub distinct : IsDistinct slots
+  pub counted : count ≡ key_count slots
+  pub mapped : count ≡ len (places slots)

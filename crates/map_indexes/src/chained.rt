@@ -1,0 +1,155 @@
+//! Keys found by chains.
+
+ghost use Rattle.std.specs.Prelude.{◌≡◌, ℕ, ◌+◌, ◌-◌, ◌<◌, ◌≤◌, length, None, IfOk, IfSome};
+ghost use Rattle.std.specs.Prelude.{slice_index_or, vec_capacity, is_some, true, Some};
+ghost use Rattle.std.specs.FinMap as map;
+ghost use Rattle.slab.specs.Slab.{get, slab_len};
+ghost use Rattle.isa_model.specs.declared.map_defs.MapKind.TheVariants.{Hash};
+ghost use Rattle.map_indexes.specs.Slots.{places, slot, AreKeys};
+ghost use Rattle.map_indexes.specs.KeyOrder.{used_places};
+ghost use Rattle.map_indexes.specs.Chains.{spot};
+ghost use Rattle.map_indexes.specs.ChainIndexes.{IsChainIndex, HasKey};
+
+use crate::chains::Chains;
+use crate::hashing::chain_of;
+use crate::index::Index;
+use crate::keys::Keys;
+use std::alloc::{AllocError, Global};
+
+// All places, the first at the end.
+fn all_places(alloc: Global, count: u32) -> Result<Vec<u32>, AllocError>
+    ensures len { IfOk result (λ v. length v.items ≡ count) }
+    ensures places { IfOk result (λ v. (i : ℕ) → i < count
+        → slice_index_or v.items i 0 ≡ count - 1 - i) }
+    ensures capacity { IfOk result (λ v. count ≤ vec_capacity v) }
+{
+    let mut places = Vec::with_capacity(alloc, count as usize)?;
+    for i in 0..count {
+        places.push_reserved(count - 1 - i);
+    }
+    Ok(places)
+}
+
+/// Which place each key of a hash map has: a link of the key's chain has it. A removed key's place
+/// is the next to be given.
+#[derive(Drop)]
+pub struct ChainIndex {
+    keys: Keys,
+    chains: Chains,
+    free: Vec<u32>,
+    ghost index: { IsChainIndex keys.slots free.items chains.count
+        (λ k. spot (get chains.links k)) },
+    ghost sized: { AreKeys keys.size keys.slots },
+    ghost chained: { 0 < chains.count },
+    ghost linked: { slab_len chains.links + length free.items ≡ length keys.slots },
+    ghost links_room: { length keys.slots ≤ chains.links.capacity },
+    ghost free_room: { length keys.slots ≤ vec_capacity free },
+}
+
+impl ChainIndex {
+    pub fn new(alloc: Global, key_size: u16, entries: u32) -> Result<Self, AllocError>
+        ensures key_size { IfOk result (λ s. s.keys.size ≡ key_size) }
+        ensures room { IfOk result (λ s. length s.keys.slots ≡ entries) }
+        ensures empty { IfOk result (λ s. places s.keys.slots ≡ map.empty) }
+    {
+        let keys = Keys::new(alloc, key_size, entries)?;
+        let chains = Chains::new(alloc, entries.max(1), entries)?;
+        let free = all_places(alloc, entries)?;
+        Ok(ChainIndex { keys, chains, free })
+    }
+
+    /// The key of a place that has one.
+    pub fn key(&self, place: usize) -> &[u8]
+        requires { is_some (slot self.now.keys.slots place) ≡ true }
+        ensures key { slot self.now.keys.slots place ≡ Some result.now }
+        ensures size { length result.now ≡ self.now.keys.size }
+    {
+        self.keys.key(place)
+    }
+
+    // Fills a list that has room with the places that have a key.
+    fn list_used(&self, list: &mut Vec<usize>)
+        requires { length self.now.keys.slots ≤ vec_capacity list.old }
+        ensures places { list.new.items ≡ used_places 0 self.now.keys.slots }
+        ensures capacity { vec_capacity list.new ≡ vec_capacity list.old }
+    {
+        list.clear();
+        for i in 0..self.keys.places() {
+            if self.keys.is_used(i) {
+                list.push_reserved(i);
+            }
+        }
+    }
+
+    /// Fills a list that has room with the places of all keys, in the order of the keys.
+    pub fn list(&self, list: &mut Vec<usize>)
+        requires { length self.now.keys.slots ≤ vec_capacity list.old }
+        ensures places { list.new.items ≡ map.values (places self.now.keys.slots) }
+        ensures capacity { vec_capacity list.new ≡ vec_capacity list.old }
+    {
+        self.list_used(list);
+        self.keys.sort_places(list.as_mut_slice());
+    }
+
+    // The number of the link whose place has the key.
+    fn find_link(&self, key: &[u8]) -> Option<usize>
+        requires { length key.now ≡ self.now.keys.size }
+        ensures found { IfSome result (HasKey self.now.keys.slots (get self.now.chains.links)
+            key.now) }
+        ensures absent { result ≡ None → map.get (places self.now.keys.slots) key.now ≡ None }
+    {
+        let mut next = self.chains.first(chain_of(key, self.chains.count()));
+        while let Some(at) = next {
+            let link = self.chains.link(at);
+            if self.keys.key(link.place as usize) == key {
+                return Some(at);
+            }
+            next = link.next;
+        }
+        None
+    }
+}
+
+impl Index for ChainIndex {
+    ghost use Rattle.map_indexes.specs.ScanLaws.{scan_in_range, scan_apart, scan_few};
+
+    ghost places = { λ s. places s.keys.slots };
+
+    ghost kind = { λ s. Hash };
+
+    ghost key_size = { λ s. s.keys.size };
+
+    ghost room = { λ s. length s.keys.slots };
+
+    fn find(&self, key: &[u8]) -> Option<usize> {
+        let at = self.find_link(key)?;
+        Some(self.chains.link(at).place as usize)
+    }
+
+    fn is_full(&self) -> bool {
+        self.free.is_empty()
+    }
+
+    fn add(&mut self, key: &[u8]) -> Option<usize> {
+        let place = self.free.pop()?;
+        let chain = chain_of(key, self.chains.count());
+        self.keys.put(place as usize, key);
+        self.chains.add(chain, place);
+        Some(place as usize)
+    }
+
+    fn remove(&mut self, key: &[u8]) -> Option<usize> {
+        let at = self.find_link(key)?;
+        let place = self.chains.remove(at);
+        self.keys.clear(place as usize);
+        self.free.push_reserved(place);
+        Some(place as usize)
+    }
+
+    ghost in_range = { λ s k p e. scan_in_range s.keys.slots k p e };
+
+    ghost apart = { λ s j k p e f. scan_apart s.keys.slots j k p e f };
+
+    ghost few = { λ s. scan_few s.keys.slots
+        (length s.keys.slots - length s.free.items) s.index.scan };
+}

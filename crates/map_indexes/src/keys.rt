@@ -1,0 +1,121 @@
+//! Keys of one size in a block, by place.
+
+ghost use Rattle.std.specs.Prelude.{◌≡◌, ◌+◌, ◌*◌, ◌≤◌, ◌<◌, length, Some, None, IfOk, replicate};
+ghost use Rattle.std.specs.Prelude.{slice_set, is_some, true, IsPermutation};
+ghost use Rattle.std.specs.List.{splice};
+ghost use Rattle.std.specs.List.Sorted.{IsSortedByKey};
+ghost use Rattle.isa_model.specs.Machine.MapContents.{key_order};
+ghost use Rattle.map_indexes.specs.KeyOrder.{key_or_none};
+ghost use Rattle.map_indexes.specs.Slots.{KeyTable, slot, slots_of};
+
+use std::alloc::{AllocError, Global};
+use std::marker::Model;
+
+/// Writes bytes from a place on.
+pub fn put_bytes(block: &mut [u8], at: usize, new: &[u8])
+    requires { at + length new.now ≤ length block.old }
+    ensures { block.new ≡ splice block.old at (at + length new.now) new.now }
+{
+    block[at..at + new.len()].copy_from_slice(new);
+}
+
+/// Which key each place has, if it has one. Contracts see the keys by place.
+#[derive(Drop)]
+pub struct Keys {
+    size: usize,
+    block: Vec<u8>,
+    used: Vec<bool>,
+}
+
+impl Model for Keys {
+    ghost Value = { KeyTable };
+
+    ghost view = { λ k. record {
+      size = k.size;
+      slots = slots_of k.size k.block.items 0
+          k.used.items;
+    } };
+
+    ghost invariant = { λ k. length k.block.items ≡ length k.used.items * k.size };
+}
+
+impl Keys {
+    /// A number of places without keys.
+    pub fn new(alloc: Global, size: u16, places: u32) -> Result<Self, AllocError>
+        ensures size { IfOk result (λ keys. keys.size ≡ size) }
+        ensures empty { IfOk result (λ keys. keys.slots ≡ replicate places None) }
+    {
+        let size = usize::from(size);
+        let places = places as usize;
+        let block = vec![in alloc; 0; places * size]?;
+        let used = vec![in alloc; false; places]?;
+        Ok(Keys { size, block, used })
+    }
+
+    /// How many places there are.
+    pub fn places(&self) -> usize
+        ensures { result ≡ length self.now.slots }
+    {
+        self.used.len()
+    }
+
+    pub fn is_used(&self, place: usize) -> bool
+        requires { place < length self.now.slots }
+        ensures { result ≡ is_some (slot self.now.slots place) }
+    {
+        self.used[place]
+    }
+
+    /// The key of a place that has one.
+    pub fn key(&self, place: usize) -> &[u8]
+        requires { is_some (slot self.now.slots place) ≡ true }
+        ensures key { slot self.now.slots place ≡ Some result.now }
+        ensures size { length result.now ≡ self.now.size }
+    {
+        let start = place * self.size;
+        &self.block[start..start + self.size]
+    }
+
+    /// The key of a place, or no bytes where it has none.
+    pub fn key_or_none(&self, place: usize) -> &[u8]
+        ensures { result.now ≡ key_or_none self.now.slots place }
+    {
+        if place >= self.places() {
+            return &[];
+        }
+        if self.is_used(place) {
+            self.key(place)
+        } else {
+            &[]
+        }
+    }
+
+    /// Puts places in the order of their keys.
+    pub fn sort_places(&self, places: &mut [usize])
+        ensures permutation { IsPermutation places.old places.new }
+        ensures sorted { IsSortedByKey (key_or_none self.now.slots) key_order places.new }
+    {
+        places.sort_unstable_by(|a, b| self.key_or_none(*a).cmp(self.key_or_none(*b)));
+    }
+
+    /// Gives a place a key.
+    pub fn put(&mut self, place: usize, key: &[u8])
+        requires size { length key.now ≡ self.old.size }
+        requires place { place < length self.old.slots }
+        ensures size { self.new.size ≡ self.old.size }
+        ensures slots { self.new.slots ≡ slice_set self.old.slots place (Some key.now) }
+    {
+        let start = place * self.size;
+        put_bytes(self.block.as_mut_slice(), start, key);
+        self.used[place] = true;
+    }
+
+    /// Takes a place's key away.
+    pub fn clear(&mut self, place: usize)
+        requires place { place < length self.old.slots }
+        ensures size { self.new.size ≡ self.old.size }
+        ensures slots { self.new.slots ≡ slice_set self.old.slots place None }
+    {
+        self.used[place] = false;
+    }
+}

@@ -1,0 +1,19 @@
+//! Indexes: which place each key of a map has.
+//!
+//! A key has a place, which it keeps until it is removed. There are three indexes: an array's, and
+//! of a hash map's keys one by chains and one that scans. All room is reserved when one is made.
+#![tactic(auto)]
+
+pub mod arrays;
+pub mod chained;
+mod chains;
+mod hashing;
+pub mod index;
+pub mod keys;
+pub mod scan;
+
+pub use arrays::ArrayIndex;
+pub use chained::ChainIndex;
+pub use index::Index;
+pub use keys::put_bytes;
+pub use scan::ScanIndex;

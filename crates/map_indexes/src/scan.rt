@@ -1,0 +1,93 @@
+//! Keys found by comparing them one after the other.
+
+ghost use Rattle.std.specs.Prelude.{◌≡◌, ◌<◌, length, None, slice_index_or};
+ghost use Rattle.isa_model.specs.declared.map_defs.MapKind.TheVariants.{Hash};
+ghost use Rattle.map_indexes.specs.Slots.{places, slot, IsScan};
+
+use crate::index::Index;
+use crate::keys::Keys;
+use std::alloc::{AllocError, Global};
+
+/// Which place each key of a hash map has: a scan of all places. It is there to be compared with.
+#[derive(Drop)]
+pub struct ScanIndex {
+    keys: Keys,
+    len: usize,
+    ghost scan: { IsScan keys.slots len },
+}
+
+impl ScanIndex {
+    ghost use Rattle.std.specs.Prelude.{IfOk};
+    ghost use Rattle.std.specs.FinMap as map;
+
+    pub fn new(alloc: Global, key_size: u16, entries: u32) -> Result<Self, AllocError>
+        ensures key_size { IfOk result (λ s. s.keys.size ≡ key_size) }
+        ensures room { IfOk result (λ s. length s.keys.slots ≡ entries) }
+        ensures empty { IfOk result (λ s. places s.keys.slots ≡ map.empty) }
+    {
+        let keys = Keys::new(alloc, key_size, entries)?;
+        Ok(ScanIndex { keys, len: 0 })
+    }
+
+    // A place that has no key.
+    fn vacant(&self) -> usize
+        requires { self.now.len < length self.now.keys.slots }
+        ensures in_range { result < length self.now.keys.slots }
+        ensures free { slot self.now.keys.slots result ≡ None }
+    {
+        for i in 0..self.keys.places() {
+            if !self.keys.is_used(i) {
+                return i;
+            }
+        }
+        unreachable!()
+    }
+}
+
+impl Index for ScanIndex {
+    ghost use Rattle.map_indexes.specs.ScanLaws.{scan_in_range, scan_apart, scan_few};
+
+    ghost places = { λ s. places s.keys.slots };
+
+    ghost kind = { λ s. Hash };
+
+    ghost key_size = { λ s. s.keys.size };
+
+    ghost room = { λ s. length s.keys.slots };
+
+    fn find(&self, key: &[u8]) -> Option<usize> {
+        for i in 0..self.keys.places() {
+            if self.keys.is_used(i) && self.keys.key(i) == key {
+                return Some(i);
+            }
+        }
+        None
+    }
+
+    fn is_full(&self) -> bool {
+        self.len == self.keys.places()
+    }
+
+    fn add(&mut self, key: &[u8]) -> Option<usize> {
+        if self.len == self.keys.places() {
+            return None;
+        }
+        let place = self.vacant();
+        self.keys.put(place, key);
+        self.len += 1;
+        Some(place)
+    }
+
+    fn remove(&mut self, key: &[u8]) -> Option<usize> {
+        let place = self.find(key)?;
+        self.keys.clear(place);
+        self.len -= 1;
+        Some(place)
+    }
+
+    ghost in_range = { λ s k p e. scan_in_range s.keys.slots k p e };
+
+    ghost apart = { λ s j k p e f. scan_apart s.keys.slots j k p e f };
+
+    ghost few = { λ s. scan_few s.keys.slots s.len s.scan };
+}

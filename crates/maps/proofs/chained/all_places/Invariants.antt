@@ -1,8 +1,0 @@
-use Rattle.std.proofs.Common.{◌≡◌, ℕ, ◌-◌, ◌<◌, ◌≤◌, length}
-use Rattle.std.specs.Prelude.{slice_index_or, vec_capacity}
-use Rattle.maps.proofs.chained.all_places.Given as goal
-
-abbrev pub invariant-loop-i : goal.invariant-loop-i
-invariant-loop-i l =
-    (length l.places.items ≡ l.i) × ((j : ℕ) → j < l.i → slice_index_or l.places.items j 0 ≡ l.count - 1 - j)
-    × (l.count ≤ vec_capacity l.places)

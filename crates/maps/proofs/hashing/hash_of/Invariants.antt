@@ -1,7 +1,0 @@
-use Rattle.std.proofs.Common.{◌≡◌, ◌+◌, ◌*◌, ◌%◌, ◌^◌, take}
-use Rattle.std.specs.Prelude.{fold}
-use Rattle.maps.specs.Hashing.{spread}
-use Rattle.maps.proofs.hashing.hash_of.Given as goal
-
-abbrev pub invariant-loop-byte : goal.invariant-loop-byte
-invariant-loop-byte l = l.hash ≡ fold (λ h b. (h + b) * spread % 2 ^ 64) 0 (take l.byte-index l.key)

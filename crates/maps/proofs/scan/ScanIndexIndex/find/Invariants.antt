@@ -1,6 +1,0 @@
-use Rattle.std.proofs.Common.{◌≡◌, ℕ, ◌<◌, Some}
-use Rattle.maps.specs.Slots.{slot}
-use Rattle.maps.proofs.scan.ScanIndexIndex.find.Given as goal
-
-abbrev pub invariant-loop-i : goal.invariant-loop-i
-invariant-loop-i l = (j : ℕ) → j < l.i → slot l.self.keys.slots j ≡ Some l.key → ⊥
