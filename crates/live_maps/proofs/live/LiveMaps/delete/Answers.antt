@@ -1,0 +1,191 @@
+use Rattle.std.proofs.Common.{◌≡◌, ◌≤◌, ◌∙◌, sym, ap, subst, length, List, ℕ, Some, None, arith}
+use Rattle.std.specs.Prelude.{IsSomeAnd, slice_get, vec_capacity, ◌==◌, if◌then◌else◌}
+use Rattle.std.specs.FinMap.{get}
+use Rattle.isa_model.specs.declared.map_defs.MapDef.{MapDef}
+use Rattle.isa_model.specs.Machine.MapContents.{delete_answer}
+use Rattle.maps.specs.Maps.{IsMap, Deleted, map_at}
+use Rattle.live_maps.specs.Live.{Live, Serials, AreLive, content_at, without}
+use Rattle.live_maps.specs.ContentLaws.{rows_of-known, rows_of-some, live_of, length-changed_maps, All-rows-set}
+use Rattle.live_maps.specs.LiveLaws.{live-removed, deleted_there, delete_answer-live}
+use Rattle.live_maps.specs.SearchLaws.{lookup-present}
+use Rattle.live_maps.proofs.live.LiveMaps.delete.Goals as goal
+
+pub take_away-requires-clause-index : goal.take_away-requires-clause-index
+take_away-requires-clause-index c =
+    let i = c.self.inside in
+    let maps = i.maps in
+    let all = i.serials.items in
+    let m = c.args.map in
+    let key = c.args.key.now in
+    let h = c.self.invariant.2 in
+    let P : MapDef → Type 0 = λ row. length key ≡ row.key_size in
+    let known = rows_of-known P maps m (subst (λ (l : Live). IsSomeAnd (slice_get l.rows m) P) (sym c.self.view_is) c.requires) in
+    let inside = known.0 in
+    let new = c.delete-answer.new.self in
+    let others = c.delete-answer.ensures.others in
+    let count = length-changed_maps maps new m (map_at new m) others in
+    let is : IsMap (map_at new m) = c.count-count.ensures.maps m _ (omega arith) in
+    let long = h.long in
+    let items = i.serials.ok.0 in
+    omega arith
+
+pub take_away-requires-clause-place : goal.take_away-requires-clause-place
+take_away-requires-clause-place c =
+    let i = c.self.inside in
+    let maps = i.maps in
+    let all = i.serials.items in
+    let m = c.args.map in
+    let key = c.args.key.now in
+    let h = c.self.invariant.2 in
+    let P : MapDef → Type 0 = λ row. length key ≡ row.key_size in
+    let known = rows_of-known P maps m (subst (λ (l : Live). IsSomeAnd (slice_get l.rows m) P) (sym c.self.view_is) c.requires) in
+    let inside = known.0 in
+    let new = c.delete-answer.new.self in
+    let others = c.delete-answer.ensures.others in
+    let count = length-changed_maps maps new m (map_at new m) others in
+    let is : IsMap (map_at new m) = c.count-count.ensures.maps m _ (omega arith) in
+    let there : get (map_at maps m).places key ≡ Some c.in-Some.place = sym c.find-found.ensures ∙ c.in-Some.is in
+    (lookup-present i.next maps all m h inside key c.in-Some.place there).0
+
+pub invariant_of-self : goal.invariant_of-self
+invariant_of-self c =
+    let i = c.self.inside in
+    let maps = i.maps in
+    let all = i.serials.items in
+    let m = c.args.map in
+    let key = c.args.key.now in
+    let h = c.self.invariant.2 in
+    let P : MapDef → Type 0 = λ row. length key ≡ row.key_size in
+    let known = rows_of-known P maps m (subst (λ (l : Live). IsSomeAnd (slice_get l.rows m) P) (sym c.self.view_is) c.requires) in
+    let inside = known.0 in
+    let new = c.delete-answer.new.self in
+    let others = c.delete-answer.ensures.others in
+    let count = length-changed_maps maps new m (map_at new m) others in
+    let is : IsMap (map_at new m) = c.count-count.ensures.maps m _ (omega arith) in
+    let zero : c.delete-answer.result ≡ 0 = c.if-answer-eq0.true in
+    let d : Deleted key 0 (map_at maps m) (map_at new m) = subst (λ (a : ℕ). Deleted key a (map_at maps m) (map_at new m)) zero c.delete-answer.ensures.deleted in
+    let p = c.in-Some.place in
+    let there : get (map_at maps m).places key ≡ Some p = sym c.find-found.ensures ∙ c.in-Some.is in
+    let live = live-removed i.next maps all m new inside h others key p is d there in
+    let few = c.self.invariant.0 in
+    let rooms = All-rows-set (λ (row : MapDef). row.entries ≤ vec_capacity i.list) maps new m (map_at new m) others d.row inside c.self.invariant.1 in
+    let mine = subst (λ (a : List Serials). AreLive i.next new a) (sym c.take_away.ensures) live.0 in
+    (omega arith, rooms, mine, tt)
+
+pub invariant_of-self-in_default : goal.invariant_of-self-in_default
+invariant_of-self-in_default c =
+    let i = c.self.inside in
+    let maps = i.maps in
+    let all = i.serials.items in
+    let m = c.args.map in
+    let key = c.args.key.now in
+    let h = c.self.invariant.2 in
+    let P : MapDef → Type 0 = λ row. length key ≡ row.key_size in
+    let known = rows_of-known P maps m (subst (λ (l : Live). IsSomeAnd (slice_get l.rows m) P) (sym c.self.view_is) c.requires) in
+    let inside = known.0 in
+    let new = c.delete-answer.new.self in
+    let others = c.delete-answer.ensures.others in
+    let count = length-changed_maps maps new m (map_at new m) others in
+    let is : IsMap (map_at new m) = c.count-count.ensures.maps m _ (omega arith) in
+    let zero : c.delete-answer.result ≡ 0 = c.if-answer-eq0.true in
+    let absent : get (map_at maps m).places key ≡ None = sym c.find-found.ensures ∙ c.in_default.is in
+    absurd (deleted_there (map_at maps m) key (sym zero ∙ c.delete-answer.ensures.deleted.answer) absent)
+
+pub returns-in-Some-clause-answer : goal.returns-in-Some-clause-answer
+returns-in-Some-clause-answer c =
+    let i = c.self.inside in
+    let maps = i.maps in
+    let all = i.serials.items in
+    let m = c.args.map in
+    let key = c.args.key.now in
+    let h = c.self.invariant.2 in
+    let P : MapDef → Type 0 = λ row. length key ≡ row.key_size in
+    let known = rows_of-known P maps m (subst (λ (l : Live). IsSomeAnd (slice_get l.rows m) P) (sym c.self.view_is) c.requires) in
+    let inside = known.0 in
+    let new = c.delete-answer.new.self in
+    let others = c.delete-answer.ensures.others in
+    let count = length-changed_maps maps new m (map_at new m) others in
+    let is : IsMap (map_at new m) = c.count-count.ensures.maps m _ (omega arith) in
+    subst (λ (l : Live). IsSomeAnd (slice_get l.rows m) (λ row. c.delete-answer.result ≡ delete_answer row (content_at l m) key)) c.self.view_is
+    (rows_of-some (λ (row : MapDef). c.delete-answer.result ≡ delete_answer row (content_at (live_of maps all i.next) m) key) maps m inside
+    (c.delete-answer.ensures.deleted.answer ∙ delete_answer-live i.next maps all m new inside h others key))
+
+pub returns-in_default-clause-answer : goal.returns-in_default-clause-answer
+returns-in_default-clause-answer c =
+    let i = c.self.inside in
+    let maps = i.maps in
+    let all = i.serials.items in
+    let m = c.args.map in
+    let key = c.args.key.now in
+    let h = c.self.invariant.2 in
+    let P : MapDef → Type 0 = λ row. length key ≡ row.key_size in
+    let known = rows_of-known P maps m (subst (λ (l : Live). IsSomeAnd (slice_get l.rows m) P) (sym c.self.view_is) c.requires) in
+    let inside = known.0 in
+    let new = c.delete-answer.new.self in
+    let others = c.delete-answer.ensures.others in
+    let count = length-changed_maps maps new m (map_at new m) others in
+    let is : IsMap (map_at new m) = c.count-count.ensures.maps m _ (omega arith) in
+    subst (λ (l : Live). IsSomeAnd (slice_get l.rows m) (λ row. c.delete-answer.result ≡ delete_answer row (content_at l m) key)) c.self.view_is
+    (rows_of-some (λ (row : MapDef). c.delete-answer.result ≡ delete_answer row (content_at (live_of maps all i.next) m) key) maps m inside
+    (c.delete-answer.ensures.deleted.answer ∙ delete_answer-live i.next maps all m new inside h others key))
+
+pub returns-else-answer-eq0-clause-answer : goal.returns-else-answer-eq0-clause-answer
+returns-else-answer-eq0-clause-answer c =
+    let i = c.self.inside in
+    let maps = i.maps in
+    let all = i.serials.items in
+    let m = c.args.map in
+    let key = c.args.key.now in
+    let h = c.self.invariant.2 in
+    let P : MapDef → Type 0 = λ row. length key ≡ row.key_size in
+    let known = rows_of-known P maps m (subst (λ (l : Live). IsSomeAnd (slice_get l.rows m) P) (sym c.self.view_is) c.requires) in
+    let inside = known.0 in
+    let new = c.delete-answer.new.self in
+    let others = c.delete-answer.ensures.others in
+    let count = length-changed_maps maps new m (map_at new m) others in
+    let is : IsMap (map_at new m) = c.count-count.ensures.maps m _ (omega arith) in
+    subst (λ (l : Live). IsSomeAnd (slice_get l.rows m) (λ row. c.delete-answer.result ≡ delete_answer row (content_at l m) key)) c.self.view_is
+    (rows_of-some (λ (row : MapDef). c.delete-answer.result ≡ delete_answer row (content_at (live_of maps all i.next) m) key) maps m inside
+    (c.delete-answer.ensures.deleted.answer ∙ delete_answer-live i.next maps all m new inside h others key))
+
+pub returns-in-Some-clause-deleted : goal.returns-in-Some-clause-deleted
+returns-in-Some-clause-deleted c =
+    let i = c.self.inside in
+    let maps = i.maps in
+    let all = i.serials.items in
+    let m = c.args.map in
+    let key = c.args.key.now in
+    let h = c.self.invariant.2 in
+    let P : MapDef → Type 0 = λ row. length key ≡ row.key_size in
+    let known = rows_of-known P maps m (subst (λ (l : Live). IsSomeAnd (slice_get l.rows m) P) (sym c.self.view_is) c.requires) in
+    let inside = known.0 in
+    let new = c.delete-answer.new.self in
+    let others = c.delete-answer.ensures.others in
+    let count = length-changed_maps maps new m (map_at new m) others in
+    let is : IsMap (map_at new m) = c.count-count.ensures.maps m _ (omega arith) in
+    let zero : c.delete-answer.result ≡ 0 = c.if-answer-eq0.true in
+    let d : Deleted key 0 (map_at maps m) (map_at new m) = subst (λ (a : ℕ). Deleted key a (map_at maps m) (map_at new m)) zero c.delete-answer.ensures.deleted in
+    let p = c.in-Some.place in
+    let there : get (map_at maps m).places key ≡ Some p = sym c.find-found.ensures ∙ c.in-Some.is in
+    let live = live-removed i.next maps all m new inside h others key p is d there in
+    let done = ap (λ (a : List Serials). live_of new a i.next) c.take_away.ensures ∙ live.1 ∙ ap (λ (l : Live). without l m key) c.self.view_is in
+    done ∙ ap (λ (a : ℕ). if a == 0 then without c.args.self.now m key else c.args.self.now) (sym zero)
+
+pub returns-in_default-clause-deleted : goal.returns-in_default-clause-deleted
+returns-in_default-clause-deleted c =
+    let i = c.self.inside in
+    let maps = i.maps in
+    let all = i.serials.items in
+    let m = c.args.map in
+    let key = c.args.key.now in
+    let h = c.self.invariant.2 in
+    let P : MapDef → Type 0 = λ row. length key ≡ row.key_size in
+    let known = rows_of-known P maps m (subst (λ (l : Live). IsSomeAnd (slice_get l.rows m) P) (sym c.self.view_is) c.requires) in
+    let inside = known.0 in
+    let new = c.delete-answer.new.self in
+    let others = c.delete-answer.ensures.others in
+    let count = length-changed_maps maps new m (map_at new m) others in
+    let is : IsMap (map_at new m) = c.count-count.ensures.maps m _ (omega arith) in
+    let zero : c.delete-answer.result ≡ 0 = c.if-answer-eq0.true in
+    let absent : get (map_at maps m).places key ≡ None = sym c.find-found.ensures ∙ c.in_default.is in
+    absurd (deleted_there (map_at maps m) key (sym zero ∙ c.delete-answer.ensures.deleted.answer) absent)

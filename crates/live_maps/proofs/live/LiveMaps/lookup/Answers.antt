@@ -1,0 +1,42 @@
+use Rattle.std.proofs.Common.{◌≡◌, ◌∙◌, sym, ap, subst, length, arith}
+use Rattle.std.specs.Prelude.{IsSomeAnd, slice_get}
+use Rattle.std.specs.Option.{option_map}
+use Rattle.isa_model.specs.declared.map_defs.MapDef.{MapDef}
+use Rattle.isa_model.specs.Machine.MapContents.{at_key}
+use Rattle.live_maps.specs.Live.{Live, content_at}
+use Rattle.live_maps.specs.ContentLaws.{rows_of-known}
+use Rattle.live_maps.specs.SearchLaws.{lookup-absent, lookup-present}
+use Rattle.live_maps.proofs.live.LiveMaps.lookup.Goals as goal
+
+pub serial_at-requires-clause-index : goal.serial_at-requires-clause-index
+serial_at-requires-clause-index c =
+    let i = c.self.inside in
+    let P : MapDef → Type 0 = λ row. length c.args.key.now ≡ row.key_size in
+    let known = rows_of-known P i.maps c.args.map (subst (λ (l : Live). IsSomeAnd (slice_get l.rows c.args.map) P) (sym c.self.view_is) c.requires) in
+    let inside = known.0 in
+    let long = c.self.invariant.2.long in
+    let items = i.serials.ok.0 in
+    omega arith
+
+pub serial_at-requires-clause-place : goal.serial_at-requires-clause-place
+serial_at-requires-clause-place c =
+    let i = c.self.inside in
+    let P : MapDef → Type 0 = λ row. length c.args.key.now ≡ row.key_size in
+    let known = rows_of-known P i.maps c.args.map (subst (λ (l : Live). IsSomeAnd (slice_get l.rows c.args.map) P) (sym c.self.view_is) c.requires) in
+    (lookup-present i.next i.maps i.serials.items c.args.map c.self.invariant.2 known.0 c.args.key.now c.in-Some.place (sym c.find.ensures ∙ c.in-Some.is)).0
+
+pub returns-in-Some : goal.returns-in-Some
+returns-in-Some c =
+    let i = c.self.inside in
+    let P : MapDef → Type 0 = λ row. length c.args.key.now ≡ row.key_size in
+    let known = rows_of-known P i.maps c.args.map (subst (λ (l : Live). IsSomeAnd (slice_get l.rows c.args.map) P) (sym c.self.view_is) c.requires) in
+    let r = lookup-present i.next i.maps i.serials.items c.args.map c.self.invariant.2 known.0 c.args.key.now c.in-Some.place (sym c.find.ensures ∙ c.in-Some.is) in
+    c.serial_at.ensures ∙ sym r.1 ∙ ap (λ (l : Live). option_map (λ v. v.serial) (at_key c.args.key.now (content_at l c.args.map))) c.self.view_is
+
+pub returns-in-None : goal.returns-in-None
+returns-in-None c =
+    let i = c.self.inside in
+    let P : MapDef → Type 0 = λ row. length c.args.key.now ≡ row.key_size in
+    let known = rows_of-known P i.maps c.args.map (subst (λ (l : Live). IsSomeAnd (slice_get l.rows c.args.map) P) (sym c.self.view_is) c.requires) in
+    sym (lookup-absent i.next i.maps i.serials.items c.args.map c.self.invariant.2 known.0 c.args.key.now (sym c.find.ensures ∙ c.in-None.is))
+    ∙ ap (λ (l : Live). option_map (λ v. v.serial) (at_key c.args.key.now (content_at l c.args.map))) c.self.view_is

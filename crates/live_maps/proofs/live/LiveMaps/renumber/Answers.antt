@@ -1,0 +1,35 @@
+use Rattle.std.proofs.Common.{◌≡◌, ◌∙◌, ℕ, List, map, sym, ap, subst, arith}
+use Rattle.isa_model.specs.Machine.States.{Entries, entries_of}
+use Rattle.isa_model.specs.Running.Runs.{numbered_maps, count_values}
+use Rattle.maps.specs.Maps.{rows_of, contents_of}
+use Rattle.live_maps.specs.Live.{Live, AreLive}
+use Rattle.live_maps.specs.ContentLaws.{live_of, entries_of-live_contents}
+use Rattle.live_maps.specs.Numbering.{AreLive-numbered, numbered-all}
+use Rattle.live_maps.proofs.live.LiveMaps.renumber.Goals as goal
+
+pub invariant_of-self : goal.invariant_of-self
+invariant_of-self c =
+    let maps = c.self.inside.maps in
+    let all = c.renumber_all-count.new.all.items in
+    let done = c.renumber_all-count.ensures in
+    let inv = c.self.invariant in
+    let kept = done.list in (
+      inv.0,
+      (λ k d l. let entries = inv.1 k d l in omega arith),
+      subst (λ (n : ℕ). AreLive n maps all) (sym done.numbered.counted) (AreLive-numbered maps all done.maps done.numbered.are),
+      done.numbered,
+    )
+
+pub returns-clause-numbered : goal.returns-clause-numbered
+returns-clause-numbered c =
+    let i = c.self.inside in
+    let maps = i.maps in
+    let all = c.renumber_all-count.new.all.items in
+    let done = c.renumber_all-count.ensures in
+    let numbered : List Entries → Live = λ es. record { rows = rows_of maps; contents = numbered_maps 0 es; next_serial = count_values es } in
+    let new : live_of maps all c.renumber_all-count.result ≡ numbered (contents_of maps) =
+    λ j. record { rows = rows_of maps; contents = numbered-all maps all done.numbered.are j; next_serial = done.numbered.counted j } in
+    let plain : contents_of maps ≡ map entries_of (live_of maps i.serials.items i.next).contents =
+    sym (entries_of-live_contents maps i.serials.items c.self.invariant.2.long) in
+    new ∙ ap numbered plain
+    ∙ ap (λ (l : Live). record l { contents = numbered_maps 0 (map entries_of l.contents); next_serial = count_values (map entries_of l.contents) }) c.self.view_is

@@ -1,0 +1,9 @@
+use Rattle.std.proofs.Common.{◌+◌, arith}
+use Rattle.live_maps.specs.LiveLaws.{AreLive-more}
+use Rattle.live_maps.proofs.live.LiveMaps.take_serial.Goals as goal
+
+pub invariant_of-self : goal.invariant_of-self
+invariant_of-self c =
+    let i = c.self.inside in
+    let inv = c.self.invariant in
+    (inv.0, inv.1, AreLive-more i.next (i.next + 1) i.maps i.serials.items (omega arith) inv.2, inv.3)

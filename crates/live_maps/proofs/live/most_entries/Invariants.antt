@@ -1,0 +1,7 @@
+use Rattle.std.proofs.Common.{◌<◌, ◌≤◌, ℕ}
+use Rattle.std.specs.Prelude.{slice_index_or}
+use Rattle.maps.specs.Maps.{MapState}
+use Rattle.live_maps.proofs.live.most_entries.Given as goal
+
+abbrev pub invariant-loop-m : goal.invariant-loop-m
+invariant-loop-m l = (k : ℕ) (d : MapState) → k < l.m → (slice_index_or l.maps k d).row.entries ≤ l.most

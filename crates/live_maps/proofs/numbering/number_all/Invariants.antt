@@ -1,0 +1,17 @@
+use Rattle.std.proofs.Common.{◌≡◌, ◌<◌, ◌≤◌, ◌*◌, ℕ, length}
+use Rattle.std.specs.Prelude.{vec_len, vec_capacity}
+use Rattle.std.specs.FinMap.{values}
+use Rattle.maps.specs.Maps.{map_at}
+use Rattle.live_maps.specs.Live.{serials_at}
+use Rattle.live_maps.specs.Numbering.{Numbers, count_before}
+use Rattle.live_maps.proofs.numbering.number_all.Given as goal
+
+abbrev pub invariant-loop-m : goal.invariant-loop-m
+invariant-loop-m l = record {
+  len : vec_len l.all ≡ vec_len l.initial.all;
+  list : vec_capacity l.list ≡ vec_capacity l.initial.list;
+  rooms : (k : ℕ) → k < length l.maps → length (serials_at l.all.items k) ≡ (map_at l.maps k).row.entries;
+  numbers : (k : ℕ) → k < l.m → Numbers (count_before l.maps k) (values (map_at l.maps k).places) (serials_at l.all.items k);
+  next : l.next ≡ count_before l.maps l.m;
+  few : l.next ≤ l.m * 65536;
+}

@@ -1,0 +1,12 @@
+use Rattle.std.proofs.Common.{◌≡◌, ◌<◌, ◌≤◌, ℕ, length}
+use Rattle.std.specs.Prelude.{vec_len, vec_capacity}
+use Rattle.maps.specs.Maps.{map_at}
+use Rattle.live_maps.specs.Live.{serials_at}
+use Rattle.live_maps.proofs.tables.tables_for.Given as goal
+
+abbrev pub invariant-loop-m : goal.invariant-loop-m
+invariant-loop-m l = record {
+  len : vec_len l.all ≡ l.m;
+  room : length l.maps ≤ vec_capacity l.all;
+  rooms : (k : ℕ) → k < l.m → length (serials_at l.all.items k) ≡ (map_at l.maps k).row.entries;
+}

@@ -1,0 +1,7 @@
+pub mod Live
+pub mod EntryLaws
+pub mod ContentLaws
+pub mod SerialLaws
+pub mod LiveLaws
+pub mod SearchLaws
+pub mod Numbering

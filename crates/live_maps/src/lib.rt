@@ -1,0 +1,10 @@
+//! Maps whose values have serials: a value is live from the update that adds its key to the delete
+//! that removes it, and its serial is not given again in a run.
+#![tactic(auto)]
+
+pub mod live;
+mod numbering;
+mod table;
+mod tables;
+
+pub use live::LiveMaps;

@@ -1,0 +1,250 @@
+//! Maps whose values have serials.
+
+ghost use Rattle.std.specs.Prelude.{◌≡◌, ◌+◌, ◌==◌, ◌<◌, ◌≤◌, ◌^◌, ℕ, length, map, if◌then◌else◌};
+ghost use Rattle.std.specs.Prelude.{All, vec_len, IfOk, IfSome, IsSomeAnd, slice_get, option_copied};
+ghost use Rattle.std.specs.Option.{option_map};
+ghost use Rattle.std.specs.FinMap.{get};
+ghost use Rattle.isa_model.specs.declared.map_defs.MapKind.TheVariants.{Array};
+ghost use Rattle.isa_model.specs.Code.MapRows.{IsRow};
+ghost use Rattle.isa_model.specs.Machine.States.{entries_of};
+ghost use Rattle.isa_model.specs.Machine.MachineStates.{FitRows};
+ghost use Rattle.isa_model.specs.Machine.MapContents.{at_key, update_answer, delete_answer};
+ghost use Rattle.isa_model.specs.Machine.Steps.{one_serial};
+ghost use Rattle.isa_model.specs.Running.Runs.{numbered_maps, count_values};
+ghost use Rattle.maps.specs.Maps.{rows_of, contents_of};
+ghost use Rattle.maps.specs.Maps.{map_at};
+ghost use Rattle.live_maps.specs.Live.{serials_at, place_if_new, content_at, value_bytes, with_value, with_bytes, without};
+
+use crate::numbering::{number_all, renumber_all};
+use crate::table::Table;
+use crate::tables::{find_serial, give_serial, serial_at, tables_for, take_away};
+use isa_model::MapDef;
+use maps::Maps;
+use std::alloc::{AllocError, Global};
+use std::marker::Model;
+
+/// All maps of a program in a run. The value of each key has a serial, which no other value has
+/// had before it in the run.
+///
+/// Contracts see the rows, the contents with their serials, and the serial that is given next.
+#[derive(Drop)]
+pub struct LiveMaps {
+    maps: Maps,
+    serials: Vec<Table>,
+    next: u64,
+    // How many values there are, where they have the serials from 0 on as at the start of a run.
+    numbered: Option<u64>,
+    // Room for the places of any map.
+    list: Vec<usize>,
+}
+
+impl Model for LiveMaps {
+    ghost use Rattle.std.specs.Prelude.{◌≤◌, length, All, IfSome, vec_capacity};
+    ghost use Rattle.maps.specs.Maps.{rows_of};
+    ghost use Rattle.live_maps.specs.Live.{Live, live_contents, AreLive};
+    ghost use Rattle.live_maps.specs.Numbering.{IsNumbered};
+
+    ghost Value = { Live };
+
+    ghost view = { λ l. record {
+      rows = rows_of l.maps;
+      contents = live_contents l.maps l.serials.items;
+      next_serial = l.next;
+    } };
+
+    ghost invariant = { λ l. (length l.maps ≤ 65536)
+        × (All (λ m. m.row.entries ≤ vec_capacity l.list) l.maps)
+        × (AreLive l.next l.maps l.serials.items)
+        × (IfSome l.numbered (λ n. IsNumbered n l.maps l.serials.items)) };
+}
+
+// The most entries that a map has.
+fn most_entries(maps: &Maps) -> usize
+    ensures { All (λ m. m.row.entries ≤ result) maps.now }
+{
+    let mut most = 0;
+    for m in 0..maps.count() {
+        if maps.row(m).entries > most {
+            most = maps.row(m).entries;
+        }
+    }
+    most as usize
+}
+
+// The place of a key that had none before.
+fn new_place(maps: &Maps, index: usize, key: &[u8], before: Option<usize>) -> Option<usize>
+    requires map { index < length maps.now }
+    requires key_size { length key.now ≡ (map_at maps.now index).row.key_size }
+    ensures { result ≡ place_if_new before (get (map_at maps.now index).places key.now) }
+{
+    match before {
+        Some(_) => None,
+        None => maps.find(index, key),
+    }
+}
+
+impl LiveMaps {
+    /// Makes all room that runs fill.
+    pub fn new(alloc: Global, maps: Maps) -> Result<Self, AllocError>
+        requires { length maps ≤ 65536 }
+        ensures rows { IfOk result (λ l. l.rows ≡ rows_of maps) }
+        ensures contents { IfOk result (λ l. map entries_of l.contents ≡ contents_of maps) }
+    {
+        let mut serials = tables_for(alloc, &maps)?;
+        let mut list = Vec::with_capacity(alloc, most_entries(&maps))?;
+        let next = number_all(&maps, &mut serials, &mut list);
+        Ok(LiveMaps {
+            maps,
+            serials,
+            next,
+            numbered: Some(next),
+            list,
+        })
+    }
+
+    /// How many maps there are. Their contents fit the rows.
+    pub fn count(&self) -> usize
+        ensures count { result ≡ length self.now.rows }
+        ensures fit { FitRows self.now.rows (map entries_of self.now.contents) }
+    {
+        self.maps.count()
+    }
+
+    /// A map's row, if there is such a map.
+    pub fn row(&self, map: usize) -> Option<MapDef>
+        ensures found { result ≡ slice_get self.now.rows map }
+        ensures fits { IfSome result IsRow }
+    {
+        if map < self.serials.len() {
+            Some(self.maps.row(map))
+        } else {
+            None
+        }
+    }
+
+    /// The bytes of the value of a serial, if it is live.
+    pub fn value(&self, map: usize, serial: u64) -> Option<&[u8]>
+        ensures { option_copied result ≡ value_bytes (content_at self.now map) serial }
+    {
+        match find_serial(&self.serials, map, serial) {
+            Some(place) => Some(self.maps.value(map, place)),
+            None => None,
+        }
+    }
+
+    /// Writes bytes into the value of a serial, from its `at`th byte on.
+    pub fn write(&mut self, map: usize, serial: u64, at: usize, bytes: &[u8])
+        requires { IsSomeAnd (value_bytes (content_at self.old map) serial)
+            (λ value. at + length bytes.now ≤ length value) }
+        ensures { self.new ≡ with_value self.old map serial at bytes.now }
+    {
+        match find_serial(&self.serials, map, serial) {
+            Some(place) => {
+                self.maps.write_value(map, place, at, bytes);
+                let _count = self.maps.count();
+            }
+            None => {}
+        }
+    }
+
+    /// The serial of a key's value, if it has one.
+    pub fn lookup(&self, map: usize, key: &[u8]) -> Option<u64>
+        requires { IsSomeAnd (slice_get self.now.rows map) (λ row. length key.now ≡ row.key_size) }
+        ensures { result
+            ≡ option_map (λ v. v.serial) (at_key key.now (content_at self.now map)) }
+    {
+        match self.maps.find(map, key) {
+            Some(place) => serial_at(&self.serials, map, place),
+            None => None,
+        }
+    }
+
+    /// Writes the value of a key, or adds the key with the next serial. The answer is 0, or the
+    /// error of the first test that fails, and then all stays as it is.
+    pub fn update(&mut self, map: usize, key: &[u8], value: &[u8], flags: u64) -> u64
+        requires sizes { IsSomeAnd (slice_get self.old.rows map)
+            (λ row. (length key.now ≡ row.key_size) × (length value.now ≡ row.value_size)) }
+        requires serial { self.old.next_serial < 2 ^ 63 }
+        ensures answer { IsSomeAnd (slice_get self.old.rows map) (λ row. result
+            ≡ update_answer row (content_at self.old map) key.now flags) }
+        ensures updated { self.new ≡ (if result == 0
+            then with_bytes self.old map key.now value.now else self.old) }
+    {
+        let found = self.maps.find(map, key);
+        let answer = self.maps.update(map, key, value, flags);
+        let _count = self.maps.count();
+        if answer == 0 {
+            if let Some(place) = new_place(&self.maps, map, key, found) {
+                give_serial(&mut self.serials, map, place, self.next);
+                self.next += 1;
+                self.numbered = None;
+            }
+        }
+        answer
+    }
+
+    /// Removes a key, and its value's serial with it. The answer is 0, or an error, and then all
+    /// stays as it is.
+    pub fn delete(&mut self, map: usize, key: &[u8]) -> u64
+        requires { IsSomeAnd (slice_get self.old.rows map) (λ row. length key.now ≡ row.key_size) }
+        ensures answer { IsSomeAnd (slice_get self.old.rows map) (λ row. result
+            ≡ delete_answer row (content_at self.old map) key.now) }
+        ensures deleted { self.new ≡ (if result == 0
+            then without self.old map key.now else self.old) }
+    {
+        let found = self.maps.find(map, key);
+        let answer = self.maps.delete(map, key);
+        let _count = self.maps.count();
+        if answer == 0 {
+            if let Some(place) = found {
+                take_away(&mut self.serials, map, place);
+                self.numbered = None;
+            }
+        }
+        answer
+    }
+
+    /// The serial of the only value of an array of one entry.
+    pub fn only_serial(&self, map: usize) -> u64
+        requires { IsSomeAnd (slice_get self.now.rows map)
+            (λ row. (row.kind ≡ Array) × (row.entries ≡ 1)) }
+        ensures { result ≡ one_serial (content_at self.now map) }
+    {
+        serial_at(&self.serials, map, 0).unwrap_or(0)
+    }
+
+    /// Takes the next serial.
+    pub fn take_serial(&mut self) -> u64
+        requires { self.old.next_serial < 2 ^ 63 }
+        ensures serial { result ≡ self.old.next_serial }
+        ensures taken { self.new ≡ record self.old {
+          next_serial = self.old.next_serial + 1;
+        } }
+    {
+        let serial = self.next;
+        self.next += 1;
+        serial
+    }
+
+    /// Numbers all values from 0 on, map by map, and in each by the bytes of the keys. It takes no
+    /// memory.
+    pub fn renumber(&mut self)
+        ensures few { self.new.next_serial ≤ 2 ^ 32 }
+        ensures numbered { self.new ≡ record self.old {
+          contents = numbered_maps 0 (map entries_of self.old.contents);
+          next_serial = count_values (map entries_of self.old.contents);
+        } }
+    {
+        let count = renumber_all(&self.maps, &mut self.serials, &mut self.list, self.numbered);
+        self.numbered = Some(count);
+        self.next = count;
+    }
+
+    /// Gives the maps back.
+    pub fn into_maps(self) -> Maps
+        ensures rows { rows_of result ≡ self.rows }
+        ensures contents { contents_of result ≡ map entries_of self.contents }
+    {
+        self.maps
+    }
+}

@@ -1,0 +1,145 @@
+//! The serials of one map's values, by place.
+
+ghost use Rattle.std.specs.Prelude.{◌≡◌, ◌+◌, ◌<◌, ◌^◌, ℕ, length, All, IfOk, IfSome, Some, None};
+ghost use Rattle.std.specs.Prelude.{slice_set, vec_len};
+ghost use Rattle.std.specs.List.{position};
+ghost use Rattle.live_maps.specs.Live.{serial_in, has_serial};
+ghost use Rattle.live_maps.specs.Numbering.{Numbers, AreDistinct};
+
+use std::alloc::{AllocError, Global};
+use std::marker::Model;
+
+// Whether a place has this serial.
+fn has_serial(serial: u64, of: &Option<u64>) -> bool
+    ensures { result ≡ has_serial serial of.now }
+{
+    match of {
+        Some(n) => *n == serial,
+        None => false,
+    }
+}
+
+// The place that has a serial, if there is one.
+fn place_of(serials: &[Option<u64>], serial: u64) -> Option<usize>
+    ensures { result ≡ position (has_serial serial) serials.now }
+{
+    serials.iter().position(|of| has_serial(serial, of))
+}
+
+// Takes the serials of all places away.
+fn clear(serials: &mut Vec<Option<u64>>)
+    ensures none { (p : ℕ) → serial_in serials.new.items p ≡ None }
+    ensures len { vec_len serials.new ≡ vec_len serials.old }
+{
+    for place in 0..serials.len() {
+        serials[place] = None;
+    }
+}
+
+/// The serials of a map's places. A place without a key has none.
+///
+/// Contracts see the serials, place after place.
+#[derive(Drop)]
+pub struct Table {
+    serials: Vec<Option<u64>>,
+    // By a serial modulo their number: the place that was given the last such serial. A hint, which
+    // is tested before it is used: it spares a search through all places.
+    hints: Vec<usize>,
+}
+
+impl Model for Table {
+    ghost use Rattle.live_maps.specs.Live.{Serials};
+
+    ghost Value = { Serials };
+
+    ghost view = { λ t. t.serials.items };
+}
+
+impl Table {
+    /// Room for the serials of so many places, none of which has one.
+    pub fn new(alloc: Global, places: usize) -> Result<Self, AllocError>
+        ensures { IfOk result (λ t. length t ≡ places) }
+    {
+        let serials = vec![in alloc; None; places]?;
+        let hints = vec![in alloc; 0; places]?;
+        Ok(Table { serials, hints })
+    }
+
+    /// The serial at a place.
+    pub fn at(&self, place: usize) -> Option<u64>
+        requires { place < length self.now }
+        ensures { result ≡ serial_in self.now place }
+    {
+        self.serials[place]
+    }
+
+    // The hint for a serial, where it is right.
+    fn hinted(&self, serial: u64) -> Option<usize>
+        ensures { IfSome result (λ p. serial_in self.now p ≡ Some serial) }
+    {
+        let count = self.hints.len();
+        if count == 0 {
+            return None;
+        }
+        let place = self.hints[(serial % count as u64) as usize];
+        if place < self.serials.len() && has_serial(serial, &self.serials[place]) {
+            Some(place)
+        } else {
+            None
+        }
+    }
+
+    /// The place that has a serial, if there is one, where no two places have it.
+    pub fn find(&self, serial: u64) -> Option<usize>
+        requires { (p q : ℕ) → serial_in self.now p ≡ Some serial
+            → serial_in self.now q ≡ Some serial → p ≡ q }
+        ensures { result ≡ position (has_serial serial) self.now }
+    {
+        match self.hinted(serial) {
+            Some(place) => Some(place),
+            None => place_of(self.serials.as_slice(), serial),
+        }
+    }
+
+    // Notes which place is given a serial.
+    fn hint(&mut self, serial: u64, place: usize)
+        ensures { self.new ≡ self.old }
+    {
+        let count = self.hints.len();
+        if count > 0 {
+            self.hints[(serial % count as u64) as usize] = place;
+        }
+    }
+
+    /// Gives a place a serial.
+    pub fn give(&mut self, place: usize, serial: u64)
+        requires { place < length self.old }
+        ensures { self.new ≡ slice_set self.old place (Some serial) }
+    {
+        self.serials[place] = Some(serial);
+        self.hint(serial, place);
+    }
+
+    /// Takes the serial of a place away.
+    pub fn take(&mut self, place: usize)
+        requires { place < length self.old }
+        ensures { self.new ≡ slice_set self.old place None }
+    {
+        self.serials[place] = None;
+    }
+
+    /// Gives the places of a list the serials from `first` on, in the order of the list, and no
+    /// other place one.
+    pub fn number(&mut self, places: &[usize], first: u64)
+        requires within { All (λ p. p < length self.old) places.now }
+        requires distinct { AreDistinct places.now }
+        requires room { first + length places.now < 2 ^ 64 }
+        ensures numbers { Numbers first places.now self.new }
+        ensures len { length self.new ≡ length self.old }
+    {
+        clear(&mut self.serials);
+        for i in 0..places.len() {
+            self.give(places[i], first + i as u64);
+        }
+    }
+}
