@@ -1,12 +1,18 @@
 -- What an instruction does is what its form does.
-use Rattle.std.proofs.Common.{◌≡◌, ℕ, List, length, Result, Ok, Err, refl, arith, unwrap_or, ℤ}
+use Rattle.std.proofs.Common.{◌≡◌, ◌<◌, ℕ, false, List, length, Some, None, Result, Ok, Err, refl, ap, ◌∙◌, inl, inr, arith, unwrap_or, slice_index_or, ℤ}
+use Rattle.std.specs.List.{list_any}
+use Rattle.std.specs.Option.{option_flatten}
+use Rattle.std.proofs.lemmas.Bool.{cases_lt}
 use Rattle.std.proofs.lemmas.Bool.Decides.{nat_tests}
+use Rattle.std.proofs.lemmas.List.{get_or_past}
+use Rattle.std.proofs.lemmas.Option.{slice_get_past, slice_get-get_or}
 use Rattle.isa_model.specs.declared.instructions.Insn.{Insn}
 use Rattle.isa_model.specs.declared.ends.TrapReason.{TrapReason}
-use Rattle.isa_model.specs.Code.Instructions.{Program}
-use Rattle.isa_model.specs.Machine.States.{State}
+use Rattle.isa_model.specs.declared.ends.TrapReason.TheVariants.{NoCode}
+use Rattle.isa_model.specs.Code.Instructions.{Program, fetch, reads, writes, is_frame_pointer}
+use Rattle.isa_model.specs.Machine.States.{State, reg}
 use Rattle.isa_model.specs.Machine.Calls.{enter, leave}
-use Rattle.isa_model.specs.Machine.Steps.{Next, target, calls, exits}
+use Rattle.isa_model.specs.Machine.Steps.{Next, Trapped, target, calls, exits, is_unset, act, step, performed, performed_at}
 use Rattle.checked_vm.specs.declared.core_state.Core.{Core}
 use Rattle.checked_vm.specs.Machine.{KeepsFrames, IsRunning, StaysRunning, Performs, PerformsApart, PerformsIn}
 
@@ -30,6 +36,29 @@ exits_leave s inner = grind (arith, nat_tests)
 pub stays_running : (old new : Core) → KeepsFrames old new → IsRunning old → StaysRunning old new
 stays_running old new kept running = record {
   running = record { some = omega arith; few = omega arith; room = omega arith };
+  rows = kept.rows;
   next_serial = omega arith;
   clock_calls = kept.clock_calls;
 }
+
+-- an instruction whose registers are set acts
+pub performed_acts : (p : Program) (clock : ℕ → ℕ) (s : State) (i j : Insn) → i ≡ j → list_any (λ r. is_unset (reg s r)) (reads i) ≡ false → is_frame_pointer (writes i) ≡ false
+    → performed p clock s i ≡ act p clock s j
+performed_acts p clock s i j same set free = rw (set, free) (ap (act p clock s) same)
+
+-- a program goes on only from a slot with an instruction
+pub next_within : (p : Program) (clock : ℕ → ℕ) (s t : State) → step p clock s ≡ Next t → s.slot < length p.insns
+unfolding step
+next_within p clock s t next = elim (cases_lt s.slot (length p.insns)) [
+  | inl within ↦ within
+  | inr past ↦
+      let none : performed_at p clock s (fetch p s.slot) ≡ Trapped NoCode = ap (λ o. performed_at p clock s (option_flatten o)) (slice_get_past p.insns s.slot past) in
+      absurd cc
+]
+
+-- the instruction that is found at a slot begins there
+pub fetch_at : (p : Program) (slot : ℕ) (i : Insn) → slice_index_or p.insns slot None ≡ Some i → fetch p slot ≡ Some i
+fetch_at p slot i found = elim (cases_lt slot (length p.insns)) [
+  | inl within ↦ ap option_flatten (slice_get-get_or p.insns slot None within) ∙ found
+  | inr past ↦ let none = get_or_past p.insns slot None past in absurd cc
+]

@@ -1,3 +1,4 @@
 pub mod Bytes
 pub mod Acts
 pub mod Turns
+pub mod Helpers

@@ -1,5 +1,5 @@
 pub mod Messages
-pub mod Built
+pub mod Reads
 pub mod Machine
 pub mod Outcomes
 pub mod Machines

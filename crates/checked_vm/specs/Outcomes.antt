@@ -1,12 +1,23 @@
 -- What steps of the checked machine come to.
-use Rattle.std.specs.Prelude.{◌≡◌}
-use Rattle.isa_model.specs.Machine.States.{State}
+use Rattle.std.specs.Prelude.{◌≡◌, ℕ, ◌+◌}
+use Rattle.isa_model.specs.Machine.States.{State, go_to}
 use Rattle.isa_model.specs.Machine.Steps.{StepResult, Next, Finished, Trapped}
+use Rattle.isa_model.specs.Machine.HelperCalls.{ktime_get_ns, answered}
 use Rattle.checked_vm.specs.declared.steps.Stepped.{Stepped}
-use Rattle.checked_vm.specs.declared.steps.Stepped.TheVariants.{Went, Ended, Stopped}
+use Rattle.checked_vm.specs.declared.steps.Stepped.TheVariants.{Went, Ended, AsksTime, Stopped}
 
--- what one step came to, from a state to a state: an end and a trap leave the state as it was
-abbrev pub IsStep : StepResult → Stepped → State → State → Type 0
-IsStep wanted Went old new = wanted ≡ Next new
-IsStep wanted (Ended n) old new = (wanted ≡ Finished n) × (new ≡ old)
-IsStep wanted (Stopped reason) old new = (wanted ≡ Trapped reason) × (new ≡ old)
+-- the state after a call of ktime_get_ns
+abbrev pub after_time : (ℕ → ℕ) → State → State
+after_time clock s = go_to (answered (ktime_get_ns clock s)) (s.slot + 1)
+
+-- what one step came to, from a state to a state: an end and a trap leave the state as it was, and so does the question
+-- for the time, until it is answered
+abbrev pub IsStep : (ℕ → ℕ) → StepResult → Stepped → State → State → Type 0
+IsStep clock wanted Went old new = wanted ≡ Next new
+IsStep clock wanted (Ended n) old new = (wanted ≡ Finished n) × (new ≡ old)
+IsStep clock wanted AsksTime old new = (wanted ≡ Next (after_time clock old)) × (new ≡ old)
+IsStep clock wanted (Stopped reason) old new = (wanted ≡ Trapped reason) × (new ≡ old)
+
+-- a clock that has been asked so often answers next what c says
+abbrev pub Answers : (ℕ → ℕ) → ℕ → (ℕ → ℕ) → Type 0
+Answers c calls clock = (k : ℕ) → clock k ≡ c (calls + k)

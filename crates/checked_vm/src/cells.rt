@@ -1,6 +1,8 @@
 //! Cells of stack frames: the numbers and pointers that they spell, and the cells that spell them.
 
 ghost use Rattle.std.specs.Prelude.{◌≡◌, ◌+◌, ◌<◌, ◌≤◌, length, map, take, slice_index};
+ghost use Rattle.std.specs.Prelude.{Ok, Err, MatchResult};
+ghost use Rattle.isa_model.specs.Machine.HelperCalls.{bytes_in};
 ghost use Rattle.std.specs.List.{splice, list_any, list_all, enumerate_from};
 ghost use Rattle.isa_model.specs.Code.Numbers.{bytes_of};
 ghost use Rattle.isa_model.specs.Code.Sizes.{size_bytes};
@@ -47,6 +49,33 @@ fn has_only_bytes(cells: &[Cell]) -> bool
     ensures { result ≡ list_all is_byte cells.now }
 {
     cells.iter().all(|cell| matches!(cell, Cell::Byte(_)))
+}
+
+// Writes the bytes of as many byte cells.
+fn put_bytes(cells: &[Cell], bytes: &mut [u8])
+    requires { length bytes.old ≡ length cells.now }
+    ensures { bytes.new ≡ map byte_in cells.now }
+{
+    for k in 0..bytes.len() {
+        bytes[k] = byte_or_zero(cells, k);
+    }
+}
+
+/// Copies the bytes of as many cells.
+pub fn copy_bytes(cells: &[Cell], bytes: &mut [u8]) -> Result<(), TrapReason>
+    requires { length bytes.old ≡ length cells.now }
+    ensures copied { MatchResult result (λ _. bytes_in cells.now ≡ Ok bytes.new)
+        (λ e. bytes_in cells.now ≡ Err e) }
+    ensures len { length bytes.new ≡ length bytes.old }
+{
+    if has_unwritten(cells) {
+        Err(TrapReason::UnsetRead)
+    } else if has_only_bytes(cells) {
+        put_bytes(cells, bytes);
+        Ok(())
+    } else {
+        Err(TrapReason::BadAccess)
+    }
 }
 
 /// The number in at most eight cells.

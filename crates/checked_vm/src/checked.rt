@@ -1,16 +1,17 @@
 //! The checked machine: an image, and the room to run it.
 
-ghost use Rattle.std.specs.Prelude.{◌≡◌, ◌+◌, ◌≤◌, ℕ, [], length, IfOk, IfErr};
+ghost use Rattle.std.specs.Prelude.{◌≡◌, ◌+◌, ◌≤◌, ℕ, length, IfOk};
 ghost use Rattle.isa_model.specs.Reporting.Streams.{max_body};
 ghost use Rattle.isa_model.specs.Running.Runs.{max_steps, turn};
 ghost use Rattle.isa_model.specs.Reporting.Reports.{starting_contents};
-ghost use Rattle.checked_vm.specs.Built.{IsBuilt, IsRefusal};
+ghost use Rattle.maps.specs.Maps.{rows_of, contents_of};
 
-use crate::built::is_built;
 use crate::core_state::Core;
 use crate::errors::VmError;
 use image::Image;
 use isa_model::{Clock, End, FrameHead};
+use live_maps::LiveMaps;
+use maps::Maps;
 use std::alloc::Global;
 use std::marker::Model;
 
@@ -25,36 +26,47 @@ pub struct Checked {
 
 impl Model for Checked {
     ghost use Rattle.isa_model.specs.Machine.Calls.{most_frames};
-    ghost use Rattle.std.specs.Prelude.{◌≤◌, [], vec_capacity};
-    ghost use Rattle.checked_vm.specs.Built.{IsBuilt};
+    ghost use Rattle.isa_model.specs.Machine.States.{entries_of};
+    ghost use Rattle.std.specs.Prelude.{◌≡◌, ◌≤◌, map, vec_capacity};
     ghost use Rattle.checked_vm.specs.Machines.{Running};
 
     ghost Value = { Running };
 
-    ghost view = { λ machine. record { program = machine.image; contents = [] } };
+    ghost view = { λ machine. record {
+      program = machine.image;
+      contents = map entries_of machine.core.maps.contents;
+    } };
 
     ghost invariant = { λ machine. (most_frames ≤ vec_capacity machine.core.frames)
-        × IsBuilt machine.image };
+        × (machine.core.maps.rows ≡ machine.image.maps) };
 }
 
 impl Checked {
-    /// Makes all room that runs fill.
+    /// Makes the maps as they start, and all room that runs fill.
     pub fn new(alloc: Global, image: Image) -> Result<Self, VmError>
         ensures made { IfOk result (λ machine. machine
             ≡ record { program = image; contents = starting_contents image.maps }) }
-        ensures built { IfOk result (λ _. IsBuilt image) }
-        ensures refused { IfErr result (IsRefusal image) }
     {
-        if !is_built(&image) {
-            return Err(VmError::NotBuilt);
-        }
-        let core = Core::new(alloc)?;
+        let Ok(maps) = Maps::new(alloc, &image) else {
+            return Err(VmError::Memory);
+        };
+        Checked::with_maps(alloc, image, maps)
+    }
+
+    /// Makes all room that runs fill, on maps of the image's rows.
+    pub fn with_maps(alloc: Global, image: Image, maps: Maps) -> Result<Self, VmError>
+        requires rows { rows_of maps ≡ image.maps }
+        ensures made { IfOk result (λ machine. machine
+            ≡ record { program = image; contents = contents_of maps }) }
+    {
+        let _slots = image.slots();
+        let core = Core::new(alloc, LiveMaps::new(alloc, maps)?)?;
         Ok(Checked { image, core })
     }
 
     /// Runs the program on a packet from the start, at most `limit` steps.
     ///
-    /// After a trap or the limit the packet is as the last step left it.
+    /// After a trap or the limit the packet and the maps are as the last step left them.
     pub fn run<C: Clock>(
         &mut self,
         head: FrameHead,
@@ -79,6 +91,17 @@ impl Checked {
             ≡ C.at clock.old ((turn self.old.program limit (C.at clock.old) head packet.old
             self.old.contents).clock_calls + k) }
     {
+        let _slots = self.image.slots();
         self.core.run(self.image.code(), head, packet, clock, limit)
+    }
+
+    /// Gives the maps back.
+    pub fn into_maps(self) -> Maps
+        ensures rows { rows_of result ≡ self.program.maps }
+        ensures contents { contents_of result ≡ self.contents }
+    {
+        let Checked { core, .. } = self;
+        let Core { maps, .. } = core;
+        maps.into_maps()
     }
 }

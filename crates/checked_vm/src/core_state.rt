@@ -1,21 +1,22 @@
 //! The machine's fields: slot, registers and call frames.
 
-ghost use Rattle.std.specs.Prelude.{◌≡◌, ◌≤◌, ℕ, List, [], length, slice_set, IfOk, vec_len};
+ghost use Rattle.std.specs.Prelude.{◌≡◌, ◌≤◌, ◌^◌, ℕ, List, length, map, slice_set, IfOk, vec_len};
 ghost use Rattle.std.specs.Prelude.{vec_capacity};
 ghost use Rattle.isa_model.specs.Code.Registers.{reg_number};
-ghost use Rattle.isa_model.specs.Machine.States.{value_at, new_frame};
+ghost use Rattle.isa_model.specs.Machine.States.{entries_of, value_at, new_frame};
 ghost use Rattle.isa_model.specs.Machine.Memory.{frame_index};
 ghost use Rattle.isa_model.specs.Machine.Calls.{most_frames};
 ghost use Rattle.isa_model.specs.Running.Runs.{start_state};
 ghost use Rattle.checked_vm.specs.Machine.{state_of};
 
 use isa_model::{CallFrame, Cell, FrameHead, Reg, Region, Value};
+use live_maps::LiveMaps;
 use std::alloc::{AllocError, Global};
 
 /// The most call frames that are live at once.
 pub const MOST_FRAMES: usize = 8;
 
-/// A run's state, the packet and the maps aside.
+/// A run's state, the packet aside.
 #[derive(Drop)]
 pub struct Core {
     /// Where the next instruction begins.
@@ -27,8 +28,8 @@ pub struct Core {
     /// The interface and the queue that the packet came in by.
     pub interface: u32,
     pub queue: u32,
-    /// The serial of the next call frame. None is used twice in a run.
-    pub next_serial: u64,
+    /// The maps, and the serials of values and call frames. None is used twice in a run.
+    pub maps: LiveMaps,
     /// How often the run asked the clock.
     pub clock_calls: u64,
 }
@@ -48,8 +49,9 @@ pub fn new_frame(serial: u64, return_slot: usize, saved: [Value; 4]) -> CallFram
 
 impl Core {
     /// A machine with room for all call frames, not started.
-    pub fn new(alloc: Global) -> Result<Self, AllocError>
-        ensures { IfOk result (λ core. most_frames ≤ vec_capacity core.frames) }
+    pub fn new(alloc: Global, maps: LiveMaps) -> Result<Self, AllocError>
+        ensures room { IfOk result (λ core. most_frames ≤ vec_capacity core.frames) }
+        ensures maps { IfOk result (λ core. core.maps ≡ maps) }
     {
         Ok(Core {
             slot: 0,
@@ -57,7 +59,7 @@ impl Core {
             frames: Vec::with_capacity(alloc, MOST_FRAMES)?,
             interface: 0,
             queue: 0,
-            next_serial: 0,
+            maps,
             clock_calls: 0,
         })
     }
@@ -65,14 +67,17 @@ impl Core {
     /// Goes to the start of a run.
     #[tactic(auto, unfolding(isa_model::specs::Running::Runs::start_state))]
     pub fn start(&mut self, head: FrameHead)
-        requires { most_frames ≤ vec_capacity self.old.frames }
-        ensures state { (packet : List ℕ)
-            → state_of self.new packet [] ≡ start_state head packet [] }
+        requires room { most_frames ≤ vec_capacity self.old.frames }
+        ensures state { (packet : List ℕ) → state_of self.new packet
+            ≡ start_state head packet (map entries_of self.old.maps.contents) }
         ensures frames { vec_len self.new.frames ≡ 1 }
         ensures room { vec_capacity self.new.frames ≡ vec_capacity self.old.frames }
-        ensures serial { self.new.next_serial ≡ 1 }
+        ensures rows { self.new.maps.rows ≡ self.old.maps.rows }
+        ensures serial { self.new.maps.next_serial ≤ 2 ^ 33 }
         ensures clock { self.new.clock_calls ≡ 0 }
     {
+        self.maps.renumber();
+        let serial = self.maps.take_serial();
         self.slot = 0;
         self.regs = [
             Value::Unset,
@@ -85,14 +90,13 @@ impl Core {
             Value::Unset,
             Value::Unset,
             Value::Unset,
-            Value::Ptr(Region::Frame(0), 0),
+            Value::Ptr(Region::Frame(serial), 0),
         ];
         self.frames.clear();
         self.frames
-            .push_reserved(new_frame(0, 0, [Value::Unset; 4]));
+            .push_reserved(new_frame(serial, 0, [Value::Unset; 4]));
         self.interface = head.interface;
         self.queue = head.queue;
-        self.next_serial = 1;
         self.clock_calls = 0;
     }
 

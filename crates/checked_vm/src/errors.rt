@@ -12,8 +12,6 @@ use std::fmt;
 pub enum VmError {
     /// Out of memory.
     Memory,
-    /// The program has maps or calls helpers, which the machine does not have yet.
-    NotBuilt,
 }
 
 impl VmError {
@@ -23,7 +21,6 @@ impl VmError {
     {
         match self {
             VmError::Memory => "out of memory",
-            VmError::NotBuilt => "programs with maps or helpers are not run yet",
         }
     }
 }

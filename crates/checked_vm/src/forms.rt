@@ -3,5 +3,6 @@
 pub mod arithmetic;
 pub mod atomics;
 pub mod calls;
+pub mod helper_calls;
 pub mod jumps;
 pub mod memory;

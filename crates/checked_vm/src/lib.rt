@@ -8,7 +8,6 @@
 //! the definition of its name in `isa_model` says.
 #![tactic(auto)]
 
-mod built;
 mod cells;
 pub mod checked;
 mod comparisons;
@@ -17,6 +16,7 @@ pub mod errors;
 mod forms;
 mod memory;
 mod places;
+mod reads;
 mod runs;
 mod steps;
 mod values;

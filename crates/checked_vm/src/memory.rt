@@ -1,6 +1,6 @@
-//! Loads and stores in call frames, the packet and the context.
+//! Loads and stores in call frames, the packet, values of maps and the context.
 
-ghost use Rattle.std.specs.Prelude.{◌≡◌, ◌+◌, ◌<◌, ◌≤◌, ℕ, ◌+ℤ◌, List, [], length, map};
+ghost use Rattle.std.specs.Prelude.{◌≡◌, ◌+◌, ◌<◌, ◌≤◌, ℕ, ◌+ℤ◌, List, length, map};
 ghost use Rattle.std.specs.Prelude.{slice_index, Some, Ok, Err, MatchResult, vec_len};
 ghost use Rattle.isa_model.specs.Code.Numbers.{number_from};
 ghost use Rattle.isa_model.specs.Code.Sizes.{narrow_size, narrow_extension};
@@ -11,63 +11,24 @@ ghost use Rattle.isa_model.specs.Machine.Memory.{load_number, load_signed, write
 ghost use Rattle.isa_model.specs.Machine.Memory.{store_pointer, store};
 ghost use Rattle.checked_vm.specs.declared.core_state.Core.{Core};
 ghost use Rattle.checked_vm.specs.Machine.{state_of, KeepsFrames};
+ghost use Rattle.checked_vm.specs.Reads.{read_cells};
 
 use crate::cells;
 use crate::core_state::Core;
-use crate::places::{index_at, place_in};
+use crate::places::{index_at, place_within};
+use crate::reads::number_from;
 use isa_model::numbers::sign_extend;
 use isa_model::{Cell, Extension, Narrow, Place, Region, Size, TrapReason, Value};
-
-// ---- the packet's bytes
-
-fn byte_at(bytes: &[u8], k: usize) -> u8
-    ensures { result ≡ slice_index bytes.now k }
-{
-    match bytes.get(k) {
-        Some(byte) => *byte,
-        None => 0,
-    }
-}
-
-/// The number that at most eight bytes spell.
-fn number_from(bytes: &[u8]) -> u64
-    ensures { result ≡ number_from bytes.now }
-{
-    u64::from_le_bytes([
-        byte_at(bytes, 0),
-        byte_at(bytes, 1),
-        byte_at(bytes, 2),
-        byte_at(bytes, 3),
-        byte_at(bytes, 4),
-        byte_at(bytes, 5),
-        byte_at(bytes, 6),
-        byte_at(bytes, 7),
-    ])
-}
-
-/// The packet's bytes at a place.
-fn read_packet(packet: &[u8], at: Option<usize>, n: usize) -> Result<&[u8], TrapReason>
-    requires { n ≤ 8 }
-    ensures { MatchResult result
-        (λ bs. (core : Core)
-        → read (state_of core packet.now []) Region.Packet at n ≡ Ok (map Cell.Byte bs.now))
-        (λ e. (core : Core) → read (state_of core packet.now []) Region.Packet at n ≡ Err e) }
-{
-    match at {
-        Some(i) if i <= packet.len() && i + n <= packet.len() => Ok(&packet[i..i + n]),
-        _ => Err(TrapReason::BadAccess),
-    }
-}
 
 /// Writes bytes at a place of the packet.
 fn write_packet(packet: &mut [u8], at: Option<usize>, new: &[u8]) -> Result<(), TrapReason>
     requires { length new.now ≤ 8 }
     ensures { MatchResult result
         (λ _. (core : Core)
-        → write (state_of core packet.old []) Region.Packet at (map Cell.Byte new.now)
-        ≡ Ok (state_of core packet.new []))
+        → write (state_of core packet.old) Region.Packet at (map Cell.Byte new.now)
+        ≡ Ok (state_of core packet.new))
         (λ e. ((core : Core)
-        → write (state_of core packet.old []) Region.Packet at (map Cell.Byte new.now) ≡ Err e)
+        → write (state_of core packet.old) Region.Packet at (map Cell.Byte new.now) ≡ Err e)
         × (packet.new ≡ packet.old)) }
 {
     match at {
@@ -103,7 +64,7 @@ fn narrow_extension(size: Narrow) -> Extension
 
 impl Core {
     fn context_field(&self, at: Option<usize>) -> Result<Value, TrapReason>
-        ensures { (packet : List ℕ) → result ≡ context_field (state_of self.now packet []) at }
+        ensures { (packet : List ℕ) → result ≡ context_field (state_of self.now packet) at }
     {
         match at {
             Some(0) => Ok(Value::Ptr(Region::Packet, 0)),
@@ -115,53 +76,12 @@ impl Core {
     }
 
     fn context_load(&self, size: Size, at: Option<usize>) -> Result<Value, TrapReason>
-        ensures { (packet : List ℕ) → result ≡ context_load (state_of self.now packet []) size at }
+        ensures { (packet : List ℕ) → result ≡ context_load (state_of self.now packet) size at }
     {
         match size {
             Size::U32 => self.context_field(at),
             _ => Err(TrapReason::BadAccess),
         }
-    }
-
-    /// Where n cells stand in a live frame: the frame's place and the first cell's index.
-    fn place_in_frame(
-        &self,
-        serial: u64,
-        at: Option<usize>,
-        n: usize,
-    ) -> Result<(usize, usize), TrapReason>
-        requires { n ≤ 8 }
-        ensures { MatchResult result
-            (λ p. (frame_index self.now.frames.items serial ≡ Some p.0)
-            × (p.0 < vec_len self.now.frames)
-            × (p.1 + n ≤ length (frame_at self.now.frames.items p.0).cells)
-            × ((packet : List ℕ)
-            → place_of (state_of self.now packet []) (Region.Frame serial) at n ≡ Ok p.1))
-            (λ e. (packet : List ℕ)
-            → place_of (state_of self.now packet []) (Region.Frame serial) at n ≡ Err e) }
-    {
-        match self.frame_index(serial) {
-            Some(frame) => {
-                let cells: &[Cell] = &self.frames[frame].cells;
-                let i = place_in(cells, at, n)?;
-                Ok((frame, i))
-            }
-            None => Err(TrapReason::BadAccess),
-        }
-    }
-
-    /// The cells of a frame at a place.
-    fn read_frame(&self, serial: u64, at: Option<usize>, n: usize) -> Result<&[Cell], TrapReason>
-        requires { n ≤ 8 }
-        ensures { MatchResult result
-            (λ cs. (packet : List ℕ)
-            → read (state_of self.now packet []) (Region.Frame serial) at n ≡ Ok cs.now)
-            (λ e. (packet : List ℕ)
-            → read (state_of self.now packet []) (Region.Frame serial) at n ≡ Err e) }
-    {
-        let (frame, i) = self.place_in_frame(serial, at, n)?;
-        let cells: &[Cell] = &self.frames[frame].cells;
-        Ok(&cells[i..i + n])
     }
 
     /// The number in n bytes at a place.
@@ -173,11 +93,14 @@ impl Core {
         n: usize,
     ) -> Result<u64, TrapReason>
         requires { n ≤ 8 }
-        ensures { result ≡ number_at (state_of self.now packet.now []) region at n }
+        ensures { result ≡ number_at (state_of self.now packet.now) region at n }
     {
         match region {
             Region::Frame(serial) => cells::number_in(self.read_frame(serial, at, n)?),
-            Region::Packet => Ok(number_from(read_packet(packet, at, n)?)),
+            Region::Packet => Ok(number_from(self.read_packet(packet, at, n)?)),
+            Region::MapValue(index, serial) => {
+                Ok(number_from(self.read_value(index, serial, at, n)?))
+            }
             _ => Err(TrapReason::BadAccess),
         }
     }
@@ -189,11 +112,14 @@ impl Core {
         region: Region,
         at: Option<usize>,
     ) -> Result<Value, TrapReason>
-        ensures { result ≡ memory_load (state_of self.now packet.now []) Size.U64 region at }
+        ensures { result ≡ memory_load (state_of self.now packet.now) Size.U64 region at }
     {
         match region {
             Region::Frame(serial) => cells::value_in(self.read_frame(serial, at, 8)?),
-            Region::Packet => Ok(Value::Num(number_from(read_packet(packet, at, 8)?))),
+            Region::Packet => Ok(Value::Num(number_from(self.read_packet(packet, at, 8)?))),
+            Region::MapValue(index, serial) => {
+                Ok(Value::Num(number_from(self.read_value(index, serial, at, 8)?)))
+            }
             _ => Err(TrapReason::BadAccess),
         }
     }
@@ -205,7 +131,7 @@ impl Core {
         region: Region,
         at: Option<usize>,
     ) -> Result<Value, TrapReason>
-        ensures { result ≡ memory_load (state_of self.now packet.now []) size region at }
+        ensures { result ≡ memory_load (state_of self.now packet.now) size region at }
     {
         let n = match size {
             Size::U8 => self.number_at(packet, region, at, 1)?,
@@ -224,7 +150,7 @@ impl Core {
         base: Value,
         place: Place,
     ) -> Result<Value, TrapReason>
-        ensures { result ≡ load (state_of self.now packet.now []) size base place.offset }
+        ensures { result ≡ load (state_of self.now packet.now) size base place.offset }
     {
         let Value::Ptr(region, offset) = base else {
             return Err(TrapReason::BadAccess);
@@ -244,7 +170,7 @@ impl Core {
         base: Value,
         place: Place,
     ) -> Result<u64, TrapReason>
-        ensures { result ≡ load_number (state_of self.now packet.now []) size base place.offset }
+        ensures { result ≡ load_number (state_of self.now packet.now) size base place.offset }
     {
         let Value::Ptr(region, offset) = base else {
             return Err(TrapReason::BadAccess);
@@ -265,7 +191,7 @@ impl Core {
         base: Value,
         place: Place,
     ) -> Result<Value, TrapReason>
-        ensures { result ≡ load_signed (state_of self.now packet.now []) size base place.offset }
+        ensures { result ≡ load_signed (state_of self.now packet.now) size base place.offset }
     {
         let n = self.load_number(packet, narrow_size(size), base, place)?;
         Ok(Value::Num(sign_extend(narrow_extension(size), n)))
@@ -285,14 +211,41 @@ impl Core {
         ensures slot { self.new.slot ≡ self.old.slot }
         ensures wrote { MatchResult result
             (λ _. (packet : List ℕ)
-            → write (state_of self.old packet []) (Region.Frame serial) at new.now
-            ≡ Ok (state_of self.new packet []))
+            → write (state_of self.old packet) (Region.Frame serial) at new.now
+            ≡ Ok (state_of self.new packet))
             (λ e. ((packet : List ℕ)
-            → write (state_of self.old packet []) (Region.Frame serial) at new.now ≡ Err e)
+            → write (state_of self.old packet) (Region.Frame serial) at new.now ≡ Err e)
             × (self.new ≡ self.old)) }
     {
         let (frame, i) = self.place_in_frame(serial, at, new.len())?;
         cells::put_cells(&mut self.frames[frame].cells, i, new);
+        Ok(())
+    }
+
+    /// Writes bytes at a place of a map's value.
+    fn write_value(
+        &mut self,
+        index: u32,
+        serial: u64,
+        at: Option<usize>,
+        new: &[u8],
+    ) -> Result<(), TrapReason>
+        requires { length new.now ≤ 8 }
+        ensures kept { KeepsFrames self.old self.new }
+        ensures slot { self.new.slot ≡ self.old.slot }
+        ensures wrote { MatchResult result
+            (λ _. (packet : List ℕ) → write (state_of self.old packet)
+            (Region.MapValue index serial) at (map Cell.Byte new.now)
+            ≡ Ok (state_of self.new packet))
+            (λ e. ((packet : List ℕ) → write (state_of self.old packet)
+            (Region.MapValue index serial) at (map Cell.Byte new.now) ≡ Err e)
+            × (self.new ≡ self.old)) }
+    {
+        let Some(value) = self.maps.value(index as usize, serial) else {
+            return Err(TrapReason::BadAccess);
+        };
+        let i = place_within(value.len(), at, new.len())?;
+        self.maps.write(index as usize, serial, i, new);
         Ok(())
     }
 
@@ -308,9 +261,9 @@ impl Core {
         ensures kept { KeepsFrames self.old self.new }
         ensures slot { self.new.slot ≡ self.old.slot }
         ensures wrote { MatchResult result
-            (λ _. store_number (state_of self.old packet.old []) size base place.offset n
-            ≡ Ok (state_of self.new packet.new []))
-            (λ e. (store_number (state_of self.old packet.old []) size base place.offset n ≡ Err e)
+            (λ _. store_number (state_of self.old packet.old) size base place.offset n
+            ≡ Ok (state_of self.new packet.new))
+            (λ e. (store_number (state_of self.old packet.old) size base place.offset n ≡ Err e)
             × (self.new ≡ self.old) × (packet.new ≡ packet.old)) }
     {
         let Value::Ptr(region, offset) = base else {
@@ -324,6 +277,9 @@ impl Core {
                 &cells::byte_cells(n)[..size.bytes()],
             ),
             Region::Packet => write_packet(packet, at, &n.to_le_bytes()[..size.bytes()]),
+            Region::MapValue(index, serial) => {
+                self.write_value(index, serial, at, &n.to_le_bytes()[..size.bytes()])
+            }
             _ => Err(TrapReason::BadAccess),
         }
     }
@@ -341,10 +297,10 @@ impl Core {
         ensures slot { self.new.slot ≡ self.old.slot }
         ensures wrote { MatchResult result
             (λ _. (packet : List ℕ)
-            → store_pointer (state_of self.old packet []) size base place.offset region offset
-            ≡ Ok (state_of self.new packet []))
+            → store_pointer (state_of self.old packet) size base place.offset region offset
+            ≡ Ok (state_of self.new packet))
             (λ e. ((packet : List ℕ)
-            → store_pointer (state_of self.old packet []) size base place.offset region offset
+            → store_pointer (state_of self.old packet) size base place.offset region offset
             ≡ Err e) × (self.new ≡ self.old)) }
     {
         match (size, base) {
@@ -369,9 +325,9 @@ impl Core {
         ensures kept { KeepsFrames self.old self.new }
         ensures slot { self.new.slot ≡ self.old.slot }
         ensures wrote { MatchResult result
-            (λ _. store (state_of self.old packet.old []) size base place.offset value
-            ≡ Ok (state_of self.new packet.new []))
-            (λ e. (store (state_of self.old packet.old []) size base place.offset value ≡ Err e)
+            (λ _. store (state_of self.old packet.old) size base place.offset value
+            ≡ Ok (state_of self.new packet.new))
+            (λ e. (store (state_of self.old packet.old) size base place.offset value ≡ Err e)
             × (self.new ≡ self.old) × (packet.new ≡ packet.old)) }
     {
         match value {

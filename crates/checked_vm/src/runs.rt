@@ -1,13 +1,14 @@
 //! Whole runs within a limit of steps.
 
-ghost use Rattle.std.specs.Prelude.{◌≡◌, ◌+◌, ◌<◌, ◌≤◌, ◌^◌, ℕ, List, [], vec_capacity};
+ghost use Rattle.std.specs.Prelude.{◌≡◌, ◌≢◌, ◌+◌, ◌<◌, ◌≤◌, ◌^◌, ℕ, List, map, vec_capacity};
 ghost use Rattle.isa_model.specs.Code.Instructions.{Program};
+ghost use Rattle.isa_model.specs.Machine.States.{entries_of};
 ghost use Rattle.isa_model.specs.Machine.Calls.{most_frames};
 ghost use Rattle.isa_model.specs.Machine.Steps.{step};
 ghost use Rattle.isa_model.specs.Running.Runs.{progress, turn_of, left, turn};
-ghost use Rattle.checked_vm.specs.Built.{HasBuiltForms};
-ghost use Rattle.checked_vm.specs.Machine.{state_of, IsRunning, StaysRunning};
-ghost use Rattle.checked_vm.specs.Outcomes.{IsStep};
+ghost use Rattle.checked_vm.specs.Machine.{state_of, NamesAllRows, IsRunning, StaysRunning};
+ghost use Rattle.checked_vm.specs.declared.steps.Stepped.{Stepped};
+ghost use Rattle.checked_vm.specs.Outcomes.{IsStep, Answers};
 
 use crate::core_state::Core;
 use crate::steps::Stepped;
@@ -18,12 +19,13 @@ impl Core {
     #[tactic(auto, unfolding(isa_model::specs::Machine::Steps::step))]
     fn step(&mut self, insns: &[Option<Insn>], packet: &mut [u8]) -> Stepped
         requires running { IsRunning self.old }
-        requires serial { self.old.next_serial < 2 ^ 63 }
-        requires built { HasBuiltForms insns.now }
+        requires serial { self.old.maps.next_serial < 2 ^ 63 }
+        requires named { NamesAllRows self.old.maps.rows insns.now }
         ensures stays { StaysRunning self.old self.new }
-        ensures step { (p : Program) (clock : ℕ → ℕ) → p.insns ≡ insns.now →
-            IsStep (step p clock (state_of self.old packet.old [])) result
-            (state_of self.old packet.old []) (state_of self.new packet.new []) }
+        ensures step { (p : Program) (clock : ℕ → ℕ) → p.insns ≡ insns.now
+            → p.maps ≡ self.old.maps.rows →
+            IsStep clock (step p clock (state_of self.old packet.old)) result
+            (state_of self.old packet.old) (state_of self.new packet.new) }
     {
         match insns.get(self.slot) {
             Some(Some(insn)) => self.perform(insn, insns.len(), packet),
@@ -31,20 +33,61 @@ impl Core {
         }
     }
 
-    /// Goes on, at most that many steps.
-    fn steps(&mut self, insns: &[Option<Insn>], packet: &mut [u8], limit: u32) -> End
+    /// One step, in which the clock may be asked once.
+    fn step_with<C: Clock>(
+        &mut self,
+        insns: &[Option<Insn>],
+        packet: &mut [u8],
+        clock: &mut C,
+    ) -> Stepped
         requires running { IsRunning self.old }
-        requires serial { self.old.next_serial < 2 ^ 62 }
-        requires built { HasBuiltForms insns.now }
-        ensures clock { self.new.clock_calls ≡ self.old.clock_calls }
+        requires serial { self.old.maps.next_serial < 2 ^ 63 }
+        requires named { NamesAllRows self.old.maps.rows insns.now }
+        requires calls { self.old.clock_calls < 2 ^ 63 }
+        ensures running { IsRunning self.new }
+        ensures rows { self.new.maps.rows ≡ self.old.maps.rows }
+        ensures serial { self.new.maps.next_serial ≤ self.old.maps.next_serial + 1 }
+        ensures calls { self.new.clock_calls ≤ self.old.clock_calls + 1 }
+        ensures answered { result ≢ Stepped.AsksTime }
+        ensures clock { (c : ℕ → ℕ) → Answers c self.old.clock_calls (C.at clock.old)
+            → Answers c self.new.clock_calls (C.at clock.new) }
+        ensures step { (p : Program) (c : ℕ → ℕ) → p.insns ≡ insns.now
+            → p.maps ≡ self.old.maps.rows → Answers c self.old.clock_calls (C.at clock.old) →
+            IsStep c (step p c (state_of self.old packet.old)) result
+            (state_of self.old packet.old) (state_of self.new packet.new) }
+    {
+        match self.step(insns, packet) {
+            Stepped::AsksTime => {
+                self.answer_time(clock.now());
+                Stepped::Went
+            }
+            stepped => stepped,
+        }
+    }
+
+    /// Goes on, at most that many steps.
+    fn steps<C: Clock>(
+        &mut self,
+        insns: &[Option<Insn>],
+        packet: &mut [u8],
+        clock: &mut C,
+        limit: u32,
+    ) -> End
+        requires running { IsRunning self.old }
+        requires serial { self.old.maps.next_serial ≤ 2 ^ 33 }
+        requires named { NamesAllRows self.old.maps.rows insns.now }
+        requires calls { self.old.clock_calls ≡ 0 }
         ensures room { most_frames ≤ vec_capacity self.new.frames }
-        ensures turn { (p : Program) (clock : ℕ → ℕ) → p.insns ≡ insns.now →
-            turn_of (progress p clock limit (state_of self.old packet.old []))
-            ≡ left result (state_of self.new packet.new []) }
+        ensures rows { self.new.maps.rows ≡ self.old.maps.rows }
+        ensures clock { Answers (C.at clock.old) self.new.clock_calls (C.at clock.new) }
+        ensures turn { (p : Program) → p.insns ≡ insns.now → p.maps ≡ self.old.maps.rows →
+            turn_of (progress p (C.at clock.old) limit (state_of self.old packet.old))
+            ≡ left result (state_of self.new packet.new) }
     {
         for done in 0..limit {
-            match self.step(insns, packet) {
+            match self.step_with(insns, packet, clock) {
                 Stepped::Went => {}
+                Stepped::AsksTime => unreachable!(),
                 Stepped::Ended(number) => return End::Exit(number, done + 1),
                 Stepped::Stopped(reason) => return End::Trap(reason, done),
             }
@@ -63,19 +106,20 @@ impl Core {
         limit: u32,
     ) -> End
         requires room { most_frames ≤ vec_capacity self.old.frames }
-        requires built { HasBuiltForms insns.now }
-        ensures turn { (p : Program) → p.insns ≡ insns.now →
-            turn p limit (C.at clock.old) head packet.old []
+        requires named { NamesAllRows self.old.maps.rows insns.now }
+        ensures turn { (p : Program) → p.insns ≡ insns.now → p.maps ≡ self.old.maps.rows →
+            turn p limit (C.at clock.old) head packet.old (map entries_of self.old.maps.contents)
             ≡ record {
               ends = result;
               packet = packet.new;
-              contents = [];
+              contents = map entries_of self.new.maps.contents;
               clock_calls = self.new.clock_calls;
             } }
         ensures clock { (k : ℕ) → C.at clock.new k ≡ C.at clock.old (self.new.clock_calls + k) }
         ensures room { most_frames ≤ vec_capacity self.new.frames }
+        ensures rows { self.new.maps.rows ≡ self.old.maps.rows }
     {
         self.start(head);
-        self.steps(insns, packet, limit)
+        self.steps(insns, packet, clock, limit)
     }
 }

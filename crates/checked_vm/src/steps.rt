@@ -1,19 +1,19 @@
 //! One step of a program: the tests before an instruction, and the instruction.
 
-ghost use Rattle.std.specs.Prelude.{◌≡◌, ◌≢◌, ◌+◌, ◌<◌, ◌≤◌, ◌^◌, ℕ, List, [], length};
+ghost use Rattle.std.specs.Prelude.{◌≡◌, ◌≢◌, ◌+◌, ◌<◌, ◌≤◌, ◌^◌, ℕ, ℤ, List, length};
 ghost use Rattle.std.specs.List.{list_any};
 ghost use Rattle.std.specs.Option.{option_to_list};
 ghost use Rattle.isa_model.specs.declared.instructions.Insn.{Insn};
 ghost use Rattle.isa_model.specs.Code.Registers.{reg_number};
 ghost use Rattle.isa_model.specs.Code.Instructions.{Program, reads};
+ghost use Rattle.isa_model.specs.Code.MapRows.{NamesRows};
 ghost use Rattle.isa_model.specs.Machine.States.{value_at};
 ghost use Rattle.isa_model.specs.Machine.Steps.{is_unset, act, performed};
-ghost use Rattle.checked_vm.specs.Built.{IsBuiltForm};
 ghost use Rattle.checked_vm.specs.Machine.{state_of, IsRunning, StaysRunning, PerformsIn};
 ghost use Rattle.checked_vm.specs.Outcomes.{IsStep};
 
 use crate::core_state::{Core, MOST_FRAMES};
-use isa_model::{Insn, Reg, TrapReason, Value, destination};
+use isa_model::{Insn, Reg, Region, TrapReason, Value, destination};
 
 /// What a step came to.
 #[derive(Clone, Copy, PartialEq, Eq, Debug)]
@@ -21,6 +21,8 @@ pub enum Stepped {
     Went,
     /// The last exit, with r0.
     Ended(u64),
+    /// A call of ktime_get_ns, which has no answer yet.
+    AsksTime,
     Stopped(TrapReason),
 }
 
@@ -49,9 +51,10 @@ impl Core {
     fn act(&mut self, insn: &Insn, slots: usize, packet: &mut [u8]) -> Result<(), TrapReason>
         requires running { IsRunning self.old }
         requires other { insn.now ≢ Insn.Exit }
-        requires built { IsBuiltForm insn.now }
+        requires no_helper { (number : ℤ) → insn.now ≢ Insn.CallHelper number }
+        requires named { NamesRows self.old.maps.rows insn.now }
         requires slot { self.old.slot + 2 < 2 ^ 63 }
-        requires serial { self.old.next_serial < 2 ^ 63 }
+        requires serial { self.old.maps.next_serial < 2 ^ 63 }
         ensures stays { StaysRunning self.old self.new }
         ensures done { PerformsIn slots insn.now result self.old packet.old self.new packet.new }
     {
@@ -62,6 +65,16 @@ impl Core {
             Insn::ByteSwap(order, span, d) => self.do_byte_swap(order, span, d),
             Insn::LoadNumber(d, n) => {
                 self.set_and_go_on(d, Value::Num(n), 2);
+                Ok(())
+            }
+            Insn::LoadMap(d, map) => {
+                self.set_and_go_on(d, Value::Ptr(Region::Map(map), 0), 2);
+                Ok(())
+            }
+            Insn::LoadMapValue(d, map, offset) => {
+                let serial = self.maps.only_serial(map as usize);
+                let value = Value::Ptr(Region::MapValue(map, serial), i64::from(offset));
+                self.set_and_go_on(d, value, 2);
                 Ok(())
             }
             Insn::Load(size, d, place) => self.do_load(packet, size, d, place),
@@ -91,8 +104,7 @@ impl Core {
                 self.enter(destination(self.slot, by, slots));
                 Ok(())
             }
-            Insn::LoadMap(_, _) | Insn::LoadMapValue(_, _, _) | Insn::CallHelper(_) | Insn::Exit =>
-                unreachable!(),
+            Insn::CallHelper(_) | Insn::Exit => unreachable!(),
         }
     }
 
@@ -102,8 +114,8 @@ impl Core {
         requires { IsRunning self.old }
         ensures stays { StaysRunning self.old self.new }
         ensures step { (packet : List ℕ) (p : Program) (clock : ℕ → ℕ)
-            → IsStep (act p clock (state_of self.old packet []) Insn.Exit) result
-            (state_of self.old packet []) (state_of self.new packet []) }
+            → IsStep clock (act p clock (state_of self.old packet) Insn.Exit) result
+            (state_of self.old packet) (state_of self.new packet) }
     {
         if self.depth() == 1 {
             match self.value(Reg::R0) {
@@ -120,12 +132,13 @@ impl Core {
     pub fn perform(&mut self, insn: &Insn, slots: usize, packet: &mut [u8]) -> Stepped
         requires running { IsRunning self.old }
         requires slot { self.old.slot + 2 < 2 ^ 63 }
-        requires serial { self.old.next_serial < 2 ^ 63 }
-        requires built { IsBuiltForm insn.now }
+        requires serial { self.old.maps.next_serial < 2 ^ 63 }
+        requires named { NamesRows self.old.maps.rows insn.now }
         ensures stays { StaysRunning self.old self.new }
-        ensures step { (p : Program) (clock : ℕ → ℕ) → length p.insns ≡ slots →
-            IsStep (performed p clock (state_of self.old packet.old []) insn.now) result
-            (state_of self.old packet.old []) (state_of self.new packet.new []) }
+        ensures step { (p : Program) (clock : ℕ → ℕ) → length p.insns ≡ slots
+            → p.maps ≡ self.old.maps.rows →
+            IsStep clock (performed p clock (state_of self.old packet.old) insn.now) result
+            (state_of self.old packet.old) (state_of self.new packet.new) }
     {
         if self.reads_unset(insn) {
             return Stepped::Stopped(TrapReason::UnsetRead);
@@ -135,6 +148,7 @@ impl Core {
         }
         match insn {
             Insn::Exit => self.exit(),
+            Insn::CallHelper(number) => self.call_helper(*number, packet),
             _ => match self.act(insn, slots, packet) {
                 Ok(()) => Stepped::Went,
                 Err(reason) => Stepped::Stopped(reason),

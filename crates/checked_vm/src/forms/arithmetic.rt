@@ -26,7 +26,7 @@ impl Core {
 
     fn operand(&self, width: Width, source: Operand) -> Value
         ensures { (packet : List ℕ)
-            → result ≡ operand_value (state_of self.now packet []) width source }
+            → result ≡ operand_value (state_of self.now packet) width source }
     {
         match source {
             Operand::Constant(k) => Value::Num(unsigned(width, k)),

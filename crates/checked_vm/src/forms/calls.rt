@@ -1,6 +1,6 @@
 //! Local calls and their exits.
 
-ghost use Rattle.std.specs.Prelude.{◌≡◌, ◌+◌, ◌<◌, ◌≤◌, ◌^◌, ℕ, List, [], vec_len, vec_capacity};
+ghost use Rattle.std.specs.Prelude.{◌≡◌, ◌+◌, ◌<◌, ◌≤◌, ◌^◌, ℕ, List, vec_len, vec_capacity};
 ghost use Rattle.isa_model.specs.Machine.Calls.{most_frames, enter, leave};
 ghost use Rattle.checked_vm.specs.Machine.{state_of};
 
@@ -13,16 +13,18 @@ impl Core {
         requires few { vec_len self.old.frames < most_frames }
         requires room { most_frames ≤ vec_capacity self.old.frames }
         requires slot { self.old.slot < 2 ^ 63 }
-        requires serial { self.old.next_serial < 2 ^ 63 }
+        requires serial { self.old.maps.next_serial < 2 ^ 63 }
         ensures state { (packet : List ℕ)
-            → state_of self.new packet [] ≡ enter (state_of self.old packet []) target }
+            → state_of self.new packet ≡ enter (state_of self.old packet) target }
         ensures frames { vec_len self.new.frames ≡ vec_len self.old.frames + 1 }
         ensures room { vec_capacity self.new.frames ≡ vec_capacity self.old.frames }
-        ensures serial { self.new.next_serial ≡ self.old.next_serial + 1 }
+        ensures rows { self.new.maps.rows ≡ self.old.maps.rows }
+        ensures serial { self.new.maps.next_serial ≡ self.old.maps.next_serial + 1 }
         ensures clock { self.new.clock_calls ≡ self.old.clock_calls }
     {
         let saved = [self.regs[6], self.regs[7], self.regs[8], self.regs[9]];
-        let frame = new_frame(self.next_serial, self.slot + 1, saved);
+        let serial = self.maps.take_serial();
+        let frame = new_frame(serial, self.slot + 1, saved);
         self.frames.push_reserved(frame);
         self.slot = target;
         self.regs = [
@@ -36,19 +38,19 @@ impl Core {
             Value::Unset,
             Value::Unset,
             Value::Unset,
-            Value::Ptr(Region::Frame(self.next_serial), 0),
+            Value::Ptr(Region::Frame(serial), 0),
         ];
-        self.next_serial += 1;
     }
 
     /// Leaves the innermost frame, which is not the first.
     pub fn leave(&mut self)
         requires { 2 ≤ vec_len self.old.frames }
         ensures state { (packet : List ℕ)
-            → state_of self.new packet [] ≡ leave (state_of self.old packet []) }
+            → state_of self.new packet ≡ leave (state_of self.old packet) }
         ensures frames { vec_len self.new.frames + 1 ≡ vec_len self.old.frames }
         ensures room { vec_capacity self.new.frames ≡ vec_capacity self.old.frames }
-        ensures serial { self.new.next_serial ≡ self.old.next_serial }
+        ensures rows { self.new.maps.rows ≡ self.old.maps.rows }
+        ensures serial { self.new.maps.next_serial ≡ self.old.maps.next_serial }
         ensures clock { self.new.clock_calls ≡ self.old.clock_calls }
     {
         let Some(frame) = self.frames.pop() else {

@@ -21,7 +21,7 @@ impl Core {
     fn test(&self, cond: Cond, len: usize) -> Result<bool, TrapReason>
         requires { len < 2 ^ 63 }
         ensures { (packet : List ℕ) → length packet ≡ len
-            → result ≡ test_of (state_of self.now packet []) cond }
+            → result ≡ test_of (state_of self.now packet) cond }
     {
         let value = self.value(cond.register);
         match cond.operand {

@@ -1,4 +1,4 @@
-use Rattle.std.proofs.Common.{◌≡◌, [], length, sym, ap, ◌∙◌, FitsSigned, w32, rules}
+use Rattle.std.proofs.Common.{◌≡◌, length, sym, ap, ◌∙◌, FitsSigned, w32, rules}
 use Rattle.std.proofs.lemmas.Int.{to_z-of_z}
 use Rattle.isa_model.specs.Machine.Steps.{Next, act}
 use Rattle.checked_vm.specs.Machine.{state_of}
@@ -57,7 +57,7 @@ returns-else-depth-eq-MOST_FRAMES-clause-done c = λ p clock count.
     let fits : FitsSigned w32 c.in-CallLocal.by = search rules in
     let leads = simp to_z-of_z at c.destination.ensures in
     let few : length c.args.self.now.frames.items ≡ 8 → ⊥ = λ full. c.if-depth-eq-MOST_FRAMES.false (c.depth.ensures.frames ∙ full) in
-    rw c.in-CallLocal.is (calls_enter (state_of c.args.self.now c.args.packet.now []) p c.in-CallLocal.by c.args.slots c.destination.result count leads few ∙ ap Next (sym (c.enter.ensures.state c.args.packet.now)))
+    rw c.in-CallLocal.is (calls_enter (state_of c.args.self.now c.args.packet.now) p c.in-CallLocal.by c.args.slots c.destination.result count leads few ∙ ap Next (sym (c.enter.ensures.state c.args.packet.now)))
 
 pub returns-in-Alu-clause-stays : goal.returns-in-Alu-clause-stays
 returns-in-Alu-clause-stays c = stays_running c.args.self.now c.do_alu.new.self c.do_alu.ensures.kept c.requires.running

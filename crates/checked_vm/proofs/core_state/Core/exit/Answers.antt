@@ -1,4 +1,4 @@
-use Rattle.std.proofs.Common.{[], sym, ap, ◌∙◌}
+use Rattle.std.proofs.Common.{sym, ap, ◌∙◌}
 use Rattle.isa_model.specs.Machine.Steps.{Next, act}
 use Rattle.checked_vm.specs.Machine.{state_of}
 use Rattle.checked_vm.proofs.Acts.{exits_leave}
@@ -7,5 +7,5 @@ use Rattle.checked_vm.proofs.core_state.Core.exit.Goals as goal
 pub returns-else-depth-eq1-clause-step : goal.returns-else-depth-eq1-clause-step
 unfolding act
 returns-else-depth-eq1-clause-step c = λ packet p clock.
-    exits_leave (state_of c.args.self.now packet []) (λ one. c.if-depth-eq1.false (c.depth.ensures.frames ∙ one))
+    exits_leave (state_of c.args.self.now packet) (λ one. c.if-depth-eq1.false (c.depth.ensures.frames ∙ one))
     ∙ ap Next (sym (c.leave.ensures.state packet))

@@ -1,4 +1,4 @@
-use Rattle.std.proofs.Common.{◌+◌, refl, sym, ap, ◌∙◌, arith}
+use Rattle.std.proofs.Common.{◌≡◌, ◌+◌, refl, sym, ap, ◌∙◌, arith}
 use Rattle.isa_model.specs.declared.ends.End.TheVariants.{Exit, Trap}
 use Rattle.isa_model.specs.Running.Runs.{left}
 use Rattle.isa_model.specs.Running.RunLaws.{progress-zero}
@@ -6,29 +6,48 @@ use Rattle.checked_vm.proofs.Turns.{progress-next, turn_of-finished, turn_of-tra
 use Rattle.checked_vm.proofs.core_state.Core.steps.Goals as goal
 
 pub loop-done-init : goal.loop-done-init
-loop-done-init c = record {
-  so_far = λ p clock code. progress-zero p clock _;
+loop-done-init g c = record {
+  so_far = λ p code rows. progress-zero p _ _;
   running = c.requires.running;
+  rows = refl;
   serial = omega arith;
-  calls = refl;
+  calls = let none = c.requires.calls in omega arith;
+  clock = λ k. let none = c.requires.calls in let same : k ≡ c.args.self.now.clock_calls + k = omega arith in ap (g.C.Clock.at c.args.clock.now) same;
 }
 
 pub loop-done-preserved : goal.loop-done-preserved
-loop-done-preserved c = record {
-  so_far = λ p clock code. progress-next p clock c.loop-done.done _ _ _ (c.loop-done.invariant.so_far p clock code) (c.in-Went.ensures.step p clock code);
-  running = c.in-Went.ensures.stays.running;
-  serial = omega (arith, c.in-Went.ensures.stays.next_serial, c.loop-done.invariant.serial);
-  calls = c.in-Went.ensures.stays.clock_calls ∙ c.loop-done.invariant.calls;
-}
+loop-done-preserved g c =
+    let inv = c.loop-done.invariant in
+    let e = c.in-Went.ensures in
+    record {
+      so_far = λ p code rows.
+          progress-next p (g.C.Clock.at c.args.clock.now) c.loop-done.done _ _ _ (inv.so_far p code rows)
+          (e.step p (g.C.Clock.at c.args.clock.now) code (rows ∙ sym inv.rows) inv.clock);
+      running = e.running;
+      rows = e.rows ∙ inv.rows;
+      serial = omega (arith, e.serial, inv.serial);
+      calls = omega (arith, e.calls, inv.calls);
+      clock = e.clock (g.C.Clock.at c.args.clock.now) inv.clock;
+    }
 
 pub returns-in-Ended-clause-turn : goal.returns-in-Ended-clause-turn
-returns-in-Ended-clause-turn c = λ p clock code.
-    let went = c.in-Ended.ensures.step p clock code in
-    turn_of-finished p clock c.loop-done.done c.args.limit c.in-Ended.number _ _ (c.loop-done.invariant.so_far p clock code) went.0 (omega arith)
+returns-in-Ended-clause-turn g c = λ p code rows.
+    let inv = c.loop-done.invariant in
+    let clock = g.C.Clock.at c.args.clock.now in
+    let went = c.in-Ended.ensures.step p clock code (rows ∙ sym inv.rows) inv.clock in
+    turn_of-finished p clock c.loop-done.done c.args.limit c.in-Ended.number _ _ (inv.so_far p code rows) went.0 (omega arith)
     ∙ ap (left (Exit c.in-Ended.number (c.loop-done.done + 1))) (sym went.1)
 
 pub returns-in-Stopped-clause-turn : goal.returns-in-Stopped-clause-turn
-returns-in-Stopped-clause-turn c = λ p clock code.
-    let went = c.in-Stopped.ensures.step p clock code in
-    turn_of-trapped p clock c.loop-done.done c.args.limit c.in-Stopped.reason _ _ (c.loop-done.invariant.so_far p clock code) went.0 (omega arith)
+returns-in-Stopped-clause-turn g c = λ p code rows.
+    let inv = c.loop-done.invariant in
+    let clock = g.C.Clock.at c.args.clock.now in
+    let went = c.in-Stopped.ensures.step p clock code (rows ∙ sym inv.rows) inv.clock in
+    turn_of-trapped p clock c.loop-done.done c.args.limit c.in-Stopped.reason _ _ (inv.so_far p code rows) went.0 (omega arith)
     ∙ ap (left (Trap c.in-Stopped.reason c.loop-done.done)) (sym went.1)
+
+pub returns-in-Ended-clause-clock : goal.returns-in-Ended-clause-clock
+returns-in-Ended-clause-clock g c = c.in-Ended.ensures.clock (g.C.Clock.at c.args.clock.now) c.loop-done.invariant.clock
+
+pub returns-in-Stopped-clause-clock : goal.returns-in-Stopped-clause-clock
+returns-in-Stopped-clause-clock g c = c.in-Stopped.ensures.clock (g.C.Clock.at c.args.clock.now) c.loop-done.invariant.clock

@@ -1,0 +1,8 @@
+use Rattle.std.proofs.Common.{◌≡◌, ◌<◌, ℕ, length, map}
+use Rattle.std.specs.Prelude.{slice_index, slice_index_or}
+use Rattle.isa_model.specs.Machine.Memory.{byte_in}
+use Rattle.checked_vm.proofs.cells.put_bytes.Given as goal
+
+abbrev pub invariant-loop-k : goal.invariant-loop-k
+invariant-loop-k l =
+    (length l.bytes ≡ length l.cells) × ((j : ℕ) → j < l.k → slice_index_or l.bytes j 0 ≡ slice_index (map byte_in l.cells) j)

@@ -1,0 +1,36 @@
+use Rattle.std.proofs.Common.{◌≡◌, ◌≤◌, length, take, Ok, sym, ap, ◌∙◌, FitsSigned, w64, rules, arith}
+use Rattle.std.proofs.lemmas.Int.{to_z-of_z}
+use Rattle.std.proofs.lemmas.List.{length-take-le}
+use Rattle.isa_model.specs.Machine.States.{State}
+use Rattle.isa_model.specs.Machine.Steps.{Next}
+use Rattle.isa_model.specs.Machine.MapContents.{at_key}
+use Rattle.isa_model.specs.Machine.MapHelpers.{pointer_or_zero}
+use Rattle.live_maps.specs.Live.{content_at}
+use Rattle.maps.specs.Maps.{KeyFits-most}
+use Rattle.checked_vm.specs.Machine.{state_of, helped_on}
+use Rattle.checked_vm.proofs.Helpers.{looks_up, found_key, no_key}
+use Rattle.checked_vm.proofs.core_state.Core.do_lookup.Goals.{in-Some, in-None}
+use Rattle.checked_vm.proofs.core_state.Core.do_lookup.Goals as goal
+
+pub returns-clause-done : goal.returns-clause-done
+returns-clause-done c = λ p rows.
+    let core = c.args.self.now in
+    let packet = c.args.packet.now in
+    let s : State = state_of core packet in
+    let index = c.in_ok-index.index in
+    let row = c.in_ok-index.row in
+    let key = c.read_argument.new.bytes in
+    let short : row.key_size ≤ 64 = KeyFits-most row.kind row.key_size c.in_ok-index.ensures.fits.key in
+    let fits : FitsSigned w64 c.in_ok-region.offset = search rules in
+    let size : length (take c.from.result c.key_room-key.result) ≡ row.key_size =
+    length-take-le c.from.result c.key_room-key.result (omega (arith, short, c.from.ensures, c.key_room-key.ensures)) ∙ c.from.ensures in
+    let map_is = c.in_ok-index.ensures.argument p rows in
+    let read = simp to_z-of_z at c.in_ok-read_argument.ensures.read in
+    let answer_is : pointer_or_zero index (at_key key (content_at core.maps index)) ≡ c.match-lookup.answer = elim c.match-lookup.branch [
+      | in-Some w ↦ found_key index (at_key key (content_at core.maps index)) _ (sym w.in-Some.is ∙ c.lookup.ensures) ∙ sym w.answer-is
+      | in-None w ↦ no_key index (at_key key (content_at core.maps index)) (sym w.in-None.is ∙ c.lookup.ensures) ∙ sym w.answer-is
+    ] in
+    ap (helped_on s) (looks_up p s (record { index = index; row = row }) (record { region = c.in_ok-region.region; offset = c.in_ok-region.offset }) _ key
+    (rw c.value.ensures at map_is) (rw c.value-2.ensures at c.in_ok-region.ensures) size read
+    ∙ ap (λ v. Ok (record { answer = v; state = s })) answer_is)
+    ∙ ap Next (sym (c.answer.ensures.state packet))

@@ -1,0 +1,40 @@
+use Rattle.std.proofs.Common.{◌≡◌, ◌≤◌, length, take, Ok, sym, ap, ◌∙◌, FitsSigned, w64, rules, arith}
+use Rattle.std.proofs.lemmas.Int.{to_z-of_z}
+use Rattle.std.proofs.lemmas.List.{length-take-le}
+use Rattle.isa_model.specs.Machine.States.{State}
+use Rattle.isa_model.specs.Machine.Steps.{Next}
+use Rattle.isa_model.specs.Machine.MapContents.{update_answer}
+use Rattle.live_maps.specs.Live.{content_at}
+use Rattle.maps.specs.Maps.{KeyFits-most}
+use Rattle.checked_vm.specs.Machine.{state_of, helped_on}
+use Rattle.checked_vm.proofs.Helpers.{updates, updated}
+use Rattle.checked_vm.proofs.core_state.Core.do_update.Goals as goal
+
+pub returns-clause-done : goal.returns-clause-done
+returns-clause-done c = λ p rows.
+    let core = c.args.self.now in
+    let packet = c.args.packet.now in
+    let s : State = state_of core packet in
+    let index = c.in_ok-index.index in
+    let row = c.in_ok-index.row in
+    let key = c.read_argument.new.bytes in
+    let bytes = c.read_argument-2.new.bytes in
+    let flags = c.in_ok-flags.flags in
+    let short : row.key_size ≤ 64 = KeyFits-most row.kind row.key_size c.in_ok-index.ensures.fits.key in
+    let short_value : row.value_size ≤ 4096 = c.in_ok-index.ensures.fits.short_value in
+    let fits : FitsSigned w64 c.in_ok-region.offset = search rules in
+    let value_fits : FitsSigned w64 c.in_ok-value_region.value_offset = search rules in
+    let size : length (take c.from.result c.key_room-key.result) ≡ row.key_size =
+    length-take-le c.from.result c.key_room-key.result (omega (arith, short, c.from.ensures, c.key_room-key.ensures)) ∙ c.from.ensures in
+    let value_size : length (take row.value_size c.value_room-value.result) ≡ row.value_size =
+    length-take-le row.value_size c.value_room-value.result (omega (arith, short_value, c.value_room-value.ensures)) in
+    let map_is = c.in_ok-index.ensures.argument p rows in
+    let read = simp to_z-of_z at c.in_ok-read_argument.ensures.read in
+    let read_value = simp to_z-of_z at c.in_ok-read_argument-2.ensures.read in
+    let answer_is : c.update-answer.result ≡ update_answer row (content_at core.maps index) key flags = rw c.in_ok-index.ensures.row at c.update-answer.ensures.answer in
+    ap (helped_on s) (updates p s (record { index = index; row = row }) (record { region = c.in_ok-region.region; offset = c.in_ok-region.offset })
+    (record { region = c.in_ok-value_region.value_region; offset = c.in_ok-value_region.value_offset }) flags _ _ key bytes
+    (rw c.value.ensures at map_is) (rw c.value-2.ensures at c.in_ok-region.ensures) (rw c.value-3.ensures at c.in_ok-value_region.ensures)
+    (sym (rw c.value-4.ensures at c.in_ok-flags.ensures)) size read value_size read_value
+    ∙ ap Ok (updated core packet row index key bytes flags c.update-answer.result c.update-answer.new.self answer_is c.update-answer.ensures.updated))
+    ∙ ap Next (sym (c.answer.ensures.state packet))
