@@ -8,10 +8,10 @@ use Rattle.isa_model.specs.Machine.States.{Entries}
 use Rattle.isa_model.specs.Reporting.Streams.{max_body}
 use Rattle.isa_model.specs.Running.Runs.{Turn, turn}
 use Rattle.isa_model.specs.Running.RunLaws.{turn-outcome}
-use Rattle.isa_model.specs.Machine.MachineStates.{AreBytes, IsClock, IsGiven}
+use Rattle.isa_model.specs.Machine.MachineStates.{AreBytes, FitRows, IsClock, IsGiven}
 use Rattle.isa_model.specs.Running.Outcomes.{ExitsWithin, ExitsWithin-StartsEnd, FitRows-HasOutcome}
-use Rattle.isa_model.specs.Reporting.Reports.{turn_by, starting_contents}
-use Rattle.image.specs.Programs.{IsProgram-IsImage, FitRows-starting_contents}
+use Rattle.isa_model.specs.Reporting.Reports.{turn_by}
+use Rattle.image.specs.Programs.{IsProgram-IsImage}
 use Rattle.explorer.specs.Bounds.{Bounded, IsVerified}
 use Rattle.machine.specs.Running.{Running, IsRunning, Answers}
 
@@ -66,12 +66,13 @@ answers r head packet clock a n after left coming g ends packet_left contents_le
       clock_is = λ k. asked k ∙ ap (λ (t : Turn). clock (t.clock_calls + k)) g.same;
     }
 
--- the machine of an accepted program
-pub starts_running : (a : Bounded) → IsVerified a → IsRunning (record { program = a.program; bound = a.bound; contents = starting_contents a.program.maps })
-starts_running a h = record {
+-- the machine of an accepted program, whose maps fit its rows
+pub starts_running : (a : Bounded) (contents : List Entries) → IsVerified a → FitRows a.program.maps contents
+    → IsRunning (record { program = a.program; bound = a.bound; contents = contents })
+starts_running a contents h fits = record {
   is_program = IsProgram-IsImage a.program h.image;
   ends = h.ends;
   some = h.some;
   most = h.most;
-  fits = FitRows-starting_contents a.program h.image;
+  fits = fits;
 }

@@ -6,10 +6,7 @@ use Rattle.isa_model.specs.Machine.States.{Entries}
 use Rattle.isa_model.specs.Running.Runs.{max_steps, Outcome, HasOutcome}
 use Rattle.isa_model.specs.Running.Outcomes.{StartsEnd}
 use Rattle.isa_model.specs.Machine.MachineStates.{FitRows, IsProgram}
-use Rattle.checked_vm.specs.Built.{IsBuilt}
 use Rattle.machine.specs.declared.machines.Exit.{Exit}
-use Rattle.machine.specs.declared.errors.VmError.{VmError}
-use Rattle.machine.specs.declared.errors.VmError.TheVariants.{Memory, NotBuilt}
 
 -- its program with the bound of its runs, and the maps' contents between runs
 pub record Running : Type 0 where
@@ -37,8 +34,3 @@ pub record Answers (r : Running) (head : FrameHead) (packet : List ℕ) (clock :
   pub packet_is : after ≡ outcome.packet
   pub contents_are : left ≡ outcome.contents
   pub clock_is : (k : ℕ) → coming k ≡ clock (outcome.clock_calls + k)
-
--- why no machine was made of a program: memory ran out only for one that can be run
-abbrev pub IsRefusal : Program → VmError → Type 0
-IsRefusal p Memory = IsBuilt p
-IsRefusal p NotBuilt = ¬ IsBuilt p

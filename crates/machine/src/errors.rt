@@ -11,8 +11,6 @@ use std::fmt;
 pub enum VmError {
     /// Out of memory.
     Memory,
-    /// The program has maps or calls helpers, which the machine does not have yet.
-    NotBuilt,
 }
 
 impl VmError {
@@ -22,7 +20,6 @@ impl VmError {
     {
         match self {
             VmError::Memory => "out of memory",
-            VmError::NotBuilt => "programs with maps or helpers are not run yet",
         }
     }
 }

@@ -1,16 +1,16 @@
 //! Machines, and their runs.
 
-ghost use Rattle.std.specs.Prelude.{◌≡◌, ◌<◌, ◌≤◌, ◌^◌, length, IfOk, IfErr};
+ghost use Rattle.std.specs.Prelude.{◌≡◌, ◌<◌, ◌≤◌, ◌^◌, length, IfOk};
 ghost use Rattle.isa_model.specs.Reporting.Streams.{max_body};
 ghost use Rattle.isa_model.specs.Machine.MachineStates.{AreBytes};
-ghost use Rattle.isa_model.specs.Reporting.Reports.{starting_contents};
-ghost use Rattle.checked_vm.specs.Built.{IsBuilt};
-ghost use Rattle.machine.specs.Running.{Answers, IsRunning, IsRefusal};
+ghost use Rattle.maps.specs.Maps.{rows_of, contents_of};
+ghost use Rattle.machine.specs.Running.{Answers, IsRunning};
 
 use super::errors::VmError;
 use checked_vm::{Checked, VmError as CheckedError};
 use explorer::Verified;
 use isa_model::{Clock, End, FrameHead};
+use maps::Maps;
 use std::alloc::Global;
 use std::marker::Model;
 
@@ -61,23 +61,32 @@ fn in_range(head: FrameHead, packet: &[u8])
 }
 
 impl Machine {
-    /// Makes all room that runs fill.
-    pub fn new(alloc: Global, verified: Verified) -> Result<Self, VmError>
+    /// Takes the program's maps, and makes all room that runs fill.
+    pub fn new(alloc: Global, verified: Verified, maps: Maps) -> Result<Self, VmError>
+        requires rows { rows_of maps ≡ verified.program.maps }
         ensures made { IfOk result (λ machine. machine ≡ record {
           program = verified.program;
           bound = verified.bound;
-          contents = starting_contents verified.program.maps;
+          contents = contents_of maps;
         }) }
-        ensures built { IfOk result (λ _. IsBuilt verified.program) }
-        ensures refused { IfErr result (IsRefusal verified.program) }
     {
+        // only for the proof: this call says that the contents fit the rows
+        let _count = maps.count();
         let bound = verified.bound();
         let image = verified.into_image();
-        match Checked::new(alloc, image) {
+        match Checked::with_maps(alloc, image, maps) {
             Ok(checked) => Ok(Machine { checked, bound }),
             Err(CheckedError::Memory) => Err(VmError::Memory),
-            Err(CheckedError::NotBuilt) => Err(VmError::NotBuilt),
         }
+    }
+
+    /// Gives the maps back.
+    pub fn into_maps(self) -> Maps
+        ensures rows { rows_of result ≡ self.program.maps }
+        ensures contents { contents_of result ≡ self.contents }
+    {
+        let Machine { checked, bound: _ } = self;
+        checked.into_maps()
     }
 
     /// The most steps of a run.
