@@ -54,12 +54,13 @@ ReportsRun-Reports a source old new result h r =
       tells = r.tells;
     }
 
--- the same of the machine that was made of the program, with its bound as the limit
-pub ReportsRun-machine : (a : Bounded) (source : Option (List ℕ)) (old new : Outputs) (result : Result Tally HostError) (limit : ℕ) (m : Running) → IsVerified a
-    → limit ≡ a.bound → m ≡ record { program = a.program; bound = a.bound; contents = starting_contents a.program.maps }
+-- the same of the machine that was made of the program and its maps as they start, with its bound as the limit
+pub ReportsRun-machine : (a : Bounded) (source : Option (List ℕ)) (old new : Outputs) (result : Result Tally HostError) (limit : ℕ) (contents : List Entries) (m : Running) → IsVerified a
+    → limit ≡ a.bound → contents ≡ starting_contents a.program.maps → m ≡ record { program = a.program; bound = a.bound; contents = contents }
     → Reports source (λ found. report_of limit m.program.maps (checked_rule m.program m.bound) m.contents found) old new result
     → ReportsRun a source old new result
-ReportsRun-machine a source old new result limit m h bound made r =
+ReportsRun-machine a source old new result limit contents m h bound start made r =
     let bounded = subst (λ n. Reports source (λ found. report_of n m.program.maps (checked_rule m.program m.bound) m.contents found) old new result) bound r in
+    let by_program = subst (λ (q : Running). Reports source (λ found. report_of a.bound q.program.maps (checked_rule q.program q.bound) q.contents found) old new result) made bounded in
     ReportsRun-Reports a source old new result h
-    (subst (λ (q : Running). Reports source (λ found. report_of a.bound q.program.maps (checked_rule q.program q.bound) q.contents found) old new result) made bounded)
+    (subst (λ (c : List Entries). Reports source (λ found. report_of a.bound a.program.maps (checked_rule a.program a.bound) c found) old new result) start by_program)

@@ -1,5 +1,5 @@
 -- One turn more, and the ends of a run over a stream.
-use Rattle.std.proofs.Common.{◌≡◌, ℕ, suc, ◌+◌, List, [], ◌∷◌, ◌++◌, length, Option, Result, Ok, Err, OnOk, OnErr, IfOk, IfErr, refl, sym, ap, ◌∙◌, subst, append_assoc, append-nil, length-append, add-zero, zero-add, arith}
+use Rattle.std.proofs.Common.{◌≡◌, ℕ, suc, ◌+◌, List, [], ◌∷◌, ◌++◌, length, Option, Result, Ok, Err, IfOk, refl, sym, ap, ◌∙◌, subst, append_assoc, append-nil, length-append, add-zero, zero-add, arith}
 use Rattle.std.specs.Io.KnownBytes.{Appends}
 use Rattle.exact_io.specs.Transfers.{AppendsBeginning}
 use Rattle.isa_model.specs.declared.map_defs.MapDef.{MapDef}
@@ -15,7 +15,7 @@ use Rattle.host.specs.declared.tallies.Tally.{Tally}
 use Rattle.host.specs.Tallies.{tally_of}
 use Rattle.host.specs.Writing.{Outputs, Wrote, WroteBefore, Writes}
 use Rattle.host.specs.Reported.{Reports}
-use Rattle.host.proofs.Pieces.{Wrote-append, WroteBefore-append, WroteBefore-more, wrote_report, wrote_frames, report_failed, frames_failed}
+use Rattle.host.proofs.Pieces.{Wrote-append, WroteBefore-append, WroteBefore-more, wrote_frames, frames_failed}
 use Rattle.host.proofs.SoFar.{SoFar}
 
 -- ---- frames in a row
@@ -117,33 +117,29 @@ turn_failed frames old known new p number limit rows rule start contents before 
       tells = tt;
     }
 
--- the last line was written, or failed
-last_written : (front : List Piece) (before : Outputs) (r s g : Option (List ℕ)) (number count : ℕ) (stop : Finish) (result : Result Tally HostError) → number ≡ count
-    → Wrote before (record { report = r; frames = g }) front
-    → OnOk result (Appends r s (last_line number stop)) → OnErr result (AppendsBeginning r s (last_line number stop)) → IfErr result (λ e. e ≡ failure.Report)
-    → Writes before (record { report = s; frames = g }) result (front ++ ToReport (last_line count stop) ∷ [])
-last_written front before r s g number count stop (Ok tally) n w ok err kind =
-    rw (← n) (Wrote-append before _ _ front _ w (wrote_report r s g (last_line number stop) ok))
-last_written front before r s g number count stop (Err e) n w ok err kind =
-    rw (← n, kind) (WroteBefore-append before _ _ front _ failure.Report w (report_failed r s g (last_line number stop) [] err))
+-- pieces after pieces, of which one of the later may have failed
+Writes-append : (a b c : Outputs) (front more : List Piece) (result : Result Tally HostError) → Wrote a b front → Writes b c result more → Writes a c result (front ++ more)
+Writes-append a b c front more (Ok tally) v w = Wrote-append a b c front more v w
+Writes-append a b c front more (Err e) v w = WroteBefore-append a b c front more e v w
 
--- the stream stopped, and the last line was written, or failed
+-- the stream stopped, and the lines of maps and the last line were written, or one of them failed
 pub run_ended : (frames : List Frame) (old known new : Option (List ℕ)) (p : Position) (number limit : ℕ) (rows : List MapDef) (rule : Rule) (start contents : List Entries) (before : Outputs) (r s g : Option (List ℕ)) (stop : Finish) (result : Result Tally HostError)
-    → rows ≡ [] → SoFar frames old known p number limit rule start contents before (record { report = r; frames = g }) → Reads p known new (Stopped stop) → CanStop p stop
-    → OnOk result (Appends r s (last_line number stop)) → OnErr result (AppendsBeginning r s (last_line number stop)) → IfErr result (λ e. e ≡ failure.Report)
+    → SoFar frames old known p number limit rule start contents before (record { report = r; frames = g }) → Reads p known new (Stopped stop) → CanStop p stop
+    → Writes (record { report = r; frames = g }) (record { report = s; frames = g }) result (maps_pieces 0 rows contents ++ ToReport (last_line number stop) ∷ [])
     → IfOk result (λ tally. tally ≡ tally_of number stop)
     → Reports old (λ found. report_of limit rows rule start found) before (record { report = s; frames = g }) result
-run_ended frames old known new p number limit rows rule start contents before r s g stop result none so h can ok err kind tally =
-    let count = count_of frames old known p number limit rule start contents before (record { report = r; frames = g }) so in
-    let no_lines : [] ≡ maps_pieces 0 rows (contents_after rule start frames) = ap (λ (x : List MapDef). maps_pieces 0 x (contents_after rule start frames)) (sym none) in
+run_ended frames old known new p number limit rows rule start contents before r s g stop result so h can written tally =
+    let now : Outputs = record { report = r; frames = g } in
+    let after : Outputs = record { report = s; frames = g } in
+    let count = count_of frames old known p number limit rule start contents before now so in
     let front = ToFrames magic ∷ turns_pieces limit rule 0 start frames in
-    let last = ToReport (last_line (length frames) stop) ∷ [] in
+    let whole = Writes-append before now after front (maps_pieces 0 rows contents ++ ToReport (last_line number stop) ∷ []) result so.wrote written in
+    let counted = subst (λ (n : ℕ). Writes before after result (front ++ (maps_pieces 0 rows contents ++ ToReport (last_line n stop) ∷ []))) count whole in
     record {
       frames = frames;
       finish = stop;
       are_open = so.found.are_open;
       read = HasFound-stops frames old known new p stop so.found h can;
-      writes = subst (λ (l : List Piece). Writes before (record { report = s; frames = g }) result (front ++ (l ++ last))) no_lines
-          (last_written front before r s g number (length frames) stop result count so.wrote ok err kind);
+      writes = subst (λ (c : List Entries). Writes before after result (front ++ (maps_pieces 0 rows c ++ ToReport (last_line (length frames) stop) ∷ []))) so.carried counted;
       tells = subst (λ (n : ℕ). IfOk result (λ t. t ≡ tally_of n stop)) count tally;
     }

@@ -1,5 +1,6 @@
 pub mod Messages
 pub mod Tallies
 pub mod Writing
+pub mod Listed
 pub mod Reported
 pub mod Accepted

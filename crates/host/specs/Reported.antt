@@ -1,20 +1,13 @@
 -- What a run writes of the stream that it reads.
-use Rattle.std.specs.Prelude.{◌≡◌, ℕ, List, length, Option, Result, Err, IfOk}
+use Rattle.std.specs.Prelude.{◌≡◌, ℕ, List, length, Option, Result, IfOk}
 use Rattle.isa_model.specs.declared.streams.Finish.{Finish}
 use Rattle.isa_model.specs.Reporting.Streams.{Frame, Fresh, AreOpen}
 use Rattle.isa_model.specs.Reporting.Reports.{Piece}
 use Rattle.frames.specs.Inputs.{AreReadFrom}
 use Rattle.host.specs.declared.errors.HostError.{HostError}
-use Rattle.host.specs.declared.errors.HostError.TheVariants.{Memory, NotBuilt}
 use Rattle.host.specs.declared.tallies.Tally.{Tally}
 use Rattle.host.specs.Tallies.{tally_of}
 use Rattle.host.specs.Writing.{Outputs, Writes}
-
--- no machine was made
-abbrev pub HasNoMachine : {X : Type 0} → Result X HostError → Type 0
-HasNoMachine (Err Memory) = Unit {0}
-HasNoMachine (Err NotBuilt) = Unit {0}
-HasNoMachine result = ⊥
 
 -- Frames, and then an end or a fault, were read from the source: those that its bytes spell, where they are known.
 -- The heads and the lengths of the bodies fit, and the bodies are bytes. The pieces of these frames were written, and

@@ -2,17 +2,17 @@
 ghost use Rattle.std.specs.Prelude.{◌≡◌, ◌≢◌, ◌≤◌};
 ghost use Rattle.isa_model.specs.Running.Runs.{max_steps};
 ghost use Rattle.isa_model.specs.Reporting.Reports.{checked_report};
-ghost use Rattle.checked_vm.specs.Built.{IsBuilt};
-ghost use Rattle.host.specs.Reported.{Reports, HasNoMachine};
+ghost use Rattle.host.specs.Reported.{Reports};
 
 use super::clocks::FrameClock;
 use super::engine::run_frames;
 use super::errors::HostError;
 use super::runners::Runner;
 use super::tallies::Tally;
-use checked_vm::{Checked, VmError};
+use checked_vm::Checked;
 use image::Image;
 use isa_model::{End, FrameHead};
+use maps::Maps;
 use std::alloc::Global;
 use std::io::{Read, Write};
 
@@ -38,6 +38,11 @@ impl Runner for CheckedRunner {
         let mut clock = FrameClock { time: head.time };
         self.machine.run(head, body, &mut clock, self.limit)
     }
+
+    fn into_maps(self) -> Maps {
+        let CheckedRunner { machine, limit: _ } = self;
+        machine.into_maps()
+    }
 }
 
 /// Runs an image's program, with every access tested, on the frames of the stream that a source
@@ -57,24 +62,17 @@ pub fn run_checked<R: Read + Drop, W1: Write, W2: Write>(
 ) -> Result<Tally, HostError>
     requires some { 1 ≤ limit }
     requires most { limit ≤ max_steps }
-    // A program is run exactly if it has neither maps nor helpers, running out of memory aside.
-    ensures built { result ≢ Err HostError.NotBuilt → IsBuilt image }
-    ensures not_built { result ≡ Err HostError.NotBuilt → ¬ IsBuilt image }
-
-    // Where no machine was made no byte was written, and otherwise the report was.
-    ensures report_untouched { HasNoMachine result
+    ensures report_untouched { result ≡ Err HostError.Memory
         → W1.contents report.new ≡ W1.contents report.old }
-    ensures out_untouched { HasNoMachine result → W2.contents out.new ≡ W2.contents out.old }
-    ensures reports { ¬ HasNoMachine result
+    ensures out_untouched { result ≡ Err HostError.Memory
+        → W2.contents out.new ≡ W2.contents out.old }
+    ensures reports { result ≢ Err HostError.Memory
         → Reports (R.remaining source) (checked_report image limit)
         record { report = W1.contents report.old; frames = W2.contents out.old }
         record { report = W1.contents report.new; frames = W2.contents out.new } result }
 {
-    let machine = match Checked::new(alloc, image) {
-        Ok(machine) => machine,
-        Err(VmError::Memory) => return Err(HostError::Memory),
-        Err(VmError::NotBuilt) => return Err(HostError::NotBuilt),
+    let Ok(machine) = Checked::new(alloc, image) else {
+        return Err(HostError::Memory);
     };
-    let mut runner = CheckedRunner { machine, limit };
-    run_frames(&mut runner, limit, source, report, out)
+    run_frames(CheckedRunner { machine, limit }, limit, source, report, out)
 }

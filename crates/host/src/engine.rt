@@ -1,15 +1,15 @@
 //! The run over all frames of a stream, written once for every machine. It takes no memory.
-ghost use Rattle.std.specs.Prelude.{◌≡◌, ◌≤◌, [], length, OnOk, OnErr, IfOk, IfErr};
-ghost use Rattle.std.specs.Io.KnownBytes.{Appends};
-ghost use Rattle.exact_io.specs.Transfers.{AppendsBeginning};
+ghost use Rattle.std.specs.Prelude.{◌≡◌, ◌≢◌, ◌≤◌, [], ◌∷◌, ◌++◌, length, IfOk};
 ghost use Rattle.isa_model.specs.{max_body};
-ghost use Rattle.isa_model.specs.Reporting.Reports.{frame_pieces, last_line, is_sent, report_of};
+ghost use Rattle.isa_model.specs.Reporting.Reports.{ToReport, frame_pieces, maps_pieces, last_line};
+ghost use Rattle.isa_model.specs.Reporting.Reports.{is_sent, report_of};
 ghost use Rattle.host.specs.Tallies.{tally_of};
-ghost use Rattle.host.specs.Writing.{Writes};
-ghost use Rattle.host.specs.Reported.{Reports, HasNoMachine};
+ghost use Rattle.host.specs.Writing.{Writes, WritesReport};
+ghost use Rattle.host.specs.Reported.{Reports};
 
 use super::errors::HostError;
 use super::lines::{line_of_finish, line_of_frame};
+use super::listings::write_maps;
 use super::runners::Runner;
 use super::tallies::Tally;
 use exact_io::write_bytes;
@@ -47,7 +47,7 @@ fn run_frame<M: Runner, W1: Write, W2: Write>(
         ≡ (M.rule machine.old head body.old (M.contents machine.old)).contents }
     ensures rule { M.rule machine.new ≡ M.rule machine.old }
     ensures rows { M.rows machine.new ≡ M.rows machine.old }
-    ensures made { ¬ HasNoMachine result }
+    ensures made { result ≢ Err HostError.Memory }
 {
     let size = body.len();
     let end = machine.run(head, body);
@@ -65,16 +65,24 @@ fn run_frame<M: Runner, W1: Write, W2: Write>(
     Ok(())
 }
 
-// Writes the last line.
-fn end_run<W1: Write>(number: u32, finish: Finish, report: &mut W1) -> Result<Tally, HostError>
-    ensures ok { OnOk result (Appends (W1.contents report.old) (W1.contents report.new)
-        (last_line number finish)) }
+// Writes the lines of maps, and then the last line.
+fn end_run<M: Runner + Drop, W1: Write>(
+    machine: M,
+    number: u32,
+    finish: Finish,
+    report: &mut W1,
+) -> Result<Tally, HostError>
+    ensures writes { WritesReport (W1.contents report.old) (W1.contents report.new) result
+        (maps_pieces 0 (M.rows machine) (M.contents machine)
+        ++ ToReport (last_line number finish) ∷ []) }
     ensures tally { IfOk result (λ tally. tally ≡ tally_of number finish) }
-    ensures err { OnErr result (AppendsBeginning (W1.contents report.old) (W1.contents report.new)
-        (last_line number finish)) }
-    ensures kind { IfErr result (λ error. error ≡ HostError.Report) }
-    ensures made { ¬ HasNoMachine result }
+    ensures made { result ≢ Err HostError.Memory }
 {
+    let mut maps = machine.into_maps();
+    match write_maps(&mut maps, report) {
+        Ok(()) => {}
+        Err(error) => return Err(error),
+    }
     let line = line_of_finish(number, finish);
     match write_bytes(report, line.as_str().as_bytes()) {
         Ok(()) => Ok(Tally {
@@ -90,22 +98,18 @@ fn end_run<W1: Write>(number: u32, finish: Finish, report: &mut W1) -> Result<Ta
 
 /// Runs the frames of the stream that a source gives. The report goes to one writer, and the frames
 /// that are sent on to the other.
-///
-/// No machine has maps yet, so there are no lines of maps.
-pub fn run_frames<M: Runner, R: Read + Drop, W1: Write, W2: Write>(
-    machine: &mut M,
+pub fn run_frames<M: Runner + Drop, R: Read + Drop, W1: Write, W2: Write>(
+    mut machine: M,
     limit: u32,
     source: R,
     report: &mut W1,
     out: &mut W2,
 ) -> Result<Tally, HostError>
-    requires { M.rows machine.old ≡ [] }
     ensures reports { Reports (R.remaining source)
-        (λ found. report_of limit (M.rows machine.old) (M.rule machine.old)
-        (M.contents machine.old) found)
+        (λ found. report_of limit (M.rows machine) (M.rule machine) (M.contents machine) found)
         record { report = W1.contents report.old; frames = W2.contents out.old }
         record { report = W1.contents report.new; frames = W2.contents out.new } result }
-    ensures made { ¬ HasNoMachine result }
+    ensures made { result ≢ Err HostError.Memory }
 {
     match write_bytes(out, b"XPF1") {
         Ok(()) => {}
@@ -118,14 +122,14 @@ pub fn run_frames<M: Runner, R: Read + Drop, W1: Write, W2: Write>(
         match reader.next(&mut buffer) {
             Next::Frame(head, length) => {
                 let body = &mut buffer[..length];
-                match run_frame(machine, limit, number, head, body, report, out) {
+                match run_frame(&mut machine, limit, number, head, body, report, out) {
                     Ok(()) => number += 1,
                     Err(error) => return Err(error),
                 }
             }
-            Next::End => return end_run(number, Finish::End, report),
+            Next::End => return end_run(machine, number, Finish::End, report),
             Next::Fault(fault, offset) => {
-                return end_run(number, Finish::Fault(fault, offset), report);
+                return end_run(machine, number, Finish::Fault(fault, offset), report);
             }
         }
     }

@@ -11,8 +11,6 @@ use std::fmt;
 pub enum HostError {
     /// Out of memory, before any byte was written.
     Memory,
-    /// The program has maps or calls helpers, which no machine has yet; no byte was written.
-    NotBuilt,
     /// The report's writer answered an error, or took no byte of those that it was given.
     Report,
     /// The same of the writer of the frames out.
@@ -26,7 +24,6 @@ impl HostError {
     {
         match self {
             HostError::Memory => "H1",
-            HostError::NotBuilt => "not built",
             HostError::Report => "H2",
             HostError::Frames => "H3",
         }
@@ -38,7 +35,6 @@ impl HostError {
     {
         match self {
             HostError::Memory => "out of memory",
-            HostError::NotBuilt => "programs with maps or helpers are not run yet",
             HostError::Report => "the report cannot be written",
             HostError::Frames => "the frames out cannot be written",
         }

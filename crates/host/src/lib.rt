@@ -7,8 +7,10 @@
 mod checked;
 mod clocks;
 mod engine;
+mod entries;
 mod errors;
 mod lines;
+mod listings;
 mod runners;
 mod tallies;
 mod verified;

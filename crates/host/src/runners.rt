@@ -3,8 +3,10 @@ ghost use Rattle.std.specs.Prelude.{◌≡◌, ◌≤◌, length, List};
 ghost use Rattle.isa_model.specs.declared.map_defs.MapDef.{MapDef};
 ghost use Rattle.isa_model.specs.{Entries, max_body};
 ghost use Rattle.isa_model.specs.Reporting.Reports.{Rule};
+ghost use Rattle.maps.specs.Maps.{rows_of, contents_of};
 
 use isa_model::{End, FrameHead};
+use maps::Maps;
 
 /// A machine with a program and its maps.
 pub trait Runner {
@@ -26,4 +28,9 @@ pub trait Runner {
             ≡ (rule self.old head body.old (contents self.old)).contents }
         ensures rule { rule self.new ≡ rule self.old }
         ensures rows { rows self.new ≡ rows self.old };
+
+    /// Gives the maps back.
+    fn into_maps(self) -> Maps
+        ensures rows { rows_of result ≡ rows self }
+        ensures contents { contents_of result ≡ contents self };
 }

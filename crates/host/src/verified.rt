@@ -1,7 +1,5 @@
 //! Runs of accepted programs.
 ghost use Rattle.std.specs.Prelude.{◌≡◌, ◌≢◌};
-ghost use Rattle.checked_vm.specs.Built.{IsBuilt};
-ghost use Rattle.host.specs.Reported.{HasNoMachine};
 ghost use Rattle.host.specs.Accepted.{ReportsRun};
 
 use super::clocks::FrameClock;
@@ -11,7 +9,8 @@ use super::runners::Runner;
 use super::tallies::Tally;
 use explorer::Verified;
 use isa_model::{End, FrameHead};
-use machine::{Machine, VmError};
+use machine::Machine;
+use maps::Maps;
 use std::alloc::Global;
 use std::io::{Read, Write};
 
@@ -35,6 +34,11 @@ impl Runner for MachineRunner {
         let exit = self.machine.run(head, body, &mut clock);
         End::Exit(exit.r0, exit.steps)
     }
+
+    fn into_maps(self) -> Maps {
+        let MachineRunner { machine } = self;
+        machine.into_maps()
+    }
 }
 
 /// Runs an accepted program on the frames of the stream that a source gives. The report goes to one
@@ -56,24 +60,20 @@ pub fn run<R: Read + Drop, W1: Write, W2: Write>(
     report: &mut W1,
     out: &mut W2,
 ) -> Result<Tally, HostError>
-    // A program is run exactly if it has neither maps nor helpers, running out of memory aside.
-    ensures built { result ≢ Err HostError.NotBuilt → IsBuilt verified.program }
-    ensures not_built { result ≡ Err HostError.NotBuilt → ¬ IsBuilt verified.program }
-
-    // Where no machine was made no byte was written, and otherwise the report was.
-    ensures report_untouched { HasNoMachine result
+    ensures report_untouched { result ≡ Err HostError.Memory
         → W1.contents report.new ≡ W1.contents report.old }
-    ensures out_untouched { HasNoMachine result → W2.contents out.new ≡ W2.contents out.old }
-    ensures reports { ¬ HasNoMachine result → ReportsRun verified (R.remaining source)
+    ensures out_untouched { result ≡ Err HostError.Memory
+        → W2.contents out.new ≡ W2.contents out.old }
+    ensures reports { result ≢ Err HostError.Memory → ReportsRun verified (R.remaining source)
         record { report = W1.contents report.old; frames = W2.contents out.old }
         record { report = W1.contents report.new; frames = W2.contents out.new } result }
 {
     let bound = verified.bound();
-    let machine = match Machine::new(alloc, verified) {
-        Ok(machine) => machine,
-        Err(VmError::Memory) => return Err(HostError::Memory),
-        Err(VmError::NotBuilt) => return Err(HostError::NotBuilt),
+    let Ok(maps) = Maps::new(alloc, verified.image()) else {
+        return Err(HostError::Memory);
     };
-    let mut runner = MachineRunner { machine };
-    run_frames(&mut runner, bound, source, report, out)
+    let Ok(machine) = Machine::new(alloc, verified, maps) else {
+        return Err(HostError::Memory);
+    };
+    run_frames(MachineRunner { machine }, bound, source, report, out)
 }

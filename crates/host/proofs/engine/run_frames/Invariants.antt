@@ -9,6 +9,7 @@ invariant-turns g l = (frames : List Frame) × SoFar frames (g.R.Read.remaining 
     (record { report = g.W1.Write.contents l.fn.report; frames = g.W2.Write.contents l.fn.out })
     (record { report = g.W1.Write.contents l.report; frames = g.W2.Write.contents l.out })
     × (g.M.Runner.rule l.machine ≡ g.M.Runner.rule l.fn.machine)
+    × (g.M.Runner.rows l.machine ≡ g.M.Runner.rows l.fn.machine)
 
 abbrev pub decreases-turns : goal.decreases-turns
 decreases-turns g l = 4294967295 - l.number

@@ -1,0 +1,14 @@
+use Rattle.std.proofs.Common.{rules}
+use Rattle.host.proofs.Listing.{maps_failed, last_failed, last_written}
+use Rattle.host.proofs.engine.end_run.Goals as goal
+
+pub returns-in-Err-clause-writes : goal.returns-in-Err-clause-writes
+returns-in-Err-clause-writes g c = maps_failed _ _ _ _ _ c.into_maps-maps.ensures.rows c.into_maps-maps.ensures.contents _ _ c.in-Err.ensures.writes
+
+pub returns-clause-writes : goal.returns-clause-writes
+returns-clause-writes g c =
+    last_failed _ _ _ _ _ c.into_maps-maps.ensures.rows c.into_maps-maps.ensures.contents _ _ _ (search rules) c.in-Ok.ensures.writes c.in-Err-write_bytes.ensures.err
+
+pub returns-in-Ok-write_bytes-clause-writes : goal.returns-in-Ok-write_bytes-clause-writes
+returns-in-Ok-write_bytes-clause-writes g c =
+    last_written _ _ _ _ _ c.into_maps-maps.ensures.rows c.into_maps-maps.ensures.contents _ _ _ (search rules) c.in-Ok.ensures.writes c.in-Ok-write_bytes.ensures.ok

@@ -1,0 +1,80 @@
+//! The lines of maps, written entry by entry and map by map. It takes no memory.
+ghost use Rattle.std.specs.Prelude.{◌≡◌, ◌≢◌, ◌≤◌, [], ◌∷◌, length, map, take};
+ghost use Rattle.isa_model.specs.Reporting.Reports.{ToReport, map_line, maps_pieces};
+ghost use Rattle.maps.specs.Listing.{listed_entries};
+ghost use Rattle.maps.specs.Maps.{rows_of, contents_of};
+ghost use Rattle.host.specs.Listed.{AreListed};
+ghost use Rattle.host.specs.Writing.{WritesReport};
+
+use super::entries::{EntryLine, put_entry};
+use super::errors::HostError;
+use exact_io::write_bytes;
+use isa_model::MapDef;
+use maps::{Maps, Ordered};
+use std::io::Write;
+
+// Writes the line of an entry, whose key is the front of this size.
+fn write_entry<W1: Write>(
+    line: &mut EntryLine,
+    index: usize,
+    key: &[u8; 64],
+    size: usize,
+    value: &[u8],
+    report: &mut W1,
+) -> Result<(), HostError>
+    requires size { size ≤ 64 }
+    requires value { length value.now ≤ 4096 }
+    ensures writes { WritesReport (W1.contents report.old) (W1.contents report.new) result
+        (ToReport (map_line index (take size key.now, value.now)) ∷ []) }
+    ensures made { result ≢ Err HostError.Memory }
+{
+    put_entry(line, index, &key[..size], value);
+    match write_bytes(report, line.as_slice()) {
+        Ok(()) => Ok(()),
+        Err(_) => Err(HostError::Report),
+    }
+}
+
+// Writes the lines of a map's entries.
+fn write_entries<W1: Write>(
+    index: usize,
+    row: MapDef,
+    entries: &Ordered<'_>,
+    report: &mut W1,
+) -> Result<(), HostError>
+    requires { AreListed row (listed_entries entries.now) }
+    ensures writes { WritesReport (W1.contents report.old) (W1.contents report.new) result
+        (map (λ e. ToReport (map_line index e)) (listed_entries entries.now)) }
+    ensures made { result ≢ Err HostError.Memory }
+{
+    let size = row.key_size as usize;
+    let mut line = EntryLine::new();
+    let mut key = [0u8; 64];
+    for k in 0..row.entries as usize {
+        match entries.entry(k, &mut key) {
+            Some(value) => match write_entry(&mut line, index, &key, size, value, report) {
+                Ok(()) => {}
+                Err(error) => return Err(error),
+            },
+            None => return Ok(()),
+        }
+    }
+    Ok(())
+}
+
+/// Writes the lines of all maps.
+pub fn write_maps<W1: Write>(maps: &mut Maps, report: &mut W1) -> Result<(), HostError>
+    ensures writes { WritesReport (W1.contents report.old) (W1.contents report.new) result
+        (maps_pieces 0 (rows_of maps.old) (contents_of maps.old)) }
+    ensures made { result ≢ Err HostError.Memory }
+{
+    for i in 0..maps.count() {
+        let row = maps.row(i);
+        let entries = maps.order(i);
+        match write_entries(i, row, &entries, report) {
+            Ok(()) => {}
+            Err(error) => return Err(error),
+        }
+    }
+    Ok(())
+}
