@@ -1,7 +1,7 @@
 -- What a status says of how the program ended.
 use Rattle.std.proofs.Common.{◌≡◌, ◌≤◌, ℕ, List, Option, true, refl, arith}
 use Rattle.serving.specs.declared.outcomes.Outcome.{Outcome}
-use Rattle.serving.specs.declared.outcomes.Outcome.TheVariants.{Done, WrongWords, NotBuilt, NotRun, Refused, Faulted, CannotRead, CannotWrite, CannotReplace, NoMemory}
+use Rattle.serving.specs.declared.outcomes.Outcome.TheVariants.{Done, WrongWords, NotBuilt, Refused, Faulted, CannotRead, CannotWrite, CannotReplace, NoMemory}
 use Rattle.serving.specs.Statuses.{status_of, is_silent, is_unsaid, message_of}
 use Rattle.serving.specs.Saying.{AppendsPart}
 use Rattle.commands.specs.Executing.{IsTold}
@@ -10,7 +10,6 @@ pub silent_words : (o : Outcome) → status_of o ≡ 1 → is_silent o ≡ true
 silent_words Done e = absurd (omega arith)
 silent_words (WrongWords text) e = refl
 silent_words (NotBuilt name) e = refl
-silent_words NotRun e = refl
 silent_words (Refused rejection) e = absurd (omega arith)
 silent_words Faulted e = absurd (omega arith)
 silent_words (CannotRead path kind) e = refl
@@ -22,7 +21,6 @@ pub silent_memory : (o : Outcome) → status_of o ≡ 5 → is_silent o ≡ true
 silent_memory Done e = absurd (omega arith)
 silent_memory (WrongWords text) e = refl
 silent_memory (NotBuilt name) e = refl
-silent_memory NotRun e = refl
 silent_memory (Refused rejection) e = absurd (omega arith)
 silent_memory Faulted e = absurd (omega arith)
 silent_memory (CannotRead path kind) e = refl
@@ -34,7 +32,6 @@ pub status_fits : (o : Outcome) → status_of o ≤ 5
 status_fits Done = omega arith
 status_fits (WrongWords text) = omega arith
 status_fits (NotBuilt name) = omega arith
-status_fits NotRun = omega arith
 status_fits (Refused rejection) = omega arith
 status_fits Faulted = omega arith
 status_fits (CannotRead path kind) = omega arith
@@ -46,7 +43,6 @@ pub unsaid_done : (o : Outcome) → status_of o ≡ 0 → is_unsaid o ≡ true
 unsaid_done Done e = refl
 unsaid_done (WrongWords text) e = absurd (omega arith)
 unsaid_done (NotBuilt name) e = absurd (omega arith)
-unsaid_done NotRun e = absurd (omega arith)
 unsaid_done (Refused rejection) e = absurd (omega arith)
 unsaid_done Faulted e = refl
 unsaid_done (CannotRead path kind) e = absurd (omega arith)
@@ -58,7 +54,6 @@ pub told_refused : (o : Outcome) (old new : Option (List ℕ)) → status_of o �
 told_refused Done old new e h = absurd (omega arith)
 told_refused (WrongWords text) old new e h = absurd (omega arith)
 told_refused (NotBuilt name) old new e h = absurd (omega arith)
-told_refused NotRun old new e h = absurd (omega arith)
 told_refused (Refused rejection) old new e h = (rejection, h)
 told_refused Faulted old new e h = absurd (omega arith)
 told_refused (CannotRead path kind) old new e h = absurd (omega arith)
@@ -70,7 +65,6 @@ pub unsaid_faulted : (o : Outcome) → status_of o ≡ 3 → is_unsaid o ≡ tru
 unsaid_faulted Done e = refl
 unsaid_faulted (WrongWords text) e = absurd (omega arith)
 unsaid_faulted (NotBuilt name) e = absurd (omega arith)
-unsaid_faulted NotRun e = absurd (omega arith)
 unsaid_faulted (Refused rejection) e = absurd (omega arith)
 unsaid_faulted Faulted e = refl
 unsaid_faulted (CannotRead path kind) e = absurd (omega arith)

@@ -6,7 +6,7 @@ use Rattle.tasks.specs.declared.WordsError.TheVariants.{Wrong, Memory}
 use Rattle.tasks.specs.Requests.{Request}
 use Rattle.words.specs.Asked.{Reads, asked}
 use Rattle.serving.specs.declared.outcomes.Outcome.{Outcome}
-use Rattle.serving.specs.declared.outcomes.Outcome.TheVariants.{Done, WrongWords, NotBuilt, NotRun, Refused, Faulted, CannotRead, CannotWrite, CannotReplace, NoMemory}
+use Rattle.serving.specs.declared.outcomes.Outcome.TheVariants.{Done, WrongWords, NotBuilt, Refused, Faulted, CannotRead, CannotWrite, CannotReplace, NoMemory}
 use Rattle.serving.specs.Statuses.{IsWordsEnd, IsWrong, IsWrongWords}
 use Rattle.serving.specs.Commands.{Serves}
 use Rattle.commands.specs.Executing.{Executes}
@@ -22,7 +22,6 @@ wrong : (text : List ℕ) (o : Outcome) → IsWrong text o → IsWrongWords o
 wrong text (WrongWords said) h = tt
 wrong text Done h = absurd h
 wrong text (NotBuilt name) h = absurd h
-wrong text NotRun h = absurd h
 wrong text (Refused rejection) h = absurd h
 wrong text Faulted h = absurd h
 wrong text (CannotRead path kind) h = absurd h

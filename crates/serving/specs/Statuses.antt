@@ -4,7 +4,7 @@ use Rattle.std.specs.String.{string_bytes}
 use Rattle.tasks.specs.declared.WordsError.{WordsError}
 use Rattle.tasks.specs.declared.WordsError.TheVariants.{Wrong, Memory}
 use Rattle.serving.specs.declared.outcomes.Outcome.{Outcome}
-use Rattle.serving.specs.declared.outcomes.Outcome.TheVariants.{Done, WrongWords, NotBuilt, NotRun, Refused, Faulted, CannotRead, CannotWrite, CannotReplace, NoMemory}
+use Rattle.serving.specs.declared.outcomes.Outcome.TheVariants.{Done, WrongWords, NotBuilt, Refused, Faulted, CannotRead, CannotWrite, CannotReplace, NoMemory}
 use Rattle.serving.specs.Causes.{cause_line, line_after}
 use Rattle.serving.specs.Messages.{reason_of}
 
@@ -13,7 +13,6 @@ abbrev pub status_of : Outcome → ℕ
 status_of Done = 0
 status_of (WrongWords text) = 1
 status_of (NotBuilt name) = 1
-status_of NotRun = 1
 status_of (Refused rejection) = 2
 status_of Faulted = 3
 status_of (CannotRead path kind) = 4
@@ -26,7 +25,6 @@ abbrev pub is_silent : Outcome → Bool
 is_silent Done = false
 is_silent (WrongWords text) = true
 is_silent (NotBuilt name) = true
-is_silent NotRun = true
 is_silent (Refused rejection) = false
 is_silent Faulted = false
 is_silent (CannotRead path kind) = true
@@ -39,7 +37,6 @@ abbrev pub is_unsaid : Outcome → Bool
 is_unsaid Done = true
 is_unsaid (WrongWords text) = false
 is_unsaid (NotBuilt name) = false
-is_unsaid NotRun = false
 is_unsaid (Refused rejection) = false
 is_unsaid Faulted = true
 is_unsaid (CannotRead path kind) = false
@@ -55,7 +52,6 @@ abbrev pub message_of : Outcome → List ℕ
 message_of Done = []
 message_of (WrongWords text) = text.now ++ usage
 message_of (NotBuilt name) = usage ++ (codes "this build has no command " ++ (name.now ++ codes "\n"))
-message_of NotRun = codes "programs with maps or helpers are not run yet\n"
 message_of (Refused rejection) = reason_of rejection
 message_of Faulted = []
 message_of (CannotRead path kind) = codes "cannot read " ++ (path.now ++ cause_line kind)

@@ -3,16 +3,15 @@ use Rattle.std.specs.Prelude.{◌≡◌, ◌≢◌, ℕ, List, Option, Some, Non
 use Rattle.isa_model.specs.declared.streams.Fault.{Fault}
 use Rattle.isa_model.specs.{Program}
 use Rattle.isa_model.specs.Reporting.Reports.{checked_report}
-use Rattle.checked_vm.specs.Built.{IsBuilt}
 use Rattle.explorer.specs.Bounds.{Bounded}
 use Rattle.host.specs.declared.errors.HostError.{HostError}
 use Rattle.host.specs.declared.errors.HostError.TheVariants as failure
 use Rattle.host.specs.declared.tallies.Tally.{Tally}
 use Rattle.host.specs.Writing.{Outputs}
-use Rattle.host.specs.Reported.{Reports, HasNoMachine}
+use Rattle.host.specs.Reported.{Reports}
 use Rattle.host.specs.Accepted.{ReportsRun}
 use Rattle.serving.specs.declared.outcomes.Outcome.{Outcome}
-use Rattle.serving.specs.declared.outcomes.Outcome.TheVariants.{Done, Faulted, NotRun, NoMemory}
+use Rattle.serving.specs.declared.outcomes.Outcome.TheVariants.{Done, Faulted, NoMemory}
 use Rattle.serving.specs.Statuses.{IsOutputFailure, IsWriteFailure}
 
 -- a stream came to its end, or had a fault
@@ -24,30 +23,24 @@ outcome_at (Some fault) = Faulted
 abbrev pub EndsBy : List ℕ → Result Tally HostError → Outcome → Type 0
 EndsBy name (Ok tally) result = result ≡ outcome_at tally.fault
 EndsBy name (Err failure.Memory) result = result ≡ NoMemory
-EndsBy name (Err failure.NotBuilt) result = result ≡ NotRun
 EndsBy name (Err failure.Report) result = IsOutputFailure result
 EndsBy name (Err failure.Frames) result = IsWriteFailure name result
 
--- A run with checks, which a program gets exactly if it has neither maps nor helpers, running out of memory aside:
--- what is written is exactly the checked report of the program and of the frames that were found, which are those that
--- the source's bytes spell, where it tells them.
+-- A run with checks: what is written is exactly the checked report of the program and of the frames that were found,
+-- which are those that the source's bytes spell, where it tells them.
 pub record Traces (p : Program) (limit : ℕ) (source : Option (List ℕ)) (name : List ℕ) (old new : Outputs) (result : Outcome) : Type 0 where
   pub ended : Result Tally HostError
   pub ends : EndsBy name ended result
-  pub built : ended ≢ Err failure.NotBuilt → IsBuilt p
-  pub not_built : ended ≡ Err failure.NotBuilt → ¬ IsBuilt p
-  pub report_untouched : HasNoMachine ended → new.report ≡ old.report
-  pub frames_untouched : HasNoMachine ended → new.frames ≡ old.frames
-  pub reports : ¬ HasNoMachine ended → Reports source (checked_report p limit) old new ended
+  pub report_untouched : ended ≡ Err failure.Memory → new.report ≡ old.report
+  pub frames_untouched : ended ≡ Err failure.Memory → new.frames ≡ old.frames
+  pub reports : ended ≢ Err failure.Memory → Reports source (checked_report p limit) old new ended
 
--- A run of an accepted program, by the same rule: what is written is exactly the report of the program and of the
--- frames that were found, which are those that the source's bytes spell, where it tells them; no run of a frame meets a
--- trap, and each exits within the bound.
+-- A run of an accepted program: what is written is exactly the report of the program and of the frames that were found,
+-- which are those that the source's bytes spell, where it tells them; no run of a frame meets a trap, and each exits
+-- within the bound.
 pub record RunsAccepted (v : Bounded) (source : Option (List ℕ)) (name : List ℕ) (old new : Outputs) (result : Outcome) : Type 0 where
   pub ended : Result Tally HostError
   pub ends : EndsBy name ended result
-  pub built : ended ≢ Err failure.NotBuilt → IsBuilt v.program
-  pub not_built : ended ≡ Err failure.NotBuilt → ¬ IsBuilt v.program
-  pub report_untouched : HasNoMachine ended → new.report ≡ old.report
-  pub frames_untouched : HasNoMachine ended → new.frames ≡ old.frames
-  pub reports : ¬ HasNoMachine ended → ReportsRun v source old new ended
+  pub report_untouched : ended ≡ Err failure.Memory → new.report ≡ old.report
+  pub frames_untouched : ended ≡ Err failure.Memory → new.frames ≡ old.frames
+  pub reports : ended ≢ Err failure.Memory → ReportsRun v source old new ended

@@ -30,8 +30,6 @@ pub enum Outcome<'a> {
     WrongWords(&'a str),
     /// The words ask for a command that this build does not have.
     NotBuilt(&'static str),
-    /// The program has maps or calls helpers, and no machine of this build has them.
-    NotRun,
     /// The image, the text or the program was refused, which standard output says.
     Refused(Rejection),
     /// The report ended in a fault.
@@ -90,7 +88,7 @@ impl<'a> Outcome<'a> {
     {
         match self {
             Outcome::Done => 0,
-            Outcome::WrongWords(_) | Outcome::NotBuilt(_) | Outcome::NotRun => 1,
+            Outcome::WrongWords(_) | Outcome::NotBuilt(_) => 1,
             Outcome::Refused(_) => 2,
             Outcome::Faulted => 3,
             Outcome::CannotRead(_, _) | Outcome::CannotWrite(_, _) | Outcome::CannotReplace(_) => 4,
@@ -117,7 +115,6 @@ impl<'a> Outcome<'a> {
                 write_bytes(err, USAGE.as_bytes())?;
                 write_texts(err, "this build has no command ", name, "\n")
             }
-            Outcome::NotRun => write_bytes(err, b"programs with maps or helpers are not run yet\n"),
             Outcome::CannotRead(path, kind) => {
                 write_texts(err, "cannot read ", path, cause_line(kind))
             }

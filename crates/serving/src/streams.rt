@@ -22,7 +22,6 @@ fn outcome_of<'a>(path: &'a str, ended: Result<Tally, HostError>) -> Outcome<'a>
             Some(_) => Outcome::Faulted,
         },
         Err(HostError::Memory) => Outcome::NoMemory,
-        Err(HostError::NotBuilt) => Outcome::NotRun,
         Err(HostError::Report) => Outcome::CannotWrite(STANDARD_OUTPUT, None),
         Err(HostError::Frames) => Outcome::CannotWrite(path, None),
     }

@@ -37,6 +37,3 @@ returns-in-CannotRead-clause-err g c =
     rw c.in-CannotRead.is
     (err_text _ _ _ _ (codes "cannot read " ++ (c.in-CannotRead.path.now ++ cause_line c.in-CannotRead.kind))
     (ap (λ (l : List ℕ). codes "cannot read " ++ (c.in-CannotRead.path.now ++ l)) c.cause_line.ensures) c.write_texts-in-CannotRead.ensures.err)
-
-pub returns-in-NotRun-clause-err : goal.returns-in-NotRun-clause-err
-returns-in-NotRun-clause-err g c = rw c.in-NotRun.is c.write_bytes-in-NotRun.ensures.err
