@@ -2,6 +2,7 @@
 //! and an output that fails.
 
 mod files;
+mod map_runs;
 mod programs;
 mod texts;
 mod verdicts;
@@ -327,7 +328,6 @@ fn no_images(rt: HostRuntime) -> Result<(), Fail> {
     remove_files(&rt)
 }
 
-/// A program with a map is verified and not yet run, and the outputs get nothing.
 // What the stream of two empty records reports where it is cut after that many bytes.
 fn report_cut_at(count: usize) -> (u8, &'static str) {
     match count {

@@ -3,4 +3,5 @@
 mod accesses;
 mod clocks;
 mod machines;
+mod map_runs;
 mod runs;

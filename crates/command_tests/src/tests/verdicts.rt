@@ -139,16 +139,3 @@ fn verifies_where_paths_join(rt: HostRuntime) -> Result<(), Fail> {
     answers(&rt, RUN, 0, "0 PASS 0 42\nend 1\n", "")?;
     remove_files(&rt)
 }
-
-#[test]
-fn maps_are_not_run_yet(rt: HostRuntime) -> Result<(), Fail> {
-    write_files(&rt)?;
-    write_program(&rt, "other", "map hash 4 8 1; r0 = 2; exit")?;
-    answers(&rt, &["verify", "other"], 0, "ok bound 2\n", "")?;
-    let said = "programs with maps or helpers are not run yet\n";
-    for command in ["run", "trace"] {
-        answers(&rt, &[command, "other", "frames", "sent"], 1, "", said)?;
-        assert_eq!(rt; fs::read(&rt, "sent")?.len(), 0);
-    }
-    remove_files(&rt)
-}

@@ -1,4 +1,4 @@
-//! A clock for runs that ask for no time.
+//! Clocks that stand still.
 
 ghost use Rattle.std.proofs.Common.{lit<};
 
@@ -15,5 +15,19 @@ impl Clock for Stopped {
 
     fn now(&mut self) -> u64 {
         0
+    }
+}
+
+/// A clock that stands still at the last time that there is.
+#[derive(Drop)]
+pub struct Last;
+
+impl Clock for Last {
+    ghost at = { λ _ _. 0xffffffffffffffff };
+
+    ghost within = { λ _ _. lit< tt };
+
+    fn now(&mut self) -> u64 {
+        0xffff_ffff_ffff_ffff
     }
 }

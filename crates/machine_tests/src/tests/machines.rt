@@ -4,7 +4,8 @@ use super::clocks::Stopped;
 use assembler::assemble;
 use explorer::verify;
 use isa_model::FrameHead;
-use machine::{Exit, Machine, VmError};
+use machine::{Exit, Machine};
+use maps::Maps;
 use std::alloc::Global;
 use std::test::Fail;
 
@@ -12,7 +13,10 @@ use std::test::Fail;
 fn machine_of(alloc: Global, text: &str) -> Result<Machine, Fail> {
     let image = assemble(alloc, text.as_bytes())?;
     match verify(alloc, image) {
-        Ok(verified) => Ok(Machine::new(alloc, verified)?),
+        Ok(verified) => {
+            let maps = Maps::new(alloc, verified.image())?;
+            Ok(Machine::new(alloc, verified, maps)?)
+        }
         Err((refusal, _slot)) => Err(Fail::from(refusal)),
     }
 }
@@ -38,21 +42,6 @@ fn runs_differ_by_interface(rt: HostRuntime) -> Result<(), Fail> {
         assert_eq!(rt; machine.run(head, &mut [], &mut Stopped), exit);
     }
     Ok(())
-}
-
-#[test]
-fn maps_are_not_built(rt: HostRuntime) -> Result<(), Fail> {
-    let image = assemble(rt.alloc(), b"map hash 4 8 1; r0 = 2; exit")?;
-    match verify(rt.alloc(), image) {
-        Ok(verified) => {
-            assert_eq!(rt;
-                Machine::new(rt.alloc(), verified).err(),
-                Some(VmError::NotBuilt)
-            );
-            Ok(())
-        }
-        Err((refusal, _slot)) => Err(Fail::from(refusal)),
-    }
 }
 
 /// Programs with functions of their own: the bound, and r0 and the steps of a run.

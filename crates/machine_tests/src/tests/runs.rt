@@ -4,7 +4,7 @@ ghost use Rattle.std.specs.Prelude.{◌≤◌};
 
 use super::clocks::Stopped;
 use assembler::assemble;
-use checked_vm::{Checked, VmError};
+use checked_vm::Checked;
 use isa_model::End::{Exit, Limit, Trap};
 use isa_model::TrapReason::{BadAccess, NoCode, NoResult, ReadOnly, TooManyFrames, UnsetRead};
 use isa_model::{End, FrameHead};
@@ -107,34 +107,6 @@ fn the_longest_program_runs(rt: HostRuntime) -> Result<(), Fail> {
     for (limit, want) in [(4095, Limit), (4096, Exit(4094, 4096))] {
         let end = end_of(rt.alloc(), text.as_str(), &mut [0; 14], limit)?;
         assert_eq!(rt; end, want, "at most {limit} steps");
-    }
-    Ok(())
-}
-
-/// Why no checked machine of a program is made, if none is.
-fn refusal_of(alloc: Global, text: &str) -> Result<Option<VmError>, Fail> {
-    let image = assemble(alloc, text.as_bytes())?;
-    Ok(Checked::new(alloc, image).err())
-}
-
-#[test]
-fn maps_and_helpers_are_not_built(rt: HostRuntime) -> Result<(), Fail> {
-    let rows = [
-        ("r0 = 2; exit", None),
-        ("map hash 4 8 1; r0 = 2; exit", Some(VmError::NotBuilt)),
-        (
-            "map hash 4 8 1; r1 = map_by_idx(0); r0 = 2; exit",
-            Some(VmError::NotBuilt),
-        ),
-        (
-            "map array 4 8 1; r1 = map_val(map_by_idx(0)) + 4; r0 = 2; exit",
-            Some(VmError::NotBuilt),
-        ),
-        ("call 5; exit", Some(VmError::NotBuilt)),
-        ("call 4; exit", Some(VmError::NotBuilt)),
-    ];
-    for (text, want) in rows {
-        assert_eq!(rt; refusal_of(rt.alloc(), text)?, want, "{text}");
     }
     Ok(())
 }

@@ -13,8 +13,15 @@ use stumbling_io::{Reader, STUMBLES, Stumble, Writer};
 // Passes each frame.
 const PASSES: &str = "r0 = 2; exit";
 
-// The same with a map.
-const MAPPED: &str = "map hash 4 8 1; r0 = 2; exit";
+// Counts frames, adds the keys 254 and 16, and traps.
+const COUNTS: &str = "
+    map hash 1 2 3; map array 4 8 1
+    r1 = map_val(map_by_idx(1)) + 0; r2 = 1; lock *(u64 *)(r1 + 0) += r2
+    *(u16 *)(r10 - 4) = 513
+    *(u8 *)(r10 - 1) = 254; r2 = r10; r2 += -1; r3 = r10; r3 += -4; call put
+    *(u8 *)(r10 - 1) = 16; r2 = r10; r2 += -1; r3 = r10; r3 += -4; call put
+    r0 = *(u8 *)(r10 + 0); exit
+    put: r1 = map_by_idx(0); r4 = 0; call 2; exit";
 
 // Turns the two bytes of a frame round, and passes it. It drops longer frames.
 const TURNS: &str = "
@@ -315,21 +322,44 @@ fn verified_programs_run(rt: HostRuntime) -> Result<(), Fail> {
     Ok(())
 }
 
-// No machine has maps yet, and where none is made nothing is written.
+// What two frames leave: a trap takes nothing back, and the second frame finds what the first left.
+const COUNTED: &[u8] = b"0 TRAP access 0 24\n1 TRAP access 0 24\nmap 0 10 0102\nmap 0 fe 0102\n\
+map 1 00000000 0200000000000000\nend 2\n";
+
+// The entries come after the frames, in the order of their keys, and a report that fails among them
+// is a beginning.
 #[test]
-fn maps_are_not_built(rt: HostRuntime) -> Result<(), Fail> {
+fn maps_are_reported(rt: HostRuntime) -> Result<(), Fail> {
     let alloc = rt.alloc();
-    for accepted in [false, true] {
-        let mut report = make_writer(alloc, 0, None);
+    for k in 0..=COUNTED.len() {
+        let mut report = make_writer(alloc, k, Some(Stumble::Nothing));
         let mut out = make_writer(alloc, 0, None);
-        let result = if accepted {
-            verified(alloc, MAPPED, &mut report, &mut out)?
-        } else {
-            checked(alloc, MAPPED, 100, ONE.as_slice(), &mut report, &mut out)?
+        let result = checked(alloc, COUNTS, 100, TWO.as_slice(), &mut report, &mut out)?;
+        let tally = Tally {
+            frames: 2,
+            fault: None,
         };
-        assert_eq!(rt; result, Err(HostError::NotBuilt), "accepted {accepted}");
-        assert!(rt; report.taken.as_slice().is_empty());
-        assert!(rt; out.taken.as_slice().is_empty());
+        let wanted = if k < COUNTED.len() {
+            Err(HostError::Report)
+        } else {
+            Ok(tally)
+        };
+        assert_eq!(rt; result, wanted, "after {k} bytes");
+        assert_eq!(rt; report.taken.as_slice(), &COUNTED[..k]);
+        assert_eq!(rt; out.taken.as_slice(), MAGIC);
     }
+    Ok(())
+}
+
+// A verified program's maps are in its report too.
+#[test]
+fn verified_maps_are_reported(rt: HostRuntime) -> Result<(), Fail> {
+    let mut report = make_writer(rt.alloc(), 0, None);
+    let mut out = make_writer(rt.alloc(), 0, None);
+    let text = "map array 4 1 2; r0 = 1; exit";
+    let result = verified(rt.alloc(), text, &mut report, &mut out)?;
+    assert!(rt; result.is_ok());
+    let lines = b"0 DROP 0 2\n1 DROP 0 2\nmap 0 00000000 00\nmap 0 01000000 00\nend 2\n";
+    assert_eq!(rt; report.taken.as_slice(), lines);
     Ok(())
 }

@@ -1,0 +1,150 @@
+//! Worked examples of maps and helpers in the checked machine.
+
+use super::clocks::{Last, Stopped};
+use super::runs::ends_are;
+use assembler::assemble;
+use checked_vm::Checked;
+use isa_model::End::{Exit, Trap};
+use isa_model::FrameHead;
+use isa_model::TrapReason::{BadAccess, BadHelper, UnsetRead};
+use maps::Maps;
+use std::test::Fail;
+
+const HEAD: FrameHead = FrameHead {
+    time: 0,
+    interface: 0,
+    queue: 0,
+};
+
+const KEY_9: &str = "*(u8 *)(r10 - 1) = 9; *(u8 *)(r10 - 2) = 7";
+
+const UPDATE: &str = "r1 = map_by_idx(0); r2 = r10; r2 += -1; r3 = r10; r3 += -2; r4 = 0; call 2";
+
+const LOOKUP: &str = "r1 = map_by_idx(0); r2 = r10; r2 += -1; call 1; r6 = r0";
+
+const DELETE: &str = "r1 = map_by_idx(0); r2 = r10; r2 += -1; call 3";
+
+#[test]
+fn kinds_are_tested_before_bytes(rt: HostRuntime) -> Result<(), Fail> {
+    ends_are(
+        &rt,
+        "map hash 4 8 1\nr3 = 0",
+        &[
+            ("call 1; exit", Trap(UnsetRead, 1)),
+            ("call 4; exit", Trap(BadHelper, 1)),
+            (
+                "r1 = map_by_idx(0); r2 = r10; r2 += -4; call 1; exit",
+                Trap(UnsetRead, 4),
+            ),
+            // the key is read before the value
+            (
+                "r1 = map_by_idx(0); r2 = r10; r2 += -4; r3 = r10; r4 = 0; call 2",
+                Trap(UnsetRead, 6),
+            ),
+            // kinds come before the place of the key
+            (
+                "r1 = map_by_idx(0); r2 = r10; r3 = 0; r4 = 0; call 2",
+                Trap(BadHelper, 5),
+            ),
+            ("r1 = map_by_idx(0); r2 = r10; call 1", Trap(BadAccess, 3)),
+        ],
+    )
+}
+
+#[test]
+fn pointers_to_deleted_values_stay_dead(rt: HostRuntime) -> Result<(), Fail> {
+    let first = format!(in rt.alloc(); "map hash 1 1 1\n{KEY_9}; {UPDATE}; {LOOKUP}")?;
+    let again = format!(in rt.alloc(); "{DELETE}; {UPDATE}; r0 = *(u8 *)(r6 + 0); exit")?;
+    ends_are(
+        &rt,
+        first.as_str(),
+        &[
+            ("r0 = *(u8 *)(r6 + 0); exit", Exit(7, 16)),
+            (
+                "*(u8 *)(r6 + 0) = 5; r0 = *(u8 *)(r6 + 0); exit",
+                Exit(5, 17),
+            ),
+            (again.as_str(), Trap(BadAccess, 25)),
+        ],
+    )
+}
+
+#[test]
+fn arguments_are_unset_after_a_helper(rt: HostRuntime) -> Result<(), Fail> {
+    ends_are(
+        &rt,
+        "r1 = 1; r2 = 2; r3 = 3; r4 = 4; r5 = 5; r6 = 6; call 5; r0 = r6",
+        &[
+            ("exit", Exit(6, 9)),
+            ("r0 = r1; exit", Trap(UnsetRead, 8)),
+            ("r0 = r5; exit", Trap(UnsetRead, 8)),
+        ],
+    )
+}
+
+/// A key that the map does not have.
+#[test]
+fn look_ups_answer_null(rt: HostRuntime) -> Result<(), Fail> {
+    ends_are(
+        &rt,
+        "map hash 4 8 4\n*(u32 *)(r10 - 4) = 1; r1 = map_by_idx(0); r2 = r10; r2 += -4; call 1
+         *(u64 *)(r10 - 16) = r0; if r0 == 0 goto +3; r3 = *(u64 *)(r10 - 16)
+         r0 = *(u64 *)(r3 + 0)",
+        &[("exit; r0 = 1; exit", Exit(1, 9))],
+    )
+}
+
+/// Errors are negative, in 64 bits.
+#[test]
+fn updates_answer_errors(rt: HostRuntime) -> Result<(), Fail> {
+    ends_are(
+        &rt,
+        "map array 4 8 1\n*(u32 *)(r10 - 4) = 1; *(u64 *)(r10 - 16) = 0; r1 = map_by_idx(0)
+         r2 = r10; r2 += -4; r3 = r10; r3 += -16",
+        &[
+            // an index past the end
+            ("r4 = 1; call 2; r0 += 9; exit", Exit(2, 11)),
+            // flags come first
+            ("r4 = 9; call 2; r0 += 24; exit", Exit(2, 11)),
+        ],
+    )
+}
+
+/// The eight bytes of a key's value in the first map.
+fn value_of(maps: &Maps, key: &[u8]) -> Option<u64> {
+    if maps.count() == 0 || usize::from(maps.row(0).key_size) != key.len() {
+        return None;
+    }
+    match maps.lookup(0, key) {
+        Some([a, b, c, d, e, f, g, h]) => {
+            Some(u64::from_le_bytes([*a, *b, *c, *d, *e, *f, *g, *h]))
+        }
+        _ => None,
+    }
+}
+
+const COUNTER: &str =
+    "map array 4 8 1\n*(u32 *)(r10 - 4) = 0; r1 = map_by_idx(0); r2 = r10; r2 += -4
+    call 1; if r0 == 0 goto +3; r1 = 1; lock *(u64 *)(r0 + 0) += r1; r0 = 2; exit";
+
+#[test]
+fn values_stay_from_run_to_run(rt: HostRuntime) -> Result<(), Fail> {
+    let image = assemble(rt.alloc(), COUNTER.as_bytes())?;
+    let mut checked = Checked::new(rt.alloc(), image)?;
+    for _ in 0..2 {
+        let end = checked.run(HEAD, &mut [], &mut Stopped, 100);
+        assert_eq!(rt; end, Exit(2, 10));
+    }
+    let maps = checked.into_maps();
+    assert_eq!(rt; value_of(&maps, &[0; 4]), Some(2));
+    Ok(())
+}
+
+#[test]
+fn the_clock_answers_in_64_bits(rt: HostRuntime) -> Result<(), Fail> {
+    let image = assemble(rt.alloc(), b"call 5; r0 &= 3; exit")?;
+    let mut checked = Checked::new(rt.alloc(), image)?;
+    let end = checked.run(HEAD, &mut [], &mut Last, 100);
+    assert_eq!(rt; end, Exit(3, 3));
+    Ok(())
+}
