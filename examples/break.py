@@ -1,6 +1,7 @@
 """The work of break.sh: runs the program under break.c, breaks one call at a time, and compares what it answers."""
 
 import os
+import struct
 import subprocess
 import sys
 from collections import Counter
@@ -26,17 +27,41 @@ RUNS = [
     ["run", image("pass"), frames("two"), "made"],
     ["run", image("pass"), frames("cut"), "made"],
     ["run", image("endless"), frames("two"), "made"],
+    ["trace", image("limit"), frames("limit"), "made"],
+    ["run", image("allow"), frames("allow"), "made"],
+    ["run", image("checksum"), frames("checksum"), "made"],
     ["verify", image("pass")],
     ["verify", image("guarded")],
     ["verify", image("endless")],
     ["verify", image("damaged")],
     ["dis", image("guarded")],
     ["dis", image("counter")],
+    ["dis", image("allow")],
     ["asm", "right.text", "made"],
     ["asm", "wrong.text", "made"],
     ["verify", "lost"],
     ["walk"],
 ]
+
+
+def records(stream):
+    """The records of a frame stream, as they stand."""
+    found, at = [], 4
+    while at + 20 <= len(stream):
+        size = 20 + struct.unpack_from("<I", stream, at + 16)[0]
+        found.append(stream[at:at + size])
+        at += size
+    return found
+
+
+def map_lines(words, count):
+    """The lines of maps after the first frames."""
+    with open(words[2], "rb") as it:
+        stream = it.read()
+    with open("first.frames", "wb") as it:
+        it.write(stream[:4] + b"".join(records(stream)[:count]))
+    out = Answer([*words[:2], "first.frames", *words[3:]]).out
+    return [line for line in out.splitlines() if line.startswith(b"map ")]
 
 
 class Answer:
@@ -82,10 +107,13 @@ def of_memory(words, found, good):
 def of_read(words, found, good):
     if found.status == 4 and found.message() == f"cannot read {words[1]}".encode() and found.is_quiet():
         return "status 4"
-    lines, _, last = found.out[:-1].rpartition(b"\n")
-    is_fault = found.status == 3 and last.startswith(b"fault F5 at ") and not found.err
-    kept = (good.made or b"").startswith(found.made or b"")
-    return "status 3, F5" if is_fault and good.out.startswith(lines) and kept else None
+    if found.status != 3 or found.err:
+        return None
+    *lines, last = found.out.splitlines()
+    of_frames = [line for line in lines if not line.startswith(b"map ")]
+    begun = good.out.splitlines()[:len(of_frames)] == of_frames and (good.made or b"").startswith(found.made or b"")
+    whole = lines[len(of_frames):] == map_lines(words, len(of_frames))
+    return "status 3, F5" if last.startswith(b"fault F5 at ") and begun and whole else None
 
 
 def of_write(words, found, good):

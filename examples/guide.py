@@ -18,6 +18,7 @@ The last four begin with a comment: the line of standard output, and after it wh
 `asm` counts as the answer. In hexadecimal `#` begins a comment. Blocks with any other word, or with none, are not
 tried. Each examples/NAME.text has to make NAME.image, each NAME.bpf.c too where clang 14 is installed, and each
 NAME.report is what `run` prints for NAME.image and NAME.frames.
+Each NAME.frames is what frames.py makes of NAME.pcapng, where there is one.
 The exit status is 0 if every answer is the one wanted, else 1.
 """
 import glob
@@ -108,12 +109,19 @@ def stored():
 
 def compiled():
     """Each stored image of a source in C is what the clang that made it makes of it, where that is installed."""
-    tools = "clang version 14." in shell("clang --version") and shell("command -v llvm-objcopy && command -v llvm-objdump")
-    if tools and os.path.exists("/usr/include/linux/bpf.h"):
+    if "clang version 14." in shell("clang --version") and os.path.exists("/usr/include/linux/bpf.h"):
         for source in sorted(glob.glob("examples/*.bpf.c")):
             shell(f"bash examples/compile.sh {source} example.image")
             with open("example.image", "rb") as made, open(source.removesuffix(".bpf.c") + ".image", "rb") as kept:
                 yield source, kept.read().hex() + "\n", made.read().hex() + "\n"
+
+
+def captured():
+    """Each stored frame stream is made of the capture beside it."""
+    for capture in sorted(glob.glob("examples/*.pcapng")):
+        shell(f"python3 examples/frames.py {capture} example.frames")
+        with open("example.frames", "rb") as made, open(capture.removesuffix(".pcapng") + ".frames", "rb") as kept:
+            yield capture, kept.read().hex() + "\n", made.read().hex() + "\n"
 
 
 def reported():
@@ -148,6 +156,7 @@ def main():
                     count(os.path.relpath(page, TOP), tries(kind, body))
         count("examples", stored())
         count("examples", compiled())
+        count("examples", captured())
         count("examples", reported())
         os.chdir("/")
     print(f"{runs} examples, {failures} differ")
