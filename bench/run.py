@@ -152,6 +152,22 @@ def execution():
             print(f"{name:<46}{by:<7}{seconds:>9.3f}{steps * count / seconds:>11.3g}{count / seconds:>11.3g}{times:>9}")
 
 
+def counting():
+    """Filters of examples/ with maps, on the frames beside them a thousand times: frames a second."""
+    print()
+    for name in ["traffic", "limit", "protocols"]:
+        path = os.path.join(HERE, "../examples", name)
+        with open(path + ".frames", "rb") as file:
+            stream = file.read()
+        with open("f.frames", "wb") as file:
+            file.write(stream[:4] + stream[4:] * 1000)
+        with open(path + ".report") as file:
+            count = 1000 * int(file.read().split()[-1])
+        for command in ["trace", "run"]:
+            seconds, _ = best([PROGRAM, command, path + ".image", "f.frames", "sent"], 0, f"end {count}")
+            print(f"{'examples/' + name + f', {count:,} frames':<46}{command:<7}{seconds:>9.3f}{'':>11}{count / seconds:>11.3g}")
+
+
 def verification():
     print()
     print(f"{'program':<46}{'answer':<24}{'seconds':>9}{'explored':>10}{'explored/s':>12}{'MB':>6}")
@@ -190,6 +206,7 @@ def main():
         subprocess.run(["gcc", "-O2", "-o", "switch", os.path.join(HERE, "switch.c")], check=True)
         print(f"{os.cpu_count()} cores; each figure is the best of {TIMES} runs; `trace` and `run` without their start")
         execution()
+        counting()
         verification()
         parsers()
         os.chdir("/")
