@@ -360,6 +360,6 @@ fn verified_maps_are_reported(rt: HostRuntime) -> Result<(), Fail> {
     let result = verified(rt.alloc(), text, &mut report, &mut out)?;
     assert!(rt; result.is_ok());
     let lines = b"0 DROP 0 2\n1 DROP 0 2\nmap 0 00000000 00\nmap 0 01000000 00\nend 2\n";
-    assert_eq!(rt; report.taken.as_slice(), lines);
+    assert_eq!(rt; report.taken.as_slice(), lines.as_slice());
     Ok(())
 }
