@@ -1,0 +1,155 @@
+#!/usr/bin/env python3
+"""Looks for a program that `verify` accepts and should not: makes random programs over all forms of instruction, with
+maps, helpers and functions, and runs those that are accepted on random frames.
+
+usage: python3 examples/fuzz.py [PROGRAM] [--programs N] [--seed S] [--jobs J] [--keep FOLDER] [--ways]
+
+Reported is each accepted program that `trace` ends with a trap or after more steps than the bound, or that `run` and
+`trace` run differently; and each refusal whose way (the jumps on standard error) is none of the program. The program
+and its frames are kept in FOLDER. Most programs are right by construction up to one or two changes, such as a limit that
+is off by one, so that about half are accepted. The last line counts. The exit status is 1 if anything was reported.
+"""
+import argparse
+import collections
+import json
+import os
+import re
+import shutil
+import struct
+import subprocess
+import sys
+import tempfile
+
+from random_programs import Maker
+
+HERE = os.path.dirname(os.path.abspath(__file__))
+
+
+def frames(chance):
+    """Frames of many lengths, whose bytes are extreme, small or any."""
+    out = b"XPF1"
+    for _ in range(6):
+        length = chance.choice([0, 1, 2, 7, 8, 13, 14, 15, 19, 20, 33, 34, 60, 64, 255, 256, 300, 4096])
+        bytes_of = chance.choice([lambda: 0, lambda: 255, lambda: chance.choice([0, 1, 127, 128, 255]), lambda: chance.randrange(256)])
+        words = [chance.choice([0, 1, 2, 7, 8, 15, 2**31 - 1, 2**31, 2**32 - 1, chance.randrange(2**32)]) for _ in range(2)]
+        out += struct.pack("<QIII", chance.randrange(2**64), *words, length) + bytes(bytes_of() for _ in range(length))
+    return out
+
+
+def goes(code, way, slot):
+    """Whether the jumps of a refusal lead through the program to the slot: each is one of the program's, and between
+    them the way goes from slot to slot."""
+    at, whole = 0, len(way) < 8
+    returns = [i + 1 for i, row in enumerate(code) if row[0] == 0x85 and row[2] == 1]
+    for begin, to in way + [(slot, None)]:
+        if whole:
+            if begin < at or any(code[i][0] in (0x05, 0x06, 0x95) or code[i][0] == 0x85 and code[i][2] == 1 for i in range(at, begin)):
+                return False
+        if to is None:
+            return True
+        opcode, _, source, offset, imm = code[begin]
+        if opcode == 0x95:
+            right = to in returns
+        elif opcode in (0x85, 0x06):
+            right = to == begin + 1 + imm and (opcode == 0x06 or source == 1)
+        else:
+            right = opcode & 7 in (5, 6) and to == begin + 1 + offset
+        if not right:
+            return False
+        at, whole = to, True
+
+
+def misled(code, verdict, ways):
+    """What is wrong with a refusal's way: None, or a text."""
+    if verdict.stdout[:9] != b"refused V" or verdict.stdout[9:11] == b"0 ":
+        return None
+    known = verdict.stderr.decode()
+    way = re.search("^way: (.*)$", known, re.M)
+    if not way and not ways:
+        return None
+    jumps = [tuple(map(int, jump.split(" -> "))) for jump in way[1].split(", ")] if way else []
+    return None if goes(code, jumps, int(verdict.stdout.split()[3])) else f"no way to the refusal: {known}"
+
+
+def differs(paths, bound, run):
+    """What is wrong with the runs of an accepted program: None, or a text."""
+    traced, ran = run("trace", paths[0], paths[1], paths[2]), run("run", paths[0], paths[1], paths[3])
+    for line in traced.stdout.decode().splitlines():
+        row = line.split()
+        if row[0].isdigit() and (row[1] in ("TRAP", "LIMIT") or int(row[-1]) > bound):
+            return f"accepted with bound {bound}: {line}"
+    sent = []
+    for path in paths[2:]:
+        with open(path, "rb") as file:
+            sent.append(file.read())
+    same = (traced.returncode, traced.stdout, sent[0]) == (ran.returncode, ran.stdout, sent[1])
+    return None if same and traced.returncode == 0 else f"run and trace differ: {ran.stdout} {traced.stdout}"
+
+
+def tried(program, seed, folder, ways):
+    """What is wrong with the answers for one seed (None: nothing), and the verdict's code."""
+    maker = Maker(seed)
+    paths = [os.path.join(folder, name) for name in ("image", "frames", "sent", "resent")]
+    for path, data in zip(paths, (maker.program(), frames(maker.random))):
+        with open(path, "wb") as file:
+            file.write(data)
+
+    def run(*words):
+        return subprocess.run([program, *words], stdin=subprocess.DEVNULL, stdout=subprocess.PIPE, stderr=subprocess.PIPE)
+
+    verdict = run("verify", paths[0])
+    said = verdict.stdout.decode().split()
+    if (verdict.returncode, said[:1]) == (2, ["refused"]):
+        return misled(maker.code, verdict, ways), said[1]
+    if (verdict.returncode, said[:2]) != (0, ["ok", "bound"]):
+        return f"verify: {verdict}", "no verdict"
+    return differs(paths, int(said[2]), run), "accepted"
+
+
+def worker(program, seeds, keep, ways, out):
+    folder, counts, found = tempfile.mkdtemp(), collections.Counter(), 0
+    for seed in seeds:
+        wrong, code = tried(program, seed, folder, ways)
+        counts[code] += 1
+        if wrong:
+            found += 1
+            os.makedirs(keep, exist_ok=True)
+            for name in ("image", "frames"):
+                shutil.copy(os.path.join(folder, name), os.path.join(keep, f"{seed}.{name}"))
+            print(f"seed {seed}: {wrong}", flush=True)
+    shutil.rmtree(folder)
+    with os.fdopen(out, "w") as file:
+        json.dump((counts, found), file)
+
+
+def main():
+    words = argparse.ArgumentParser(description=__doc__.split("\n")[0])
+    words.add_argument("program", nargs="?", default=os.path.join(HERE, "../crates/xdpvm/out/xdpvm"))
+    words.add_argument("--programs", type=int, default=20_000)
+    words.add_argument("--seed", type=int, default=1)
+    words.add_argument("--jobs", type=int, default=os.cpu_count())
+    words.add_argument("--keep", default="found", help="folder for what is found")
+    words.add_argument("--ways", action="store_true", help="each refusal must say its way")
+    asked = words.parse_args()
+    children = []
+    for job in range(asked.jobs):
+        back, out = os.pipe()
+        if os.fork() == 0:
+            os.close(back)
+            worker(os.path.abspath(asked.program), range(asked.seed + job, asked.seed + asked.programs, asked.jobs), asked.keep, asked.ways, out)
+            os._exit(0)
+        os.close(out)
+        children.append(back)
+    counts, found = collections.Counter(), 0
+    for back in children:
+        with os.fdopen(back) as file:
+            part, some = json.load(file)
+        counts.update(part)
+        found += some
+    print(", ".join(f"{code} {count}" for code, count in counts.most_common()))
+    print(f"{asked.programs} programs, {counts['accepted']} accepted, {found} findings")
+    sys.exit(1 if found else 0)
+
+
+if __name__ == "__main__":
+    main()
