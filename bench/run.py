@@ -79,28 +79,31 @@ def frames(count, size):
 
 
 def measured(words):
-    """Runs a command: its status, its output's last line, its seconds and its peak memory in megabytes."""
+    """Runs a command: its status, its output's last line, and its seconds."""
     out = tempfile.TemporaryFile()
     begin = time.monotonic()
-    child = subprocess.Popen(words, stdout=out, stderr=subprocess.DEVNULL)
-    _, status, usage = os.wait4(child.pid, 0)
+    status = subprocess.run(words, stdout=out, stderr=subprocess.DEVNULL).returncode
     seconds = time.monotonic() - begin
-    child.returncode = os.waitstatus_to_exitcode(status)
     out.seek(0, os.SEEK_END)
     out.seek(max(0, out.tell() - 200))
-    last = out.read().decode().strip().splitlines()[-1]
-    return child.returncode, last, seconds, usage.ru_maxrss / 1024
+    return status, out.read().decode().strip().splitlines()[-1], seconds
+
+
+def peak(words):
+    """The peak memory of a command in megabytes, by GNU time: what the system tells this script counts its own too."""
+    told = subprocess.run(["time", "-f", "%M", "--"] + words, stdout=subprocess.DEVNULL, stderr=subprocess.PIPE, text=True)
+    return int(told.stderr.split()[-1]) / 1024
 
 
 def best(words, status, last):
-    """The best of some runs, each of which must end with this status and this last line."""
+    """The least seconds of some runs, each of which must end with this status and this last line."""
     runs = []
     for _ in range(TIMES):
         run = measured(words)
-        if run[0] != status or run[1] != last:
+        if run[:2] != (status, last):
             sys.exit(f"{' '.join(words)}: status {run[0]}, {run[1]!r}, in place of {status}, {last!r}")
-        runs.append(run)
-    return min(run[2] for run in runs), max(run[3] for run in runs)
+        runs.append(run[2])
+    return min(runs)
 
 
 def assembled(name, text):
@@ -142,8 +145,8 @@ def execution():
             sys.exit(f"{name}: {c_steps} steps in C, in place of {steps * count}")
         timed = []
         for command in ["trace", "run"]:
-            ready, _ = best([PROGRAM, command, image, empty, "sent"], 0, "end 0")
-            seconds, _ = best([PROGRAM, command, image, stream, "sent"], 0, f"end {count}")
+            ready = best([PROGRAM, command, image, empty, "sent"], 0, "end 0")
+            seconds = best([PROGRAM, command, image, stream, "sent"], 0, f"end {count}")
             timed.append((command, seconds - ready))
         if compared:
             timed.append(("C", c_seconds))
@@ -164,7 +167,7 @@ def counting():
         with open(path + ".report") as file:
             count = 1000 * int(file.read().split()[-1])
         for command in ["trace", "run"]:
-            seconds, _ = best([PROGRAM, command, path + ".image", "f.frames", "sent"], 0, f"end {count}")
+            seconds = best([PROGRAM, command, path + ".image", "f.frames", "sent"], 0, f"end {count}")
             print(f"{'examples/' + name + f', {count:,} frames':<46}{command:<7}{seconds:>9.3f}{'':>11}{count / seconds:>11.3g}")
 
 
@@ -183,10 +186,11 @@ def verification():
     for name, text, answer, explored in rows:
         image = assembled("p", text)
         if answer is None:
-            _, answer, _, _ = measured([PROGRAM, "verify", image])
+            _, answer, _ = measured([PROGRAM, "verify", image])
             if not answer.startswith("refused V19 "):
                 sys.exit(f"{name}: {answer}")
-        seconds, memory = best([PROGRAM, "verify", image], 0 if answer.startswith("ok") else 2, answer)
+        seconds = best([PROGRAM, "verify", image], 0 if answer.startswith("ok") else 2, answer)
+        memory = peak([PROGRAM, "verify", image])
         print(f"{name:<46}{answer:<24}{seconds:>9.3f}{explored:>10}{explored / seconds:>12.3g}{memory:>6.0f}")
 
 
@@ -195,8 +199,9 @@ def parsers():
     print()
     for name in ["parser", "headers", "options"]:
         image = assembled(name, stored(name))
-        _, answer, _, _ = measured([PROGRAM, "verify", image])
-        seconds, memory = best([PROGRAM, "verify", image], 0, answer)
+        _, answer, _ = measured([PROGRAM, "verify", image])
+        seconds = best([PROGRAM, "verify", image], 0, answer)
+        memory = peak([PROGRAM, "verify", image])
         print(f"{name + '.text':<46}{answer:<24}{seconds:>9.4f}{'':>22}{memory:>6.0f}")
 
 
