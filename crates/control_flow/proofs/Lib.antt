@@ -3,3 +3,7 @@ mod MarkLemmas
 mod Owners
 mod Search
 mod Whole
+mod Reading
+mod Chains
+mod Backwards
+mod MaskLemmas

@@ -19,7 +19,7 @@ pub record MarksBelow (Start : ℕ → Type 0) (target : ℕ → Option ℕ) (si
   pub marked : (k : ℕ) → IsFound Start target n k → IsMarked marks k
 
 -- what was read of a list
-pub read_at : (marks : List Bool) (k : ℕ) (x d : Bool) → k < length marks → x ≡ get_or marks k x → get_or marks k d ≡ x
+pub read_at : {X : Type 0} (marks : List X) (k : ℕ) (x d : X) → k < length marks → x ≡ get_or marks k x → get_or marks k d ≡ x
 read_at marks k x d inside e = get_or_from_slice_get marks k x d (slice_get_read marks (length marks) k x refl inside e)
 
 -- marks are inside the list

@@ -1,4 +1,4 @@
--- The search from slot 0: what finding slots does, and what the loop keeps.
+-- Searches: what finding slots does, and what a loop of it keeps.
 use Rattle.std.proofs.Common.{◌≡◌, ℕ, zero, suc, ◌+◌, ◌<◌, Bool, true, false, not, cond, List, [], ◌∷◌, ◌++◌, length, get_or, set, replicate, Option, Some, refl, sym, ap, ◌∙◌, subst, arith, inl, inr}
 use Rattle.std.specs.Prelude.{◌↔◌, ◌⊎◌, count_by, sum_by, Contains}
 use Rattle.std.proofs.lemmas.Option.{same_Some}
@@ -81,7 +81,7 @@ Extends-next A B f s g t h u x y = record {
 }
 
 -- what is wanted, said in another way
-Extends-same : (A B : ℕ → Type 0) (f : List Bool) (s : List ℕ) (g : List Bool) (t : List ℕ) → ((k : ℕ) → A k ↔ B k) → Extends A f s g t → Extends B f s g t
+pub Extends-same : (A B : ℕ → Type 0) (f : List Bool) (s : List ℕ) (g : List Bool) (t : List ℕ) → ((k : ℕ) → A k ↔ B k) → Extends A f s g t → Extends B f s g t
 Extends-same A B f s g t same x = record {
   same = x.same;
   all = λ k b. x.all k ((same k).1 b);
@@ -119,13 +119,78 @@ Extends-leads p slot a b c f s g t h u i v ea eb ec x y z =
 
 -- ---- the loop
 
--- what is found can be reached, and the search has gone on from all of it but the frontier
-pub record IsSearch (p : Program) (found : List Bool) (frontier : List ℕ) : Type 0 where
-  pub same : length found ≡ length p.insns
-  pub start : IsMarked found 0
+-- what is found is as it should be, and the search has gone on from all of it but the frontier
+pub record IsSearch (Found : ℕ → Type 0) (Goes : ℕ → ℕ → Type 0) (size : ℕ) (found : List Bool) (frontier : List ℕ) : Type 0 where
+  pub same : length found ≡ size
   pub waits : (k : ℕ) → Contains frontier k → IsMarked found k
-  pub sound : (k : ℕ) → IsMarked found k → Reached p k
-  pub closed : (k to : ℕ) → IsMarked found k → Leads p k to → IsMarked found to ⊎ Contains frontier k
+  pub sound : (k : ℕ) → IsMarked found k → Found k
+  pub closed : (k to : ℕ) → IsMarked found k → Goes k to → IsMarked found to ⊎ Contains frontier k
+
+-- it begins with the slots that were found first
+pub IsSearch-start : (Found : ℕ → Type 0) (Goes : ℕ → ℕ → Type 0) (Start : ℕ → Type 0) (size : ℕ) (found : List Bool) (frontier : List ℕ)
+    → ((k : ℕ) → Start k → Found k) → Extends Start (replicate size false) [] found frontier → IsSearch Found Goes size found frontier
+IsSearch-start Found Goes Start size found frontier starts x =
+    let new : (k : ℕ) → IsMarked found k → Contains frontier k × Start k =
+    λ k m. elim (x.new k m) [ inl old ↦ absurd (new-IsMarked size k old) | inr n ↦ n ] in record {
+      same = x.same ∙ length-replicate size false;
+      waits = λ k c. elim (x.adds k c) [ inl old ↦ absurd (no-Contains k old) | inr m ↦ m ];
+      sound = λ k m. starts k (new k m).1;
+      closed = λ k to m h. inr (new k m).0;
+    }
+
+-- the slot to go on from was found
+on_top : (slot : ℕ) (s rest : List ℕ) → s ≡ rest ++ slot ∷ [] → Contains s slot
+on_top slot s rest popped =
+    subst (λ (l : List ℕ). Contains l slot) (sym popped) (Contains-append_right rest (slot ∷ []) slot (one-Contains slot))
+
+-- it goes on from a slot of the frontier
+pub IsSearch-next : (Found : ℕ → Type 0) (Goes : ℕ → ℕ → Type 0) (size slot : ℕ) (f : List Bool) (s rest : List ℕ) (g : List Bool) (t : List ℕ)
+    → ((to : ℕ) → Found slot → Goes slot to → Found to) → s ≡ rest ++ slot ∷ [] → IsSearch Found Goes size f s
+    → Extends (Goes slot) f rest g t → IsSearch Found Goes size g t
+IsSearch-next Found Goes size slot f s rest g t further popped m x = record {
+  same = x.same ∙ m.same;
+  waits = λ k c. elim (x.adds k c) [
+    | inl old ↦ x.kept k (m.waits k (subst (λ (l : List ℕ). Contains l k) (sym popped) (Contains-append_left rest (slot ∷ []) k old)))
+    | inr found ↦ found
+  ];
+  sound = λ k h. elim (x.new k h) [
+    | inl old ↦ m.sound k old
+    | inr n ↦ further k (m.sound slot (m.waits slot (on_top slot s rest popped))) n.1
+  ];
+  closed = λ k to h goes. elim (x.new k h) [
+    | inl old ↦ elim (m.closed k to old goes) [
+      | inl there ↦ inl (x.kept to there)
+      | inr waits ↦ elim (Contains-append_cases rest (slot ∷ []) k (subst (λ (l : List ℕ). Contains l k) popped waits)) [
+        | inl below ↦ inr (x.stays k below)
+        | inr one ↦ inl (x.all to (subst (λ (i : ℕ). Goes i to) (sym (Contains-one slot k one)) goes))
+      ]
+    ]
+    | inr n ↦ inr n.0
+  ];
+}
+
+-- the slot to go on from is inside the code
+pub IsSearch-inside : (Found : ℕ → Type 0) (Goes : ℕ → ℕ → Type 0) (size slot : ℕ) (found : List Bool) (frontier rest : List ℕ)
+    → frontier ≡ rest ++ slot ∷ [] → IsSearch Found Goes size found frontier → slot < size
+IsSearch-inside Found Goes size slot found frontier rest popped m =
+    let inside = IsMarked-inside found slot (m.waits slot (on_top slot frontier rest popped)) in
+    omega (arith, m.same)
+
+-- the search is over when nothing is left to go on from: a way on from what was found leads to what was found
+pub IsSearch-closed : (Found : ℕ → Type 0) (Goes : ℕ → ℕ → Type 0) (size : ℕ) (found : List Bool) (frontier : List ℕ) → length frontier ≡ 0
+    → IsSearch Found Goes size found frontier → (k to : ℕ) → IsMarked found k → Goes k to → IsMarked found to
+IsSearch-closed Found Goes size found [] over m k to h goes =
+    elim (m.closed k to h goes) [ inl there ↦ there | inr waits ↦ absurd (no-Contains k waits) ]
+IsSearch-closed Found Goes size found (x ∷ xs) over m k to h goes = absurd (omega (arith, over))
+
+-- from a search that has found nothing
+pub Extends-new_search : (Wanted : ℕ → Type 0) (n size : ℕ) (f : List Bool) (s : List ℕ) (g : List Bool) (t : List ℕ) → n ≡ size → f ≡ replicate n false → s ≡ []
+    → Extends Wanted f s g t → Extends Wanted (replicate size false) [] g t
+Extends-new_search Wanted n size f s g t all none empty x =
+    subst (λ (l : List Bool). Extends Wanted l [] g t) (none ∙ ap (λ (k : ℕ). replicate k false) all)
+    (subst (λ (l : List ℕ). Extends Wanted f l g t) empty x)
+
+-- ---- from slot 0
 
 reached_start : (p : Program) → Reached p 0
 reached_start p = (0, refl)
@@ -133,60 +198,29 @@ reached_start p = (0, refl)
 Reached-next : (p : Program) (slot to : ℕ) → Reached p slot → Leads p slot to → Reached p to
 Reached-next p slot to (n, path) h = (suc n, (slot, path, h))
 
-pub IsSearch-start : (p : Program) (found : List Bool) (frontier : List ℕ) → Extends (λ k. Some 0 ≡ Some k) (replicate (length p.insns) false) [] found frontier → IsSearch p found frontier
-IsSearch-start p found frontier x =
-    let new : (k : ℕ) → IsMarked found k → Contains frontier k × (Some 0 ≡ Some k) =
-    λ k m. elim (x.new k m) [ inl old ↦ absurd (new-IsMarked (length p.insns) k old) | inr n ↦ n ] in record {
-      same = x.same ∙ length-replicate (length p.insns) false;
+-- the search for the slots that are reached
+pub record IsReaching (p : Program) (found : List Bool) (frontier : List ℕ) : Type 0 where
+  pub start : IsMarked found 0
+  pub search : IsSearch (Reached p) (Leads p) (length p.insns) found frontier
+
+pub IsReaching-start : (p : Program) (n : ℕ) (f : List Bool) (s : List ℕ) (found : List Bool) (frontier : List ℕ) → n ≡ length p.insns → f ≡ replicate n false → s ≡ []
+    → Extends (λ k. Some 0 ≡ Some k) f s found frontier → IsReaching p found frontier
+IsReaching-start p n f s found frontier all none empty x =
+    let new = Extends-new_search (λ k. Some 0 ≡ Some k) n (length p.insns) f s found frontier all none empty x in record {
       start = x.all 0 refl;
-      waits = λ k c. elim (x.adds k c) [ inl old ↦ absurd (no-Contains k old) | inr m ↦ m ];
-      sound = λ k m. subst (Reached p) (same_Some 0 k (new k m).1) (reached_start p);
-      closed = λ k to m h. inr (new k m).0;
+      search = IsSearch-start (Reached p) (Leads p) (λ k. Some 0 ≡ Some k) (length p.insns) found frontier (λ k e. subst (Reached p) (same_Some 0 k e) (reached_start p)) new;
     }
 
-pub IsSearch-next : (p : Program) (slot : ℕ) (f : List Bool) (s rest : List ℕ) (g : List Bool) (t : List ℕ) → s ≡ rest ++ slot ∷ [] → IsSearch p f s → Extends (Leads p slot) f rest g t → IsSearch p g t
-IsSearch-next p slot f s rest g t popped m x =
-    let on_top : IsMarked f slot = m.waits slot (subst (λ (l : List ℕ). Contains l slot) (sym popped) (Contains-append_right rest (slot ∷ []) slot (one-Contains slot))) in record {
-      same = x.same ∙ m.same;
-      start = x.kept 0 m.start;
-      waits = λ k c. elim (x.adds k c) [
-        | inl old ↦ x.kept k (m.waits k (subst (λ (l : List ℕ). Contains l k) (sym popped) (Contains-append_left rest (slot ∷ []) k old)))
-        | inr found ↦ found
-      ];
-      sound = λ k h. elim (x.new k h) [
-        | inl old ↦ m.sound k old
-        | inr n ↦ Reached-next p slot k (m.sound slot on_top) n.1
-      ];
-      closed = λ k to h leads. elim (x.new k h) [
-        | inl old ↦ elim (m.closed k to old leads) [
-          | inl there ↦ inl (x.kept to there)
-          | inr waits ↦ elim (Contains-append_cases rest (slot ∷ []) k (subst (λ (l : List ℕ). Contains l k) popped waits)) [
-            | inl below ↦ inr (x.stays k below)
-            | inr one ↦ inl (x.all to (subst (λ (i : ℕ). Leads p i to) (sym (Contains-one slot k one)) leads))
-          ]
-        ]
-        | inr n ↦ inr n.0
-      ];
-    }
+pub IsReaching-next : (p : Program) (slot : ℕ) (f : List Bool) (s rest : List ℕ) (g : List Bool) (t : List ℕ) → s ≡ rest ++ slot ∷ [] → IsReaching p f s → Extends (Leads p slot) f rest g t → IsReaching p g t
+IsReaching-next p slot f s rest g t popped m x = record {
+  start = x.kept 0 m.start;
+  search = IsSearch-next (Reached p) (Leads p) (length p.insns) slot f s rest g t (λ to r h. Reached-next p slot to r h) popped m.search x;
+}
 
--- the slot to go on from is inside the code
-pub IsSearch-inside : (p : Program) (slot : ℕ) (found : List Bool) (frontier rest : List ℕ) → frontier ≡ rest ++ slot ∷ [] → IsSearch p found frontier → slot < length p.insns
-IsSearch-inside p slot found frontier rest popped m =
-    let on_top : IsMarked found slot = m.waits slot (subst (λ (l : List ℕ). Contains l slot) (sym popped) (Contains-append_right rest (slot ∷ []) slot (one-Contains slot))) in
-    let inside = IsMarked-inside found slot on_top in
-    omega (arith, m.same)
+marked_in : (p : Program) (found : List Bool) (frontier : List ℕ) → length frontier ≡ 0 → IsReaching p found frontier → (n k : ℕ) → ReachedIn p n k → IsMarked found k
+marked_in p found frontier over m zero k e = subst (λ (i : ℕ). IsMarked found i) (sym e) m.start
+marked_in p found frontier over m (suc n) k (from, path, h) =
+    IsSearch-closed (Reached p) (Leads p) (length p.insns) found frontier over m.search from k (marked_in p found frontier over m n from path) h
 
--- the search is over when nothing is left to go on from
-marked_in : (p : Program) (found : List Bool) → IsSearch p found [] → (n k : ℕ) → ReachedIn p n k → IsMarked found k
-marked_in p found m zero k e = subst (λ (i : ℕ). IsMarked found i) (sym e) m.start
-marked_in p found m (suc n) k (from, path, h) =
-    elim (m.closed from k (marked_in p found m n from path) h) [ inl there ↦ there | inr waits ↦ absurd (no-Contains from waits) ]
-
-pub IsSearch-end : (p : Program) (found : List Bool) (frontier : List ℕ) → frontier ≡ [] → IsSearch p found frontier → (k : ℕ) → IsMarked found k ↔ Reached p k
-IsSearch-end p found frontier over m k =
-    let done : IsSearch p found [] = subst (IsSearch p found) over m in
-    (λ h. done.sound k h, λ r. marked_in p found done r.0 k r.1)
-
-pub none_left : (frontier : List ℕ) → length frontier ≡ 0 → frontier ≡ []
-none_left [] e = refl
-none_left (x ∷ xs) e = absurd (omega (arith, e))
+pub IsReaching-end : (p : Program) (found : List Bool) (frontier : List ℕ) → length frontier ≡ 0 → IsReaching p found frontier → (k : ℕ) → IsMarked found k ↔ Reached p k
+IsReaching-end p found frontier over m k = (λ h. m.search.sound k h, λ r. marked_in p found frontier over m r.0 k r.1)

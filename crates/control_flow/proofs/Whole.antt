@@ -80,7 +80,7 @@ function-BeginsInsn : (p : Program) → Passes p TargetOutside → Passes p Seco
 function-BeginsInsn p a b f (inl first) other = absurd (other first)
 function-BeginsInsn p a b f (inr (from, call)) other = target-BeginsInsn p a b from f (inr call)
 
-slots_of-cases : (i : Insn) → (slots_of i ≡ 1) ⊎ (slots_of i ≡ 2)
+pub slots_of-cases : (i : Insn) → (slots_of i ≡ 1) ⊎ (slots_of i ≡ 2)
 slots_of-cases (LoadNumber d n) = inr refl
 slots_of-cases (LoadMap d m) = inr refl
 slots_of-cases (LoadMapValue d m offset) = inr refl

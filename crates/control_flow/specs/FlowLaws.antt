@@ -57,7 +57,7 @@ pub fall_to-insn : (p : Program) (slot : ℕ) (i : Insn) → fetch p slot ≡ So
 unfolding fall_to
 fall_to-insn p slot i e h = ap (option_and_then (slot_behind slot)) e ∙ behind slot i (falls_through i) h
 
-abbrev some_slot : ℕ → Option ℕ
+abbrev pub some_slot : ℕ → Option ℕ
 some_slot n = Some n
 
 -- it falls through to the slot after an instruction

@@ -1,6 +1,11 @@
 pub mod Graph
 pub mod Functions
 pub mod Searches
+pub mod Sources
+pub mod RegisterLaws
+pub mod Masks
+pub mod Liveness
 pub mod Flows
 pub mod FlowLaws
+pub mod LivenessLaws
 pub mod Messages

@@ -1,19 +1,21 @@
 //! Control flow that is good.
 
 ghost use Rattle.std.specs.Prelude.{◌≡◌, ◌↔◌, ℕ, IsTrue, IfOk, IfErr};
+ghost use Rattle.isa_model.specs.declared.registers.Reg.{Reg as TheReg};
 ghost use Rattle.control_flow.specs.Flows.{IsFlow, IsJoin, IsRefusal};
+ghost use Rattle.control_flow.specs.Liveness.{IsLive};
+ghost use Rattle.control_flow.specs.Masks.{Has};
 
 use crate::errors::FlowError;
 use crate::functions::{first_falling_off, first_leaving, functions_of};
+use crate::liveness::live_registers;
 use crate::marks::is_marked;
+use crate::masks::{RegisterMask, mask_of};
 use crate::reachability::{first_unreached, reached};
 use crate::targets::{first_into_half, first_outside, joins_of};
 use image::Image;
 use std::alloc::Global;
 use std::marker::Model;
-
-/// A mask of all registers, r0 in its lowest bit.
-const ALL_REGISTERS: u16 = 0x3ff;
 
 /// An image whose control flow is good: jumps stay in their functions, calls lead to instructions,
 /// nothing falls off an end, and each instruction can be reached.
@@ -23,6 +25,7 @@ const ALL_REGISTERS: u16 = 0x3ff;
 pub struct Flow<'a> {
     image: &'a Image,
     joins: Vec<bool>,
+    live: Vec<RegisterMask>,
 }
 
 impl<'a> Model for Flow<'a> {
@@ -33,7 +36,7 @@ impl<'a> Model for Flow<'a> {
 
     ghost view = { λ flow. flow.image.now };
 
-    ghost invariant = { λ flow. IsKnown flow.image.now flow.joins.items };
+    ghost invariant = { λ flow. IsKnown flow.image.now flow.joins.items flow.live.items };
 }
 
 /// Runs the tests in their order; each is run over the whole code.
@@ -82,7 +85,10 @@ impl<'a> Flow<'a> {
         let Ok(joins) = joins_of(alloc, image) else {
             return Err((FlowError::Memory, 0));
         };
-        Ok(Flow { image, joins })
+        let Ok(live) = live_registers(alloc, image) else {
+            return Err((FlowError::Memory, 0));
+        };
+        Ok(Flow { image, joins, live })
     }
 
     /// Whether the slot is the target of a jump: there paths may meet.
@@ -93,12 +99,11 @@ impl<'a> Flow<'a> {
         is_marked(&self.joins, slot)
     }
 
-    /// The registers whose values may still be read from this slot on, r0 in the lowest bit: all
-    /// ten. A verifier may forget the other ones where paths meet; `explorer` keeps them all, and
-    /// does not ask yet.
-    pub fn live(&self, _slot: usize) -> u16
-        ensures { result ≡ 1023 }
+    /// The registers whose values may still be read from this slot on: some path of jumps and
+    /// fall-throughs reads them before it writes them. A verifier may forget the other ones.
+    pub fn live(&self, slot: usize) -> RegisterMask
+        ensures { (r : TheReg) → Has result r ↔ IsLive self.now r slot }
     {
-        ALL_REGISTERS
+        mask_of(&self.live, slot)
     }
 }

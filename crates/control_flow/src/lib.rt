@@ -4,12 +4,18 @@
 //! which programs are good.
 #![tactic(auto)]
 
+mod accesses;
 pub mod errors;
 pub mod flows;
 mod functions;
+mod liveness;
 mod marks;
+pub mod masks;
 mod reachability;
+mod searches;
+mod sources;
 mod targets;
 
 pub use errors::FlowError;
 pub use flows::Flow;
+pub use masks::RegisterMask;

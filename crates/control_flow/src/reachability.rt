@@ -3,54 +3,29 @@
 ghost use Rattle.std.specs.Prelude.{◌≡◌, ◌<◌, ◌≤◌, ◌↔◌, ℕ, length, IfOk, OnOk};
 ghost use Rattle.control_flow.specs.Graph.{Leads, Reached};
 ghost use Rattle.control_flow.specs.Flows.{IsMarked, Fails, IsLowest};
+ghost use Rattle.control_flow.specs.Searches.{Extends};
 
 use crate::errors::FlowError;
 use crate::marks::is_marked;
+use crate::searches::Search;
 use crate::targets::{begins_insn, call_target, fall_target, jump_target};
 use image::Image;
 use std::alloc::{AllocError, Global};
 
-/// A search so far: the slots that were found, and those of them from which it has not gone on.
-#[derive(Drop)]
-struct Search {
-    found: Vec<bool>,
-    frontier: Vec<usize>,
-}
-
-impl Search {
-    ghost use Rattle.control_flow.specs.Searches.{Extends, room_of};
-
-    /// Finds a slot, if there is one.
-    fn find(&mut self, slot: Option<usize>) -> Result<(), AllocError>
-        requires { (k : ℕ) → slot ≡ Some k → k < length self.old.found.items }
-        ensures { OnOk result (Extends (λ k. slot ≡ Some k)
-            self.old.found.items self.old.frontier.items
-            self.new.found.items self.new.frontier.items) }
-    {
-        if let Some(slot) = slot {
-            if !self.found[slot] {
-                self.found[slot] = true;
-                self.frontier.push(slot)?;
-            }
-        }
-        Ok(())
-    }
-
-    /// Finds the slots to which control goes from a slot.
-    fn go_on(&mut self, image: &Image, slot: usize) -> Result<(), AllocError>
-        requires inside { slot < length image.now.insns }
-        requires leads { (to : ℕ) → Leads image.now slot to → to < length self.old.found.items }
-        ensures { OnOk result (Extends (Leads image.now slot)
-            self.old.found.items self.old.frontier.items
-            self.new.found.items self.new.frontier.items) }
-    {
-        // For the proof only: this call says that the program is an image's.
-        let _slots = image.slots();
-        self.find(fall_target(image, slot))?;
-        self.find(jump_target(image, slot))?;
-        self.find(call_target(image, slot))?;
-        Ok(())
-    }
+/// Finds the slots to which control goes from a slot.
+fn go_on(search: &mut Search, image: &Image, slot: usize) -> Result<(), AllocError>
+    requires inside { slot < length image.now.insns }
+    requires leads { (to : ℕ) → Leads image.now slot to → to < length search.old.found.items }
+    ensures { OnOk result (Extends (Leads image.now slot)
+        search.old.found.items search.old.frontier.items
+        search.new.found.items search.new.frontier.items) }
+{
+    // For the proof only: this call says that the program is an image's.
+    let _slots = image.slots();
+    search.find(fall_target(image, slot))?;
+    search.find(jump_target(image, slot))?;
+    search.find(call_target(image, slot))?;
+    Ok(())
 }
 
 /// Marks the slots that paths from slot 0 lead to.
@@ -59,13 +34,10 @@ pub fn reached(alloc: Global, image: &Image) -> Result<Vec<bool>, AllocError>
     ensures { IfOk result (λ marks. (slot : ℕ) → IsMarked marks.items slot
         ↔ Reached image.now slot) }
 {
-    let mut search = Search {
-        found: vec![in alloc; false; image.slots()]?,
-        frontier: Vec::new(alloc),
-    };
+    let mut search = Search::new(alloc, image.slots())?;
     search.find(Some(0))?;
     while let Some(slot) = search.frontier.pop() {
-        search.go_on(image, slot)?;
+        go_on(&mut search, image, slot)?;
     }
     let Search { found, .. } = search;
     Ok(found)

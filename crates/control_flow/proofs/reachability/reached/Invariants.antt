@@ -1,9 +1,9 @@
 use Rattle.control_flow.specs.Searches.{room_of}
-use Rattle.control_flow.proofs.Search.{IsSearch}
+use Rattle.control_flow.proofs.Search.{IsReaching}
 use Rattle.control_flow.proofs.reachability.reached.Given as goal
 
 abbrev pub invariant-loop-slot : goal.invariant-loop-slot
-invariant-loop-slot l = IsSearch l.image l.search.found.items l.search.frontier.items
+invariant-loop-slot l = IsReaching l.image l.search.found.items l.search.frontier.items
 
 abbrev pub decreases-loop-slot : goal.decreases-loop-slot
 decreases-loop-slot l = room_of l.search.found.items l.search.frontier.items

@@ -1,7 +1,7 @@
 use Rattle.std.proofs.Common.{sym, ◌∙◌, subst, ◌<◌, ℕ}
 use Rattle.control_flow.specs.Graph.{Falls, Jumps, Calls}
 use Rattle.control_flow.proofs.Search.{Extends-leads}
-use Rattle.control_flow.proofs.reachability.Search.go_on.Goals as goal
+use Rattle.control_flow.proofs.reachability.go_on.Goals as goal
 
 pub find-requires : goal.find-requires
 find-requires c = λ k e. c.requires.leads k (Falls (sym c.fall_target.ensures ∙ e))

@@ -1,0 +1,101 @@
+-- Which registers instructions read and write: what the tests of one register say.
+use Rattle.std.proofs.Common.{◌≡◌, ◌++◌, ◌∷◌, [], List, Option, Some, None, refl, sym, ◌∙◌, inl, inr}
+use Rattle.std.specs.Prelude.{◌↔◌, ◌⊎◌, ℤ, Bool, IsTrue}
+use Rattle.std.specs.Option.{option_to_list}
+use Rattle.std.proofs.lemmas.Option.{same_Some}
+use Rattle.isa_model.specs.declared.registers.Reg.{Reg}
+use Rattle.isa_model.specs.declared.instructions.Insn.{Insn}
+use Rattle.isa_model.specs.declared.instructions.Insn.TheVariants.{CallHelper, CallLocal, Exit}
+use Rattle.isa_model.specs.Code.Instructions.{reads, writes}
+use Rattle.isa_model.specs.MustAccept.Paths.{IsOneOf}
+use Rattle.control_flow.specs.Liveness.{read_registers, written_registers}
+
+-- ---- registers among registers
+
+append-left : (xs ys : List Reg) (r : Reg) → IsOneOf xs r → IsOneOf (xs ++ ys) r
+append-left [] ys r h = absurd h
+append-left (x ∷ xs) ys r (inl e) = inl e
+append-left (x ∷ xs) ys r (inr h) = inr (append-left xs ys r h)
+
+append-right : (xs ys : List Reg) (r : Reg) → IsOneOf ys r → IsOneOf (xs ++ ys) r
+append-right [] ys r h = h
+append-right (x ∷ xs) ys r h = inr (append-right xs ys r h)
+
+append-cases : (xs ys : List Reg) (r : Reg) → IsOneOf (xs ++ ys) r → IsOneOf xs r ⊎ IsOneOf ys r
+append-cases [] ys r h = inr h
+append-cases (x ∷ xs) ys r (inl e) = inl (inl e)
+append-cases (x ∷ xs) ys r (inr h) = elim (append-cases xs ys r h) [ inl front ↦ inl (inr front) | inr back ↦ inr back ]
+
+option-one : (o : Option Reg) (r : Reg) → o ≡ Some r → IsOneOf (option_to_list o) r
+option-one (Some d) r e = inl (sym (same_Some d r e))
+option-one None r e = absurd cc
+
+one-option : (o : Option Reg) (r : Reg) → IsOneOf (option_to_list o) r → o ≡ Some r
+one-option (Some d) r (inl e) = let same : d ≡ r = sym e in cc
+one-option (Some d) r (inr h) = absurd h
+one-option None r h = absurd h
+
+-- a test whether the register that may be there is this one
+pub is_found-IsOneOf : (b : Bool) (o q : Option Reg) (r : Reg) → o ≡ q → IsTrue b ↔ (o ≡ Some r) → IsTrue b ↔ IsOneOf (option_to_list q) r
+is_found-IsOneOf b o q r same test =
+    (λ h. option-one q r (sym same ∙ test.0 h), λ among. test.1 (same ∙ one-option q r among))
+
+-- it is one of the first two, or one of the others
+pub among-first : (a b c d : Option Reg) (r : Reg) → (a ≡ Some r) ⊎ (b ≡ Some r)
+    → IsOneOf (((option_to_list a ++ option_to_list b) ++ option_to_list c) ++ option_to_list d) r
+among-first a b c d r h =
+    append-left ((option_to_list a ++ option_to_list b) ++ option_to_list c) (option_to_list d) r
+    (append-left (option_to_list a ++ option_to_list b) (option_to_list c) r
+    (elim h [
+      | inl e ↦ append-left (option_to_list a) (option_to_list b) r (option-one a r e)
+      | inr e ↦ append-right (option_to_list a) (option_to_list b) r (option-one b r e)
+    ]))
+
+pub among-last : (a b c d : Option Reg) (r : Reg) → (c ≡ Some r) ⊎ (d ≡ Some r)
+    → IsOneOf (((option_to_list a ++ option_to_list b) ++ option_to_list c) ++ option_to_list d) r
+among-last a b c d r h = elim h [
+  | inl e ↦
+      append-left ((option_to_list a ++ option_to_list b) ++ option_to_list c) (option_to_list d) r
+      (append-right (option_to_list a ++ option_to_list b) (option_to_list c) r (option-one c r e))
+  | inr e ↦ append-right ((option_to_list a ++ option_to_list b) ++ option_to_list c) (option_to_list d) r (option-one d r e)
+]
+
+pub among-cases : (a b c d : Option Reg) (r : Reg) → IsOneOf (((option_to_list a ++ option_to_list b) ++ option_to_list c) ++ option_to_list d) r
+    → ((a ≡ Some r) ⊎ (b ≡ Some r)) ⊎ ((c ≡ Some r) ⊎ (d ≡ Some r))
+among-cases a b c d r h =
+    elim (append-cases ((option_to_list a ++ option_to_list b) ++ option_to_list c) (option_to_list d) r h) [
+      | inr last ↦ inr (inr (one-option d r last))
+      | inl three ↦ elim (append-cases (option_to_list a ++ option_to_list b) (option_to_list c) r three) [
+        | inr third ↦ inr (inl (one-option c r third))
+        | inl two ↦ elim (append-cases (option_to_list a) (option_to_list b) r two) [
+          | inl first ↦ inl (inl (one-option a r first))
+          | inr second ↦ inl (inr (one-option b r second))
+        ]
+      ]
+    ]
+
+-- where it is none of the first three, a test of the last one decides
+pub among-decides : (t : Bool) (a b c d : Option Reg) (r : Reg) → (a ≡ Some r → ⊥) → (b ≡ Some r → ⊥) → (c ≡ Some r → ⊥) → IsTrue t ↔ (d ≡ Some r)
+    → IsTrue t ↔ IsOneOf (((option_to_list a ++ option_to_list b) ++ option_to_list c) ++ option_to_list d) r
+among-decides t a b c d r first second third test = (
+  λ h. among-last a b c d r (inr (test.0 h)),
+  λ among. elim (among-cases a b c d r among) [
+    | inl front ↦ elim front [ inl e ↦ absurd (first e) | inr e ↦ absurd (second e) ]
+    | inr back ↦ elim back [ inl e ↦ absurd (third e) | inr e ↦ test.1 e ]
+  ],
+)
+
+-- ---- instructions
+
+-- all but calls of functions and exits read what has to be set
+pub read_others : (i : Insn) → ((by : ℤ) → i ≡ CallLocal by → ⊥) → (i ≡ Exit → ⊥) → read_registers i ≡ reads i
+read_others (CallLocal by) call exit = absurd (call by refl)
+read_others Exit call exit = absurd (exit refl)
+read_others i call exit = refl
+
+-- all but calls write the one register that their form says
+pub written_others : (i : Insn) → ((number : ℤ) → i ≡ CallHelper number → ⊥) → ((by : ℤ) → i ≡ CallLocal by → ⊥)
+    → written_registers i ≡ option_to_list (writes i)
+written_others (CallHelper number) helper call = absurd (helper number refl)
+written_others (CallLocal by) helper call = absurd (call by refl)
+written_others i helper call = refl

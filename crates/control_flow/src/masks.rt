@@ -1,0 +1,47 @@
+//! Sets of registers.
+
+ghost use Rattle.std.specs.Prelude.{◌≡◌, ◌↔◌, ◌⊎◌, IsTrue};
+ghost use Rattle.isa_model.specs.declared.registers.Reg.{Reg as TheReg};
+ghost use Rattle.control_flow.specs.Masks.{mask_at};
+
+use isa_model::Reg;
+
+/// A set of registers, r0 in the lowest bit.
+#[derive(Clone, Copy, PartialEq, Eq, Debug)]
+pub struct RegisterMask {
+    bits: u16,
+}
+
+impl RegisterMask {
+    ghost use Rattle.control_flow.specs.Masks.{Has, no_registers};
+
+    /// No register.
+    pub fn none() -> Self
+        ensures { result ≡ no_registers }
+    {
+        RegisterMask { bits: 0 }
+    }
+
+    /// Whether a register is one of them.
+    pub fn has(self, register: Reg) -> bool
+        ensures { IsTrue result ↔ Has self register }
+    {
+        (self.bits >> register.number()) & 1 == 1
+    }
+
+    /// These and one more.
+    pub fn with(self, register: Reg) -> Self
+        ensures { (r : TheReg) → Has result r ↔ (Has self r ⊎ (r ≡ register)) }
+    {
+        RegisterMask {
+            bits: self.bits | (1 << register.number()),
+        }
+    }
+}
+
+/// The mask of a slot. Outside the list it has no register.
+pub fn mask_of(masks: &[RegisterMask], slot: usize) -> RegisterMask
+    ensures { result ≡ mask_at masks.now slot }
+{
+    masks.get(slot).copied().unwrap_or(RegisterMask::none())
+}

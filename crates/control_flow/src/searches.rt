@@ -1,0 +1,43 @@
+//! Searches through slots.
+
+ghost use Rattle.std.specs.Prelude.{◌≡◌, ◌<◌, ℕ, Some, length, OnOk, IfOk, replicate, false, []};
+
+use std::alloc::{AllocError, Global};
+
+/// A search so far: the slots that were found, and those of them from which it has not gone on.
+#[derive(Drop)]
+pub struct Search {
+    pub found: Vec<bool>,
+    pub frontier: Vec<usize>,
+}
+
+impl Search {
+    ghost use Rattle.control_flow.specs.Searches.{Extends};
+
+    /// A search in code with that many slots, which has found nothing.
+    pub fn new(alloc: Global, slots: usize) -> Result<Self, AllocError>
+        ensures found { IfOk result (λ search. search.found.items ≡ replicate slots false) }
+        ensures frontier { IfOk result (λ search. search.frontier.items ≡ []) }
+    {
+        Ok(Search {
+            found: vec![in alloc; false; slots]?,
+            frontier: Vec::new(alloc),
+        })
+    }
+
+    /// Finds a slot, if there is one.
+    pub fn find(&mut self, slot: Option<usize>) -> Result<(), AllocError>
+        requires { (k : ℕ) → slot ≡ Some k → k < length self.old.found.items }
+        ensures { OnOk result (Extends (λ k. slot ≡ Some k)
+            self.old.found.items self.old.frontier.items
+            self.new.found.items self.new.frontier.items) }
+    {
+        if let Some(slot) = slot {
+            if !self.found[slot] {
+                self.found[slot] = true;
+                self.frontier.push(slot)?;
+            }
+        }
+        Ok(())
+    }
+}
