@@ -1,5 +1,5 @@
 -- What a program must meet to be refused for memory alone.
-use Rattle.std.proofs.Common.{◌≡◌, ◌≤◌, ◌+◌, ◌∷◌, [], ℕ, zero, suc, Some, None, Option, Bool, true, false, List, arith, refl, subst, inl, inr}
+use Rattle.std.proofs.Common.{◌≡◌, ◌≤◌, ◌+◌, ◌∷◌, [], ℕ, zero, suc, Some, None, Option, Bool, true, false, List, arith, refl, sym, subst, inl, inr}
 use Rattle.std.specs.Prelude.{◌≢◌, ◌↔◌, ℤ, if◌then◌else◌}
 use Rattle.std.specs.List.{list_any}
 use Rattle.std.specs.Option.{option_map, option_and_then}
@@ -15,7 +15,6 @@ use Rattle.reg_state.specs.declared.kinds.Kind.TheVariants.{Number}
 use Rattle.reg_state.specs.declared.scalars.Scalar.{Scalar}
 use Rattle.stack_state.specs.declared.states.State.{State}
 use Rattle.stack_state.specs.Places.{kind_of}
-use Rattle.stack_state.specs.Starts.{start}
 use Rattle.branch_refine.specs.Refining.{IsNumber}
 use Rattle.control_flow.specs.declared.errors.FlowError.{FlowError}
 use Rattle.control_flow.specs.declared.errors.FlowError.TheVariants as error
@@ -29,10 +28,9 @@ use Rattle.transfer.specs.Refusing.{is_unset, is_unset_in, register_refusal, rea
 use Rattle.explorer.specs.declared.refusals.Refusal.{Refusal}
 use Rattle.explorer.specs.declared.refusals.Refusal.TheVariants.{Flow, Step, Repeats, TooLong, Memory}
 use Rattle.explorer.specs.Walks.{IsStuck, ComesBack}
-use Rattle.explorer.specs.Counts.{Takes}
-use Rattle.explorer.specs.Refused.{IsRefused}
+use Rattle.explorer.specs.Refused.{StartTakes, IsRefused}
 use Rattle.explorer.specs.Accepting.{IsOutOfMemory}
-use Rattle.isa_model.specs.MustAccept.Paths.{IsPlainForm, Each, needs, PathTo, IsWhole}
+use Rattle.isa_model.specs.MustAccept.Paths.{IsPlainForm, Each, IsOneOf, needs, PathTo, IsWhole}
 
 -- ---- control flow
 
@@ -43,7 +41,7 @@ pub record Jumped (p : Program) (slot to : ℕ) : Type 0 where
   pub distance : jump_distance insn ≡ Some by
   pub at : destination p slot by ≡ to
 
-jump_to-by : (p : Program) (slot to : ℕ) → jump_to p slot ≡ Some to → Jumped p slot to
+pub jump_to-by : (p : Program) (slot to : ℕ) → jump_to p slot ≡ Some to → Jumped p slot to
 unfolding jump_to
 jump_to-by p slot to h = of (fetch p slot) refl h where
   far : (i : Insn) (d : Option ℤ) → fetch p slot ≡ Some i → jump_distance i ≡ d → option_map (destination p slot) d ≡ Some to → Jumped p slot to
@@ -122,7 +120,7 @@ Flow-out_of_memory p e slot good h = absurd (IsFlow-Fails p e slot good h.fails)
 
 -- nothing but memory is left to refuse the program for
 pub IsRefused-want : (p : Program) (e : Refusal) (slot : ℕ) → IsFlow p → ((e : StepRefusal) (slot : ℕ) → IsStuck p e slot → ⊥)
-    → ((slot : ℕ) → ComesBack p slot → ⊥) → (Takes p start 1000001 → ⊥) → IsRefused p e slot → IsOutOfMemory e
+    → ((slot : ℕ) → ComesBack p slot → ⊥) → (StartTakes p 1000001 → ⊥) → IsRefused p e slot → IsOutOfMemory e
 IsRefused-want p (Flow e) slot good moves parts ends h = Flow-out_of_memory p e slot good h
 IsRefused-want p (Step e) slot good moves parts ends h = absurd (moves e slot h.1)
 IsRefused-want p Repeats slot good moves parts ends h = absurd (parts slot h.1)
@@ -138,6 +136,15 @@ number_is k h = absurd h
 pub Each-more : (P Q : Reg → Type 0) (rs : List Reg) → ((r : Reg) → P r → Q r) → Each P rs → Each Q rs
 Each-more P Q [] h each = tt
 Each-more P Q (r ∷ rs) h each = (h r each.0, Each-more P Q rs h each.1)
+
+pub Each-all : (P : Reg → Type 0) (rs : List Reg) → ((r : Reg) → IsOneOf rs r → P r) → Each P rs
+Each-all P [] h = tt
+Each-all P (r ∷ rs) h = (h r (inl refl), Each-all P rs (λ q among. h q (inr among)))
+
+pub Each-one : (P : Reg → Type 0) (rs : List Reg) (r : Reg) → Each P rs → IsOneOf rs r → P r
+Each-one P [] r each among = absurd among
+Each-one P (q ∷ rs) r each (inl same) = subst P (sym same) each.0
+Each-one P (q ∷ rs) r each (inr rest) = Each-one P rs r each.1 rest
 
 pub needs_reads : (P : Reg → Type 0) (i : Insn) → Each P (needs i) → Each P (reads i)
 needs_reads P Exit h = tt

@@ -22,6 +22,7 @@ use Rattle.isa_model.specs.Code.Instructions.{Program, fetch, slots_of, operand_
 use Rattle.isa_model.specs.Machine.States as Machine
 use Rattle.isa_model.specs.Machine.States.{reg, set_reg, value_at, new_frame}
 use Rattle.isa_model.specs.Machine.Steps.{Next, destination, branches, tested, test_of, act, step}
+use Rattle.isa_model.specs.Machine.Successors.{falls_through, jump_distance, FallsTo, JumpsTo}
 use Rattle.isa_model.specs.Running.Runs.{start_state, start_regs, count_values, Reaches}
 use Rattle.isa_model.specs.Running.RunLaws.{progress-zero}
 use Rattle.isa_model.specs.Running.Ends.{Reaches-then}
@@ -40,11 +41,15 @@ use Rattle.transfer.specs.declared.Ways.{Ways}
 use Rattle.transfer.specs.declared.Ways.TheVariants as ways
 use Rattle.transfer.specs.Exact.{Sets, Sides, Branches, Performs, Makes, GoesOnWith, StoresAt}
 use Rattle.explorer.specs.Walks.{IsAmong, StepsTo, Leads}
-use Rattle.explorer.specs.Counts.{StepsInto}
+use Rattle.control_flow.specs.Liveness.{IsLive}
+use Rattle.explorer.specs.Forgetting.{Forgets}
+use Rattle.explorer.specs.Counts.{AreForgotten, StepsInto}
+use Rattle.explorer.proofs.Forgotten.{Forgets-slot, Forgets-depth, Forgets-stack, Forgets-live}
+use Rattle.explorer.proofs.Living.{live_before}
 use Rattle.explorer.proofs.Accepted.{Each-more, own_register}
 use Rattle.explorer.proofs.OnNumbers.{NumbersIn, Remains, Refines-remains, Makes-performs, exited_none, kind_of-go_to, kind_of-with_own, room-with, compared_operand, just_number}
 use Rattle.explorer.proofs.StackSlots.{Holds, PutsSlot, store_puts}
-use Rattle.explorer.proofs.Beside.{Mirrored, IsNoPointer, Mirrors, first, Along, Reads, none_unset, read_numbers, just_below, computed}
+use Rattle.explorer.proofs.Beside.{Mirrored, IsNoPointer, Mirrors, first, Along, Reads, none_unset, determined_calls, read_numbers, just_below, computed}
 
 -- ---- a step
 
@@ -63,14 +68,14 @@ mirrored_more (Num x) k l more h = more x h
 mirrored_more (Ptr r z) k l more h = tt
 
 -- the same registers and slots at another slot of the code
-Mirrors-go : (s b : State) (t : Machine.State) (slot to : ℕ) → to ≡ slot → Remains s b → Mirrors s t
-    → Mirrors (go_to b slot) (Machine.go_to t to)
-Mirrors-go s b t slot to same n m = record {
+Mirrors-go : (alive more : Reg → Type 0) (s b : State) (t : Machine.State) (slot to : ℕ) → to ≡ slot → Remains s b
+    → ((r : Reg) → more r → alive r) → Mirrors alive s t → Mirrors more (go_to b slot) (Machine.go_to t to)
+Mirrors-go alive more s b t slot to same n less m = record {
   slot = same;
   one = ap (λ c. length c.items + 1) n.callers ∙ m.one;
   room = n.room ∙ m.room;
   wide = m.wide;
-  regs = λ r own. mirrored_more (reg t r) (kind_of s r) (kind_of (go_to b slot) r) (λ x just. subst (λ k. IsJust k x) (sym (kind_of-go_to b slot r)) (n.constants r x just)) (m.regs r own);
+  regs = λ r own live. mirrored_more (reg t r) (kind_of s r) (kind_of (go_to b slot) r) (λ x just. subst (λ k. IsJust k x) (sym (kind_of-go_to b slot r)) (n.constants r x just)) (m.regs r own (less r live));
   cells = ap (λ k. length k.slots) n.stack ∙ m.cells;
   stack = Slots-keep (Holds s) (Holds (go_to b slot)) t (Machine.go_to t to) m.stack refl refl (λ k z held. subst (λ x. IsJust (kind_in (slot_at x.slots k)) z) (sym n.stack) held);
 }
@@ -84,17 +89,19 @@ reg_with_own t r v wide = let below = below_eleven r in get_or-set_same t.regs (
 reg_with_other : (t : Machine.State) (r q : Reg) (v : Value) → q ≢ r → reg (set_reg t r v) q ≡ reg t q
 reg_with_other t r q v other = get_or-set_other t.regs (reg_number r) (reg_number q) v Unset (λ same. other (same_number q r same))
 
-Mirrors-set : (s : State) (t : Machine.State) (r : Reg) (k : Kind) (n : ℕ) → r ≢ R10 → IsJust k n → Mirrors s t
-    → Mirrors (with_register s r k) (set_reg t r (Num n))
-Mirrors-set s t r k n own just m = record {
+Mirrors-set : (alive : Reg → Type 0) (s : State) (t : Machine.State) (r : Reg) (k : Kind) (n : ℕ) → r ≢ R10 → IsJust k n → Mirrors alive s t
+    → Mirrors (λ q. (q ≡ r) ⊎ alive q) (with_register s r k) (set_reg t r (Num n))
+Mirrors-set alive s t r k n own just m = record {
   slot = m.slot;
   one = m.one;
   room = room-with s r k ∙ m.room;
   wide = length-set t.regs (reg_number r) (Num n) ∙ m.wide;
-  regs = λ q other. elim (same_or_other q r) [
+  regs = λ q other live. elim (same_or_other q r) [
     | inl same ↦ subst (λ q. Mirrored (reg (set_reg t r (Num n)) q) (kind_of (with_register s r k) q)) (sym same)
         (rw (reg_with_own t r (Num n) m.wide, kind_of-with_own s r k own m.room) just)
-    | inr apart ↦ rw (reg_with_other t r q (Num n) apart, kind_of-with_other s r q k apart) (m.regs q other)
+    | inr apart ↦
+        let before : alive q = elim live [ inl same ↦ absurd (apart same) | inr before ↦ before ] in
+        rw (reg_with_other t r q (Num n) apart, kind_of-with_other s r q k apart) (m.regs q other before)
   ];
   cells = m.cells;
   stack = Slots-keep (Holds s) (Holds (with_register s r k)) t (set_reg t r (Num n)) m.stack refl (reg_with_other t r R10 (Num n) (λ e. own (sym e))) (λ k z held. held);
@@ -117,9 +124,26 @@ not_yet p clock from t k i reached here other before w =
     ]
 
 -- the instruction at the machine state is the one at the abstract state
-pub here_too : (p : Program) (s : State) (t : Machine.State) (i : Insn) → Mirrors s t → fetch p s.slot ≡ Some i
+pub here_too : (p : Program) (s : State) (t : Machine.State) (i : Insn) → t.slot ≡ s.slot → fetch p s.slot ≡ Some i
     → fetch p t.slot ≡ Some i
-here_too p s t i m here = ap (fetch p) m.slot ∙ here
+here_too p s t i same here = ap (fetch p) same ∙ here
+
+-- what is live behind the instruction was written by it, or is live before it
+live_along : (p : Program) (steps : ℕ) (d : IsDetermined p steps) (k : ℕ) (s : State) (t : Machine.State) (i : Insn) (next : ℕ) (r : Reg)
+    → Along p steps d k s t → fetch p t.slot ≡ Some i → FallsTo s.slot i next ⊎ JumpsTo p s.slot i next
+    → IsLive p r next → (writes i ≡ Some r) ⊎ IsLive p r s.slot
+live_along p steps d k s t i next r along here on live =
+    let there : fetch p s.slot ≡ Some i = ap (fetch p) (sym along.mirrors.slot) ∙ here in
+    live_before p s.slot next i r there (determined_calls i (d.forms t.slot i here)) (i, there, on) live
+
+-- where it writes nothing, it is live before it
+still_live : (p : Program) (steps : ℕ) (d : IsDetermined p steps) (k : ℕ) (s : State) (t : Machine.State) (i : Insn) (next : ℕ)
+    → Along p steps d k s t → fetch p t.slot ≡ Some i → writes i ≡ None → FallsTo s.slot i next ⊎ JumpsTo p s.slot i next
+    → (r : Reg) → IsLive p r next → IsLive p r s.slot
+still_live p steps d k s t i next along here silent on r live = elim (live_along p steps d k s t i next r along here on live) [
+  | inl is ↦ absurd (cc (is, silent))
+  | inr before ↦ before
+]
 
 pub run_acts : (p : Program) (steps : ℕ) (d : IsDetermined p steps) (k : ℕ) (s : State) (t : Machine.State) (i : Insn)
     → Along p steps d k s t → fetch p t.slot ≡ Some i
@@ -130,7 +154,7 @@ run_acts p steps d k s t i along here =
 -- a jump goes on
 goes_along : (p : Program) (steps : ℕ) (d : IsDetermined p steps) (k : ℕ) (s b : State) (t : Machine.State) (i : Insn) (slot to : ℕ)
     → Along p steps d k s t → fetch p t.slot ≡ Some i → writes i ≡ None
-    → step p d.run.clock t ≡ Next (Machine.go_to t to) → Mirrors (go_to b slot) (Machine.go_to t to)
+    → step p d.run.clock t ≡ Next (Machine.go_to t to) → Mirrors (λ r. IsLive p r slot) (go_to b slot) (Machine.go_to t to)
     → Along p steps d (suc k) (go_to b slot) (Machine.go_to t to)
 goes_along p steps d k s b t i slot to along here silent goes mirrors = record {
   reached = Reaches-then p d.run.clock (first p steps d) k t (Machine.go_to t to) along.reached goes;
@@ -140,6 +164,13 @@ goes_along p steps d k s b t i slot to along here silent goes mirrors = record {
     | inr argument ↦ inr (argument.0, λ w. not_yet p d.run.clock (first p steps d) t k i along.reached here (λ e. absurd (cc (e, silent))) argument.1 w)
   ];
 }
+
+-- a form that writes a register falls through
+writes_falls : (i : Insn) (r : Reg) → writes i ≡ Some r → falls_through i ≡ true
+writes_falls (Jump by) r is = absurd (cc is)
+writes_falls (JumpLong by) r is = absurd (cc is)
+writes_falls Exit r is = absurd (cc is)
+writes_falls i r is = refl
 
 -- a form that sets a register goes on
 sets_along : (p : Program) (steps : ℕ) (d : IsDetermined p steps) (k : ℕ) (s a : State) (t : Machine.State) (i : Insn)
@@ -151,14 +182,20 @@ sets_along p steps d k s a t i along here h =
     (λ e trap. no_trap p d.run.clock (first p steps d) steps d.run.number k t e d.run.runs along.reached (acts ∙ trap)) h.written h.puts in
     let u = Machine.go_to (set_reg t h.register (Num c.number)) (t.slot + slots_of i) in
     let goes : step p d.run.clock t ≡ Next u = run_acts p steps d k s t i along here ∙ c.acts in
-    let put = Mirrors-set s t h.register h.kind c.number h.own c.just along.mirrors in
-    let mirrors : Mirrors (go_to (with_register s h.register h.kind) (s.slot + slots_of i)) u =
-    Mirrors-go (with_register s h.register h.kind) (with_register s h.register h.kind) (set_reg t h.register (Num c.number)) (s.slot + slots_of i) (t.slot + slots_of i)
-    (ap (λ n. n + slots_of i) along.mirrors.slot) (stays (with_register s h.register h.kind)) put in (
+    let next : ℕ = s.slot + slots_of i in
+    let put = Mirrors-set (λ r. IsLive p r s.slot) s t h.register h.kind c.number h.own c.just along.mirrors in
+    let less : (r : Reg) → IsLive p r next → (r ≡ h.register) ⊎ IsLive p r s.slot =
+    λ r live. elim (live_along p steps d k s t i next r along here (inl (writes_falls i h.register h.written, refl)) live) [
+      | inl is ↦ inl (cc (is, h.written))
+      | inr before ↦ inr before
+    ] in
+    let mirrors : Mirrors (λ r. IsLive p r next) (go_to (with_register s h.register h.kind) next) u =
+    Mirrors-go (λ r. (r ≡ h.register) ⊎ IsLive p r s.slot) (λ r. IsLive p r next) (with_register s h.register h.kind) (with_register s h.register h.kind) (set_reg t h.register (Num c.number)) next (t.slot + slots_of i)
+    (ap (λ n. n + slots_of i) along.mirrors.slot) (stays (with_register s h.register h.kind)) less put in (
       u,
       record {
         reached = Reaches-then p d.run.clock (first p steps d) k t u along.reached goes;
-        mirrors = subst (λ x. Mirrors x u) (sym h.next) mirrors;
+        mirrors = subst (λ x. Mirrors (λ r. IsLive p r x.slot) x u) (sym h.next) mirrors;
         numbers = λ q own. elim (same_or_other q h.register) [
           | inl same ↦ inl (subst (λ q. IsNoPointer (reg u q)) (sym same) (subst IsNoPointer (sym (reg_with_own t h.register (Num c.number) along.mirrors.wide)) tt))
           | inr apart ↦
@@ -176,13 +213,14 @@ one_next : (p : Program) (steps : ℕ) (d : IsDetermined p steps) (k : ℕ) (w :
 one_next p steps d k w a c u one is along = subst (λ v. NextAlong p steps d k v a) (sym one) (u, subst (λ x. Along p steps d (suc k) x u) (sym is) along)
 
 jump_along : (p : Program) (steps : ℕ) (d : IsDetermined p steps) (k : ℕ) (s : State) (t : Machine.State) (i : Insn) (by : ℤ) (w : Ways) (a : State)
-    → Along p steps d k s t → fetch p t.slot ≡ Some i → writes i ≡ None
+    → Along p steps d k s t → fetch p t.slot ≡ Some i → writes i ≡ None → jump_distance i ≡ Some by
     → act p d.run.clock t i ≡ Next (Machine.go_to t (destination p t.slot by)) → w ≡ ways.One
     → a ≡ go_to s (destination p s.slot by) → NextAlong p steps d k w a
-jump_along p steps d k s t i by w a along here silent acts one is =
+jump_along p steps d k s t i by w a along here silent jumps acts one is =
     one_next p steps d k w a (go_to s (destination p s.slot by)) (Machine.go_to t (destination p t.slot by)) one is
     (goes_along p steps d k s s t i (destination p s.slot by) (destination p t.slot by) along here silent (run_acts p steps d k s t i along here ∙ acts)
-    (Mirrors-go s s t (destination p s.slot by) (destination p t.slot by) (ap (λ n. destination p n by) along.mirrors.slot) (stays s) along.mirrors))
+    (Mirrors-go (λ r. IsLive p r s.slot) (λ r. IsLive p r (destination p s.slot by)) s s t (destination p s.slot by) (destination p t.slot by) (ap (λ n. destination p n by) along.mirrors.slot) (stays s)
+    (still_live p steps d k s t i (destination p s.slot by) along here silent (inr (by, jumps, refl))) along.mirrors))
 
 -- ---- conditional jumps
 
@@ -222,9 +260,9 @@ only_stays p steps d k false false stay go w a b none sides along = subst (λ v.
 
 branch_along : (p : Program) (steps : ℕ) (d : IsDetermined p steps) (k : ℕ) (s : State) (t : Machine.State) (c : Cond) (by : ℤ) (i : Insn) (w : Ways) (a b : State)
     → Along p steps d k s t → fetch p t.slot ≡ Some i
-    → writes i ≡ None → act p d.run.clock t i ≡ branches t p by (test_of t c)
+    → writes i ≡ None → FallsTo s.slot i (s.slot + 1) → jump_distance i ≡ Some by → act p d.run.clock t i ≡ branches t p by (test_of t c)
     → Each (Reads s t) (c.register ∷ operand_reads c.operand) → Branches p s c by w a b → NextAlong p steps d k w a
-branch_along p steps d k s t c by i w a b along here silent acts set h = of (holds c.comparison c.width test.x test.y) refl where
+branch_along p steps d k s t c by i w a b along here silent falls jumps acts set h = of (holds c.comparison c.width test.x test.y) refl where
   test : Tested s t c
   test = tested_there s t c set
 
@@ -240,25 +278,27 @@ branch_along p steps d k s t c by i w a b along here silent acts set h = of (hol
       only_goes p steps d k h.stays h.goes (go_to h.stay (s.slot + 1)) (go_to h.go (destination p s.slot by)) w a b (h.left_there.constants test.x test.y test.left test.right (λ e. absurd (cc (e, is)))) h.sides (
         Machine.go_to t (destination p t.slot by),
         goes_along p steps d k s h.go t i (destination p s.slot by) (destination p t.slot by) along here silent (goes_by true is)
-            (Mirrors-go s h.go t (destination p s.slot by) (destination p t.slot by) (ap (λ n. destination p n by) along.mirrors.slot) (Refines-remains c true h.goes s h.go (numbers.0, compared_operand s c.operand numbers.1) h.taken_there) along.mirrors),
+            (Mirrors-go (λ r. IsLive p r s.slot) (λ r. IsLive p r (destination p s.slot by)) s h.go t (destination p s.slot by) (destination p t.slot by) (ap (λ n. destination p n by) along.mirrors.slot) (Refines-remains c true h.goes s h.go (numbers.0, compared_operand s c.operand numbers.1) h.taken_there)
+            (still_live p steps d k s t i (destination p s.slot by) along here silent (inr (by, jumps, refl))) along.mirrors),
       )
   of false is =
       only_stays p steps d k h.stays h.goes (go_to h.stay (s.slot + 1)) (go_to h.go (destination p s.slot by)) w a b (h.taken_there.constants test.x test.y test.left test.right (λ e. absurd (cc (e, is)))) h.sides (
         Machine.go_to t (t.slot + 1),
         goes_along p steps d k s h.stay t i (s.slot + 1) (t.slot + 1) along here silent (goes_by false is)
-            (Mirrors-go s h.stay t (s.slot + 1) (t.slot + 1) (ap (λ n. n + 1) along.mirrors.slot) (Refines-remains c false h.stays s h.stay (numbers.0, compared_operand s c.operand numbers.1) h.left_there) along.mirrors),
+            (Mirrors-go (λ r. IsLive p r s.slot) (λ r. IsLive p r (s.slot + 1)) s h.stay t (s.slot + 1) (t.slot + 1) (ap (λ n. n + 1) along.mirrors.slot) (Refines-remains c false h.stays s h.stay (numbers.0, compared_operand s c.operand numbers.1) h.left_there)
+            (still_live p steps d k s t i (s.slot + 1) along here silent (inl falls)) along.mirrors),
       )
 
 -- ---- stores
 
 -- a number goes into a slot
 put_along : (p : Program) (steps : ℕ) (d : IsDetermined p steps) (k : ℕ) (s left : State) (t : Machine.State) (i : Insn) (j y : ℕ)
-    → (along : Along p steps d k s t) → fetch p t.slot ≡ Some i → writes i ≡ None
+    → (along : Along p steps d k s t) → fetch p t.slot ≡ Some i → writes i ≡ None → FallsTo s.slot i (s.slot + 1)
     → j < 64 → y < 2 ^ 64 → PutsSlot s left j y
     → act p d.run.clock t i ≡ Next (Machine.go_to (stored t along.mirrors.stack.frame j y) (t.slot + 1))
     → Along p steps d (suc k) (go_to left (s.slot + 1)) (Machine.go_to (stored t along.mirrors.stack.frame j y) (t.slot + 1))
 unfolding stored
-put_along p steps d k s left t i j y along here silent below fits put acts =
+put_along p steps d k s left t i j y along here silent falls below fits put acts =
     let m = along.mirrors in
     let u = stored t m.stack.frame j y in
     let cells = Slots-store (Holds s) (Holds left) t m.stack j y below fits put.there put.others in
@@ -269,7 +309,8 @@ put_along p steps d k s left t i j y along here silent below fits put acts =
         one = ap (λ c. length c.items + 1) put.callers ∙ m.one;
         room = put.room ∙ m.room;
         wide = m.wide;
-        regs = λ r own. subst (Mirrored (reg t r)) (sym (kind_of-go_to left (s.slot + 1) r ∙ put.kinds r)) (m.regs r own);
+        regs = λ r own live. subst (Mirrored (reg t r)) (sym (kind_of-go_to left (s.slot + 1) r ∙ put.kinds r))
+            (m.regs r own (still_live p steps d k s t i (s.slot + 1) along here silent (inl falls) r live));
         cells = put.wide ∙ m.cells;
         stack = Slots-keep (Holds left) (Holds (go_to left (s.slot + 1))) u (Machine.go_to u (t.slot + 1)) cells refl refl (λ k z held. held);
       };
@@ -281,14 +322,14 @@ put_along p steps d k s left t i j y along here silent below fits put acts =
 
 goes_on_along : (p : Program) (steps : ℕ) (d : IsDetermined p steps) (k : ℕ) (s : State) (t : Machine.State) (i : Insn) (j y : ℕ) (source : Kind) (w : Ways) (a : State)
     → (along : Along p steps d k s t)
-    → fetch p t.slot ≡ Some i → writes i ≡ None → j < 64 → IsJust source y
+    → fetch p t.slot ≡ Some i → writes i ≡ None → FallsTo s.slot i (s.slot + 1) → j < 64 → IsJust source y
     → act p d.run.clock t i ≡ Next (Machine.go_to (stored t along.mirrors.stack.frame j y) (t.slot + 1))
     → w ≡ ways.One → GoesOnWith s (StoresAt p.maps s U64 (slot_place j) source) a → NextAlong p steps d k w a
-goes_on_along p steps d k s t i j y source w a along here silent below just acts one h =
+goes_on_along p steps d k s t i j y source w a along here silent falls below just acts one h =
     let wide = along.mirrors.cells in
     let put = store_puts s h.left j y source (omega (arith, below, wide)) just h.leaving in
     one_next p steps d k w a (go_to h.left (s.slot + 1)) (Machine.go_to (stored t along.mirrors.stack.frame j y) (t.slot + 1)) one h.next
-    (put_along p steps d k s h.left t i j y along here silent below (just_below source y just) put acts)
+    (put_along p steps d k s h.left t i j y along here silent falls below (just_below source y just) put acts)
 
 store_along : (p : Program) (steps : ℕ) (d : IsDetermined p steps) (k : ℕ) (s : State) (t : Machine.State) (place : Place) (r : Reg) (w : Ways) (a : State)
     → Along p steps d k s t → IsSlotPlace place
@@ -299,7 +340,7 @@ store_along p steps d k s t place r w a along (j, below, is) here one h = of (su
       → GoesOnWith s (StoresAt p.maps s U64 (slot_place j) (kind_of s r)) a → NextAlong p steps d k w a
   of here h =
       let (y, there, just) = (read_numbers p steps d k s t (Store U64 (slot_place j) r) along here).0 in
-      goes_on_along p steps d k s t (Store U64 (slot_place j) r) j y (kind_of s r) w a along here refl below just
+      goes_on_along p steps d k s t (Store U64 (slot_place j) r) j y (kind_of s r) w a along here refl (refl, refl) below just
       (store_acts (Holds s) p d.run.clock t r j y along.mirrors.stack below there) one h
 
 store_constant_along : (p : Program) (steps : ℕ) (d : IsDetermined p steps) (k : ℕ) (s : State) (t : Machine.State) (place : Place) (n : ℤ) (source : Kind) (w : Ways) (a : State)
@@ -311,7 +352,7 @@ store_constant_along p steps d k s t place n source w a along (j, below, is) her
       of : fetch p t.slot ≡ Some (StoreConstant U64 (slot_place j) n)
           → GoesOnWith s (StoresAt p.maps s U64 (slot_place j) source) a → NextAlong p steps d k w a
       of here h =
-          goes_on_along p steps d k s t (StoreConstant U64 (slot_place j) n) j (unsigned Full64 n) source w a along here refl below just
+          goes_on_along p steps d k s t (StoreConstant U64 (slot_place j) n) j (unsigned Full64 n) source w a along here refl (refl, refl) below just
           (store_constant_acts (Holds s) p d.run.clock t n j along.mirrors.stack below) one h
 
 -- ---- any step
@@ -327,10 +368,10 @@ performs_along : (p : Program) (steps : ℕ) (d : IsDetermined p steps) (k : ℕ
     → Along p steps d k s t → fetch p t.slot ≡ Some i → IsDeterminedForm i
     → Performs p s i (Ok w) a b → NextAlong p steps d k w a
 unfolding act
-performs_along p steps d k s t (Jump by) w a b along here form h = jump_along p steps d k s t (Jump by) by w a along here refl refl (cc (h.0)) h.1
-performs_along p steps d k s t (JumpLong by) w a b along here form h = jump_along p steps d k s t (JumpLong by) by w a along here refl refl (cc (h.0)) h.1
+performs_along p steps d k s t (Jump by) w a b along here form h = jump_along p steps d k s t (Jump by) by w a along here refl refl refl (cc (h.0)) h.1
+performs_along p steps d k s t (JumpLong by) w a b along here form h = jump_along p steps d k s t (JumpLong by) by w a along here refl refl refl (cc (h.0)) h.1
 performs_along p steps d k s t (JumpIf c by) w a b along here form h =
-    branch_along p steps d k s t c by (JumpIf c by) w a b along here refl refl (read_numbers p steps d k s t (JumpIf c by) along here) h
+    branch_along p steps d k s t c by (JumpIf c by) w a b along here refl (refl, refl) refl refl (read_numbers p steps d k s t (JumpIf c by) along here) h
 performs_along p steps d k s t Exit w a b along here form h = subst (λ v. NextAlong p steps d k v a) (sym (exited_none (length s.callers.items) s a w along.mirrors.one h)) tt
 performs_along p steps d k s t (Store U64 place r) w a b along here form h = store_along p steps d k s t place r w a along form here h.0 h.1
 performs_along p steps d k s t (Store size place r) w a b along here form h = absurd form
@@ -348,21 +389,49 @@ pub step_along : (p : Program) (steps : ℕ) (d : IsDetermined p steps) (k : ℕ
     → Along p steps d k s t → fetch p s.slot ≡ Some i
     → Makes p s i w a b → NextAlong p steps d k w a
 step_along p steps d k s t i w a b along here makes =
-    performs_along p steps d k s t i w a b along (here_too p s t i along.mirrors here) (d.forms s.slot i here) (Makes-performs p s i w a b makes)
+    performs_along p steps d k s t i w a b along (here_too p s t i along.mirrors.slot here) (d.forms s.slot i here) (Makes-performs p s i w a b makes)
+
+-- what is forgotten is dead, so the state stays beside the run's
+pub Along-forgets : (p : Program) (steps : ℕ) (d : IsDetermined p steps) (k : ℕ) (a b : State) (t : Machine.State) → Forgets p a b
+    → Along p steps d k a t → Along p steps d k b t
+Along-forgets p steps d k a b t f along =
+    let m = along.mirrors in
+    let same = Forgets-stack p a b f in
+    record {
+      reached = along.reached;
+      mirrors = record {
+        slot = m.slot ∙ sym (Forgets-slot p a b f);
+        one = Forgets-depth p a b f ∙ m.one;
+        room = f.registers.ten;
+        wide = m.wide;
+        regs = λ r own live.
+            let before : IsLive p r a.slot = subst (IsLive p r) (Forgets-slot p a b f) live in
+            subst (Mirrored (reg t r)) (sym (Forgets-live p a b r f own before)) (m.regs r own before);
+        cells = ap (λ k. length k.slots) same ∙ m.cells;
+        stack = Slots-keep (Holds a) (Holds b) t t m.stack refl refl (λ k z held. subst (λ x. IsJust (kind_in (slot_at x.slots k)) z) (sym same) held);
+      };
+      numbers = along.numbers;
+    }
 
 pub into_along : (p : Program) (steps : ℕ) (d : IsDetermined p steps) (k : ℕ) (s : State) (t : Machine.State) (w : Ways) (a b : State)
     → Along p steps d k s t → StepsInto p s w a b → NextAlong p steps d k w a
-into_along p steps d k s t w a b along step = step_along p steps d k s t step.insn w a b along step.here step.makes
+into_along p steps d k s t w a b along step =
+    of w a b step.next step.aside step.forgets (step_along p steps d k s t step.insn w step.next step.aside along step.here step.makes) where
+      of : (w : Ways) (a b x y : State) → AreForgotten p w x y a b → NextAlong p steps d k w x → NextAlong p steps d k w a
+      of ways.None a b x y f next = tt
+      of ways.One a b x y f next = (next.0, Along-forgets p steps d (suc k) x a next.0 f next.1)
+      of ways.Two a b x y f next = absurd next
 
 -- a walk goes along the run
 pub to_along : (p : Program) (steps : ℕ) (d : IsDetermined p steps) (k : ℕ) (s c : State) (t : Machine.State)
     → Along p steps d k s t → StepsTo p s c → (u : Machine.State) × Along p steps d (suc k) c u
 to_along p steps d k s c t along step =
     of step.taken step.first step.other (step_along p steps d k s t step.insn step.taken step.first step.other along step.here step.makes) step.among where
-      of : (w : Ways) (a b : State) → NextAlong p steps d k w a → IsAmong w a b c
+      of : (w : Ways) (a b : State) → NextAlong p steps d k w a → IsAmong w a b step.next
           → (u : Machine.State) × Along p steps d (suc k) c u
       of ways.None a b next among = absurd among
-      of ways.One a b next among = (next.0, subst (λ x. Along p steps d (suc k) x next.0) (sym among) next.1)
+      of ways.One a b next among =
+          (next.0, Along-forgets p steps d (suc k) step.next c next.0 step.forgets (subst (λ x. Along p steps d (suc k) x next.0) (sym among) next.1))
       of ways.Two a b next among = absurd next
 
 pub walk_along : (p : Program) (steps : ℕ) (d : IsDetermined p steps) (n k : ℕ) (a b : State) (t : Machine.State)
@@ -390,7 +459,7 @@ start_along p steps d =
     let serial = count_values d.run.contents in
     record {
       reached = progress-zero p d.run.clock (first p steps d);
-      mirrors = record { slot = refl; one = refl; room = refl; wide = refl; regs = λ r own. start_mirrored serial r own; cells = length-replicate 64 (Written 0); stack = Slots-start (Holds start) d.run.head d.run.packet d.run.contents };
+      mirrors = record { slot = refl; one = refl; room = refl; wide = refl; regs = λ r own live. start_mirrored serial r own; cells = length-replicate 64 (Written 0); stack = Slots-start (Holds start) d.run.head d.run.packet d.run.contents };
       numbers = λ r own. elim (start_number serial r own) [
         | inl plain ↦ inl plain
         | inr argument ↦ inr (argument, λ w. let before = w.before in absurd (omega (arith, before)))

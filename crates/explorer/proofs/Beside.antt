@@ -1,5 +1,5 @@
 -- An abstract state beside the machine state of a run: its numbers are known.
-use Rattle.std.proofs.Common.{◌≡◌, ◌<◌, ◌∷◌, [], ℕ, Some, Ok, Bool, true, false, List, length, set, refl, sym, ap, ◌∙◌, subst, inl, inr, ◌⊎◌}
+use Rattle.std.proofs.Common.{◌≡◌, ◌<◌, ℕ, Some, Ok, Bool, true, false, length, set, refl, sym, ap, ◌∙◌, subst, inl, inr, ◌⊎◌}
 use Rattle.std.specs.Prelude.{◌≢◌, ◌^◌}
 use Rattle.std.specs.List.{list_any}
 use Rattle.isa_model.specs.declared.sizes.Size.TheVariants.{U64}
@@ -13,7 +13,7 @@ use Rattle.isa_model.specs.declared.instructions.Operand.{Operand}
 use Rattle.isa_model.specs.declared.instructions.Operand.TheVariants.{Constant, Register}
 use Rattle.isa_model.specs.declared.instructions.Place.{Place}
 use Rattle.isa_model.specs.declared.instructions.Insn.{Insn}
-use Rattle.isa_model.specs.declared.instructions.Insn.TheVariants.{Alu, Neg, MovSx, ByteSwap, LoadNumber, Load, StoreConstant, Store, Jump, JumpLong, JumpIf, Exit}
+use Rattle.isa_model.specs.declared.instructions.Insn.TheVariants.{Alu, Neg, MovSx, ByteSwap, LoadNumber, Load, StoreConstant, Store, Jump, JumpLong, JumpIf, CallHelper, CallLocal, Exit}
 use Rattle.isa_model.specs.declared.values.Value.{Value}
 use Rattle.isa_model.specs.declared.values.Value.TheVariants.{Unset, Num, Ptr}
 use Rattle.isa_model.specs.declared.ends.TrapReason.{TrapReason}
@@ -40,6 +40,10 @@ use Rattle.stack_state.specs.Places.{kind_of}
 use Rattle.branch_refine.specs.Refining.{IsJust}
 use Rattle.transfer.specs.Results.{OfNumber, NumberAnd, Combined, Copied, Arithmetic}
 use Rattle.transfer.specs.Exact.{IsOperand, Puts}
+use Rattle.control_flow.specs.Liveness.{IsLive}
+use Rattle.control_flow.specs.LivenessLaws.{IsLive-read}
+use Rattle.explorer.proofs.Accepted.{Each-all, Each-one}
+use Rattle.explorer.proofs.Living.{CallsNothing, read_needed}
 use Rattle.explorer.proofs.StackSlots.{Holds, load_just}
 
 -- ---- an abstract state beside the machine state of the run
@@ -53,12 +57,13 @@ abbrev pub IsNoPointer : Value → Type 0
 IsNoPointer (Ptr r z) = ⊥
 IsNoPointer v = Unit {0}
 
-pub record Mirrors (s : State) (t : Machine.State) : Type 0 where
+-- the registers of which it is said, and slots, hold their numbers
+pub record Mirrors (alive : Reg → Type 0) (s : State) (t : Machine.State) : Type 0 where
   pub slot : t.slot ≡ s.slot
   pub one : depth s ≡ 1
   pub room : length (registers_of s) ≡ 10
   pub wide : length t.regs ≡ 11
-  pub regs : (r : Reg) → r ≢ R10 → Mirrored (reg t r) (kind_of s r)
+  pub regs : (r : Reg) → r ≢ R10 → alive r → Mirrored (reg t r) (kind_of s r)
   pub cells : length s.innermost.stack.slots ≡ 64
   pub stack : Slots (Holds s) t
 
@@ -68,7 +73,7 @@ first p steps d = start_state d.run.head d.run.packet d.run.contents
 -- the run comes to the machine state after k steps; no register but r1, until it is written, and r10 holds a pointer
 pub record Along (p : Program) (steps : ℕ) (d : IsDetermined p steps) (k : ℕ) (s : State) (t : Machine.State) : Type 0 where
   pub reached : Reaches p d.run.clock (first p steps d) k t
-  pub mirrors : Mirrors s t
+  pub mirrors : Mirrors (λ r. IsLive p r s.slot) s t
   pub numbers : (r : Reg) → r ≢ R10
       → IsNoPointer (reg t r) ⊎ ((r ≡ R1) × (WritesIn p d.run.clock (first p steps d) k R1 → ⊥))
 
@@ -77,15 +82,6 @@ pub record Along (p : Program) (steps : ℕ) (d : IsDetermined p steps) (k : ℕ
 -- the register holds a number, and it is known
 abbrev pub Reads : State → Machine.State → Reg → Type 0
 Reads s t r = (x : ℕ) × (reg t r ≡ Num x) × IsJust (kind_of s r) x
-
-pub Each-all : (P : Reg → Type 0) (rs : List Reg) → ((r : Reg) → IsOneOf rs r → P r) → Each P rs
-Each-all P [] h = tt
-Each-all P (r ∷ rs) h = (h r (inl refl), Each-all P rs (λ q among. h q (inr among)))
-
-pub Each-one : (P : Reg → Type 0) (rs : List Reg) (r : Reg) → Each P rs → IsOneOf rs r → P r
-Each-one P [] r each among = absurd among
-Each-one P (q ∷ rs) r each (inl same) = subst P (sym same) each.0
-Each-one P (q ∷ rs) r each (inr rest) = Each-one P rs r each.1 rest
 
 read_value : (s : State) (t : Machine.State) (r : Reg) (v : Value) → reg t r ≡ v → is_unset v ≡ false
     → IsNoPointer v → Mirrored v (kind_of s r) → Reads s t r
@@ -105,6 +101,18 @@ none_unset p steps d k s t i along here = of (list_any (λ r. is_unset (reg t r)
       let trap = step_unset p d.run.clock t i here is in
       absurd (no_trap p d.run.clock (first p steps d) steps d.run.number k t trap.0 d.run.runs along.reached trap.1)
 
+pub determined_calls : (i : Insn) → IsDeterminedForm i → CallsNothing i
+determined_calls (CallHelper number) form = absurd form
+determined_calls (CallLocal by) form = absurd form
+determined_calls i form = tt
+
+-- what is read is live
+read_live : (p : Program) (steps : ℕ) (d : IsDetermined p steps) (k : ℕ) (s : State) (t : Machine.State) (i : Insn) (r : Reg)
+    → Along p steps d k s t → fetch p t.slot ≡ Some i → IsOneOf (reads i) r → IsLive p r s.slot
+read_live p steps d k s t i r along here among =
+    let there : fetch p s.slot ≡ Some i = ap (fetch p) (sym along.mirrors.slot) ∙ here in
+    IsLive-read p r s.slot i there (read_needed i (determined_calls i (d.forms t.slot i here)) r among)
+
 -- and hold numbers
 operand_read : (i : Insn) (r : Reg) → IsOneOf (operands i) r → IsOneOf (reads i) r
 operand_read (Load size d place) r among = absurd among
@@ -123,7 +131,7 @@ read_numbers p steps d k s t i along here =
       | inl plain ↦ plain
       | inr argument ↦ absurd (argument.1 (d.run.argument k t i along.reached here (subst (IsOneOf (reads i)) argument.0 read)))
     ] in
-    read_value s t r (reg t r) refl (is_set (reads i) (λ q. is_unset (reg t q)) r set read) free (along.mirrors.regs r own))
+    read_value s t r (reg t r) refl (is_set (reads i) (λ q. is_unset (reg t q)) r set read) free (along.mirrors.regs r own (read_live p steps d k s t i r along here read)))
 
 -- ---- what an instruction on numbers computes
 

@@ -2,7 +2,6 @@
 use Rattle.std.proofs.Common.{◌≡◌, ◌+◌, ◌∷◌, ◌++◌, [], ℕ, Some, None, Option, List, arith, refl, sym, subst}
 use Rattle.isa_model.specs.Code.Instructions.{Program}
 use Rattle.stack_state.specs.declared.states.State.{State}
-use Rattle.stack_state.specs.Starts.{start}
 use Rattle.transfer.specs.declared.Ways.TheVariants as ways
 use Rattle.explorer.specs.declared.trail.Visit.{Visit}
 use Rattle.explorer.specs.Counts.{StepsInto, Takes, Nothing, OneMore, BothMore}
@@ -69,13 +68,10 @@ CountsTo-here p path a b n none same zero = subst (λ x. CountsTo p a x b n) (sy
 
 -- ---- the search
 
-pub record IsSpentOn (p : Program) (path : List Visit) (current : State) (n : ℕ) : Type 0 where
-  pub counts : CountsTo p start path current n
-
 -- the last visit ends
-pub spent_back : (p : Program) (path whole : List Visit) (visit : Visit) (n : ℕ) → whole ≡ path ++ visit ∷ [] → HasSpent p whole n → HasSpent p path n
-spent_back p path whole visit n e h =
-    let last = CountsTo-pop p path visit start h.state h.before (subst (λ x. CountsTo p start x h.state h.before) e h.counts) in
+pub spent_back : (p : Program) (from : State) (path whole : List Visit) (visit : Visit) (n : ℕ) → whole ≡ path ++ visit ∷ [] → HasSpent p from whole n → HasSpent p from path n
+spent_back p from path whole visit n e h =
+    let last = CountsTo-pop p path visit from h.state h.before (subst (λ x. CountsTo p from x h.state h.before) e h.counts) in
     record {
       state = last.state;
       before = last.before;
@@ -86,23 +82,23 @@ spent_back p path whole visit n e h =
     }
 
 -- the last visit goes on with what was pending
-pub spent_on : (p : Program) (path whole again : List Visit) (visit rest : Visit) (other : State) (n : ℕ) → whole ≡ path ++ visit ∷ [] → again ≡ path ++ rest ∷ [] → visit.pending ≡ Some other → rest.pending ≡ None
-    → HasSpent p whole n → CountsTo p start again other n
-spent_on p path whole again visit rest other n e f some none h =
-    let last = CountsTo-pop p path visit start h.state h.before (subst (λ x. CountsTo p start x h.state h.before) e h.counts) in
-    let pushed = CountsTo-push p path rest start last.state other last.before (last.own + h.own) last.counts (Spends-next p visit rest last.state h.state other last.own h.own last.spends h.takes some none) in
+pub spent_on : (p : Program) (from : State) (path whole again : List Visit) (visit rest : Visit) (other : State) (n : ℕ) → whole ≡ path ++ visit ∷ [] → again ≡ path ++ rest ∷ [] → visit.pending ≡ Some other → rest.pending ≡ None
+    → HasSpent p from whole n → CountsTo p from again other n
+spent_on p from path whole again visit rest other n e f some none h =
+    let last = CountsTo-pop p path visit from h.state h.before (subst (λ x. CountsTo p from x h.state h.before) e h.counts) in
+    let pushed = CountsTo-push p path rest from last.state other last.before (last.own + h.own) last.counts (Spends-next p visit rest last.state h.state other last.own h.own last.spends h.takes some none) in
     let same : last.before + (last.own + h.own) ≡ n = omega (arith, h.total_is, last.total_is) in
-    subst (λ x. CountsTo p start x other n) (sym f) (subst (λ k. CountsTo p start (path ++ rest ∷ []) other k) same pushed)
+    subst (λ x. CountsTo p from x other n) (sym f) (subst (λ k. CountsTo p from (path ++ rest ∷ []) other k) same pushed)
 
 -- a visit begins
-pub spent_into : (p : Program) (path whole : List Visit) (visit : Visit) (s child : State) (n m : ℕ) → whole ≡ path ++ visit ∷ [] → CountsTo p start path s n → Spends p visit s child 1 → m ≡ n + 1
-    → CountsTo p start whole child m
-spent_into p path whole visit s child n m e counts spends is =
-    subst (λ x. CountsTo p start x child m) (sym e) (subst (λ k. CountsTo p start (path ++ visit ∷ []) child k) (sym is) (CountsTo-push p path visit start s child n 1 counts spends))
+pub spent_into : (p : Program) (from : State) (path whole : List Visit) (visit : Visit) (s child : State) (n m : ℕ) → whole ≡ path ++ visit ∷ [] → CountsTo p from path s n → Spends p visit s child 1 → m ≡ n + 1
+    → CountsTo p from whole child m
+spent_into p from path whole visit s child n m e counts spends is =
+    subst (λ x. CountsTo p from x child m) (sym e) (subst (λ k. CountsTo p from (path ++ visit ∷ []) child k) (sym is) (CountsTo-push p path visit from s child n 1 counts spends))
 
 -- the current state takes `own`
-pub spent_here : (p : Program) (path : List Visit) (s : State) (n own m : ℕ) → CountsTo p start path s n → Takes p s own → n + own ≡ m → HasSpent p path m
-spent_here p path s n own m counts takes is = record { state = s; before = n; own = own; counts = counts; takes = takes; total_is = is }
+pub spent_here : (p : Program) (from : State) (path : List Visit) (s : State) (n own m : ℕ) → CountsTo p from path s n → Takes p s own → n + own ≡ m → HasSpent p from path m
+spent_here p from path s n own m counts takes is = record { state = s; before = n; own = own; counts = counts; takes = takes; total_is = is }
 
 -- all that was explored was explored from the start
 pub CountsTo-takes : (p : Program) (path : List Visit) (a s : State) (n own : ℕ) → CountsTo p a path s n → Takes p s own → Takes p a (n + own)

@@ -1,5 +1,5 @@
 -- Determined programs are accepted, and their bound is the count of steps of their run.
-use Rattle.std.proofs.Common.{◌≡◌, ◌≤◌, ◌+◌, ◌<◌, ℕ, zero, suc, Some, None, Err, true, false, length, set, arith, refl, sym, ap, ◌∙◌, subst}
+use Rattle.std.proofs.Common.{◌≡◌, ◌≤◌, ◌+◌, ◌<◌, ℕ, zero, suc, Some, None, Err, true, false, length, set, arith, refl, sym, ap, ◌∙◌, subst, inl}
 use Rattle.std.specs.Prelude.{◌==◌, List}
 use Rattle.std.proofs.lemmas.Bool.Decides.{nat_tests}
 use Rattle.isa_model.specs.declared.map_defs.MapDef.{MapDef}
@@ -41,15 +41,23 @@ use Rattle.transfer.specs.Exact.{Puts, Performs, Makes, StoresAt}
 use Rattle.transfer.specs.ExactLaws.{Steps-leads}
 use Rattle.explorer.specs.declared.refusals.Refusal.{Refusal}
 use Rattle.explorer.specs.Accepting.{IsOutOfMemory}
-use Rattle.explorer.specs.Walks.{IsAmong, StepsTo, Leads, IsStuck, ComesBack}
+use Rattle.control_flow.specs.Liveness.{IsLive}
+use Rattle.explorer.specs.Forgetting.{Forgets}
+use Rattle.explorer.specs.Walks.{IsAmong, StepsTo, Leads, WalksTo, IsStuck, ComesBack}
 use Rattle.explorer.specs.Counts.{StepsInto, HasNumber, LeadsNowhere, LeadsToOne, LeadsToTwo, IsCoveredBy, Takes, Nothing, ItsOwn, OneMore, BothMore}
 use Rattle.explorer.specs.Refused.{IsRefused}
 use Rattle.control_flow.specs.Graph.{call_distance}
 use Rattle.explorer.proofs.Accepted.{IsFlow-whole, IsRefused-want, Each-more, sets_pass, number_set}
+use Rattle.explorer.proofs.Forgotten.{Means-forgets}
+use Rattle.explorer.proofs.Living.{needs_live}
 use Rattle.explorer.proofs.OnNumbers.{NumbersIn, Makes-performs, Refuses-performs, exited_none, just_number, performs_goes}
 use Rattle.explorer.proofs.StackSlots.{Holds, load_goes, store_goes}
 use Rattle.explorer.proofs.Beside.{Mirrored, first, Along, Reads, read_numbers}
-use Rattle.explorer.proofs.Along.{run_acts, here_too, NextAlong, step_along, into_along, to_along, walk_along, start_along}
+use Rattle.explorer.proofs.Along.{run_acts, here_too, NextAlong, step_along, Along-forgets, into_along, to_along, walk_along, start_along}
+
+-- the state in which paths begin
+first_along : (p : Program) (steps : ℕ) (d : IsDetermined p steps) (s : State) → Forgets p start s → Along p steps d 0 s (first p steps d)
+first_along p steps d s begins = Along-forgets p steps d 0 start s (first p steps d) begins (start_along p steps d)
 
 -- ---- how much is explored
 
@@ -75,7 +83,7 @@ numbers_along : (p : Program) (steps : ℕ) (d : IsDetermined p steps) (k : ℕ)
     → Each (NumbersIn s) (operands i)
 numbers_along p steps d k s t i along here =
     Each-more (Reads s t) (NumbersIn s) (operands i) (λ r known. just_number (kind_of s r) known.0 known.2)
-    (read_numbers p steps d k s t i along (here_too p s t i along.mirrors here))
+    (read_numbers p steps d k s t i along (here_too p s t i along.mirrors.slot here))
 
 base_set : (s : State) (place : Place) → IsSlotPlace place → is_unset_kind (kind_of s place.base) ≡ false
 base_set s place (j, below, is) = ap (λ q. is_unset_kind (kind_of s q.base)) is
@@ -100,7 +108,10 @@ steps_leads p steps d k s t i w a b program along here makes = Steps-leads p s i
 exit_number : (p : Program) (steps : ℕ) (d : IsDetermined p steps) (k : ℕ) (s : State) (t : Machine.State)
     → Along p steps d k s t → fetch p t.slot ≡ Some Exit → IsNumber (kind_of s R0)
 unfolding act
-exit_number p steps d k s t along here = of (reg t R0) refl (along.mirrors.regs R0 (λ e. absurd (cc e))) where
+exit_number p steps d k s t along here = of (reg t R0) refl (along.mirrors.regs R0 (λ e. absurd (cc e)) live) where
+  live : IsLive p R0 s.slot
+  live = needs_live p s.slot Exit R0 (ap (fetch p) (sym along.mirrors.slot) ∙ here) tt (inl refl)
+
   one : (length t.frames == 1) ≡ true
   one = let same : length t.frames ≡ 1 = ap (λ fs. length fs) along.mirrors.stack.only in grind (arith, nat_tests, same)
 
@@ -154,14 +165,19 @@ goes_along_run p steps d k s t (JumpLong by) e b c along here form set h = perfo
 goes_along_run p steps d k s t (JumpIf cond by) e b c along here form set h = performs_goes p s (JumpIf cond by) e b c form set along.mirrors.one h
 goes_along_run p steps d k s t i e b c along here form set h = absurd form
 
+-- a walk from the start goes along the run
+walks_along : (p : Program) (steps : ℕ) (d : IsDetermined p steps) (n : ℕ) (s : State) → WalksTo p n s → (u : Machine.State) × Along p steps d (0 + n) s u
+walks_along p steps d n s walk =
+    walk_along p steps d n 0 walk.first s (first p steps d) (first_along p steps d walk.first walk.begins) walk.leads
+
 never_stuck : (p : Program) (steps : ℕ) (d : IsDetermined p steps) (e : StepRefusal) (slot : ℕ) → IsStuck p e slot → ⊥
 never_stuck p steps d e slot h =
-    let (t, along) = walk_along p steps d h.steps 0 start h.state (first p steps d) (start_along p steps d) h.leads in
+    let (t, along) = walks_along p steps d h.steps h.state h.walk in
     let form = d.forms h.state.slot h.insn h.here in
     let set = numbers_along p steps d (0 + h.steps) h.state t h.insn along h.here in
     let pass = sets_pass h.state h.insn (reads_set h.state h.insn form set) (d.own h.state.slot h.insn h.here) in
     Refuses-performs p h.state h.insn e ⊥ pass h.refused
-    (λ b c performs. goes_along_run p steps d (0 + h.steps) h.state t h.insn e b c along (here_too p h.state t h.insn along.mirrors h.here) form set performs)
+    (λ b c performs. goes_along_run p steps d (0 + h.steps) h.state t h.insn e b c along (here_too p h.state t h.insn along.mirrors.slot h.here) form set performs)
 
 -- ---- members of the states
 
@@ -202,18 +218,19 @@ member_runs : (p : Program) (steps : ℕ) (d : IsDetermined p steps) (k n : ℕ)
     → (clock : ℕ → ℕ) → IsClock clock → (v : Machine.State) → Means p s v → (a : ℕ) × Runs p clock v n a
 unfolding LeadsTo Covers
 member_runs p steps d k n s t program (LeadsNowhere _ a b _ into is) along = λ clock answers v means.
-    let leads = steps_leads p steps d k s t into.insn ways.None a b program along into.here into.makes in
+    let leads = steps_leads p steps d k s t into.insn ways.None into.next into.aside program along into.here into.makes in
     let (x, runs) = last_runs p clock v (step p clock v) refl (leads clock answers v means) in
     (x, subst (λ j. Runs p clock v j x) (sym is) runs)
 member_runs p steps d k n s t program (LeadsToOne _ a b m _ into child is) along = λ clock answers v means.
     let (u, next) = into_along p steps d k s t ways.One a b along into in
-    let (x, goes, meant) = member_goes p steps d k s t into.insn a b program along into.here into.makes clock answers v means in
+    let (x, goes, made) = member_goes p steps d k s t into.insn into.next into.aside program along into.here into.makes clock answers v means in
+    let meant = Means-forgets p into.next a x into.forgets made in
     let (y, runs) = member_runs p steps d (suc k) m a u program child next clock answers x meant in
     let same : suc m ≡ n = omega (arith, is) in
     (y, subst (λ j. Runs p clock v j y) same (Runs-before p clock v x m y goes runs))
 member_runs p steps d k n s t program (LeadsToTwo _ a b i j _ into left right is) along = absurd (into_along p steps d k s t ways.Two a b along into)
-member_runs p steps d k n s t program (IsCoveredBy _ e far _ leads same covers number) along = λ clock answers v means.
-    let (u, there) = walk_along p steps d far 0 start e (first p steps d) (start_along p steps d) leads in
+member_runs p steps d k n s t program (IsCoveredBy _ e far _ walk same covers number) along = λ clock answers v means.
+    let (u, there) = walks_along p steps d far e walk in
     member_runs p steps d (0 + far) n e u program number there clock answers v (covers v means)
 
 -- ---- no way back
@@ -238,10 +255,13 @@ ends_on p clock v x (suc m) h goes = (m, refl, subst (After (λ y. Ends p clock 
 one_to : (p : Program) (steps : ℕ) (d : IsDetermined p steps) (k : ℕ) (s c : State) (t : Machine.State)
     → Along p steps d k s t → StepsTo p s c → (b : State) × StepsInto p s ways.One c b
 one_to p steps d k s c t along step = of step.taken step.first step.other step.makes (step_along p steps d k s t step.insn step.taken step.first step.other along step.here step.makes) step.among where
-  of : (w : Ways) (x y : State) → Makes p s step.insn w x y → NextAlong p steps d k w x → IsAmong w x y c
+  of : (w : Ways) (x y : State) → Makes p s step.insn w x y → NextAlong p steps d k w x → IsAmong w x y step.next
       → (b : State) × StepsInto p s ways.One c b
   of ways.None x y makes next among = absurd among
-  of ways.One x y makes next among = (y, record { insn = step.insn; here = step.here; makes = subst (λ z. Makes p s step.insn ways.One z y) (sym among) makes })
+  of ways.One x y makes next among = (
+    y,
+    record { insn = step.insn; here = step.here; next = step.next; aside = y; makes = subst (λ z. Makes p s step.insn ways.One z y) (sym among) makes; forgets = step.forgets },
+  )
   of ways.Two x y makes next among = absurd next
 
 walk_members : (p : Program) (steps : ℕ) (d : IsDetermined p steps) (j k n : ℕ) (a b : State) (t : Machine.State)
@@ -252,7 +272,8 @@ walk_members p steps d zero k n a b t program along h = λ clock answers v means
 walk_members p steps d (suc j) k n a b t program along h = λ clock answers v means ends.
     let c = h.0 in
     let (other, into) = one_to p steps d k a c t along h.1 in
-    let (x, goes, meant) = member_goes p steps d k a t into.insn c other program along into.here into.makes clock answers v means in
+    let (x, goes, made) = member_goes p steps d k a t into.insn into.next into.aside program along into.here into.makes clock answers v means in
+    let meant = Means-forgets p into.next c x into.forgets made in
     let (m, is, rest) = ends_on p clock v x n ends goes in
     let (u, next) = to_along p steps d k a c t along h.1 in
     let later = walk_members p steps d j (suc k) m c b u program next h.2 clock answers x meant rest in
@@ -278,9 +299,11 @@ no_way_back p steps d slot program h =
     let from = first p steps d in
     let means = Means-start p d.run.head d.run.packet d.run.contents program d.run.given in
     let ends = Ends-Runs p d.run.clock from steps steps d.run.number d.run.runs (omega arith) in
-    let here = start_along p steps d in
-    let later = walk_members p steps d h.before 0 steps start h.first from program here h.leads d.run.clock d.run.clock_is from means ends in
-    let (t, along) = walk_along p steps d h.before 0 start h.first from here h.leads in
+    let walk = h.walk in
+    let here = first_along p steps d walk.first walk.begins in
+    let begun = Means-forgets p start walk.first from walk.begins means in
+    let later = walk_members p steps d h.before 0 steps walk.first h.first from program here walk.leads d.run.clock d.run.clock_is from begun ends in
+    let (t, along) = walks_along p steps d h.before h.first walk in
     no_end p steps d (0 + h.before) h.between h.first h.again t program along h.leads_back h.covers later.left later.left (omega arith) later.clock later.answers later.state later.meant later.ends
 
 -- ---- the class
@@ -293,7 +316,7 @@ pub IsDetermined-refused : (p : Program) (steps : ℕ) (e : Refusal) (slot : ℕ
     → IsDetermined p steps → IsOutOfMemory e
 IsDetermined-refused p steps e slot program refused d =
     IsRefused-want p e slot (IsFlow-whole p d.whole (λ slot i here. determined_no_call i (d.forms slot i here))) (λ e slot h. never_stuck p steps d e slot h) (λ slot h. no_way_back p steps d slot program h)
-    (λ h. let few = takes_along p steps d 0 start (first p steps d) 1000001 (start_along p steps d) h in let most = d.most in omega (arith, few, most)) refused
+    (λ (s, begins, takes). let few = takes_along p steps d 0 s (first p steps d) 1000001 (first_along p steps d s begins) takes in let most = d.most in omega (arith, few, most)) refused
 
 pub IsDetermined-bound : (p : Program) (steps n : ℕ) → IsProgram p → HasNumber p start n → IsDetermined p steps
     → n ≡ steps

@@ -23,8 +23,10 @@ use Rattle.transfer.specs.Exact.{Performs, Makes}
 use Rattle.transfer.specs.Following.{returns_of, GoesOnTo}
 use Rattle.transfer.specs.FollowLaws.{Steps-follows}
 use Rattle.explorer.proofs.Accepted.{HasNoCalls}
+use Rattle.explorer.specs.Refused.{StartTakes}
+use Rattle.explorer.proofs.Forgotten.{Forgets-depth, GoesOnTo-forgets}
 use Rattle.explorer.proofs.OnNumbers.{Makes-performs, exits_not_two}
-use Rattle.explorer.specs.Walks.{StepsTo, Leads, ComesBack, IsAmong}
+use Rattle.explorer.specs.Walks.{StepsTo, Leads, WalksTo, ComesBack, IsAmong}
 use Rattle.explorer.specs.Counts.{StepsInto, HasNumber, LeadsNowhere, LeadsToOne, LeadsToTwo, IsCoveredBy, Takes, Nothing, ItsOwn, OneMore, BothMore}
 use Rattle.isa_model.specs.MustAccept.Paths.{is_conditional, IsForward}
 
@@ -49,14 +51,23 @@ GoesOnTo-alone p a b free one (inr (inr h)) =
     let after = length-returns b in
     absurd (omega (arith, one, before, after))
 
+-- each state that the instruction makes
+Makes-goes : (p : Program) (s t : State) (i : Insn) (w : Ways) (a b : State) → fetch p s.slot ≡ Some i → Makes p s i w a b → IsAmong w a b t → GoesOnTo p s t
+Makes-goes p s t i w a b here makes among = of w a b (Steps-follows p s i w a b here makes) among where
+  of : (w : Ways) (a b : State) → EachWay w a b (GoesOnTo p s) → IsAmong w a b t → GoesOnTo p s t
+  of ways.None a b goes is = absurd is
+  of ways.One a b goes is = subst (GoesOnTo p s) (sym is) goes
+  of ways.Two a b goes (inl is) = subst (GoesOnTo p s) (sym is) goes.0
+  of ways.Two a b goes (inr is) = subst (GoesOnTo p s) (sym is) goes.1
+
+pub Makes-follows : (p : Program) (s t : State) (i : Insn) (w : Ways) (a b : State) → HasNoCalls p → depth s ≡ 1 → fetch p s.slot ≡ Some i
+    → Makes p s i w a b → IsAmong w a b t → Follows p s.slot t.slot
+Makes-follows p s t i w a b free one here makes among = (GoesOnTo-alone p s t free one (Makes-goes p s t i w a b here makes among)).follows
+
+-- and the state that comes of it
 pub StepsTo-goes : (p : Program) (a c : State) → StepsTo p a c → GoesOnTo p a c
-StepsTo-goes p a c step = among step.taken step.first step.other (Steps-follows p a step.insn step.taken step.first step.other step.here step.makes) step.among
-  where
-    among : (w : Ways) (x y : State) → EachWay w x y (GoesOnTo p a) → IsAmong w x y c → GoesOnTo p a c
-    among ways.None x y goes is = absurd is
-    among ways.One x y goes is = subst (GoesOnTo p a) (sym is) goes
-    among ways.Two x y goes (inl is) = subst (GoesOnTo p a) (sym is) goes.0
-    among ways.Two x y goes (inr is) = subst (GoesOnTo p a) (sym is) goes.1
+StepsTo-goes p a c step =
+    GoesOnTo-forgets p a step.next c step.forgets (Makes-goes p a step.next step.insn step.taken step.first step.other step.here step.makes step.among)
 
 pub StepsTo-alone : (p : Program) (a c : State) → HasNoCalls p → depth a ≡ 1 → StepsTo p a c → StaysAlone p a c
 StepsTo-alone p a c free one step = GoesOnTo-alone p a c free one (StepsTo-goes p a c step)
@@ -72,6 +83,9 @@ pub Leads-alone : (p : Program) (n : ℕ) (a b : State) → HasNoCalls p → dep
 unfolding Leads
 Leads-alone p zero a b free one h = ap depth h ∙ one
 Leads-alone p (suc n) a b free one h = Leads-alone p n h.0 b free (StepsTo-alone p a h.0 free one h.1).one h.2
+
+pub WalksTo-alone : (p : Program) (n : ℕ) (s : State) → HasNoCalls p → WalksTo p n s → depth s ≡ 1
+WalksTo-alone p n s free walk = Leads-alone p n walk.first s free (Forgets-depth p start walk.first walk.begins ∙ one_frame-start) walk.leads
 
 -- ---- steps lead forward
 
@@ -99,12 +113,15 @@ steps_up p a b free forward one h =
     record { up = follows_up p a.slot b.slot forward alone.follows; one = alone.one }
 
 one_up : (p : Program) (s a b : State) → HasNoCalls p → IsForward p → depth s ≡ 1 → StepsInto p s ways.One a b → StepsUp s a
-one_up p s a b free forward one step = steps_up p s a free forward one (Steps-follows p s step.insn ways.One a b step.here step.makes)
+one_up p s a b free forward one step =
+    steps_up p s a free forward one (GoesOnTo-forgets p s step.next a step.forgets (Steps-follows p s step.insn ways.One step.next step.aside step.here step.makes))
 
 two_up : (p : Program) (s a b : State) → HasNoCalls p → IsForward p → depth s ≡ 1 → StepsInto p s ways.Two a b → StepsUp s a × StepsUp s b
 two_up p s a b free forward one step =
-    let both = Steps-follows p s step.insn ways.Two a b step.here step.makes in
-    (steps_up p s a free forward one both.0, steps_up p s b free forward one both.1)
+    let both = Steps-follows p s step.insn ways.Two step.next step.aside step.here step.makes in (
+      steps_up p s a free forward one (GoesOnTo-forgets p s step.next a step.forgets.0 both.0),
+      steps_up p s b free forward one (GoesOnTo-forgets p s step.aside b step.forgets.1 both.1),
+    )
 
 -- ---- numbers
 
@@ -120,8 +137,8 @@ HasNumber-forward p s n free forward one (LeadsToTwo _ a b j k _ step left right
     let first = HasNumber-forward p a j free forward up.0.one left in
     let other = HasNumber-forward p b k free forward up.1.one right in
     omega (arith, is, up.0.up, up.1.up, first, other)
-HasNumber-forward p s n free forward one (IsCoveredBy _ e steps _ leads same covers number) =
-    let there = HasNumber-forward p e n free forward (Leads-alone p steps start e free one_frame-start leads) number in
+HasNumber-forward p s n free forward one (IsCoveredBy _ e steps _ walk same covers number) =
+    let there = HasNumber-forward p e n free forward (WalksTo-alone p steps e free walk) number in
     omega (arith, same, there)
 
 -- ---- explored instructions
@@ -184,7 +201,7 @@ flattened (Some o) i h = ap Some h
 
 two_less : (p : Program) (s a b : State) (k : ℕ) → StepsInto p s ways.Two a b → s.slot < k → conditionals_from p.insns k + 1 ≤ conditionals_from p.insns s.slot
 two_less p s a b k step up =
-    let (c, by, is) = two_ways_jump p s a b step.insn step.makes in
+    let (c, by, is) = two_ways_jump p s step.next step.aside step.insn step.makes in
     conditionals_less p.insns s.slot k c by (flattened (slice_get p.insns s.slot) (JumpIf c by) (step.here ∙ ap Some is)) up
 
 less_once : (a b x y : ℕ) → a + 1 ≤ b → x ≤ y → 1 ≤ x → a * x + 1 ≤ b * y
@@ -243,13 +260,17 @@ Takes-forward p s n free forward one (BothMore _ a b j k _ step left right is) =
     omega (arith, less, few, few_too, is)
 
 -- fewer than may be explored
-pub Takes-few : (p : Program) (s : State) → HasNoCalls p → IsForward p → depth s ≡ 1 → Takes p s 1000001 → ⊥
+Takes-few : (p : Program) (s : State) → HasNoCalls p → IsForward p → depth s ≡ 1 → Takes p s 1000001 → ⊥
 Takes-few p s free forward one h =
     let few = Takes-forward p s 1000001 free forward one h in
     let most = pow-le-pow_right {n = 2} (omega arith) {i = conditionals_from p.insns s.slot} {j = count_by is_conditional p.insns} (conditionals_most p.insns s.slot) in
     let bound = mul-le (length p.insns - s.slot) (2 ^ conditionals_from p.insns s.slot) (length p.insns) (2 ^ count_by is_conditional p.insns) (omega arith) most in
     let limit = forward.few in
     absurd (omega (arith, few, bound, limit))
+
+pub StartTakes-few : (p : Program) → HasNoCalls p → IsForward p → StartTakes p 1000001 → ⊥
+StartTakes-few p free forward (first, begins, takes) =
+    Takes-few p first free forward (Forgets-depth p start first begins ∙ one_frame-start) takes
 
 -- ---- no way back
 
@@ -263,6 +284,6 @@ Leads-up p (suc n) a b free forward one h =
 
 pub ComesBack-forward : (p : Program) (slot : ℕ) → HasNoCalls p → IsForward p → ComesBack p slot → ⊥
 ComesBack-forward p slot free forward h =
-    let one = Leads-alone p h.before start h.first free one_frame-start h.leads in
+    let one = WalksTo-alone p h.before h.first free h.walk in
     let up = Leads-up p (suc h.between) h.first h.again free forward one h.leads_back in
     absurd (omega (arith, up, h.first_slot, h.again_slot))

@@ -26,12 +26,13 @@ use Rattle.explorer.specs.Counts.{HasNumber}
 use Rattle.explorer.specs.Refused.{IsRefused}
 use Rattle.explorer.specs.Accepting.{IsOutOfMemory}
 use Rattle.explorer.proofs.Accepted.{IsFlow-whole, IsRefused-want, own_register, needs_reads, tests_pass}
-use Rattle.explorer.proofs.Forward.{one_frame-start, HasNumber-forward, Takes-few, ComesBack-forward}
+use Rattle.explorer.proofs.Forward.{one_frame-start, HasNumber-forward, StartTakes-few, ComesBack-forward}
+use Rattle.explorer.proofs.Living.{needs_live}
 use Rattle.explorer.proofs.OnNumbers.{NumbersIn, Refuses-performs, performs_goes}
 use Rattle.explorer.proofs.OnPackets.{packet_from, field_goes, copy_goes, ahead_goes, load_passes, load_signed_passes, end_test, test_goes}
 use Rattle.explorer.proofs.GuardedParts.{AtPacket, AtEnd, AtCopy, AtAhead, AtTest, InBody, AtAnswer, AtExit, Part, part_at, one_insn, IsGuarded-no_calls}
 use Rattle.explorer.proofs.Guards.{Guards, free_own, numbers_needed, body_needs}
-use Rattle.explorer.proofs.GuardedWalks.{plain_form, load_parts, Leads-guards}
+use Rattle.explorer.proofs.GuardedWalks.{plain_form, load_parts, WalksTo-guards}
 
 -- ---- what is not refused
 
@@ -62,14 +63,14 @@ body_accepted : (p : Program) (len : ℕ) (g : IsGuarded p len) (s : State) (i :
     → s.slot < g.tail → fetch p s.slot ≡ Some i → IsBodyForm len i → Passes p s i
 body_accepted p len g s (Load size d place) h behind before here body =
     let (own, base, at, offset, inside) = load_parts (size_bytes size) len d place body in
-    let (m, is, most) = h.proved behind before in
+    let (m, is, most) = h.proved behind before (needs_live p s.slot (Load size d place) R2 here tt (inl (sym base))) in
     let some = g.some in (
       load_tests s (Load size d place) d place m refl refl base is own,
       λ e b c fails. load_passes p.maps s size place m at e (ap (kind_of s) base ∙ is) offset (omega (arith, most, some)) (omega (arith, inside, most)) fails,
     )
 body_accepted p len g s (LoadSx size d place) h behind before here body =
     let (own, base, at, offset, inside) = load_parts (size_bytes (narrow_size size)) len d place body in
-    let (m, is, most) = h.proved behind before in
+    let (m, is, most) = h.proved behind before (needs_live p s.slot (LoadSx size d place) R2 here tt (inl (sym base))) in
     let some = g.some in (
       load_tests s (LoadSx size d place) d place m refl refl base is own,
       λ e b c fails. load_signed_passes p.maps s size place m at e (ap (kind_of s) base ∙ is) offset (omega (arith, most, some)) (omega (arith, inside, most)) fails,
@@ -114,7 +115,7 @@ guards_accepted p len g s i here h = of (part_at p len s.slot i g here) where
 
 never_stuck : (p : Program) (len : ℕ) (g : IsGuarded p len) (e : StepRefusal) (slot : ℕ) → IsStuck p e slot → ⊥
 never_stuck p len g e slot h =
-    let passes = guards_accepted p len g h.state h.insn h.here (Leads-guards p len g h.steps h.state h.leads) in
+    let passes = guards_accepted p len g h.state h.insn h.here (WalksTo-guards p len g h.steps h.state h.walk) in
     Refuses-performs p h.state h.insn e ⊥ passes.0 h.refused (λ b c performs. passes.1 e b c performs)
 
 -- ---- the class
@@ -124,7 +125,7 @@ pub IsGuarded-refused : (p : Program) (len : ℕ) (e : Refusal) (slot : ℕ) →
 IsGuarded-refused p len e slot refused g =
     let free = IsGuarded-no_calls p len g in
     IsRefused-want p e slot (IsFlow-whole p g.whole free) (λ e slot h. never_stuck p len g e slot h)
-    (λ slot h. ComesBack-forward p slot free g.forward h) (λ h. Takes-few p start free g.forward one_frame-start h) refused
+    (λ slot h. ComesBack-forward p slot free g.forward h) (λ h. StartTakes-few p free g.forward h) refused
 
 pub IsGuarded-bound : (p : Program) (len n : ℕ) → HasNumber p start n → IsGuarded p len → n ≤ length p.insns
 IsGuarded-bound p len n number g =

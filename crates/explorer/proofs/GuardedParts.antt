@@ -1,13 +1,16 @@
 -- The parts of a guarded program, and which instruction is at each.
 use Rattle.std.proofs.Common.{◌≡◌, ◌≤◌, ◌+◌, ◌<◌, ℕ, zero, suc, Some, None, arith, refl, sym, ap, ◌∙◌, subst, inl, inr}
+use Rattle.std.specs.Prelude.{ℤ}
 use Rattle.std.proofs.lemmas.Bool.{cases_order}
 use Rattle.isa_model.specs.declared.instructions.Insn.{Insn}
-use Rattle.isa_model.specs.declared.instructions.Insn.TheVariants.{CallLocal}
+use Rattle.isa_model.specs.declared.instructions.Insn.TheVariants.{CallHelper, CallLocal}
 use Rattle.isa_model.specs.Code.Instructions.{Program, fetch}
 use Rattle.isa_model.specs.MustAccept.Guarded.{IsBodyForm, IsGuarded}
-use Rattle.control_flow.specs.Graph.{call_distance}
+use Rattle.isa_model.specs.Machine.Successors.{jump_distance}
+use Rattle.control_flow.specs.Flows.{IsJoin}
 use Rattle.control_flow.specs.FlowLaws.{BeginsInsn-inside, fetch-BeginsInsn}
-use Rattle.explorer.proofs.Accepted.{HasNoCalls}
+use Rattle.explorer.proofs.Accepted.{HasNoCalls, Jumped, jump_to-by}
+use Rattle.explorer.proofs.Living.{CallsNothing, none_called}
 
 -- ---- slots
 
@@ -50,21 +53,49 @@ pub one_insn : (p : Program) (slot at : ℕ) (i j : Insn) → slot ≡ at → fe
     → j ≡ i
 one_insn p slot at i j same there here = cc (sym there ∙ ap (fetch p) (sym same) ∙ here)
 
-body_no_call : (len : ℕ) (i : Insn) → IsBodyForm len i → call_distance i ≡ None
-body_no_call len (CallLocal by) body = absurd body
-body_no_call len i body = refl
+body_calls : (len : ℕ) (i : Insn) → IsBodyForm len i → CallsNothing i
+body_calls len (CallHelper number) body = absurd body
+body_calls len (CallLocal by) body = absurd body
+body_calls len i body = tt
 
-no_call_at : (i j : Insn) → j ≡ i → call_distance j ≡ None → call_distance i ≡ None
-no_call_at i j one none = subst (λ x. call_distance x ≡ None) one none
+calls_at : (i j : Insn) → j ≡ i → CallsNothing j → CallsNothing i
+calls_at i j one none = subst CallsNothing one none
+
+pub IsGuarded-calls : (p : Program) (len slot : ℕ) (i : Insn) → IsGuarded p len → fetch p slot ≡ Some i → CallsNothing i
+IsGuarded-calls p len slot i g here = of (part_at p len slot i g here) where
+  of : Part g.tail slot → CallsNothing i
+  of (AtPacket at) = calls_at i _ (one_insn p slot 0 i _ at g.packet here) tt
+  of (AtEnd at) = calls_at i _ (one_insn p slot 1 i _ at g.packet_end here) tt
+  of (AtCopy at) = calls_at i _ (one_insn p slot 2 i _ at g.copy here) tt
+  of (AtAhead at) = calls_at i _ (one_insn p slot 3 i _ at g.ahead here) tt
+  of (AtTest at) = calls_at i _ (one_insn p slot 4 i _ at g.test here) tt
+  of (InBody behind before) = body_calls len i (g.body slot i behind before here)
+  of (AtAnswer at) = calls_at i _ (one_insn p slot g.tail i _ at g.answers here) tt
+  of (AtExit at) = calls_at i _ (one_insn p slot (g.tail + 1) i _ at g.exits here) tt
 
 pub IsGuarded-no_calls : (p : Program) (len : ℕ) → IsGuarded p len → HasNoCalls p
-IsGuarded-no_calls p len g = λ slot i here. of slot i here (part_at p len slot i g here) where
-  of : (slot : ℕ) (i : Insn) → fetch p slot ≡ Some i → Part g.tail slot → call_distance i ≡ None
-  of slot i here (AtPacket at) = no_call_at i _ (one_insn p slot 0 i _ at g.packet here) refl
-  of slot i here (AtEnd at) = no_call_at i _ (one_insn p slot 1 i _ at g.packet_end here) refl
-  of slot i here (AtCopy at) = no_call_at i _ (one_insn p slot 2 i _ at g.copy here) refl
-  of slot i here (AtAhead at) = no_call_at i _ (one_insn p slot 3 i _ at g.ahead here) refl
-  of slot i here (AtTest at) = no_call_at i _ (one_insn p slot 4 i _ at g.test here) refl
-  of slot i here (InBody behind before) = body_no_call len i (g.body slot i behind before here)
-  of slot i here (AtAnswer at) = no_call_at i _ (one_insn p slot g.tail i _ at g.answers here) refl
-  of slot i here (AtExit at) = no_call_at i _ (one_insn p slot (g.tail + 1) i _ at g.exits here) refl
+IsGuarded-no_calls p len g = λ slot i here. none_called i (IsGuarded-calls p len slot i g here)
+
+-- no jump leads to the first five slots: they hold none, and jumps lead forward
+jumps_not : (i j : Insn) (by : ℤ) → j ≡ i → jump_distance j ≡ None → jump_distance i ≡ Some by → ⊥
+jumps_not i j by one none jumps =
+    let nowhere : jump_distance i ≡ None = subst (λ (x : Insn). jump_distance x ≡ None) one none in
+    absurd (cc)
+
+pub first_no_join : (p : Program) (len slot : ℕ) → IsGuarded p len → slot < 5 → IsJoin p slot → ⊥
+first_no_join p len slot g early (from, jumps) = of (part_at p len from j.insn g j.here) where
+  j : Jumped p from slot
+  j = jump_to-by p from slot jumps
+
+  low : from < 4
+  low = let up = g.forward.forward from j.insn j.by j.here j.distance in let at = j.at in omega (arith, up, at, early)
+
+  of : Part g.tail from → ⊥
+  of (AtPacket at) = jumps_not j.insn _ j.by (one_insn p from 0 j.insn _ at g.packet j.here) refl j.distance
+  of (AtEnd at) = jumps_not j.insn _ j.by (one_insn p from 1 j.insn _ at g.packet_end j.here) refl j.distance
+  of (AtCopy at) = jumps_not j.insn _ j.by (one_insn p from 2 j.insn _ at g.copy j.here) refl j.distance
+  of (AtAhead at) = jumps_not j.insn _ j.by (one_insn p from 3 j.insn _ at g.ahead j.here) refl j.distance
+  of (AtTest at) = let h = low in omega (arith, at, h)
+  of (InBody behind before) = let h = low in omega (arith, behind, h)
+  of (AtAnswer at) = let h = low in let far = g.behind in omega (arith, at, h, far)
+  of (AtExit at) = let h = low in let far = g.behind in omega (arith, at, h, far)

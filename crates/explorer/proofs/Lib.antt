@@ -7,6 +7,8 @@ pub mod Counting
 pub mod Keeping
 pub mod Trails
 pub mod Accepted
+pub mod Forgotten
+pub mod Living
 pub mod OnNumbers
 pub mod Forward
 pub mod Plain

@@ -89,7 +89,7 @@ pub kind_of-go_to : (a : State) (slot : ℕ) (r : Reg) → kind_of (go_to a slot
 kind_of-go_to a slot R10 = refl
 kind_of-go_to a slot r = refl
 
-below_ten : (r : Reg) → r ≢ R10 → reg_number r < 10
+pub below_ten : (r : Reg) → r ≢ R10 → reg_number r < 10
 below_ten R10 own = absurd (own refl)
 below_ten R0 own = omega arith
 below_ten r own = omega arith

@@ -24,13 +24,15 @@ use Rattle.transfer.specs.Following.{returns_of, GoesOnTo}
 use Rattle.transfer.specs.Exact.{Makes}
 use Rattle.explorer.specs.declared.table.Stored.{Stored}
 use Rattle.explorer.specs.declared.trail.Visit.{Visit}
+use Rattle.explorer.specs.declared.search.Search.{Search}
 use Rattle.explorer.specs.declared.search.Arrival.{Arrival}
 use Rattle.explorer.specs.declared.search.Arrival.TheVariants.{Known, New}
 use Rattle.explorer.specs.Table.{StoredAt, IsNumbered}
-use Rattle.explorer.specs.Search.{Settles, Spends, Arrives, EndsAlone, EndsCovered, GoesOn, AllFine, IsReady, IfReady, IfStepsTo, Waiting, Path, OnPath}
-use Rattle.explorer.proofs.Walking.{steps_by, into_by, Path-leads}
+use Rattle.explorer.specs.Search.{Settles, Spends, Arrives, EndsAlone, EndsCovered, GoesOn, AllFine, IsReady, IfReady, IfStepsTo, Waiting, Path, OnPath, Explores, HasEntered}
+use Rattle.explorer.specs.Forgetting.{Forgets}
+use Rattle.explorer.proofs.Forgotten.{Forgets-slot, Forgets-returns, LeadsTo-forgets, GoesOnTo-forgets}
+use Rattle.explorer.proofs.Walking.{steps_by, into_by, Path-walks}
 use Rattle.explorer.proofs.Counting.{Spends-one, Spends-two}
-use Rattle.explorer.specs.Walks.{Leads}
 use Rattle.explorer.specs.Counts.{StepsInto, LeadsNowhere}
 use Rattle.explorer.proofs.Stores.{Keeps, Keeps-at, Keeps-same, AllFine-more, IsCovered-known, Arrives-keeps, Arrives-fine, Arrives-stored, IsNumbered-fine, IsNumbered-keeps}
 use Rattle.explorer.proofs.Unfinished.{OnPath-same, OnPath-push, OnPath-arrives, OnPath-finish}
@@ -80,7 +82,7 @@ ends_same p old new visit n best (inl h) = h.same
 ends_same p old new visit n best (inr h) = h.arrives.2
 
 pub step_back : (p : Program) (m : ℕ) (old mid new : List Stored) (a : State) (path : List Visit) (visit : Visit) (child : State) (n best : ℕ)
-    → a ≡ start → AllFine p m old → Last p m old a path visit child → OnPath old path visit.stored → Settles p child n → n ≤ m → EndsAlone old visit n best mid ⊎ EndsCovered p old visit n best mid
+    → Forgets p start a → AllFine p m old → Last p m old a path visit child → OnPath old path visit.stored → Settles p child n → n ≤ m → EndsAlone old visit n best mid ⊎ EndsCovered p old visit n best mid
     → IsNumbered mid visit.stored (best + 1) new → IsBack p (m + 1) new a path (best + 1)
 step_back p m old mid new a path visit child n best root fine last on_path within le ends numbered =
     let s = last.state in
@@ -90,7 +92,7 @@ step_back p m old mid new a path visit child n best root fine last on_path withi
     record {
       state = s;
       fine = IsNumbered-fine p (m + 1) mid visit.stored s (best + 1) new numbered at h.within (omega (arith, h.most))
-          (length path, subst (λ x. Leads p (length path) x s) root (Path-leads p m old path a s last.before)) (AllFine-more p m (m + 1) mid (omega arith) h.fine);
+          (length path, Path-walks p m old path a s root last.before) (AllFine-more p m (m + 1) mid (omega arith) h.fine);
       before = Path-more p (m + 1) (m + 1) mid new (omega arith) kept path a s (Path-more p m (m + 1) old mid (omega arith) h.keeps path a s last.before);
       on_path = OnPath-finish mid new path visit.stored s (best + 1) numbered at (omega arith) (OnPath-same old mid path visit.stored (ends_same p old mid visit n best ends) on_path);
       within = h.within;
@@ -172,33 +174,55 @@ pub record Begins (p : Program) (m : ℕ) (table : List Stored) (visit : Visit) 
   pub ready : IsReady p next
   pub spends : Spends p visit s next 1
 
-pub one_way : (p q : Program) (m : ℕ) (table : List Stored) (stored : Option ℕ) (s a b : State) (w : Ways) (pending : Option State) → p ≡ q → IsFlow p → IsReady p s → StoredAt table stored s
-    → LeadsTo q s w a b → ((i : Insn) → fetch q s.slot ≡ Some i → Makes q s i w a b) → EachWay w a b (GoesOnTo q s) → w ≡ ways.One → pending ≡ None
-    → Begins p m table (record { pending = pending; best = 0; stored = stored }) s a
-one_way p q m table stored s a b w pending same flow ready at leads makes follows is none =
+pub one_way : (p q : Program) (m : ℕ) (table : List Stored) (stored : Option ℕ) (s a b first : State) (w : Ways) (pending : Option State) → p ≡ q → IsFlow p → IsReady p s → StoredAt table stored s
+    → LeadsTo q s w a b → ((i : Insn) → fetch q s.slot ≡ Some i → Makes q s i w a b) → EachWay w a b (GoesOnTo q s) → Forgets p a first → w ≡ ways.One → pending ≡ None
+    → Begins p m table (record { pending = pending; best = 0; stored = stored }) s first
+one_way p q m table stored s a b first w pending same flow ready at leads makes follows forgets is none =
     let (i, here) = fetched p s ready in
-    let leads' = subst (λ x. LeadsTo x s ways.One a b) (sym same) (subst (λ x. LeadsTo q s x a b) is leads) in
+    let leads' = LeadsTo-forgets p s ways.One a b first b forgets (subst (λ x. LeadsTo x s ways.One a b) (sym same) (subst (λ x. LeadsTo q s x a b) is leads)) in
     let follows' : GoesOnTo p s a = subst (λ x. GoesOnTo x s a) (sym same) (subst (λ x. EachWay x a b (GoesOnTo q s)) is follows) in
-    let into = into_by p q s a b w ways.One same makes i here is in
-    subst (λ x. Begins p m table (record { pending = x; best = 0; stored = stored }) s a) (sym none) (record {
-      waiting = record { waits = Waits-one p s a b stored leads'; awaits = Awaits-one p s a b stored into; steps = steps_by p q s a b a w ways.One same makes i here is refl; steps_aside = tt; best = omega arith; stored = at; ready = tt };
-      ready = IsReady-next p s a flow ready follows';
-      spends = Spends-one p s a b stored into;
+    let into = into_by p q s a b first b w ways.One same makes i here is forgets in
+    subst (λ x. Begins p m table (record { pending = x; best = 0; stored = stored }) s first) (sym none) (record {
+      waiting = record { waits = Waits-one p s first b stored leads'; awaits = Awaits-one p s first b stored into; steps = steps_by p q s a b a first w ways.One same makes i here is refl forgets; steps_aside = tt; best = omega arith; stored = at; ready = tt };
+      ready = IsReady-next p s first flow ready (GoesOnTo-forgets p s a first forgets follows');
+      spends = Spends-one p s first b stored into;
     })
 
-pub two_ways : (p q : Program) (m : ℕ) (table : List Stored) (stored : Option ℕ) (s a b : State) (w : Ways) (pending : Option State) → p ≡ q → IsFlow p → IsReady p s → StoredAt table stored s
-    → LeadsTo q s w a b → ((i : Insn) → fetch q s.slot ≡ Some i → Makes q s i w a b) → EachWay w a b (GoesOnTo q s) → w ≡ ways.Two → pending ≡ Some b
-    → Begins p m table (record { pending = pending; best = 0; stored = stored }) s a
-two_ways p q m table stored s a b w pending same flow ready at leads makes follows is some =
+pub two_ways : (p q : Program) (m : ℕ) (table : List Stored) (stored : Option ℕ) (s a b first other : State) (w : Ways) (pending : Option State) → p ≡ q → IsFlow p → IsReady p s → StoredAt table stored s
+    → LeadsTo q s w a b → ((i : Insn) → fetch q s.slot ≡ Some i → Makes q s i w a b) → EachWay w a b (GoesOnTo q s) → Forgets p a first → Forgets p b other → w ≡ ways.Two → pending ≡ Some other
+    → Begins p m table (record { pending = pending; best = 0; stored = stored }) s first
+two_ways p q m table stored s a b first other w pending same flow ready at leads makes follows forgets aside is some =
     let (i, here) = fetched p s ready in
-    let leads' = subst (λ x. LeadsTo x s ways.Two a b) (sym same) (subst (λ x. LeadsTo q s x a b) is leads) in
+    let leads' = LeadsTo-forgets p s ways.Two a b first other (forgets, aside) (subst (λ x. LeadsTo x s ways.Two a b) (sym same) (subst (λ x. LeadsTo q s x a b) is leads)) in
     let follows' : GoesOnTo p s a × GoesOnTo p s b =
     subst (λ x. GoesOnTo x s a × GoesOnTo x s b) (sym same) (subst (λ x. EachWay x a b (GoesOnTo q s)) is follows) in
-    let into = into_by p q s a b w ways.Two same makes i here is in
-    subst (λ x. Begins p m table (record { pending = x; best = 0; stored = stored }) s a) (sym some) (record {
-      waiting = record { waits = Waits-two p s a b stored leads'; awaits = Awaits-two p s a b stored into; steps = steps_by p q s a b a w ways.Two same makes i here is (inl refl); steps_aside = steps_by p q s a b b w ways.Two same makes i here is (inr refl); best = omega arith; stored = at; ready = IsReady-next p s b flow ready follows'.1 };
-      ready = IsReady-next p s a flow ready follows'.0;
-      spends = Spends-two p s a b stored into;
+    let into = into_by p q s a b first other w ways.Two same makes i here is (forgets, aside) in
+    subst (λ x. Begins p m table (record { pending = x; best = 0; stored = stored }) s first) (sym some) (record {
+      waiting = record {
+        waits = Waits-two p s first other stored leads';
+        awaits = Awaits-two p s first other stored into;
+        steps = steps_by p q s a b a first w ways.Two same makes i here is (inl refl) forgets;
+        steps_aside = steps_by p q s a b b other w ways.Two same makes i here is (inr refl) aside;
+        best = omega arith;
+        stored = at;
+        ready = IsReady-next p s other flow ready (GoesOnTo-forgets p s b other aside follows'.1);
+      };
+      ready = IsReady-next p s first flow ready (GoesOnTo-forgets p s a first forgets follows'.0);
+      spends = Spends-two p s first other stored into;
+    })
+
+-- the search waits at the state, and goes on from the first of those that are left to explore
+pub enters : (p : Program) (old x : Search) (stored : Option ℕ) (pending : Option State) (a o first : State) → x ≡ record old { current = a; scratch = o } → Explores p old stored
+    → Begins p old.finished old.table.entries.items (record { pending = pending; best = 0; stored = stored }) old.current first → HasEntered p (record x { current = first }) stored pending
+enters p old x stored pending a o first is at begins =
+    subst (λ (y : Search). HasEntered p (record y { current = first }) stored pending) (sym is) (record {
+      state = old.current;
+      at = record { fine = at.at.fine; first = at.at.first; begins = at.at.begins; path = at.at.path };
+      on_path = at.on_path;
+      waiting = begins.waiting;
+      spent = at.spent;
+      spends = begins.spends;
+      ready = begins.ready;
     })
 
 -- the search is at the state after it
@@ -211,7 +235,7 @@ step_into p m old new a path visit s child arrival whole fine before waiting arr
     )
 
 -- nothing goes on, and the number 1 is written
-pub step_ends : (p q : Program) (m : ℕ) (old new : List Stored) (a : State) (path : List Visit) (stored : Option ℕ) (s x y : State) (w : Ways) → a ≡ start → p ≡ q → AllFine p m old → Path p m old a path s → StoredAt old stored s
+pub step_ends : (p q : Program) (m : ℕ) (old new : List Stored) (a : State) (path : List Visit) (stored : Option ℕ) (s x y : State) (w : Ways) → Forgets p start a → p ≡ q → AllFine p m old → Path p m old a path s → StoredAt old stored s
     → OnPath old path stored → LeadsTo q s w x y → StepsInto p s ways.None x y → w ≡ ways.None → IsNumbered old stored 1 new → IsBack p (m + 1) new a path 1
 step_ends p q m old new a path stored s x y w root same fine before at on_path leads into is numbered =
     let within : Settles p s 1 = record {
@@ -221,7 +245,7 @@ step_ends p q m old new a path stored s x y w root same fine before at on_path l
     record {
       state = s;
       fine = IsNumbered-fine p (m + 1) old stored s 1 new numbered at within (omega arith)
-          (length path, subst (λ x. Leads p (length path) x s) root (Path-leads p m old path a s before)) (AllFine-more p m (m + 1) old (omega arith) fine);
+          (length path, Path-walks p m old path a s root before) (AllFine-more p m (m + 1) old (omega arith) fine);
       before = Path-more p m (m + 1) old new (omega arith) (IsNumbered-keeps old stored s 1 new numbered at) path a s before;
       on_path = OnPath-finish old new path stored s 1 numbered at (omega arith) on_path;
       within = within;
@@ -241,8 +265,14 @@ start_ready p image =
     let begins : BeginsInsn p 0 = subst (λ (o : Option Insn). IsSome o) (sym first.1) refl in
     record { begins = begins; returns = All-cons (BeginsInsn p) 0 [] begins (All-nil (BeginsInsn p)) }
 
-pub starts_ready : (p q : Program) (s : State) → p ≡ q → IsImage q → s ≡ start → IsReady p s
-starts_ready p q s same image e = subst (IsReady p) (sym e) (start_ready p (subst IsImage (sym same) image))
+IsReady-forgets : (p : Program) (a b : State) → Forgets p a b → IsReady p a → IsReady p b
+IsReady-forgets p a b f ready = record {
+  begins = subst (BeginsInsn p) (sym (Forgets-slot p a b f)) ready.begins;
+  returns = subst (All (BeginsInsn p)) (sym (Forgets-returns p a b f)) ready.returns;
+}
+
+pub starts_ready : (p q : Program) (s : State) → p ≡ q → IsImage q → Forgets p start s → IsReady p s
+starts_ready p q s same image begins = IsReady-forgets p start s begins (start_ready p (subst IsImage (sym same) image))
 
 pub starts_end : (p q : Program) (n : ℕ) → p ≡ q → IsImage q → Within p start n → StartsEnd q n
 unfolding Within StartsEnd

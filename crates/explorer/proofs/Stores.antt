@@ -10,8 +10,11 @@ use Rattle.explorer.specs.declared.search.Arrival.{Arrival}
 use Rattle.explorer.specs.declared.search.Arrival.TheVariants.{Known, New}
 use Rattle.explorer.specs.Table.{IsCovered, StoredAt, IsNumbered}
 use Rattle.stack_state.specs.Starts.{start}
-use Rattle.explorer.specs.Walks.{Leads}
+use Rattle.explorer.specs.Forgetting.{Forgets}
+use Rattle.explorer.specs.Walks.{WalksTo}
 use Rattle.explorer.specs.Counts.{IsCoveredBy}
+use Rattle.explorer.proofs.Forgotten.{Forgets-slot, Forgets-covers}
+use Rattle.explorer.proofs.Walking.{WalksTo-start}
 use Rattle.explorer.specs.Search.{stored_too, Arrives, Settles, IsFine, AllFine}
 
 -- ---- numbers
@@ -32,7 +35,7 @@ unfolding AllFine
 AllFine-push p m table s h = All-push (IsFine p m) table _ h (λ above. absurd (omega arith))
 
 AllFine-set : (p : Program) (m : ℕ) (table : List Stored) (k : ℕ) (s : State) (n : ℕ) → AllFine p m table → Settles p s n → n ≤ m
-    → (steps : ℕ) × Leads p steps start s → AllFine p m (set table k (record { state = s; number = n }))
+    → (steps : ℕ) × WalksTo p steps s → AllFine p m (set table k (record { state = s; number = n }))
 unfolding AllFine
 AllFine-set p m table k s n h within le walk = All-set (IsFine p m) table k _ (λ above. (within, le, walk)) h
 
@@ -51,6 +54,13 @@ IsCovered-known p m table s n fine h =
       },
       known.1,
     )
+
+-- the start ends within the number of the state in which paths begin
+pub Settles-start : (p : Program) (first : State) (n : ℕ) → Forgets p start first → Settles p first n → Settles p start n
+Settles-start p first n begins h = record {
+  within = Within-covered p first start n (Forgets-covers p start first begins) h.within;
+  number = IsCoveredBy start first 0 n (WalksTo-start p first begins) (Forgets-slot p start first begins) (Forgets-covers p start first begins) h.number;
+}
 
 -- ---- places
 
@@ -121,7 +131,7 @@ Arrives-stored p old s (Some k) new h = (
 -- ---- a number
 
 pub IsNumbered-fine : (p : Program) (m : ℕ) (old : List Stored) (stored : Option ℕ) (s : State) (n : ℕ) (new : List Stored) → IsNumbered old stored n new
-    → StoredAt old stored s → Settles p s n → n ≤ m → (steps : ℕ) × Leads p steps start s → AllFine p m old → AllFine p m new
+    → StoredAt old stored s → Settles p s n → n ≤ m → (steps : ℕ) × WalksTo p steps s → AllFine p m old → AllFine p m new
 IsNumbered-fine p m old None s n new h at within le walk fine = subst (λ x. AllFine p m x) (sym h) fine
 IsNumbered-fine p m old (Some k) s n new h at within le walk fine =
     subst (λ x. AllFine p m x) (sym (h s at)) (AllFine-set p m old k s n fine within le walk)

@@ -1,5 +1,5 @@
 -- What the path says of walks from the start.
-use Rattle.std.proofs.Common.{◌≡◌, ◌+◌, ◌∷◌, [], ℕ, zero, suc, Some, None, Option, List, length, map, arith, sym, ap, ◌∙◌, subst, inl, inr, ◌⊎◌, slice_get}
+use Rattle.std.proofs.Common.{◌≡◌, ◌+◌, ◌∷◌, [], ℕ, zero, suc, Some, None, Option, List, length, map, arith, refl, sym, ap, ◌∙◌, subst, inl, inr, ◌⊎◌, slice_get}
 use Rattle.std.specs.Option.{option_map}
 use Rattle.std.proofs.lemmas.Option.{slice_get-map}
 use Rattle.isa_model.specs.declared.instructions.Insn.{Insn}
@@ -13,17 +13,18 @@ use Rattle.explorer.specs.declared.refusals.Refusal.{Refusal}
 use Rattle.explorer.specs.declared.refusals.Refusal.TheVariants.{Flow, Step, Repeats, TooLong, Memory}
 use Rattle.explorer.specs.declared.table.Stored.{Stored}
 use Rattle.explorer.specs.declared.trail.Visit.{Visit}
-use Rattle.explorer.specs.Walks.{IsAmong, StepsTo, Leads}
-use Rattle.explorer.specs.Counts.{StepsInto}
+use Rattle.explorer.specs.Walks.{IsAmong, StepsTo, Leads, WalksTo}
+use Rattle.explorer.specs.Forgetting.{Forgets}
+use Rattle.explorer.specs.Counts.{AreForgotten, StepsInto}
 use Rattle.explorer.specs.Refused.{StopsAt}
 use Rattle.explorer.specs.Table.{StoredAt}
 use Rattle.explorer.specs.Search.{Path, TurnsBack, zeros_from, with_first, places_of, OnPath}
 
 -- ---- steps
 
-pub steps_by : (p q : Program) (s a b t : State) (w v : Ways) → p ≡ q → ((i : Insn) → fetch q s.slot ≡ Some i → Makes q s i w a b) → (i : Insn) → fetch p s.slot ≡ Some i
-    → w ≡ v → IsAmong v a b t → StepsTo p s t
-steps_by p q s a b t w v same makes i here is among =
+pub steps_by : (p q : Program) (s a b n t : State) (w v : Ways) → p ≡ q → ((i : Insn) → fetch q s.slot ≡ Some i → Makes q s i w a b) → (i : Insn) → fetch p s.slot ≡ Some i
+    → w ≡ v → IsAmong v a b n → Forgets p n t → StepsTo p s t
+steps_by p q s a b n t w v same makes i here is among forgets =
     let there : fetch q s.slot ≡ Some i = subst (λ x. fetch x s.slot ≡ Some i) same here in
     record {
       insn = i;
@@ -32,22 +33,33 @@ steps_by p q s a b t w v same makes i here is among =
       first = a;
       other = b;
       makes = subst (λ x. Makes x s i w a b) (sym same) (makes i there);
-      among = subst (λ x. IsAmong x a b t) (sym is) among;
+      next = n;
+      among = subst (λ x. IsAmong x a b n) (sym is) among;
+      forgets = forgets;
     }
 
-pub into_by : (p q : Program) (s a b : State) (w v : Ways) → p ≡ q → ((i : Insn) → fetch q s.slot ≡ Some i → Makes q s i w a b) → (i : Insn) → fetch p s.slot ≡ Some i
-    → w ≡ v → StepsInto p s v a b
-into_by p q s a b w v same makes i here is =
+pub into_by : (p q : Program) (s a b first other : State) (w v : Ways) → p ≡ q → ((i : Insn) → fetch q s.slot ≡ Some i → Makes q s i w a b) → (i : Insn) → fetch p s.slot ≡ Some i
+    → w ≡ v → AreForgotten p v a b first other → StepsInto p s v first other
+into_by p q s a b first other w v same makes i here is forgets =
     let there : fetch q s.slot ≡ Some i = subst (λ x. fetch x s.slot ≡ Some i) same here in
     let made = subst (λ x. Makes x s i w a b) (sym same) (makes i there) in
-    record { insn = i; here = here; makes = subst (λ x. Makes p s i x a b) is made }
+    record { insn = i; here = here; next = a; aside = b; makes = subst (λ x. Makes p s i x a b) is made; forgets = forgets }
 
 -- ---- the path is a walk
+
+-- a walk of no steps is at the state in which paths begin
+pub WalksTo-start : (p : Program) (first : State) → Forgets p start first → WalksTo p 0 first
+unfolding Leads
+WalksTo-start p first begins = record { first = first; begins = begins; leads = refl }
 
 pub Path-leads : (p : Program) (m : ℕ) (table : List Stored) (path : List Visit) (a b : State) → Path p m table a path b → Leads p (length path) a b
 unfolding Path Leads
 Path-leads p m table [] a b h = h
 Path-leads p m table (visit ∷ path) a b h = (h.0, h.1.steps, Path-leads p m table path h.0 b h.2)
+
+-- and comes from the start
+pub Path-walks : (p : Program) (m : ℕ) (table : List Stored) (path : List Visit) (a b : State) → Forgets p start a → Path p m table a path b → WalksTo p (length path) b
+Path-walks p m table path a b begins h = record { first = a; begins = begins; leads = Path-leads p m table path a b h }
 
 -- ---- places
 
@@ -111,25 +123,25 @@ unfinished_in table path k t on e =
     let found : slice_get (map f table) k ≡ Some 0 = slice_get-map f table k ∙ ap (option_map f) e in
     subst (IsIn k) on (zeros_from-in 0 (map f table) k k (omega arith) found)
 
-pub turned_back : (p : Program) (m : ℕ) (table : List Stored) (path : List Visit) (b : State) (e : Refusal) (slot : ℕ) → Path p m table start path b → OnPath table path None
+pub turned_back : (p : Program) (m : ℕ) (table : List Stored) (path : List Visit) (a b : State) (e : Refusal) (slot : ℕ) → Forgets p start a → Path p m table a path b → OnPath table path None
     → TurnsBack p table b e slot → StopsAt p e slot
-turned_back p m table path b (Flow e) slot h on back = absurd back
-turned_back p m table path b (Step e) slot h on back = absurd back
-turned_back p m table path b Repeats slot h on back =
+turned_back p m table path a b (Flow e) slot begins h on back = absurd back
+turned_back p m table path a b (Step e) slot begins h on back = absurd back
+turned_back p m table path a b Repeats slot begins h on back =
     let repeated = back.1 in
-    let walk = through p m table path start b repeated.index repeated.entry h (unfinished_in table path repeated.index repeated.entry on repeated.stored) repeated.stored in
+    let walk = through p m table path a b repeated.index repeated.entry h (unfinished_in table path repeated.index repeated.entry on repeated.stored) repeated.stored in
     record {
       join = subst (λ n. IsJoin p n) (sym back.2) back.0;
       first = repeated.entry;
       again = b;
       before = walk.before;
       between = walk.between;
-      leads = walk.leads;
+      walk = record { first = a; begins = begins; leads = walk.leads };
       leads_back = walk.leads_on;
       first_slot = repeated.same_slot ∙ sym back.2;
       again_slot = sym back.2;
       covers = repeated.covers p;
       covered = repeated.covered p;
     }
-turned_back p m table path b TooLong slot h on back = absurd back
-turned_back p m table path b Memory slot h on back = back
+turned_back p m table path a b TooLong slot begins h on back = absurd back
+turned_back p m table path a b Memory slot begins h on back = back

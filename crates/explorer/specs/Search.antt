@@ -24,7 +24,8 @@ use Rattle.explorer.specs.declared.search.Turn.{Turn}
 use Rattle.explorer.specs.declared.search.Turn.TheVariants.{Explore, Done}
 use Rattle.explorer.specs.declared.search.Resumed.{Resumed}
 use Rattle.explorer.specs.declared.search.Resumed.TheVariants.{Next, Ended}
-use Rattle.explorer.specs.Walks.{StepsTo, Leads}
+use Rattle.explorer.specs.Forgetting.{Forgets}
+use Rattle.explorer.specs.Walks.{StepsTo, WalksTo}
 use Rattle.explorer.specs.Counts.{HasNumber, Takes}
 use Rattle.explorer.specs.Table.{IsCovered, IsRepeated, StoredAt}
 
@@ -82,7 +83,7 @@ pub record Settles (p : Program) (s : State) (n : ℕ) : Type 0 where
 -- the state of an entry with a number ends within it, no number is above the count of finished instructions, and a walk
 -- from the start comes to the state
 abbrev pub IsFine : Program → ℕ → Stored → Type 0
-IsFine p finished e = 0 < e.number → Settles p e.state e.number × (e.number ≤ finished) × ((steps : ℕ) × Leads p steps start e.state)
+IsFine p finished e = 0 < e.number → Settles p e.state e.number × (e.number ≤ finished) × ((steps : ℕ) × WalksTo p steps e.state)
 
 unfoldable pub AllFine : Program → ℕ → List Stored → Type 0
 AllFine p finished table = All (IsFine p finished) table
@@ -152,11 +153,11 @@ CountsTo p from (visit ∷ path) to n =
     (child : State) × (own : ℕ) × (rest : ℕ) × Spends p visit from child own × CountsTo p child path to rest × (n ≡ own + rest)
 
 -- the path leads to a state all of which is explored, and `total` instructions were explored
-pub record HasSpent (p : Program) (path : List Visit) (total : ℕ) : Type 0 where
+pub record HasSpent (p : Program) (from : State) (path : List Visit) (total : ℕ) : Type 0 where
   pub state : State
   pub before : ℕ
   pub own : ℕ
-  pub counts : CountsTo p start path state before
+  pub counts : CountsTo p from path state before
   pub takes : Takes p state own
   pub total_is : before + own ≡ total
 
@@ -199,10 +200,12 @@ pub record IsNew (search : Search) : Type 0 where
   pub path : search.path.items ≡ []
   pub finished : search.finished ≡ 0
 
--- the search is at this state
+-- the search is at this state, to which its path leads from the start
 pub record IsAt (p : Program) (search : Search) (s : State) : Type 0 where
   pub fine : AllFine p search.finished search.table.entries.items
-  pub path : Path p search.finished search.table.entries.items start search.path.items s
+  pub first : State
+  pub begins : Forgets p start first
+  pub path : Path p search.finished search.table.entries.items first search.path.items s
 
 -- the search is at a state that ends within this number
 pub record HasEnded (p : Program) (search : Search) (n : ℕ) : Type 0 where
@@ -210,7 +213,7 @@ pub record HasEnded (p : Program) (search : Search) (n : ℕ) : Type 0 where
   pub at : IsAt p search state
   pub on_path : OnPath search.table.entries.items search.path.items None
   pub within : Settles p state n
-  pub spent : HasSpent p search.path.items (search.finished + length search.path.items)
+  pub spent : HasSpent p at.first search.path.items (search.finished + length search.path.items)
   pub some : 0 < n
   pub most : n ≤ search.finished
 
@@ -219,7 +222,7 @@ pub record Explores (p : Program) (search : Search) (stored : Option ℕ) : Type
   pub at : IsAt p search search.current
   pub on_path : OnPath search.table.entries.items search.path.items stored
   pub stored_at : StoredAt search.table.entries.items stored search.current
-  pub spent : CountsTo p start search.path.items search.current (search.finished + length search.path.items)
+  pub spent : CountsTo p at.first search.path.items search.current (search.finished + length search.path.items)
   pub ready : IsReady p search.current
 
 -- the state that the path leads to is stored there, and waits for the current one and for what is pending
@@ -228,7 +231,7 @@ pub record HasEntered (p : Program) (search : Search) (stored : Option ℕ) (pen
   pub at : IsAt p search state
   pub on_path : OnPath search.table.entries.items search.path.items stored
   pub waiting : Waiting p search.finished search.table.entries.items (record { pending = pending; best = 0; stored = stored }) state search.current
-  pub spent : CountsTo p start search.path.items state (search.finished + length search.path.items)
+  pub spent : CountsTo p at.first search.path.items state (search.finished + length search.path.items)
   pub spends : Spends p (record { pending = pending; best = 0; stored = stored }) state search.current 1
   pub ready : IsReady p search.current
 

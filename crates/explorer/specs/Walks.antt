@@ -11,13 +11,14 @@ use Rattle.transfer.specs.declared.Ways.{Ways}
 use Rattle.transfer.specs.declared.Ways.TheVariants as ways
 use Rattle.transfer.specs.declared.refusals.Refusal.{Refusal}
 use Rattle.transfer.specs.Exact.{Makes, Refuses}
+use Rattle.explorer.specs.Forgetting.{Forgets}
 
 abbrev pub IsAmong : Ways → State → State → State → Type 0
 IsAmong ways.None a b s = ⊥
 IsAmong ways.One a b s = s ≡ a
 IsAmong ways.Two a b s = (s ≡ a) ⊎ (s ≡ b)
 
--- b is one of the states that the instruction at a's slot makes of a
+-- b is one of the states that the instruction at a's slot makes of a, as a path comes to it
 pub record StepsTo (p : Program) (a b : State) : Type 0 where
   pub insn : Insn
   pub here : fetch p a.slot ≡ Some insn
@@ -25,12 +26,20 @@ pub record StepsTo (p : Program) (a b : State) : Type 0 where
   pub first : State
   pub other : State
   pub makes : Makes p a insn taken first other
-  pub among : IsAmong taken first other b
+  pub next : State
+  pub among : IsAmong taken first other next
+  pub forgets : Forgets p next b
 
 -- that many steps lead from a to b
 unfoldable pub Leads : Program → ℕ → State → State → Type 0
 Leads p zero a b = b ≡ a
 Leads p (suc n) a b = (c : State) × StepsTo p a c × Leads p n c b
+
+-- a walk of that many steps from the start comes to a state
+pub record WalksTo (p : Program) (n : ℕ) (s : State) : Type 0 where
+  pub first : State
+  pub begins : Forgets p start first
+  pub leads : Leads p n first s
 
 -- ---- where walks stop
 
@@ -38,7 +47,7 @@ Leads p (suc n) a b = (c : State) × StepsTo p a c × Leads p n c b
 pub record IsReached (p : Program) (slot : ℕ) : Type 0 where
   pub state : State
   pub steps : ℕ
-  pub leads : Leads p steps start state
+  pub walk : WalksTo p steps state
   pub slot_is : slot ≡ state.slot
   pub begins : BeginsInsn p slot
 
@@ -46,7 +55,7 @@ pub record IsReached (p : Program) (slot : ℕ) : Type 0 where
 pub record IsStuck (p : Program) (e : Refusal) (slot : ℕ) : Type 0 where
   pub state : State
   pub steps : ℕ
-  pub leads : Leads p steps start state
+  pub walk : WalksTo p steps state
   pub slot_is : slot ≡ state.slot
   pub begins : BeginsInsn p slot
   pub insn : Insn
@@ -60,7 +69,7 @@ pub record ComesBack (p : Program) (slot : ℕ) : Type 0 where
   pub again : State
   pub before : ℕ
   pub between : ℕ
-  pub leads : Leads p before start first
+  pub walk : WalksTo p before first
   pub leads_back : Leads p (suc between) first again
   pub first_slot : first.slot ≡ slot
   pub again_slot : again.slot ≡ slot

@@ -5,6 +5,7 @@
 //! `specs/Search.antt` says what a search knows.
 #![tactic(auto)]
 
+mod forgetting;
 mod index;
 mod kept;
 mod parts;

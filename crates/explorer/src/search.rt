@@ -11,6 +11,7 @@ ghost use Rattle.explorer.specs.Refused.{StopsAt};
 ghost use Rattle.explorer.specs.Search.{Arrives, TurnsBack, IsResumed, IsNew};
 ghost use Rattle.explorer.specs.Search.{HasEnded, HasEntered, Goes, IsFull};
 
+use crate::forgetting::forget_dead;
 use crate::kept::Kept;
 use crate::parts::Part;
 use crate::refusals::Refusal;
@@ -194,8 +195,8 @@ impl Search {
         Ok(Turn::Done(number))
     }
 
-    /// Explores the instruction at the current state, which is stored there. What is then pending
-    /// is kept by way of the room for its parts.
+    /// Explores the instruction at the current state, which is stored there. What is dead where it
+    /// leads is forgotten, and what is then pending is kept by way of the room for its parts.
     fn advance(
         &mut self,
         alloc: Global,
@@ -226,11 +227,15 @@ impl Search {
                 return self.unwind(alloc, flow, 1);
             }
             Ways::One => None,
-            Ways::Two => match Kept::of(alloc, &self.scratch, room) {
-                Ok(other) => Some(other),
-                Err(_) => return Err(NO_MEMORY),
-            },
+            Ways::Two => {
+                forget_dead(flow, &mut self.scratch);
+                match Kept::of(alloc, &self.scratch, room) {
+                    Ok(other) => Some(other),
+                    Err(_) => return Err(NO_MEMORY),
+                }
+            }
         };
+        forget_dead(flow, &mut self.current);
         self.descend(alloc, flow, stored, pending)
     }
 
@@ -292,6 +297,7 @@ impl Search {
         ensures stops { IfErr result (λ r. StopsAt flow.now r.0 r.1) }
         ensures too_long { IfErr result (λ r. r.0 ≡ Refusal.TooLong → IsFull self.new r.1) }
     {
+        forget_dead(flow, &mut self.current);
         let mut turn = match arrive(
             alloc,
             flow,
