@@ -60,8 +60,8 @@ fn branches_meet(rt: HostRuntime) -> Result<(), Fail> {
         &rt,
         &[(
             "r0 = 2; r7 = *(u32 *)(r1 + 12); if r7 == 0 goto +0
-             r7 = *(u32 *)(r1 + 12); if r7 == 0 goto +0; exit",
-            "ok 6",
+             r6 = *(u32 *)(r1 + 12); if r6 == 0 goto +0; if r0 == 2 goto +1; r0 = r7; exit",
+            "ok 7",
         )],
     )
 }
