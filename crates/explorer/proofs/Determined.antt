@@ -53,7 +53,8 @@ use Rattle.explorer.proofs.Living.{needs_live}
 use Rattle.explorer.proofs.OnNumbers.{NumbersIn, Makes-performs, Refuses-performs, exited_none, just_number, performs_goes}
 use Rattle.explorer.proofs.StackSlots.{Holds, load_goes, store_goes}
 use Rattle.explorer.proofs.Beside.{Mirrored, first, Along, Reads, read_numbers}
-use Rattle.explorer.proofs.Along.{run_acts, here_too, NextAlong, step_along, Along-forgets, into_along, to_along, walk_along, start_along}
+use Rattle.explorer.proofs.Along.{run_acts, here_too, NextAlong, step_along}
+use Rattle.explorer.proofs.AlongWalks.{Along-forgets, into_along, to_along, walk_along, start_along}
 
 -- the state in which paths begin
 first_along : (p : Program) (steps : ℕ) (d : IsDetermined p steps) (s : State) → Forgets p start s → Along p steps d 0 s (first p steps d)

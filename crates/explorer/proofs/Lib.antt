@@ -15,6 +15,7 @@ pub mod Plain
 pub mod StackSlots
 pub mod Beside
 pub mod Along
+pub mod AlongWalks
 pub mod Determined
 pub mod OnPackets
 pub mod GuardedParts
