@@ -1,0 +1,18 @@
+use Rattle.word_relation.specs.Running.{related_Ends, related_Reaches, related_Exits}
+use Rattle.word_relation.specs.Answering.{start_Ends, start_Answers}
+use Rattle.word_relation.proofs.words_follow_states.Goals as goal
+
+pub returns-clause-ends : goal.returns-clause-ends
+returns-clause-ends c = related_Ends
+
+pub returns-clause-moves : goal.returns-clause-moves
+returns-clause-moves c = related_Reaches
+
+pub returns-clause-exits : goal.returns-clause-exits
+returns-clause-exits c = related_Exits
+
+pub returns-clause-starts : goal.returns-clause-starts
+returns-clause-starts c = start_Ends
+
+pub returns-clause-outcomes : goal.returns-clause-outcomes
+returns-clause-outcomes c = start_Answers

@@ -1,0 +1,127 @@
+-- How words stand for a state, under one layout: which depth each frame's serial has, and where in its map's block each
+-- value's serial begins. What is gone keeps its place.
+use Rattle.std.specs.Prelude.{◌≡◌, ℕ, suc, ◌+◌, ◌-◌, ◌*◌, ◌<◌, ◌≤◌, ℤ, pos, negsuc, List, [], ◌∷◌, length, slice_index, slice_index_or}
+use Rattle.std.specs.FinMap.{entries}
+use Rattle.std.specs.Int.{byte_at}
+use Rattle.flatmem.specs.Bytes.{bytes_at}
+use Rattle.isa_model.specs.declared.map_defs.MapDef.{MapDef}
+use Rattle.isa_model.specs.declared.values.Region.{Region}
+use Rattle.isa_model.specs.declared.values.Region.TheVariants as region
+use Rattle.isa_model.specs.declared.values.Value.{Value}
+use Rattle.isa_model.specs.declared.values.Value.TheVariants.{Unset, Num, Ptr}
+use Rattle.isa_model.specs.declared.values.Cell.{Cell}
+use Rattle.isa_model.specs.declared.values.Cell.TheVariants.{Unwritten, Byte, Piece}
+use Rattle.isa_model.specs.declared.values.CallFrame.{CallFrame}
+use Rattle.isa_model.specs.Code.Instructions.{Program}
+use Rattle.isa_model.specs.Machine.States.{State, Stored, Content, value_at, frame_at}
+use Rattle.map_indexes.specs.Rows.{row_at}
+use Rattle.maps.specs.ContentLaws.{changed}
+use Rattle.maps.specs.Maps.{MapState, IsMap, map_at, rows_of}
+use Rattle.word_machine.specs.declared.memory.Saved.{Saved}
+use Rattle.word_machine.specs.Words.{Words, base, saved_at}
+
+-- one total assignment: `depth` of a frame's serial, `value` of a map and a value's serial; `end` is the packet's length
+pub record Layout : Type 0 where
+  pub depth : ℕ → ℕ
+  pub value : ℕ → ℕ → ℕ
+  pub end : ℕ
+
+-- every region begins far from both ends of the addresses, and no two overlap
+pub record IsLayout (a : Layout) (rows : ℕ) : Type 0 where
+  pub few : rows ≤ 16
+  pub shallow : (n : ℕ) → a.depth n < 8
+  pub low : (m n : ℕ) → a.value m n < 536870912
+  pub short : a.end ≤ 4096
+
+-- where a region's offset 0 is
+abbrev pub start : Layout → Region → ℕ
+start a region.Context = base 1
+start a region.Packet = base 2
+start a region.PacketEnd = base 2 + a.end
+start a (region.Map m) = base (16 + m)
+start a (region.MapValue m n) = base (32 + m) + a.value m n
+start a (region.Frame n) = base (48 + a.depth n)
+
+-- an address some bytes further on, or back
+abbrev pub moved : ℕ → ℤ → ℕ
+moved at (pos n) = at + n
+moved at (negsuc n) = at - suc n
+
+-- the word of a pointer; the packet end is a place by itself
+abbrev pub word : Layout → Region → ℤ → ℕ
+word a region.PacketEnd z = start a region.PacketEnd
+word a r z = moved (start a r) z
+
+-- what a word stands for: an unset register may hold any
+abbrev pub Shows : Layout → Value → ℕ → Type 0
+Shows a Unset w = Unit {0}
+Shows a (Num n) w = w ≡ n
+Shows a (Ptr r z) w = w ≡ word a r z
+
+abbrev pub ShowsCell : Layout → Cell → ℕ → Type 0
+ShowsCell a Unwritten b = Unit {0}
+ShowsCell a (Byte n) b = b ≡ n
+ShowsCell a (Piece r z k) b = b ≡ byte_at k (word a r z)
+
+-- bytes stand for cells, one for one
+abbrev pub ShowsCells : Layout → List Cell → List ℕ → Type 0
+ShowsCells a [] [] = Unit {0}
+ShowsCells a (c ∷ cs) (b ∷ bs) = ShowsCell a c b × ShowsCells a cs bs
+ShowsCells a cs bs = ⊥
+
+-- ---- registers
+
+pub record ShowsRegisters (a : Layout) (regs : List Value) (words : List ℕ) : Type 0 where
+  pub count : length words ≡ 11
+  pub shown : (k : ℕ) → Shows a (value_at regs k) (slice_index words k)
+
+-- ---- frames
+
+-- the frame at depth j has its bytes from j * 512 on
+pub record ShowsFrame (a : Layout) (f : CallFrame) (j : ℕ) (frames : List ℕ) : Type 0 where
+  pub depth : a.depth f.serial ≡ j
+  pub cells : ShowsCells a f.cells (bytes_at frames (j * 512) 512)
+
+-- what is kept for the caller, whose exit leads back
+pub record ShowsSaved (a : Layout) (f : CallFrame) (s : Saved) : Type 0 where
+  pub back : s.back ≡ f.return_slot
+  pub kept : (k : ℕ) → Shows a (value_at f.saved k) (slice_index s.kept k)
+
+-- each frame but the first has a caller
+pub record ShowsFrames (a : Layout) (fs : List CallFrame) (block : List ℕ) (callers : List Saved) : Type 0 where
+  pub whole : length block ≡ 4096
+  pub depth : length fs ≡ length callers + 1
+  pub frames : (j : ℕ) → j < length fs → ShowsFrame a (frame_at fs j) j block
+  pub saved : (j : ℕ) → j < length callers → ShowsSaved a (frame_at fs (j + 1)) (saved_at callers j)
+
+-- ---- maps
+
+-- where a value begins, and its bytes: by its serial, and by its place
+abbrev pub by_serial : Layout → ℕ → Stored → (ℕ × List ℕ)
+by_serial a m v = (a.value m v.serial, v.bytes)
+
+abbrev pub by_place : ℕ → List ℕ → ℕ → (ℕ × List ℕ)
+by_place size block place = (place * size, row_at size block place)
+
+-- the keys are the same, in their order, and so are each key's beginning and bytes
+pub record ShowsMap (a : Layout) (m : ℕ) (content : Content) (map : MapState) : Type 0 where
+  pub is : IsMap map
+  pub same : changed (by_serial a m) content ≡ changed (by_place map.row.value_size map.block) (entries map.places)
+
+pub record ShowsMaps (a : Layout) (defs : List MapDef) (contents : List Content) (states : List MapState) : Type 0 where
+  pub rows : rows_of states ≡ defs
+  pub maps : (m : ℕ) → m < length defs → ShowsMap a m (slice_index_or contents m []) (map_at states m)
+
+-- ---- states
+
+pub record Related (p : Program) (a : Layout) (s : State) (w : Words) : Type 0 where
+  pub slot : w.at ≡ s.slot
+  pub layout : IsLayout a (length p.maps)
+  pub registers : ShowsRegisters a s.regs w.regs
+  pub frames : ShowsFrames a s.frames w.frames w.saved
+  pub packet : w.packet ≡ s.packet
+  pub end : a.end ≡ length s.packet
+  pub interface : w.interface ≡ s.interface
+  pub queue : w.queue ≡ s.queue
+  pub maps : ShowsMaps a p.maps s.maps w.maps
+  pub calls : w.calls ≡ s.clock_calls

@@ -1,0 +1,17 @@
+//! How the machine of words runs the programs of the model: `specs/Related` says when words stand
+//! for a state, `specs/Moves` that a step of the state is a move of the words, and `specs/Running`
+//! the same of runs.
+#![tactic(auto)]
+
+ghost use Rattle.word_relation.specs.Laws.{EndsInWords, MovesAreSteps, ExitsAgree};
+ghost use Rattle.word_relation.specs.Laws.{StartsEndInWords, ExitsAreOutcomes};
+
+/// The relation's laws: runs of words that begin related to a state end as the model's do, and
+/// each of their moves is a step; and from a start what they come to is the outcome.
+pub fn words_follow_states()
+    ensures ends { EndsInWords }
+    ensures moves { MovesAreSteps }
+    ensures exits { ExitsAgree }
+    ensures starts { StartsEndInWords }
+    ensures outcomes { ExitsAreOutcomes }
+{}
