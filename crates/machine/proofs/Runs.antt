@@ -1,70 +1,27 @@
--- What the checked machine's turns are, where every run exits within the bound.
-use Rattle.std.proofs.Common.{◌≡◌, ℕ, ◌+◌, ◌<◌, ◌≤◌, ◌^◌, List, length, ap, ◌∙◌}
+-- What the runs of words come to, where every run exits within the bound.
+use Rattle.std.proofs.Common.{◌≡◌, ℕ, ◌+◌, ◌<◌, ◌≤◌, ◌^◌, List, length, sym, ap, subst, ◌∙◌}
+use Rattle.std.proofs.lemmas.List.{nil_from_length}
+use Rattle.std.specs.Prelude.{All, vec_capacity}
 use Rattle.isa_model.specs.declared.frames.FrameHead.{FrameHead}
-use Rattle.isa_model.specs.declared.ends.End.{End}
-use Rattle.isa_model.specs.declared.ends.End.TheVariants.{Exit}
 use Rattle.isa_model.specs.Code.Instructions.{Program}
 use Rattle.isa_model.specs.Machine.States.{Entries}
 use Rattle.isa_model.specs.Reporting.Streams.{max_body}
-use Rattle.isa_model.specs.Running.Runs.{Turn, turn}
-use Rattle.isa_model.specs.Running.RunLaws.{turn-outcome}
 use Rattle.isa_model.specs.Machine.MachineStates.{AreBytes, FitRows, IsClock, IsGiven}
-use Rattle.isa_model.specs.Running.Outcomes.{ExitsWithin, ExitsWithin-StartsEnd, FitRows-HasOutcome}
-use Rattle.isa_model.specs.Reporting.Reports.{turn_by}
+use Rattle.isa_model.specs.Running.Outcomes.{FitRows-HasOutcome}
 use Rattle.image.specs.Programs.{IsProgram-IsImage}
 use Rattle.explorer.specs.Bounds.{Bounded, IsVerified}
-use Rattle.machine.specs.Running.{Running, IsRunning, Answers}
-
--- what a run is given, with its clock, and the outcome that it has
-pub record Goes (r : Running) (head : FrameHead) (packet : List ℕ) (clock : ℕ → ℕ) : Type 0 where
-  clock_is : IsClock clock
-  given : IsGiven r.program head packet r.contents
-  exit : ExitsWithin r.program r.bound head packet r.contents clock
-  same : turn r.program r.bound clock head packet r.contents ≡ turn_by exit.outcome
-
-pub goes : (r : Running) (head : FrameHead) (packet : List ℕ) (clock : ℕ → ℕ) → IsClock clock → IsRunning r → length packet ≤ max_body → AreBytes packet
-    → head.interface < 2 ^ 32 → head.queue < 2 ^ 32 → Goes r head packet clock
-goes r head packet clock fits h short bytes interface queue =
-    let given : IsGiven r.program head packet r.contents = record { short = short; bytes = bytes; interface = interface; queue = queue; maps = h.fits } in
-    let exit = ExitsWithin-StartsEnd r.program r.bound head packet r.contents clock h.ends fits given in
-    record { clock_is = fits; given = given; exit = exit; same = turn-outcome r.program head packet r.contents clock exit.outcome r.bound exit.found exit.few }
-
--- a run ends by an exit
-pub always_exits : (r : Running) (head : FrameHead) (packet : List ℕ) (clock : ℕ → ℕ) (e : End) → Goes r head packet clock
-    → e ≡ (turn r.program r.bound clock head packet r.contents).ends → ((a n : ℕ) → e ≡ Exit a n → ⊥) → ⊥
-always_exits r head packet clock e g ends never =
-    never g.exit.outcome.number g.exit.outcome.steps (ends ∙ ap (λ (t : Turn). t.ends) g.same)
-
--- after a run the machine is as it was, with the contents that the run left
-pub still_running : (r : Running) (head : FrameHead) (packet : List ℕ) (clock : ℕ → ℕ) (p : Program) (left : List Entries) → IsRunning r → Goes r head packet clock
-    → p ≡ r.program → left ≡ (turn r.program r.bound clock head packet r.contents).contents
-    → IsRunning (record { program = p; bound = r.bound; contents = left })
-still_running r head packet clock p left h g same is_left =
-    let o = g.exit.outcome in
-    let fits = FitRows-HasOutcome r.program head packet r.contents clock o h.is_program g.clock_is g.given g.exit.found in
-    let left_is : left ≡ o.contents = is_left ∙ ap (λ (t : Turn). t.contents) g.same in
-    rw (same, left_is) record { is_program = h.is_program; ends = h.ends; some = h.some; most = h.most; fits = fits }
-
-pub answers : (r : Running) (head : FrameHead) (packet : List ℕ) (clock : ℕ → ℕ) (a n : ℕ) (after : List ℕ) (left : List Entries) (coming : ℕ → ℕ)
-    → Goes r head packet clock
-    → Exit a n ≡ (turn r.program r.bound clock head packet r.contents).ends
-    → after ≡ (turn r.program r.bound clock head packet r.contents).packet
-    → left ≡ (turn r.program r.bound clock head packet r.contents).contents
-    → ((k : ℕ) → coming k ≡ clock ((turn r.program r.bound clock head packet r.contents).clock_calls + k))
-    → Answers r head packet clock (record { r0 = a; steps = n }) after left coming
-answers r head packet clock a n after left coming g ends packet_left contents_left asked =
-    let o = g.exit.outcome in
-    let end : Exit a n ≡ Exit o.number o.steps = ends ∙ ap (λ (t : Turn). t.ends) g.same in
-    record {
-      outcome = o;
-      found = g.exit.found;
-      few = g.exit.few;
-      number_is = cc;
-      steps_are = cc;
-      packet_is = packet_left ∙ ap (λ (t : Turn). t.packet) g.same;
-      contents_are = contents_left ∙ ap (λ (t : Turn). t.contents) g.same;
-      clock_is = λ k. asked k ∙ ap (λ (t : Turn). clock (t.clock_calls + k)) g.same;
-    }
+use Rattle.maps.specs.Maps.{IsMap, contents_of}
+use Rattle.word_machine.specs.declared.memory.Saved.{Saved}
+use Rattle.word_machine.specs.declared.memory.Memory.{Memory}
+use Rattle.word_machine.specs.Words.{Words}
+use Rattle.word_machine.specs.Machine.{words_of}
+use Rattle.word_machine.specs.Runs.{Ends, EndsInTime, Exits}
+use Rattle.word_relation.specs.Starting.{start_words, start_of}
+use Rattle.word_relation.specs.Answering.{IsStart}
+use Rattle.word_relation.specs.Answering.{Answers as WordAnswers}
+use Rattle.word_relation.specs.Answering.{start_Ends, start_Answers}
+use Rattle.machine.specs.Running.{IsRunning, Answers}
+use Rattle.machine.specs.Ready.{IsReady}
 
 -- the machine of an accepted program, whose maps fit its rows
 pub starts_running : (a : Bounded) (contents : List Entries) → IsVerified a → FitRows a.program.maps contents
@@ -76,3 +33,82 @@ starts_running a contents h fits = record {
   most = h.most;
   fits = fits;
 }
+
+-- memory as a run finds it
+abbrev pub memory_at : Memory → FrameHead → Memory
+memory_at memory head = record memory { interface = head.interface; queue = head.queue }
+
+module _ (p : Program) (bound : ℕ) (memory : Memory) (ready : IsReady p bound memory) (head : FrameHead) (packet : List ℕ) (clock : ℕ → ℕ)
+    (fits : IsClock clock) (short : length packet ≤ max_body) (bytes : AreBytes packet) (interface : head.interface < 2 ^ 32) (queue : head.queue < 2 ^ 32)
+    (are : All IsMap memory.maps) where
+  given : IsGiven p head packet (contents_of memory.maps)
+  given = record { short = short; bytes = bytes; interface = interface; queue = queue; maps = ready.running.fits }
+
+  is_start : IsStart p clock bound head packet memory.frames.items memory.maps
+  is_start = record {
+    program = ready.running.is_program;
+    ends = ready.running.ends;
+    answers = fits;
+    given = given;
+    few = ready.few;
+    whole = ready.whole;
+    are_maps = are;
+    rows = ready.rows;
+  }
+
+  abbrev first : Words
+  first = words_of 0 start_words (memory_at memory head) packet 0
+
+  at_start : first ≡ start_of head packet memory.frames.items memory.maps
+  at_start = ap {A = List Saved} {B = Words} (λ saved. record (start_of head packet memory.frames.items memory.maps) { saved = saved }) ready.outer
+
+  -- the run comes to its end
+  pub run_ends : EndsInTime p clock first
+  run_ends = record {
+    bound = bound;
+    most = ready.running.most;
+    ends = subst (λ w. Ends p clock w bound) (sym at_start) (start_Ends p clock bound head packet memory.frames.items memory.maps is_start);
+  }
+
+  module _ (number steps slot asked : ℕ) (regs : List ℕ) (left : Memory) (after : List ℕ)
+      (exits : Exits p clock first number steps (words_of slot regs left after asked)) where
+    abbrev last : Words
+    last = words_of slot regs left after asked
+
+    word_answers : WordAnswers p clock bound head packet memory.maps number steps last
+    word_answers =
+        start_Answers p clock bound head packet memory.frames.items memory.maps is_start number steps last
+        (subst (λ w. Exits p clock w number steps last) at_start exits)
+
+    -- what it leaves is the outcome
+    pub run_answers : (coming : ℕ → ℕ) → ((k : ℕ) → coming k ≡ clock (asked + k))
+        → Answers (record { program = p; bound = bound; contents = contents_of memory.maps }) head packet clock
+        (record { r0 = number; steps = steps }) after (contents_of left.maps) coming
+    run_answers coming comes = record {
+      outcome = word_answers.outcome;
+      found = word_answers.found;
+      few = word_answers.few;
+      number_is = word_answers.number_is;
+      steps_are = word_answers.steps_are;
+      packet_is = word_answers.packet_is;
+      contents_are = word_answers.contents_are;
+      clock_is = λ k. comes k ∙ ap (λ n. clock (n + k)) word_answers.clock_calls_are;
+    }
+
+    -- and the machine can run again
+    pub still_ready : vec_capacity left.saved ≡ 8 → IsReady p bound left
+    still_ready room = record {
+      running = record {
+        is_program = ready.running.is_program;
+        ends = ready.running.ends;
+        some = ready.running.some;
+        most = ready.running.most;
+        fits = subst (FitRows p.maps) (sym word_answers.contents_are)
+            (FitRows-HasOutcome p head packet (contents_of memory.maps) clock word_answers.outcome ready.running.is_program fits given word_answers.found);
+      };
+      few = ready.few;
+      rows = word_answers.rows;
+      whole = word_answers.whole;
+      outer = nil_from_length left.saved.items word_answers.back;
+      room = room;
+    }

@@ -7,12 +7,20 @@ ghost use Rattle.maps.specs.Maps.{rows_of, contents_of};
 ghost use Rattle.machine.specs.Running.{Answers, IsRunning};
 
 use super::errors::VmError;
-use checked_vm::{Checked, VmError as CheckedError};
 use explorer::Verified;
-use isa_model::{Clock, End, FrameHead};
+use isa_model::{Clock, FrameHead};
 use maps::Maps;
 use std::alloc::Global;
 use std::marker::Model;
+use word_machine::loaded::Loaded;
+use word_machine::memory::Memory;
+use word_machine::run::run;
+
+// What r1 holds at the start, which is the address of the context.
+const CONTEXT: u64 = 0x1_8000_0000;
+
+// What r10 holds at the start, which is the end of the first frame.
+const FRAME_END: u64 = 0x30_8000_0000;
 
 /// How a run ended: its result, and how many instructions it had.
 #[derive(Clone, Copy, PartialEq, Eq, Debug)]
@@ -27,26 +35,25 @@ pub struct Exit {
 /// Contracts see its program with the bound, and the maps' contents between runs.
 #[derive(Drop)]
 pub struct Machine {
-    checked: Checked,
+    program: Loaded,
+    memory: Memory,
     bound: u32,
 }
 
 impl Model for Machine {
-    ghost use Rattle.machine.specs.Running.{Running, IsRunning};
+    ghost use Rattle.maps.specs.Maps.{contents_of};
+    ghost use Rattle.machine.specs.Running.{Running};
+    ghost use Rattle.machine.specs.Ready.{IsReady};
 
     ghost Value = { Running };
 
     ghost view = { λ machine. record {
-      program = machine.checked.program;
+      program = machine.program;
       bound = machine.bound;
-      contents = machine.checked.contents;
+      contents = contents_of machine.memory.maps;
     } };
 
-    ghost invariant = { λ machine. IsRunning (record {
-      program = machine.checked.program;
-      bound = machine.bound;
-      contents = machine.checked.contents;
-    }) };
+    ghost invariant = { λ machine. IsReady machine.program machine.bound machine.memory };
 }
 
 // What their types say of a head and of a packet.
@@ -73,11 +80,17 @@ impl Machine {
         // only for the proof: this call says that the contents fit the rows
         let _count = maps.count();
         let bound = verified.bound();
-        let image = verified.into_image();
-        match Checked::with_maps(alloc, image, maps) {
-            Ok(checked) => Ok(Machine { checked, bound }),
-            Err(CheckedError::Memory) => Err(VmError::Memory),
-        }
+        let Ok(program) = Loaded::new(alloc, verified.into_image()) else {
+            return Err(VmError::Memory);
+        };
+        let Ok(memory) = Memory::new(alloc, maps) else {
+            return Err(VmError::Memory);
+        };
+        Ok(Machine {
+            program,
+            memory,
+            bound,
+        })
     }
 
     /// Gives the maps back.
@@ -85,8 +98,12 @@ impl Machine {
         ensures rows { rows_of result ≡ self.program.maps }
         ensures contents { contents_of result ≡ self.contents }
     {
-        let Machine { checked, bound: _ } = self;
-        checked.into_maps()
+        let Machine {
+            program: _,
+            memory,
+            bound: _,
+        } = self;
+        memory.maps
     }
 
     /// The most steps of a run.
@@ -106,9 +123,15 @@ impl Machine {
         ensures bound { self.new.bound ≡ self.old.bound }
     {
         in_range(head, packet);
-        match self.checked.run(head, packet, clock, self.bound) {
-            End::Exit(r0, steps) => Exit { r0, steps },
-            _ => unreachable!(),
+        // only for the proof: this call says what is known of each map
+        let _count = self.memory.maps.count();
+        self.memory.interface = head.interface;
+        self.memory.queue = head.queue;
+        let mut regs = [0, CONTEXT, 0, 0, 0, 0, 0, 0, 0, 0, FRAME_END];
+        let answer = run(&self.program, &mut regs, &mut self.memory, packet, clock);
+        Exit {
+            r0: answer.number,
+            steps: answer.steps,
         }
     }
 }

@@ -1,7 +1,8 @@
-use Rattle.std.proofs.Common.{List, subst}
+use Rattle.std.proofs.Common.{◌≡◌, ◌≤◌, ◌∙◌, List, length, sym, ap, subst}
 use Rattle.isa_model.specs.declared.map_defs.MapDef.{MapDef}
+use Rattle.isa_model.specs.Code.Instructions.{Program}
 use Rattle.isa_model.specs.Machine.MachineStates.{FitRows}
-use Rattle.maps.specs.Maps.{contents_of}
+use Rattle.maps.specs.Maps.{rows_of, contents_of}
 use Rattle.maps.specs.MapLaws.{FitRows-IsMap}
 use Rattle.machine.proofs.Runs.{starts_running}
 use Rattle.machine.proofs.machines.Machine.new.Goals as goal
@@ -11,4 +12,13 @@ invariant_of-result c =
     let contents = contents_of c.args.maps in
     let fits = subst (λ (rows : List MapDef). FitRows rows contents) c.requires.rows (FitRows-IsMap c.args.maps c.count-count.ensures.maps) in
     let started = starts_running c.args.verified contents c.bound-bound.ensures.verified fits in
-    rw (c.in-Ok.ensures.made, c.bound-bound.ensures.bound, c.into_image-image.ensures.program) started
+    let maps = c.in-Ok-new.ensures.maps in
+    let program : c.in-Ok.program ≡ c.args.verified.program = c.in-Ok.ensures ∙ c.into_image.ensures.program in
+    record {
+      running = rw (maps, c.bound-bound.ensures.bound, program) started;
+      few = subst (λ (p : Program). length p.maps ≤ 16) (sym program) c.bound-bound.ensures.verified.image.few_maps;
+      rows = ap rows_of maps ∙ c.requires.rows ∙ ap (λ (p : Program). p.maps) (sym program);
+      whole = c.in-Ok-new.ensures.frames;
+      outer = c.in-Ok-new.ensures.saved;
+      room = c.in-Ok-new.ensures.room;
+    }

@@ -1,34 +1,27 @@
 use Rattle.std.proofs.Common.{subst}
+use Rattle.maps.specs.Maps.{contents_of}
 use Rattle.machine.specs.Running.{Running, Answers}
-use Rattle.machine.proofs.Runs.{goes, always_exits, still_running, answers}
+use Rattle.machine.proofs.Runs.{run_ends, run_answers, still_ready}
 use Rattle.machine.proofs.machines.Machine.run.Goals as goal
 
-pub unreachable-requires : goal.unreachable-requires
-unreachable-requires g c =
-    let r : Running = record { program = c.self.inside.checked.program; bound = c.self.inside.bound; contents = c.self.inside.checked.contents } in
-    let head = c.args.head in
-    let packet = c.args.packet.now in
-    let clock = g.C.Clock.at c.args.clock.now in
-    let went = goes r head packet clock (g.met.C.Clock.within c.args.clock.now) c.self.invariant c.requires c.in_range.ensures.bytes c.in_range.ensures.interface c.in_range.ensures.queue in
-    always_exits r head packet clock c.run.result went c.run.ensures.ends c.in_default.not-Exit
+pub run-answer-requires-clause-ends : goal.run-answer-requires-clause-ends
+run-answer-requires-clause-ends g c =
+    run_ends c.self.inside.program c.self.inside.bound c.self.inside.memory c.self.invariant c.args.head c.args.packet.now (g.C.Clock.at c.args.clock.now)
+    (g.met.C.Clock.within c.args.clock.now) c.requires c.in_range.ensures.bytes c.in_range.ensures.interface c.in_range.ensures.queue c.count-count.ensures.maps
 
 pub invariant_of-self : goal.invariant_of-self
 invariant_of-self g c =
-    let r : Running = record { program = c.self.inside.checked.program; bound = c.self.inside.bound; contents = c.self.inside.checked.contents } in
-    let head = c.args.head in
-    let packet = c.args.packet.now in
-    let clock = g.C.Clock.at c.args.clock.now in
-    let went = goes r head packet clock (g.met.C.Clock.within c.args.clock.now) c.self.invariant c.requires c.in_range.ensures.bytes c.in_range.ensures.interface c.in_range.ensures.queue in
-    still_running r head packet clock c.run.new.self.program c.run.new.self.contents c.self.invariant went c.run.ensures.program c.run.ensures.contents
+    let (at, asked, exits, comes) = c.run-answer.ensures.exits in
+    still_ready c.self.inside.program c.self.inside.bound c.self.inside.memory c.self.invariant c.args.head c.args.packet.now (g.C.Clock.at c.args.clock.now)
+    (g.met.C.Clock.within c.args.clock.now) c.requires c.in_range.ensures.bytes c.in_range.ensures.interface c.in_range.ensures.queue c.count-count.ensures.maps
+    c.run-answer.result.number c.run-answer.result.steps at asked c.run-answer.new.regs c.run-answer.new.memory c.run-answer.new.packet exits c.run-answer.ensures.kept
 
 pub returns-clause-answers : goal.returns-clause-answers
 returns-clause-answers g c =
-    let r : Running = record { program = c.self.inside.checked.program; bound = c.self.inside.bound; contents = c.self.inside.checked.contents } in
-    let head = c.args.head in
-    let packet = c.args.packet.now in
-    let clock = g.C.Clock.at c.args.clock.now in
-    let went = goes r head packet clock (g.met.C.Clock.within c.args.clock.now) c.self.invariant c.requires c.in_range.ensures.bytes c.in_range.ensures.interface c.in_range.ensures.queue in
-    subst (λ (q : Running). Answers q head packet clock (record { r0 = c.in-Exit.r0; steps = c.in-Exit.steps }) c.run.new.packet c.run.new.self.contents (g.C.Clock.at c.run.new.clock))
+    let (at, asked, exits, comes) = c.run-answer.ensures.exits in
+    subst (λ (r : Running). Answers r c.args.head c.args.packet.now (g.C.Clock.at c.args.clock.now)
+    (record { r0 = c.run-answer.result.number; steps = c.run-answer.result.steps }) c.run-answer.new.packet (contents_of c.run-answer.new.memory.maps) (g.C.Clock.at c.run-answer.new.clock))
     c.self.view_is
-    (answers r head packet clock c.in-Exit.r0 c.in-Exit.steps c.run.new.packet c.run.new.self.contents (g.C.Clock.at c.run.new.clock)
-    went c.in-Exit.ensures.ends c.run.ensures.packet c.run.ensures.contents c.run.ensures.clock)
+    (run_answers c.self.inside.program c.self.inside.bound c.self.inside.memory c.self.invariant c.args.head c.args.packet.now (g.C.Clock.at c.args.clock.now)
+    (g.met.C.Clock.within c.args.clock.now) c.requires c.in_range.ensures.bytes c.in_range.ensures.interface c.in_range.ensures.queue c.count-count.ensures.maps
+    c.run-answer.result.number c.run-answer.result.steps at asked c.run-answer.new.regs c.run-answer.new.memory c.run-answer.new.packet exits (g.C.Clock.at c.run-answer.new.clock) comes)

@@ -1,0 +1,16 @@
+-- What a machine keeps between runs.
+use Rattle.std.specs.Prelude.{◌≡◌, ℕ, ◌≤◌, [], length, vec_capacity}
+use Rattle.isa_model.specs.Code.Instructions.{Program}
+use Rattle.maps.specs.Maps.{rows_of, contents_of}
+use Rattle.word_machine.specs.declared.memory.Memory.{Memory}
+use Rattle.machine.specs.Running.{IsRunning}
+
+-- its runs exit; there are no more maps than addresses; the frames have their bytes, no caller waits, and there is room
+-- for those that will
+pub record IsReady (p : Program) (bound : ℕ) (memory : Memory) : Type 0 where
+  pub running : IsRunning (record { program = p; bound = bound; contents = contents_of memory.maps })
+  pub few : length p.maps ≤ 16
+  pub rows : rows_of memory.maps ≡ p.maps
+  pub whole : length memory.frames.items ≡ 4096
+  pub outer : memory.saved.items ≡ []
+  pub room : vec_capacity memory.saved ≡ 8
