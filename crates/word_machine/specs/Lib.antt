@@ -1,0 +1,9 @@
+pub mod Words
+pub mod Ops
+pub mod Helping
+pub mod Machine
+pub mod Flows
+pub mod Constants
+pub mod FlowLaws
+pub mod HelpingLaws
+pub mod Runs
