@@ -17,7 +17,7 @@ The first word after the backquotes of a code block says how the block is tried:
 The last four begin with a comment: the line of standard output, and after it what standard error gets. A refusal of
 `asm` counts as the answer. In hexadecimal `#` begins a comment. Blocks with any other word, or with none, are not
 tried. Each examples/NAME.text has to make NAME.image, each NAME.bpf.c too where clang 14 is installed, and each
-NAME.report is what `run` prints for NAME.image and NAME.frames.
+NAME.report is what `run` prints for NAME.image and NAME.frames. The last row reads in crates.txt what `run` stands on.
 Each NAME.frames is what frames.py makes of NAME.pcapng, where there is one.
 The exit status is 0 if every answer is the one wanted, else 1.
 """
@@ -132,6 +132,18 @@ def reported():
             yield report, kept.read(), run("run", name + ".image", name + ".frames", "sent")[1]
 
 
+def stands():
+    """`run` executes on words, with no test of an access: its machine stands on flatmem, and not on the checked one."""
+    with open(os.path.join(TOP, "crates.txt")) as rows:
+        below = {name.strip(): names.split() for name, _, names in (row.partition(":") for row in rows) if name[:1] != "#"}
+    found, left = set(), ["machine"]
+    while left:
+        new = [name for name in below.get(left.pop(), []) if name not in found]
+        found.update(new)
+        left += new
+    yield "crates below machine", "flatmem: True, checked_vm: False\n", f"flatmem: {'flatmem' in found}, checked_vm: {'checked_vm' in found}\n"
+
+
 def main():
     pages = [os.path.join(TOP, "README.md"), *sorted(glob.glob(os.path.join(TOP, "docs/*.md")))]
     runs = failures = 0
@@ -158,6 +170,7 @@ def main():
         count("examples", compiled())
         count("examples", captured())
         count("examples", reported())
+        count("crates.txt", stands())
         os.chdir("/")
     print(f"{runs} examples, {failures} differ")
     sys.exit(1 if failures else 0)
