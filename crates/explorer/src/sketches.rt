@@ -85,7 +85,7 @@ fn with_signed(print: u64, number: i32) -> u64 {
 
 fn with_numbers(print: u64, numbers: &Scalar) -> u64 {
     let bits = mixed(mixed(print, numbers.bits.value), numbers.bits.mask);
-    mixed(mixed(bits, numbers.range.least), numbers.range.greatest)
+    mixed(mixed(bits, numbers.range.wide.least), numbers.range.wide.greatest)
 }
 
 fn with_kind(print: u64, kind: &Kind) -> u64 {

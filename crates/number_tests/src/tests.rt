@@ -5,6 +5,7 @@ mod branches;
 mod covers;
 mod kinds;
 mod limits;
+mod low_halves;
 mod numbers;
 mod operations;
 mod pointers;

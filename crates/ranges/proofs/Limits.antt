@@ -1,7 +1,8 @@
 -- Limits of sums, shifts and products.
 use Rattle.std.proofs.Common.{◌≡◌, ℕ, ℤ, pos, negsuc, zero, suc, ◌+◌, ◌-◌, ◌*◌, ◌/◌, ◌%◌, ◌^◌, ◌<◌, ◌≤◌, w64, refl, inl, inr, ap, ◌∙◌, arith, Bool, true, false, cond}
 use Rattle.std.specs.Prelude.{◌+ℤ◌, ◌-ℤ◌, ◌≤ℤ◌, FitsSigned, nat_eq}
-use Rattle.std.specs.Int.{w8, w16, w32, cast_signed, cast_unsigned, int_shr}
+use mir.Val.{hbits}
+use Rattle.std.specs.Int.{Width as IntWidth, w8, w16, w32, cast_signed, cast_unsigned, int_shr}
 use lib.Signed.{shr_z, mag_shr, le_z}
 use Rattle.std.proofs.Math.Facts.{sfits_to_z}
 use Rattle.std.proofs.lemmas.Int.{ints, to_z-of_z}
@@ -18,8 +19,9 @@ use Rattle.isa_model.specs.Code.ExtensionLemmas.{extension_bits, extension_width
 use Rattle.std.proofs.lemmas.Bool.{cases_lt, lt-ltb, ne_eqb}
 use Rattle.std.proofs.lemmas.Nat.{le-div, pow_pos, mul-le, mod_below, and_le_l, and_le_r}
 use Rattle.std.proofs.Math.Nat.{div-mul-le_self, mod-eq_of_lt, div-le_self, mod-le, div-zero, add-mod_right}
-use Rattle.ranges.specs.declared.range.Range.{Range}
-use Rattle.ranges.specs.Ranges.{Has, IsBetween, IsSignedBetween, KeepsLimits, KeepsSignedLimits, extension_signed}
+use Rattle.ranges.specs.declared.wide.Wide.{Wide}
+use Rattle.ranges.specs.Keeps.{extension_signed}
+use Rattle.ranges.specs.Wides.{Has, IsBetween, IsSignedBetween, KeepsLimits, KeepsSignedLimits}
 
 -- ---- sums and differences that fit
 
@@ -129,48 +131,10 @@ extended_32 x =
 pub test_le : (a b : ℤ) → le_z a b ≡ true → a ≤ℤ b
 test_le a b h = grind (arith, ints)
 
--- ---- what an operation keeps of the limits of two constants
-
-difference_low : (x y n : ℕ) → y ≤ x → x < n → (x + (n - y)) % n ≡ x - y
+pub difference_low : (x y n : ℕ) → y ≤ x → x < n → (x + (n - y)) % n ≡ x - y
 difference_low x y n le h =
     ap (λ t. t % n) (let e : x + (n - y) ≡ (x - y) + n = omega arith in e) ∙ add-mod_right (x - y) n
     ∙ mod-eq_of_lt {n = x - y} {m = n} (omega arith)
-
-pub keeps_constant : (op : AluOp) (w : Width) (a b r : Range) → a.greatest ≡ a.least → b.greatest ≡ b.least
-    → a.least < 2 ^ width_bits w → b.least < 2 ^ width_bits w → r.least ≡ result_of op w a.least b.least
-    → r.greatest ≡ result_of op w a.least b.least
-    → KeepsLimits op w a b (IsBetween r)
-keeps_constant Add w a b r ea eb ia ib e f = λ fits.
-    let m = mod-eq_of_lt {n = a.least + b.least} {m = 2 ^ width_bits w} (omega arith) in
-    (omega arith, omega arith)
-keeps_constant Sub w a b r ea eb ia ib e f = λ le.
-    let m = difference_low (a.least) (b.least) (2 ^ width_bits w) (omega arith) ia in
-    (omega arith, omega arith)
-keeps_constant Mul w a b r ea eb ia ib e f = λ fits.
-    let m = mod-eq_of_lt {n = a.least * b.least} {m = 2 ^ width_bits w} (rw (ea, eb) at fits) in
-    rw (ea, eb) (omega arith, omega arith)
-keeps_constant Div w a b r ea eb ia ib e f =
-    let z = zero_or_div a.least b.least in
-    ((omega arith, omega arith), λ some. let d = div_apart a.least b.least a.least a.greatest b.least b.greatest some (omega arith) (omega arith) (omega arith) (omega arith) in (omega arith, omega arith))
-keeps_constant Mod w a b r ea eb ia ib e f =
-    let z = self_or_mod a.least b.least in
-    ((omega arith, omega arith), λ some. let d = mod_apart a.least b.least some in (omega arith, omega arith))
-keeps_constant And w a b r ea eb ia ib e f =
-    let l = and_le_l a.least b.least in
-    let right = and_le_r a.least b.least in
-    ((omega arith, omega arith), (omega arith, omega arith))
-keeps_constant Lsh w a b r ea eb ia ib e f = λ one fits.
-    let m = mod-eq_of_lt {n = a.least * 2 ^ shift w b.least} {m = 2 ^ width_bits w} (rw ea at fits) in
-    rw ea (omega arith, omega arith)
-keeps_constant Rsh w a b r ea eb ia ib e f =
-    let l = div-le_self a.least (2 ^ shift w b.least) in
-    ((omega arith, omega arith), λ one. rw ea (omega arith, omega arith))
-keeps_constant Mov w a b r ea eb ia ib e f = (omega arith, omega arith)
-keeps_constant Or w a b r ea eb ia ib e f = tt
-keeps_constant Xor w a b r ea eb ia ib e f = tt
-keeps_constant SignedDiv w a b r ea eb ia ib e f = tt
-keeps_constant SignedMod w a b r ea eb ia ib e f = tt
-keeps_constant Arsh w a b r ea eb ia ib e f = tt
 
 -- a product of limits that fits: the shift to the left is by a factor
 pub shl_within : (g k : ℕ) → g * 2 ^ k < 2 ^ 64 → g ≤ (2 ^ 64 - 1) / 2 ^ k
@@ -217,15 +181,15 @@ half_narrow Full8 h twice = omega arith
 half_narrow Full16 h twice = omega arith
 half_narrow Full32 h twice = omega arith
 
-fits_8 : (z : ℤ) → negsuc 127 ≤ℤ z → z ≤ℤ pos 127 → FitsSigned w8 z
+pub fits_8 : (z : ℤ) → negsuc 127 ≤ℤ z → z ≤ℤ pos 127 → FitsSigned w8 z
 fits_8 (pos n) l g = record { sfits = omega (arith, ints) }
 fits_8 (negsuc n) l g = record { sfits = omega (arith, ints) }
 
-fits_16 : (z : ℤ) → negsuc 32767 ≤ℤ z → z ≤ℤ pos 32767 → FitsSigned w16 z
+pub fits_16 : (z : ℤ) → negsuc 32767 ≤ℤ z → z ≤ℤ pos 32767 → FitsSigned w16 z
 fits_16 (pos n) l g = record { sfits = omega (arith, ints) }
 fits_16 (negsuc n) l g = record { sfits = omega (arith, ints) }
 
-fits_32 : (z : ℤ) → negsuc 2147483647 ≤ℤ z → z ≤ℤ pos 2147483647 → FitsSigned w32 z
+pub fits_32 : (z : ℤ) → negsuc 2147483647 ≤ℤ z → z ≤ℤ pos 2147483647 → FitsSigned w32 z
 fits_32 (pos n) l g = record { sfits = omega (arith, ints) }
 fits_32 (negsuc n) l g = record { sfits = omega (arith, ints) }
 
@@ -239,42 +203,11 @@ extended_signed Full16 x full = let l = extended_16 x in fits_16 _ l.0 l.1
 extended_signed Full32 x full = let l = extended_32 x in fits_32 _ l.0 l.1
 
 -- a greater number's negative fits where that of a smaller one does
-pub negative_fits : (l g : ℤ) → l ≤ℤ g → FitsSigned w64 g → FitsSigned w64 (pos 0 -ℤ l) → FitsSigned w64 (pos 0 -ℤ g)
-negative_fits l (pos zero) h f fl = record { sfits = omega arith }
-negative_fits l (pos (suc n)) h f fl =
+pub negative_fits : (w : IntWidth) (l g : ℤ) → l ≤ℤ g → FitsSigned w g → FitsSigned w (pos 0 -ℤ l) → FitsSigned w (pos 0 -ℤ g)
+negative_fits w l (pos zero) h f fl = record { sfits = let p = pow_pos (hbits w) in omega arith }
+negative_fits w l (pos (suc n)) h f fl =
     let e : (pos 0 -ℤ pos (suc n)) ≡ negsuc n = omega (arith, ints) in
     let s = f.sfits in
     rw e (record { sfits = omega arith })
-negative_fits (pos m) (negsuc n) h f fl = absurd (omega (arith, ints))
-negative_fits (negsuc m) (negsuc n) h f fl = record { sfits = let s = fl.sfits in let le : n ≤ m = omega (arith, ints) in omega arith }
-
--- ---- what an operation keeps of the signed limits at 64 bits, when it gives one number
-
-pub keeps_signed_constant : (op : AluOp) (a b r : Range) (x y : ℕ) → Has a x → Has b y → b.least ≡ b.greatest
-    → r.signed_least ≡ cast_signed w64 (result_of op Full64 x y) → r.signed_greatest ≡ cast_signed w64 (result_of op Full64 x y)
-    → KeepsSignedLimits op a b (IsSignedBetween r)
-keeps_signed_constant Add a b r x y hx hy one e f = λ fl fg.
-    rw (e, f) (
-      sum_from x y a.signed_least b.signed_least a.signed_greatest b.signed_greatest hx.below hy.below hx.signed_from hx.signed_to hy.signed_from hy.signed_to fl fg,
-      sum_to x y a.signed_least b.signed_least a.signed_greatest b.signed_greatest hx.below hy.below hx.signed_from hx.signed_to hy.signed_from hy.signed_to fl fg,
-    )
-keeps_signed_constant Sub a b r x y hx hy one e f = λ fl fg.
-    rw (e, f) (
-      difference_from x y a.signed_least b.signed_least a.signed_greatest b.signed_greatest hx.below hy.below hx.signed_from hx.signed_to hy.signed_from hy.signed_to fl fg,
-      difference_to x y a.signed_least b.signed_least a.signed_greatest b.signed_greatest hx.below hy.below hx.signed_from hx.signed_to hy.signed_from hy.signed_to fl fg,
-    )
-keeps_signed_constant Arsh a b r x y hx hy one e f = λ same.
-    let is : y ≡ b.least = omega arith in
-    let z = to_z-of_z w64 (int_shr (cast_signed w64 x) (b.least % 64)) (shr_fits (cast_signed w64 x) (b.least % 64) (cast_fits x hx.below)) in
-    rw (e, f, is, z) (shr_mono a.signed_least (cast_signed w64 x) (2 ^ (b.least % 64)) hx.signed_from, shr_mono (cast_signed w64 x) a.signed_greatest (2 ^ (b.least % 64)) hx.signed_to)
-keeps_signed_constant Mov a b r x y hx hy one e f = rw (e, f) (hy.signed_from, hy.signed_to)
-keeps_signed_constant Mul a b r x y hx hy one e f = tt
-keeps_signed_constant Div a b r x y hx hy one e f = tt
-keeps_signed_constant Mod a b r x y hx hy one e f = tt
-keeps_signed_constant And a b r x y hx hy one e f = tt
-keeps_signed_constant Lsh a b r x y hx hy one e f = tt
-keeps_signed_constant Rsh a b r x y hx hy one e f = tt
-keeps_signed_constant Or a b r x y hx hy one e f = tt
-keeps_signed_constant Xor a b r x y hx hy one e f = tt
-keeps_signed_constant SignedDiv a b r x y hx hy one e f = tt
-keeps_signed_constant SignedMod a b r x y hx hy one e f = tt
+negative_fits w (pos m) (negsuc n) h f fl = absurd (omega (arith, ints))
+negative_fits w (negsuc m) (negsuc n) h f fl = record { sfits = let s = fl.sfits in let le : n ≤ m = omega (arith, ints) in omega arith }

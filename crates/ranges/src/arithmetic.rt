@@ -1,47 +1,127 @@
 //! What the arithmetic instructions give.
 
-ghost use Rattle.std.specs.Prelude.{◌≡◌, ℕ, ◌+◌, ◌^◌, ◌<◌, ◌-ℤ◌, pos, FitsSigned};
-ghost use Rattle.std.specs.Int.{w64};
+ghost use Rattle.std.specs.Prelude.{◌≡◌, ℕ, ◌+◌, ◌*◌, ◌*ℤ◌, ◌%◌, ◌^◌, ◌<◌, ◌≤◌, ◌-ℤ◌, pos, FitsSigned};
+ghost use Rattle.std.specs.Prelude.{IsTrue, ◌↔◌};
+ghost use Rattle.std.specs.Int.{w32, w64};
 ghost use Rattle.isa_model.specs.Code.Sizes.{width_bits, span_bits};
-ghost use Rattle.isa_model.specs.Code.Numbers.{negated, reordered};
+ghost use Rattle.isa_model.specs.Code.Numbers.{alu, negated, reordered, shift};
+ghost use Rattle.ranges.specs.Lows as L;
+ghost use Rattle.ranges.specs.Ranges.{ReadsLow};
+ghost use Rattle.ranges.specs.Wides as W;
 
+use crate::low::Low;
 use crate::range::Range;
+use crate::shifts::distance;
+use crate::wide::Wide;
 use isa_model::{AluOp, ByteOrder, Span, Width, numbers};
 
 impl Range {
-    ghost use Rattle.isa_model.specs.Code.Numbers.{alu};
-    ghost use Rattle.ranges.specs.Ranges.{Has, IsConstant, IsBetween, IsSignedBetween, KeepsLimits};
-    ghost use Rattle.ranges.specs.Ranges.{KeepsSignedLimits};
+    ghost use Rattle.ranges.specs.Ranges.{Has, IsConstant};
 
     /// What the operation gives on the numbers of both.
     pub fn alu(op: AluOp, width: Width, a: Self, b: Self) -> Self
         ensures contains { (x y : ℕ) → Has a x → Has b y → Has result (alu op width x y) }
         ensures exact { (u v : ℕ) → IsConstant a u → IsConstant b v
             → IsConstant result (alu op width u v) }
-        ensures fits { result.greatest < 2 ^ width_bits width }
-        ensures limits { a.greatest < 2 ^ width_bits width → b.greatest < 2 ^ width_bits width
-            → KeepsLimits op width a b (IsBetween result) }
+        ensures fits { result.wide.greatest < 2 ^ width_bits width }
+        ensures limits { a.wide.greatest < 2 ^ width_bits width
+            → b.wide.greatest < 2 ^ width_bits width
+            → W.KeepsLimits op width a.wide b.wide (W.IsBetween result.wide) }
         ensures signed { (x y : ℕ) → Has a x → Has b y → width ≡ Width.Full64
-            → KeepsSignedLimits op a b (IsSignedBetween result) }
+            → W.KeepsSignedLimits op a.wide b.wide (W.IsSignedBetween result.wide) }
+        ensures low_limits { (x y : ℕ) → Has a x → Has b y → ReadsLow op width b.wide
+            → L.KeepsLimits op a.low b.low (L.IsBetween result.low) }
+        ensures low_signed { (x y : ℕ) → Has a x → Has b y → ReadsLow op width b.wide
+            → L.KeepsSignedLimits op a.low b.low (L.IsSignedBetween result.low) }
+        ensures raised { (x y : ℕ) → Has a x → Has b y → op ≡ AluOp.Lsh → width ≡ Width.Full64
+            → b.wide.least ≡ b.wide.greatest → 32 ≤ shift width b.wide.least
+            → a.low.greatest * 2 ^ shift width b.wide.least < 2 ^ 64
+            → W.IsBetween result.wide (a.low.least * 2 ^ shift width b.wide.least)
+            (a.low.greatest * 2 ^ shift width b.wide.least) }
+        ensures raised_signed { (x y : ℕ) → Has a x → Has b y → op ≡ AluOp.Lsh
+            → width ≡ Width.Full64 → b.wide.least ≡ b.wide.greatest
+            → shift width b.wide.least ≡ 32
+            → W.IsSignedBetween result.wide (a.low.signed_least *ℤ pos (2 ^ 32))
+            (a.low.signed_greatest *ℤ pos (2 ^ 32)) }
     {
-        if a.least == a.greatest && b.least == b.greatest {
-            return Range::constant(numbers::compute(op, width, a.least, b.least));
+        if a.wide.least == a.wide.greatest && b.wide.least == b.wide.greatest {
+            return Range::constant(numbers::compute(op, width, a.wide.least, b.wide.least));
         }
-        let x = a.truncate(width);
-        let y = b.truncate(width);
+        let wide = Range::wide_alu(op, width, a, b);
+        let low = Range::low_alu(op, width, a, b);
+        Range { wide, low }.settled()
+    }
+
+    // The limits at 64 bits.
+    fn wide_alu(op: AluOp, width: Width, a: Self, b: Self) -> Wide
+        ensures contains { (x y : ℕ) → Has a x → Has b y → W.Has result (alu op width x y) }
+        ensures fits { result.greatest < 2 ^ width_bits width }
+        ensures limits { a.wide.greatest < 2 ^ width_bits width
+            → b.wide.greatest < 2 ^ width_bits width
+            → W.KeepsLimits op width a.wide b.wide (W.IsBetween result) }
+        ensures signed { (x y : ℕ) → Has a x → Has b y → width ≡ Width.Full64
+            → W.KeepsSignedLimits op a.wide b.wide (W.IsSignedBetween result) }
+        ensures raised { (x y : ℕ) → Has a x → Has b y → op ≡ AluOp.Lsh → width ≡ Width.Full64
+            → b.wide.least ≡ b.wide.greatest → 32 ≤ shift width b.wide.least
+            → a.low.greatest * 2 ^ shift width b.wide.least < 2 ^ 64
+            → W.IsBetween result (a.low.least * 2 ^ shift width b.wide.least)
+            (a.low.greatest * 2 ^ shift width b.wide.least) }
+        ensures raised_signed { (x y : ℕ) → Has a x → Has b y → op ≡ AluOp.Lsh
+            → width ≡ Width.Full64 → b.wide.least ≡ b.wide.greatest
+            → shift width b.wide.least ≡ 32
+            → W.IsSignedBetween result (a.low.signed_least *ℤ pos (2 ^ 32))
+            (a.low.signed_greatest *ℤ pos (2 ^ 32)) }
+    {
         match op {
-            AluOp::Add => x.add_at(width, y),
-            AluOp::Sub => x.sub_at(width, y),
-            AluOp::Mul => x.mul_at(width, y),
-            AluOp::Div => x.divide(y),
-            AluOp::Mod => x.remainder(y),
-            AluOp::And => x.and(y),
-            AluOp::Lsh => x.shift_left_at(width, y),
-            AluOp::Rsh => x.shift_right_at(width, y),
-            AluOp::Arsh => x.shift_signed_at(width, y),
-            AluOp::Mov => y,
-            // Limits say nothing of single bits; signed quotients and remainders are left open.
-            AluOp::Or | AluOp::Xor | AluOp::SignedDiv | AluOp::SignedMod => Range::any(width),
+            AluOp::Lsh => Range::shifted_left(width, a, b),
+            _ => Wide::alu(op, width, a.wide, b.wide),
+        }
+    }
+
+    // A shift to the left by 32 and more leaves the low half alone.
+    fn shifted_left(width: Width, a: Self, b: Self) -> Wide
+        ensures contains { (x y : ℕ) → Has a x → Has b y → W.Has result (alu AluOp.Lsh width x y) }
+        ensures fits { result.greatest < 2 ^ width_bits width }
+        ensures limits { a.wide.greatest < 2 ^ width_bits width
+            → b.wide.greatest < 2 ^ width_bits width
+            → W.KeepsLimits AluOp.Lsh width a.wide b.wide (W.IsBetween result) }
+        ensures raised { (x y : ℕ) → Has a x → Has b y → width ≡ Width.Full64
+            → b.wide.least ≡ b.wide.greatest → 32 ≤ shift width b.wide.least
+            → a.low.greatest * 2 ^ shift width b.wide.least < 2 ^ 64
+            → W.IsBetween result (a.low.least * 2 ^ shift width b.wide.least)
+            (a.low.greatest * 2 ^ shift width b.wide.least) }
+        ensures raised_signed { (x y : ℕ) → Has a x → Has b y → width ≡ Width.Full64
+            → b.wide.least ≡ b.wide.greatest → shift width b.wide.least ≡ 32
+            → W.IsSignedBetween result (a.low.signed_least *ℤ pos (2 ^ 32))
+            (a.low.signed_greatest *ℤ pos (2 ^ 32)) }
+    {
+        let wide = Wide::alu(AluOp::Lsh, width, a.wide, b.wide);
+        match width {
+            Width::Low32 => wide,
+            Width::Full64 => {
+                let by = distance(width, b.wide.least);
+                if b.wide.least == b.wide.greatest && by >= 32 {
+                    wide.with(a.low.raised(by))
+                } else {
+                    wide
+                }
+            }
+        }
+    }
+
+    // The low halves, where they are those of an operation on low halves.
+    fn low_alu(op: AluOp, width: Width, a: Self, b: Self) -> Low
+        ensures contains { (x y : ℕ) → Has a x → Has b y
+            → L.Has result (alu op width x y % 2 ^ 32) }
+        ensures limits { (x y : ℕ) → Has a x → Has b y → ReadsLow op width b.wide
+            → L.KeepsLimits op a.low b.low (L.IsBetween result) }
+        ensures signed { (x y : ℕ) → Has a x → Has b y → ReadsLow op width b.wide
+            → L.KeepsSignedLimits op a.low b.low (L.IsSignedBetween result) }
+    {
+        if reads_low(op, width, b.wide) {
+            Low::alu(op, a.low, b.low)
+        } else {
+            Low::any()
         }
     }
 
@@ -49,10 +129,14 @@ impl Range {
     pub fn negate(width: Width, a: Self) -> Self
         ensures contains { (x : ℕ) → Has a x → Has result (negated width x) }
         ensures exact { (u : ℕ) → IsConstant a u → IsConstant result (negated width u) }
-        ensures fits { result.greatest < 2 ^ width_bits width }
+        ensures fits { result.wide.greatest < 2 ^ width_bits width }
         ensures signed { (x : ℕ) → Has a x → width ≡ Width.Full64
-            → FitsSigned w64 (pos 0 -ℤ a.signed_least)
-            → IsSignedBetween result (pos 0 -ℤ a.signed_greatest) (pos 0 -ℤ a.signed_least) }
+            → FitsSigned w64 (pos 0 -ℤ a.wide.signed_least)
+            → W.IsSignedBetween result.wide (pos 0 -ℤ a.wide.signed_greatest)
+            (pos 0 -ℤ a.wide.signed_least) }
+        ensures low_signed { (x : ℕ) → Has a x → FitsSigned w32 (pos 0 -ℤ a.low.signed_least)
+            → L.IsSignedBetween result.low (pos 0 -ℤ a.low.signed_greatest)
+            (pos 0 -ℤ a.low.signed_least) }
     {
         Range::alu(AluOp::Sub, width, Range::constant(0), a)
     }
@@ -61,17 +145,39 @@ impl Range {
     pub fn reorder(order: ByteOrder, span: Span, a: Self) -> Self
         ensures contains { (x : ℕ) → Has a x → Has result (reordered order span x) }
         ensures exact { (u : ℕ) → IsConstant a u → IsConstant result (reordered order span u) }
-        ensures fits { result.greatest < 2 ^ span_bits span }
-        ensures little { order ≡ ByteOrder.Little → a.greatest < 2 ^ span_bits span
-            → IsBetween result a.least a.greatest }
+        ensures fits { result.wide.greatest < 2 ^ span_bits span }
+        ensures little { order ≡ ByteOrder.Little → a.wide.greatest < 2 ^ span_bits span
+            → W.IsBetween result.wide a.wide.least a.wide.greatest }
+        ensures low_little { (x : ℕ) → Has a x → order ≡ ByteOrder.Little
+            → a.low.greatest < 2 ^ span_bits span
+            → L.IsBetween result.low a.low.least a.low.greatest }
     {
-        if a.least == a.greatest {
-            return Range::constant(numbers::reorder(order, span, a.least));
+        if a.wide.least == a.wide.greatest {
+            return Range::constant(numbers::reorder(order, span, a.wide.least));
         }
         match order {
-            ByteOrder::Little => a.low(span),
+            ByteOrder::Little => Range {
+                wide: a.wide.low(span),
+                low: a.low.low_part(span),
+            }
+            .settled(),
             _ => Range::between(0, greatest_read(span)),
         }
+    }
+}
+
+// Whether the low half of the result is what the operation gives on low halves.
+fn reads_low(op: AluOp, width: Width, b: Wide) -> bool
+    ensures { IsTrue result ↔ ReadsLow op width b }
+{
+    match width {
+        Width::Low32 => true,
+        Width::Full64 => match op {
+            AluOp::Add | AluOp::Sub | AluOp::Mul => true,
+            AluOp::And | AluOp::Or | AluOp::Xor | AluOp::Mov => true,
+            AluOp::Lsh => b.least == b.greatest && distance(width, b.least) < 32,
+            _ => false,
+        },
     }
 }
 

@@ -3,20 +3,20 @@
 ghost use Rattle.std.specs.Prelude.{◌≡◌, ℕ, bit_and};
 ghost use Rattle.isa_model.specs.Code.Numbers.{quotient, remainder};
 
-use crate::range::Range;
+use crate::wide::Wide;
 use isa_model::{AluOp, Width};
 
-impl Range {
-    ghost use Rattle.ranges.specs.Ranges.{Has, IsBetween, KeepsLimits};
+impl Wide {
+    ghost use Rattle.ranges.specs.Wides.{Has, IsBetween, KeepsLimits};
 
     pub(crate) fn divide(self, other: Self) -> Self
         ensures contains { (x y : ℕ) → Has self x → Has other y → Has result (quotient x y) }
         ensures limits { KeepsLimits AluOp.Div Width.Full64 self other (IsBetween result) }
     {
         if other.least == 0 {
-            Range::between(0, self.greatest)
+            Wide::between(0, self.greatest)
         } else {
-            Range::between(self.least / other.greatest, self.greatest / other.least)
+            Wide::between(self.least / other.greatest, self.greatest / other.least)
         }
     }
 
@@ -25,9 +25,9 @@ impl Range {
         ensures limits { KeepsLimits AluOp.Mod Width.Full64 self other (IsBetween result) }
     {
         if other.least == 0 {
-            Range::between(0, self.greatest)
+            Wide::between(0, self.greatest)
         } else {
-            Range::between(0, self.greatest.min(other.greatest - 1))
+            Wide::between(0, self.greatest.min(other.greatest - 1))
         }
     }
 
@@ -35,6 +35,6 @@ impl Range {
         ensures contains { (x y : ℕ) → Has self x → Has other y → Has result (bit_and x y) }
         ensures limits { KeepsLimits AluOp.And Width.Full64 self other (IsBetween result) }
     {
-        Range::between(0, self.greatest.min(other.greatest))
+        Wide::between(0, self.greatest.min(other.greatest))
     }
 }

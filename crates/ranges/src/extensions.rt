@@ -1,19 +1,74 @@
 //! Sign extensions of low bits.
 
-ghost use Rattle.std.specs.Prelude.{◌≡◌, ℕ, ℤ, ◌+◌, ◌^◌, ◌<◌, ◌≤ℤ◌, ◌↔◌, FitsSigned, IsTrue};
+ghost use Rattle.std.specs.Prelude.{◌≡◌, ℕ, ℤ, ◌+◌, ◌%◌, ◌^◌, ◌<◌, ◌≤ℤ◌, ◌↔◌, FitsSigned, IsTrue};
 ghost use Rattle.isa_model.specs.Code.Sizes.{width_bits};
 ghost use Rattle.isa_model.specs.Code.Numbers.{sign_extended};
 ghost use Rattle.isa_model.specs.Code.ExtensionLemmas.{extension_bits, extension_width};
-ghost use Rattle.ranges.specs.Ranges.{Has, extension_signed};
+ghost use Rattle.ranges.specs.Keeps.{extension_signed};
+ghost use Rattle.ranges.specs.Wides.{Has};
 
+use crate::low::Low;
 use crate::range::Range;
+use crate::wide::Wide;
 use isa_model::{Extension, Width, numbers};
 
 impl Range {
-    ghost use Rattle.ranges.specs.Ranges.{IsConstant, IsBetween, IsSignedOf, Encloses};
+    ghost use Rattle.ranges.specs.Ranges as R;
+    ghost use Rattle.ranges.specs.Wides as W;
+    ghost use Rattle.ranges.specs.Lows as L;
 
     /// The low bits of the numbers, sign-extended.
     pub fn sign_extend(extension: Extension, a: Self) -> Self
+        ensures contains { (x : ℕ) → R.Has a x → R.Has result (sign_extended extension x) }
+        ensures exact { (u : ℕ) → R.IsConstant a u
+            → R.IsConstant result (sign_extended extension u) }
+        ensures fits { result.wide.greatest < 2 ^ width_bits (extension_width extension) }
+        ensures small { a.wide.greatest + a.wide.greatest < 2 ^ extension_bits extension
+            → W.IsBetween result.wide a.wide.least a.wide.greatest }
+        ensures signed { (x : ℕ) → R.Has a x → extension_width extension ≡ Width.Full64
+            → W.IsSignedOf (extension_signed extension) result.wide }
+        ensures kept { (x : ℕ) → R.Has a x → extension_width extension ≡ Width.Full64
+            → W.IsSignedOf (extension_signed extension) a.wide → R.Encloses a result }
+        ensures low_signed { (x : ℕ) → R.Has a x
+            → L.IsSignedOf (extension_signed extension) result.low }
+        ensures low_kept { (x : ℕ) → R.Has a x → L.IsSignedOf (extension_signed extension) a.low
+            → L.Encloses a.low result.low }
+    {
+        if a.wide.least == a.wide.greatest {
+            return Range::constant(numbers::sign_extend(extension, a.wide.least));
+        }
+        Range {
+            wide: Wide::sign_extend(extension, a.wide),
+            low: a.low_extended(extension),
+        }
+        .settled()
+    }
+
+    // The low halves of what the extension gives.
+    fn low_extended(self, extension: Extension) -> Low
+        ensures contains { (x : ℕ) → R.Has self x
+            → L.Has result (sign_extended extension x % 2 ^ 32) }
+        ensures signed { (x : ℕ) → R.Has self x
+            → L.IsSignedOf (extension_signed extension) result }
+        ensures kept { L.IsSignedOf (extension_signed extension) self.low
+            → L.Encloses self.low result }
+        ensures same { extension_width extension ≡ Width.Full64
+            → W.IsSignedOf (extension_signed extension) self.wide → L.Encloses self.low result }
+    {
+        let extended = self.low.extended(extension);
+        if self.wide.is_extended(extension) {
+            self.low.with(extended)
+        } else {
+            extended
+        }
+    }
+}
+
+impl Wide {
+    ghost use Rattle.ranges.specs.Wides.{IsConstant, IsBetween, IsSignedOf, Encloses};
+
+    // The low bits of the numbers, sign-extended.
+    pub(crate) fn sign_extend(extension: Extension, a: Self) -> Self
         ensures contains { (x : ℕ) → Has a x → Has result (sign_extended extension x) }
         ensures exact { (u : ℕ) → IsConstant a u → IsConstant result (sign_extended extension u) }
         ensures fits { result.greatest < 2 ^ width_bits (extension_width extension) }
@@ -25,7 +80,7 @@ impl Range {
             → IsSignedOf (extension_signed extension) a → Encloses a result }
     {
         if a.least == a.greatest {
-            return Range::constant(numbers::sign_extend(extension, a.least));
+            return Wide::constant(numbers::sign_extend(extension, a.least));
         }
         let extended = all_extended(extension);
         if a.is_extended(extension) {
@@ -36,7 +91,7 @@ impl Range {
     }
 
     // Whether the limits show that the extension changes none of the numbers.
-    fn is_extended(self, extension: Extension) -> bool
+    pub(crate) fn is_extended(self, extension: Extension) -> bool
         ensures sound { IsTrue result → (x : ℕ) → Has self x → sign_extended extension x ≡ x }
         ensures fits { IsTrue result → self.greatest < 2 ^ width_bits (extension_width extension) }
         ensures small { self.greatest + self.greatest < 2 ^ extension_bits extension
@@ -59,7 +114,7 @@ impl Range {
 }
 
 // All that the extension may give.
-fn all_extended(extension: Extension) -> Range
+fn all_extended(extension: Extension) -> Wide
     ensures contains { (x : ℕ) → Has result (sign_extended extension x) }
     ensures fits { result.greatest < 2 ^ width_bits (extension_width extension) }
     ensures signed { extension_width extension ≡ Width.Full64 → (z : ℤ)
@@ -67,11 +122,11 @@ fn all_extended(extension: Extension) -> Range
         ↔ FitsSigned (extension_signed extension) z) }
 {
     match extension {
-        Extension::Full8 => Range::signed_between(-0x80, 0x7f),
-        Extension::Full16 => Range::signed_between(-0x8000, 0x7fff),
-        Extension::Full32 => Range::signed_between(-0x8000_0000, 0x7fff_ffff),
-        Extension::Low8 => Range::any(Width::Low32),
-        Extension::Low16 => Range::any(Width::Low32),
+        Extension::Full8 => Wide::signed_between(-0x80, 0x7f),
+        Extension::Full16 => Wide::signed_between(-0x8000, 0x7fff),
+        Extension::Full32 => Wide::signed_between(-0x8000_0000, 0x7fff_ffff),
+        Extension::Low8 => Wide::any(Width::Low32),
+        Extension::Low16 => Wide::any(Width::Low32),
     }
 }
 

@@ -1,34 +1,35 @@
 //! Ranges: the type, common numbers and inclusion.
 
-ghost use Rattle.std.specs.Prelude.{◌≡◌, ℕ, ◌+◌, ◌^◌, ◌<◌, ◌≤◌, ◌≤ℤ◌, ◌↔◌, Some, IsSomeAnd, IfSome};
+ghost use Rattle.std.specs.Prelude.{◌≡◌, ℕ, ◌%◌, ◌^◌, ◌<◌, ◌≤◌, ◌≤ℤ◌, ◌⊎◌, ◌↔◌, Some, IsSomeAnd, IfSome};
 ghost use Rattle.std.specs.Prelude.{IsTrue};
 ghost use Rattle.std.specs.Int.{w64, cast_signed, cast_unsigned};
 ghost use Rattle.isa_model.specs.Code.Sizes.{width_bits};
+ghost use Rattle.ranges.specs.Lows as L;
+ghost use Rattle.ranges.specs.Wides as W;
 
-use isa_model::Width;
+use crate::low::Low;
+use crate::wide::Wide;
+use isa_model::{Width, numbers};
 
-/// The numbers within both pairs of limits: as unsigned and as signed numbers of 64 bits. Linux
-/// calls them umin, umax, smin and smax. There may be none.
+/// The numbers within the limits at 64 bits whose low halves are within theirs. There may be none.
 #[derive(Clone, Copy, PartialEq, Eq, Debug)]
 pub struct Range {
-    pub least: u64,
-    pub greatest: u64,
-    pub signed_least: i64,
-    pub signed_greatest: i64,
-    pub ghost ordered: { least ≤ greatest },
-    pub ghost signed_ordered: { signed_least ≤ℤ signed_greatest },
+    pub wide: Wide,
+    pub low: Low,
 }
 
 impl Range {
-    ghost use Rattle.ranges.specs.Ranges.{Has, IsConstant, IsTight, LeavesOnly, ReadsAlike};
-    ghost use Rattle.ranges.specs.Ranges.{Encloses};
+    ghost use Rattle.ranges.specs.Ranges.{Has, IsConstant, IsTight, LeavesOnly, Encloses};
 
     /// All numbers of the width.
     pub fn any(width: Width) -> Self
         ensures members { (x : ℕ) → (Has result x ↔ (x < 2 ^ width_bits width)) }
-        ensures fits { result.greatest < 2 ^ width_bits width }
+        ensures fits { result.wide.greatest < 2 ^ width_bits width }
     {
-        Range::between(0, greatest_of(width))
+        Range {
+            wide: Wide::any(width),
+            low: Low::any(),
+        }
     }
 
     /// The one number.
@@ -37,12 +38,9 @@ impl Range {
         ensures only { (x : ℕ) → Has result x → x ≡ number }
         ensures constant { IsConstant result number }
     {
-        let signed = number.cast_signed();
         Range {
-            least: number,
-            greatest: number,
-            signed_least: signed,
-            signed_greatest: signed,
+            wide: Wide::constant(number),
+            low: Low::constant(numbers::low_word(number)),
         }
     }
 
@@ -52,8 +50,8 @@ impl Range {
         ensures constant { (x : ℕ) → IsConstant self x → result ≡ Some x }
         ensures only { IfSome result (λ n. (x : ℕ) → Has self x → x ≡ n) }
     {
-        if self.least == self.greatest {
-            Some(self.least)
+        if self.wide.least == self.wide.greatest {
+            Some(self.wide.least)
         } else {
             None
         }
@@ -63,26 +61,12 @@ impl Range {
     pub fn between(least: u64, greatest: u64) -> Self
         requires { least ≤ greatest }
         ensures members { (x : ℕ) → (Has result x ↔ ((least ≤ x) × (x ≤ greatest))) }
-        ensures limits { (result.least ≡ least) × (result.greatest ≡ greatest) }
+        ensures limits { (result.wide.least ≡ least) × (result.wide.greatest ≡ greatest) }
         ensures signed { cast_signed w64 least ≤ℤ cast_signed w64 greatest
-            → (result.signed_least ≡ cast_signed w64 least)
-            × (result.signed_greatest ≡ cast_signed w64 greatest) }
+            → (result.wide.signed_least ≡ cast_signed w64 least)
+            × (result.wide.signed_greatest ≡ cast_signed w64 greatest) }
     {
-        if greatest < SIGN || least >= SIGN {
-            Range {
-                least,
-                greatest,
-                signed_least: least.cast_signed(),
-                signed_greatest: greatest.cast_signed(),
-            }
-        } else {
-            Range {
-                least,
-                greatest,
-                signed_least: i64::MIN,
-                signed_greatest: i64::MAX,
-            }
-        }
+        Range::within_limits(Wide::between(least, greatest))
     }
 
     /// The numbers between two signed limits.
@@ -90,29 +74,26 @@ impl Range {
         requires { least ≤ℤ greatest }
         ensures members { (x : ℕ) → (Has result x
             ↔ ((x < 2 ^ 64) × (least ≤ℤ cast_signed w64 x) × (cast_signed w64 x ≤ℤ greatest))) }
-        ensures limits { (result.signed_least ≡ least) × (result.signed_greatest ≡ greatest) }
+        ensures limits { (result.wide.signed_least ≡ least) × (result.wide.signed_greatest ≡ greatest) }
         ensures unsigned { cast_unsigned w64 least ≤ cast_unsigned w64 greatest
-            → (result.least ≡ cast_unsigned w64 least)
-            × (result.greatest ≡ cast_unsigned w64 greatest) }
+            → (result.wide.least ≡ cast_unsigned w64 least)
+            × (result.wide.greatest ≡ cast_unsigned w64 greatest) }
     {
-        if least >= 0 || greatest < 0 {
-            Range {
-                least: least.cast_unsigned(),
-                greatest: greatest.cast_unsigned(),
-                signed_least: least,
-                signed_greatest: greatest,
-            }
-        } else {
-            Range {
-                least: 0,
-                greatest: u64::MAX,
-                signed_least: least,
-                signed_greatest: greatest,
-            }
+        Range::within_limits(Wide::signed_between(least, greatest))
+    }
+
+    // The numbers within limits at 64 bits.
+    fn within_limits(wide: Wide) -> Self
+        ensures members { (x : ℕ) → (Has result x ↔ W.Has wide x) }
+        ensures limits { result.wide ≡ wide }
+    {
+        Range {
+            wide,
+            low: wide.low_limits(),
         }
     }
 
-    /// The numbers that both stand for. Each limit is one of them.
+    /// The numbers that both stand for. Each limit is one of them, or the low half of one.
     pub fn meet(self, other: Self) -> Option<Self>
         ensures common { (x : ℕ) → Has self x → Has other x → IsSomeAnd result (λ m. Has m x) }
         ensures left { IfSome result (λ m. (x : ℕ) → Has m x → Has self x) }
@@ -120,98 +101,142 @@ impl Range {
         ensures enclosed { IfSome result (λ m. Encloses self m × Encloses other m) }
         ensures tight { IfSome result IsTight }
     {
-        let both = self.within(other)?;
+        let wide = self.wide.within(other.wide)?;
+        let low = self.low.within(other.low)?;
+        let both = Range { wide, low };
         both.tightened()
     }
 
-    // The same numbers, by the narrowest limits: those of the two halves, in each of which both
-    // readings have one order.
+    // Those within limits at 64 bits.
+    pub(crate) fn limited(self, wide: Wide) -> Option<Self>
+        ensures common { (x : ℕ) → Has self x → W.Has wide x → IsSomeAnd result (λ m. Has m x) }
+        ensures left { IfSome result (λ m. (x : ℕ) → Has m x → Has self x) }
+        ensures right { IfSome result (λ m. (x : ℕ) → Has m x → W.Has wide x) }
+        ensures enclosed { IfSome result (Encloses self) }
+    {
+        let common = self.wide.within(wide)?;
+        let both = Range {
+            wide: common,
+            low: self.low,
+        };
+        both.tightened()
+    }
+
+    // Those whose low halves are within limits.
+    pub(crate) fn low_limited(self, low: Low) -> Option<Self>
+        ensures common { (x : ℕ) → Has self x → L.Has low (x % 2 ^ 32)
+            → IsSomeAnd result (λ m. Has m x) }
+        ensures left { IfSome result (λ m. (x : ℕ) → Has m x → Has self x) }
+        ensures right { IfSome result (λ m. (x : ℕ) → Has m x → L.Has low (x % 2 ^ 32)) }
+        ensures enclosed { IfSome result (Encloses self) }
+    {
+        let common = self.low.within(low)?;
+        let both = Range {
+            wide: self.wide,
+            low: common,
+        };
+        both.tightened()
+    }
+
+    // The same numbers, by the narrowest limits.
     fn tightened(self) -> Option<Self>
         ensures common { (x : ℕ) → Has self x → IsSomeAnd result (λ m. Has m x) }
-        ensures left { IfSome result (λ m. (x : ℕ) → Has m x → Has self x) }
         ensures enclosed { IfSome result (Encloses self) }
         ensures tight { IfSome result IsTight }
     {
-        match (self.lower_half(), self.upper_half()) {
-            (Some(low), Some(high)) => Some(Range {
-                least: low.least,
-                greatest: high.greatest,
-                signed_least: high.signed_least,
-                signed_greatest: low.signed_greatest,
-            }),
-            (Some(low), None) => Some(low),
-            (None, high) => high,
+        let low = self.low.tightened()?;
+        let Some(signed) = self.signed_part(low) else {
+            return self.plain_part(low);
+        };
+        match self.plain_part(low) {
+            Some(plain) => Some(plain.followed_by(signed)),
+            None => Some(signed),
         }
     }
 
-    // The numbers below 2^63, without a sign bit.
-    fn lower_half(self) -> Option<Self>
-        ensures common { (x : ℕ) → Has self x → x < 2 ^ 63 → IsSomeAnd result (λ h. Has h x) }
-        ensures left { IfSome result (λ h. (x : ℕ) → Has h x → Has self x) }
-        ensures half { IfSome result (λ h. h.greatest < 2 ^ 63) }
-        ensures alike { IfSome result ReadsAlike }
+    // Those without a sign bit that have such low halves.
+    fn plain_part(self, low: Low) -> Option<Self>
+        requires { L.IsTight low }
+        ensures common { (x : ℕ) → W.Has self.wide x → L.Has low (x % 2 ^ 32) → x < 2 ^ 63
+            → IsSomeAnd result (λ p. Has p x) }
+        ensures enclosed { IfSome result (λ p. W.Encloses self.wide p.wide × L.Encloses low p.low) }
+        ensures half { IfSome result (λ p. p.wide.greatest < 2 ^ 63) }
+        ensures alike { IfSome result (λ p. W.ReadsAlike p.wide) }
+        ensures tight { IfSome result IsTight }
     {
-        if self.signed_greatest < 0 {
-            return None;
-        }
-        let least = self.least.max(self.signed_least.max(0).cast_unsigned());
-        let greatest = self.greatest.min(self.signed_greatest.cast_unsigned());
+        let half = self.wide.lower_half()?;
+        Range::narrowed(half, low)
+    }
+
+    // Those with the sign bit that have such low halves.
+    fn signed_part(self, low: Low) -> Option<Self>
+        requires { L.IsTight low }
+        ensures common { (x : ℕ) → W.Has self.wide x → L.Has low (x % 2 ^ 32) → 2 ^ 63 ≤ x
+            → IsSomeAnd result (λ p. Has p x) }
+        ensures enclosed { IfSome result (λ p. W.Encloses self.wide p.wide × L.Encloses low p.low) }
+        ensures half { IfSome result (λ p. 2 ^ 63 ≤ p.wide.least) }
+        ensures alike { IfSome result (λ p. W.ReadsAlike p.wide) }
+        ensures tight { IfSome result IsTight }
+    {
+        let half = self.wide.upper_half()?;
+        Range::narrowed(half, low)
+    }
+
+    // Those of one half of the numbers that have such low halves.
+    fn narrowed(half: Wide, low: Low) -> Option<Self>
+        requires tight { L.IsTight low }
+        requires half { (half.greatest < 2 ^ 63) ⊎ (2 ^ 63 ≤ half.least) }
+        requires alike { W.ReadsAlike half }
+        ensures common { (x : ℕ) → W.Has half x → L.Has low (x % 2 ^ 32)
+            → IsSomeAnd result (λ p. Has p x) }
+        ensures enclosed { IfSome result (λ p. W.Encloses half p.wide × L.Encloses low p.low) }
+        ensures alike { IfSome result (λ p. W.ReadsAlike p.wide) }
+        ensures tight { IfSome result IsTight }
+    {
+        let least = low.first_number(half.least)?;
+        let greatest = low.last_number(half.greatest)?;
         if least > greatest {
-            return None;
-        }
-        Some(Range::between(least, greatest))
-    }
-
-    // The numbers from 2^63 on, with the sign bit.
-    fn upper_half(self) -> Option<Self>
-        ensures common { (x : ℕ) → Has self x → 2 ^ 63 ≤ x → IsSomeAnd result (λ h. Has h x) }
-        ensures left { IfSome result (λ h. (x : ℕ) → Has h x → Has self x) }
-        ensures half { IfSome result (λ h. 2 ^ 63 ≤ h.least) }
-        ensures alike { IfSome result ReadsAlike }
-    {
-        if self.signed_least >= 0 {
-            return None;
-        }
-        let least = self.least.max(self.signed_least.cast_unsigned());
-        let greatest = self
-            .greatest
-            .min(self.signed_greatest.min(-1).cast_unsigned());
-        if least > greatest {
-            return None;
-        }
-        Some(Range::between(least, greatest))
-    }
-
-    // The narrower of each two limits.
-    fn within(self, other: Self) -> Option<Self>
-        ensures common { (x : ℕ) → Has self x → Has other x → IsSomeAnd result (λ m. Has m x) }
-        ensures left { IfSome result (λ m. (x : ℕ) → Has m x → Has self x) }
-        ensures right { IfSome result (λ m. (x : ℕ) → Has m x → Has other x) }
-        ensures enclosed { IfSome result (λ m. Encloses self m × Encloses other m) }
-    {
-        let least = self.least.max(other.least);
-        let greatest = self.greatest.min(other.greatest);
-        let signed_least = self.signed_least.max(other.signed_least);
-        let signed_greatest = self.signed_greatest.min(other.signed_greatest);
-        if least > greatest || signed_least > signed_greatest {
             return None;
         }
         Some(Range {
-            least,
-            greatest,
-            signed_least,
-            signed_greatest,
+            wide: Wide::between(least, greatest),
+            low: low.among(least, greatest),
         })
     }
 
-    // The common numbers; where there are none, any answer will do.
-    pub(crate) fn with(self, other: Self) -> Self
-        ensures common { (x : ℕ) → Has self x → Has other x → Has result x }
-        ensures enclosed { Encloses self result }
-        ensures other { (x : ℕ) → Has self x → Has other x → Encloses other result }
+    // The numbers of both, these without a sign bit and the others with it, and what lies between.
+    fn followed_by(self, other: Self) -> Self
+        requires plain { self.wide.greatest < 2 ^ 63 }
+        requires signed { 2 ^ 63 ≤ other.wide.least }
+        requires alike { W.ReadsAlike self.wide × W.ReadsAlike other.wide }
+        ensures left { Encloses result self }
+        ensures right { Encloses result other }
+        ensures enclosed { (r : Range) → Encloses r self → Encloses r other → Encloses r result }
+        ensures wide { (result.wide.least ≡ self.wide.least)
+            × (result.wide.greatest ≡ other.wide.greatest)
+            × (result.wide.signed_least ≡ other.wide.signed_least)
+            × (result.wide.signed_greatest ≡ self.wide.signed_greatest) }
+        ensures either { L.IsOfEither result.low self.low other.low }
     {
-        match self.meet(other) {
-            Some(both) => both,
+        Range {
+            wide: Wide {
+                least: self.wide.least,
+                greatest: other.wide.greatest,
+                signed_least: other.wide.signed_least,
+                signed_greatest: self.wide.signed_greatest,
+            },
+            low: self.low.hull(other.low),
+        }
+    }
+
+    // The common numbers by the narrowest limits; where there are none, any answer will do.
+    pub(crate) fn settled(self) -> Self
+        ensures contains { (x : ℕ) → Has self x → Has result x }
+        ensures enclosed { Encloses self result }
+        ensures tight { (x : ℕ) → Has self x → IsTight result }
+    {
+        match self.tightened() {
+            Some(narrow) => narrow,
             None => self,
         }
     }
@@ -222,21 +247,6 @@ impl Range {
         ensures yes { IsTrue result → (x : ℕ) → Has other x → Has self x }
         ensures equal { self ≡ other → IsTrue result }
     {
-        self.least <= other.least
-            && other.greatest <= self.greatest
-            && self.signed_least <= other.signed_least
-            && other.signed_greatest <= self.signed_greatest
-    }
-}
-
-const SIGN: u64 = 0x8000_0000_0000_0000;
-
-// The greatest number of the width.
-fn greatest_of(width: Width) -> u64
-    ensures { result + 1 ≡ 2 ^ width_bits width }
-{
-    match width {
-        Width::Low32 => 0xffff_ffff,
-        Width::Full64 => u64::MAX,
+        self.wide.covers(other.wide) && self.low.covers(other.low)
     }
 }

@@ -5,6 +5,7 @@ ghost use Rattle.std.specs.Prelude.{IfSome, bit_and};
 ghost use Rattle.std.specs.Int.{w64, cast_signed};
 
 use crate::range::Range;
+use crate::wide::Wide;
 
 impl Range {
     ghost use Rattle.ranges.specs.Ranges.{Has, IsConstant, IsLimit, LeavesOnly, Encloses};
@@ -15,14 +16,14 @@ impl Range {
             → IsSomeAnd result (λ p. Has p.0 x × Has p.1 y) }
         ensures left { IfSome result (λ p. (x : ℕ) → Has p.0 x → Has self x) }
         ensures right { IfSome result (λ p. (y : ℕ) → Has p.1 y → Has other y) }
-        ensures left_limit { IfSome result (λ p. (x : ℕ) → Has p.0 x → x < other.greatest) }
-        ensures right_limit { IfSome result (λ p. (y : ℕ) → Has p.1 y → self.least < y) }
+        ensures left_limit { IfSome result (λ p. (x : ℕ) → Has p.0 x → x < other.wide.greatest) }
+        ensures right_limit { IfSome result (λ p. (y : ℕ) → Has p.1 y → self.wide.least < y) }
     {
-        if other.greatest == 0 || self.least == u64::MAX {
+        if other.wide.greatest == 0 || self.wide.least == u64::MAX {
             return None;
         }
-        let left = self.meet(Range::between(0, other.greatest - 1))?;
-        let right = other.meet(Range::between(self.least + 1, u64::MAX))?;
+        let left = self.from_to(0, other.wide.greatest - 1)?;
+        let right = other.from_to(self.wide.least + 1, u64::MAX)?;
         Some((left, right))
     }
 
@@ -32,11 +33,11 @@ impl Range {
             → IsSomeAnd result (λ p. Has p.0 x × Has p.1 y) }
         ensures left { IfSome result (λ p. (x : ℕ) → Has p.0 x → Has self x) }
         ensures right { IfSome result (λ p. (y : ℕ) → Has p.1 y → Has other y) }
-        ensures left_limit { IfSome result (λ p. (x : ℕ) → Has p.0 x → x ≤ other.greatest) }
-        ensures right_limit { IfSome result (λ p. (y : ℕ) → Has p.1 y → self.least ≤ y) }
+        ensures left_limit { IfSome result (λ p. (x : ℕ) → Has p.0 x → x ≤ other.wide.greatest) }
+        ensures right_limit { IfSome result (λ p. (y : ℕ) → Has p.1 y → self.wide.least ≤ y) }
     {
-        let left = self.meet(Range::between(0, other.greatest))?;
-        let right = other.meet(Range::between(self.least, u64::MAX))?;
+        let left = self.from_to(0, other.wide.greatest)?;
+        let right = other.from_to(self.wide.least, u64::MAX)?;
         Some((left, right))
     }
 
@@ -48,15 +49,15 @@ impl Range {
         ensures left { IfSome result (λ p. (x : ℕ) → Has p.0 x → Has self x) }
         ensures right { IfSome result (λ p. (y : ℕ) → Has p.1 y → Has other y) }
         ensures left_limit { IfSome result (λ p. (x : ℕ) → Has p.0 x
-            → cast_signed w64 x <ℤ other.signed_greatest) }
+            → cast_signed w64 x <ℤ other.wide.signed_greatest) }
         ensures right_limit { IfSome result (λ p. (y : ℕ) → Has p.1 y
-            → self.signed_least <ℤ cast_signed w64 y) }
+            → self.wide.signed_least <ℤ cast_signed w64 y) }
     {
-        if other.signed_greatest == i64::MIN || self.signed_least == i64::MAX {
+        if other.wide.signed_greatest == i64::MIN || self.wide.signed_least == i64::MAX {
             return None;
         }
-        let left = self.meet(Range::signed_between(i64::MIN, other.signed_greatest - 1))?;
-        let right = other.meet(Range::signed_between(self.signed_least + 1, i64::MAX))?;
+        let left = self.signed_from_to(i64::MIN, other.wide.signed_greatest - 1)?;
+        let right = other.signed_from_to(self.wide.signed_least + 1, i64::MAX)?;
         Some((left, right))
     }
 
@@ -68,12 +69,12 @@ impl Range {
         ensures left { IfSome result (λ p. (x : ℕ) → Has p.0 x → Has self x) }
         ensures right { IfSome result (λ p. (y : ℕ) → Has p.1 y → Has other y) }
         ensures left_limit { IfSome result (λ p. (x : ℕ) → Has p.0 x
-            → cast_signed w64 x ≤ℤ other.signed_greatest) }
+            → cast_signed w64 x ≤ℤ other.wide.signed_greatest) }
         ensures right_limit { IfSome result (λ p. (y : ℕ) → Has p.1 y
-            → self.signed_least ≤ℤ cast_signed w64 y) }
+            → self.wide.signed_least ≤ℤ cast_signed w64 y) }
     {
-        let left = self.meet(Range::signed_between(i64::MIN, other.signed_greatest))?;
-        let right = other.meet(Range::signed_between(self.signed_least, i64::MAX))?;
+        let left = self.signed_from_to(i64::MIN, other.wide.signed_greatest)?;
+        let right = other.signed_from_to(self.wide.signed_least, i64::MAX)?;
         Some((left, right))
     }
 
@@ -119,9 +120,34 @@ impl Range {
         ensures left_limit { IfSome result (λ p. (x : ℕ) → Has p.0 x → 0 < x) }
         ensures right_limit { IfSome result (λ p. (y : ℕ) → Has p.1 y → 0 < y) }
     {
-        let left = self.meet(Range::between(1, u64::MAX))?;
-        let right = other.meet(Range::between(1, u64::MAX))?;
+        let left = self.from_to(1, u64::MAX)?;
+        let right = other.from_to(1, u64::MAX)?;
         Some((left, right))
+    }
+
+    // Those from one number to another.
+    fn from_to(self, least: u64, greatest: u64) -> Option<Self>
+        requires { least ≤ greatest }
+        ensures common { (x : ℕ) → Has self x → least ≤ x → x ≤ greatest
+            → IsSomeAnd result (λ m. Has m x) }
+        ensures left { IfSome result (λ m. (x : ℕ) → Has m x → Has self x) }
+        ensures right { IfSome result (λ m. (x : ℕ) → Has m x → (least ≤ x) × (x ≤ greatest)) }
+        ensures enclosed { IfSome result (Encloses self) }
+    {
+        self.limited(Wide::between(least, greatest))
+    }
+
+    // The same, read as signed numbers.
+    fn signed_from_to(self, least: i64, greatest: i64) -> Option<Self>
+        requires { least ≤ℤ greatest }
+        ensures common { (x : ℕ) → Has self x → least ≤ℤ cast_signed w64 x
+            → cast_signed w64 x ≤ℤ greatest
+            → IsSomeAnd result (λ m. Has m x) }
+        ensures left { IfSome result (λ m. (x : ℕ) → Has m x → Has self x) }
+        ensures right { IfSome result (λ m. (x : ℕ) → Has m x
+            → (least ≤ℤ cast_signed w64 x) × (cast_signed w64 x ≤ℤ greatest)) }
+    {
+        self.limited(Wide::signed_between(least, greatest))
     }
 
     // Those that differ from some number of the other.
@@ -154,19 +180,19 @@ impl Range {
         ensures common { (x : ℕ) → Has self x → x ≢ number → IsSomeAnd result (λ r. Has r x) }
         ensures left { IfSome result (λ r. (x : ℕ) → Has r x → Has self x) }
         ensures enclosed { IfSome result (Encloses self) }
-        ensures limit { IfSome result (λ r. (self.least ≡ number) ⊎ (self.greatest ≡ number)
+        ensures limit { IfSome result (λ r. (self.wide.least ≡ number) ⊎ (self.wide.greatest ≡ number)
             → Has r number → ⊥) }
     {
-        if self.least == number {
+        if self.wide.least == number {
             if number == u64::MAX {
                 return None;
             }
-            self.meet(Range::between(number + 1, u64::MAX))
-        } else if self.greatest == number {
+            self.from_to(number + 1, u64::MAX)
+        } else if self.wide.greatest == number {
             if number == 0 {
                 return None;
             }
-            self.meet(Range::between(0, number - 1))
+            self.from_to(0, number - 1)
         } else {
             Some(self)
         }
@@ -176,21 +202,21 @@ impl Range {
     fn without_signed(self, number: u64) -> Option<Self>
         ensures common { (x : ℕ) → Has self x → x ≢ number → IsSomeAnd result (λ r. Has r x) }
         ensures left { IfSome result (λ r. (x : ℕ) → Has r x → Has self x) }
-        ensures limit { IfSome result (λ r. (self.signed_least ≡ cast_signed w64 number)
-            ⊎ (self.signed_greatest ≡ cast_signed w64 number)
+        ensures limit { IfSome result (λ r. (self.wide.signed_least ≡ cast_signed w64 number)
+            ⊎ (self.wide.signed_greatest ≡ cast_signed w64 number)
             → Has r number → ⊥) }
     {
         let signed = number.cast_signed();
-        if self.signed_least == signed {
+        if self.wide.signed_least == signed {
             if signed == i64::MAX {
                 return None;
             }
-            self.meet(Range::signed_between(signed + 1, i64::MAX))
-        } else if self.signed_greatest == signed {
+            self.signed_from_to(signed + 1, i64::MAX)
+        } else if self.wide.signed_greatest == signed {
             if signed == i64::MIN {
                 return None;
             }
-            self.meet(Range::signed_between(i64::MIN, signed - 1))
+            self.signed_from_to(i64::MIN, signed - 1)
         } else {
             Some(self)
         }

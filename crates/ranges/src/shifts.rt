@@ -5,12 +5,12 @@ ghost use Rattle.std.specs.Int.{w64, cast_signed, cast_unsigned, int_shr};
 ghost use Rattle.isa_model.specs.Code.Sizes.{width_bits, span_bits};
 ghost use Rattle.isa_model.specs.Code.Numbers.{result_of, shift};
 
-use crate::range::Range;
+use crate::wide::Wide;
 use isa_model::{AluOp, Span, Width};
 
-impl Range {
-    ghost use Rattle.ranges.specs.Ranges.{Has, IsBetween, IsSignedBetween, KeepsLimits};
-    ghost use Rattle.ranges.specs.Ranges.{KeepsSignedLimits};
+impl Wide {
+    ghost use Rattle.ranges.specs.Wides.{Has, IsBetween, IsSignedBetween, KeepsLimits};
+    ghost use Rattle.ranges.specs.Wides.{KeepsSignedLimits};
 
     pub(crate) fn truncate(self, width: Width) -> Self
         ensures contains { (x : ℕ) → Has self x → Has result (x % 2 ^ width_bits width) }
@@ -32,9 +32,9 @@ impl Range {
         if self.greatest <= 0xffff_ffff {
             self
         } else if self.least >> 32 == self.greatest >> 32 {
-            Range::between(self.least & 0xffff_ffff, self.greatest & 0xffff_ffff)
+            Wide::between(self.least & 0xffff_ffff, self.greatest & 0xffff_ffff)
         } else {
-            Range::any(Width::Low32)
+            Wide::any(Width::Low32)
         }
     }
 
@@ -46,7 +46,7 @@ impl Range {
         if self.greatest <= 0xffff {
             self
         } else {
-            Range::between(0, 0xffff)
+            Wide::between(0, 0xffff)
         }
     }
 
@@ -63,16 +63,16 @@ impl Range {
         }
     }
 
-    fn shift_left(self, by: u64) -> Self
+    pub(crate) fn shift_left(self, by: u64) -> Self
         requires { by < 64 }
         ensures contains { (x : ℕ) → Has self x → Has result ((x * 2 ^ by) % 2 ^ 64) }
         ensures limits { self.greatest * 2 ^ by < 2 ^ 64
             → (result.least ≡ self.least * 2 ^ by) × (result.greatest ≡ self.greatest * 2 ^ by) }
     {
         if self.greatest <= u64::MAX >> by {
-            Range::between(self.least << by, self.greatest << by)
+            Wide::between(self.least << by, self.greatest << by)
         } else {
-            Range::any(Width::Full64)
+            Wide::any(Width::Full64)
         }
     }
 
@@ -82,18 +82,18 @@ impl Range {
         ensures limits { (result.least ≡ self.least / 2 ^ by)
             × (result.greatest ≡ self.greatest / 2 ^ by) }
     {
-        Range::between(self.least >> by, self.greatest >> by)
+        Wide::between(self.least >> by, self.greatest >> by)
     }
 
     // The shift that keeps the sign, at 64 bits.
-    fn shift_signed(self, by: u64) -> Self
+    pub(crate) fn shift_signed(self, by: u64) -> Self
         requires { by < 64 }
         ensures contains { (x : ℕ) → Has self x
             → Has result (cast_unsigned w64 (int_shr (cast_signed w64 x) by)) }
         ensures limits { (result.signed_least ≡ int_shr self.signed_least by)
             × (result.signed_greatest ≡ int_shr self.signed_greatest by) }
     {
-        Range::signed_between(self.signed_least >> by, self.signed_greatest >> by)
+        Wide::signed_between(self.signed_least >> by, self.signed_greatest >> by)
     }
 
     // At 32 bits numbers below the half are shifted as unsigned ones.
@@ -106,7 +106,7 @@ impl Range {
         if self.greatest < 0x8000_0000 {
             self.shift_right(by)
         } else {
-            Range::any(Width::Low32)
+            Wide::any(Width::Low32)
         }
     }
 
@@ -117,7 +117,7 @@ impl Range {
         ensures limits { KeepsLimits AluOp.Lsh width self other (IsBetween result) }
     {
         if other.least != other.greatest {
-            return Range::any(width);
+            return Wide::any(width);
         }
         self.shift_left(distance(width, other.least))
             .truncate(width)
@@ -130,7 +130,7 @@ impl Range {
         ensures limits { KeepsLimits AluOp.Rsh width self other (IsBetween result) }
     {
         if other.least != other.greatest {
-            return Range::between(0, self.greatest);
+            return Wide::between(0, self.greatest);
         }
         self.shift_right(distance(width, other.least))
     }
@@ -143,7 +143,7 @@ impl Range {
             → KeepsSignedLimits AluOp.Arsh self other (IsSignedBetween result) }
     {
         if other.least != other.greatest {
-            return Range::any(width);
+            return Wide::any(width);
         }
         let by = distance(width, other.least);
         match width {
@@ -154,7 +154,7 @@ impl Range {
 }
 
 // How far a shift by a number goes.
-fn distance(width: Width, by: u64) -> u64
+pub(crate) fn distance(width: Width, by: u64) -> u64
     ensures value { result ≡ shift width by }
     ensures below { result < width_bits width }
 {

@@ -4,12 +4,12 @@ ghost use Rattle.std.specs.Prelude.{◌≡◌, ℕ, ◌+◌, ◌-◌, ◌*◌, �
 ghost use Rattle.isa_model.specs.Code.Sizes.{width_bits};
 ghost use Rattle.isa_model.specs.Code.Numbers.{result_of};
 
-use crate::range::Range;
+use crate::wide::Wide;
 use isa_model::{AluOp, Width};
 
-impl Range {
-    ghost use Rattle.ranges.specs.Ranges.{Has, IsBetween, IsSignedBetween, KeepsLimits};
-    ghost use Rattle.ranges.specs.Ranges.{KeepsSignedLimits};
+impl Wide {
+    ghost use Rattle.ranges.specs.Wides.{Has, IsBetween, IsSignedBetween, KeepsLimits};
+    ghost use Rattle.ranges.specs.Wides.{KeepsSignedLimits};
 
     fn add_unsigned(self, other: Self) -> Self
         ensures contains { (x y : ℕ) → Has self x → Has other y → Has result ((x + y) % 2 ^ 64) }
@@ -18,12 +18,12 @@ impl Range {
         let never_wraps = self.greatest <= u64::MAX - other.greatest;
         let always_wraps = self.least > u64::MAX - other.least;
         if never_wraps || always_wraps {
-            Range::between(
+            Wide::between(
                 self.least.wrapping_add(other.least),
                 self.greatest.wrapping_add(other.greatest),
             )
         } else {
-            Range::any(Width::Full64)
+            Wide::any(Width::Full64)
         }
     }
 
@@ -32,12 +32,12 @@ impl Range {
         ensures limits { KeepsSignedLimits AluOp.Add self other (IsSignedBetween result) }
     {
         let Some(least) = self.signed_least.checked_add(other.signed_least) else {
-            return Range::any(Width::Full64);
+            return Wide::any(Width::Full64);
         };
         let Some(greatest) = self.signed_greatest.checked_add(other.signed_greatest) else {
-            return Range::any(Width::Full64);
+            return Wide::any(Width::Full64);
         };
-        Range::signed_between(least, greatest)
+        Wide::signed_between(least, greatest)
     }
 
     fn sub_unsigned(self, other: Self) -> Self
@@ -46,12 +46,12 @@ impl Range {
         ensures limits { KeepsLimits AluOp.Sub Width.Full64 self other (IsBetween result) }
     {
         if self.least >= other.greatest || self.greatest < other.least {
-            Range::between(
+            Wide::between(
                 self.least.wrapping_sub(other.greatest),
                 self.greatest.wrapping_sub(other.least),
             )
         } else {
-            Range::any(Width::Full64)
+            Wide::any(Width::Full64)
         }
     }
 
@@ -61,12 +61,12 @@ impl Range {
         ensures limits { KeepsSignedLimits AluOp.Sub self other (IsSignedBetween result) }
     {
         let Some(least) = self.signed_least.checked_sub(other.signed_greatest) else {
-            return Range::any(Width::Full64);
+            return Wide::any(Width::Full64);
         };
         let Some(greatest) = self.signed_greatest.checked_sub(other.signed_least) else {
-            return Range::any(Width::Full64);
+            return Wide::any(Width::Full64);
         };
-        Range::signed_between(least, greatest)
+        Wide::signed_between(least, greatest)
     }
 
     fn mul(self, other: Self) -> Self
@@ -74,8 +74,8 @@ impl Range {
         ensures limits { KeepsLimits AluOp.Mul Width.Full64 self other (IsBetween result) }
     {
         match self.greatest.checked_mul(other.greatest) {
-            Some(greatest) => Range::between(self.least * other.least, greatest),
-            None => Range::any(Width::Full64),
+            Some(greatest) => Wide::between(self.least * other.least, greatest),
+            None => Wide::any(Width::Full64),
         }
     }
 

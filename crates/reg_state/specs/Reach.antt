@@ -1,51 +1,57 @@
 -- What is known of two sets shows of a comparison: which numbers of one may go its way with some number of the other.
 use Rattle.std.specs.Prelude.{ℕ, ◌≡◌, ◌≢◌, ◌⊎◌, ◌<◌, ◌^◌, pos, ◌<ℤ◌, ◌≤ℤ◌, Bool, true, false, ⊤, bit_and}
-use Rattle.std.specs.Int.{w64, cast_signed, bit_at}
+use Rattle.std.specs.Int.{bit_at}
 use Rattle.isa_model.specs.declared.sizes.Width.{Width}
 use Rattle.isa_model.specs.declared.sizes.Width.TheVariants.{Low32, Full64}
 use Rattle.isa_model.specs.declared.instructions.Comparison.{Comparison}
 use Rattle.isa_model.specs.declared.instructions.Comparison.TheVariants.{Equal, NotEqual, Greater, GreaterEqual, Less, LessEqual, AnyBit, SignedGreater, SignedGreaterEqual, SignedLess, SignedLessEqual}
+use Rattle.isa_model.specs.Code.Numbers.{signed}
 use Rattle.reg_state.specs.Limits.{Limits}
 use Rattle.reg_state.specs.Relations.{low_half_limit}
 
--- x is between the limits, read without and with a sign
-pub record IsInside (l : Limits) (x : ℕ) : Type 0 where
+-- x, a number of the width, is between the limits, read without and with a sign
+pub record IsInside (w : Width) (l : Limits) (x : ℕ) : Type 0 where
   pub from : l.least ≤ℤ pos x
   pub to : pos x ≤ℤ l.greatest
-  pub signed_from : l.signed_least ≤ℤ cast_signed w64 x
-  pub signed_to : cast_signed w64 x ≤ℤ l.signed_greatest
+  pub signed_from : l.signed_least ≤ℤ signed w x
+  pub signed_to : signed w x ≤ℤ l.signed_greatest
 
--- the number is one of the limits, of the unsigned or of the signed ones
-abbrev pub IsLimit : Limits → ℕ → Type 0
-IsLimit l n =
+-- the number of the width is one of the limits, of the unsigned or of the signed ones
+abbrev pub IsLimit : Width → Limits → ℕ → Type 0
+IsLimit w l n =
     ((l.least ≡ pos n) ⊎ (l.greatest ≡ pos n))
-    ⊎ ((l.signed_least ≡ cast_signed w64 n) ⊎ (l.signed_greatest ≡ cast_signed w64 n))
+    ⊎ ((l.signed_least ≡ signed w n) ⊎ (l.signed_greatest ≡ signed w n))
 
--- what it says of x that a comparison with some number of another set comes out so. Equal: x is in that set, as `has` tells.
--- They differ: where the set is one number, as `is_one` tells, and that is a limit of `own`, between which x is known to be,
--- x is another. An order: the limit of `l`, the set's, that is best for it does not rule x out. Bit tests: see `MayShare`
-abbrev pub MayGo : Comparison → Bool → (ℕ → Type 0) → (ℕ → Type 0) → Limits → Limits → ℕ → Type 0
-MayGo Equal true has is_one l own x = has x
-MayGo NotEqual false has is_one l own x = has x
-MayGo Equal false has is_one l own x = (n : ℕ) → is_one n → IsLimit own n → x ≢ n
-MayGo NotEqual true has is_one l own x = (n : ℕ) → is_one n → IsLimit own n → x ≢ n
-MayGo Less true has is_one l own x = pos x <ℤ l.greatest
-MayGo GreaterEqual false has is_one l own x = pos x <ℤ l.greatest
-MayGo LessEqual true has is_one l own x = pos x ≤ℤ l.greatest
-MayGo Greater false has is_one l own x = pos x ≤ℤ l.greatest
-MayGo Greater true has is_one l own x = l.least <ℤ pos x
-MayGo LessEqual false has is_one l own x = l.least <ℤ pos x
-MayGo GreaterEqual true has is_one l own x = l.least ≤ℤ pos x
-MayGo Less false has is_one l own x = l.least ≤ℤ pos x
-MayGo SignedLess true has is_one l own x = cast_signed w64 x <ℤ l.signed_greatest
-MayGo SignedGreaterEqual false has is_one l own x = cast_signed w64 x <ℤ l.signed_greatest
-MayGo SignedLessEqual true has is_one l own x = cast_signed w64 x ≤ℤ l.signed_greatest
-MayGo SignedGreater false has is_one l own x = cast_signed w64 x ≤ℤ l.signed_greatest
-MayGo SignedGreater true has is_one l own x = l.signed_least <ℤ cast_signed w64 x
-MayGo SignedLessEqual false has is_one l own x = l.signed_least <ℤ cast_signed w64 x
-MayGo SignedGreaterEqual true has is_one l own x = l.signed_least ≤ℤ cast_signed w64 x
-MayGo SignedLess false has is_one l own x = l.signed_least ≤ℤ cast_signed w64 x
-MayGo c t has is_one l own x = ⊤
+-- the unsigned limits leave this number only
+abbrev pub IsAlone : Limits → ℕ → Type 0
+IsAlone l n = (l.least ≡ pos n) × (l.greatest ≡ pos n)
+
+-- what it says of x, a number of the width, that a comparison with some number of another set comes out so. Equal: x is in
+-- that set, as `has` tells. They differ: where the limits of the set, `l`, leave one number, and that is a limit of `own`,
+-- between which x is known to be, x is another. An order: the limit of `l` that is best for it does not rule x out. Bit
+-- tests: see `MayShare`
+abbrev pub MayGo : Width → Comparison → Bool → (ℕ → Type 0) → Limits → Limits → ℕ → Type 0
+MayGo w Equal true has l own x = has x
+MayGo w NotEqual false has l own x = has x
+MayGo w Equal false has l own x = (n : ℕ) → IsAlone l n → IsLimit w own n → x ≢ n
+MayGo w NotEqual true has l own x = (n : ℕ) → IsAlone l n → IsLimit w own n → x ≢ n
+MayGo w Less true has l own x = pos x <ℤ l.greatest
+MayGo w GreaterEqual false has l own x = pos x <ℤ l.greatest
+MayGo w LessEqual true has l own x = pos x ≤ℤ l.greatest
+MayGo w Greater false has l own x = pos x ≤ℤ l.greatest
+MayGo w Greater true has l own x = l.least <ℤ pos x
+MayGo w LessEqual false has l own x = l.least <ℤ pos x
+MayGo w GreaterEqual true has l own x = l.least ≤ℤ pos x
+MayGo w Less false has l own x = l.least ≤ℤ pos x
+MayGo w SignedLess true has l own x = signed w x <ℤ l.signed_greatest
+MayGo w SignedGreaterEqual false has l own x = signed w x <ℤ l.signed_greatest
+MayGo w SignedLessEqual true has l own x = signed w x ≤ℤ l.signed_greatest
+MayGo w SignedGreater false has l own x = signed w x ≤ℤ l.signed_greatest
+MayGo w SignedGreater true has l own x = l.signed_least <ℤ signed w x
+MayGo w SignedLessEqual false has l own x = l.signed_least <ℤ signed w x
+MayGo w SignedGreaterEqual true has l own x = l.signed_least ≤ℤ signed w x
+MayGo w SignedLess false has l own x = l.signed_least ≤ℤ signed w x
+MayGo w c t has l own x = ⊤
 
 -- the test of x's bits against a number that has the bits `ones` may have this outcome, where `shared` are the bits that
 -- both may have: on the one side x has none of those, on the other it has the shared bit, if there is only one

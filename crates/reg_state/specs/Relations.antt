@@ -1,42 +1,43 @@
 -- What the outcome of a comparison says of two numbers, as an order or an equation. RFC 9669, section 4.3.
-use Rattle.std.proofs.Common.{◌≡◌, ◌≢◌, ℕ, ◌^◌, ◌<◌, ◌≤◌, ◌<ℤ◌, ◌≤ℤ◌, Bool, true, false, refl, sym, ap, ◌∙◌, arith, bit_and}
+use Rattle.std.proofs.Common.{◌≡◌, ◌≢◌, ℕ, ℤ, ◌^◌, ◌<◌, ◌≤◌, ◌<ℤ◌, ◌≤ℤ◌, Bool, true, false, refl, sym, ap, ◌∙◌, arith, bit_and}
 use Rattle.std.specs.Prelude.{int_lt, int_le, if◌then◌else◌}
 use Rattle.std.specs.Int.{w32, w64, cast_signed, cast_unsigned}
 use Rattle.std.proofs.lemmas.Int.{ints}
 use Rattle.std.proofs.lemmas.Bool.{ltb-true, ltb-false, leb-true, leb-false, eqb-true, eqb-false, not-true, not-false}
+use Rattle.isa_model.specs.declared.sizes.Width.{Width}
 use Rattle.isa_model.specs.declared.sizes.Width.TheVariants.{Low32, Full64}
 use Rattle.isa_model.specs.declared.sizes.Extension.TheVariants.{Full32}
 use Rattle.isa_model.specs.declared.instructions.AluOp.TheVariants.{Mov}
 use Rattle.isa_model.specs.declared.instructions.Comparison.{Comparison}
 use Rattle.isa_model.specs.declared.instructions.Comparison.TheVariants.{Equal, NotEqual, Greater, GreaterEqual, Less, LessEqual, AnyBit, SignedGreater, SignedGreaterEqual, SignedLess, SignedLessEqual}
-use Rattle.isa_model.specs.Code.Numbers.{low, alu, sign_extended, compares, holds}
+use Rattle.isa_model.specs.Code.Numbers.{low, signed, alu, sign_extended, compares, holds}
 use Rattle.isa_model.specs.Code.NumberLemmas.{low_same, low_below}
 use Rattle.isa_model.specs.Code.ExtensionLemmas.{sign_extended-small, sign_extended_fits}
 
--- of two numbers of 64 bits
-abbrev pub Goes : Comparison → Bool → ℕ → ℕ → Type 0
-Goes Equal true x y = x ≡ y
-Goes Equal false x y = x ≢ y
-Goes NotEqual true x y = x ≢ y
-Goes NotEqual false x y = x ≡ y
-Goes Greater true x y = y < x
-Goes Greater false x y = x ≤ y
-Goes GreaterEqual true x y = y ≤ x
-Goes GreaterEqual false x y = x < y
-Goes Less true x y = x < y
-Goes Less false x y = y ≤ x
-Goes LessEqual true x y = x ≤ y
-Goes LessEqual false x y = y < x
-Goes AnyBit true x y = bit_and x y ≢ 0
-Goes AnyBit false x y = bit_and x y ≡ 0
-Goes SignedGreater true x y = cast_signed w64 y <ℤ cast_signed w64 x
-Goes SignedGreater false x y = cast_signed w64 x ≤ℤ cast_signed w64 y
-Goes SignedGreaterEqual true x y = cast_signed w64 y ≤ℤ cast_signed w64 x
-Goes SignedGreaterEqual false x y = cast_signed w64 x <ℤ cast_signed w64 y
-Goes SignedLess true x y = cast_signed w64 x <ℤ cast_signed w64 y
-Goes SignedLess false x y = cast_signed w64 y ≤ℤ cast_signed w64 x
-Goes SignedLessEqual true x y = cast_signed w64 x ≤ℤ cast_signed w64 y
-Goes SignedLessEqual false x y = cast_signed w64 y <ℤ cast_signed w64 x
+-- of two numbers, as the width reads them
+abbrev pub Goes : Width → Comparison → Bool → ℕ → ℕ → Type 0
+Goes w Equal true x y = low w x ≡ low w y
+Goes w Equal false x y = low w x ≢ low w y
+Goes w NotEqual true x y = low w x ≢ low w y
+Goes w NotEqual false x y = low w x ≡ low w y
+Goes w Greater true x y = low w y < low w x
+Goes w Greater false x y = low w x ≤ low w y
+Goes w GreaterEqual true x y = low w y ≤ low w x
+Goes w GreaterEqual false x y = low w x < low w y
+Goes w Less true x y = low w x < low w y
+Goes w Less false x y = low w y ≤ low w x
+Goes w LessEqual true x y = low w x ≤ low w y
+Goes w LessEqual false x y = low w y < low w x
+Goes w AnyBit true x y = bit_and (low w x) (low w y) ≢ 0
+Goes w AnyBit false x y = bit_and (low w x) (low w y) ≡ 0
+Goes w SignedGreater true x y = signed w (low w y) <ℤ signed w (low w x)
+Goes w SignedGreater false x y = signed w (low w x) ≤ℤ signed w (low w y)
+Goes w SignedGreaterEqual true x y = signed w (low w y) ≤ℤ signed w (low w x)
+Goes w SignedGreaterEqual false x y = signed w (low w x) <ℤ signed w (low w y)
+Goes w SignedLess true x y = signed w (low w x) <ℤ signed w (low w y)
+Goes w SignedLess false x y = signed w (low w y) ≤ℤ signed w (low w x)
+Goes w SignedLessEqual true x y = signed w (low w x) ≤ℤ signed w (low w y)
+Goes w SignedLessEqual false x y = signed w (low w y) <ℤ signed w (low w x)
 
 -- whether a comparison is of signed numbers
 abbrev pub reads_signed : Comparison → Bool
@@ -54,39 +55,48 @@ low_half c n = if reads_signed c then sign_extended Full32 n else low Low32 n
 abbrev pub low_half_limit : Comparison → ℕ
 low_half_limit c = if reads_signed c then 2 ^ 31 else 2 ^ 32
 
--- ---- 64 bits
+-- ---- what the outcome says
 
-tells : (c : Comparison) (t : Bool) (x y : ℕ) → compares c Full64 x y ≡ t → Goes c t x y
-tells Equal true x y e = eqb-true x y e
-tells Equal false x y e = eqb-false x y e
-tells NotEqual true x y e = eqb-false x y (not-true _ e)
-tells NotEqual false x y e = eqb-true x y (not-false _ e)
-tells Greater true x y e = ltb-true y x e
-tells Greater false x y e = ltb-false y x e
-tells GreaterEqual true x y e = leb-true y x e
-tells GreaterEqual false x y e = leb-false y x e
-tells Less true x y e = ltb-true x y e
-tells Less false x y e = ltb-false x y e
-tells LessEqual true x y e = leb-true x y e
-tells LessEqual false x y e = leb-false x y e
-tells AnyBit true x y e = eqb-false (bit_and x y) 0 (not-true _ e)
-tells AnyBit false x y e = eqb-true (bit_and x y) 0 (not-false _ e)
-tells SignedGreater true x y e = grind (arith, ints)
-tells SignedGreater false x y e = grind (arith, ints)
-tells SignedGreaterEqual true x y e = grind (arith, ints)
-tells SignedGreaterEqual false x y e = grind (arith, ints)
-tells SignedLess true x y e = grind (arith, ints)
-tells SignedLess false x y e = grind (arith, ints)
-tells SignedLessEqual true x y e = grind (arith, ints)
-tells SignedLessEqual false x y e = grind (arith, ints)
+lt-true : (a b : ℤ) → int_lt a b ≡ true → a <ℤ b
+lt-true a b e = grind (arith, ints)
+
+lt-false : (a b : ℤ) → int_lt a b ≡ false → b ≤ℤ a
+lt-false a b e = grind (arith, ints)
+
+le-true : (a b : ℤ) → int_le a b ≡ true → a ≤ℤ b
+le-true a b e = grind (arith, ints)
+
+le-false : (a b : ℤ) → int_le a b ≡ false → b <ℤ a
+le-false a b e = grind (arith, ints)
+
+-- of two registers' numbers
+pub goes : (c : Comparison) (w : Width) (t : Bool) (x y : ℕ) → holds c w x y ≡ t → Goes w c t x y
+unfolding holds
+goes Equal w true x y e = eqb-true (low w x) (low w y) e
+goes Equal w false x y e = eqb-false (low w x) (low w y) e
+goes NotEqual w true x y e = eqb-false (low w x) (low w y) (not-true _ e)
+goes NotEqual w false x y e = eqb-true (low w x) (low w y) (not-false _ e)
+goes Greater w true x y e = ltb-true (low w y) (low w x) e
+goes Greater w false x y e = ltb-false (low w y) (low w x) e
+goes GreaterEqual w true x y e = leb-true (low w y) (low w x) e
+goes GreaterEqual w false x y e = leb-false (low w y) (low w x) e
+goes Less w true x y e = ltb-true (low w x) (low w y) e
+goes Less w false x y e = ltb-false (low w x) (low w y) e
+goes LessEqual w true x y e = leb-true (low w x) (low w y) e
+goes LessEqual w false x y e = leb-false (low w x) (low w y) e
+goes AnyBit w true x y e = eqb-false (bit_and (low w x) (low w y)) 0 (not-true _ e)
+goes AnyBit w false x y e = eqb-true (bit_and (low w x) (low w y)) 0 (not-false _ e)
+goes SignedGreater w true x y e = lt-true (signed w (low w y)) (signed w (low w x)) e
+goes SignedGreater w false x y e = lt-false (signed w (low w y)) (signed w (low w x)) e
+goes SignedGreaterEqual w true x y e = le-true (signed w (low w y)) (signed w (low w x)) e
+goes SignedGreaterEqual w false x y e = le-false (signed w (low w y)) (signed w (low w x)) e
+goes SignedLess w true x y e = lt-true (signed w (low w x)) (signed w (low w y)) e
+goes SignedLess w false x y e = lt-false (signed w (low w x)) (signed w (low w y)) e
+goes SignedLessEqual w true x y e = le-true (signed w (low w x)) (signed w (low w y)) e
+goes SignedLessEqual w false x y e = le-false (signed w (low w x)) (signed w (low w y)) e
 
 both : {A : Type 0} (f : A → A → Bool) {a b u v : A} → a ≡ b → u ≡ v → f a u ≡ f b v
 both f p q = cc
-
--- what the outcome says of two registers' numbers
-pub goes : (c : Comparison) (t : Bool) (x y : ℕ) → x < 2 ^ 64 → y < 2 ^ 64 → holds c Full64 x y ≡ t → Goes c t x y
-unfolding holds
-goes c t x y x_in y_in e = tells c t x y (both (compares c Full64) (sym (low_same Full64 x x_in)) (sym (low_same Full64 y y_in)) ∙ e)
 
 -- ---- 32 bits
 
@@ -118,10 +128,6 @@ holds_low SignedLessEqual x y = both int_le (signs x) (signs y)
 
 -- ---- what functions over comparisons take
 
--- a comparison at 32 bits says of the low halves what it says at 64 bits
-pub goes_low : (c : Comparison) (t : Bool) (x y : ℕ) → low_half c x < 2 ^ 64 → low_half c y < 2 ^ 64 → holds c Low32 x y ≡ t → Goes c t (low_half c x) (low_half c y)
-goes_low c t x y x_in y_in e = goes c t (low_half c x) (low_half c y) x_in y_in (sym (holds_low c x y) ∙ e)
-
 low_half_below : (signed : Bool) (x : ℕ) → x < (if signed then 2 ^ 31 else 2 ^ 32)
     → (if signed then sign_extended Full32 x else low Low32 x) ≡ x
 low_half_below true x h = sign_extended-small Full32 x (2 ^ 31) refl h
@@ -132,12 +138,21 @@ pub low_half-small : (c : Comparison) (x : ℕ) → x < low_half_limit c → low
 low_half-small c x h = low_half_below (reads_signed c) x h
 
 -- a comparison at 32 bits says of numbers that are their own low halves what it says at 64 bits
-pub goes_whole : (c : Comparison) (t : Bool) (x y : ℕ) → x < 2 ^ 64 → y < 2 ^ 64 → low_half c x ≡ x → low_half c y ≡ y
-    → holds c Low32 x y ≡ t → Goes c t x y
-goes_whole c t x y x_in y_in left right e =
-    goes c t x y x_in y_in (both (holds c Full64) (sym left) (sym right) ∙ sym (holds_low c x y) ∙ e)
+pub goes_whole : (c : Comparison) (t : Bool) (x y : ℕ) → low_half c x ≡ x → low_half c y ≡ y → holds c Low32 x y ≡ t
+    → Goes Full64 c t x y
+goes_whole c t x y left right e =
+    goes c Full64 t x y (both (holds c Full64) (sym left) (sym right) ∙ sym (holds_low c x y) ∙ e)
+
+-- the low half, extended by its sign, has its signed reading
+pub signed_half : (x : ℕ) → cast_signed w64 (sign_extended Full32 x) ≡ signed Low32 (low Low32 x)
+unfolding sign_extended
+signed_half x = wide (low Low32 x) (low_below Low32 x)
+
+-- numbers of 64 bits below 2^31 are their low halves so extended
+pub signed_half-small : (x : ℕ) → x < 2 ^ 31 → sign_extended Full32 x ≡ x
+signed_half-small x h = sign_extended-small Full32 x (2 ^ 31) refl h
 
 -- moved at 32 bits, a number is its low half
-pub moved_low_half : (c : Comparison) (x : ℕ) → reads_signed c ≡ false → alu Mov Low32 x x ≡ low_half c x
+pub moved_low : (x : ℕ) → alu Mov Low32 x x ≡ low Low32 x
 unfolding alu
-moved_low_half c x e = sym (ap (λ b. if b then sign_extended Full32 x else low Low32 x) e)
+moved_low x = refl

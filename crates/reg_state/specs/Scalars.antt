@@ -1,7 +1,10 @@
 -- What the contracts of `Scalar` cite.
 use Rattle.std.specs.Prelude.{ℕ, ◌≢◌, ◌⊎◌}
+use Rattle.isa_model.specs.declared.sizes.Width.{Width}
+use Rattle.isa_model.specs.declared.sizes.Width.TheVariants.{Low32, Full64}
 use Rattle.known_bits.specs.Bits as B
 use Rattle.ranges.specs.Ranges as R
+use Rattle.ranges.specs.Lows as L
 use Rattle.reg_state.specs.declared.scalars.Scalar.{Scalar}
 
 -- x is one of the numbers of both parts
@@ -19,3 +22,8 @@ IsConstant s x = B.IsConstant s.bits x × R.IsConstant s.range x
 -- the bits leave x only, or some bit is not known and the limits leave x only
 abbrev pub IsNumber : Scalar → ℕ → Type 0
 IsNumber s x = B.IsConstant s.bits x ⊎ ((s.bits.mask ≢ 0) × R.LeavesOnly s.range x)
+
+-- the number of the width is one that its members may be read as: at 32 bits between the limits of their low halves
+abbrev pub allows : Width → Scalar → ℕ → Type 0
+allows Full64 s x = Has s x
+allows Low32 s x = L.Has s.range.low x

@@ -5,13 +5,14 @@ ghost use Rattle.std.specs.Int.{bit_at};
 ghost use Rattle.isa_model.specs.Code.Sizes.{width_bits};
 
 use crate::domains::Domain;
+use crate::low_bits::{plain_halves, plain_pair, same, signed_halves, signed_pair};
 use isa_model::{AluOp, ByteOrder, Extension, Span, Width};
 use known_bits::Bits;
 
 impl Domain for Bits {
     ghost use Rattle.isa_model.specs.Code.Numbers.{alu};
     ghost use Rattle.known_bits.specs.Bits.{Has, IsConstant, IsSharp, IsPrecise, greatest_of};
-    ghost use Rattle.reg_state.specs.Limits.{no_limits};
+    ghost use Rattle.reg_state.specs.Limits.{no_limits, bits_allows};
     ghost use Rattle.reg_state.specs.Constants.{any_inside, bits_constant_has, bits_constant_only};
 
     ghost has = { Has };
@@ -20,7 +21,9 @@ impl Domain for Bits {
 
     ghost encloses = { λ a b. (x : ℕ) → Has b x → Has a x };
 
-    ghost limits = { λ b. no_limits };
+    ghost limits = { λ w b. no_limits };
+
+    ghost allows = { bits_allows };
 
     ghost ones = { λ b. b.value };
 
@@ -80,37 +83,95 @@ impl Domain for Bits {
         Bits::covers(self, other)
     }
 
-    fn below(self, other: Bits) -> Option<(Bits, Bits)> {
-        Bits::below(self, other)
+    fn equal(self, width: Width, other: Bits) -> Option<(Bits, Bits)> {
+        match width {
+            Width::Full64 => same(self, other),
+            Width::Low32 => plain_pair(self, other, same(plain_halves(self), plain_halves(other))),
+        }
     }
 
-    fn at_most(self, other: Bits) -> Option<(Bits, Bits)> {
-        Bits::at_most(self, other)
+    fn below(self, width: Width, other: Bits) -> Option<(Bits, Bits)> {
+        match width {
+            Width::Full64 => Bits::below(self, other),
+            Width::Low32 => plain_pair(
+                self,
+                other,
+                Bits::below(plain_halves(self), plain_halves(other)),
+            ),
+        }
     }
 
-    fn signed_below(self, other: Bits) -> Option<(Bits, Bits)> {
-        Bits::signed_below(self, other)
+    fn at_most(self, width: Width, other: Bits) -> Option<(Bits, Bits)> {
+        match width {
+            Width::Full64 => Bits::at_most(self, other),
+            Width::Low32 => plain_pair(
+                self,
+                other,
+                Bits::at_most(plain_halves(self), plain_halves(other)),
+            ),
+        }
     }
 
-    fn signed_at_most(self, other: Bits) -> Option<(Bits, Bits)> {
-        Bits::signed_at_most(self, other)
+    fn signed_below(self, width: Width, other: Bits) -> Option<(Bits, Bits)> {
+        match width {
+            Width::Full64 => Bits::signed_below(self, other),
+            Width::Low32 => signed_pair(
+                self,
+                other,
+                Bits::signed_below(signed_halves(self), signed_halves(other)),
+            ),
+        }
     }
 
-    fn apart(self, other: Bits) -> Option<(Bits, Bits)> {
-        Bits::apart(self, other)
+    fn signed_at_most(self, width: Width, other: Bits) -> Option<(Bits, Bits)> {
+        match width {
+            Width::Full64 => Bits::signed_at_most(self, other),
+            Width::Low32 => signed_pair(
+                self,
+                other,
+                Bits::signed_at_most(signed_halves(self), signed_halves(other)),
+            ),
+        }
     }
 
-    fn disjoint(self, other: Bits) -> Option<(Bits, Bits)> {
-        Bits::disjoint(self, other)
+    fn apart(self, width: Width, other: Bits) -> Option<(Bits, Bits)> {
+        match width {
+            Width::Full64 => Bits::apart(self, other),
+            Width::Low32 => plain_pair(
+                self,
+                other,
+                Bits::apart(plain_halves(self), plain_halves(other)),
+            ),
+        }
     }
 
-    fn overlapping(self, other: Bits) -> Option<(Bits, Bits)> {
-        Bits::overlapping(self, other)
+    fn disjoint(self, width: Width, other: Bits) -> Option<(Bits, Bits)> {
+        match width {
+            Width::Full64 => Bits::disjoint(self, other),
+            Width::Low32 => plain_pair(
+                self,
+                other,
+                Bits::disjoint(plain_halves(self), plain_halves(other)),
+            ),
+        }
+    }
+
+    fn overlapping(self, width: Width, other: Bits) -> Option<(Bits, Bits)> {
+        match width {
+            Width::Full64 => Bits::overlapping(self, other),
+            Width::Low32 => plain_pair(
+                self,
+                other,
+                Bits::overlapping(plain_halves(self), plain_halves(other)),
+            ),
+        }
     }
 
     ghost bounded = { λ d x h. h.below };
 
-    ghost inside = { λ d x h. any_inside x h.below };
+    ghost inside = { λ d w x h. any_inside w x };
+
+    ghost whole = { λ d x h. h };
 
     ghost contains_constant = { λ d u h c. bits_constant_has d u h c };
 

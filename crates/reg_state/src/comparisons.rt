@@ -2,12 +2,13 @@
 
 ghost use Rattle.std.specs.Prelude.{◌≡◌, ◌≢◌, ℕ, ◌^◌, ◌<◌, None, IsSomeAnd, IfSome, IsTrue};
 ghost use Rattle.std.specs.Prelude.{Bool, false, bit_and};
-ghost use Rattle.isa_model.specs.Code.Numbers.{holds};
+ghost use Rattle.isa_model.specs.Code.Numbers.{holds, low};
+ghost use Rattle.isa_model.specs.declared.sizes.Width.TheVariants.{Low32, Full64};
 ghost use Rattle.reg_state.specs.Relations.{Goes, reads_signed, low_half, low_half_limit};
 ghost use Rattle.reg_state.specs.Reach.{MayGo, MayShare, ReadsWhole, exchanged};
 
 use crate::domains::Domain;
-use isa_model::{AluOp, Comparison, Extension, Width, numbers};
+use isa_model::{Comparison, Width, numbers};
 
 /// What is left of two sets where the comparison of a member of each goes this way. None: it never
 /// does.
@@ -31,27 +32,35 @@ pub fn refine<D: Domain>(
     ensures never { (u v : ℕ) → D.is_constant a u → D.is_constant b v
         → holds comparison width u v ≢ taken
         → result ≡ None }
-    ensures left_limits { ReadsWhole comparison width (D.limits a) (D.possible a)
-        → ReadsWhole comparison width (D.limits b) (D.possible b)
+    ensures left_limits { ReadsWhole comparison width (D.limits Full64 a) (D.possible a)
+        → ReadsWhole comparison width (D.limits Full64 b) (D.possible b)
         → (u v : ℕ) → D.has a u → D.has a v → u ≢ v
         → IfSome result (λ p. (x : ℕ) → D.has p.0 x
-        → MayGo comparison taken (D.has b) (D.is_constant b) (D.limits b) (D.limits a) x) }
-    ensures right_limits { ReadsWhole comparison width (D.limits a) (D.possible a)
-        → ReadsWhole comparison width (D.limits b) (D.possible b)
+        → MayGo Full64 comparison taken (D.has b) (D.limits Full64 b) (D.limits Full64 a) x) }
+    ensures right_limits { ReadsWhole comparison width (D.limits Full64 a) (D.possible a)
+        → ReadsWhole comparison width (D.limits Full64 b) (D.possible b)
         → (u v : ℕ) → D.has b u → D.has b v → u ≢ v
         → IfSome result (λ p. (y : ℕ) → D.has p.1 y
-        → MayGo (exchanged comparison) taken (D.has a) (D.is_constant a) (D.limits a)
-        (D.limits b) y) }
-    ensures left_bits { ReadsWhole comparison width (D.limits a) (D.possible a)
-        → ReadsWhole comparison width (D.limits b) (D.possible b)
+        → MayGo Full64 (exchanged comparison) taken (D.has a) (D.limits Full64 a)
+        (D.limits Full64 b) y) }
+    ensures left_bits { ReadsWhole comparison width (D.limits Full64 a) (D.possible a)
+        → ReadsWhole comparison width (D.limits Full64 b) (D.possible b)
         → (u v : ℕ) → D.has a u → D.has a v → u ≢ v
         → IfSome result (λ p. (x : ℕ) → D.has p.0 x
         → MayShare comparison taken (D.ones b) (bit_and (D.possible a) (D.possible b)) x) }
-    ensures right_bits { ReadsWhole comparison width (D.limits a) (D.possible a)
-        → ReadsWhole comparison width (D.limits b) (D.possible b)
+    ensures right_bits { ReadsWhole comparison width (D.limits Full64 a) (D.possible a)
+        → ReadsWhole comparison width (D.limits Full64 b) (D.possible b)
         → (u v : ℕ) → D.has b u → D.has b v → u ≢ v
         → IfSome result (λ p. (y : ℕ) → D.has p.1 y
         → MayShare comparison taken (D.ones a) (bit_and (D.possible a) (D.possible b)) y) }
+    ensures left_low_limits { width ≡ Low32 → (u v : ℕ) → D.has a u → D.has a v → u ≢ v
+        → IfSome result (λ p. (x : ℕ) → D.has p.0 x
+        → MayGo Low32 comparison taken (D.allows Low32 b) (D.limits Low32 b) (D.limits Low32 a)
+        (low Low32 x)) }
+    ensures right_low_limits { width ≡ Low32 → (u v : ℕ) → D.has b u → D.has b v → u ≢ v
+        → IfSome result (λ p. (y : ℕ) → D.has p.1 y
+        → MayGo Low32 (exchanged comparison) taken (D.allows Low32 a) (D.limits Low32 a)
+        (D.limits Low32 b) (low Low32 y)) }
 {
     if never_goes(comparison, width, taken, a, b) {
         return None;
@@ -102,139 +111,168 @@ fn narrowed<D: Domain>(
         → IsSomeAnd result (λ p. D.has p.0 x × D.has p.1 y) }
     ensures left { IfSome result (λ p. (x : ℕ) → D.has p.0 x → D.has a x) }
     ensures right { IfSome result (λ p. (y : ℕ) → D.has p.1 y → D.has b y) }
-    ensures left_limits { ReadsWhole comparison width (D.limits a) (D.possible a)
-        → ReadsWhole comparison width (D.limits b) (D.possible b)
+    ensures left_limits { ReadsWhole comparison width (D.limits Full64 a) (D.possible a)
+        → ReadsWhole comparison width (D.limits Full64 b) (D.possible b)
         → IfSome result (λ p. (x : ℕ) → D.has p.0 x
-        → MayGo comparison taken (D.has b) (D.is_constant b) (D.limits b) (D.limits a) x) }
-    ensures right_limits { ReadsWhole comparison width (D.limits a) (D.possible a)
-        → ReadsWhole comparison width (D.limits b) (D.possible b)
+        → MayGo Full64 comparison taken (D.has b) (D.limits Full64 b) (D.limits Full64 a) x) }
+    ensures right_limits { ReadsWhole comparison width (D.limits Full64 a) (D.possible a)
+        → ReadsWhole comparison width (D.limits Full64 b) (D.possible b)
         → IfSome result (λ p. (y : ℕ) → D.has p.1 y
-        → MayGo (exchanged comparison) taken (D.has a) (D.is_constant a) (D.limits a)
-        (D.limits b) y) }
-    ensures left_bits { ReadsWhole comparison width (D.limits a) (D.possible a)
-        → ReadsWhole comparison width (D.limits b) (D.possible b)
+        → MayGo Full64 (exchanged comparison) taken (D.has a) (D.limits Full64 a)
+        (D.limits Full64 b) y) }
+    ensures left_bits { ReadsWhole comparison width (D.limits Full64 a) (D.possible a)
+        → ReadsWhole comparison width (D.limits Full64 b) (D.possible b)
         → IfSome result (λ p. (x : ℕ) → D.has p.0 x
         → MayShare comparison taken (D.ones b) (bit_and (D.possible a) (D.possible b)) x) }
-    ensures right_bits { ReadsWhole comparison width (D.limits a) (D.possible a)
-        → ReadsWhole comparison width (D.limits b) (D.possible b)
+    ensures right_bits { ReadsWhole comparison width (D.limits Full64 a) (D.possible a)
+        → ReadsWhole comparison width (D.limits Full64 b) (D.possible b)
         → IfSome result (λ p. (y : ℕ) → D.has p.1 y
         → MayShare comparison taken (D.ones a) (bit_and (D.possible a) (D.possible b)) y) }
-{
-    if reads_whole(comparison, width, a, b) {
-        related(comparison, taken, a, b)
-    } else {
-        related_low(comparison, taken, a, b)
-    }
-}
-
-// Whether the comparison is known to read the members whole.
-fn reads_whole<D: Domain>(comparison: Comparison, width: Width, a: D, b: D) -> bool
-    ensures sound { IsTrue result → (x y : ℕ) → D.has a x → D.has b y → (taken : Bool)
-        → holds comparison width x y ≡ taken → Goes comparison taken x y }
-    ensures found { ReadsWhole comparison width (D.limits a) (D.possible a)
-        → ReadsWhole comparison width (D.limits b) (D.possible b)
-        → IsTrue result }
-    ensures not { result ≡ false → width ≡ Width.Low32 }
+    ensures left_low_limits { width ≡ Low32 → IfSome result (λ p. (x : ℕ) → D.has p.0 x
+        → MayGo Low32 comparison taken (D.allows Low32 b) (D.limits Low32 b) (D.limits Low32 a)
+        (low Low32 x)) }
+    ensures right_low_limits { width ≡ Low32 → IfSome result (λ p. (y : ℕ) → D.has p.1 y
+        → MayGo Low32 (exchanged comparison) taken (D.allows Low32 a) (D.limits Low32 a)
+        (D.limits Low32 b) (low Low32 y)) }
 {
     match width {
-        Width::Full64 => true,
-        Width::Low32 => are_low_halves(comparison, a) && are_low_halves(comparison, b),
+        Width::Full64 => related_whole(comparison, taken, a, b),
+        Width::Low32 => related_low(comparison, taken, a, b),
     }
 }
 
-// Of whole numbers: each outcome of a comparison is a relation, perhaps of the operands exchanged.
-fn related<D: Domain>(comparison: Comparison, taken: bool, a: D, b: D) -> Option<(D, D)>
-    ensures common { (x y : ℕ) → D.has a x → D.has b y → Goes comparison taken x y
+// What a comparison of whole numbers shows.
+fn related_whole<D: Domain>(comparison: Comparison, taken: bool, a: D, b: D) -> Option<(D, D)>
+    ensures common { (x y : ℕ) → D.has a x → D.has b y → Goes Full64 comparison taken x y
         → IsSomeAnd result (λ p. D.has p.0 x × D.has p.1 y) }
     ensures left { IfSome result (λ p. (x : ℕ) → D.has p.0 x → D.has a x) }
     ensures right { IfSome result (λ p. (y : ℕ) → D.has p.1 y → D.has b y) }
     ensures left_limits { IfSome result (λ p. (x : ℕ) → D.has p.0 x
-        → MayGo comparison taken (D.has b) (D.is_constant b) (D.limits b) (D.limits a) x) }
+        → MayGo Full64 comparison taken (D.has b) (D.limits Full64 b) (D.limits Full64 a) x) }
     ensures right_limits { IfSome result (λ p. (y : ℕ) → D.has p.1 y
-        → MayGo (exchanged comparison) taken (D.has a) (D.is_constant a) (D.limits a)
-        (D.limits b) y) }
+        → MayGo Full64 (exchanged comparison) taken (D.has a) (D.limits Full64 a)
+        (D.limits Full64 b) y) }
     ensures left_bits { IfSome result (λ p. (x : ℕ) → D.has p.0 x
         → MayShare comparison taken (D.ones b) (bit_and (D.possible a) (D.possible b)) x) }
     ensures right_bits { IfSome result (λ p. (y : ℕ) → D.has p.1 y
         → MayShare comparison taken (D.ones a) (bit_and (D.possible a) (D.possible b)) y) }
 {
-    match (comparison, taken) {
-        (Comparison::Equal, true) | (Comparison::NotEqual, false) => {
-            let both = a.meet(b)?;
-            Some((both, both))
-        }
-        (Comparison::Equal, false) | (Comparison::NotEqual, true) => a.apart(b),
-        (Comparison::Less, true) | (Comparison::GreaterEqual, false) => a.below(b),
-        (Comparison::LessEqual, true) | (Comparison::Greater, false) => a.at_most(b),
-        (Comparison::Greater, true) | (Comparison::LessEqual, false) => {
-            let (right, left) = b.below(a)?;
-            Some((left, right))
-        }
-        (Comparison::GreaterEqual, true) | (Comparison::Less, false) => {
-            let (right, left) = b.at_most(a)?;
-            Some((left, right))
-        }
-        (Comparison::AnyBit, true) => a.overlapping(b),
-        (Comparison::AnyBit, false) => a.disjoint(b),
-        (Comparison::SignedLess, true) | (Comparison::SignedGreaterEqual, false) => {
-            a.signed_below(b)
-        }
-        (Comparison::SignedLessEqual, true) | (Comparison::SignedGreater, false) => {
-            a.signed_at_most(b)
-        }
-        (Comparison::SignedGreater, true) | (Comparison::SignedLessEqual, false) => {
-            let (right, left) = b.signed_below(a)?;
-            Some((left, right))
-        }
-        (Comparison::SignedGreaterEqual, true) | (Comparison::SignedLess, false) => {
-            let (right, left) = b.signed_at_most(a)?;
-            Some((left, right))
-        }
-    }
+    related(comparison, Width::Full64, taken, a, b)
 }
 
-// At 32 bits the low halves are compared, extended by the comparison's sign. What this shows of
-// them is taken up only by members that are their own low halves.
+// What a comparison of low halves shows: of members that are their own, what one of whole numbers
+// does too.
 fn related_low<D: Domain>(comparison: Comparison, taken: bool, a: D, b: D) -> Option<(D, D)>
-    ensures common { (x y : ℕ) → D.has a x → D.has b y → holds comparison Width.Low32 x y ≡ taken
+    ensures common { (x y : ℕ) → D.has a x → D.has b y → holds comparison Low32 x y ≡ taken
         → IsSomeAnd result (λ p. D.has p.0 x × D.has p.1 y) }
     ensures left { IfSome result (λ p. (x : ℕ) → D.has p.0 x → D.has a x) }
     ensures right { IfSome result (λ p. (y : ℕ) → D.has p.1 y → D.has b y) }
+    ensures left_limits { ReadsWhole comparison Low32 (D.limits Full64 a) (D.possible a)
+        → ReadsWhole comparison Low32 (D.limits Full64 b) (D.possible b)
+        → IfSome result (λ p. (x : ℕ) → D.has p.0 x
+        → MayGo Full64 comparison taken (D.has b) (D.limits Full64 b) (D.limits Full64 a) x) }
+    ensures right_limits { ReadsWhole comparison Low32 (D.limits Full64 a) (D.possible a)
+        → ReadsWhole comparison Low32 (D.limits Full64 b) (D.possible b)
+        → IfSome result (λ p. (y : ℕ) → D.has p.1 y
+        → MayGo Full64 (exchanged comparison) taken (D.has a) (D.limits Full64 a)
+        (D.limits Full64 b) y) }
+    ensures left_bits { ReadsWhole comparison Low32 (D.limits Full64 a) (D.possible a)
+        → ReadsWhole comparison Low32 (D.limits Full64 b) (D.possible b)
+        → IfSome result (λ p. (x : ℕ) → D.has p.0 x
+        → MayShare comparison taken (D.ones b) (bit_and (D.possible a) (D.possible b)) x) }
+    ensures right_bits { ReadsWhole comparison Low32 (D.limits Full64 a) (D.possible a)
+        → ReadsWhole comparison Low32 (D.limits Full64 b) (D.possible b)
+        → IfSome result (λ p. (y : ℕ) → D.has p.1 y
+        → MayShare comparison taken (D.ones a) (bit_and (D.possible a) (D.possible b)) y) }
+    ensures left_low_limits { IfSome result (λ p. (x : ℕ) → D.has p.0 x
+        → MayGo Low32 comparison taken (D.allows Low32 b) (D.limits Low32 b) (D.limits Low32 a)
+        (low Low32 x)) }
+    ensures right_low_limits { IfSome result (λ p. (y : ℕ) → D.has p.1 y
+        → MayGo Low32 (exchanged comparison) taken (D.allows Low32 a) (D.limits Low32 a)
+        (D.limits Low32 b) (low Low32 y)) }
 {
-    let low_a = low_halves(comparison, a);
-    let low_b = low_halves(comparison, b);
-    let (low_left, low_right) = related(comparison, taken, low_a, low_b)?;
-    let left = with_low_halves(comparison, a, low_left)?;
-    let right = with_low_halves(comparison, b, low_right)?;
-    Some((left, right))
+    let (left, right) = related(comparison, Width::Low32, taken, a, b)?;
+    if !reads_whole(comparison, a, b) {
+        return Some((left, right));
+    }
+    let (whole_left, whole_right) = related_whole(comparison, taken, a, b)?;
+    let first = left.meet(whole_left)?;
+    let second = right.meet(whole_right)?;
+    Some((first, second))
 }
 
-fn low_halves<D: Domain>(comparison: Comparison, a: D) -> D
-    ensures { (x : ℕ) → D.has a x → D.has result (low_half comparison x) }
+// Of numbers as the width reads them: each outcome of a comparison is a relation, perhaps of the
+// operands exchanged.
+fn related<D: Domain>(
+    comparison: Comparison,
+    width: Width,
+    taken: bool,
+    a: D,
+    b: D,
+) -> Option<(D, D)>
+    ensures common { (x y : ℕ) → D.has a x → D.has b y → Goes width comparison taken x y
+        → IsSomeAnd result (λ p. D.has p.0 x × D.has p.1 y) }
+    ensures left { IfSome result (λ p. (x : ℕ) → D.has p.0 x → D.has a x) }
+    ensures right { IfSome result (λ p. (y : ℕ) → D.has p.1 y → D.has b y) }
+    ensures left_limits { IfSome result (λ p. (x : ℕ) → D.has p.0 x
+        → MayGo width comparison taken (D.allows width b) (D.limits width b) (D.limits width a)
+        (low width x)) }
+    ensures right_limits { IfSome result (λ p. (y : ℕ) → D.has p.1 y
+        → MayGo width (exchanged comparison) taken (D.allows width a) (D.limits width a)
+        (D.limits width b) (low width y)) }
+    ensures left_bits { width ≡ Full64 → IfSome result (λ p. (x : ℕ) → D.has p.0 x
+        → MayShare comparison taken (D.ones b) (bit_and (D.possible a) (D.possible b)) x) }
+    ensures right_bits { width ≡ Full64 → IfSome result (λ p. (y : ℕ) → D.has p.1 y
+        → MayShare comparison taken (D.ones a) (bit_and (D.possible a) (D.possible b)) y) }
 {
-    if is_signed(comparison) {
-        D::sign_extend(Extension::Full32, a)
-    } else {
-        D::alu(AluOp::Mov, Width::Low32, a, a)
+    match (comparison, taken) {
+        (Comparison::Equal, true) | (Comparison::NotEqual, false) => a.equal(width, b),
+        (Comparison::Equal, false) => a.apart(width, b),
+        (Comparison::NotEqual, true) => a.apart(width, b),
+        (Comparison::Less, true) | (Comparison::GreaterEqual, false) => a.below(width, b),
+        (Comparison::LessEqual, true) | (Comparison::Greater, false) => a.at_most(width, b),
+        (Comparison::Greater, true) | (Comparison::LessEqual, false) => {
+            let (right, left) = b.below(width, a)?;
+            Some((left, right))
+        }
+        (Comparison::GreaterEqual, true) | (Comparison::Less, false) => {
+            let (right, left) = b.at_most(width, a)?;
+            Some((left, right))
+        }
+        (Comparison::AnyBit, true) => a.overlapping(width, b),
+        (Comparison::AnyBit, false) => a.disjoint(width, b),
+        (Comparison::SignedLess, true) | (Comparison::SignedGreaterEqual, false) => {
+            a.signed_below(width, b)
+        }
+        (Comparison::SignedLessEqual, true) | (Comparison::SignedGreater, false) => {
+            a.signed_at_most(width, b)
+        }
+        (Comparison::SignedGreater, true) | (Comparison::SignedLessEqual, false) => {
+            let (right, left) = b.signed_below(width, a)?;
+            Some((left, right))
+        }
+        (Comparison::SignedGreaterEqual, true) | (Comparison::SignedLess, false) => {
+            let (right, left) = b.signed_at_most(width, a)?;
+            Some((left, right))
+        }
     }
 }
 
-fn with_low_halves<D: Domain>(comparison: Comparison, a: D, low: D) -> Option<D>
-    ensures common { (x : ℕ) → D.has a x → D.has low (low_half comparison x)
-        → IsSomeAnd result (λ m. D.has m x) }
-    ensures narrower { IfSome result (λ m. (x : ℕ) → D.has m x → D.has a x) }
+// Whether a comparison of low halves is known to read the members whole.
+fn reads_whole<D: Domain>(comparison: Comparison, a: D, b: D) -> bool
+    ensures sound { IsTrue result → (x y : ℕ) → D.has a x → D.has b y → (taken : Bool)
+        → holds comparison Low32 x y ≡ taken → Goes Full64 comparison taken x y }
+    ensures found { ReadsWhole comparison Low32 (D.limits Full64 a) (D.possible a)
+        → ReadsWhole comparison Low32 (D.limits Full64 b) (D.possible b)
+        → IsTrue result }
 {
-    if are_low_halves(comparison, a) {
-        a.meet(low)
-    } else {
-        Some(a)
-    }
+    are_low_halves(comparison, a) && are_low_halves(comparison, b)
 }
 
 // Whether the members are known to be their own low halves.
 fn are_low_halves<D: Domain>(comparison: Comparison, a: D) -> bool
     ensures sound { IsTrue result → (x : ℕ) → D.has a x → low_half comparison x ≡ x }
-    ensures found { ReadsWhole comparison Width.Low32 (D.limits a) (D.possible a) → IsTrue result }
+    ensures found { ReadsWhole comparison Low32 (D.limits Full64 a) (D.possible a) → IsTrue result }
 {
     a.greatest() < low_half_limit(comparison)
 }

@@ -4,10 +4,12 @@ ghost use Rattle.std.specs.Prelude.{◌≡◌, ◌≢◌, ℕ, ◌^◌, ◌<◌,
 ghost use Rattle.std.specs.Prelude.{IfSome, IsTrue, bit_and, pos};
 ghost use Rattle.std.specs.Int.{w64, cast_signed, bit_at};
 ghost use Rattle.isa_model.specs.Code.Sizes.{width_bits, span_bits};
-ghost use Rattle.isa_model.specs.Code.Numbers.{alu, negated, sign_extended, reordered};
+ghost use Rattle.isa_model.specs.Code.Numbers.{alu, negated, sign_extended, reordered, low, signed};
 ghost use Rattle.isa_model.specs.Code.ExtensionLemmas.{extension_width};
 ghost use Rattle.reg_state.specs.Limits.{Limits};
-ghost use Rattle.reg_state.specs.Reach.{IsInside, IsLimit};
+ghost use Rattle.isa_model.specs.declared.sizes.Width.{Width};
+ghost use Rattle.isa_model.specs.declared.sizes.Width.TheVariants.{Full64};
+ghost use Rattle.reg_state.specs.Reach.{IsInside, IsLimit, IsAlone};
 
 use isa_model::{AluOp, ByteOrder, Extension, Span, Width};
 
@@ -23,7 +25,9 @@ pub trait Domain: Copy {
 
     ghost encloses: { Self → Self → Type 0 };
 
-    ghost limits: { Self → Limits };
+    ghost limits: { Width → Self → Limits };
+
+    ghost allows: { Width → Self → ℕ → Type 0 };
 
     ghost ones: { Self → ℕ };
 
@@ -50,7 +54,7 @@ pub trait Domain: Copy {
     fn greatest(self) -> u64
         ensures bound { (x : ℕ) → has self x → x ≤ result }
         ensures exact { (u : ℕ) → is_constant self u → result ≡ u }
-        ensures limit { pos result ≤ℤ (limits self).greatest }
+        ensures limit { pos result ≤ℤ (limits Full64 self).greatest }
         ensures possible { result ≤ possible self };
 
     /// What the operation gives on the members of both.
@@ -90,90 +94,111 @@ pub trait Domain: Copy {
         ensures yes { IsTrue result → (x : ℕ) → has other x → has self x }
         ensures equal { self ≡ other → IsTrue result };
 
-    /// Those below some member of the other, and those above one. None: there is no such pair.
-    fn below(self, other: Self) -> Option<(Self, Self)>
-        ensures common { (x y : ℕ) → has self x → has other y → x < y
+    /// Those that the width reads as some member of the other, and the other way round. None: there
+    /// is no such pair.
+    fn equal(self, width: Width, other: Self) -> Option<(Self, Self)>
+        ensures common { (x y : ℕ) → has self x → has other y → low width x ≡ low width y
+            → IsSomeAnd result (λ p. has p.0 x × has p.1 y) }
+        ensures left { IfSome result (λ p. (x : ℕ) → has p.0 x → has self x) }
+        ensures right { IfSome result (λ p. (y : ℕ) → has p.1 y → has other y) }
+        ensures left_allowed { IfSome result (λ p. (x : ℕ) → has p.0 x
+            → allows width other (low width x)) }
+        ensures right_allowed { IfSome result (λ p. (y : ℕ) → has p.1 y
+            → allows width self (low width y)) };
+
+    /// Those below some member of the other, and those above one, as the width reads them.
+    fn below(self, width: Width, other: Self) -> Option<(Self, Self)>
+        ensures common { (x y : ℕ) → has self x → has other y → low width x < low width y
             → IsSomeAnd result (λ p. has p.0 x × has p.1 y) }
         ensures left { IfSome result (λ p. (x : ℕ) → has p.0 x → has self x) }
         ensures right { IfSome result (λ p. (y : ℕ) → has p.1 y → has other y) }
         ensures left_limit { IfSome result (λ p. (x : ℕ) → has p.0 x
-            → pos x <ℤ (limits other).greatest) }
+            → pos (low width x) <ℤ (limits width other).greatest) }
         ensures right_limit { IfSome result (λ p. (y : ℕ) → has p.1 y
-            → (limits self).least <ℤ pos y) };
+            → (limits width self).least <ℤ pos (low width y)) };
 
     /// Those at most some member of the other, and those at least one.
-    fn at_most(self, other: Self) -> Option<(Self, Self)>
-        ensures common { (x y : ℕ) → has self x → has other y → x ≤ y
+    fn at_most(self, width: Width, other: Self) -> Option<(Self, Self)>
+        ensures common { (x y : ℕ) → has self x → has other y → low width x ≤ low width y
             → IsSomeAnd result (λ p. has p.0 x × has p.1 y) }
         ensures left { IfSome result (λ p. (x : ℕ) → has p.0 x → has self x) }
         ensures right { IfSome result (λ p. (y : ℕ) → has p.1 y → has other y) }
         ensures left_limit { IfSome result (λ p. (x : ℕ) → has p.0 x
-            → pos x ≤ℤ (limits other).greatest) }
+            → pos (low width x) ≤ℤ (limits width other).greatest) }
         ensures right_limit { IfSome result (λ p. (y : ℕ) → has p.1 y
-            → (limits self).least ≤ℤ pos y) };
+            → (limits width self).least ≤ℤ pos (low width y)) };
 
     /// Those below some member of the other, and those above one, read as signed numbers.
-    fn signed_below(self, other: Self) -> Option<(Self, Self)>
+    fn signed_below(self, width: Width, other: Self) -> Option<(Self, Self)>
         ensures common { (x y : ℕ) → has self x → has other y
-            → cast_signed w64 x <ℤ cast_signed w64 y
+            → signed width (low width x) <ℤ signed width (low width y)
             → IsSomeAnd result (λ p. has p.0 x × has p.1 y) }
         ensures left { IfSome result (λ p. (x : ℕ) → has p.0 x → has self x) }
         ensures right { IfSome result (λ p. (y : ℕ) → has p.1 y → has other y) }
         ensures left_limit { IfSome result (λ p. (x : ℕ) → has p.0 x
-            → cast_signed w64 x <ℤ (limits other).signed_greatest) }
+            → signed width (low width x) <ℤ (limits width other).signed_greatest) }
         ensures right_limit { IfSome result (λ p. (y : ℕ) → has p.1 y
-            → (limits self).signed_least <ℤ cast_signed w64 y) };
+            → (limits width self).signed_least <ℤ signed width (low width y)) };
 
     /// Those at most some member of the other, and those at least one, read as signed numbers.
-    fn signed_at_most(self, other: Self) -> Option<(Self, Self)>
+    fn signed_at_most(self, width: Width, other: Self) -> Option<(Self, Self)>
         ensures common { (x y : ℕ) → has self x → has other y
-            → cast_signed w64 x ≤ℤ cast_signed w64 y
+            → signed width (low width x) ≤ℤ signed width (low width y)
             → IsSomeAnd result (λ p. has p.0 x × has p.1 y) }
         ensures left { IfSome result (λ p. (x : ℕ) → has p.0 x → has self x) }
         ensures right { IfSome result (λ p. (y : ℕ) → has p.1 y → has other y) }
         ensures left_limit { IfSome result (λ p. (x : ℕ) → has p.0 x
-            → cast_signed w64 x ≤ℤ (limits other).signed_greatest) }
+            → signed width (low width x) ≤ℤ (limits width other).signed_greatest) }
         ensures right_limit { IfSome result (λ p. (y : ℕ) → has p.1 y
-            → (limits self).signed_least ≤ℤ cast_signed w64 y) };
+            → (limits width self).signed_least ≤ℤ signed width (low width y)) };
 
     /// Those that differ from some member of the other, and the other way round.
-    fn apart(self, other: Self) -> Option<(Self, Self)>
-        ensures common { (x y : ℕ) → has self x → has other y → x ≢ y
+    fn apart(self, width: Width, other: Self) -> Option<(Self, Self)>
+        ensures common { (x y : ℕ) → has self x → has other y → low width x ≢ low width y
             → IsSomeAnd result (λ p. has p.0 x × has p.1 y) }
         ensures left { IfSome result (λ p. (x : ℕ) → has p.0 x → has self x) }
         ensures right { IfSome result (λ p. (y : ℕ) → has p.1 y → has other y) }
         ensures left_limit { IfSome result (λ p. (x : ℕ) → has p.0 x → (n : ℕ)
-            → is_constant other n → IsLimit (limits self) n → x ≢ n) }
+            → IsAlone (limits width other) n → IsLimit width (limits width self) n
+            → low width x ≢ n) }
         ensures right_limit { IfSome result (λ p. (y : ℕ) → has p.1 y → (n : ℕ)
-            → is_constant self n → IsLimit (limits other) n → y ≢ n) };
+            → IsAlone (limits width self) n → IsLimit width (limits width other) n
+            → low width y ≢ n) };
 
     /// Those that have no bit in common with some member of the other, and the other way round.
-    fn disjoint(self, other: Self) -> Option<(Self, Self)>
-        ensures common { (x y : ℕ) → has self x → has other y → bit_and x y ≡ 0
+    fn disjoint(self, width: Width, other: Self) -> Option<(Self, Self)>
+        ensures common { (x y : ℕ) → has self x → has other y
+            → bit_and (low width x) (low width y) ≡ 0
             → IsSomeAnd result (λ p. has p.0 x × has p.1 y) }
         ensures left { IfSome result (λ p. (x : ℕ) → has p.0 x → has self x) }
         ensures right { IfSome result (λ p. (y : ℕ) → has p.1 y → has other y) }
-        ensures left_only { IfSome result (λ p. (x : ℕ) → has p.0 x → bit_and x (ones other) ≡ 0) }
-        ensures right_only { IfSome result (λ p. (y : ℕ) → has p.1 y → bit_and y (ones self) ≡ 0) };
+        ensures left_only { width ≡ Full64 → IfSome result (λ p. (x : ℕ) → has p.0 x
+            → bit_and x (ones other) ≡ 0) }
+        ensures right_only { width ≡ Full64 → IfSome result (λ p. (y : ℕ) → has p.1 y
+            → bit_and y (ones self) ≡ 0) };
 
     /// Those that have a bit in common with some member of the other, and the other way round.
-    fn overlapping(self, other: Self) -> Option<(Self, Self)>
-        ensures common { (x y : ℕ) → has self x → has other y → bit_and x y ≢ 0
+    fn overlapping(self, width: Width, other: Self) -> Option<(Self, Self)>
+        ensures common { (x y : ℕ) → has self x → has other y
+            → bit_and (low width x) (low width y) ≢ 0
             → IsSomeAnd result (λ p. has p.0 x × has p.1 y) }
         ensures left { IfSome result (λ p. (x : ℕ) → has p.0 x → has self x) }
         ensures right { IfSome result (λ p. (y : ℕ) → has p.1 y → has other y) }
-        ensures left_only { IfSome result (λ p. (x i : ℕ)
+        ensures left_only { width ≡ Full64 → IfSome result (λ p. (x i : ℕ)
             → bit_and (possible self) (possible other) ≡ 2 ^ i
             → has p.0 x → bit_at x i ≡ 1) }
-        ensures right_only { IfSome result (λ p. (y i : ℕ)
+        ensures right_only { width ≡ Full64 → IfSome result (λ p. (y i : ℕ)
             → bit_and (possible self) (possible other) ≡ 2 ^ i
             → has p.1 y → bit_at y i ≡ 1) };
 
     // every member is a number of a register
     ghost bounded: { (d : Self) (x : ℕ) → has d x → x < 2 ^ 64 };
 
-    // and is between the limits
-    ghost inside: { (d : Self) (x : ℕ) → has d x → IsInside (limits d) x };
+    // and is between the limits, as each width reads it
+    ghost inside: { (d : Self) (w : Width) (x : ℕ) → has d x → IsInside w (limits w d) (low w x) };
+
+    // what it allows of whole numbers are its members
+    ghost whole: { (d : Self) (x : ℕ) → allows Full64 d x → has d x };
 
     // a constant has its number, and no other
     ghost contains_constant: { (d : Self) (u : ℕ) → u < 2 ^ 64 → is_constant d u → has d u };

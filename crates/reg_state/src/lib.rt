@@ -5,6 +5,7 @@ mod bits_domain;
 pub mod comparisons;
 pub mod domains;
 pub mod kinds;
+mod low_bits;
 mod range_domain;
 pub mod scalars;
 

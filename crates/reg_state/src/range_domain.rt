@@ -1,6 +1,7 @@
 //! Limits as a domain.
 
-ghost use Rattle.std.specs.Prelude.{ℕ, ◌≤◌, ◌-◌, ◌^◌};
+ghost use Rattle.std.specs.Prelude.{ℕ, ◌≤◌, ◌-◌, ◌^◌, IsSomeAnd, IfSome};
+ghost use Rattle.ranges.specs.Ranges as R;
 
 use crate::domains::Domain;
 use isa_model::{AluOp, ByteOrder, Extension, Span, Width};
@@ -8,7 +9,7 @@ use ranges::Range;
 
 impl Domain for Range {
     ghost use Rattle.ranges.specs.Ranges.{Has, IsConstant, Encloses};
-    ghost use Rattle.reg_state.specs.Limits.{range_limits};
+    ghost use Rattle.reg_state.specs.Limits.{range_limits, range_allows};
     ghost use Rattle.reg_state.specs.Constants.{range_inside, range_constant_has};
     ghost use Rattle.reg_state.specs.Constants.{range_constant_only};
 
@@ -19,6 +20,8 @@ impl Domain for Range {
     ghost encloses = { Encloses };
 
     ghost limits = { range_limits };
+
+    ghost allows = { range_allows };
 
     ghost ones = { λ r. 0 };
 
@@ -45,7 +48,7 @@ impl Domain for Range {
     }
 
     fn greatest(self) -> u64 {
-        self.greatest
+        self.wide.greatest
     }
 
     fn alu(op: AluOp, width: Width, a: Range, b: Range) -> Range {
@@ -72,39 +75,80 @@ impl Domain for Range {
         Range::covers(self, other)
     }
 
-    fn below(self, other: Range) -> Option<(Range, Range)> {
-        Range::below(self, other)
+    fn equal(self, width: Width, other: Range) -> Option<(Range, Range)> {
+        match width {
+            Width::Full64 => same(self, other),
+            Width::Low32 => Range::low_equal(self, other),
+        }
     }
 
-    fn at_most(self, other: Range) -> Option<(Range, Range)> {
-        Range::at_most(self, other)
+    fn below(self, width: Width, other: Range) -> Option<(Range, Range)> {
+        match width {
+            Width::Full64 => Range::below(self, other),
+            Width::Low32 => Range::low_below(self, other),
+        }
     }
 
-    fn signed_below(self, other: Range) -> Option<(Range, Range)> {
-        Range::signed_below(self, other)
+    fn at_most(self, width: Width, other: Range) -> Option<(Range, Range)> {
+        match width {
+            Width::Full64 => Range::at_most(self, other),
+            Width::Low32 => Range::low_at_most(self, other),
+        }
     }
 
-    fn signed_at_most(self, other: Range) -> Option<(Range, Range)> {
-        Range::signed_at_most(self, other)
+    fn signed_below(self, width: Width, other: Range) -> Option<(Range, Range)> {
+        match width {
+            Width::Full64 => Range::signed_below(self, other),
+            Width::Low32 => Range::low_signed_below(self, other),
+        }
     }
 
-    fn apart(self, other: Range) -> Option<(Range, Range)> {
-        Range::apart(self, other)
+    fn signed_at_most(self, width: Width, other: Range) -> Option<(Range, Range)> {
+        match width {
+            Width::Full64 => Range::signed_at_most(self, other),
+            Width::Low32 => Range::low_signed_at_most(self, other),
+        }
     }
 
-    fn disjoint(self, other: Range) -> Option<(Range, Range)> {
-        Range::disjoint(self, other)
+    fn apart(self, width: Width, other: Range) -> Option<(Range, Range)> {
+        match width {
+            Width::Full64 => Range::apart(self, other),
+            Width::Low32 => Range::low_apart(self, other),
+        }
     }
 
-    fn overlapping(self, other: Range) -> Option<(Range, Range)> {
-        Range::overlapping(self, other)
+    fn disjoint(self, width: Width, other: Range) -> Option<(Range, Range)> {
+        match width {
+            Width::Full64 => Range::disjoint(self, other),
+            Width::Low32 => Range::low_disjoint(self, other),
+        }
     }
 
-    ghost bounded = { λ d x h. h.below };
+    fn overlapping(self, width: Width, other: Range) -> Option<(Range, Range)> {
+        match width {
+            Width::Full64 => Range::overlapping(self, other),
+            Width::Low32 => Range::low_overlapping(self, other),
+        }
+    }
 
-    ghost inside = { λ d x h. range_inside d x h };
+    ghost bounded = { λ d x h. h.0.below };
+
+    ghost inside = { λ d w x h. range_inside d w x h };
+
+    ghost whole = { λ d x h. h };
 
     ghost contains_constant = { λ d u h c. range_constant_has d u h c };
 
     ghost only_constant = { λ d u x c h. range_constant_only d u x c h };
+}
+
+// The common numbers, for both sides.
+fn same(a: Range, b: Range) -> Option<(Range, Range)>
+    ensures common { (x : ℕ) → R.Has a x → R.Has b x
+        → IsSomeAnd result (λ p. R.Has p.0 x × R.Has p.1 x) }
+    ensures left { IfSome result (λ p. (x : ℕ) → R.Has p.0 x → R.Has a x × R.Has b x) }
+    ensures right { IfSome result (λ p. (x : ℕ) → R.Has p.1 x → R.Has a x × R.Has b x) }
+{
+    let both = a.meet(b)?;
+    Some((both, both))
 }

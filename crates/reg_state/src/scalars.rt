@@ -1,8 +1,9 @@
 //! Known bits and limits at once.
 
-ghost use Rattle.std.specs.Prelude.{◌≡◌, ℕ, ◌+◌, ◌%◌, ◌^◌, ◌<◌, ◌≤◌, pos, ◌-ℤ◌, FitsSigned, ◌↔◌};
+ghost use Rattle.std.specs.Prelude.{◌≡◌, ℕ, ◌+◌, ◌*◌, ◌%◌, ◌^◌, ◌<◌, ◌≤◌, pos, ◌-ℤ◌, ◌*ℤ◌};
+ghost use Rattle.std.specs.Prelude.{FitsSigned, ◌↔◌};
 ghost use Rattle.std.specs.Prelude.{Some, IsSomeAnd, IfSome, IsTrue};
-ghost use Rattle.std.specs.Int.{w64, bit_at};
+ghost use Rattle.std.specs.Int.{w32, w64, cast_signed, bit_at};
 ghost use Rattle.isa_model.specs.Code.Sizes.{width_bits};
 
 use crate::domains::Domain;
@@ -39,9 +40,7 @@ impl Scalar {
         ensures common { (x : ℕ) → Has self x → IsSomeAnd result (λ s. Has s x) }
         ensures narrower { IfSome result (λ s. (x : ℕ) → Has s x → Has self x) }
     {
-        let bits = self
-            .bits
-            .meet(Bits::between(self.range.least, self.range.greatest))?;
+        let bits = self.bits.meet(Bits::between(self.range.wide.least, self.range.wide.greatest))?;
         let unsigned = self
             .range
             .meet(Range::between(bits.least(), bits.greatest()))?;
@@ -85,17 +84,7 @@ impl Scalar {
     fn includes(self, number: u64) -> bool
         ensures { IsTrue result ↔ Has self number }
     {
-        if !self.bits.covers(Bits::constant(number)) {
-            return false;
-        }
-        let signed = number.cast_signed();
-        if number < self.range.least || self.range.greatest < number {
-            return false;
-        }
-        if signed < self.range.signed_least || self.range.signed_greatest < signed {
-            return false;
-        }
-        true
+        self.bits.covers(Bits::constant(number)) && self.range.covers(Range::constant(number))
     }
 
     // Two sets from their parts.
@@ -123,16 +112,19 @@ impl Scalar {
 }
 
 impl Domain for Scalar {
-    ghost use Rattle.isa_model.specs.Code.Numbers.{alu};
-    ghost use Rattle.ranges.specs.Ranges.{KeepsLimits, KeepsSignedLimits};
-    ghost use Rattle.reg_state.specs.Scalars.{Has, IsConstant, IsNumber, Encloses};
+    ghost use Rattle.isa_model.specs.Code.Numbers.{alu, shift};
+    ghost use Rattle.ranges.specs.Wides as W;
+    ghost use Rattle.ranges.specs.Lows as L;
+    ghost use Rattle.reg_state.specs.Scalars.{Has, IsConstant, IsNumber, Encloses, allows};
     ghost use Rattle.reg_state.specs.Arithmetic.{IsFromTo, IsSignedFromTo, IsSharp};
+    ghost use Rattle.reg_state.specs.Arithmetic.{IsLowFromTo, IsLowSignedFromTo};
     ghost use Rattle.known_bits.specs.Bits.{IsPrecise, KnowsProduct, greatest_of};
     ghost use Rattle.isa_model.specs.Code.Numbers.{negated, sign_extended, reordered};
     ghost use Rattle.isa_model.specs.Code.Sizes.{span_bits};
     ghost use Rattle.isa_model.specs.Code.ExtensionLemmas.{extension_bits, extension_width};
     ghost use Rattle.ranges.specs.Ranges as R;
-    ghost use Rattle.ranges.specs.Ranges.{IsSignedOf, extension_signed};
+    ghost use Rattle.ranges.specs.Ranges.{ReadsLow};
+    ghost use Rattle.ranges.specs.Keeps.{extension_signed};
     ghost use Rattle.reg_state.specs.Limits.{range_limits};
     ghost use Rattle.reg_state.specs.Constants.{range_inside, bits_constant_has};
     ghost use Rattle.reg_state.specs.Constants.{bits_constant_only, range_constant_has};
@@ -143,7 +135,9 @@ impl Domain for Scalar {
 
     ghost encloses = { Encloses };
 
-    ghost limits = { λ s. range_limits s.range };
+    ghost limits = { λ w s. range_limits w s.range };
+
+    ghost allows = { allows };
 
     ghost ones = { λ s. s.bits.value };
 
@@ -186,7 +180,7 @@ impl Domain for Scalar {
     }
 
     fn greatest(self) -> u64 {
-        self.bits.greatest().min(self.range.greatest)
+        self.bits.greatest().min(self.range.wide.greatest)
     }
 
     fn alu(op: AluOp, width: Width, a: Scalar, b: Scalar) -> Scalar
@@ -194,11 +188,25 @@ impl Domain for Scalar {
         ensures exact { (u v : ℕ) → IsConstant a u → IsConstant b v
             → IsConstant result (alu op width u v) }
         ensures fits { (x : ℕ) → Has result x → x < 2 ^ width_bits width }
-        ensures limits { a.range.greatest < 2 ^ width_bits width
-            → b.range.greatest < 2 ^ width_bits width
-            → KeepsLimits op width a.range b.range (IsFromTo result) }
+        ensures limits { a.range.wide.greatest < 2 ^ width_bits width
+            → b.range.wide.greatest < 2 ^ width_bits width
+            → W.KeepsLimits op width a.range.wide b.range.wide (IsFromTo result) }
         ensures signed { (x y : ℕ) → Has a x → Has b y → width ≡ Width.Full64
-            → KeepsSignedLimits op a.range b.range (IsSignedFromTo result) }
+            → W.KeepsSignedLimits op a.range.wide b.range.wide (IsSignedFromTo result) }
+        ensures low_limits { (x y : ℕ) → Has a x → Has b y → ReadsLow op width b.range.wide
+            → L.KeepsLimits op a.range.low b.range.low (IsLowFromTo result) }
+        ensures low_signed { (x y : ℕ) → Has a x → Has b y → ReadsLow op width b.range.wide
+            → L.KeepsSignedLimits op a.range.low b.range.low (IsLowSignedFromTo result) }
+        ensures raised { (x y : ℕ) → Has a x → Has b y → op ≡ AluOp.Lsh → width ≡ Width.Full64
+            → b.range.wide.least ≡ b.range.wide.greatest → 32 ≤ shift width b.range.wide.least
+            → a.range.low.greatest * 2 ^ shift width b.range.wide.least < 2 ^ 64
+            → IsFromTo result (a.range.low.least * 2 ^ shift width b.range.wide.least)
+            (a.range.low.greatest * 2 ^ shift width b.range.wide.least) }
+        ensures raised_signed { (x y : ℕ) → Has a x → Has b y → op ≡ AluOp.Lsh
+            → width ≡ Width.Full64 → b.range.wide.least ≡ b.range.wide.greatest
+            → shift width b.range.wide.least ≡ 32
+            → IsSignedFromTo result (a.range.low.signed_least *ℤ pos (2 ^ 32))
+            (a.range.low.signed_greatest *ℤ pos (2 ^ 32)) }
         ensures sharp { IsPrecise op b.bits → IsSharp a b (alu op width) result }
         ensures product { op ≡ AluOp.Mul → KnowsProduct (greatest_of a.bits % 2 ^ width_bits width)
             (greatest_of b.bits % 2 ^ width_bits width) (Has result) }
@@ -215,9 +223,13 @@ impl Domain for Scalar {
         ensures exact { (u : ℕ) → IsConstant a u → IsConstant result (negated width u) }
         ensures fits { (x : ℕ) → Has result x → x < 2 ^ width_bits width }
         ensures signed { (x : ℕ) → Has a x → width ≡ Width.Full64
-            → FitsSigned w64 (pos 0 -ℤ a.range.signed_least)
+            → FitsSigned w64 (pos 0 -ℤ a.range.wide.signed_least)
             → IsSignedFromTo result
-            (pos 0 -ℤ a.range.signed_greatest) (pos 0 -ℤ a.range.signed_least) }
+            (pos 0 -ℤ a.range.wide.signed_greatest) (pos 0 -ℤ a.range.wide.signed_least) }
+        ensures low_signed { (x : ℕ) → Has a x
+            → FitsSigned w32 (pos 0 -ℤ a.range.low.signed_least)
+            → IsLowSignedFromTo result
+            (pos 0 -ℤ a.range.low.signed_greatest) (pos 0 -ℤ a.range.low.signed_least) }
         ensures sharp { IsSharp a a (λ x y. negated width x) result }
     {
         let both = Scalar {
@@ -231,11 +243,16 @@ impl Domain for Scalar {
         ensures contains { (x : ℕ) → Has a x → Has result (sign_extended extension x) }
         ensures exact { (u : ℕ) → IsConstant a u → IsConstant result (sign_extended extension u) }
         ensures fits { (x : ℕ) → Has result x → x < 2 ^ width_bits (extension_width extension) }
-        ensures small { a.range.greatest + a.range.greatest < 2 ^ extension_bits extension
-            → IsFromTo result a.range.least a.range.greatest }
+        ensures small { a.range.wide.greatest + a.range.wide.greatest < 2 ^ extension_bits extension
+            → IsFromTo result a.range.wide.least a.range.wide.greatest }
         ensures kept { (x : ℕ) → Has a x → extension_width extension ≡ Width.Full64
-            → IsSignedOf (extension_signed extension) a.range
+            → W.IsSignedOf (extension_signed extension) a.range.wide
             → (z : ℕ) → Has result z → R.Has a.range z }
+        ensures low_signed { (x : ℕ) → Has a x → (z : ℕ) → Has result z
+            → FitsSigned (extension_signed extension) (cast_signed w32 (z % 2 ^ 32)) }
+        ensures low_kept { (x : ℕ) → Has a x
+            → L.IsSignedOf (extension_signed extension) a.range.low
+            → (z : ℕ) → Has result z → L.Has a.range.low (z % 2 ^ 32) }
         ensures sharp { IsSharp a a (λ x y. sign_extended extension x) result }
     {
         let both = Scalar {
@@ -249,8 +266,11 @@ impl Domain for Scalar {
         ensures contains { (x : ℕ) → Has a x → Has result (reordered order span x) }
         ensures exact { (u : ℕ) → IsConstant a u → IsConstant result (reordered order span u) }
         ensures fits { (x : ℕ) → Has result x → x < 2 ^ span_bits span }
-        ensures limits { order ≡ ByteOrder.Little → a.range.greatest < 2 ^ span_bits span
-            → IsFromTo result a.range.least a.range.greatest }
+        ensures limits { order ≡ ByteOrder.Little → a.range.wide.greatest < 2 ^ span_bits span
+            → IsFromTo result a.range.wide.least a.range.wide.greatest }
+        ensures low_limits { (x : ℕ) → Has a x → order ≡ ByteOrder.Little
+            → a.range.low.greatest < 2 ^ span_bits span
+            → IsLowFromTo result a.range.low.least a.range.low.greatest }
         ensures bits { order ≡ ByteOrder.Little → (i x y : ℕ) → i < 64 → Has result x → Has result y
             → bit_at x i ≡ 0 → bit_at y i ≡ 1 → bit_at (a.bits.mask % 2 ^ span_bits span) i ≡ 1 }
     {
@@ -272,51 +292,59 @@ impl Domain for Scalar {
         self.bits.covers(other.bits) && self.range.covers(other.range)
     }
 
-    fn below(self, other: Scalar) -> Option<(Scalar, Scalar)> {
-        let bits = self.bits.below(other.bits)?;
-        let ranges = self.range.below(other.range)?;
+    fn equal(self, width: Width, other: Scalar) -> Option<(Scalar, Scalar)> {
+        let bits = Domain::equal(self.bits, width, other.bits)?;
+        let ranges = Domain::equal(self.range, width, other.range)?;
         Scalar::joined(bits, ranges)
     }
 
-    fn at_most(self, other: Scalar) -> Option<(Scalar, Scalar)> {
-        let bits = self.bits.at_most(other.bits)?;
-        let ranges = self.range.at_most(other.range)?;
+    fn below(self, width: Width, other: Scalar) -> Option<(Scalar, Scalar)> {
+        let bits = Domain::below(self.bits, width, other.bits)?;
+        let ranges = Domain::below(self.range, width, other.range)?;
         Scalar::joined(bits, ranges)
     }
 
-    fn signed_below(self, other: Scalar) -> Option<(Scalar, Scalar)> {
-        let bits = self.bits.signed_below(other.bits)?;
-        let ranges = self.range.signed_below(other.range)?;
+    fn at_most(self, width: Width, other: Scalar) -> Option<(Scalar, Scalar)> {
+        let bits = Domain::at_most(self.bits, width, other.bits)?;
+        let ranges = Domain::at_most(self.range, width, other.range)?;
         Scalar::joined(bits, ranges)
     }
 
-    fn signed_at_most(self, other: Scalar) -> Option<(Scalar, Scalar)> {
-        let bits = self.bits.signed_at_most(other.bits)?;
-        let ranges = self.range.signed_at_most(other.range)?;
+    fn signed_below(self, width: Width, other: Scalar) -> Option<(Scalar, Scalar)> {
+        let bits = Domain::signed_below(self.bits, width, other.bits)?;
+        let ranges = Domain::signed_below(self.range, width, other.range)?;
         Scalar::joined(bits, ranges)
     }
 
-    fn apart(self, other: Scalar) -> Option<(Scalar, Scalar)> {
-        let bits = self.bits.apart(other.bits)?;
-        let ranges = self.range.apart(other.range)?;
+    fn signed_at_most(self, width: Width, other: Scalar) -> Option<(Scalar, Scalar)> {
+        let bits = Domain::signed_at_most(self.bits, width, other.bits)?;
+        let ranges = Domain::signed_at_most(self.range, width, other.range)?;
         Scalar::joined(bits, ranges)
     }
 
-    fn disjoint(self, other: Scalar) -> Option<(Scalar, Scalar)> {
-        let bits = self.bits.disjoint(other.bits)?;
-        let ranges = self.range.disjoint(other.range)?;
+    fn apart(self, width: Width, other: Scalar) -> Option<(Scalar, Scalar)> {
+        let bits = Domain::apart(self.bits, width, other.bits)?;
+        let ranges = Domain::apart(self.range, width, other.range)?;
         Scalar::joined(bits, ranges)
     }
 
-    fn overlapping(self, other: Scalar) -> Option<(Scalar, Scalar)> {
-        let bits = self.bits.overlapping(other.bits)?;
-        let ranges = self.range.overlapping(other.range)?;
+    fn disjoint(self, width: Width, other: Scalar) -> Option<(Scalar, Scalar)> {
+        let bits = Domain::disjoint(self.bits, width, other.bits)?;
+        let ranges = Domain::disjoint(self.range, width, other.range)?;
+        Scalar::joined(bits, ranges)
+    }
+
+    fn overlapping(self, width: Width, other: Scalar) -> Option<(Scalar, Scalar)> {
+        let bits = Domain::overlapping(self.bits, width, other.bits)?;
+        let ranges = Domain::overlapping(self.range, width, other.range)?;
         Scalar::joined(bits, ranges)
     }
 
     ghost bounded = { λ d x h. h.0.below };
 
-    ghost inside = { λ d x h. range_inside d.range x h.1 };
+    ghost inside = { λ d w x h. range_inside d.range w x h.1 };
+
+    ghost whole = { λ d x h. h };
 
     ghost contains_constant = { λ d u h c. (
       bits_constant_has d.bits u h c.0,

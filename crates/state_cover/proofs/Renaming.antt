@@ -291,7 +291,10 @@ Encloses-names packet null a b c = record {
 
 own_kind : (x : Kind) → KindEncloses (λ i. i) (λ i. i) x x
 own_kind Unset = tt
-own_kind (Number numbers) = (λ x h. h, (omega arith, omega arith, omega (arith, ints), omega (arith, ints)))
+own_kind (Number numbers) = (
+  λ x h. h,
+  ((omega arith, omega arith, omega (arith, ints), omega (arith, ints)), (omega arith, omega arith, omega (arith, ints), omega (arith, ints))),
+)
 own_kind Context = tt
 own_kind (Stack f o) = (refl, refl)
 own_kind (Packet f i l g p) = (refl, refl, omega (arith, ints), omega (arith, ints), omega arith)

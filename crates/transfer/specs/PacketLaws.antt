@@ -30,7 +30,7 @@ use Rattle.isa_model.specs.Machine.Pointers.{offset_limit, moved_to, combined}
 use Rattle.isa_model.specs.Machine.MachineStates.{IsState}
 use Rattle.isa_model.specs.Machine.ByteCells.{number_in-Byte, value_in-Byte, take-drop-Byte}
 use Rattle.isa_model.specs.Machine.ValueLaws.{slice_index_fits, length-splice}
-use Rattle.ranges.specs.Ranges.{extension_signed}
+use Rattle.ranges.specs.Keeps.{extension_signed}
 use Rattle.reg_state.specs.declared.scalars.Scalar.{Scalar}
 use Rattle.reg_state.specs.declared.kinds.Kind.{Kind}
 use Rattle.reg_state.specs.declared.kinds.Kind.TheVariants.{Number, Context, Packet, MapValueOrNull}
@@ -293,8 +293,8 @@ moved_yields p e a s back q by k x v (inl h) has allowed m =
     subst (λ n. YieldsUnder p a s k (moved_to region.Packet (moved_by back (q.fixed +ℤ e.offset q.identity) (signed Full64 n)))) (sym (IsNumber-only by h.number x h.alone has))
     (by_one_yields p e a s back q (signed Full64 h.number) k v h.moves allowed m)
 moved_yields p e a s back q by k x v (inr h) has allowed m =
-    between_yields p e a s back q by.range.signed_least by.range.signed_greatest (signed Full64 x) k v h.moves.within h.moves.pointer
-    has.1.signed_from has.1.signed_to allowed m
+    between_yields p e a s back q by.range.wide.signed_least by.range.wide.signed_greatest (signed Full64 x) k v h.moves.within h.moves.pointer
+    has.1.0.signed_from has.1.0.signed_to allowed m
 
 -- packet pointer and number
 pub packet_plus_yields : (p : Program) (e : Assigned) (a : State) (s : Machine.State) (q : PacketPointer) (by : Scalar) (k : Kind) (x : ℕ)

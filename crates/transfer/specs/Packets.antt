@@ -8,7 +8,7 @@ use Rattle.isa_model.specs.declared.sizes.Width.TheVariants.{Full64}
 use Rattle.isa_model.specs.Code.Numbers.{signed}
 use Rattle.isa_model.specs.Code.Sizes.{size_bytes, narrow_size, narrow_extension}
 use Rattle.isa_model.specs.Machine.Pointers.{offset_limit}
-use Rattle.ranges.specs.Ranges.{extension_signed}
+use Rattle.ranges.specs.Keeps.{extension_signed}
 use Rattle.reg_state.specs.declared.scalars.Scalar.{Scalar}
 use Rattle.reg_state.specs.declared.kinds.Kind.{Kind}
 use Rattle.reg_state.specs.declared.kinds.Kind.TheVariants.{Number, Packet, MapValueOrNull}
@@ -34,17 +34,17 @@ pub record AreInPacket (fixed least : ℤ) (proved : ℕ) (by : ℤ) (bytes : �
 pub record IsOfSize (size : Size) (c : Scalar) : Type 0 where
   pub members : (x : ℕ) → (Has c x ↔ (x < 2 ^ (8 * size_bytes size)))
   pub unknown : (i : ℕ) → bit_at c.bits.mask i ≡ 1 → i < 8 * size_bytes size
-  pub least : c.range.least ≡ 0
-  pub greatest : c.range.greatest + 1 ≡ 2 ^ (8 * size_bytes size)
-  pub signed_least : size_bytes size < 8 → c.range.signed_least ≡ pos 0
-  pub signed_greatest : size_bytes size < 8 → c.range.signed_greatest ≡ pos c.range.greatest
+  pub least : c.range.wide.least ≡ 0
+  pub greatest : c.range.wide.greatest + 1 ≡ 2 ^ (8 * size_bytes size)
+  pub signed_least : size_bytes size < 8 → c.range.wide.signed_least ≡ pos 0
+  pub signed_greatest : size_bytes size < 8 → c.range.wide.signed_greatest ≡ pos c.range.wide.greatest
 
 -- any number of that many bytes with a sign, in 64 bits
 pub record IsOfSignedSize (size : Narrow) (c : Scalar) : Type 0 where
   pub members : (x : ℕ)
       → (Has c x ↔ ((x < 2 ^ 64) × FitsSigned (extension_signed (narrow_extension size)) (cast_signed w64 x)))
-  pub signed_least : FitsSigned (extension_signed (narrow_extension size)) c.range.signed_least
-  pub signed_greatest : FitsSigned (extension_signed (narrow_extension size)) c.range.signed_greatest
+  pub signed_least : FitsSigned (extension_signed (narrow_extension size)) c.range.wide.signed_least
+  pub signed_greatest : FitsSigned (extension_signed (narrow_extension size)) c.range.wide.signed_greatest
 
 abbrev pub IsNumberOf : (Scalar → Type 0) → Kind → Type 0
 IsNumberOf says (Number c) = says c
@@ -153,7 +153,7 @@ pub record MovesByNumber (a : State) (back : Bool) (p : PacketPointer) (by : Sca
 -- any other by something between its signed limits
 pub record MovesByLimits (a : State) (back : Bool) (p : PacketPointer) (by : Scalar) (answer : Result Kind Refusal) : Type 0 where
   pub several : (n : ℕ) → ¬ IsNumber by n
-  pub moves : MovesBetween a back p by.range.signed_least by.range.signed_greatest answer
+  pub moves : MovesBetween a back p by.range.wide.signed_least by.range.wide.signed_greatest answer
 
 abbrev pub PacketMoves : State → Bool → PacketPointer → Scalar → Result Kind Refusal → Type 0
 PacketMoves a back p by answer = MovesByNumber a back p by answer ⊎ MovesByLimits a back p by answer

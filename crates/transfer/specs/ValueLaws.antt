@@ -281,7 +281,7 @@ between : (by : Scalar) (o : Option ℕ) (x : ℕ) → LeavesNumber by o → Has
 between by (Some n) x only has =
     let same = IsNumber-only by n x only has in
     rw same (omega (arith, ints), omega (arith, ints))
-between by None x only has = (has.1.signed_from, has.1.signed_to)
+between by None x only has = (has.1.0.signed_from, has.1.0.signed_to)
 
 -- so the offset is between the new limits
 moved_between : (back : Bool) (least greatest z near far by : ℤ) → least ≤ℤ z → z ≤ℤ greatest → near ≤ℤ by → by ≤ℤ far

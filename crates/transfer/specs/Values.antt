@@ -57,11 +57,11 @@ ValueStores size room least greatest by source answer =
 -- by something between its signed limits
 abbrev pub nearest : Scalar → Option ℕ → ℤ
 nearest by (Some n) = signed Full64 n
-nearest by None = by.range.signed_least
+nearest by None = by.range.wide.signed_least
 
 abbrev pub farthest : Scalar → Option ℕ → ℤ
 farthest by (Some n) = signed Full64 n
-farthest by None = by.range.signed_greatest
+farthest by None = by.range.wide.signed_greatest
 
 -- where the offset is, at the least and at the greatest, after a move by something between two distances
 abbrev pub moved_least : Bool → ℤ → ℤ → ℤ → ℤ

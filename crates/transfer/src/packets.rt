@@ -254,8 +254,8 @@ pub fn packet_moved(
             state,
             back,
             pointer,
-            by.range.signed_least,
-            by.range.signed_greatest,
+            by.range.wide.signed_least,
+            by.range.wide.signed_greatest,
         ),
     }
 }

@@ -125,7 +125,7 @@ pub fn nearest(by: Scalar, number: Option<u64>) -> i64
 {
     match number {
         Some(number) => number.cast_signed(),
-        None => by.range.signed_least,
+        None => by.range.wide.signed_least,
     }
 }
 
@@ -135,7 +135,7 @@ pub fn farthest(by: Scalar, number: Option<u64>) -> i64
 {
     match number {
         Some(number) => number.cast_signed(),
-        None => by.range.signed_greatest,
+        None => by.range.wide.signed_greatest,
     }
 }
 

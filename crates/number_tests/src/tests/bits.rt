@@ -227,7 +227,7 @@ const RELATIONS: [(Relation, Pair, Pair, Option<(Pair, Pair)>); 15] = [
 #[test]
 fn relations(rt: HostRuntime) -> Result<(), Fail> {
     for (relation, a, b, wanted) in RELATIONS.iter() {
-        let found = related(relation, bits_of(*a), bits_of(*b));
+        let found = related(relation, Width::Full64, bits_of(*a), bits_of(*b));
         let left = found.map(|both| (pair_of(both.0), pair_of(both.1)));
         assert_eq!(rt; left, *wanted);
     }

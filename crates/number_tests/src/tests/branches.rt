@@ -71,7 +71,7 @@ fn numbers(limits: Limits) -> Kind {
 
 fn limits_of(kind: Kind) -> Limits {
     match kind {
-        Kind::Number(numbers) => (numbers.range.least, numbers.range.greatest),
+        Kind::Number(numbers) => (numbers.range.wide.least, numbers.range.wide.greatest),
         _ => NONE,
     }
 }

@@ -2,7 +2,7 @@
 
 use super::operations::{Part, Relation, common, part_of, related};
 use isa_model::{AluOp, ByteOrder, Extension, Span, Width};
-use ranges::Range;
+use ranges::{Low, Range};
 use std::test::Fail;
 
 const FULL: Width = Width::Full64;
@@ -18,6 +18,8 @@ enum Set {
     Between(u64, u64),
     /// The same as signed numbers.
     Signed(i64, i64),
+    /// Numbers of 32 bits, by their least and greatest as signed ones of 32 bits.
+    SignedWord(i32, i32),
 }
 
 const BYTE: Set = Set::Between(0, 255);
@@ -33,6 +35,15 @@ fn range_of(set: Set) -> Range {
         Set::Signed(least, greatest) if least <= greatest => {
             Range::signed_between(least, greatest)
         }
+        Set::SignedWord(least, greatest) if least <= greatest => Range {
+            wide: Range::any(LOW).wide,
+            low: Low {
+                least: 0,
+                greatest: u32::MAX,
+                signed_least: least,
+                signed_greatest: greatest,
+            },
+        },
         _ => Range::any(FULL),
     }
 }
@@ -68,10 +79,10 @@ const LIMITS: [(Set, Limits); 8] = [
 
 fn limits_of(range: Range) -> Limits {
     (
-        range.least,
-        range.greatest,
-        range.signed_least,
-        range.signed_greatest,
+        range.wide.least,
+        range.wide.greatest,
+        range.wide.signed_least,
+        range.wide.signed_greatest,
         range.number(),
     )
 }
@@ -106,7 +117,13 @@ const RESULTS: [(AluOp, Width, Set, Set, Set); 20] = [
     (AluOp::Mul, FULL, BYTE, Set::One(6), Set::Between(0, 1530)),
     // A difference below 0 keeps its signed limits only.
     (AluOp::Sub, FULL, BYTE, Set::One(10), Set::Signed(-10, 245)),
-    (AluOp::Sub, LOW, BYTE, Set::One(10), WORD),
+    (
+        AluOp::Sub,
+        LOW,
+        BYTE,
+        Set::One(10),
+        Set::SignedWord(-10, 245),
+    ),
     (
         AluOp::Add,
         FULL,
@@ -319,7 +336,7 @@ const RELATIONS: [(Relation, Set, Set, Option<(Set, Set)>); 15] = [
 #[test]
 fn relations(rt: HostRuntime) -> Result<(), Fail> {
     for (relation, a, b, wanted) in RELATIONS.iter() {
-        let found = related(relation, range_of(*a), range_of(*b));
+        let found = related(relation, Width::Full64, range_of(*a), range_of(*b));
         assert_eq!(rt;
             found,
             wanted.map(|both| (range_of(both.0), range_of(both.1)))

@@ -26,6 +26,7 @@ pub fn common<D: Domain>(a: D, b: D) -> (Option<D>, bool) {
 
 /// A relation of two numbers.
 pub enum Relation {
+    Equal,
     Below,
     AtMost,
     SignedBelow,
@@ -35,15 +36,16 @@ pub enum Relation {
     Overlapping,
 }
 
-/// What it leaves of two sets.
-pub fn related<D: Domain>(relation: &Relation, a: D, b: D) -> Option<(D, D)> {
+/// What it leaves of two sets, whose members the width reads.
+pub fn related<D: Domain>(relation: &Relation, width: Width, a: D, b: D) -> Option<(D, D)> {
     match relation {
-        Relation::Below => a.below(b),
-        Relation::AtMost => a.at_most(b),
-        Relation::SignedBelow => a.signed_below(b),
-        Relation::SignedAtMost => a.signed_at_most(b),
-        Relation::Apart => a.apart(b),
-        Relation::Disjoint => a.disjoint(b),
-        Relation::Overlapping => a.overlapping(b),
+        Relation::Equal => a.equal(width, b),
+        Relation::Below => a.below(width, b),
+        Relation::AtMost => a.at_most(width, b),
+        Relation::SignedBelow => a.signed_below(width, b),
+        Relation::SignedAtMost => a.signed_at_most(width, b),
+        Relation::Apart => a.apart(width, b),
+        Relation::Disjoint => a.disjoint(width, b),
+        Relation::Overlapping => a.overlapping(width, b),
     }
 }

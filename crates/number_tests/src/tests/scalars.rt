@@ -11,11 +11,11 @@ const FULL: Width = Width::Full64;
 const LOW: Width = Width::Low32;
 
 fn is(scalar: Scalar, least: u64, greatest: u64) -> bool {
-    scalar.range.least == least && scalar.range.greatest == greatest
+    scalar.range.wide.least == least && scalar.range.wide.greatest == greatest
 }
 
 fn is_signed(scalar: Scalar, least: i64, greatest: i64) -> bool {
-    scalar.range.signed_least == least && scalar.range.signed_greatest == greatest
+    scalar.range.wide.signed_least == least && scalar.range.wide.signed_greatest == greatest
 }
 
 fn byte() -> Scalar {
@@ -33,7 +33,7 @@ fn sums_and_products(rt: HostRuntime) -> Result<(), Fail> {
     assert!(rt; is(length, 0, 60) && length.bits.mask == 60);
     assert!(rt; is(with(AluOp::Add, length, 14), 14, 74));
     let product = with(AluOp::Mul, byte(), 6);
-    assert!(rt; product.range.greatest <= 1530);
+    assert!(rt; product.range.wide.greatest <= 1530);
     assert!(rt; (product.bits.mask | product.bits.value) & 1 == 0);
     assert!(rt; is_signed(with(AluOp::Sub, byte(), 10), -10, 245));
     assert!(rt; is_signed(Scalar::negate(FULL, byte()), -255, 0));
@@ -102,7 +102,7 @@ fn jumps(rt: HostRuntime) -> Result<(), Fail> {
 // What the comparison of a byte with 10 leaves of the byte, by its limits.
 fn left_of_ten(comparison: Comparison, taken: bool) -> Option<(u64, u64)> {
     let left = refined(comparison, FULL, taken, byte(), 10)?;
-    Some((left.range.least, left.range.greatest))
+    Some((left.range.wide.least, left.range.wide.greatest))
 }
 
 #[test]

@@ -1,33 +1,33 @@
-use Rattle.reg_state.specs.Relations.{goes_low}
+use Rattle.isa_model.specs.declared.sizes.Width.TheVariants.{Low32}
+use Rattle.reg_state.specs.Relations.{goes}
 use Rattle.reg_state.proofs.comparisons.related_low.Goals as goal
-
-pub returns-in_err-low_left-clause-common : goal.returns-in_err-low_left-clause-common
-returns-in_err-low_left-clause-common g c = λ x y hx hy e.
-    let lx = c.low_halves-low_a.ensures x hx in
-    let ly = c.low_halves-low_b.ensures y hy in
-    absurd (c.in_err-low_left.ensures.common _ _ lx ly
-    (goes_low c.args.comparison c.args.taken x y (g.met.D.Domain.bounded _ _ lx) (g.met.D.Domain.bounded _ _ ly) e))
 
 pub returns-in_err-left-clause-common : goal.returns-in_err-left-clause-common
 returns-in_err-left-clause-common g c = λ x y hx hy e.
-    let lx = c.low_halves-low_a.ensures x hx in
-    let ly = c.low_halves-low_b.ensures y hy in
-    let low = c.in_ok-low_left.ensures.common _ _ lx ly
-    (goes_low c.args.comparison c.args.taken x y (g.met.D.Domain.bounded _ _ lx) (g.met.D.Domain.bounded _ _ ly) e) in
-    absurd (c.in_err-left.ensures.common x hx low.0)
+    absurd (c.in_err-left.ensures.common x y hx hy (goes c.args.comparison Low32 c.args.taken x y e))
 
-pub returns-in_err-right-clause-common : goal.returns-in_err-right-clause-common
-returns-in_err-right-clause-common g c = λ x y hx hy e.
-    let lx = c.low_halves-low_a.ensures x hx in
-    let ly = c.low_halves-low_b.ensures y hy in
-    let low = c.in_ok-low_left.ensures.common _ _ lx ly
-    (goes_low c.args.comparison c.args.taken x y (g.met.D.Domain.bounded _ _ lx) (g.met.D.Domain.bounded _ _ ly) e) in
-    absurd (c.in_err-right.ensures.common y hy low.1)
+pub returns-then-not-reads_whole-clause-common : goal.returns-then-not-reads_whole-clause-common
+returns-then-not-reads_whole-clause-common g c = λ x y hx hy e.
+    c.in_ok-left.ensures.common x y hx hy (goes c.args.comparison Low32 c.args.taken x y e)
+
+pub returns-in_err-whole_left-clause-common : goal.returns-in_err-whole_left-clause-common
+returns-in_err-whole_left-clause-common g c = λ x y hx hy e.
+    absurd (c.in_err-whole_left.ensures.common x y hx hy (c.reads_whole.ensures.sound c.if-not-reads_whole.false x y hx hy c.args.taken e))
+
+pub returns-in_err-first-clause-common : goal.returns-in_err-first-clause-common
+returns-in_err-first-clause-common g c = λ x y hx hy e.
+    let half = c.in_ok-left.ensures.common x y hx hy (goes c.args.comparison Low32 c.args.taken x y e) in
+    let whole = c.in_ok-whole_left.ensures.common x y hx hy (c.reads_whole.ensures.sound c.if-not-reads_whole.false x y hx hy c.args.taken e) in
+    absurd (c.in_err-first.ensures.common x half.0 whole.0)
+
+pub returns-in_err-second-clause-common : goal.returns-in_err-second-clause-common
+returns-in_err-second-clause-common g c = λ x y hx hy e.
+    let half = c.in_ok-left.ensures.common x y hx hy (goes c.args.comparison Low32 c.args.taken x y e) in
+    let whole = c.in_ok-whole_left.ensures.common x y hx hy (c.reads_whole.ensures.sound c.if-not-reads_whole.false x y hx hy c.args.taken e) in
+    absurd (c.in_err-second.ensures.common y half.1 whole.1)
 
 pub returns-clause-common : goal.returns-clause-common
 returns-clause-common g c = λ x y hx hy e.
-    let lx = c.low_halves-low_a.ensures x hx in
-    let ly = c.low_halves-low_b.ensures y hy in
-    let low = c.in_ok-low_left.ensures.common _ _ lx ly
-    (goes_low c.args.comparison c.args.taken x y (g.met.D.Domain.bounded _ _ lx) (g.met.D.Domain.bounded _ _ ly) e) in
-    (c.in_ok-left.ensures.common x hx low.0, c.in_ok-right.ensures.common y hy low.1)
+    let half = c.in_ok-left.ensures.common x y hx hy (goes c.args.comparison Low32 c.args.taken x y e) in
+    let whole = c.in_ok-whole_left.ensures.common x y hx hy (c.reads_whole.ensures.sound c.if-not-reads_whole.false x y hx hy c.args.taken e) in
+    (c.in_ok-first.ensures.common x half.0 whole.0, c.in_ok-second.ensures.common y half.1 whole.1)

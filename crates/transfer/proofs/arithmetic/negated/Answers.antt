@@ -7,5 +7,6 @@ returns-in-Number c =
       exact = c.negate.ensures.exact;
       fits = c.negate.ensures.fits;
       signed = c.negate.ensures.signed;
+      low_signed = c.negate.ensures.low_signed;
       sharp = c.negate.ensures.sharp;
     }

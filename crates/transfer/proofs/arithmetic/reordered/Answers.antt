@@ -7,5 +7,6 @@ returns-in-Number c =
       exact = c.reorder.ensures.exact;
       fits = c.reorder.ensures.fits;
       limits = c.reorder.ensures.limits;
+      low_limits = c.reorder.ensures.low_limits;
       bits = c.reorder.ensures.bits;
     }

@@ -13,7 +13,7 @@ returns c =
     let limits = range.limits in
     record {
       members = λ x. (
-        λ h. let to = h.1.to in omega arith,
+        λ h. let to = h.1.0.to in omega arith,
         λ below. (bits.contains x (omega arith) (omega arith), (range.members x).1 (omega arith, omega arith)),
       );
       unknown = λ i one. of_size_unknown size most i is (bits.sharp i one);

@@ -16,7 +16,7 @@ returns-in-Some c =
 
 pub returns-in-None : goal.returns-in-None
 returns-in-None c =
-    let least : FitsSigned w64 c.args.by.range.signed_least = search rules in
-    let greatest : FitsSigned w64 c.args.by.range.signed_greatest = search rules in
+    let least : FitsSigned w64 c.args.by.range.wide.signed_least = search rules in
+    let greatest : FitsSigned w64 c.args.by.range.wide.signed_greatest = search rules in
     let moves = simp to_z-of_z at c.moved_between.ensures in
     inr (record { several = λ n is. absurd (cc ((c.in-None.ensures.value n).1 is)); moves = moves })

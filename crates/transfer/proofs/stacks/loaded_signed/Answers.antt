@@ -16,6 +16,8 @@ returns-in-Some c = (
     fits = c.sign_extend.ensures.fits;
     small = c.sign_extend.ensures.small;
     kept = c.sign_extend.ensures.kept;
+    low_signed = c.sign_extend.ensures.low_signed;
+    low_kept = c.sign_extend.ensures.low_kept;
     sharp = c.sign_extend.ensures.sharp;
   },
 )

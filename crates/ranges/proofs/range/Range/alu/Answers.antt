@@ -1,100 +1,36 @@
-use Rattle.std.proofs.Common.{arith, ◌≡◌, ◌<◌, ◌^◌, ◌∙◌, ap, w64}
-use Rattle.std.specs.Int.{cast_signed}
+use Rattle.std.proofs.Common.{ℕ, ℤ, ◌≡◌, ◌≤◌, ◌<◌, ◌*◌, ◌%◌, ◌^◌, ap, refl, sym, subst, ◌∙◌, arith, w64}
+use Rattle.std.specs.Prelude.{◌≤ℤ◌}
+use Rattle.std.specs.Int.{w32, cast_signed}
+use Rattle.std.proofs.Math.Nat.{mod-eq_of_lt}
 use Rattle.std.proofs.lemmas.Int.{ints}
-use Rattle.isa_model.specs.declared.sizes.Width.TheVariants.{Full64}
-use Rattle.isa_model.specs.Code.Numbers.{alu}
-use Rattle.isa_model.specs.Code.NumberLemmas.{alu_below, low_below, low_same}
+use Rattle.isa_model.specs.declared.sizes.Width.TheVariants.{Low32, Full64}
+use Rattle.isa_model.specs.declared.instructions.AluOp.TheVariants.{Lsh}
 use Rattle.isa_model.specs.Code.Sizes.{width_bits}
-use Rattle.ranges.proofs.Limits.{keeps_constant, keeps_signed_constant}
+use Rattle.isa_model.specs.Code.Numbers.{alu, result_of, shift}
+use Rattle.isa_model.specs.Code.NumberLemmas.{alu_below, low_same}
+use Rattle.ranges.specs.Wides as W
+use Rattle.ranges.specs.Lows as L
+use Rattle.ranges.specs.Ranges.{Has}
+use Rattle.ranges.proofs.Limits.{shl_mono}
+use Rattle.ranges.specs.KeepsMaps.{keeps_map, keeps_signed_map}
+use Rattle.ranges.proofs.KeepsLaws.{keeps_member, keeps_signed_member}
+use Rattle.ranges.proofs.LowResults.{low_result_of}
+use Rattle.ranges.proofs.Raised.{shifted_raised, raised_signed, times_mono}
 use Rattle.ranges.proofs.range.Range.alu.Goals as goal
-use Rattle.ranges.proofs.range.Range.alu.Goals.{else-a-via-then-a+else-b, else-a-via-else-a}
 
-pub returns-in-Add-clause-contains : goal.returns-in-Add-clause-contains
-unfolding alu
-returns-in-Add-clause-contains c = λ x y hx hy. rw c.in-Add.is (c.add_at.ensures.contains _ _ (c.truncate-x.ensures.contains x hx) (c.truncate-y.ensures.contains y hy))
+-- ---- constants
 
-pub returns-in-Sub-clause-contains : goal.returns-in-Sub-clause-contains
-unfolding alu
-returns-in-Sub-clause-contains c = λ x y hx hy. rw c.in-Sub.is (c.sub_at.ensures.contains _ _ (let b = low_below c.args.width y in omega arith) (c.truncate-x.ensures.contains x hx) (c.truncate-y.ensures.contains y hy))
-
-pub returns-in-Mul-clause-contains : goal.returns-in-Mul-clause-contains
-unfolding alu
-returns-in-Mul-clause-contains c = λ x y hx hy. rw c.in-Mul.is (c.mul_at.ensures.contains _ _ (c.truncate-x.ensures.contains x hx) (c.truncate-y.ensures.contains y hy))
-
-pub returns-in-Div-clause-contains : goal.returns-in-Div-clause-contains
-unfolding alu
-returns-in-Div-clause-contains c = λ x y hx hy. rw c.in-Div.is (c.divide.ensures.contains _ _ (c.truncate-x.ensures.contains x hx) (c.truncate-y.ensures.contains y hy))
-
-pub returns-in-Mod-clause-contains : goal.returns-in-Mod-clause-contains
-unfolding alu
-returns-in-Mod-clause-contains c = λ x y hx hy. rw c.in-Mod.is (c.remainder.ensures.contains _ _ (c.truncate-x.ensures.contains x hx) (c.truncate-y.ensures.contains y hy))
-
-pub returns-in-And-clause-contains : goal.returns-in-And-clause-contains
-unfolding alu
-returns-in-And-clause-contains c = λ x y hx hy. rw c.in-And.is (c.and.ensures.contains _ _ (c.truncate-x.ensures.contains x hx) (c.truncate-y.ensures.contains y hy))
-
-pub returns-in-Lsh-clause-contains : goal.returns-in-Lsh-clause-contains
-unfolding alu
-returns-in-Lsh-clause-contains c = λ x y hx hy. rw c.in-Lsh.is (c.shift_left_at.ensures.contains _ _ (c.truncate-x.ensures.contains x hx) (c.truncate-y.ensures.contains y hy))
-
-pub returns-in-Rsh-clause-contains : goal.returns-in-Rsh-clause-contains
-unfolding alu
-returns-in-Rsh-clause-contains c = λ x y hx hy. rw c.in-Rsh.is (c.shift_right_at.ensures.contains _ _ (c.truncate-x.ensures.contains x hx) (c.truncate-y.ensures.contains y hy))
-
-pub returns-in-Arsh-clause-contains : goal.returns-in-Arsh-clause-contains
-unfolding alu
-returns-in-Arsh-clause-contains c = λ x y hx hy. rw c.in-Arsh.is (c.shift_signed_at.ensures.contains _ _ (low_below c.args.width x) (c.truncate-x.ensures.contains x hx) (c.truncate-y.ensures.contains y hy))
-
-pub returns-in-Mov-clause-contains : goal.returns-in-Mov-clause-contains
-unfolding alu
-returns-in-Mov-clause-contains c = λ x y hx hy. rw c.in-Mov.is (c.truncate-y.ensures.contains y hy)
-
-pub returns-in-Or-clause-contains : goal.returns-in-Or-clause-contains
-returns-in-Or-clause-contains c = λ x y hx hy. (c.any.ensures.members _).1 (alu_below c.args.op c.args.width x y)
-
-pub returns-in-Or-clause-exact : goal.returns-in-Or-clause-exact
-returns-in-Or-clause-exact c = λ u v hu hv.
-    absurd (elim c.else-a.branch [ else-a-via-then-a+else-b w ↦ w.if-b.false (omega (arith, hv)) | else-a-via-else-a w ↦ w.if-a.false (omega (arith, hu)) ])
-
-pub returns-in-Add-clause-limits : goal.returns-in-Add-clause-limits
-returns-in-Add-clause-limits c = λ fa fb.
-    rw c.in-Add.is (rw (c.truncate-x.ensures.same fa, c.truncate-y.ensures.same fb) at c.add_at.ensures.limits)
-
-pub returns-in-Mul-clause-limits : goal.returns-in-Mul-clause-limits
-returns-in-Mul-clause-limits c = λ fa fb.
-    rw c.in-Mul.is (rw (c.truncate-x.ensures.same fa, c.truncate-y.ensures.same fb) at c.mul_at.ensures.limits)
-
-pub returns-in-Div-clause-limits : goal.returns-in-Div-clause-limits
-returns-in-Div-clause-limits c = λ fa fb.
-    rw c.in-Div.is (rw (c.truncate-x.ensures.same fa, c.truncate-y.ensures.same fb) at c.divide.ensures.limits)
-
-pub returns-in-Mod-clause-limits : goal.returns-in-Mod-clause-limits
-returns-in-Mod-clause-limits c = λ fa fb.
-    rw c.in-Mod.is (rw (c.truncate-x.ensures.same fa, c.truncate-y.ensures.same fb) at c.remainder.ensures.limits)
-
-pub returns-in-And-clause-limits : goal.returns-in-And-clause-limits
-returns-in-And-clause-limits c = λ fa fb.
-    rw c.in-And.is (rw (c.truncate-x.ensures.same fa, c.truncate-y.ensures.same fb) at c.and.ensures.limits)
-
-pub returns-in-Lsh-clause-limits : goal.returns-in-Lsh-clause-limits
-returns-in-Lsh-clause-limits c = λ fa fb.
-    rw c.in-Lsh.is (rw (c.truncate-x.ensures.same fa, c.truncate-y.ensures.same fb) at c.shift_left_at.ensures.limits)
-
-pub returns-in-Rsh-clause-limits : goal.returns-in-Rsh-clause-limits
-returns-in-Rsh-clause-limits c = λ fa fb.
-    rw c.in-Rsh.is (rw (c.truncate-x.ensures.same fa, c.truncate-y.ensures.same fb) at c.shift_right_at.ensures.limits)
-
-pub returns-in-Sub-clause-limits : goal.returns-in-Sub-clause-limits
-returns-in-Sub-clause-limits c = λ fa fb.
-    rw c.in-Sub.is (rw (c.truncate-x.ensures.same fa, c.truncate-y.ensures.same fb) at (c.sub_at.ensures.limits c.truncate-x.ensures.fits))
-
-pub returns-in-Mov-clause-limits : goal.returns-in-Mov-clause-limits
-returns-in-Mov-clause-limits c = λ fa fb. rw (c.in-Mov.is, c.truncate-y.ensures.same fb) (omega arith, omega arith)
+pub returns-then-b-clause-contains : goal.returns-then-b-clause-contains
+returns-then-b-clause-contains c = λ x y hx hy.
+    let one : x ≡ c.args.a.wide.least = let from = hx.0.from in let to = hx.0.to in omega arith in
+    let other : y ≡ c.args.b.wide.least = let from = hy.0.from in let to = hy.0.to in omega arith in
+    let is : c.compute.result ≡ alu c.args.op c.args.width x y = rw (one, other) c.compute.ensures in
+    subst (Has c.constant.result) is c.constant.ensures.contains
 
 pub returns-then-b-clause-fits : goal.returns-then-b-clause-fits
 returns-then-b-clause-fits c =
-    let b = alu_below c.args.op c.args.width c.args.a.least c.args.b.least in
-    let same = c.constant.ensures.constant.1 in
+    let b = alu_below c.args.op c.args.width c.args.a.wide.least c.args.b.wide.least in
+    let same = c.constant.ensures.constant.0.1 in
     let is = c.compute.ensures in
     omega arith
 
@@ -102,39 +38,142 @@ pub returns-then-b-clause-limits : goal.returns-then-b-clause-limits
 unfolding alu
 returns-then-b-clause-limits c = λ fa fb.
     let w = c.args.width in
-    let a_in : c.args.a.least < 2 ^ width_bits w = omega arith in
-    let b_in : c.args.b.least < 2 ^ width_bits w = omega arith in
-    let is = rw (low_same w c.args.a.least a_in, low_same w c.args.b.least b_in) at c.compute.ensures in
-    keeps_constant c.args.op w c.args.a c.args.b c.constant.result (omega arith) (omega arith) a_in b_in
-    (c.constant.ensures.constant.0 ∙ is) (c.constant.ensures.constant.1 ∙ is)
-
-pub returns-in-Sub-clause-exact : goal.returns-in-Sub-clause-exact
-returns-in-Sub-clause-exact c = λ u v hu hv.
-    absurd (elim c.else-a.branch [ else-a-via-then-a+else-b w ↦ w.if-b.false (omega (arith, hv)) | else-a-via-else-a w ↦ w.if-a.false (omega (arith, hu)) ])
-
-pub returns-in-Rsh-clause-exact : goal.returns-in-Rsh-clause-exact
-returns-in-Rsh-clause-exact c = λ u v hu hv.
-    absurd (elim c.else-a.branch [ else-a-via-then-a+else-b w ↦ w.if-b.false (omega (arith, hv)) | else-a-via-else-a w ↦ w.if-a.false (omega (arith, hu)) ])
+    let a = c.args.a.wide in
+    let b = c.args.b.wide in
+    let a_in : a.least < 2 ^ width_bits w = omega arith in
+    let b_in : b.least < 2 ^ width_bits w = omega arith in
+    let is = rw (low_same w a.least a_in, low_same w b.least b_in) at c.compute.ensures in
+    let k = c.constant.ensures.constant.0 in
+    keeps_map c.args.op w a.least a.greatest b.least b.greatest
+    (λ (l : ℕ) (g : ℕ). (l ≤ result_of c.args.op w a.least b.least) × (result_of c.args.op w a.least b.least ≤ g))
+    (W.IsBetween c.constant.result.wide)
+    (λ l g h. (omega (arith, h.0, is, k.0), omega (arith, h.1, is, k.1)))
+    (keeps_member c.args.op w a.least a.greatest b.least b.greatest a.least b.least (omega arith) (omega arith) (omega arith) (omega arith) a_in b_in)
 
 pub returns-then-b-clause-signed : goal.returns-then-b-clause-signed
 unfolding alu
 returns-then-b-clause-signed c = λ x y hx hy full.
-    let a = c.args.a in
-    let b = c.args.b in
-    let one : x ≡ a.least = omega arith in
-    let other : y ≡ b.least = omega arith in
+    let a = c.args.a.wide in
+    let b = c.args.b.wide in
+    let one : x ≡ a.least = let from = hx.0.from in let to = hx.0.to in omega arith in
+    let other : y ≡ b.least = let from = hy.0.from in let to = hy.0.to in omega arith in
     let is = rw (full, low_same Full64 a.least (omega arith), low_same Full64 b.least (omega arith)) at c.compute.ensures in
-    keeps_signed_constant c.args.op a b c.constant.result a.least b.least (rw one at hx) (rw other at hy) (omega arith)
-    (c.constant.ensures.constant.2 ∙ ap (cast_signed w64) is) (c.constant.ensures.constant.3 ∙ ap (cast_signed w64) is)
+    let k = c.constant.ensures.constant.0 in
+    let ha = rw one at hx.0 in
+    let hb = rw other at hy.0 in
+    keeps_signed_map c.args.op Full64 a.signed_least a.signed_greatest b.signed_least b.signed_greatest b.least b.greatest
+    (λ (l : ℤ) (g : ℤ). (l ≤ℤ cast_signed w64 (result_of c.args.op Full64 a.least b.least)) × (cast_signed w64 (result_of c.args.op Full64 a.least b.least) ≤ℤ g))
+    (W.IsSignedBetween c.constant.result.wide)
+    (λ l g h. rw (k.2 ∙ ap (cast_signed w64) is, k.3 ∙ ap (cast_signed w64) is) h)
+    (keeps_signed_member c.args.op Full64 a.signed_least a.signed_greatest b.signed_least b.signed_greatest b.least b.greatest a.least b.least
+    ha.below hb.below ha.signed_from ha.signed_to hb.signed_from hb.signed_to (omega arith) (omega arith))
 
-pub returns-in-Sub-clause-signed : goal.returns-in-Sub-clause-signed
-returns-in-Sub-clause-signed c = λ x y hx hy full.
-    let fa : c.args.a.greatest < 2 ^ width_bits c.args.width = rw full (omega arith) in
-    let fb : c.args.b.greatest < 2 ^ width_bits c.args.width = rw full (omega arith) in
-    rw c.in-Sub.is (rw (c.truncate-x.ensures.same fa, c.truncate-y.ensures.same fb)
-    at (c.sub_at.ensures.signed _ _ (c.truncate-x.ensures.contains x hx) (c.truncate-y.ensures.contains y hy) full))
+pub returns-then-b-clause-low_limits : goal.returns-then-b-clause-low_limits
+returns-then-b-clause-low_limits c = λ x y hx hy reads.
+    let a = c.args.a.low in
+    let b = c.args.b.low in
+    let one : x ≡ c.args.a.wide.least = let from = hx.0.from in let to = hx.0.to in omega arith in
+    let other : y ≡ c.args.b.wide.least = let from = hy.0.from in let to = hy.0.to in omega arith in
+    let is : c.compute.result ≡ alu c.args.op c.args.width x y = rw (one, other) c.compute.ensures in
+    let v = ap (λ n. n % 2 ^ 32) is ∙ low_result_of c.args.op c.args.width x y c.args.b.wide hx.0.below hy.0 reads in
+    let k = c.constant.ensures.constant.1 in
+    keeps_map c.args.op Low32 a.least a.greatest b.least b.greatest
+    (λ (l : ℕ) (g : ℕ). (l ≤ result_of c.args.op Low32 (x % 2 ^ 32) (y % 2 ^ 32)) × (result_of c.args.op Low32 (x % 2 ^ 32) (y % 2 ^ 32) ≤ g))
+    (L.IsBetween c.constant.result.low)
+    (λ l g h. rw (k.0 ∙ v, k.1 ∙ v) h)
+    (keeps_member c.args.op Low32 a.least a.greatest b.least b.greatest (x % 2 ^ 32) (y % 2 ^ 32) hx.1.from hx.1.to hy.1.from hy.1.to hx.1.below hy.1.below)
 
-pub returns-in-Mov-clause-signed : goal.returns-in-Mov-clause-signed
-returns-in-Mov-clause-signed c = λ x y hx hy full.
-    let fb : c.args.b.greatest < 2 ^ width_bits c.args.width = rw full (omega arith) in
-    rw (c.in-Mov.is, c.truncate-y.ensures.same fb) (omega (arith, ints), omega (arith, ints))
+pub returns-then-b-clause-low_signed : goal.returns-then-b-clause-low_signed
+returns-then-b-clause-low_signed c = λ x y hx hy reads.
+    let a = c.args.a.low in
+    let b = c.args.b.low in
+    let one : x ≡ c.args.a.wide.least = let from = hx.0.from in let to = hx.0.to in omega arith in
+    let other : y ≡ c.args.b.wide.least = let from = hy.0.from in let to = hy.0.to in omega arith in
+    let is : c.compute.result ≡ alu c.args.op c.args.width x y = rw (one, other) c.compute.ensures in
+    let v = ap (λ n. n % 2 ^ 32) is ∙ low_result_of c.args.op c.args.width x y c.args.b.wide hx.0.below hy.0 reads in
+    let k = c.constant.ensures.constant.1 in
+    keeps_signed_map c.args.op Low32 a.signed_least a.signed_greatest b.signed_least b.signed_greatest b.least b.greatest
+    (λ (l : ℤ) (g : ℤ). (l ≤ℤ cast_signed w32 (result_of c.args.op Low32 (x % 2 ^ 32) (y % 2 ^ 32))) × (cast_signed w32 (result_of c.args.op Low32 (x % 2 ^ 32) (y % 2 ^ 32)) ≤ℤ g))
+    (L.IsSignedBetween c.constant.result.low)
+    (λ l g h. rw (k.2 ∙ ap (cast_signed w32) v, k.3 ∙ ap (cast_signed w32) v) h)
+    (keeps_signed_member c.args.op Low32 a.signed_least a.signed_greatest b.signed_least b.signed_greatest b.least b.greatest (x % 2 ^ 32) (y % 2 ^ 32)
+    hx.1.below hy.1.below hx.1.signed_from hx.1.signed_to hy.1.signed_from hy.1.signed_to hy.1.from hy.1.to)
+
+pub returns-then-b-clause-raised : goal.returns-then-b-clause-raised
+returns-then-b-clause-raised c = λ x y hx hy op full one far fits.
+    let low = c.args.a.low in
+    let first : x ≡ c.args.a.wide.least = let from = hx.0.from in let to = hx.0.to in omega arith in
+    let other : y ≡ c.args.b.wide.least = let from = hy.0.from in let to = hy.0.to in omega arith in
+    let n = shift Full64 c.args.b.wide.least in
+    let far64 : 32 ≤ n = rw full at far in
+    let fits64 : low.greatest * 2 ^ n < 2 ^ 64 = rw full at fits in
+    let is : c.compute.result ≡ alu Lsh Full64 x y = rw (first, other, sym op, sym full) c.compute.ensures in
+    let value = is ∙ shifted_raised x y n hx.0.below hy.0.below (ap (shift Full64) (sym other)) far64 in
+    let p = shl_mono low.least (x % 2 ^ 32) n hx.1.from in
+    let q = shl_mono (x % 2 ^ 32) low.greatest n hx.1.to in
+    let m = mod-eq_of_lt {n = x % 2 ^ 32 * 2 ^ n} {m = 2 ^ 64} (omega (arith, q, fits64)) in
+    let k = c.constant.ensures.constant.0 in
+    rw full (omega (arith, k.0, value, m, p), omega (arith, k.1, value, m, q))
+
+pub returns-then-b-clause-raised_signed : goal.returns-then-b-clause-raised_signed
+returns-then-b-clause-raised_signed c = λ x y hx hy op full one is32.
+    let low = c.args.a.low in
+    let first : x ≡ c.args.a.wide.least = let from = hx.0.from in let to = hx.0.to in omega arith in
+    let other : y ≡ c.args.b.wide.least = let from = hy.0.from in let to = hy.0.to in omega arith in
+    let is : c.compute.result ≡ alu Lsh Full64 x y = rw (first, other, sym op, sym full) c.compute.ensures in
+    let n : 32 ≡ shift Full64 y = rw other (sym (rw full at is32)) in
+    let value = is ∙ shifted_raised x y 32 hx.0.below hy.0.below n (omega arith) in
+    let z = ap (cast_signed w64) value ∙ raised_signed (x % 2 ^ 32) hx.1.below in
+    let k = c.constant.ensures.constant.0 in
+    rw (k.2 ∙ z, k.3 ∙ z) (
+      times_mono low.signed_least (cast_signed w32 (x % 2 ^ 32)) hx.1.signed_from,
+      times_mono (cast_signed w32 (x % 2 ^ 32)) low.signed_greatest hx.1.signed_to,
+    )
+
+-- ---- other numbers
+
+pub returns-clause-contains : goal.returns-clause-contains
+returns-clause-contains c = λ x y hx hy.
+    c.settled.ensures.contains _ (c.wide_alu-wide.ensures.contains x y hx hy, c.low_alu-low.ensures.contains x y hx hy)
+
+pub returns-clause-limits : goal.returns-clause-limits
+returns-clause-limits c = λ fa fb.
+    let a = c.args.a.wide in
+    let b = c.args.b.wide in
+    let e = c.settled.ensures.enclosed.0 in
+    keeps_map c.args.op c.args.width a.least a.greatest b.least b.greatest
+    (W.IsBetween c.wide_alu-wide.result) (W.IsBetween c.settled.result.wide)
+    (λ l g h. (omega (arith, h.0, e.0), omega (arith, h.1, e.1))) (c.wide_alu-wide.ensures.limits fa fb)
+
+pub returns-clause-signed : goal.returns-clause-signed
+returns-clause-signed c = λ x y hx hy full.
+    let a = c.args.a.wide in
+    let b = c.args.b.wide in
+    let e = c.settled.ensures.enclosed.0 in
+    keeps_signed_map c.args.op Full64 a.signed_least a.signed_greatest b.signed_least b.signed_greatest b.least b.greatest
+    (W.IsSignedBetween c.wide_alu-wide.result) (W.IsSignedBetween c.settled.result.wide)
+    (λ l g h. (omega (arith, ints, h.0, e.2), omega (arith, ints, h.1, e.3))) (c.wide_alu-wide.ensures.signed x y hx hy full)
+
+pub returns-clause-low_limits : goal.returns-clause-low_limits
+returns-clause-low_limits c = λ x y hx hy reads.
+    let a = c.args.a.low in
+    let b = c.args.b.low in
+    let e = c.settled.ensures.enclosed.1 in
+    keeps_map c.args.op Low32 a.least a.greatest b.least b.greatest
+    (L.IsBetween c.low_alu-low.result) (L.IsBetween c.settled.result.low)
+    (λ l g h. (omega (arith, h.0, e.0), omega (arith, h.1, e.1))) (c.low_alu-low.ensures.limits x y hx hy reads)
+
+pub returns-clause-low_signed : goal.returns-clause-low_signed
+returns-clause-low_signed c = λ x y hx hy reads.
+    let a = c.args.a.low in
+    let b = c.args.b.low in
+    let e = c.settled.ensures.enclosed.1 in
+    keeps_signed_map c.args.op Low32 a.signed_least a.signed_greatest b.signed_least b.signed_greatest b.least b.greatest
+    (L.IsSignedBetween c.low_alu-low.result) (L.IsSignedBetween c.settled.result.low)
+    (λ l g h. (omega (arith, ints, h.0, e.2), omega (arith, ints, h.1, e.3))) (c.low_alu-low.ensures.signed x y hx hy reads)
+
+pub returns-clause-raised_signed : goal.returns-clause-raised_signed
+returns-clause-raised_signed c = λ x y hx hy op full one is32.
+    let e = c.settled.ensures.enclosed.0 in
+    let r = c.wide_alu-wide.ensures.raised_signed x y hx hy op full one is32 in
+    (omega (arith, ints, r.0, e.2), omega (arith, ints, r.1, e.3))

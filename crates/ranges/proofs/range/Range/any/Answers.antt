@@ -1,8 +1,7 @@
-use Rattle.std.proofs.Common.{arith}
+use Rattle.std.proofs.Common.{◌<◌, ◌%◌, ◌^◌, arith}
 use Rattle.ranges.proofs.range.Range.any.Goals as goal
 
 pub returns-clause-members : goal.returns-clause-members
 returns-clause-members c = λ x.
-    let e = c.greatest_of.ensures in
-    let b = c.between.ensures.members x in
-    (λ h. let p = b.0 h in omega (arith, p.1), λ lt. b.1 (omega arith, omega arith))
+    let half : x % 2 ^ 32 < 2 ^ 32 = omega arith in
+    (λ h. (c.any.ensures.members x).0 h.0, λ below. ((c.any.ensures.members x).1 below, (c.any-2.ensures.members (x % 2 ^ 32)).1 half))

@@ -1,11 +1,9 @@
-use Rattle.std.proofs.Common.{arith}
-use Rattle.std.proofs.lemmas.Int.{ints}
+use Rattle.std.proofs.Common.{refl}
+use Rattle.ranges.specs.EnclosesLaws.{enclosed_low}
 use Rattle.ranges.proofs.range.Range.covers.Goals as goal
 
-pub returns-then-self-other-2-clause-yes : goal.returns-then-self-other-2-clause-yes
-returns-then-self-other-2-clause-yes c = λ t x hx.
-    record { below = hx.below; from = omega arith; to = omega arith; signed_from = grind (arith, ints); signed_to = grind (arith, ints) }
-
-pub returns-then-self-other-2-clause-limits : goal.returns-then-self-other-2-clause-limits
-returns-then-self-other-2-clause-limits c =
-    (λ t. (omega arith, omega arith, grind (arith, ints), grind (arith, ints)), λ e. (let last = e.3 in grind (arith, ints)))
+pub returns-then-covers-clause-yes : goal.returns-then-covers-clause-yes
+returns-then-covers-clause-yes c = λ yes x h. (
+  (c.if-covers.ensures.yes refl x h.0),
+  enclosed_low c.args.self.low c.args.other.low _ (c.covers-then-covers.ensures.0 yes) h.1,
+)

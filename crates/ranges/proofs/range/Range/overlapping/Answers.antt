@@ -7,6 +7,6 @@ returns-clause-common c = λ x y hx hy h.
     let some : 0 < bit_and x y = omega arith in
     let l = and_le_l x y in
     let r = and_le_r x y in (
-      c.in_ok-left.ensures.common x hx ((c.between.ensures.members x).1 (omega arith, omega arith)),
-      c.in_ok-right.ensures.common y hy ((c.between-2.ensures.members y).1 (omega arith, omega arith)),
+      c.in_ok-left.ensures.common x hx (omega arith) (omega arith),
+      c.in_ok-right.ensures.common y hy (omega arith) (omega arith),
     )

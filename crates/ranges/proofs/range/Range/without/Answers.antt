@@ -13,10 +13,10 @@ returns-clause-limit c = λ is h.
       | inl plain ↦ c.in_ok-unsigned.ensures.limit plain within
       | inr limit ↦ elim limit [
         | inl least ↦
-            let same : unsigned.signed_least ≡ signed = omega (arith, ints, within.signed_from, enclosed.2) in
+            let same : unsigned.wide.signed_least ≡ signed = omega (arith, ints, within.0.signed_from, enclosed.0.2) in
             c.in_ok-left.ensures.limit (inl same) h
         | inr greatest ↦
-            let same : unsigned.signed_greatest ≡ signed = omega (arith, ints, within.signed_to, enclosed.3) in
+            let same : unsigned.wide.signed_greatest ≡ signed = omega (arith, ints, within.0.signed_to, enclosed.0.3) in
             c.in_ok-left.ensures.limit (inr same) h
       ]
     ]

@@ -1,6 +1,7 @@
 use Rattle.std.proofs.Common.{ℕ, ◌≢◌, ◌<◌, ◌^◌, sym, ap, ◌∙◌, arith}
 use Rattle.std.specs.Int.{w64, cast_signed, cast_unsigned}
 use Rattle.std.proofs.lemmas.Int.{ints, of_z-to_z}
+use Rattle.std.proofs.lemmas.Option.{IfSome_then}
 use Rattle.ranges.proofs.range.Range.without_signed.Goals as goal
 
 -- numbers that differ do so read with a sign
@@ -11,11 +12,21 @@ cast_signed-apart x n x_in n_in differs same =
 pub returns-else-signed-eq9223372036854775807-clause-common :
     goal.returns-else-signed-eq9223372036854775807-clause-common
 returns-else-signed-eq9223372036854775807-clause-common c = λ x h differs.
-    let apart = cast_signed-apart x c.args.number h.below (omega arith) differs in
-    c.meet.ensures.common x h ((c.signed_between.ensures.members x).1 (h.below, omega (arith, ints), omega (arith, ints)))
+    let apart = cast_signed-apart x c.args.number h.0.below (omega arith) differs in
+    c.signed_from_to.ensures.common x h (omega (arith, ints)) (omega (arith, ints))
 
 pub returns-else-signed-clause-common : goal.returns-else-signed-clause-common
 returns-else-signed-clause-common c = λ x h differs.
-    let apart = cast_signed-apart x c.args.number h.below (omega arith) differs in
-    c.meet-then-self-signed-2.ensures.common x h
-    ((c.signed_between-then-self-signed-2.ensures.members x).1 (h.below, omega (arith, ints), omega (arith, ints)))
+    let apart = cast_signed-apart x c.args.number h.0.below (omega arith) differs in
+    c.signed_from_to-then-self-signed-2.ensures.common x h (omega (arith, ints)) (omega (arith, ints))
+
+pub returns-else-signed-eq9223372036854775807-clause-limit :
+    goal.returns-else-signed-eq9223372036854775807-clause-limit
+returns-else-signed-eq9223372036854775807-clause-limit c =
+    IfSome_then c.signed_from_to.result c.signed_from_to.ensures.right
+    (λ r within is h. let b = within c.args.number h in omega (arith, ints, b.0))
+
+pub returns-else-signed-clause-limit : goal.returns-else-signed-clause-limit
+returns-else-signed-clause-limit c =
+    IfSome_then c.signed_from_to-then-self-signed-2.result c.signed_from_to-then-self-signed-2.ensures.right
+    (λ r within is h. let b = within c.args.number h in omega (arith, ints, b.1))

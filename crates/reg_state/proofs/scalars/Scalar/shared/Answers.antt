@@ -5,7 +5,7 @@ use Rattle.reg_state.proofs.scalars.Scalar.shared.Goals as goal
 
 pub returns-in_err-unsigned-clause-common : goal.returns-in_err-unsigned-clause-common
 returns-in_err-unsigned-clause-common c = λ x h.
-    let b = c.in_ok-bits.ensures.common x h.0 (c.between.ensures.contains x h.1.from h.1.to) in
+    let b = c.in_ok-bits.ensures.common x h.0 (c.between.ensures.contains x h.1.0.from h.1.0.to) in
     absurd (c.in_err-unsigned.ensures.common x h.1 ((c.between-2.ensures.members x).1 (c.least.ensures.bound x b, c.greatest.ensures.bound x b)))
 
 pub signed_between-requires : goal.signed_between-requires
@@ -16,7 +16,7 @@ signed_between-requires c =
 
 pub returns-in_err-range-clause-common : goal.returns-in_err-range-clause-common
 returns-in_err-range-clause-common c = λ x h.
-    let b = c.in_ok-bits.ensures.common x h.0 (c.between.ensures.contains x h.1.from h.1.to) in
+    let b = c.in_ok-bits.ensures.common x h.0 (c.between.ensures.contains x h.1.0.from h.1.0.to) in
     let u = c.in_ok-unsigned.ensures.common x h.1 ((c.between-2.ensures.members x).1 (c.least.ensures.bound x b, c.greatest.ensures.bound x b)) in
     let from = c.signed_least.ensures.bound x b in
     let to = c.signed_greatest.ensures.bound x b in
@@ -24,7 +24,7 @@ returns-in_err-range-clause-common c = λ x h.
 
 pub returns-in-Some-clause-common : goal.returns-in-Some-clause-common
 returns-in-Some-clause-common c = λ x h.
-    let b = c.in_ok-bits.ensures.common x h.0 (c.between.ensures.contains x h.1.from h.1.to) in
+    let b = c.in_ok-bits.ensures.common x h.0 (c.between.ensures.contains x h.1.0.from h.1.0.to) in
     let u = c.in_ok-unsigned.ensures.common x h.1 ((c.between-2.ensures.members x).1 (c.least.ensures.bound x b, c.greatest.ensures.bound x b)) in
     let from = c.signed_least.ensures.bound x b in
     let to = c.signed_greatest.ensures.bound x b in
@@ -38,7 +38,7 @@ returns-in-Some-clause-narrower c =
 
 pub returns-in-None-clause-common : goal.returns-in-None-clause-common
 returns-in-None-clause-common c = λ x h.
-    let b = c.in_ok-bits.ensures.common x h.0 (c.between.ensures.contains x h.1.from h.1.to) in
+    let b = c.in_ok-bits.ensures.common x h.0 (c.between.ensures.contains x h.1.0.from h.1.0.to) in
     let u = c.in_ok-unsigned.ensures.common x h.1 ((c.between-2.ensures.members x).1 (c.least.ensures.bound x b, c.greatest.ensures.bound x b)) in
     let from = c.signed_least.ensures.bound x b in
     let to = c.signed_greatest.ensures.bound x b in

@@ -1,7 +1,4 @@
-use Rattle.std.proofs.Common.{ℕ, subst}
 use Rattle.std.proofs.lemmas.Option.{IfSome_then}
-use Rattle.ranges.specs.Ranges as R
-use Rattle.reg_state.specs.Constants.{range_limits-IsLimit}
 use Rattle.reg_state.proofs.scalars.ScalarDomain.apart.Goals as goal
 
 pub returns-clause-common : goal.returns-clause-common
@@ -12,14 +9,8 @@ returns-clause-common c = λ x y hx hy h.
 
 pub returns-clause-left_limit : goal.returns-clause-left_limit
 returns-clause-left_limit c =
-    IfSome_then c.joined.result c.joined.ensures.left
-    (λ p within x h n one limit same.
-    c.in_ok-ranges.ensures.left_limit n (one.1.0, one.1.1) (range_limits-IsLimit c.args.self.range n limit)
-    (subst (λ (m : ℕ). R.Has c.in_ok-ranges.ranges.0 m) same (within x h).1))
+    IfSome_then c.joined.result c.joined.ensures.left (λ p within x h. c.in_ok-ranges.ensures.left_limit x (within x h).1)
 
 pub returns-clause-right_limit : goal.returns-clause-right_limit
 returns-clause-right_limit c =
-    IfSome_then c.joined.result c.joined.ensures.right
-    (λ p within y h n one limit same.
-    c.in_ok-ranges.ensures.right_limit n (one.1.0, one.1.1) (range_limits-IsLimit c.args.other.range n limit)
-    (subst (λ (m : ℕ). R.Has c.in_ok-ranges.ranges.1 m) same (within y h).1))
+    IfSome_then c.joined.result c.joined.ensures.right (λ p within y h. c.in_ok-ranges.ensures.right_limit y (within y h).1)

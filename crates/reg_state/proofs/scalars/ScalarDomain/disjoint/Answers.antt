@@ -18,7 +18,7 @@ returns-clause-right c =
     (λ p within y h. let w = within y h in (c.in_ok-bits.ensures.right y w.0, c.in_ok-ranges.ensures.right y w.1))
 
 pub returns-clause-left_only : goal.returns-clause-left_only
-returns-clause-left_only c = IfSome_then c.joined.result c.joined.ensures.left (λ p within x h. c.in_ok-bits.ensures.left_only x (within x h).0)
+returns-clause-left_only c = λ full. IfSome_then c.joined.result c.joined.ensures.left (λ p within x h. c.in_ok-bits.ensures.left_only full x (within x h).0)
 
 pub returns-clause-right_only : goal.returns-clause-right_only
-returns-clause-right_only c = IfSome_then c.joined.result c.joined.ensures.right (λ p within y h. c.in_ok-bits.ensures.right_only y (within y h).0)
+returns-clause-right_only c = λ full. IfSome_then c.joined.result c.joined.ensures.right (λ p within y h. c.in_ok-bits.ensures.right_only full y (within y h).0)

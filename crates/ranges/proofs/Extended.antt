@@ -1,0 +1,89 @@
+-- Low halves of sign extensions.
+use Rattle.std.proofs.Common.{◌≡◌, ℕ, ℤ, pos, negsuc, ◌%◌, ◌^◌, ◌<◌, inl, inr, refl, arith}
+use Rattle.std.specs.Prelude.{◌≤ℤ◌, FitsSigned}
+use Rattle.std.specs.Int.{w32, cast_signed}
+use Rattle.std.proofs.lemmas.Int.{ints}
+use Rattle.isa_model.specs.declared.sizes.Extension.{Extension}
+use Rattle.isa_model.specs.declared.sizes.Extension.TheVariants.{Low8, Low16, Full8, Full16, Full32}
+use Rattle.isa_model.specs.Code.Numbers.{sign_extended}
+use Rattle.isa_model.specs.Code.ExtensionLemmas.{extension_bits, sign_extended_cases}
+use Rattle.std.proofs.Math.Facts.{sfits_to_z}
+use Rattle.ranges.specs.Keeps.{extension_signed}
+use Rattle.ranges.proofs.Limits.{fits_8, fits_16}
+use Rattle.ranges.proofs.LowLaws.{low_signed_equation}
+
+-- the extension changes no low half that is a signed number of what is read
+pub extended_half : (e : Extension) (x : ℕ) (l g : ℤ) → FitsSigned (extension_signed e) l → FitsSigned (extension_signed e) g
+    → l ≤ℤ cast_signed w32 (x % 2 ^ 32) → cast_signed w32 (x % 2 ^ 32) ≤ℤ g → sign_extended e x % 2 ^ 32 ≡ x % 2 ^ 32
+extended_half Low8 x l g fl fg from to =
+    let q = low_signed_equation (x % 2 ^ 32) (omega arith) in
+    elim (sign_extended_cases Low8 x (2 ^ 7) refl) [
+      | inl p ↦ omega (arith, ints, p.0, p.1, fl.sfits, fg.sfits)
+      | inr p ↦ omega (arith, ints, p.0, p.1, fl.sfits, fg.sfits)
+    ]
+extended_half Low16 x l g fl fg from to =
+    let q = low_signed_equation (x % 2 ^ 32) (omega arith) in
+    elim (sign_extended_cases Low16 x (2 ^ 15) refl) [
+      | inl p ↦ omega (arith, ints, p.0, p.1, fl.sfits, fg.sfits)
+      | inr p ↦ omega (arith, ints, p.0, p.1, fl.sfits, fg.sfits)
+    ]
+extended_half Full8 x l g fl fg from to =
+    let q = low_signed_equation (x % 2 ^ 32) (omega arith) in
+    elim (sign_extended_cases Full8 x (2 ^ 7) refl) [
+      | inl p ↦ omega (arith, ints, p.0, p.1, fl.sfits, fg.sfits)
+      | inr p ↦ omega (arith, ints, p.0, p.1, fl.sfits, fg.sfits)
+    ]
+extended_half Full16 x l g fl fg from to =
+    let q = low_signed_equation (x % 2 ^ 32) (omega arith) in
+    elim (sign_extended_cases Full16 x (2 ^ 15) refl) [
+      | inl p ↦ omega (arith, ints, p.0, p.1, fl.sfits, fg.sfits)
+      | inr p ↦ omega (arith, ints, p.0, p.1, fl.sfits, fg.sfits)
+    ]
+extended_half Full32 x l g fl fg from to =
+    elim (sign_extended_cases Full32 x (2 ^ 31) refl) [ inl p ↦ omega (arith, p.0, p.1) | inr p ↦ omega (arith, p.0, p.1) ]
+
+-- what an extension of 8 bits makes, read with a sign
+pub half_of_8 : (e : Extension) (x : ℕ) → extension_bits e ≡ 8
+    → (negsuc 127 ≤ℤ cast_signed w32 (sign_extended e x % 2 ^ 32)) × (cast_signed w32 (sign_extended e x % 2 ^ 32) ≤ℤ pos 127)
+half_of_8 Low8 x is =
+    let q = low_signed_equation (sign_extended Low8 x % 2 ^ 32) (omega arith) in
+    elim (sign_extended_cases Low8 x (2 ^ 7) refl) [
+      | inl p ↦ (omega (arith, ints, p.0, p.1), omega (arith, ints, p.0, p.1))
+      | inr p ↦ let b : x % 2 ^ 8 < 2 ^ 8 = omega arith in (omega (arith, ints, p.0, p.1), omega (arith, ints, p.0, p.1))
+    ]
+half_of_8 Full8 x is =
+    let q = low_signed_equation (sign_extended Full8 x % 2 ^ 32) (omega arith) in
+    elim (sign_extended_cases Full8 x (2 ^ 7) refl) [
+      | inl p ↦ (omega (arith, ints, p.0, p.1), omega (arith, ints, p.0, p.1))
+      | inr p ↦ let b : x % 2 ^ 8 < 2 ^ 8 = omega arith in (omega (arith, ints, p.0, p.1), omega (arith, ints, p.0, p.1))
+    ]
+half_of_8 Low16 x is = absurd (omega arith)
+half_of_8 Full16 x is = absurd (omega arith)
+half_of_8 Full32 x is = absurd (omega arith)
+
+-- and one of 16 bits
+pub half_of_16 : (e : Extension) (x : ℕ) → extension_bits e ≡ 16
+    → (negsuc 32767 ≤ℤ cast_signed w32 (sign_extended e x % 2 ^ 32)) × (cast_signed w32 (sign_extended e x % 2 ^ 32) ≤ℤ pos 32767)
+half_of_16 Low16 x is =
+    let q = low_signed_equation (sign_extended Low16 x % 2 ^ 32) (omega arith) in
+    elim (sign_extended_cases Low16 x (2 ^ 15) refl) [
+      | inl p ↦ (omega (arith, ints, p.0, p.1), omega (arith, ints, p.0, p.1))
+      | inr p ↦ let b : x % 2 ^ 16 < 2 ^ 16 = omega arith in (omega (arith, ints, p.0, p.1), omega (arith, ints, p.0, p.1))
+    ]
+half_of_16 Full16 x is =
+    let q = low_signed_equation (sign_extended Full16 x % 2 ^ 32) (omega arith) in
+    elim (sign_extended_cases Full16 x (2 ^ 15) refl) [
+      | inl p ↦ (omega (arith, ints, p.0, p.1), omega (arith, ints, p.0, p.1))
+      | inr p ↦ let b : x % 2 ^ 16 < 2 ^ 16 = omega arith in (omega (arith, ints, p.0, p.1), omega (arith, ints, p.0, p.1))
+    ]
+half_of_16 Low8 x is = absurd (omega arith)
+half_of_16 Full8 x is = absurd (omega arith)
+half_of_16 Full32 x is = absurd (omega arith)
+
+-- what is made has a signed number of what is read as its low half
+pub half_extended_signed : (e : Extension) (x : ℕ) → FitsSigned (extension_signed e) (cast_signed w32 (sign_extended e x % 2 ^ 32))
+half_extended_signed Low8 x = let l = half_of_8 Low8 x refl in fits_8 _ l.0 l.1
+half_extended_signed Low16 x = let l = half_of_16 Low16 x refl in fits_16 _ l.0 l.1
+half_extended_signed Full8 x = let l = half_of_8 Full8 x refl in fits_8 _ l.0 l.1
+half_extended_signed Full16 x = let l = half_of_16 Full16 x refl in fits_16 _ l.0 l.1
+half_extended_signed Full32 x = sfits_to_z (record { fits = let b : sign_extended Full32 x % 2 ^ 32 < 2 ^ 32 = omega arith in b })

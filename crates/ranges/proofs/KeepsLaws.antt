@@ -1,0 +1,113 @@
+-- What limits an operation's result keeps: those of what two numbers give.
+use Rattle.std.proofs.Common.{◌≡◌, ℕ, ℤ, ◌+◌, ◌-◌, ◌*◌, ◌/◌, ◌%◌, ◌^◌, ◌<◌, ◌≤◌, refl, sym, ap, ◌∙◌, arith, w64}
+use Rattle.std.specs.Prelude.{◌+ℤ◌, ◌-ℤ◌, ◌≤ℤ◌, FitsSigned}
+use Rattle.std.specs.Int.{w32, cast_signed, int_shr}
+use Rattle.std.proofs.lemmas.Int.{ints, to_z-of_z}
+use Rattle.std.proofs.lemmas.Nat.{mul-le, and_le_l, and_le_r}
+use Rattle.std.proofs.Math.Nat.{mod-eq_of_lt, div-le_self}
+use Rattle.std.proofs.Math.Facts.{sfits_to_z}
+use lib.Signed.{mag_shr}
+use Rattle.isa_model.specs.declared.sizes.Width.{Width}
+use Rattle.isa_model.specs.declared.sizes.Width.TheVariants.{Low32, Full64}
+use Rattle.isa_model.specs.declared.instructions.AluOp.{AluOp}
+use Rattle.isa_model.specs.declared.instructions.AluOp.TheVariants.{Add, Sub, Mul, Div, SignedDiv, Or, And, Lsh, Rsh, Mod, SignedMod, Xor, Mov, Arsh}
+use Rattle.isa_model.specs.Code.Sizes.{width_bits}
+use Rattle.isa_model.specs.Code.Numbers.{result_of, shift, signed, unsigned}
+use Rattle.ranges.specs.Keeps.{Keeps, KeepsSigned, signed_of}
+use Rattle.ranges.proofs.Limits.{sum_from, sum_to, difference_from, difference_to, difference_low, div_mono, shl_mono, zero_or_div, self_or_mod, mod_apart, div_apart, shr_mono, shr_fits, cast_fits}
+use Rattle.ranges.proofs.LowLaws.{low_signed_equation}
+
+-- ---- what two numbers within the limits give
+
+pub keeps_member : (op : AluOp) (w : Width) (al ag bl bg x y : ℕ) → al ≤ x → x ≤ ag → bl ≤ y → y ≤ bg
+    → x < 2 ^ width_bits w → y < 2 ^ width_bits w → Keeps op w al ag bl bg (λ l g. (l ≤ result_of op w x y) × (result_of op w x y ≤ g))
+keeps_member Add w al ag bl bg x y h1 h2 h3 h4 x_in y_in = λ fits.
+    let m = mod-eq_of_lt {n = x + y} {m = 2 ^ width_bits w} (omega arith) in
+    (omega arith, omega arith)
+keeps_member Sub w al ag bl bg x y h1 h2 h3 h4 x_in y_in = λ le.
+    let m = difference_low x y (2 ^ width_bits w) (omega arith) x_in in
+    (omega arith, omega arith)
+keeps_member Mul w al ag bl bg x y h1 h2 h3 h4 x_in y_in = λ fits.
+    let p = mul-le al bl x y h1 h3 in
+    let q = mul-le x y ag bg h2 h4 in
+    let m = mod-eq_of_lt {n = x * y} {m = 2 ^ width_bits w} (omega arith) in
+    (omega arith, omega arith)
+keeps_member Div w al ag bl bg x y h1 h2 h3 h4 x_in y_in =
+    let z = zero_or_div x y in
+    ((omega arith, omega arith), λ some. div_apart x y al ag bl bg some h1 h2 h3 h4)
+keeps_member Mod w al ag bl bg x y h1 h2 h3 h4 x_in y_in =
+    let z = self_or_mod x y in
+    ((omega arith, omega arith), λ some. let d = mod_apart x y (omega arith) in (omega arith, omega arith))
+keeps_member And w al ag bl bg x y h1 h2 h3 h4 x_in y_in =
+    let l = and_le_l x y in
+    let r = and_le_r x y in
+    ((omega arith, omega arith), (omega arith, omega arith))
+keeps_member Lsh w al ag bl bg x y h1 h2 h3 h4 x_in y_in = λ one fits.
+    let e : y ≡ bl = omega arith in
+    let p = shl_mono al x (shift w bl) h1 in
+    let q = shl_mono x ag (shift w bl) h2 in
+    let m = mod-eq_of_lt {n = x * 2 ^ shift w bl} {m = 2 ^ width_bits w} (omega arith) in
+    rw (e, m) (p, q)
+keeps_member Rsh w al ag bl bg x y h1 h2 h3 h4 x_in y_in =
+    let l = div-le_self x (2 ^ shift w y) in
+    ((omega arith, omega arith), λ one. let e : y ≡ bl = omega arith in rw e (div_mono al x (shift w bl) h1, div_mono x ag (shift w bl) h2))
+keeps_member Mov w al ag bl bg x y h1 h2 h3 h4 x_in y_in = (h3, h4)
+keeps_member Or w al ag bl bg x y h1 h2 h3 h4 x_in y_in = tt
+keeps_member Xor w al ag bl bg x y h1 h2 h3 h4 x_in y_in = tt
+keeps_member SignedDiv w al ag bl bg x y h1 h2 h3 h4 x_in y_in = tt
+keeps_member SignedMod w al ag bl bg x y h1 h2 h3 h4 x_in y_in = tt
+keeps_member Arsh w al ag bl bg x y h1 h2 h3 h4 x_in y_in = tt
+
+sum_within : (w : Width) (x y : ℕ) (a b c d : ℤ) → x < 2 ^ width_bits w → y < 2 ^ width_bits w
+    → a ≤ℤ signed w x → signed w x ≤ℤ c → b ≤ℤ signed w y → signed w y ≤ℤ d
+    → FitsSigned (signed_of w) (a +ℤ b) → FitsSigned (signed_of w) (c +ℤ d)
+    → ((a +ℤ b) ≤ℤ signed w ((x + y) % 2 ^ width_bits w)) × (signed w ((x + y) % 2 ^ width_bits w) ≤ℤ (c +ℤ d))
+sum_within Full64 x y a b c d x_in y_in h1 h2 h3 h4 f g =
+    (sum_from x y a b c d x_in y_in h1 h2 h3 h4 f g, sum_to x y a b c d x_in y_in h1 h2 h3 h4 f g)
+sum_within Low32 x y a b c d x_in y_in h1 h2 h3 h4 f g =
+    let p = low_signed_equation x x_in in
+    let q = low_signed_equation y y_in in
+    let r = low_signed_equation ((x + y) % 2 ^ 32) (omega arith) in
+    (omega (arith, ints), omega (arith, ints))
+
+difference_within : (w : Width) (x y : ℕ) (a b c d : ℤ) → x < 2 ^ width_bits w → y < 2 ^ width_bits w
+    → a ≤ℤ signed w x → signed w x ≤ℤ c → b ≤ℤ signed w y → signed w y ≤ℤ d
+    → FitsSigned (signed_of w) (a -ℤ d) → FitsSigned (signed_of w) (c -ℤ b)
+    → ((a -ℤ d) ≤ℤ signed w ((x + (2 ^ width_bits w - y)) % 2 ^ width_bits w))
+    × (signed w ((x + (2 ^ width_bits w - y)) % 2 ^ width_bits w) ≤ℤ (c -ℤ b))
+difference_within Full64 x y a b c d x_in y_in h1 h2 h3 h4 f g =
+    (difference_from x y a b c d x_in y_in h1 h2 h3 h4 f g, difference_to x y a b c d x_in y_in h1 h2 h3 h4 f g)
+difference_within Low32 x y a b c d x_in y_in h1 h2 h3 h4 f g =
+    let p = low_signed_equation x x_in in
+    let q = low_signed_equation y y_in in
+    let r = low_signed_equation ((x + (2 ^ 32 - y)) % 2 ^ 32) (omega arith) in
+    (omega (arith, ints), omega (arith, ints))
+
+shifted_back : (w : Width) (x k : ℕ) → x < 2 ^ width_bits w → signed w (unsigned w (int_shr (signed w x) k)) ≡ int_shr (signed w x) k
+shifted_back Full64 x k h = to_z-of_z w64 (int_shr (cast_signed w64 x) k) (shr_fits (cast_signed w64 x) k (cast_fits x h))
+shifted_back Low32 x k h =
+    let f : FitsSigned w32 (cast_signed w32 x) = sfits_to_z (record { fits = h }) in
+    to_z-of_z w32 (int_shr (cast_signed w32 x) k) (record { sfits = let l = mag_shr (cast_signed w32 x) (2 ^ k) in let s = f.sfits in omega arith })
+
+pub keeps_signed_member : (op : AluOp) (w : Width) (al ag bl bg : ℤ) (d e x y : ℕ) → x < 2 ^ width_bits w → y < 2 ^ width_bits w
+    → al ≤ℤ signed w x → signed w x ≤ℤ ag → bl ≤ℤ signed w y → signed w y ≤ℤ bg → d ≤ y → y ≤ e
+    → KeepsSigned op w al ag bl bg d e (λ l g. (l ≤ℤ signed w (result_of op w x y)) × (signed w (result_of op w x y) ≤ℤ g))
+keeps_signed_member Add w al ag bl bg d e x y x_in y_in h1 h2 h3 h4 h5 h6 = λ fl fg. sum_within w x y al bl ag bg x_in y_in h1 h2 h3 h4 fl fg
+keeps_signed_member Sub w al ag bl bg d e x y x_in y_in h1 h2 h3 h4 h5 h6 = λ fl fg. difference_within w x y al bl ag bg x_in y_in h1 h2 h3 h4 fl fg
+keeps_signed_member Arsh w al ag bl bg d e x y x_in y_in h1 h2 h3 h4 h5 h6 = λ one.
+    let is : y ≡ d = omega arith in
+    rw (is, shifted_back w x (shift w d) x_in) (
+      shr_mono al (signed w x) (2 ^ shift w d) h1,
+      shr_mono (signed w x) ag (2 ^ shift w d) h2,
+    )
+keeps_signed_member Mov w al ag bl bg d e x y x_in y_in h1 h2 h3 h4 h5 h6 = (h3, h4)
+keeps_signed_member Mul w al ag bl bg d e x y x_in y_in h1 h2 h3 h4 h5 h6 = tt
+keeps_signed_member Div w al ag bl bg d e x y x_in y_in h1 h2 h3 h4 h5 h6 = tt
+keeps_signed_member Mod w al ag bl bg d e x y x_in y_in h1 h2 h3 h4 h5 h6 = tt
+keeps_signed_member And w al ag bl bg d e x y x_in y_in h1 h2 h3 h4 h5 h6 = tt
+keeps_signed_member Lsh w al ag bl bg d e x y x_in y_in h1 h2 h3 h4 h5 h6 = tt
+keeps_signed_member Rsh w al ag bl bg d e x y x_in y_in h1 h2 h3 h4 h5 h6 = tt
+keeps_signed_member Or w al ag bl bg d e x y x_in y_in h1 h2 h3 h4 h5 h6 = tt
+keeps_signed_member Xor w al ag bl bg d e x y x_in y_in h1 h2 h3 h4 h5 h6 = tt
+keeps_signed_member SignedDiv w al ag bl bg d e x y x_in y_in h1 h2 h3 h4 h5 h6 = tt
+keeps_signed_member SignedMod w al ag bl bg d e x y x_in y_in h1 h2 h3 h4 h5 h6 = tt

@@ -1,0 +1,9 @@
+use Rattle.std.proofs.Common.{arith}
+use Rattle.std.proofs.lemmas.Int.{ints, clamps}
+use Rattle.ranges.proofs.LowLaws.{low_signed_equation}
+use Rattle.ranges.proofs.low.Low.plain_part.Goals as goal
+
+pub returns-clause-common : goal.returns-clause-common
+returns-clause-common c = λ x hx x_in.
+    let e = low_signed_equation x hx.below in
+    (c.between.ensures.members x).1 (omega (arith, ints, clamps), omega (arith, ints, clamps))

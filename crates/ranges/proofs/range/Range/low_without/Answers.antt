@@ -1,0 +1,24 @@
+use Rattle.std.proofs.Common.{◌≡◌, ◌%◌, ◌^◌, inl, inr, arith}
+use Rattle.std.specs.Int.{w32, cast_signed}
+use Rattle.std.proofs.lemmas.Int.{ints}
+use Rattle.ranges.proofs.range.Range.low_without.Goals as goal
+
+pub returns-clause-limit : goal.returns-clause-limit
+returns-clause-limit c = λ is x h equal.
+    let unsigned = c.in_ok-unsigned.unsigned in
+    let signed = cast_signed w32 c.args.half in
+    let within = c.in_ok-left.ensures.left x h in
+    let enclosed = c.in_ok-unsigned.ensures.enclosed in
+    elim is [
+      | inl plain ↦ c.in_ok-unsigned.ensures.limit plain x within equal
+      | inr limit ↦ elim limit [
+        | inl least ↦
+            let from = rw equal at within.1.signed_from in
+            let same : unsigned.low.signed_least ≡ signed = omega (arith, ints, from, enclosed.1.2) in
+            c.in_ok-left.ensures.limit (inl same) x h equal
+        | inr greatest ↦
+            let to = rw equal at within.1.signed_to in
+            let same : unsigned.low.signed_greatest ≡ signed = omega (arith, ints, to, enclosed.1.3) in
+            c.in_ok-left.ensures.limit (inr same) x h equal
+      ]
+    ]

@@ -1,0 +1,41 @@
+use Rattle.std.proofs.Common.{ℕ, ◌≡◌, ◌≤◌, ◌<◌, ◌%◌, ◌^◌, ◌∙◌, sym, subst, ap, inl, inr, w64, arith}
+use Rattle.std.specs.Int.{cast_signed, cast_unsigned}
+use Rattle.std.proofs.lemmas.Int.{ints, of_z-to_z}
+use Rattle.isa_model.specs.Code.NumberLemmas.{signed_equation}
+use Rattle.ranges.specs.Joint.{IsAmong}
+use Rattle.ranges.specs.Wides as W
+use Rattle.ranges.specs.Lows as L
+use Rattle.ranges.specs.Ranges.{Has, HasLow}
+use Rattle.ranges.specs.declared.range.Range.{Range}
+use Rattle.ranges.proofs.LowLaws.{reached_map}
+use Rattle.ranges.proofs.range.Range.narrowed.Goals as goal
+
+pub returns-clause-tight : goal.returns-clause-tight
+returns-clause-tight c =
+    let least = c.in_ok-least.least in
+    let greatest = c.in_ok-greatest.greatest in
+    let r : Range = record { wide = c.between.result; low = c.among.result } in
+    let lim = c.between.ensures.limits in
+    let first = c.in_ok-least.ensures.some in
+    let last = c.in_ok-greatest.ensures.some in
+    let e = signed_equation least (omega arith) in
+    let f = signed_equation greatest (omega arith) in
+    let s = c.between.ensures.signed (elim c.requires.half [ inl plain ↦ omega (arith, ints) | inr signed ↦ omega (arith, ints) ]) in
+    let has : (x : ℕ) → least ≤ x → x ≤ greatest → L.Has c.args.low (x % 2 ^ 32) → Has r x =
+    λ x from to h. ((c.between.ensures.members x).1 (from, to), c.among.ensures.contains x from to h) in
+    let from : Has r least = has least (omega arith) (omega arith) first.1 in
+    let to : Has r greatest = has greatest (omega arith) (omega arith) last.1 in
+    let back : cast_unsigned w64 c.between.result.signed_least ≡ least = ap (cast_unsigned w64) s.0 ∙ of_z-to_z w64 least (omega arith) in
+    let over : cast_unsigned w64 c.between.result.signed_greatest ≡ greatest = ap (cast_unsigned w64) s.1 ∙ of_z-to_z w64 greatest (omega arith) in (
+      subst (Has r) (sym lim.0) from,
+      subst (Has r) (sym lim.1) to,
+      subst (Has r) (sym back) from,
+      subst (Has r) (sym over) to,
+      reached_map c.among.result (λ (half : ℕ). L.Has c.args.low half × IsAmong least greatest half) (HasLow r)
+          (λ half is. record {
+            number = is.1.number;
+            has = has is.1.number is.1.from is.1.to (subst (L.Has c.args.low) (sym is.1.low) is.0);
+            low = is.1.low;
+          })
+          c.among.ensures.reached,
+    )

@@ -1,0 +1,19 @@
+use Rattle.std.proofs.Common.{rules, w64}
+use Rattle.std.specs.Prelude.{FitsSigned}
+use Rattle.std.proofs.lemmas.Int.{to_z-of_z}
+use Rattle.ranges.proofs.range.Range.signed_between.Goals as goal
+
+pub returns-clause-members : goal.returns-clause-members
+returns-clause-members c = λ x.
+    let f : FitsSigned w64 c.args.least = search rules in
+    let g : FitsSigned w64 c.args.greatest = search rules in
+    let m = c.within_limits.ensures.members x in
+    let s = simp to_z-of_z at (c.signed_between.ensures.members x) in
+    (λ h. s.0 (m.0 h), λ h. m.1 (s.1 h))
+
+pub returns-clause-unsigned : goal.returns-clause-unsigned
+returns-clause-unsigned c = λ le.
+    let f : FitsSigned w64 c.args.least = search rules in
+    let g : FitsSigned w64 c.args.greatest = search rules in
+    let u = simp to_z-of_z at c.signed_between.ensures.unsigned in
+    rw c.within_limits.ensures.limits (u le)

@@ -1,0 +1,39 @@
+use Rattle.std.proofs.Common.{ℕ, ◌<◌, ◌^◌, inl, inr, arith}
+use Rattle.std.proofs.lemmas.Int.{ints}
+use Rattle.std.proofs.lemmas.Bool.{cases_lt}
+use Rattle.ranges.specs.EnclosesLaws.{enclosed_low}
+use Rattle.ranges.proofs.LowLaws.{fits_between}
+use Rattle.ranges.proofs.wide.Wide.low_limits.Goals as goal
+
+pub returns-in-Some-lower_half-2-clause-contains : goal.returns-in-Some-lower_half-2-clause-contains
+returns-in-Some-lower_half-2-clause-contains c = λ x h.
+    let l = c.hull.result in
+    elim (cases_lt x (2 ^ 63)) [
+      | inl plain ↦
+          enclosed_low l c.run-in-Some-lower_half-2.result _ c.hull.ensures.left
+          (c.run-in-Some-lower_half-2.ensures.contains x (c.in-Some-lower_half-2.ensures.common x h plain))
+      | inr signed ↦
+          enclosed_low l c.run-in-Some-lower_half-2-2.result _ c.hull.ensures.right
+          (c.run-in-Some-lower_half-2-2.ensures.contains x (c.in-Some.ensures.common x h signed))
+    ]
+
+pub returns-in-Some-lower_half-2-clause-signed : goal.returns-in-Some-lower_half-2-clause-signed
+returns-in-Some-lower_half-2-clause-signed c = λ x h is.
+    let s = c.args.self in
+    let a = c.in-Some-lower_half-2.plain in
+    let b = c.in-Some.signed in
+    let ea = c.in-Some-lower_half-2.ensures.enclosed in
+    let eb = c.in-Some.ensures.enclosed in
+    let oa = a.signed_ordered in
+    let ob = b.signed_ordered in
+    let ra = c.run-in-Some-lower_half-2.ensures.signed c.in-Some-lower_half-2.ensures.alike (
+      fits_between s.signed_least s.signed_greatest _ is.0 is.1 ea.2 (omega (arith, ints, ea.3)),
+      fits_between s.signed_least s.signed_greatest _ is.0 is.1 (omega (arith, ints, ea.2)) ea.3,
+    ) in
+    let rb = c.run-in-Some-lower_half-2-2.ensures.signed c.in-Some.ensures.alike (
+      fits_between s.signed_least s.signed_greatest _ is.0 is.1 eb.2 (omega (arith, ints, eb.3)),
+      fits_between s.signed_least s.signed_greatest _ is.0 is.1 (omega (arith, ints, eb.2)) eb.3,
+    ) in (
+      elim c.hull.ensures.either.2 [ inl e ↦ omega (arith, ints, ra.0, ea.2, e) | inr e ↦ omega (arith, ints, rb.0, eb.2, e) ],
+      elim c.hull.ensures.either.3 [ inl e ↦ omega (arith, ints, ra.1, ea.3, e) | inr e ↦ omega (arith, ints, rb.1, eb.3, e) ],
+    )

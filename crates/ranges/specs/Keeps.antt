@@ -1,0 +1,52 @@
+-- The limits that an operation's result must keep, from those of its operands. `keeps` says of two numbers that the result
+-- is between them.
+use Rattle.std.specs.Prelude.{ℕ, ℤ, ◌≡◌, ◌+◌, ◌-◌, ◌*◌, ◌/◌, ◌^◌, ◌<◌, ◌≤◌, ◌+ℤ◌, ◌-ℤ◌, FitsSigned, ⊤}
+use Rattle.std.specs.Int.{Width as IntWidth, w8, w16, w32, w64, int_shr}
+use Rattle.isa_model.specs.declared.sizes.Width.{Width}
+use Rattle.isa_model.specs.declared.sizes.Width.TheVariants.{Low32, Full64}
+use Rattle.isa_model.specs.declared.sizes.Extension.{Extension}
+use Rattle.isa_model.specs.declared.sizes.Extension.TheVariants.{Low8, Low16, Full8, Full16, Full32}
+use Rattle.isa_model.specs.declared.instructions.AluOp.{AluOp}
+use Rattle.isa_model.specs.declared.instructions.AluOp.TheVariants.{Add, Sub, Mul, Div, Mod, And, Lsh, Rsh, Mov, Arsh}
+use Rattle.isa_model.specs.Code.Sizes.{width_bits}
+use Rattle.isa_model.specs.Code.Numbers.{shift}
+
+-- the type of the signed numbers of a width
+abbrev pub signed_of : Width → IntWidth
+signed_of Low32 = w32
+signed_of Full64 = w64
+
+-- the type of what a sign extension reads
+abbrev pub extension_signed : Extension → IntWidth
+extension_signed Low8 = w8
+extension_signed Low16 = w16
+extension_signed Full8 = w8
+extension_signed Full16 = w16
+extension_signed Full32 = w32
+
+-- the unsigned limits, from those of numbers of the width: a's and then b's. Nothing is asked of a sum, difference, product
+-- or shift to the left that may leave the width, nor of a shift by a distance that is not known but that it makes nothing
+-- greater
+abbrev pub Keeps : AluOp → Width → ℕ → ℕ → ℕ → ℕ → (ℕ → ℕ → Type 0) → Type 0
+Keeps Add w al ag bl bg keeps = ag + bg < 2 ^ width_bits w → keeps (al + bl) (ag + bg)
+Keeps Sub w al ag bl bg keeps = bg ≤ al → keeps (al - bg) (ag - bl)
+Keeps Mul w al ag bl bg keeps = ag * bg < 2 ^ width_bits w → keeps (al * bl) (ag * bg)
+Keeps Div w al ag bl bg keeps = keeps 0 ag × (0 < bl → keeps (al / bg) (ag / bl))
+Keeps Mod w al ag bl bg keeps = keeps 0 ag × (0 < bl → keeps 0 (bg - 1))
+Keeps And w al ag bl bg keeps = keeps 0 ag × keeps 0 bg
+Keeps Lsh w al ag bl bg keeps =
+    bl ≡ bg → ag * 2 ^ shift w bl < 2 ^ width_bits w → keeps (al * 2 ^ shift w bl) (ag * 2 ^ shift w bl)
+Keeps Rsh w al ag bl bg keeps = keeps 0 ag × (bl ≡ bg → keeps (al / 2 ^ shift w bl) (ag / 2 ^ shift w bl))
+Keeps Mov w al ag bl bg keeps = keeps bl bg
+Keeps _ w al ag bl bg keeps = ⊤
+
+-- the signed limits, from the signed ones of numbers of the width, a's and then b's, and b's unsigned ones. Nothing is asked
+-- of a sum or difference that may leave the signed numbers, nor of a shift by a distance that is not known
+abbrev pub KeepsSigned : AluOp → Width → ℤ → ℤ → ℤ → ℤ → ℕ → ℕ → (ℤ → ℤ → Type 0) → Type 0
+KeepsSigned Add w al ag bl bg d e keeps =
+    FitsSigned (signed_of w) (al +ℤ bl) → FitsSigned (signed_of w) (ag +ℤ bg) → keeps (al +ℤ bl) (ag +ℤ bg)
+KeepsSigned Sub w al ag bl bg d e keeps =
+    FitsSigned (signed_of w) (al -ℤ bg) → FitsSigned (signed_of w) (ag -ℤ bl) → keeps (al -ℤ bg) (ag -ℤ bl)
+KeepsSigned Arsh w al ag bl bg d e keeps = d ≡ e → keeps (int_shr al (shift w d)) (int_shr ag (shift w d))
+KeepsSigned Mov w al ag bl bg d e keeps = keeps bl bg
+KeepsSigned _ w al ag bl bg d e keeps = ⊤

@@ -1,0 +1,110 @@
+//! Numbers by their low halves: what limits at 64 bits and limits of low halves show of one
+//! another.
+
+ghost use Rattle.std.specs.Prelude.{◌≡◌, ℕ, ◌%◌, ◌^◌, ◌<◌, ◌≤◌, ◌⊎◌, IsSomeAnd, IfSome};
+ghost use Rattle.std.specs.Int.{w32};
+ghost use Rattle.ranges.specs.Joint.{IsAmong};
+ghost use Rattle.ranges.specs.Wides as W;
+
+use crate::low::Low;
+use crate::wide::Wide;
+use isa_model::numbers;
+
+impl Low {
+    ghost use Rattle.ranges.specs.Lows.{Has, Encloses, IsTight, AreReached};
+
+    // The first number from one on that has such a low half.
+    pub(crate) fn first_number(self, from: u64) -> Option<u64>
+        requires { IsTight self }
+        ensures some { IfSome result (λ f. (from ≤ f) × Has self (f % 2 ^ 32)) }
+        ensures first { (x : ℕ) → x < 2 ^ 64 → from ≤ x → Has self (x % 2 ^ 32)
+            → IsSomeAnd result (λ f. f ≤ x) }
+    {
+        let upper = from / HALVES;
+        if let Some(half) = self.first_from(numbers::low_word(from)) {
+            return Some(upper * HALVES + u64::from(half));
+        }
+        if upper == HALVES - 1 {
+            return None;
+        }
+        Some((upper + 1) * HALVES + u64::from(self.least))
+    }
+
+    // The last number up to one that has such a low half.
+    pub(crate) fn last_number(self, to: u64) -> Option<u64>
+        requires { IsTight self }
+        ensures some { IfSome result (λ l. (l ≤ to) × Has self (l % 2 ^ 32)) }
+        ensures last { (x : ℕ) → x ≤ to → Has self (x % 2 ^ 32) → IsSomeAnd result (λ l. x ≤ l) }
+    {
+        let upper = to / HALVES;
+        if let Some(half) = self.last_to(numbers::low_word(to)) {
+            return Some(upper * HALVES + u64::from(half));
+        }
+        if upper == 0 {
+            return None;
+        }
+        Some((upper - 1) * HALVES + u64::from(self.greatest))
+    }
+
+    // Those that the numbers between two limits have, which have such ones themselves.
+    pub(crate) fn among(self, least: u64, greatest: u64) -> Low
+        requires tight { IsTight self }
+        requires ordered { least ≤ greatest }
+        requires least { Has self (least % 2 ^ 32) }
+        requires greatest { Has self (greatest % 2 ^ 32) }
+        ensures contains { (x : ℕ) → least ≤ x → x ≤ greatest → Has self (x % 2 ^ 32)
+            → Has result (x % 2 ^ 32) }
+        ensures enclosed { Encloses self result }
+        ensures reached { AreReached result (λ half. Has self half × IsAmong least greatest half) }
+    {
+        let first = least / HALVES;
+        let last = greatest / HALVES;
+        let from = numbers::low_word(least);
+        let to = numbers::low_word(greatest);
+        if first == last {
+            self.with(Low::between(from, to))
+        } else if first + 1 == last {
+            let start = self.with(Low::between(from, u32::MAX));
+            let end = self.with(Low::between(0, to));
+            start.hull(end)
+        } else {
+            self
+        }
+    }
+}
+
+impl Wide {
+    ghost use Rattle.ranges.specs.Lows as L;
+
+    // The low halves of the numbers.
+    pub(crate) fn low_limits(self) -> Low
+        ensures contains { (x : ℕ) → W.Has self x → L.Has result (x % 2 ^ 32) }
+        ensures small { (x : ℕ) → W.Has self x → self.greatest < 2 ^ 32
+            → L.IsBetween result self.least self.greatest }
+        ensures signed { (x : ℕ) → W.Has self x → W.IsSignedOf w32 self
+            → L.IsSignedBetween result self.signed_least self.signed_greatest }
+    {
+        let Some(signed) = self.upper_half() else {
+            return match self.lower_half() {
+                Some(plain) => plain.run(),
+                None => Low::any(),
+            };
+        };
+        match self.lower_half() {
+            Some(plain) => plain.run().hull(signed.run()),
+            None => signed.run(),
+        }
+    }
+
+    // The low halves of all numbers between the unsigned limits.
+    fn run(self) -> Low
+        ensures contains { (x : ℕ) → W.Has self x → L.Has result (x % 2 ^ 32) }
+        ensures small { self.greatest < 2 ^ 32 → L.IsBetween result self.least self.greatest }
+        ensures signed { W.ReadsAlike self → W.IsSignedOf w32 self
+            → L.IsSignedBetween result self.signed_least self.signed_greatest }
+    {
+        Low::any().among(self.least, self.greatest)
+    }
+}
+
+const HALVES: u64 = 0x1_0000_0000;

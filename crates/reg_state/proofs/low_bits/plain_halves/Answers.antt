@@ -1,0 +1,7 @@
+use Rattle.std.proofs.Common.{subst}
+use Rattle.known_bits.specs.Bits.{Has}
+use Rattle.reg_state.specs.Relations.{moved_low}
+use Rattle.reg_state.proofs.low_bits.plain_halves.Goals as goal
+
+pub returns : goal.returns
+returns c = λ x h. subst (Has c.alu.result) (moved_low x) (c.alu.ensures.contains x x h h)

@@ -1,0 +1,33 @@
+use Rattle.std.proofs.Common.{ℕ}
+use Rattle.std.proofs.lemmas.Option.{IfSome_then}
+use Rattle.isa_model.specs.declared.sizes.Width.{Width}
+use Rattle.isa_model.specs.declared.sizes.Width.TheVariants.{Low32, Full64}
+use Rattle.reg_state.specs.Limits.{bits_allows, range_allows}
+use Rattle.reg_state.specs.Scalars.{allows}
+use Rattle.reg_state.specs.declared.scalars.Scalar.{Scalar}
+use Rattle.reg_state.proofs.scalars.ScalarDomain.equal.Goals as goal
+
+-- what both parts allow
+both_allow : (w : Width) (s : Scalar) (x : ℕ) → bits_allows w s.bits x → range_allows w s.range x → allows w s x
+both_allow Full64 s x b r = (b, r)
+both_allow Low32 s x b r = r
+
+pub returns-clause-common : goal.returns-clause-common
+returns-clause-common c = λ x y hx hy h.
+    let b = c.in_ok-bits.ensures.common x y hx.0 hy.0 h in
+    let r = c.in_ok-ranges.ensures.common x y hx.1 hy.1 h in
+    c.joined.ensures.common x y b.0 r.0 b.1 r.1
+
+pub returns-clause-left_allowed : goal.returns-clause-left_allowed
+returns-clause-left_allowed c =
+    IfSome_then c.joined.result c.joined.ensures.left
+    (λ p within x h.
+    let w = within x h in
+    both_allow c.args.width c.args.other _ (c.in_ok-bits.ensures.left_allowed x w.0) (c.in_ok-ranges.ensures.left_allowed x w.1))
+
+pub returns-clause-right_allowed : goal.returns-clause-right_allowed
+returns-clause-right_allowed c =
+    IfSome_then c.joined.result c.joined.ensures.right
+    (λ p within y h.
+    let w = within y h in
+    both_allow c.args.width c.args.self _ (c.in_ok-bits.ensures.right_allowed y w.0) (c.in_ok-ranges.ensures.right_allowed y w.1))
