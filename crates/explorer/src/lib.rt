@@ -6,6 +6,7 @@
 #![tactic(auto)]
 
 mod forgetting;
+pub mod explanations;
 mod index;
 mod kept;
 mod parts;
@@ -17,5 +18,6 @@ mod table;
 mod trail;
 pub mod verified;
 
+pub use explanations::{Explanation, Jump, explain};
 pub use refusals::Refusal;
 pub use verified::{MAX_EXPLORED, Verified, verify};
