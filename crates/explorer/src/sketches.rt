@@ -85,7 +85,10 @@ fn with_signed(print: u64, number: i32) -> u64 {
 
 fn with_numbers(print: u64, numbers: &Scalar) -> u64 {
     let bits = mixed(mixed(print, numbers.bits.value), numbers.bits.mask);
-    mixed(mixed(bits, numbers.range.least), numbers.range.greatest)
+    let range = &numbers.range;
+    let unsigned = mixed(mixed(bits, range.least), range.greatest);
+    let signed = mixed(unsigned, range.signed_least.cast_unsigned());
+    mixed(signed, range.signed_greatest.cast_unsigned())
 }
 
 fn with_kind(print: u64, kind: &Kind) -> u64 {
