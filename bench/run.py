@@ -121,9 +121,9 @@ def streamed(name, count, size):
     return name + ".frames"
 
 
-def plain_c(image, count):
+def plain_c(image, stream):
     """The steps and the seconds of the interpreter in C."""
-    ended = [subprocess.run(["./switch", image, str(count)], stdout=subprocess.PIPE, text=True, check=True).stdout for _ in range(TIMES)]
+    ended = [subprocess.run(["./switch", image, stream, "1"], stdout=subprocess.PIPE, text=True, check=True).stdout for _ in range(TIMES)]
     rows = [row.split() for row in ended]
     return int(rows[0][0]), min(float(row[1]) for row in rows)
 
@@ -140,7 +140,7 @@ def execution():
     ]
     for name, text, steps, count, compared in rows:
         image, stream = assembled("p", text), streamed("f", count, 60)
-        c_steps, c_seconds = plain_c(image, count)
+        c_steps, c_seconds = plain_c(image, stream)
         if c_steps != steps * count:
             sys.exit(f"{name}: {c_steps} steps in C, in place of {steps * count}")
         timed = []

@@ -98,10 +98,19 @@ class Answer:
         return good.out.startswith(self.out) and (good.made or b"").startswith(self.made or b"")
 
 
+def lacks_reason(found, good):
+    """What is known where a program is refused is left away, and standard error has its first two lines."""
+    same = (found.status, found.out, found.made) == (good.status, good.out, good.made)
+    two = b"".join(good.err.splitlines(keepends=True)[:2])
+    return same and good.out.startswith(b"refused V") and found.err == two
+
+
 def of_memory(words, found, good):
     if found.status == 5 and found.err == b"out of memory\n" and found.is_quiet():
         return "status 5"
-    return "unchanged" if found.is_as(good) else None
+    if found.is_as(good):
+        return "unchanged"
+    return "unchanged, what is known left away" if lacks_reason(found, good) else None
 
 
 def of_read(words, found, good):

@@ -1,10 +1,17 @@
 -- What a status says of how the program ended.
-use Rattle.std.proofs.Common.{◌≡◌, ◌≤◌, ℕ, List, Option, true, refl, arith}
+use Rattle.std.proofs.Common.{◌≡◌, ◌≤◌, ℕ, List, Option, Some, None, String, true, refl, sym, inl, inr, arith}
+use Rattle.std.specs.declared.alloc.Global.{Global}
+use Rattle.std.specs.String.{string_bytes}
+use Rattle.std.proofs.lemmas.Bool.{false≢true}
+use Rattle.std.proofs.lemmas.Option.{none-some}
+use Rattle.serving.specs.declared.rejections.Rejection.TheVariants as rejection
 use Rattle.serving.specs.declared.outcomes.Outcome.{Outcome}
 use Rattle.serving.specs.declared.outcomes.Outcome.TheVariants.{Done, WrongWords, NotBuilt, Refused, Faulted, CannotRead, CannotWrite, CannotReplace, NoMemory}
 use Rattle.serving.specs.Statuses.{status_of, is_silent, is_unsaid, message_of}
 use Rattle.serving.specs.Saying.{AppendsPart}
+use Rattle.serving.specs.Known.{told}
 use Rattle.commands.specs.Executing.{IsTold}
+use Rattle.commands.proofs.Knowing.{Knows}
 
 pub silent_words : (o : Outcome) → status_of o ≡ 1 → is_silent o ≡ true
 silent_words Done e = absurd (omega arith)
@@ -50,16 +57,37 @@ unsaid_done (CannotWrite path cause) e = absurd (omega arith)
 unsaid_done (CannotReplace path) e = absurd (omega arith)
 unsaid_done NoMemory e = absurd (omega arith)
 
-pub told_refused : (o : Outcome) (old new : Option (List ℕ)) → status_of o ≡ 2 → AppendsPart old new (message_of o) → IsTold old new
-told_refused Done old new e h = absurd (omega arith)
-told_refused (WrongWords text) old new e h = absurd (omega arith)
-told_refused (NotBuilt name) old new e h = absurd (omega arith)
-told_refused (Refused rejection) old new e h = (rejection, h)
-told_refused Faulted old new e h = absurd (omega arith)
-told_refused (CannotRead path kind) old new e h = absurd (omega arith)
-told_refused (CannotWrite path cause) old new e h = absurd (omega arith)
-told_refused (CannotReplace path) old new e h = absurd (omega arith)
-told_refused NoMemory old new e h = absurd (omega arith)
+pub told_refused : (o : Outcome) (why : Option (String Global)) (old new : Option (List ℕ)) → Knows o why → status_of o ≡ 2 → AppendsPart old new (told o why) → IsTold old new
+told_refused Done why old new k e h = absurd (omega arith)
+told_refused (WrongWords text) why old new k e h = absurd (omega arith)
+told_refused (NotBuilt name) why old new k e h = absurd (omega arith)
+told_refused (Refused said) None old new k e h = inl (said, h)
+told_refused (Refused said) (Some text) old new (inl none) e h = absurd (none-some text (sym none))
+told_refused (Refused (rejection.Image error)) (Some text) old new (inr (p, none)) e h = absurd (none-some text (sym none))
+told_refused (Refused (rejection.Text error)) (Some text) old new (inr (p, none)) e h = absurd (none-some text (sym none))
+told_refused (Refused (rejection.Program refusal slot insn)) (Some text) old new (inr (p, is)) e h =
+    inr (record { program = p; refusal = refusal; slot = slot; insn = insn; why = string_bytes text; known = is; said = h })
+told_refused Faulted why old new k e h = absurd (omega arith)
+told_refused (CannotRead path kind) why old new k e h = absurd (omega arith)
+told_refused (CannotWrite path cause) why old new k e h = absurd (omega arith)
+told_refused (CannotReplace path) why old new k e h = absurd (omega arith)
+told_refused NoMemory why old new k e h = absurd (omega arith)
+
+pub told_plain : (o : Outcome) (old new : Option (List ℕ)) → status_of o ≡ 2 → AppendsPart old new (message_of o) → IsTold old new
+told_plain o old new e h = told_refused o None old new (inl refl) e h
+
+-- a task of which standard error has nothing to say has nothing known beside its end
+pub unsaid_knows : (o : Outcome) (why : Option (String Global)) → Knows o why → is_unsaid o ≡ true → why ≡ None
+unsaid_knows o why (inl none) e = none
+unsaid_knows Done why (inr (p, none)) e = none
+unsaid_knows (WrongWords text) why (inr (p, none)) e = none
+unsaid_knows (NotBuilt name) why (inr (p, none)) e = none
+unsaid_knows (Refused said) why (inr k) e = absurd (false≢true e)
+unsaid_knows Faulted why (inr (p, none)) e = none
+unsaid_knows (CannotRead path kind) why (inr (p, none)) e = none
+unsaid_knows (CannotWrite path cause) why (inr (p, none)) e = none
+unsaid_knows (CannotReplace path) why (inr (p, none)) e = none
+unsaid_knows NoMemory why (inr (p, none)) e = none
 
 pub unsaid_faulted : (o : Outcome) → status_of o ≡ 3 → is_unsaid o ≡ true
 unsaid_faulted Done e = refl
@@ -73,4 +101,4 @@ unsaid_faulted (CannotReplace path) e = absurd (omega arith)
 unsaid_faulted NoMemory e = absurd (omega arith)
 
 -- what each status says
-pub ruleset statuses = (silent_words, silent_memory, status_fits, unsaid_done, told_refused, unsaid_faulted)
+pub ruleset statuses = (silent_words, silent_memory, status_fits, unsaid_done, told_plain, unsaid_faulted)

@@ -1,2 +1,4 @@
+mod Knowing
 mod Endings
+mod Silence
 mod Served

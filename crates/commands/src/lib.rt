@@ -3,9 +3,10 @@
 
 ghost use Rattle.std.specs.Prelude.{◌≡◌, ◌≤◌, map};
 ghost use Rattle.std.specs.String.{string_bytes};
-ghost use Rattle.serving.specs.declared.outcomes.Outcome.{Outcome};
-ghost use Rattle.serving.specs.Statuses.{status_of, message_of};
+ghost use Rattle.serving.specs.declared.endings.Ending.{Ending};
+ghost use Rattle.serving.specs.Statuses.{status_of};
 ghost use Rattle.serving.specs.Saying.{AppendsPart};
+ghost use Rattle.serving.specs.Known.{told_of};
 ghost use Rattle.commands.specs.Executing.{Executes, IsTold};
 
 use serving::{Outcome, serve};
@@ -22,7 +23,7 @@ use words::read_words;
 ///
 /// The first word is the program's name. `out` stands for standard output and `err` for standard
 /// error. At status 1 and 5 standard output gets no byte; at 0 and 3 standard error gets none, and
-/// at 2 it gets why something was refused and where.
+/// at 2 it gets why something was refused and where, and of a program also what is known there.
 #[tactic(auto, using(crate::proofs::Endings::statuses))]
 pub fn execute<R: Files + AllocGlobal, W1: Write, W2: Write>(
     rt: &R,
@@ -30,9 +31,9 @@ pub fn execute<R: Files + AllocGlobal, W1: Write, W2: Write>(
     out: &mut W1,
     err: &mut W2,
 ) -> u8
-    ensures executes { (o : Outcome) × (result ≡ status_of o)
-        × Executes (map string_bytes words.now) (W1.contents out.old) (W1.contents out.new) o
-        × AppendsPart (W2.contents err.old) (W2.contents err.new) (message_of o) }
+    ensures executes { (e : Ending) × (result ≡ status_of e.outcome)
+        × Executes (map string_bytes words.now) (W1.contents out.old) (W1.contents out.new) e
+        × AppendsPart (W2.contents err.old) (W2.contents err.new) (told_of e) }
     ensures statuses { result ≤ 5 }
     ensures wrong_words { result ≡ 1 → W1.contents out.new ≡ W1.contents out.old }
     ensures no_memory { result ≡ 5 → W1.contents out.new ≡ W1.contents out.old }

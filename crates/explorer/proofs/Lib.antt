@@ -3,6 +3,7 @@ pub mod Paths
 pub mod Steps
 pub mod Unfinished
 pub mod Walking
+pub mod Ways
 pub mod Counting
 pub mod Keeping
 pub mod Trails

@@ -5,6 +5,7 @@
 //! `specs/Search.antt` says what a search knows.
 #![tactic(auto)]
 
+pub mod explanations;
 mod forgetting;
 mod index;
 mod kept;
@@ -17,5 +18,6 @@ mod table;
 mod trail;
 pub mod verified;
 
+pub use explanations::{Explanation, Jump, explain};
 pub use refusals::Refusal;
 pub use verified::{MAX_EXPLORED, Verified, verify};

@@ -157,6 +157,17 @@ impl Search {
         })
     }
 
+    /// A path is turned back at what a visit waited for: the visit stays on the path, for those who
+    /// follow it there. Without memory for it they do not come there.
+    fn keep_way(&mut self, stored: Option<usize>) {
+        let turned_back = Visit {
+            pending: None,
+            best: 0,
+            stored,
+        };
+        let _ = self.path.push(turned_back);
+    }
+
     /// The search is at a state with this number: goes back along the path to what comes next.
     fn unwind(&mut self, alloc: Global, flow: &Flow<'_>, ended: u32) -> Result<Turn, Refused>
         requires at { HasEnded flow.now self.old ended }
@@ -170,7 +181,7 @@ impl Search {
         let mut number = ended;
         while let Some(visit) = self.path.pop() {
             let stored = visit.stored;
-            match resume(
+            let resumed = match resume(
                 alloc,
                 flow,
                 &mut self.table,
@@ -178,7 +189,14 @@ impl Search {
                 &mut self.scratch,
                 visit,
                 number,
-            )? {
+            ) {
+                Ok(resumed) => resumed,
+                Err(refused) => {
+                    self.keep_way(stored);
+                    return Err(refused);
+                }
+            };
+            match resumed {
                 Resumed::Ended(best) => {
                     number = best + 1;
                     self.finished += 1;

@@ -8,6 +8,7 @@ ghost use Rattle.std.specs.Prelude.{OnOk};
 ghost use Rattle.explorer.specs.Keeping.{AreParts};
 
 use crate::parts::{Part, take_parts};
+use ranges::Low;
 use reg_state::{Kind, Scalar};
 use stack_state::{Slot, State};
 use std::alloc::{AllocError, Global};
@@ -83,9 +84,20 @@ fn with_signed(print: u64, number: i32) -> u64 {
     mixed(print, u64::from(number.cast_unsigned()))
 }
 
+fn with_low(print: u64, low: &Low) -> u64 {
+    let unsigned = mixed(mixed(print, u64::from(low.least)), u64::from(low.greatest));
+    with_signed(with_signed(unsigned, low.signed_least), low.signed_greatest)
+}
+
 fn with_numbers(print: u64, numbers: &Scalar) -> u64 {
     let bits = mixed(mixed(print, numbers.bits.value), numbers.bits.mask);
-    mixed(mixed(bits, numbers.range.wide.least), numbers.range.wide.greatest)
+    let wide = &numbers.range.wide;
+    let unsigned = mixed(mixed(bits, wide.least), wide.greatest);
+    let signed = mixed(unsigned, wide.signed_least.cast_unsigned());
+    with_low(
+        mixed(signed, wide.signed_greatest.cast_unsigned()),
+        &numbers.range.low,
+    )
 }
 
 fn with_kind(print: u64, kind: &Kind) -> u64 {

@@ -16,7 +16,7 @@ use crate::rows::{room_refusal, rows_of, rows_refusal, write_rows};
 use exact_io::write_bytes;
 use insn_codec::decoding_laws;
 use isa_model::{Insn, MapDef};
-use std::alloc::Global;
+use std::alloc::{AllocError, Global};
 use std::io;
 use std::io::Write;
 use std::marker::Model;
@@ -119,6 +119,15 @@ impl Image {
         let mut rows = Vec::new(alloc);
         rows.extend_from_slice(maps)?;
         Ok(Image { maps: rows, slots })
+    }
+
+    /// Another one like it.
+    pub fn copy(&self, alloc: Global) -> Result<Self, AllocError>
+        ensures { IfOk result (λ copy. copy ≡ self.now) }
+    {
+        let maps = Vec::from_slice(alloc, &self.maps)?;
+        let slots = Vec::from_slice(alloc, &self.slots)?;
+        Ok(Image { maps, slots })
     }
 
     /// Writes the bytes of the image.

@@ -1,45 +1,76 @@
 -- What is done with an image that was read, of which standard output got nothing.
-use Rattle.std.proofs.Common.{◌≡◌, ℕ, List, Option, Ok, subst, inl, inr, ◌⊎◌, ◌∙◌}
+use Rattle.std.proofs.Common.{◌≡◌, ℕ, List, Option, None, String, Ok, subst, sym, inl, inr, ◌⊎◌, ◌∙◌}
+use Rattle.std.specs.declared.alloc.Global.{Global}
 use Rattle.assembler.specs.Assembling.{assembled}
 use Rattle.isa_model.specs.{Program}
 use Rattle.image.specs.Images.{IsImage}
 use Rattle.explorer.specs.Bounds.{Bounded, IsVerified}
+use Rattle.serving.specs.declared.rejections.Rejection.TheVariants as rejection
 use Rattle.serving.specs.declared.outcomes.Outcome.{Outcome}
+use Rattle.serving.specs.declared.outcomes.Outcome.TheVariants.{Done, WrongWords, NotBuilt, Refused, Faulted, CannotRead, CannotWrite, CannotReplace, NoMemory}
+use Rattle.serving.specs.declared.endings.Ending.{Ending}
+use Rattle.serving.specs.Known.{IsKnown, Tells, Plainly}
 use Rattle.serving.specs.Statuses.{IsReadFailure, IsMakeFailure}
 use Rattle.serving.specs.Lines.{size_line}
 use Rattle.serving.specs.Judging.{RefusesProgram, Verifies, Stores}
 use Rattle.serving.specs.Streams.{RunsAccepted}
 use Rattle.tasks.specs.Requests.{RunFiles}
-use Rattle.serving.specs.Commands.{VerifiesFile, RunsFile, RunsSome, OpensNone, AssemblesFile, StoresSome}
+use Rattle.serving.specs.Commands.{LoadsNone, VerifiesFile, RunsFile, RunsSome, OpensNone, AssemblesFile, StoresSome}
 
 -- the streams were not opened
 opens-none : (files : RunFiles) (old new : Option (List ℕ)) (r : Outcome) → new ≡ old → IsReadFailure files.frames r ⊎ IsMakeFailure files.out r → OpensNone files old new r
 opens-none files old new r e (inl h) = inl (h, e)
 opens-none files old new r e (inr h) = inr (h, e)
 
-pub image_verified : (path : List ℕ) (old mid new : Option (List ℕ)) (p : Program) (r : Outcome) → mid ≡ old → IsImage p → Verifies p mid new r → VerifiesFile path old new r
-image_verified path old mid new p r e h v = inr (p, h, subst (λ (o : Option (List ℕ)). Verifies p o new r) e v)
+-- beside how the task ended nothing is known
+pub tells-none : (p : Program) (o : Outcome) (why : Option (String Global)) → why ≡ None → Tells p o why
+tells-none p Done why e = e
+tells-none p (WrongWords text) why e = e
+tells-none p (NotBuilt name) why e = e
+tells-none p (Refused (rejection.Image error)) why e = e
+tells-none p (Refused (rejection.Program refusal slot insn)) why e = rw e tt
+tells-none p (Refused (rejection.Text error)) why e = e
+tells-none p Faulted why e = e
+tells-none p (CannotRead path kind) why e = e
+tells-none p (CannotWrite path cause) why e = e
+tells-none p (CannotReplace path) why e = e
+tells-none p NoMemory why e = e
+
+-- the image was not loaded
+unloaded : (path : List ℕ) (old new : Option (List ℕ)) (o : Outcome) (r : Ending) → LoadsNone path old new o → r.outcome ≡ o → r.why ≡ None → Plainly (LoadsNone path old new) r
+unloaded path old new o r h same none = (subst (LoadsNone path old new) (sym same) h, none)
+
+pub verify_unloaded : (path : List ℕ) (old new : Option (List ℕ)) (o : Outcome) (r : Ending) → LoadsNone path old new o → r.outcome ≡ o → r.why ≡ None → VerifiesFile path old new r
+verify_unloaded path old new o r h same none = inl (unloaded path old new o r h same none)
+
+pub run_unloaded : (files : RunFiles) (old new : Option (List ℕ)) (o : Outcome) (r : Ending) → LoadsNone files.image old new o → r.outcome ≡ o → r.why ≡ None → RunsFile files old new r
+run_unloaded files old new o r h same none = inl (unloaded files.image old new o r h same none)
+
+pub image_verified : (path : List ℕ) (old mid new : Option (List ℕ)) (p : Program) (r : Ending) → mid ≡ old → IsImage p → Verifies p mid new r.outcome → IsKnown p r → VerifiesFile path old new r
+image_verified path old mid new p r e h v known =
+    inr (p, h, (subst (λ (o : Option (List ℕ)). Verifies p o new r.outcome) e v, known))
 
 -- ---- runs of accepted programs
 
-pub image_refused : (files : RunFiles) (old mid new : Option (List ℕ)) (p : Program) (r : Outcome) → mid ≡ old → IsImage p → RefusesProgram p mid new r → RunsFile files old new r
-image_refused files old mid new p r e h v = inr (p, h, inl (subst (λ (o : Option (List ℕ)). RefusesProgram p o new r) e v))
+pub image_refused : (files : RunFiles) (old mid new : Option (List ℕ)) (p : Program) (r : Ending) → mid ≡ old → IsImage p → RefusesProgram p mid new r.outcome → IsKnown p r → RunsFile files old new r
+image_refused files old mid new p r e h v known =
+    inr (p, h, (inl (subst (λ (o : Option (List ℕ)). RefusesProgram p o new r.outcome) e v), known))
 
-pub image_run : (files : RunFiles) (old mid now new before after source : Option (List ℕ)) (v : Bounded) (r : Outcome) → mid ≡ old → now ≡ mid → IsVerified v
-    → RunsAccepted v source files.out (record { report = now; frames = before }) (record { report = new; frames = after }) r → RunsFile files old new r
-image_run files old mid now new before after source v r e f h runs =
-    let some : RunsSome v files.out old new r = record {
+pub image_run : (files : RunFiles) (old mid now new before after source : Option (List ℕ)) (v : Bounded) (o : Outcome) (r : Ending) → mid ≡ old → now ≡ mid → IsVerified v
+    → RunsAccepted v source files.out (record { report = now; frames = before }) (record { report = new; frames = after }) o → r.outcome ≡ o → r.why ≡ None → RunsFile files old new r
+image_run files old mid now new before after source v o r e f h runs same none =
+    let some : RunsSome v files.out old new r.outcome = record {
       source = source;
       before = before;
       after = after;
-      runs = subst (λ (o : Option (List ℕ)). RunsAccepted v source files.out (record { report = o; frames = before }) (record { report = new; frames = after }) r) (f ∙ e) runs;
+      runs = rw same (subst (λ (x : Option (List ℕ)). RunsAccepted v source files.out (record { report = x; frames = before }) (record { report = new; frames = after }) o) (f ∙ e) runs);
     } in
-    inr (v.program, h.image, inr (v.bound, h, inr some))
+    inr (v.program, h.image, (inr (v.bound, h, inr some), tells-none v.program r.outcome r.why none))
 
-pub run_unopened : (files : RunFiles) (old mid new : Option (List ℕ)) (v : Bounded) (r : Outcome) → mid ≡ old → new ≡ mid → IsVerified v
-    → IsReadFailure files.frames r ⊎ IsMakeFailure files.out r → RunsFile files old new r
-run_unopened files old mid new v r e f h failed =
-    inr (v.program, h.image, inr (v.bound, h, inl (opens-none files old new r (f ∙ e) failed)))
+pub run_unopened : (files : RunFiles) (old mid new : Option (List ℕ)) (v : Bounded) (o : Outcome) (r : Ending) → mid ≡ old → new ≡ mid → IsVerified v
+    → IsReadFailure files.frames o ⊎ IsMakeFailure files.out o → r.outcome ≡ o → r.why ≡ None → RunsFile files old new r
+run_unopened files old mid new v o r e f h failed same none =
+    inr (v.program, h.image, (inr (v.bound, h, inl (rw same (opens-none files old new o (f ∙ e) failed))), tells-none v.program r.outcome r.why none))
 
 -- ---- texts
 

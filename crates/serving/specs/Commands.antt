@@ -7,6 +7,8 @@ use Rattle.assembler.specs.Assembling.{assembled}
 use Rattle.explorer.specs.Bounds.{Bounded, IsVerified}
 use Rattle.serving.specs.declared.outcomes.Outcome.{Outcome}
 use Rattle.serving.specs.declared.outcomes.Outcome.TheVariants as outcome
+use Rattle.serving.specs.declared.endings.Ending.{Ending}
+use Rattle.serving.specs.Known.{IsKnown, Plainly}
 use Rattle.serving.specs.Lines.{size_line}
 use Rattle.serving.specs.Statuses.{IsMakeFailure, IsNotBuilt, IsReadFailure, IsWrongWords}
 use Rattle.serving.specs.Saying.{Says}
@@ -67,12 +69,15 @@ AcceptsAndRuns files p old new result =
     (bound : ℕ) × IsVerified (record { program = p; bound = bound })
     × (OpensNone files old new result ⊎ RunsSome (record { program = p; bound = bound }) files.out old new result)
 
-abbrev pub RunsFile : RunFiles → Option (List ℕ) → Option (List ℕ) → Outcome → Type 0
+-- where the program is refused, what is told of that beside is known
+abbrev pub RunsFile : RunFiles → Option (List ℕ) → Option (List ℕ) → Ending → Type 0
 RunsFile files old new result =
-    LoadsNone files.image old new result ⊎ Loads (λ p. RefusesProgram p old new result ⊎ AcceptsAndRuns files p old new result)
+    Plainly (LoadsNone files.image old new) result
+    ⊎ Loads (λ p. (RefusesProgram p old new result.outcome ⊎ AcceptsAndRuns files p old new result.outcome) × IsKnown p result)
 
-abbrev pub VerifiesFile : List ℕ → Option (List ℕ) → Option (List ℕ) → Outcome → Type 0
-VerifiesFile path old new result = LoadsNone path old new result ⊎ Loads (λ p. Verifies p old new result)
+abbrev pub VerifiesFile : List ℕ → Option (List ℕ) → Option (List ℕ) → Ending → Type 0
+VerifiesFile path old new result =
+    Plainly (LoadsNone path old new) result ⊎ Loads (λ p. Verifies p old new result.outcome × IsKnown p result)
 
 abbrev pub DisassemblesFile : List ℕ → Option (List ℕ) → Option (List ℕ) → Outcome → Type 0
 DisassemblesFile path old new result = LoadsNone path old new result ⊎ Loads (λ p. Says old new (canonical_text p) outcome.Done result)
@@ -90,11 +95,11 @@ AssemblesFile text image old new result =
 -- ---- the program
 
 -- what is done where this is asked for
-abbrev pub Serves : Option Request → Option (List ℕ) → Option (List ℕ) → Outcome → Type 0
-Serves None old new result = IsWrongWords result × (new ≡ old)
-Serves (Some (Trace files limit)) old new result = TracesFile files limit old new result
+abbrev pub Serves : Option Request → Option (List ℕ) → Option (List ℕ) → Ending → Type 0
+Serves None old new result = Plainly (λ o. IsWrongWords o × (new ≡ old)) result
+Serves (Some (Trace files limit)) old new result = Plainly (TracesFile files limit old new) result
 Serves (Some (Run files)) old new result = RunsFile files old new result
 Serves (Some (Verify path)) old new result = VerifiesFile path old new result
-Serves (Some (Assemble text image)) old new result = AssemblesFile text image old new result
-Serves (Some (Disassemble path)) old new result = DisassemblesFile path old new result
-Serves (Some (NotBuilt name)) old new result = IsNotBuilt name result × (new ≡ old)
+Serves (Some (Assemble text image)) old new result = Plainly (AssemblesFile text image old new) result
+Serves (Some (Disassemble path)) old new result = Plainly (DisassemblesFile path old new) result
+Serves (Some (NotBuilt name)) old new result = Plainly (λ o. IsNotBuilt name o × (new ≡ old)) result

@@ -1,6 +1,7 @@
 pub mod Causes
 pub mod Messages
 pub mod Statuses
+pub mod Known
 pub mod Lines
 pub mod Saying
 pub mod Judging

@@ -7,6 +7,7 @@ ghost use Rattle.tasks.specs.Requests.{files_of};
 ghost use Rattle.serving.specs.Commands.{LoadsNone, TracesFile, RunsFile, VerifiesFile};
 ghost use Rattle.serving.specs.Commands.{DisassemblesFile, AssemblesFile};
 
+use super::endings::Ending;
 use super::outcomes::Outcome;
 use super::reading::{read_file, read_start};
 use super::same::is_same_file;
@@ -102,20 +103,23 @@ pub fn run_verified<'a, R: Files, W: Write>(
     alloc: Global,
     paths: Paths<'a>,
     out: &mut W,
-) -> Outcome<'a>
+) -> Ending<'a>
     ensures { RunsFile (files_of paths.entry) (W.contents out.old) (W.contents out.new) result }
 {
     let image = match load_image(rt, alloc, paths.image, out) {
         Ok(image) => image,
-        Err(outcome) => return outcome,
+        Err(outcome) => return Ending::plain(outcome),
     };
     let verified = match judge(alloc, image, out) {
         Ok(verified) => verified,
-        Err(outcome) => return outcome,
+        Err(ending) => return ending,
     };
     match open_streams(rt, paths) {
-        Ok((source, mut file)) => run_stream(alloc, verified, source, paths.out, out, &mut file),
-        Err(outcome) => outcome,
+        Ok((source, mut file)) => {
+            let outcome = run_stream(alloc, verified, source, paths.out, out, &mut file);
+            Ending::plain(outcome)
+        }
+        Err(outcome) => Ending::plain(outcome),
     }
 }
 
@@ -126,12 +130,12 @@ pub fn verify_file<'a, R: Files, W: Write>(
     alloc: Global,
     path: &'a str,
     out: &mut W,
-) -> Outcome<'a>
+) -> Ending<'a>
     ensures { VerifiesFile path.now (W.contents out.old) (W.contents out.new) result }
 {
     let image = match load_image(rt, alloc, path, out) {
         Ok(image) => image,
-        Err(outcome) => return outcome,
+        Err(outcome) => return Ending::plain(outcome),
     };
     say_verdict(alloc, image, out)
 }

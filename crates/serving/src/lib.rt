@@ -2,6 +2,7 @@
 #![tactic(auto)]
 
 mod causes;
+mod endings;
 mod files;
 mod names;
 mod outcomes;
@@ -13,6 +14,7 @@ mod streams;
 mod texts;
 mod verdicts;
 
+pub use endings::Ending;
 pub use outcomes::Outcome;
 pub use rejections::Rejection;
 pub use requests::serve;

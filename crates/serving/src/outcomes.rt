@@ -82,8 +82,8 @@ impl<'a> Outcome<'a> {
         }
     }
 
-    // The program's status.
-    fn status(self) -> u8
+    /// The program's status.
+    pub(crate) fn status(self) -> u8
         ensures { result ≡ status_of self.entry }
     {
         match self {
@@ -96,8 +96,8 @@ impl<'a> Outcome<'a> {
         }
     }
 
-    // Says what went wrong.
-    fn say<W: Write>(self, err: &mut W) -> io::Result<()>
+    /// Says what went wrong.
+    pub(crate) fn say<W: Write>(self, err: &mut W) -> io::Result<()>
         ensures ok { OnOk result
             (Appends (W.contents err.old) (W.contents err.new) (message_of self.entry)) }
         ensures err { OnErr result

@@ -4,6 +4,7 @@ ghost use Rattle.std.specs.Prelude.{Some};
 ghost use Rattle.tasks.specs.Requests.{request_of};
 ghost use Rattle.serving.specs.Commands.{Serves};
 
+use super::endings::Ending;
 use super::files::{assemble_file, disassemble_file, run_verified, trace, verify_file};
 use super::outcomes::Outcome;
 use std::alloc::Global;
@@ -17,16 +18,28 @@ pub fn serve<'a, R: Files, W: Write>(
     alloc: Global,
     task: Task<'a>,
     out: &mut W,
-) -> Outcome<'a>
+) -> Ending<'a>
     ensures { Serves (Some (request_of task.entry))
         (W.contents out.old) (W.contents out.new) result }
 {
     match task {
-        Task::Trace(paths, limit) => trace(rt, alloc, paths, limit, out),
+        Task::Trace(paths, limit) => Ending {
+            outcome: trace(rt, alloc, paths, limit, out),
+            why: None,
+        },
         Task::Run(paths) => run_verified(rt, alloc, paths, out),
         Task::Verify(path) => verify_file(rt, alloc, path, out),
-        Task::Assemble(paths) => assemble_file(rt, alloc, paths, out),
-        Task::Disassemble(path) => disassemble_file(rt, alloc, path, out),
-        Task::NotBuilt(name) => Outcome::NotBuilt(name),
+        Task::Assemble(paths) => Ending {
+            outcome: assemble_file(rt, alloc, paths, out),
+            why: None,
+        },
+        Task::Disassemble(path) => Ending {
+            outcome: disassemble_file(rt, alloc, path, out),
+            why: None,
+        },
+        Task::NotBuilt(name) => Ending {
+            outcome: Outcome::NotBuilt(name),
+            why: None,
+        },
     }
 }

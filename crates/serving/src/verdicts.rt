@@ -1,8 +1,6 @@
 //! What standard output says of an image, a program or a text that was judged.
 
 ghost use Rattle.std.specs.Prelude.{◌≡◌, false, true, Ok, IfOk, IfErr, OnOk, MatchResult};
-ghost use Rattle.std.specs.Prelude.{slice_get};
-ghost use Rattle.std.specs.Option.{option_flatten};
 ghost use Rattle.std.specs.String.{string_bytes};
 ghost use Rattle.isa_model.specs.{Program};
 ghost use Rattle.isa_model.specs.Text.CanonicalText.{canonical_text};
@@ -14,7 +12,9 @@ ghost use Rattle.serving.specs.Lines.{bound_line, size_line};
 ghost use Rattle.serving.specs.Saying.{Says, LacksMemory};
 ghost use Rattle.serving.specs.Judging.{RefusesImage, RefusesProgram, Accepts, Verifies};
 ghost use Rattle.serving.specs.Judging.{RefusesText, SaysRefused};
+ghost use Rattle.serving.specs.Known.{IsKnown};
 
+use super::endings::Ending;
 use super::names::{image_line, text_line, verdict_line};
 use super::outcomes::{Outcome, STANDARD_OUTPUT};
 use super::rejections::Rejection;
@@ -83,13 +83,6 @@ pub fn image_of<'a, W: Write>(
     }
 }
 
-// The instruction that begins at the slot.
-fn insn_at(code: &[Option<Insn>], slot: usize) -> Option<Insn>
-    ensures { result ≡ option_flatten (slice_get code.now slot) }
-{
-    *code.get(slot)?
-}
-
 // Says that a program is refused at a slot, where this instruction begins.
 fn say_refused<'a, W: Write>(
     alloc: Global,
@@ -111,29 +104,27 @@ fn say_refused<'a, W: Write>(
 }
 
 /// The verifier's answer, or how the task ends without one: a refusal is said, with its slot and
-/// instruction.
-pub fn judge<'a, W: Write>(
-    alloc: Global,
-    image: Image,
-    out: &mut W,
-) -> Result<Verified, Outcome<'a>>
+/// instruction, and what is known there is looked for.
+pub fn judge<'a, W: Write>(alloc: Global, image: Image, out: &mut W) -> Result<Verified, Ending<'a>>
     ensures ok { OnOk result (W.contents out.new ≡ W.contents out.old) }
     ensures program { IfOk result (λ verified. verified.program ≡ image) }
     ensures verified { IfOk result IsVerified }
     ensures refused { IfErr result
-        (λ ended. RefusesProgram image (W.contents out.old) (W.contents out.new) ended) }
+        (λ ended. RefusesProgram image (W.contents out.old) (W.contents out.new) ended.outcome) }
+    ensures known { IfErr result (IsKnown image) }
 {
-    // A copy, since the verifier takes the image, and the instruction is shown after a refusal. To
-    // read it again from the image's bytes would keep those as long, and could run out of memory
-    // after the program was judged.
-    let Ok(code) = Vec::from_slice(alloc, image.code()) else {
-        return Err(Outcome::NoMemory);
+    // A copy, since the verifier takes the image, and after a refusal its instruction is shown, and
+    // what is known there is looked for. To read it again from the image's bytes would keep those
+    // as long, and could run out of memory after the program was judged.
+    let Ok(copy) = image.copy(alloc) else {
+        return Err(Ending::plain(Outcome::NoMemory));
     };
     match verify(alloc, image) {
         Ok(verified) => Ok(verified),
-        Err(refused) => {
-            let insn = insn_at(&code, refused.1);
-            Err(say_refused(alloc, refused.0, refused.1, insn, out))
+        Err((refusal, slot)) => {
+            let insn = copy.at(slot).copied();
+            let outcome = say_refused(alloc, refusal, slot, insn, out);
+            Err(Ending::of_program(alloc, &copy, outcome))
         }
     }
 }
@@ -147,12 +138,13 @@ pub fn accepted<'a, W: Write>(alloc: Global, verified: &Verified, out: &mut W) -
 }
 
 /// Verifies a program: standard output says the most steps of a run, or the refusal.
-pub fn say_verdict<'a, W: Write>(alloc: Global, image: Image, out: &mut W) -> Outcome<'a>
-    ensures { Verifies image (W.contents out.old) (W.contents out.new) result }
+pub fn say_verdict<'a, W: Write>(alloc: Global, image: Image, out: &mut W) -> Ending<'a>
+    ensures verifies { Verifies image (W.contents out.old) (W.contents out.new) result.outcome }
+    ensures known { IsKnown image result }
 {
     match judge(alloc, image, out) {
-        Ok(verified) => accepted(alloc, &verified, out),
-        Err(outcome) => outcome,
+        Ok(verified) => Ending::plain(accepted(alloc, &verified, out)),
+        Err(ending) => ending,
     }
 }
 

@@ -3,6 +3,7 @@
 mod bounds;
 mod calls;
 mod covered;
+mod explanations;
 mod flows;
 mod loops;
 mod maps;

@@ -57,11 +57,11 @@ fn verifies_and_runs(rt: HostRuntime) -> Result<(), Fail> {
 }
 
 /// A program, how it is refused, and why.
-const REFUSED: [(&str, &str, &str); 8] = [
+const REFUSED: [(&str, &str, &str); 12] = [
     (
         "r0 = r2; exit",
         "refused V1 slot 0\n",
-        "a register is read that may be unset\nslot 0: r0 = r2\n",
+        "a register is read that may be unset\nslot 0: r0 = r2\nr2: unset\n",
     ),
     (
         "r10 = 0; exit",
@@ -71,7 +71,8 @@ const REFUSED: [(&str, &str, &str); 8] = [
     (
         "r0 = r10; exit",
         "refused V17 slot 1\n",
-        "r0 is no number at the last exit, or points into the frame that ends\nslot 1: exit\n",
+        "r0 is no number at the last exit, or points into the frame that ends\nslot 1: exit\n\
+             r0: frame pointer at 0\n",
     ),
     (
         "r0 = 0x1 ll; goto -2",
@@ -91,13 +92,40 @@ const REFUSED: [(&str, &str, &str); 8] = [
     (
         "r0 = 0; goto -1",
         "refused V18 slot 1\n",
-        "a path comes back to a state that it was in: the loop has no end\nslot 1: goto -1\n",
+        "a path comes back to a state that it was in: the loop has no end\nslot 1: goto -1\n\
+             way: 1 -> 1\n",
     ),
     (
         "r6 = *(u32 *)(r1 + 12); if r6 != 0 goto -2; r0 = 2; exit",
         "refused V18 slot 0\n",
         "a path comes back to a state that it was in: the loop has no end\n\
-             slot 0: r6 = *(u32 *)(r1 + 12)\n",
+             slot 0: r6 = *(u32 *)(r1 + 12)\nr1: context\nway: 1 -> 0, 1 -> 0\n",
+    ),
+    (
+        "*(u32 *)(r10 - 8) = 5; r0 = *(u64 *)(r10 - 8); exit",
+        "refused V7 slot 1\n",
+        "stack bytes are read that may be unset, or a part of a stored pointer\n\
+             slot 1: r0 = *(u64 *)(r10 - 8)\n\
+             r10: frame pointer at 0\nstack -8: written bytes -8 -7 -6 -5\n",
+    ),
+    (
+        "r2 = *(u32 *)(r1 + 0); r3 = *(u32 *)(r1 + 16); r3 &= 15; r2 += r3; r2 += 4;
+            *(u64 *)(r10 - 8) = r2; r4 = *(u64 *)(r10 - 8); r4 += r3; r0 = *(u8 *)(r4 + 0); exit",
+        "refused V9 slot 8\n",
+        "the packet bytes are not proved to be there\nslot 8: r0 = *(u8 *)(r4 + 0)\n\
+             r4: packet pointer at 0 after part 2 of 4 to 34, 0 bytes after the part proved\n",
+    ),
+    (
+        "r3 = -7; r1 *= r3; r0 = 2; exit",
+        "refused V3 slot 1\n",
+        "the operation is not defined for a pointer\nslot 1: r1 *= r3\n\
+             r1: context\nr3: number -7\n",
+    ),
+    (
+        "map hash 4 8 1; r1 = map_by_idx(0); r2 = r10; r2 += -6; call 1; exit",
+        "refused V15 slot 4\n",
+        "the helper's key or value bytes are not all written and in bounds\nslot 4: call 1\n\
+             r1: map 0\nr2: frame pointer at -6\nstack -8: unset\n",
     ),
 ];
 

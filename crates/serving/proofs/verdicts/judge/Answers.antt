@@ -1,8 +1,10 @@
-use Rattle.std.proofs.Common.{◌∙◌}
+use Rattle.std.proofs.Common.{◌∙◌, ap}
+use Rattle.isa_model.specs.{Program, fetch}
 use Rattle.serving.proofs.Refusing.{program_refused}
 use Rattle.serving.proofs.verdicts.judge.Goals as goal
 
 pub returns-clause-refused : goal.returns-clause-refused
 returns-clause-refused g c =
-    program_refused _ _ _ _ c.insn_at-insn.result _ _ _ c.in-Err.ensures.refused
-    (c.deref.ensures.value ∙ (c.in-Ok.ensures.items ∙ c.code.ensures)) c.insn_at-insn.ensures c.say_refused.ensures
+    program_refused _ _ _ _ _ _ _ _ c.in-Err.ensures.refused
+    (c.copied-insn.ensures ∙ (c.at.ensures ∙ ap (λ (p : Program). fetch p c.in-Err.slot) c.in-Ok.ensures))
+    c.of_program.ensures.outcome c.say_refused-outcome.ensures

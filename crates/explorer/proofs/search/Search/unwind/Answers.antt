@@ -1,5 +1,4 @@
 use Rattle.std.proofs.Common.{◌≡◌, ◌+◌, ◌++◌, ◌∷◌, [], None, List, max, arith, refl, ap, length, subst}
-use Rattle.std.proofs.lemmas.Result.{err_from_is_err_and}
 use Rattle.stack_state.specs.declared.states.State.{State}
 use Rattle.explorer.specs.declared.trail.Visit.{Visit}
 use Rattle.explorer.specs.declared.search.Resumed.TheVariants.{Ended}
@@ -28,7 +27,7 @@ ended_of : (c : In-Ended) → (state : State) × GetsNumber c.args.flow.now c.lo
 ended_of c =
     let at = c.loop-visit.invariant.at in
     let last = last_of (goal.at.overflow_add-number c).In-Some in
-    let resumed : IsResumed c.args.flow.now c.loop-visit.self.table.entries.items c.in-Some.visit c.loop-visit.number (Ended c.in-Ended.best) c.resume.new.table.entries.items c.resume.new.current = rw c.in-Ended.is at c.in_ok-best.ensures.resumed in (
+    let resumed : IsResumed c.args.flow.now c.loop-visit.self.table.entries.items c.in-Some.visit c.loop-visit.number (Ended c.in-Ended.best) c.resume.new.table.entries.items c.resume.new.current = rw c.in-Ended.is at c.in-Ok.ensures.resumed in (
       last.state,
       visit_ends c.args.flow.now c.loop-visit.self.finished c.loop-visit.self.table.entries.items c.resume.new.table.entries.items c.in-Some.visit last.state at.state c.loop-visit.number c.in-Ended.best
           at.at.fine last.waiting at.within at.most resumed,
@@ -47,7 +46,7 @@ pub loop-visit-preserved : goal.loop-visit-preserved
 loop-visit-preserved c =
     let at = c.loop-visit.invariant.at in
     let last = last_of (goal.at.loop-visit-preserved c).In-Some in
-    let resumed : IsResumed c.args.flow.now c.loop-visit.self.table.entries.items c.in-Some.visit c.loop-visit.number (Ended c.in-Ended.best) c.resume.new.table.entries.items c.resume.new.current = rw c.in-Ended.is at c.in_ok-best.ensures.resumed in
+    let resumed : IsResumed c.args.flow.now c.loop-visit.self.table.entries.items c.in-Some.visit c.loop-visit.number (Ended c.in-Ended.best) c.resume.new.table.entries.items c.resume.new.current = rw c.in-Ended.is at c.in-Ok.ensures.resumed in
     let back = step_back c.args.flow.now c.loop-visit.self.finished c.loop-visit.self.table.entries.items c.resume.new.table.entries.items c.finish.new.self.entries.items at.at.first c.pop.new.self.items c.in-Some.visit at.state c.loop-visit.number c.in-Ended.best
     at.at.begins at.at.fine last (on_path_of (goal.at.loop-visit-preserved c).In-Some) at.within at.most resumed c.finish.ensures in
     let same : c.loop-visit.self.finished + length c.loop-visit.self.path.items ≡ c.loop-visit.self.finished + 1 + length c.pop.new.self.items = omega (arith, c.in-Some.ensures.cases) in
@@ -61,13 +60,13 @@ pub returns-in-Next-clause-goes : goal.returns-in-Next-clause-goes
 returns-in-Next-clause-goes c =
     let at = c.loop-visit.invariant.at in
     let last = last_of (goal.at.returns-in-Next-clause-goes c).In-Some in
-    let resumed : GoesOn c.args.flow.now c.loop-visit.self.table.entries.items c.in-Some.visit c.loop-visit.number c.in-Next.rest c.in-Next.at c.resume.new.table.entries.items c.resume.new.current = rw c.in-Next.is at c.in_ok-best.ensures.resumed in
+    let resumed : GoesOn c.args.flow.now c.loop-visit.self.table.entries.items c.in-Some.visit c.loop-visit.number c.in-Next.rest c.in-Next.at c.resume.new.table.entries.items c.resume.new.current = rw c.in-Next.is at c.in-Ok.ensures.resumed in
     let on = step_on c.args.flow.now c.loop-visit.self.finished c.loop-visit.self.table.entries.items c.resume.new.table.entries.items at.at.first c.pop.new.self.items c.in-Some.visit at.state c.loop-visit.number c.in-Next.rest c.in-Next.at c.resume.new.current c.push.new.self.items
-    at.at.fine last (on_path_of (goal.at.returns-in-Next-clause-goes c).In-Some) at.within at.most resumed c.in-Ok.ensures.items in
-    let same : c.loop-visit.self.finished + length c.loop-visit.self.path.items ≡ c.loop-visit.self.finished + length c.push.new.self.items = omega (arith, c.in-Some.ensures.cases, c.in-Ok.ensures.len) in
+    at.at.fine last (on_path_of (goal.at.returns-in-Next-clause-goes c).In-Some) at.within at.most resumed c.in-Ok-push.ensures.items in
+    let same : c.loop-visit.self.finished + length c.loop-visit.self.path.items ≡ c.loop-visit.self.finished + length c.push.new.self.items = omega (arith, c.in-Some.ensures.cases, c.in-Ok-push.ensures.len) in
     let spent = subst (λ n. CountsTo c.args.flow.now at.at.first c.push.new.self.items c.resume.new.current n) same
     (spent_on c.args.flow.now at.at.first c.pop.new.self.items c.loop-visit.self.path.items c.push.new.self.items c.in-Some.visit c.in-Next.rest c.resume.new.current (c.loop-visit.self.finished + length c.loop-visit.self.path.items)
-    c.in-Some.ensures.items c.in-Ok.ensures.items resumed.is_pending (ap (λ (v : Visit). v.pending) resumed.rest_is) at.spent) in
+    c.in-Some.ensures.items c.in-Ok-push.ensures.items resumed.is_pending (ap (λ (v : Visit). v.pending) resumed.rest_is) at.spent) in
     record { at = record { fine = on.fine; first = at.at.first; begins = at.at.begins; path = on.before }; on_path = on.on_path; stored_at = on.stored; spent = spent; ready = on.ready }
 
 pub returns-clause-goes : goal.returns-clause-goes
@@ -77,8 +76,8 @@ returns-clause-goes c =
     let settled = subst (λ x. Settles c.args.flow.now x c.loop-visit.number) same at.within in
     (Settles-start c.args.flow.now at.at.first c.loop-visit.number at.at.begins settled, at.some, at.most)
 
-pub returns-in_err-best-clause-stops : goal.returns-in_err-best-clause-stops
-returns-in_err-best-clause-stops c =
+pub returns-in-Err-clause-stops : goal.returns-in-Err-clause-stops
+returns-in-Err-clause-stops c =
     let p = c.args.flow.now in
     let m = c.loop-visit.self.finished in
     let table = c.loop-visit.self.table.entries.items in
@@ -87,10 +86,9 @@ returns-in_err-best-clause-stops c =
     let n = c.loop-visit.number in
     let at = c.loop-visit.invariant.at in
     let b = c.resume.new.current in
-    let w = (goal.at.returns-in_err-best-clause-stops c).In-Some in
+    let w = (goal.at.returns-in-Err-clause-stops c).In-Some in
     let next : Visit = record { pending = None; best = max visit.best n; stored = visit.stored } in
-    let refusal = c.in_err-best.field-0.0 in
-    let given = err_from_is_err_and c.from_residual.result c.from_residual.ensures.1 in
-    let walk = step_aside p m table at.at.first path visit at.state n b (last_of w) at.within at.most c.in_err-best.ensures.pending in
+    let refusal = c.in-Err.refused in
+    let walk = step_aside p m table at.at.first path visit at.state n b (last_of w) at.within at.most c.in-Err.ensures.pending in
     let on_path = OnPath-push table path (path ++ next ∷ []) next refl (on_path_of w) in
-    rw (given.1, given.2) (turned_back p m table (path ++ next ∷ []) at.at.first b refusal.0 refusal.1 at.at.begins walk on_path c.in_err-best.ensures.refused)
+    turned_back p m table (path ++ next ∷ []) at.at.first b refusal.0 refusal.1 at.at.begins walk on_path c.in-Err.ensures.refused

@@ -1,0 +1,293 @@
+#!/usr/bin/env python3
+"""Compares a step of `run` and of `trace` with one of a plain interpreter in C (bench/switch.c, gcc -O2), on nine
+programs: by processor seconds, less the start and those of a program that exits at once, on the same frames.
+
+usage: python3 bench/speed.py PROGRAM [PROGRAM ..]
+
+Where code lies in memory moves a loop by 10 to 30 %, so the interpreter in C is built four times, its code further on by
+16 bytes each, and several builds of xdpvm can be given. Each figure is the least of TIMES runs, in turn, over
+all builds.
+"""
+import os
+import random
+import resource
+import struct
+import subprocess
+import sys
+import tempfile
+
+HERE = os.path.dirname(os.path.abspath(__file__))
+PROGRAMS = [os.path.abspath(path) for path in sys.argv[1:]]
+TIMES = int(os.environ.get("TIMES", "8"))
+PADS = [0, 16, 32, 48]
+
+IDLE = "r0 = 1\nexit\n"
+
+# Each frame has 64 packets of 64 bytes, one after the other.
+PARSE = """
+        r2 = *(u32 *)(r1 + 0)
+        r3 = *(u32 *)(r1 + 4)
+        r8 = 0
+again:  r4 = r2
+        r4 += 64
+        if r4 > r3 goto drop
+        r5 = *(u16 *)(r2 + 12)
+        if r5 != 8 goto next
+        r5 = *(u8 *)(r2 + 14)
+        if r5 != 69 goto next
+        r5 = *(u8 *)(r2 + 23)
+        if r5 == 6 goto tcp
+        if r5 != 17 goto next
+        r5 = *(u16 *)(r2 + 36)
+        r5 = be16 r5
+        if r5 == 53 goto next
+        if r5 == 123 goto next
+        goto hash
+tcp:    r5 = *(u8 *)(r2 + 47)
+        r5 &= 18
+        if r5 == 2 goto next
+hash:   r5 = *(u32 *)(r2 + 26)
+        r6 = *(u32 *)(r2 + 30)
+        r5 *= 73244475
+        r7 = r5
+        r7 >>= 16
+        r5 ^= r7
+        r5 ^= r6
+        r5 *= 73244475
+        w5 = w5
+        r7 = r5
+        r7 >>= 16
+        r5 ^= r7
+        r5 &= 15
+        if r5 == 3 goto next
+next:   r2 += 64
+        r8 += 1
+        if r8 < 64 goto again
+drop:   r0 = 1
+        exit
+"""
+
+
+def counted(turns):
+    return f"r1 = 0\nloop: r1 += 1\nif r1 < {turns} goto loop\nr0 = 1\nexit\n"
+
+
+SEVEN = """
+        r6 = 0
+        r0 = 1
+loop:   r0 *= 31
+        r0 += r6
+        r7 = r0
+        r7 >>= 7
+        r0 ^= r7
+        r6 += 1
+        if r6 < 100000 goto loop
+        r0 = 1
+        exit
+"""
+
+FRAME = """
+        r9 = 0
+again:  r2 = r10
+        r2 += -256
+        r3 = 0
+fill:   *(u8 *)(r2 + 0) = r3
+        r2 += 1
+        r3 += 3
+        if r3 < 768 goto fill
+        r2 = r10
+        r2 += -256
+        r3 = 0
+        r0 = 0
+sum:    r4 = *(u8 *)(r2 + 0)
+        r0 += r4
+        r2 += 1
+        r3 += 1
+        if r3 < 256 goto sum
+        *(u64 *)(r10 - 264) = r0
+        r0 = *(u64 *)(r10 - 264)
+        r9 += 1
+        if r9 < 40 goto again
+        r0 = 1
+        exit
+"""
+
+PACKET = """
+        r2 = *(u32 *)(r1 + 0)
+        r3 = *(u32 *)(r1 + 4)
+        r0 = 0
+        r6 = 0
+sum:    r4 = r2
+        r4 += 1
+        if r4 > r3 goto done
+        r5 = *(u8 *)(r2 + 0)
+        r0 += r5
+        r2 += 1
+        r6 += 1
+        if r6 < 4096 goto sum
+done:   r0 = 1
+        exit
+"""
+
+MAP = """
+        map array 4 16 256
+        r7 = r1
+        r6 = *(u32 *)(r7 + 16)
+        r9 = 0
+again:  r6 += 1
+        r6 &= 255
+        *(u32 *)(r10 - 4) = r6
+        r1 = map_by_idx(0)
+        r2 = r10
+        r2 += -4
+        call 1
+        if r0 == 0 goto none
+        r1 = 1
+        lock *(u64 *)(r0 + 0) += r1
+        r1 = *(u64 *)(r0 + 8)
+        r1 += 60
+        *(u64 *)(r0 + 8) = r1
+none:   r9 += 1
+        if r9 < 2000 goto again
+        r0 = 1
+        exit
+"""
+
+
+def straight(slots):
+    """Five forms in turn, each slot once."""
+    body = ["r1 = 1", "r2 = 3"]
+    forms = ["r1 += r2", "r2 ^= r1", "r1 *= 5", "r2 += 7", "r1 &= 1048575"]
+    while len(body) < slots - 2:
+        body.append(forms[len(body) % len(forms)])
+    return "\n".join(body + ["r0 = 1", "exit"]) + "\n"
+
+
+def mixed(slots):
+    """Forms at random, each slot once."""
+    choose = random.Random(5)
+    body = [f"r{register} = {choose.randrange(1, 1000)}" for register in range(2, 10)]
+    while len(body) < slots - 2:
+        to, by = choose.randrange(2, 10), choose.randrange(2, 10)
+        half = choose.choice("rrrw")
+        operator = choose.choice(["+", "-", "^", "&", "|", "*", "<<", ">>", ""])
+        source = str(choose.randrange(1, 31)) if operator in ["<<", ">>"] or choose.random() < 0.3 else f"{half}{by}"
+        body.append(f"{half}{to} {operator}= {source}")
+    return "\n".join(body + ["r0 = 1", "exit"]) + "\n"
+
+
+def branches():
+    """Ten branches on the bytes of each of 64 packets in a frame. What was added up goes into a number of which nothing
+    is known, so that a turn begins in the state of the one before."""
+    lines = ["r2 = *(u32 *)(r1 + 0)", "r3 = *(u32 *)(r1 + 4)", "r9 = *(u32 *)(r1 + 16)", "r8 = 0"]
+    lines += ["again: r4 = r2", "r4 += 64", "if r4 > r3 goto done", "r0 = 0"]
+    for place, limit in enumerate([110, 255, 56, 116, 30, 33, 160, 97, 15, 128]):
+        lines += [f"r5 = *(u8 *)(r2 + {place + 38})", f"if r5 < {limit} goto +1", "r0 += 1", "r0 += r5"]
+    lines += ["r9 *= 31", "r9 ^= r0", "r2 += 64", "r8 += 1", "if r8 < 64 goto again", "done: r0 = 1", "exit"]
+    return "\n".join(lines) + "\n"
+
+
+def packets(count):
+    """A stream of frames of 64 packets: most of IPv4, UDP and TCP, to a few ports; what follows is random."""
+    choose = random.Random(3)
+    stream = [b"XPF1"]
+    for _ in range(count):
+        body = b""
+        for _ in range(64):
+            protocol, port = choose.choice([6, 17]), choose.choice([53, 80])
+            kind = b"\x08\0" if choose.randrange(16) else b"\x86\xdd"
+            head = b"\2\0\0\0\0\1\2\0\0\0\0\2" + kind + b"\x45\0\0\x32\0\1\0\0\x40" + bytes([protocol]) + b"\0\0"
+            head += choose.randbytes(4) + b"\x0a\0\0\2\3\xe8" + struct.pack(">H", port)
+            body += head + choose.randbytes(64 - len(head))
+        stream.append(struct.pack("<QIII", 0, 1, 0, len(body)) + body)
+    return b"".join(stream)
+
+
+def plain(count):
+    return b"XPF1" + (struct.pack("<QIII", 0, 1, 0, 60) + bytes(60)) * count
+
+
+def processor(words):
+    """The processor seconds of a command, and its output's last words."""
+    before = resource.getrusage(resource.RUSAGE_CHILDREN)
+    ended = subprocess.run(words, stdout=subprocess.PIPE, stderr=subprocess.PIPE, text=True)
+    after = resource.getrusage(resource.RUSAGE_CHILDREN)
+    if ended.returncode != 0:
+        sys.exit(f"{' '.join(words)}: {ended.returncode} {ended.stdout[-200:]} {ended.stderr}")
+    return after.ru_utime + after.ru_stime - before.ru_utime - before.ru_stime, ended.stdout
+
+
+def assembled(name, text):
+    with open(name + ".text", "w") as file:
+        file.write(text)
+    processor([PROGRAMS[0], "asm", name + ".text", name + ".image"])
+    return name + ".image"
+
+
+def steps_of(report):
+    return sum(int(line.split()[3]) for line in report.splitlines() if line.split()[1] == "DROP")
+
+
+def seconds_of(program, command, image, stream):
+    """What a command takes for the frames of a stream, less what a program that exits at once takes for them."""
+
+    def on(image, stream):
+        return processor([program, command, image, stream, "sent"])
+
+    whole, report = on(image, stream)
+    frames = whole - on(image, "none.frames")[0]
+    idle = on("idle.image", stream)[0] - on("idle.image", "none.frames")[0]
+    return frames - idle, steps_of(report)
+
+
+def compared(name, text, stream, ways):
+    image = assembled("p", text)
+    with open("p.frames", "wb") as file:
+        file.write(stream)
+    best = {}
+    for _ in range(TIMES):
+        counts = set()
+        for pad in PADS:
+            steps, seconds, _ = processor([f"./switch{pad}", image, "p.frames", "1"])[1].split()
+            best[f"C {pad}"] = min(best.get(f"C {pad}", 1e9), float(seconds))
+            counts.add(int(steps))
+        for number, program in enumerate(PROGRAMS):
+            for command in ways:
+                seconds, steps = seconds_of(program, command, image, "p.frames")
+                key = f"{command} {number}"
+                best[key] = min(best.get(key, 1e9), seconds)
+                counts.add(steps)
+        if len(counts) != 1:
+            sys.exit(f"{name}: steps {counts}")
+    least = {way: min(best[key] for key in best if key.startswith(way)) for way in ["C"] + ways}
+    each = [f"{best[f'run {number}'] / least['C']:.2f}" for number in range(len(PROGRAMS))]
+    traced = f"{least['trace'] / least['run']:.1f}" if "trace" in ways else "-"
+    print(f"{name:<44}{least['C'] * 1e9 / counts.pop():>7.2f}{least['run'] / least['C']:>9.2f}{traced:>9}   {' '.join(each)}", flush=True)
+
+
+def main():
+    rows = [
+        ("packet parse, 64 in a frame", PARSE, packets(5000)),
+        ("loop of 2 instructions", counted(499_998), plain(100)),
+        ("loop of 7 instructions", SEVEN, plain(150)),
+        ("3,000 straight slots, 5 forms in turn", straight(3_000), plain(20_000)),
+        ("3,000 straight slots, forms at random", mixed(3_000), plain(8_000)),
+        ("byte loop over a stack frame", FRAME, plain(800)),
+        ("byte loop over a packet", PACKET, packets(2000)),
+        ("ten branches on a packet, 64 in a frame", branches(), packets(3000)),
+        ("array map: look-up, atomic add, update", MAP, plain(1_500)),
+    ]
+    with tempfile.TemporaryDirectory() as folder:
+        os.chdir(folder)
+        for pad in PADS:
+            subprocess.run(["gcc", "-O2", f"-DPAD={pad + 1}", "-o", f"switch{pad}", os.path.join(HERE, "switch.c")], check=True)
+        assembled("idle", IDLE)
+        with open("none.frames", "wb") as file:
+            file.write(plain(0))
+        print(f"{'program':<44}{'C ns':>7}{'run/C':>9}{'trace/run':>9}   each build")
+        for name, text, stream in rows:
+            compared(name, text, stream, ["run", "trace"])
+        os.chdir("/")
+
+
+main()

@@ -1,0 +1,112 @@
+-- A task of which standard output has got nothing left it as it was.
+use Rattle.std.proofs.Common.{◌≡◌, ◌∙◌, ℕ, List, Option, Some, None, Result, Ok, Err, true, false, ap, refl, inl, inr}
+use Rattle.std.proofs.lemmas.Bool.{both_ways, false≢true}
+use Rattle.isa_model.specs.declared.streams.Fault.{Fault}
+use Rattle.isa_model.specs.{Program}
+use Rattle.host.specs.declared.errors.HostError.{HostError}
+use Rattle.host.specs.declared.errors.HostError.TheVariants as failure
+use Rattle.host.specs.declared.tallies.Tally.{Tally}
+use Rattle.tasks.specs.Requests.{Request, RunFiles, Trace, Run, Verify, Assemble, Disassemble, NotBuilt}
+use Rattle.serving.specs.declared.outcomes.Outcome.{Outcome}
+use Rattle.serving.specs.declared.outcomes.Outcome.TheVariants as outcome
+use Rattle.serving.specs.declared.endings.Ending.{Ending}
+use Rattle.serving.specs.Statuses.{is_silent, IsWriteFailure}
+use Rattle.serving.specs.Saying.{Says}
+use Rattle.serving.specs.Judging.{RefusesImage, RefusesProgram, RefusesText, Verifies, Stores}
+use Rattle.serving.specs.Streams.{EndsBy, outcome_at}
+use Rattle.serving.specs.Commands.{LoadsNone, OpensNone, TracesFile, RunsFile, VerifiesFile, DisassemblesFile, AssemblesFile, Serves}
+
+-- ---- what is not silent
+
+write_loud : (name : List ℕ) (r : Outcome) → IsWriteFailure name r → is_silent r ≡ true → ⊥
+write_loud name outcome.Done h e = h
+write_loud name (outcome.WrongWords text) h e = h
+write_loud name (outcome.NotBuilt command) h e = h
+write_loud name (outcome.Refused rejection) h e = h
+write_loud name outcome.Faulted h e = h
+write_loud name (outcome.CannotRead path kind) h e = h
+write_loud name (outcome.CannotWrite path cause) h e = false≢true e
+write_loud name (outcome.CannotReplace path) h e = h
+write_loud name outcome.NoMemory h e = h
+
+says_loud : (old new : Option (List ℕ)) (text : List ℕ) (ended r : Outcome) → is_silent ended ≡ false → Says old new text ended r → is_silent r ≡ true → ⊥
+says_loud old new text ended r loud (inl said) e = both_ways (is_silent r) (ap is_silent said.1 ∙ loud) e
+says_loud old new text ended r loud (inr failed) e = write_loud _ r failed.1 e
+
+at_loud : (fault : Option (Fault × ℕ)) → is_silent (outcome_at fault) ≡ false
+at_loud None = refl
+at_loud (Some fault) = refl
+
+-- a run of which standard output has got nothing lacked memory
+ends_silent : (name : List ℕ) (ended : Result Tally HostError) (r : Outcome) → EndsBy name ended r → is_silent r ≡ true → ended ≡ Err failure.Memory
+ends_silent name (Ok tally) r h e = absurd (both_ways (is_silent r) (ap is_silent h ∙ at_loud tally.fault) e)
+ends_silent name (Err failure.Memory) r h e = refl
+ends_silent name (Err failure.Report) r h e = absurd (write_loud _ r h e)
+ends_silent name (Err failure.Frames) r h e = absurd (write_loud name r h e)
+
+-- ---- what is judged
+
+image_silent : (bytes : List ℕ) (old new : Option (List ℕ)) (r : Outcome) → RefusesImage bytes old new r → is_silent r ≡ true → new ≡ old
+image_silent bytes old new r (inl lacks) e = lacks.1
+image_silent bytes old new r (inr (error, is, says)) e = absurd (says_loud old new _ _ r refl says e)
+
+program_silent : (p : Program) (old new : Option (List ℕ)) (r : Outcome) → RefusesProgram p old new r → is_silent r ≡ true → new ≡ old
+program_silent p old new r (inl lacks) e = lacks.1
+program_silent p old new r (inr (refusal, slot, is, other, says)) e = absurd (says_loud old new _ _ r refl says e)
+
+text_silent : (source : List ℕ) (old new : Option (List ℕ)) (r : Outcome) → RefusesText source old new r → is_silent r ≡ true → new ≡ old
+text_silent source old new r (inl lacks) e = lacks.1
+text_silent source old new r (inr (error, is, other, says)) e = absurd (says_loud old new _ _ r refl says e)
+
+verdict_silent : (p : Program) (old new : Option (List ℕ)) (r : Outcome) → Verifies p old new r → is_silent r ≡ true → new ≡ old
+verdict_silent p old new r (inl (v, is, same, inl lacks)) e = lacks.1
+verdict_silent p old new r (inl (v, is, same, inr says)) e = absurd (says_loud old new _ _ r refl says e)
+verdict_silent p old new r (inr refuses) e = program_silent p old new r refuses e
+
+stores_silent : (p : Program) (line name : List ℕ) (before after old new : Option (List ℕ)) (r : Outcome) → Stores p line name before after old new r → is_silent r ≡ true → new ≡ old
+stores_silent p line name before after old new r (inl (written, says)) e = absurd (says_loud old new _ _ r refl says e)
+stores_silent p line name before after old new r (inr (written, fails, same)) e = same
+
+-- ---- the commands
+
+loads_silent : (path : List ℕ) (old new : Option (List ℕ)) (r : Outcome) → LoadsNone path old new r → is_silent r ≡ true → new ≡ old
+loads_silent path old new r (inl reads) e = reads.1
+loads_silent path old new r (inr (bytes, refuses)) e = image_silent bytes old new r refuses e
+
+opens_silent : (files : RunFiles) (old new : Option (List ℕ)) (r : Outcome) → OpensNone files old new r → new ≡ old
+opens_silent files old new r (inl reads) = reads.1
+opens_silent files old new r (inr makes) = makes.1
+
+trace_silent : (files : RunFiles) (limit : ℕ) (old new : Option (List ℕ)) (r : Outcome) → TracesFile files limit old new r → is_silent r ≡ true → new ≡ old
+trace_silent files limit old new r (inl loads) e = loads_silent _ old new r loads e
+trace_silent files limit old new r (inr (p, is, inl opens)) e = opens_silent files old new r opens
+trace_silent files limit old new r (inr (p, is, inr some)) e = some.traces.report_untouched (ends_silent _ _ r some.traces.ends e)
+
+run_silent : (files : RunFiles) (old new : Option (List ℕ)) (r : Ending) → RunsFile files old new r → is_silent r.outcome ≡ true → new ≡ old
+run_silent files old new r (inl (loads, none)) e = loads_silent _ old new r.outcome loads e
+run_silent files old new r (inr (p, is, (inl refuses, known))) e = program_silent p old new r.outcome refuses e
+run_silent files old new r (inr (p, is, (inr (bound, verified, inl opens), known))) e = opens_silent files old new r.outcome opens
+run_silent files old new r (inr (p, is, (inr (bound, verified, inr some), known))) e =
+    some.runs.report_untouched (ends_silent _ _ r.outcome some.runs.ends e)
+
+verify_silent : (path : List ℕ) (old new : Option (List ℕ)) (r : Ending) → VerifiesFile path old new r → is_silent r.outcome ≡ true → new ≡ old
+verify_silent path old new r (inl (loads, none)) e = loads_silent path old new r.outcome loads e
+verify_silent path old new r (inr (p, is, (verdict, known))) e = verdict_silent p old new r.outcome verdict e
+
+disassemble_silent : (path : List ℕ) (old new : Option (List ℕ)) (r : Outcome) → DisassemblesFile path old new r → is_silent r ≡ true → new ≡ old
+disassemble_silent path old new r (inl loads) e = loads_silent path old new r loads e
+disassemble_silent path old new r (inr (p, is, says)) e = absurd (says_loud old new _ _ r refl says e)
+
+assemble_silent : (text image : List ℕ) (old new : Option (List ℕ)) (r : Outcome) → AssemblesFile text image old new r → is_silent r ≡ true → new ≡ old
+assemble_silent text image old new r (inl reads) e = reads.1
+assemble_silent text image old new r (inr (source, inl refuses)) e = text_silent source old new r refuses e
+assemble_silent text image old new r (inr (source, inr (p, is, inl makes))) e = makes.1
+assemble_silent text image old new r (inr (source, inr (p, is, inr some))) e = stores_silent p _ image _ _ old new r some.stores e
+
+pub served_silent : (request : Request) (old new : Option (List ℕ)) (r : Ending) → Serves (Some request) old new r → is_silent r.outcome ≡ true → new ≡ old
+served_silent (Trace files limit) old new r h e = trace_silent files limit old new r.outcome h.0 e
+served_silent (Run files) old new r h e = run_silent files old new r h e
+served_silent (Verify path) old new r h e = verify_silent path old new r h e
+served_silent (Assemble text image) old new r h e = assemble_silent text image old new r.outcome h.0 e
+served_silent (Disassemble path) old new r h e = disassemble_silent path old new r.outcome h.0 e
+served_silent (NotBuilt name) old new r h e = h.0.1

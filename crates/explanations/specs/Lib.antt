@@ -1,0 +1,5 @@
+pub mod Numbers
+pub mod Kinds
+pub mod Slots
+pub mod Lines
+pub mod Reasons

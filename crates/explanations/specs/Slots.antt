@@ -1,0 +1,55 @@
+-- What is known of the eight bytes of a stack slot, in words.
+use Rattle.std.specs.Prelude.{ℕ, zero, suc, ◌+◌, ◌-◌, ◌*◌, ◌/◌, ◌==◌, nat_lt, ℤ, pos, negsuc, ◌+ℤ◌, ◌-ℤ◌, List, [], ◌++◌, length, Option, Some, None, codes, if◌then◌else◌}
+use Rattle.std.specs.Fmt.{signed_decimal}
+use Rattle.std.specs.Int.{bit_at}
+use Rattle.stack_state.specs.declared.slots.Slot.{Slot}
+use Rattle.stack_state.specs.declared.slots.Slot.TheVariants.{Written, Spilled}
+use Rattle.stack_state.specs.declared.states.State.{State}
+use Rattle.stack_state.specs.Meaning.{slots_of}
+use Rattle.stack_state.specs.Slots.{slot_at, marks_of}
+use Rattle.explanations.specs.Kinds.{calls_up, kind_words}
+
+-- where a byte of the slot is, counted from the end of the frame
+abbrev pub place_of : ℕ → ℕ → ℤ
+place_of slot byte = pos (8 * slot + byte) -ℤ pos 512
+
+-- the byte's place, if it is a written number byte
+abbrev pub byte_word : ℕ → ℕ → ℕ → List ℕ
+byte_word slot marks byte = if bit_at marks byte == 1 then codes " " ++ signed_decimal (place_of slot byte) else []
+
+-- the places of those among its last bytes, so many
+abbrev pub written_words : ℕ → ℕ → ℕ → List ℕ
+written_words slot marks zero = []
+written_words slot marks (suc n) = byte_word slot marks (7 - n) ++ written_words slot marks n
+
+-- what is known of the slot, where the innermost frame has this number
+abbrev pub slot_words : ℕ → ℕ → Slot → List ℕ
+slot_words innermost slot (Written marks) =
+    if marks == 0 then codes "unset"
+    else if marks == 255 then codes "written"
+    else codes "written bytes" ++ written_words slot marks 8
+slot_words innermost slot (Spilled k) = kind_words innermost k
+
+-- a slot of a frame: where it begins, counted from the end of the frame, and what is known of it
+abbrev pub slot_line : State → ℕ → ℕ → List ℕ
+slot_line a frame slot =
+    codes "stack " ++ (signed_decimal (place_of slot 0) ++ (calls_up (length a.callers.items - frame)
+    ++ (codes ": " ++ (slot_words (length a.callers.items) slot (slot_at (slots_of a frame) slot) ++ codes "\n"))))
+
+-- the byte of a frame so far from its end
+abbrev pub in_frame : ℤ → Option ℕ
+in_frame (pos n) = if nat_lt n 512 then Some n else None
+in_frame (negsuc n) = None
+
+abbrev pub byte_at : ℤ → Option ℕ
+byte_at z = in_frame (z +ℤ pos 512)
+
+-- the line of the slot in which a byte is
+abbrev pub byte_line : State → ℕ → Option ℕ → List ℕ
+byte_line a frame None = []
+byte_line a frame (Some at) = slot_line a frame (at / 8)
+
+-- the first slot of so many, not all of whose bytes are written number bytes
+abbrev pub first_open : List Slot → ℕ → ℕ → Option ℕ
+first_open slots slot zero = None
+first_open slots slot (suc n) = if marks_of (slot_at slots slot) == 255 then first_open slots (slot + 1) n else Some slot

@@ -1,0 +1,183 @@
+//! What of a state concerns an instruction, a line each, and the way.
+
+ghost use Rattle.std.specs.Prelude.{◌≡◌, ◌++◌, IfOk, MatchOption, None, Some, option_to_list};
+ghost use Rattle.std.specs.List.{flat_map};
+ghost use Rattle.std.specs.Option.{option_copied};
+ghost use Rattle.std.specs.String.{string_bytes};
+ghost use Rattle.isa_model.specs.Code.Helpers.{helper_numbered};
+ghost use Rattle.explanations.specs.Lines as spec;
+ghost use Rattle.explanations.specs.Lines.{concerned, register_lines, called_row, stack_lines};
+ghost use Rattle.explanations.specs.Lines.{more_jumps};
+
+use crate::kinds::kind_words;
+use crate::slots::{byte_at, first_open, slot_line};
+use explorer::Jump;
+use isa_model::{Helper, Insn, MapDef, Place, Reg};
+use reg_state::Kind;
+use stack_state::State;
+use std::alloc::{AllocError, Global};
+
+// ---- registers
+
+/// Four registers, or fewer.
+type Registers = (Option<Reg>, Option<Reg>, Option<Reg>, Option<Reg>);
+
+/// The registers that concern an instruction.
+fn concerned(insn: &Insn) -> Registers
+    ensures { option_to_list result.0 ++ option_to_list result.1 ++ option_to_list result.2
+        ++ option_to_list result.3 ≡ concerned insn.now }
+{
+    match insn {
+        Insn::Exit => (Some(Reg::R0), None, None, None),
+        insn => insn.read(),
+    }
+}
+
+/// The line of a register, if there is one.
+#[tactic(auto, using(crate::proofs::Words::flat_map_one))]
+fn register_line(alloc: Global, state: &State, register: Option<Reg>) -> Result<String, AllocError>
+    ensures { IfOk result (λ text. string_bytes text
+        ≡ flat_map (spec.register_line state.now) (option_to_list register)) }
+{
+    let Some(register) = register else {
+        return Ok(String::new(alloc));
+    };
+    let number = register.number();
+    let words = kind_words(alloc, state.callers.len(), state.kind_of(register))?;
+    format!(in alloc; "r{number}: {words}\n")
+}
+
+/// The lines of the registers that concern an instruction.
+#[tactic(auto, using(crate::proofs::Words::flat_map_four))]
+pub fn register_lines(alloc: Global, state: &State, insn: &Insn) -> Result<String, AllocError>
+    ensures { IfOk result (λ text. string_bytes text ≡ register_lines state.now insn.now) }
+{
+    let (first, second, third, fourth) = concerned(insn);
+    let first = register_line(alloc, state, first)?;
+    let second = register_line(alloc, state, second)?;
+    let third = register_line(alloc, state, third)?;
+    let fourth = register_line(alloc, state, fourth)?;
+    format!(in alloc; "{first}{second}{third}{fourth}")
+}
+
+// ---- stack slots
+
+/// The line of the slot that is read through a place.
+fn place_line(alloc: Global, state: &State, place: Place) -> Result<String, AllocError>
+    ensures { IfOk result (λ text. string_bytes text ≡ spec.place_line state.now place) }
+{
+    match state.kind_of(place.base) {
+        Kind::Stack { frame, offset } => {
+            match byte_at(i64::from(offset) + i64::from(place.offset)) {
+                Some(at) => slot_line(alloc, state, frame, at / 8),
+                None => Ok(String::new(alloc)),
+            }
+        }
+        _ => Ok(String::new(alloc)),
+    }
+}
+
+/// The line of the first slot of a helper's bytes that is not all written.
+fn bytes_line(alloc: Global, state: &State, kind: Kind, count: u32) -> Result<String, AllocError>
+    ensures { IfOk result (λ text. string_bytes text ≡ spec.bytes_line state.now kind count) }
+{
+    let Kind::Stack { frame, offset } = kind else {
+        return Ok(String::new(alloc));
+    };
+    let Some(at) = byte_at(i64::from(offset)) else {
+        return Ok(String::new(alloc));
+    };
+    let slot = at / 8;
+    let touched = (at % 8 + count as usize + 7) / 8;
+    match first_open(state, frame, slot, touched.min(64 - slot)) {
+        Some(slot) => slot_line(alloc, state, frame, slot),
+        None => Ok(String::new(alloc)),
+    }
+}
+
+/// The row of the map that a helper is given.
+fn called_row(maps: &[MapDef], kind: Kind) -> Option<MapDef>
+    ensures { result ≡ called_row maps.now kind }
+{
+    match kind {
+        Kind::Map { index } => maps.get(usize::from(index)).copied(),
+        _ => None,
+    }
+}
+
+/// The lines of the bytes of a helper's key and value.
+fn helper_lines(
+    alloc: Global,
+    maps: &[MapDef],
+    state: &State,
+    helper: Option<Helper>,
+) -> Result<String, AllocError>
+    ensures { IfOk result (λ text. string_bytes text
+        ≡ spec.helper_lines maps.now state.now helper) }
+{
+    let Some(row) = called_row(maps, state.kind_of(Reg::R1)) else {
+        return Ok(String::new(alloc));
+    };
+    let key = state.kind_of(Reg::R2);
+    let value = state.kind_of(Reg::R3);
+    match helper {
+        Some(Helper::MapLookupElem | Helper::MapDeleteElem) => {
+            bytes_line(alloc, state, key, u32::from(row.key_size))
+        }
+        Some(Helper::MapUpdateElem) => {
+            let key = bytes_line(alloc, state, key, u32::from(row.key_size))?;
+            let value = bytes_line(alloc, state, value, row.value_size)?;
+            format!(in alloc; "{key}{value}")
+        }
+        Some(Helper::KtimeGetNs) | None => Ok(String::new(alloc)),
+    }
+}
+
+/// The lines of the stack slots that an instruction reads.
+pub fn stack_lines(
+    alloc: Global,
+    maps: &[MapDef],
+    state: &State,
+    insn: &Insn,
+) -> Result<String, AllocError>
+    ensures { IfOk result (λ text. string_bytes text
+        ≡ stack_lines maps.now state.now insn.now) }
+{
+    match *insn {
+        Insn::Load(_, _, place) => place_line(alloc, state, place),
+        Insn::LoadSx(_, _, place) => place_line(alloc, state, place),
+        Insn::Atomic(_, _, _, place, _) => place_line(alloc, state, place),
+        Insn::Exchange(_, place, _) => place_line(alloc, state, place),
+        Insn::CompareExchange(_, place, _) => place_line(alloc, state, place),
+        Insn::CallHelper(number) => helper_lines(alloc, maps, state, Helper::numbered(number)),
+        _ => Ok(String::new(alloc)),
+    }
+}
+
+// ---- the way
+
+/// The jumps after the first, each after a comma.
+fn more_jumps(alloc: Global, way: &[Jump]) -> Result<String, AllocError>
+    ensures { IfOk result (λ text. string_bytes text ≡ more_jumps way.now) }
+{
+    let mut text = String::new(alloc);
+    for index in 0..way.len() {
+        let from = way[index].from;
+        let to = way[index].to;
+        text = format!(in alloc; "{text}, {from} -> {to}")?;
+    }
+    Ok(text)
+}
+
+/// The line of the way, if there are jumps.
+pub fn way_line(alloc: Global, way: &[Jump]) -> Result<String, AllocError>
+    ensures { IfOk result (λ text. string_bytes text ≡ spec.way_line way.now) }
+{
+    if way.is_empty() {
+        return Ok(String::new(alloc));
+    }
+    let from = way[0].from;
+    let to = way[0].to;
+    let rest = more_jumps(alloc, &way[1..])?;
+    format!(in alloc; "way: {from} -> {to}{rest}\n")
+}

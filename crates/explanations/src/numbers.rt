@@ -1,0 +1,39 @@
+//! Numbers of which something is known, in words.
+
+ghost use Rattle.std.specs.Prelude.{◌≡◌, IfOk};
+ghost use Rattle.std.specs.String.{string_bytes};
+ghost use Rattle.explanations.specs.Numbers.{says_more, number_words};
+
+use ranges::Wide;
+use reg_state::Scalar;
+use std::alloc::{AllocError, Global};
+
+/// Whether the signed limits say more than the unsigned ones.
+fn says_more(limits: Wide) -> bool
+    ensures { result ≡ says_more limits }
+{
+    limits.greatest >= 1 << 63
+        && (i64::MIN < limits.signed_least || limits.signed_greatest < i64::MAX)
+}
+
+/// The number, or its limits at 64 bits.
+pub fn number_words(alloc: Global, numbers: Scalar) -> Result<String, AllocError>
+    ensures { IfOk result (λ text. string_bytes text ≡ number_words numbers) }
+{
+    let limits = numbers.range.wide;
+    let least = limits.least;
+    let greatest = limits.greatest;
+    if least == greatest {
+        let number = least.cast_signed();
+        return format!(in alloc; "number {number}");
+    }
+    if says_more(limits) {
+        let least = limits.signed_least;
+        let greatest = limits.signed_greatest;
+        return format!(in alloc; "number {least} to {greatest}");
+    }
+    if least == 0 && greatest == u64::MAX {
+        return String::from_str(alloc, "any number");
+    }
+    format!(in alloc; "number {least} to {greatest}")
+}

@@ -1,0 +1,115 @@
+//! What is known of the slots of the stack, in words.
+
+ghost use Rattle.std.specs.Prelude.{◌≡◌, ◌<◌, ◌≤◌, IfOk, IfSome, ◌+◌};
+ghost use Rattle.std.specs.String.{string_bytes};
+ghost use Rattle.stack_state.specs.Meaning.{slots_of};
+ghost use Rattle.stack_state.specs.Slots.{slot_at};
+ghost use Rattle.explanations.specs.Slots.{place_of, byte_word, written_words, slot_words};
+ghost use Rattle.explanations.specs.Slots.{slot_line, byte_at, first_open};
+
+use crate::kinds::{calls_up, kind_words};
+use stack_state::{Slot, State};
+use std::alloc::{AllocError, Global};
+
+/// Where a byte of a slot is, counted from the end of the frame.
+fn place_of(slot: usize, byte: u8) -> i64
+    requires slot { slot < 64 }
+    requires byte { byte < 8 }
+    ensures { result ≡ place_of slot byte }
+{
+    (8 * slot + usize::from(byte)) as i64 - 512
+}
+
+/// The byte's place, if it is a written number byte.
+fn byte_word(alloc: Global, slot: usize, marks: u8, byte: u8) -> Result<String, AllocError>
+    requires slot { slot < 64 }
+    requires byte { byte < 8 }
+    ensures { IfOk result (λ text. string_bytes text ≡ byte_word slot marks byte) }
+{
+    if (marks >> byte) & 1 != 1 {
+        return Ok(String::new(alloc));
+    }
+    let place = place_of(slot, byte);
+    format!(in alloc; " {place}")
+}
+
+/// The places of the written number bytes of a slot.
+fn written_words(alloc: Global, slot: usize, marks: u8) -> Result<String, AllocError>
+    requires { slot < 64 }
+    ensures { IfOk result (λ text. string_bytes text ≡ written_words slot marks 8) }
+{
+    let mut text = String::new(alloc);
+    for count in 0..8u8 {
+        let word = byte_word(alloc, slot, marks, 7 - count)?;
+        text = format!(in alloc; "{word}{text}")?;
+    }
+    Ok(text)
+}
+
+/// What is known of a slot, where the innermost frame has this number.
+fn slot_words(
+    alloc: Global,
+    innermost: usize,
+    slot: usize,
+    known: Slot,
+) -> Result<String, AllocError>
+    requires { slot < 64 }
+    ensures { IfOk result (λ text. string_bytes text ≡ slot_words innermost slot known) }
+{
+    match known {
+        Slot::Written(0) => String::from_str(alloc, "unset"),
+        Slot::Written(255) => String::from_str(alloc, "written"),
+        Slot::Written(marks) => {
+            let places = written_words(alloc, slot, marks)?;
+            format!(in alloc; "written bytes{places}")
+        }
+        Slot::Spilled(kind) => kind_words(alloc, innermost, kind),
+    }
+}
+
+/// A slot of a frame; where there is none, nothing is known of it.
+fn slot_of(state: &State, frame: u8, slot: usize) -> Slot
+    ensures { result ≡ slot_at (slots_of state.now frame) slot }
+{
+    match state.stack_of(frame) {
+        Some(stack) => stack.slots.get(slot).copied().unwrap_or(Slot::Written(0)),
+        None => Slot::Written(0),
+    }
+}
+
+/// The line of a slot of a frame.
+pub fn slot_line(alloc: Global, state: &State, frame: u8, slot: usize) -> Result<String, AllocError>
+    requires { slot < 64 }
+    ensures { IfOk result (λ text. string_bytes text ≡ slot_line state.now frame slot) }
+{
+    let innermost = state.callers.len();
+    let start = place_of(slot, 0);
+    let up = calls_up(alloc, innermost.saturating_sub(usize::from(frame)))?;
+    let words = slot_words(alloc, innermost, slot, slot_of(state, frame, slot))?;
+    format!(in alloc; "stack {start}{up}: {words}\n")
+}
+
+/// The byte of a frame that is so far from its end.
+pub fn byte_at(from_end: i64) -> Option<usize>
+    ensures found { result ≡ byte_at from_end }
+    ensures inside { IfSome result (λ at. at < 512) }
+{
+    if from_end < -512 || from_end >= 0 {
+        return None;
+    }
+    Some((from_end + 512) as usize)
+}
+
+/// The first slot of so many, not all of whose bytes are written number bytes.
+pub fn first_open(state: &State, frame: u8, slot: usize, count: usize) -> Option<usize>
+    requires { slot + count ≤ 64 }
+    ensures found { result ≡ first_open (slots_of state.now frame) slot count }
+    ensures inside { IfSome result (λ at. at < 64) }
+{
+    for at in slot..slot + count {
+        if slot_of(state, frame, at).marks() != 255 {
+            return Some(at);
+        }
+    }
+    None
+}

@@ -1,0 +1,48 @@
+-- What is known where a program is refused.
+use Rattle.std.specs.Prelude.{◌≡◌, ℕ, ◌+◌, ◌-◌, ◌==◌, List, [], ◌∷◌, ◌++◌, drop, length, Some, if◌then◌else◌}
+use Rattle.isa_model.specs.declared.instructions.Insn.{Insn}
+use Rattle.isa_model.specs.Code.Instructions.{Program, fetch, slots_of}
+use Rattle.stack_state.specs.declared.states.State.{State}
+use Rattle.stack_state.specs.Starts.{start}
+use Rattle.transfer.specs.Exact.{Refuses}
+use Rattle.explorer.specs.Forgetting.{Forgets}
+use Rattle.explorer.specs.Walks.{StepsTo}
+use Rattle.explorer.specs.declared.refusals.Refusal.{Refusal}
+use Rattle.explorer.specs.declared.refusals.Refusal.TheVariants.{Flow, Step, Repeats, TooLong, Memory}
+use Rattle.explorer.specs.declared.explanations.Jump.{Jump}
+use Rattle.explorer.specs.declared.explanations.Explanation.{Explanation}
+use Rattle.explorer.specs.declared.explanations.TheConstants.{MOST_JUMPS}
+
+-- the jump of a step that does not go on to the next instruction
+abbrev pub jump_of : State → Insn → State → List Jump
+jump_of a i b = if b.slot == a.slot + slots_of i then [] else record { from = a.slot; to = b.slot } ∷ []
+
+-- a walk from the start comes to the state, and these are all its jumps
+pub data ComesBy (p : Program) : State → List Jump → Type 0 where
+  IsStart : (s : State) (jumps : List Jump) → Forgets p start s → jumps ≡ [] → ComesBy p s jumps
+  OneMore : (a s : State) (i : Insn) (before jumps : List Jump) → ComesBy p a before → fetch p a.slot ≡ Some i → StepsTo p a s
+      → jumps ≡ before ++ jump_of a i s → ComesBy p s jumps
+
+-- so many at the end of the jumps, or all
+unfoldable pub last : ℕ → List Jump → List Jump
+last count jumps = drop (length jumps - count) jumps
+
+-- a walk from the start comes to the state, and these are its last jumps
+pub record IsLed (p : Program) (s : State) (way : List Jump) : Type 0 where
+  pub jumps : List Jump
+  pub comes : ComesBy p s jumps
+  pub last_are : way ≡ last MOST_JUMPS jumps
+
+-- why the search stops in the state: its step is refused so, or the search has been in it, or has explored enough
+abbrev pub StopsIn : Program → State → Refusal → Type 0
+StopsIn p s (Flow e) = ⊥
+StopsIn p s (Step e) = (i : Insn) × (fetch p s.slot ≡ Some i) × Refuses p s i e
+StopsIn p s Repeats = Unit {0}
+StopsIn p s TooLong = Unit {0}
+StopsIn p s Memory = ⊥
+
+-- the state in which a program is refused so, at the slot, and the last jumps on a way there
+pub record Explains (p : Program) (e : Refusal) (slot : ℕ) (x : Explanation) : Type 0 where
+  pub led : IsLed p x.state x.way.items
+  pub at : x.state.slot ≡ slot
+  pub stops : StopsIn p x.state e

@@ -1,0 +1,32 @@
+-- What is known of a program that was refused, and told after why and where.
+use Rattle.std.specs.Prelude.{◌≡◌, ℕ, List, ◌++◌, Option, Some, None, String, IfSome}
+use Rattle.std.specs.declared.alloc.Global.{Global}
+use Rattle.std.specs.String.{string_bytes}
+use Rattle.isa_model.specs.{Program}
+use Rattle.explanations.specs.Reasons.{IsReason}
+use Rattle.serving.specs.declared.rejections.Rejection.TheVariants as rejection
+use Rattle.serving.specs.declared.outcomes.Outcome.{Outcome}
+use Rattle.serving.specs.declared.outcomes.Outcome.TheVariants.{Refused}
+use Rattle.serving.specs.declared.endings.Ending.{Ending}
+use Rattle.serving.specs.Statuses.{message_of}
+
+-- a text, if any, is what is known where a task on this program ended so: there is one only where the program was refused,
+-- and it is of that refusal and slot
+abbrev pub Tells : Program → Outcome → Option (String Global) → Type 0
+Tells p (Refused (rejection.Program refusal slot insn)) why = IfSome why (λ text. IsReason p refusal slot (string_bytes text))
+Tells p outcome why = why ≡ None
+
+abbrev pub IsKnown : Program → Ending → Type 0
+IsKnown p ending = Tells p ending.outcome ending.why
+
+-- a task ended so, and nothing is known beside that
+abbrev pub Plainly : (Outcome → Type 0) → Ending → Type 0
+Plainly P ending = P ending.outcome × (ending.why ≡ None)
+
+-- what standard error is told: the message, and then what is known
+abbrev pub told : Outcome → Option (String Global) → List ℕ
+told outcome None = message_of outcome
+told outcome (Some text) = message_of outcome ++ string_bytes text
+
+abbrev pub told_of : Ending → List ℕ
+told_of ending = told ending.outcome ending.why

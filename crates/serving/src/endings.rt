@@ -1,0 +1,80 @@
+//! How a task ended, with what is known of a program that was refused.
+
+ghost use Rattle.std.specs.Prelude.{◌≡◌, None, true, OnOk, OnErr};
+ghost use Rattle.std.specs.Io.KnownBytes.{Appends};
+ghost use Rattle.exact_io.specs.Transfers.{AppendsBeginning};
+ghost use Rattle.serving.specs.Statuses.{status_of, is_unsaid};
+ghost use Rattle.serving.specs.Saying.{AppendsPart};
+ghost use Rattle.serving.specs.Known.{IsKnown, told_of};
+
+use super::outcomes::Outcome;
+use super::rejections::Rejection;
+use exact_io::write_bytes;
+use explanations::reason;
+use image::Image;
+use std::alloc::Global;
+use std::io;
+use std::io::Write;
+
+/// How a task ended, and what is known where a program was refused.
+#[derive(Drop)]
+pub struct Ending<'a> {
+    pub outcome: Outcome<'a>,
+    /// The registers and stack slots that concern the refused instruction, and the last jumps on
+    /// the way there, in lines.
+    pub why: Option<String>,
+}
+
+impl<'a> Ending<'a> {
+    /// The task ended so, and nothing is known beside that.
+    pub fn plain(outcome: Outcome<'a>) -> Self
+        ensures outcome { result.outcome ≡ outcome.entry }
+        ensures why { result.why ≡ None }
+    {
+        Ending { outcome, why: None }
+    }
+
+    /// A task that judged this program ended so. Where the program was refused, what is known of
+    /// that is looked for: nothing is known where memory runs out.
+    pub fn of_program(alloc: Global, image: &Image, outcome: Outcome<'a>) -> Self
+        ensures outcome { result.outcome ≡ outcome.entry }
+        ensures known { IsKnown image.now result }
+    {
+        let why = match outcome {
+            Outcome::Refused(Rejection::Program(refusal, slot, _)) => {
+                reason(alloc, image, refusal, slot)
+            }
+            _ => None,
+        };
+        Ending { outcome, why }
+    }
+
+    // Says what went wrong, and then what is known.
+    fn say<W: Write>(&self, err: &mut W) -> io::Result<()>
+        ensures ok { OnOk result
+            (Appends (W.contents err.old) (W.contents err.new) (told_of self.now)) }
+        ensures err { OnErr result
+            (AppendsBeginning (W.contents err.old) (W.contents err.new) (told_of self.now)) }
+        ensures unsaid { is_unsaid self.now.outcome ≡ true → self.now.why ≡ None
+            → W.contents err.new ≡ W.contents err.old }
+    {
+        self.outcome.say(err)?;
+        match &self.why {
+            Some(why) => write_bytes(err, why.as_bytes()),
+            None => Ok(()),
+        }
+    }
+
+    /// Says on standard error what went wrong and what is known, and answers the program's status.
+    /// Nothing can be said of a failure of standard error.
+    pub fn tell<W: Write>(self, err: &mut W) -> u8
+        ensures status { result ≡ status_of self.entry.outcome }
+        ensures said { AppendsPart (W.contents err.old) (W.contents err.new)
+            (told_of self.entry) }
+        ensures unsaid { is_unsaid self.entry.outcome ≡ true → self.entry.why ≡ None
+            → W.contents err.new ≡ W.contents err.old }
+    {
+        let _ = self.say(err);
+        self.outcome.status()
+    }
+}
