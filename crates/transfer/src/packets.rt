@@ -1,7 +1,8 @@
 //! Loads, stores and moves through packet pointers.
 
-ghost use Rattle.std.specs.Prelude.{◌≡◌, ◌+◌, ◌*◌, ◌^◌, ◌↔◌, ◌+ℤ◌, IsTrue};
-ghost use Rattle.isa_model.specs.Code.Sizes.{size_bytes, narrow_size};
+ghost use Rattle.std.specs.Prelude.{◌≡◌, ◌+◌, ◌*◌, ◌^◌, ◌↔◌, ℤ, ◌+ℤ◌, ◌≤ℤ◌, FitsSigned, IsTrue};
+ghost use Rattle.isa_model.specs.Code.Sizes.{size_bytes, narrow_size, narrow_extension};
+ghost use Rattle.ranges.specs.Keeps.{extension_signed};
 ghost use Rattle.transfer.specs.Packets.{AreInPacket, IsOfSize, IsOfSignedSize};
 ghost use Rattle.transfer.specs.Packets.{PacketLoads, PacketLoadsSigned, IsStored, PacketStores};
 ghost use Rattle.transfer.specs.Packets.{lowest, highest, AreLimited};
@@ -67,18 +68,27 @@ pub fn of_size(size: Size) -> Scalar
     }
 }
 
+/// The least and the greatest number of that many bytes with a sign.
+fn signed_limits(size: Narrow) -> (i64, i64)
+    ensures fits { (z : ℤ) → (((result.0 ≤ℤ z) × (z ≤ℤ result.1))
+        ↔ FitsSigned (extension_signed (narrow_extension size)) z) }
+    ensures ordered { result.0 ≤ℤ result.1 }
+{
+    match size {
+        Narrow::S8 => (-0x80, 0x7f),
+        Narrow::S16 => (-0x8000, 0x7fff),
+        Narrow::S32 => (-0x8000_0000, 0x7fff_ffff),
+    }
+}
+
 /// Any number of that many bytes with a sign.
 pub fn of_signed_size(size: Narrow) -> Scalar
     ensures { IsOfSignedSize size result }
 {
-    let range = match size {
-        Narrow::S8 => Range::signed_between(-0x80, 0x7f),
-        Narrow::S16 => Range::signed_between(-0x8000, 0x7fff),
-        Narrow::S32 => Range::signed_between(-0x8000_0000, 0x7fff_ffff),
-    };
+    let (least, greatest) = signed_limits(size);
     Scalar {
         bits: Bits::any(Width::Full64),
-        range,
+        range: Range::signed_between(least, greatest),
     }
 }
 

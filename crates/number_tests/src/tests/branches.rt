@@ -48,8 +48,8 @@ const ROWS: [Row; 13] = [
     (Comparison::Less, FULL, R3, true, [(7, 100), (5, 10)], Some([(7, 9), (8, 10)])),
     // Of words the same holds at 32 bits.
     (Comparison::Less, LOW, R3, true, [(7, 100), (5, 10)], Some([(7, 9), (8, 10)])),
-    // What a low half shows is kept of a word only.
-    (Comparison::Less, LOW, TEN, true, [ANY, ANY], Some([ANY, ANY])),
+    // Of a number whose upper half is not known it holds of the low half.
+    (Comparison::Less, LOW, TEN, true, [ANY, ANY], Some([(0, 0xffff_ffff_0000_0009), ANY])),
     (Comparison::Less, LOW, TEN, true, [WORD, ANY], Some([(0, 9), ANY])),
     (Comparison::Equal, FULL, R3, true, [SEVEN, SEVEN], Some([SEVEN, SEVEN])),
     (Comparison::Equal, FULL, R3, false, [SEVEN, SEVEN], None),

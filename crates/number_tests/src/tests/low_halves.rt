@@ -73,7 +73,8 @@ fn each_comparison_narrows(rt: HostRuntime) -> Result<(), Fail> {
             let left = left_of(*comparison, taken, any, 10).ok_or("never goes")?;
             assert_eq!(rt; limits_of(left), wanted, "{comparison:?}");
             // The upper half stays open.
-            assert_eq!(rt; left.range.wide.greatest, u64::MAX, "{comparison:?}");
+            let uppers = (left.range.wide.least >> 32, left.range.wide.greatest >> 32);
+            assert_eq!(rt; uppers, (0, 0xffff_ffff), "{comparison:?}");
         }
     }
     Ok(())

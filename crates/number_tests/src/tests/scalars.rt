@@ -151,10 +151,12 @@ fn constants(rt: HostRuntime) -> Result<(), Fail> {
 
 #[test]
 fn low_halves(rt: HostRuntime) -> Result<(), Fail> {
-    // What a low half shows is not kept of a number whose upper half is unknown.
+    // Of a number whose upper half is unknown, what a low half shows holds of the low half.
     let any = Scalar::any(FULL);
-    assert_eq!(rt; refined(Comparison::Less, LOW, true, any, 10), Some(any));
-    assert_eq!(rt; refined(Comparison::Equal, LOW, true, any, 5), Some(any));
+    let below = refined(Comparison::Less, LOW, true, any, 10).ok_or("never below")?;
+    assert!(rt; is(below, 0, 0xffff_ffff_0000_0009));
+    let five = refined(Comparison::Equal, LOW, true, any, 5).ok_or("never equal")?;
+    assert!(rt; is(five, 5, 0xffff_ffff_0000_0005));
     let word = Scalar::any(LOW);
     assert_eq!(rt;
         refined(Comparison::Less, LOW, true, word, 10),
@@ -163,7 +165,7 @@ fn low_halves(rt: HostRuntime) -> Result<(), Fail> {
     // 0xffff_ffff is -1 as a signed number of 32 bits.
     assert_eq!(rt;
         refined(Comparison::SignedLess, LOW, true, word, 0),
-        Some(word)
+        Some(Scalar::between(0x8000_0000, 0xffff_ffff))
     );
     assert!(rt; refined(Comparison::SignedLess, LOW, true, byte(), 0xffff_ffff).is_none());
     assert_eq!(rt;
