@@ -6,6 +6,7 @@ mod covered;
 mod explanations;
 mod flows;
 mod loops;
+mod low_halves;
 mod maps;
 mod packet;
 mod precision;
