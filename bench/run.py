@@ -73,6 +73,11 @@ def branches(count):
     return "\n".join(lines + ["exit"]) + "\n"
 
 
+def sinking():
+    """A loop of which no end can be seen, through states that differ in a number's signed limits alone."""
+    return "r8 = 0\nloop: r5 = *(u32 *)(r1 + 12)\nr8 -= r5\nr8 += 1\nif r8 != 8 goto loop\nr0 = 1\nexit\n"
+
+
 def frames(count, size):
     record = struct.pack("<QIII", 0, 1, 0, size) + bytes(range(size))
     return b"XPF1" + record * count
@@ -179,6 +184,7 @@ def verification():
         ("loop of 300,000 turns", counted_loop(300_000), "ok bound 600003", 600_003),
         ("18 branches on unknown bits in a row", branches(18), "ok bound 39", 3 * 2**18),
         ("20 branches on unknown bits in a row", branches(20), None, 1_000_000),
+        ("loop without an end, signed limits that sink", sinking(), None, 1_000_000),
         ("loop of 100,000 turns, counted on the stack", stack_loop(100_000), "ok bound 400003", 400_003),
         ("loop of 50,000 turns, six values on the stack", stored("spills"), "ok bound 350018", 350_019),
         ("200 calls of a function of 20 slots", functions(), "ok bound 4226", 200 * 23 + 26),

@@ -228,41 +228,42 @@ def steps_of(report):
     return sum(int(line.split()[3]) for line in report.splitlines() if line.split()[1] == "DROP")
 
 
-def seconds_of(program, command, image, stream):
-    """What a command takes for the frames of a stream, less what a program that exits at once takes for them."""
-
-    def on(image, stream):
-        return processor([program, command, image, stream, "sent"])
-
-    whole, report = on(image, stream)
-    frames = whole - on(image, "none.frames")[0]
-    idle = on("idle.image", stream)[0] - on("idle.image", "none.frames")[0]
-    return frames - idle, steps_of(report)
+# What is measured of a command: a program on the frames and on none, and one that exits at once on both.
+PARTS = [("p.image", "p.frames"), ("p.image", "none.frames"), ("idle.image", "p.frames"), ("idle.image", "none.frames")]
 
 
-def compared(name, text, stream, ways):
-    image = assembled("p", text)
+def frames_of(best, way):
+    """What a program takes for the frames, less what one that exits at once takes for them."""
+    whole, ready, idle, idle_ready = (best[way, part] for part in PARTS)
+    return whole - ready - (idle - idle_ready)
+
+
+def compared(name, text, stream):
+    assembled("p", text)
     with open("p.frames", "wb") as file:
         file.write(stream)
-    best = {}
+    best, counts = {}, set()
+
+    def took(key, seconds):
+        best[key] = min(best.get(key, 1e9), seconds)
+
     for _ in range(TIMES):
-        counts = set()
         for pad in PADS:
-            steps, seconds, _ = processor([f"./switch{pad}", image, "p.frames", "1"])[1].split()
-            best[f"C {pad}"] = min(best.get(f"C {pad}", 1e9), float(seconds))
+            steps, seconds, _ = processor([f"./switch{pad}", "p.image", "p.frames", "1"])[1].split()
+            took("C", float(seconds))
             counts.add(int(steps))
-        for number, program in enumerate(PROGRAMS):
-            for command in ways:
-                seconds, steps = seconds_of(program, command, image, "p.frames")
-                key = f"{command} {number}"
-                best[key] = min(best.get(key, 1e9), seconds)
-                counts.add(steps)
-        if len(counts) != 1:
-            sys.exit(f"{name}: steps {counts}")
-    least = {way: min(best[key] for key in best if key.startswith(way)) for way in ["C"] + ways}
-    each = [f"{best[f'run {number}'] / least['C']:.2f}" for number in range(len(PROGRAMS))]
-    traced = f"{least['trace'] / least['run']:.1f}" if "trace" in ways else "-"
-    print(f"{name:<44}{least['C'] * 1e9 / counts.pop():>7.2f}{least['run'] / least['C']:>9.2f}{traced:>9}   {' '.join(each)}", flush=True)
+        for way in [(command, program) for program in PROGRAMS for command in ["run", "trace"]]:
+            for part in PARTS:
+                seconds, report = processor([way[1], way[0], *part, "sent"])
+                took((way, part), seconds)
+                if part == PARTS[0]:
+                    counts.add(steps_of(report))
+    if len(counts) != 1:
+        sys.exit(f"{name}: steps {counts}")
+    runs = [frames_of(best, ("run", program)) for program in PROGRAMS]
+    traced = min(frames_of(best, ("trace", program)) for program in PROGRAMS)
+    each = " ".join(f"{run / best['C']:.2f}" for run in runs)
+    print(f"{name:<44}{best['C'] * 1e9 / counts.pop():>7.2f}{min(runs) / best['C']:>9.2f}{traced / min(runs):>11.1f}   {each}", flush=True)
 
 
 def main():
@@ -284,9 +285,9 @@ def main():
         assembled("idle", IDLE)
         with open("none.frames", "wb") as file:
             file.write(plain(0))
-        print(f"{'program':<44}{'C ns':>7}{'run/C':>9}{'trace/run':>9}   each build")
+        print(f"{'program':<44}{'C ns':>7}{'run/C':>9}{'trace/run':>11}   run/C of each build")
         for name, text, stream in rows:
-            compared(name, text, stream, ["run", "trace"])
+            compared(name, text, stream)
         os.chdir("/")
 
 

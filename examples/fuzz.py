@@ -36,6 +36,13 @@ def frames(chance):
     return out
 
 
+def leaves(opcode, _, source, offset, imm):
+    """Whether an instruction never goes on at the slot after it. A jump over nothing does."""
+    if opcode == 0x05:
+        return offset != 0
+    return opcode == 0x95 or (opcode == 0x06 or opcode == 0x85 and source == 1) and imm != 0
+
+
 def goes(code, way, slot):
     """Whether the jumps of a refusal lead through the program to the slot: each is one of the program's, and between
     them the way goes from slot to slot."""
@@ -43,7 +50,7 @@ def goes(code, way, slot):
     returns = [i + 1 for i, row in enumerate(code) if row[0] == 0x85 and row[2] == 1]
     for begin, to in way + [(slot, None)]:
         if whole:
-            if begin < at or any(code[i][0] in (0x05, 0x06, 0x95) or code[i][0] == 0x85 and code[i][2] == 1 for i in range(at, begin)):
+            if begin < at or any(leaves(*code[i]) for i in range(at, begin)):
                 return False
         if to is None:
             return True
