@@ -1,6 +1,6 @@
 -- What a run over a stream writes, and how the task ends then.
 use Rattle.std.specs.Prelude.{◌≡◌, ◌≢◌, ℕ, List, Option, Some, None, Result, Ok, Err, ◌⊎◌}
-use Rattle.std.specs.Io.KnownBytes.{Appends, Keeps}
+use Rattle.std.specs.Io.KnownBytes.{Keeps, append_known}
 use Rattle.isa_model.specs.declared.streams.Fault.{Fault}
 use Rattle.isa_model.specs.{Program}
 use Rattle.isa_model.specs.Reporting.Reports.{checked_report}
@@ -32,9 +32,9 @@ abbrev pub FailsBy : List ℕ → Result Tally HostError → Outcome → Type 0
 FailsBy name (Ok tally) result = IsWriteFailure name result
 FailsBy name (Err error) result = EndsBy name (Err error) result
 
--- a file got the beginning of some bytes
+-- a file got the beginning of some bytes, where they are known, and lacks the others
 abbrev pub IsBeginningOf : Option (List ℕ) → Option (List ℕ) → Type 0
-IsBeginningOf got bytes = (lost : List ℕ) × Appends got bytes lost
+IsBeginningOf got bytes = (lost : List ℕ) × Keeps bytes (append_known got lost)
 
 -- How a task ends by how its run did, which handed these frames out on for the file with this name. The file got all of
 -- them; or it got a beginning, and then it failed, or something had failed before.
