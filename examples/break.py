@@ -1,6 +1,8 @@
 """The work of break.sh: runs the program under break.c, breaks one call at a time, and compares what it answers."""
 
+import itertools
 import os
+import select
 import struct
 import subprocess
 import sys
@@ -65,17 +67,24 @@ def map_lines(words, count):
 
 
 class Answer:
-    """What a run wrote, its status, and whether the call that was to fail was reached."""
+    """What a run wrote, its status, and whether the call that was to fail was reached. Standard output is a pipe, or a
+    file where it is to be stored."""
 
-    def __init__(self, words, kind=None, call=0):
+    def __init__(self, words, kind=None, call=0, stored=False):
         for name in ("made", "mark"):
             if os.path.exists(name):
                 os.remove(name)
         env = {"LD_PRELOAD": f"{work}/between.so"}
         if kind:
             env.update({"BREAK": kind, "WHEN": str(call), "MARK": f"{work}/mark"})
-        ended = subprocess.run([program, *words], env=env, stdin=subprocess.DEVNULL, capture_output=True, timeout=60)
-        self.status, self.out, self.err = ended.returncode, ended.stdout, ended.stderr
+        with open("report", "w+b") as report:
+            out = report if stored else subprocess.PIPE
+            ended = subprocess.run(
+                [program, *words], env=env, stdin=subprocess.DEVNULL, stdout=out, stderr=subprocess.PIPE, timeout=60
+            )
+            report.seek(0)
+            self.out = report.read() if stored else ended.stdout
+        self.status, self.err = ended.returncode, ended.stderr
         self.made = None
         if os.path.exists("made"):
             with open("made", "rb") as it:
@@ -140,6 +149,28 @@ def of_short(words, found, good):
 ALLOWED = dict(zip(KINDS, (of_memory, of_read, of_write, of_write, of_short, of_short)))
 
 
+def comes_at_once():
+    """Whether the magic of the frames out and the line of the first frame, in a pipe, come before the second frame."""
+    with open(frames("two"), "rb") as it:
+        stream = it.read()
+    front = stream[:4] + records(stream)[0]
+    words = [program, "run", image("pass"), "/dev/stdin", "made"]
+    with subprocess.Popen(words, stdin=subprocess.PIPE, stdout=subprocess.PIPE, bufsize=0) as running:
+        running.stdin.write(front)
+        ready, _, _ = select.select([running.stdout], [], [], 20)
+        first = os.read(running.stdout.fileno(), 4096) if ready else b""
+        with open("made", "rb") as it:
+            magic = it.read()
+        running.stdin.write(stream[len(front):])
+        running.stdin.close()
+        rest = running.stdout.read()
+    with open("made", "rb") as it:
+        made = it.read()
+    good = Answer(words[1:3] + [frames("two"), "made"])
+    begun = first == good.out.splitlines(keepends=True)[0] and magic == stream[:4]
+    return begun and first + rest == good.out and made == good.made
+
+
 def main():
     os.chdir(work)
     with open("right.text", "w") as it:
@@ -147,11 +178,14 @@ def main():
     with open("wrong.text", "w") as it:
         it.write("exit\ngoto nowhere\n")
     given, wrong = Counter(), 0
-    for words in RUNS:
-        good = Answer(words)
+    if not comes_at_once():
+        wrong += 1
+        print("WRONG the first line or the magic did not come before the second frame", flush=True)
+    for words, stored in itertools.product(RUNS, (False, True)):
+        good = Answer(words, stored=stored)
         for kind in KINDS:
             for call in range(1, 100000):
-                found = Answer(words, kind, call)
+                found = Answer(words, kind, call, stored)
                 if not found.reached:
                     break
                 answer = ALLOWED[kind](words, found, good)
@@ -162,7 +196,7 @@ def main():
     for (kind, answer), count in sorted(given.items(), key=str):
         print(f"{count:6} {kind}: {answer}")
     memory = sum(count for (kind, _), count in given.items() if kind == "alloc")
-    print(f"{sum(given.values())} refusals tried on {len(RUNS)} runs, {memory} of memory: {wrong} wrong answers")
+    print(f"{sum(given.values())} refusals tried on {2 * len(RUNS)} runs, {memory} of memory: {wrong} wrong answers")
     sys.exit(1 if wrong or not memory else 0)
 
 

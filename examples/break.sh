@@ -1,7 +1,7 @@
 #!/bin/bash
 # Tries to break the program from outside: makes each allocation, each read and each write fail in turn, and each read
 # and write move only one byte in turn, for every command on the examples here. README.md says which answers are allowed;
-# the last line says how many were tried. It takes about ten seconds.
+# the last line says how many were tried. It takes about half a minute.
 # usage: bash examples/break.sh [PROGRAM]
 # Without PROGRAM it takes the one that `rt run` keeps, and proves and builds it first if there is none.
 set -eu

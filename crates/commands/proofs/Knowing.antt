@@ -7,12 +7,14 @@ use Rattle.serving.specs.declared.outcomes.Outcome.{Outcome}
 use Rattle.serving.specs.declared.endings.Ending.{Ending}
 use Rattle.serving.specs.Known.{Tells}
 use Rattle.serving.specs.Commands.{Serves}
+use Rattle.serving.specs.HandingOn.{HandsOn}
+use Rattle.serving.specs.Statuses.{IsOutputFailure}
 
 -- nothing, or what is known of some program
 abbrev pub Knows : Outcome → Option (String Global) → Type 0
 Knows o why = (why ≡ None) ⊎ ((p : Program) × Tells p o why)
 
-pub served_knows : (request : Request) (old new : Option (List ℕ)) (r : Ending) → Serves (Some request) old new r → Knows r.outcome r.why
+served_knows : (request : Request) (old new : Option (List ℕ)) (r : Ending) → Serves (Some request) old new r → Knows r.outcome r.why
 served_knows (Trace files limit) old new r h = inl h.1
 served_knows (Run files) old new r (inl h) = inl h.1
 served_knows (Run files) old new r (inr (p, is, h)) = inr (p, h.1)
@@ -21,3 +23,11 @@ served_knows (Verify path) old new r (inr (p, is, h)) = inr (p, h.1)
 served_knows (Assemble text image) old new r h = inl h.1
 served_knows (Disassemble path) old new r h = inl h.1
 served_knows (NotBuilt name) old new r h = inl h.1
+
+-- where standard output failed in the end nothing is known beside that
+knows_then : (ended r : Ending) → Knows ended.outcome ended.why → (r ≡ ended) ⊎ (IsOutputFailure r.outcome × (r.why ≡ None)) → Knows r.outcome r.why
+knows_then ended r k (inl same) = rw same k
+knows_then ended r k (inr failed) = inl failed.1
+
+pub whole_knows : (request : Request) (old given new : Option (List ℕ)) (ended r : Ending) → Serves (Some request) old given ended → HandsOn given new ended r → Knows r.outcome r.why
+whole_knows request old given new ended r h on = knows_then ended r (served_knows request old given ended h) on.ends

@@ -1,5 +1,5 @@
 -- A task of which standard output has got nothing left it as it was.
-use Rattle.std.proofs.Common.{◌≡◌, ◌∙◌, ℕ, List, Option, Some, None, Result, Ok, Err, true, false, ap, refl, inl, inr}
+use Rattle.std.proofs.Common.{◌≡◌, ◌∙◌, ℕ, List, Option, Some, None, Result, Ok, Err, true, false, ap, refl, sym, inl, inr, ◌⊎◌}
 use Rattle.std.proofs.lemmas.Bool.{both_ways, false≢true}
 use Rattle.isa_model.specs.declared.streams.Fault.{Fault}
 use Rattle.isa_model.specs.{Program}
@@ -10,10 +10,11 @@ use Rattle.tasks.specs.Requests.{Request, RunFiles, Trace, Run, Verify, Assemble
 use Rattle.serving.specs.declared.outcomes.Outcome.{Outcome}
 use Rattle.serving.specs.declared.outcomes.Outcome.TheVariants as outcome
 use Rattle.serving.specs.declared.endings.Ending.{Ending}
-use Rattle.serving.specs.Statuses.{is_silent, IsWriteFailure}
+use Rattle.serving.specs.Statuses.{is_silent, IsOutputFailure, IsWriteFailure}
+use Rattle.serving.specs.HandingOn.{HandsOn}
 use Rattle.serving.specs.Saying.{Says}
 use Rattle.serving.specs.Judging.{RefusesImage, RefusesProgram, RefusesText, Verifies, Stores}
-use Rattle.serving.specs.Streams.{EndsBy, outcome_at}
+use Rattle.serving.specs.Streams.{Ends, EndsBy, FailsBy, outcome_at}
 use Rattle.serving.specs.Commands.{LoadsNone, OpensNone, TracesFile, RunsFile, VerifiesFile, DisassemblesFile, AssemblesFile, Serves}
 
 -- ---- what is not silent
@@ -43,6 +44,14 @@ ends_silent name (Ok tally) r h e = absurd (both_ways (is_silent r) (ap is_silen
 ends_silent name (Err failure.Memory) r h e = refl
 ends_silent name (Err failure.Report) r h e = absurd (write_loud _ r h e)
 ends_silent name (Err failure.Frames) r h e = absurd (write_loud name r h e)
+
+fails_silent : (name : List ℕ) (ended : Result Tally HostError) (r : Outcome) → FailsBy name ended r → is_silent r ≡ true → ended ≡ Err failure.Memory
+fails_silent name (Ok tally) r h e = absurd (write_loud name r h e)
+fails_silent name (Err error) r h e = ends_silent name (Err error) r h e
+
+stops_silent : (name : List ℕ) (ended : Result Tally HostError) (handed got : Option (List ℕ)) (r : Outcome) → Ends name ended handed got r → is_silent r ≡ true → ended ≡ Err failure.Memory
+stops_silent name ended handed got r (inl whole) e = ends_silent name ended r whole.1 e
+stops_silent name ended handed got r (inr part) e = fails_silent name ended r part.1 e
 
 -- ---- what is judged
 
@@ -80,14 +89,14 @@ opens_silent files old new r (inr makes) = makes.1
 trace_silent : (files : RunFiles) (limit : ℕ) (old new : Option (List ℕ)) (r : Outcome) → TracesFile files limit old new r → is_silent r ≡ true → new ≡ old
 trace_silent files limit old new r (inl loads) e = loads_silent _ old new r loads e
 trace_silent files limit old new r (inr (p, is, inl opens)) e = opens_silent files old new r opens
-trace_silent files limit old new r (inr (p, is, inr some)) e = some.traces.report_untouched (ends_silent _ _ r some.traces.ends e)
+trace_silent files limit old new r (inr (p, is, inr some)) e = some.traces.report_untouched (stops_silent _ _ _ _ r some.traces.ends e)
 
 run_silent : (files : RunFiles) (old new : Option (List ℕ)) (r : Ending) → RunsFile files old new r → is_silent r.outcome ≡ true → new ≡ old
 run_silent files old new r (inl (loads, none)) e = loads_silent _ old new r.outcome loads e
 run_silent files old new r (inr (p, is, (inl refuses, known))) e = program_silent p old new r.outcome refuses e
 run_silent files old new r (inr (p, is, (inr (bound, verified, inl opens), known))) e = opens_silent files old new r.outcome opens
 run_silent files old new r (inr (p, is, (inr (bound, verified, inr some), known))) e =
-    some.runs.report_untouched (ends_silent _ _ r.outcome some.runs.ends e)
+    some.runs.report_untouched (stops_silent _ _ _ _ r.outcome some.runs.ends e)
 
 verify_silent : (path : List ℕ) (old new : Option (List ℕ)) (r : Ending) → VerifiesFile path old new r → is_silent r.outcome ≡ true → new ≡ old
 verify_silent path old new r (inl (loads, none)) e = loads_silent path old new r.outcome loads e
@@ -103,10 +112,22 @@ assemble_silent text image old new r (inr (source, inl refuses)) e = text_silent
 assemble_silent text image old new r (inr (source, inr (p, is, inl makes))) e = makes.1
 assemble_silent text image old new r (inr (source, inr (p, is, inr some))) e = stores_silent p _ image _ _ old new r some.stores e
 
-pub served_silent : (request : Request) (old new : Option (List ℕ)) (r : Ending) → Serves (Some request) old new r → is_silent r.outcome ≡ true → new ≡ old
+served_silent : (request : Request) (old new : Option (List ℕ)) (r : Ending) → Serves (Some request) old new r → is_silent r.outcome ≡ true → new ≡ old
 served_silent (Trace files limit) old new r h e = trace_silent files limit old new r.outcome h.0 e
 served_silent (Run files) old new r h e = run_silent files old new r h e
 served_silent (Verify path) old new r h e = verify_silent path old new r h e
 served_silent (Assemble text image) old new r h e = assemble_silent text image old new r.outcome h.0 e
 served_silent (Disassemble path) old new r h e = disassemble_silent path old new r.outcome h.0 e
 served_silent (NotBuilt name) old new r h e = h.0.1
+
+-- ---- and then standard output hands on what it was given
+
+silent_then : (ended r : Ending) → (r ≡ ended) ⊎ (IsOutputFailure r.outcome × (r.why ≡ None)) → is_silent r.outcome ≡ true → is_silent ended.outcome ≡ true
+silent_then ended r (inl same) e = ap (λ (x : Ending). is_silent x.outcome) (sym same) ∙ e
+silent_then ended r (inr failed) e = absurd (write_loud _ r.outcome failed.0 e)
+
+pub whole_silent : (request : Request) (old given new : Option (List ℕ)) (ended r : Ending) → Serves (Some request) old given ended → HandsOn given new ended r
+    → is_silent r.outcome ≡ true → new ≡ old
+whole_silent request old given new ended r h on e =
+    let silent = silent_then ended r on.ends e in
+    (on.silent silent).0 ∙ served_silent request old given ended h silent

@@ -4,6 +4,7 @@ use Rattle.isa_model.specs.declared.instructions.Insn.{Insn}
 use Rattle.isa_model.specs.{Program}
 use Rattle.explorer.specs.declared.refusals.Refusal.{Refusal}
 use Rattle.explanations.specs.Reasons.{IsReason}
+use Rattle.tasks.specs.Requests.{Request}
 use Rattle.words.specs.Asked.{asked}
 use Rattle.serving.specs.declared.endings.Ending.{Ending}
 use Rattle.serving.specs.declared.rejections.Rejection.{Rejection}
@@ -12,10 +13,19 @@ use Rattle.serving.specs.Messages.{reason_of}
 use Rattle.serving.specs.Saying.{AppendsPart, LacksMemory}
 use Rattle.serving.specs.Known.{Plainly}
 use Rattle.serving.specs.Commands.{Serves}
+use Rattle.serving.specs.HandingOn.{HandsOn}
+
+-- What is asked for was done, and how that ended; and then standard output was to hand on what it was given. Where it
+-- fails only at that, this is how the program ends.
+pub record ServesWhole (request : Option Request) (old new : Option (List ℕ)) (result : Ending) : Type 0 where
+  pub given : Option (List ℕ)
+  pub ended : Ending
+  pub serves : Serves request old given ended
+  pub hands_on : HandsOn given new ended result
 
 -- the program does what the words ask for; or memory ran out before that was known
 abbrev pub Executes : List (List ℕ) → Option (List ℕ) → Option (List ℕ) → Ending → Type 0
-Executes words old new result = Plainly (LacksMemory old new) result ⊎ Serves (asked words) old new result
+Executes words old new result = Plainly (LacksMemory old new) result ⊎ ServesWhole (asked words) old new result
 
 -- standard error got why something is refused, or a beginning of it
 abbrev pub TellsReason : Option (List ℕ) → Option (List ℕ) → Type 0

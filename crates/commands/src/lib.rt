@@ -43,7 +43,7 @@ pub fn execute<R: Files + AllocGlobal, W1: Write, W2: Write>(
 {
     let alloc = rt.alloc();
     match read_words(alloc, words) {
-        Ok(task) => serve(rt, alloc, task, out).tell(err),
+        Ok(task) => serve(rt, alloc, task, out).flushed(out).tell(err),
         Err(error) => Outcome::of_words(&error).tell(err),
     }
 }

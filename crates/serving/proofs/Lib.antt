@@ -1,3 +1,4 @@
 mod Loading
 mod Written
 mod Refusing
+mod Delivered

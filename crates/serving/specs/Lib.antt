@@ -2,6 +2,7 @@ pub mod Causes
 pub mod Messages
 pub mod Statuses
 pub mod Known
+pub mod HandingOn
 pub mod Lines
 pub mod Saying
 pub mod Judging

@@ -6,8 +6,9 @@ ghost use Rattle.exact_io.specs.Transfers.{AppendsBeginning};
 ghost use Rattle.serving.specs.Statuses.{status_of, is_unsaid};
 ghost use Rattle.serving.specs.Saying.{AppendsPart};
 ghost use Rattle.serving.specs.Known.{IsKnown, told_of};
+ghost use Rattle.serving.specs.HandingOn.{HandsOn};
 
-use super::outcomes::Outcome;
+use super::outcomes::{Outcome, STANDARD_OUTPUT};
 use super::rejections::Rejection;
 use exact_io::write_bytes;
 use explanations::reason;
@@ -47,6 +48,20 @@ impl<'a> Ending<'a> {
             _ => None,
         };
         Ending { outcome, why }
+    }
+
+    /// The task ended so, and then standard output is to hand on what it was given. Where it fails at
+    /// that, this is how the task ended. Where it was given nothing it is left as it is.
+    pub fn flushed<W: Write>(self, out: &mut W) -> Self
+        ensures { HandsOn (W.contents out.old) (W.contents out.new) self.entry result }
+    {
+        if self.outcome.is_silent() {
+            return self;
+        }
+        match out.flush() {
+            Ok(()) => self,
+            Err(error) => Ending::plain(Outcome::CannotWrite(STANDARD_OUTPUT, Some(error.kind()))),
+        }
     }
 
     // Says what went wrong, and then what is known.

@@ -13,16 +13,27 @@ use super::reading::{read_file, read_start};
 use super::same::is_same_file;
 use super::streams::{run_stream, store_image, trace_stream};
 use super::verdicts::{assembled, image_of, judge, say_text, say_verdict, size_line};
+use buffered_io::PromptWriter;
 use image::{Image, MAX_MAPS, MAX_SLOTS};
 use std::alloc::Global;
 use std::fs;
-use std::io::Write;
+use std::io::{BufReader, Write};
 use std::rt::Files;
 use tasks::{Assembly, Paths, StepLimit};
 
 // One byte more than the longest image has: its head, the rows of its maps and its slots. Of a
 // longer file the rest changes nothing.
 const PAST_ANY_IMAGE: u64 = 8 + 12 * MAX_MAPS as u64 + 8 * MAX_SLOTS as u64 + 1;
+
+// How many bytes go to or from a file of frames at once.
+const BUFFER: usize = 65536;
+
+// The length of the magic, with which frames out begin. It goes to the file at once, so that a file
+// that cannot be written is found before the report begins.
+const MAGIC: usize = 4;
+
+// A source of frames, and where the frames out go.
+type Streams<F> = (BufReader<F>, PromptWriter<F>);
 
 // Makes a file to write to, unless it is one of those that are read.
 fn create_file<'a, R: Files>(rt: &R, path: &'a str, read: &[&str]) -> Result<R::File, Outcome<'a>>
@@ -58,8 +69,13 @@ fn load_image<'a, R: Files, W: Write>(
     image_of(alloc, bytes.as_slice(), out)
 }
 
-// Opens the frames, and then the frames out.
-fn open_streams<'a, R: Files>(rt: &R, paths: Paths<'a>) -> Result<(R::File, R::File), Outcome<'a>>
+// Opens the frames, and then the frames out. Their buffers are made before any of their bytes is
+// read or written.
+fn open_streams<'a, R: Files>(
+    rt: &R,
+    alloc: Global,
+    paths: Paths<'a>,
+) -> Result<Streams<R::File>, Outcome<'a>>
     ensures { IfErr result
         (λ ended. IsReadFailure paths.entry.frames.now ended
         ⊎ IsMakeFailure paths.entry.out.now ended) }
@@ -68,8 +84,14 @@ fn open_streams<'a, R: Files>(rt: &R, paths: Paths<'a>) -> Result<(R::File, R::F
         Ok(source) => source,
         Err(error) => return Err(Outcome::of_read(paths.frames, &error)),
     };
+    let Ok(source) = BufReader::with_capacity(alloc, BUFFER, source) else {
+        return Err(Outcome::NoMemory);
+    };
     let file = create_file(rt, paths.out, &[paths.image, paths.frames])?;
-    Ok((source, file))
+    match PromptWriter::new(alloc, BUFFER, MAGIC, file) {
+        Ok(file) => Ok((source, file)),
+        Err(_) => Err(Outcome::NoMemory),
+    }
 }
 
 /// Runs a program on a frame stream with checks: the image is read and judged, then the frames are
@@ -88,7 +110,7 @@ pub fn trace<'a, R: Files, W: Write>(
         Ok(image) => image,
         Err(outcome) => return outcome,
     };
-    match open_streams(rt, paths) {
+    match open_streams(rt, alloc, paths) {
         Ok((source, mut file)) => {
             trace_stream(alloc, image, limit, source, paths.out, out, &mut file)
         }
@@ -114,7 +136,7 @@ pub fn run_verified<'a, R: Files, W: Write>(
         Ok(verified) => verified,
         Err(ending) => return ending,
     };
-    match open_streams(rt, paths) {
+    match open_streams(rt, alloc, paths) {
         Ok((source, mut file)) => {
             let outcome = run_stream(alloc, verified, source, paths.out, out, &mut file);
             Ending::plain(outcome)

@@ -4,7 +4,7 @@ ghost use Rattle.std.specs.Prelude.{◌≡◌, ◌≢◌, true, OnOk, OnErr};
 ghost use Rattle.std.specs.Io.KnownBytes.{Appends};
 ghost use Rattle.std.specs.IoError.{error_kind};
 ghost use Rattle.exact_io.specs.Transfers.{AppendsBeginning};
-ghost use Rattle.serving.specs.Statuses.{status_of, is_unsaid, message_of, IsWordsEnd};
+ghost use Rattle.serving.specs.Statuses.{status_of, is_silent, is_unsaid, message_of, IsWordsEnd};
 ghost use Rattle.serving.specs.Statuses.{IsReadFailure, IsMakeFailure};
 ghost use Rattle.serving.specs.Saying.{AppendsPart};
 ghost use Rattle.serving.specs.Judging.{IsStoreFailure};
@@ -79,6 +79,21 @@ impl<'a> Outcome<'a> {
         match error.kind() {
             ErrorKind::OutOfMemory => Outcome::NoMemory,
             kind => Outcome::CannotWrite(path, Some(kind)),
+        }
+    }
+
+    /// Whether standard output was given nothing.
+    pub(crate) fn is_silent(&self) -> bool
+        ensures { result ≡ is_silent self.now }
+    {
+        match self {
+            Outcome::Done | Outcome::Refused(_) | Outcome::Faulted | Outcome::CannotWrite(_, _) =>
+                false,
+            Outcome::WrongWords(_)
+            | Outcome::NotBuilt(_)
+            | Outcome::CannotRead(_, _)
+            | Outcome::CannotReplace(_)
+            | Outcome::NoMemory => true,
         }
     }
 

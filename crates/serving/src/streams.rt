@@ -1,10 +1,12 @@
 //! Runs over streams, and images that are written.
 
 ghost use Rattle.serving.specs.Judging.{Stores};
-ghost use Rattle.serving.specs.Streams.{EndsBy, Traces, RunsAccepted};
+ghost use Rattle.serving.specs.Streams.{Ends, Traces, RunsAccepted};
+ghost use Rattle.buffered_io.specs.Waiting.{behind, held};
 
 use super::outcomes::{Outcome, STANDARD_OUTPUT};
 use super::verdicts::say_line;
+use buffered_io::PromptWriter;
 use explorer::Verified;
 use host::{HostError, Tally, run, run_checked};
 use image::Image;
@@ -12,57 +14,67 @@ use std::alloc::Global;
 use std::io::{Read, Write};
 use tasks::StepLimit;
 
-// How a run over a stream ended, the frames out going to the path.
-fn outcome_of<'a>(path: &'a str, ended: Result<Tally, HostError>) -> Outcome<'a>
-    ensures { EndsBy path.now ended result }
+// How a task ended whose run over a stream ended so, the frames out going to the file at the path.
+// What waits for the file is handed on to it, unless the file has failed before.
+fn outcome_of<'a, W: Write + Drop>(
+    path: &'a str,
+    ended: Result<Tally, HostError>,
+    file: &mut PromptWriter<W>,
+) -> Outcome<'a>
+    ensures { Ends path.now ended (held W.contents file.old) (W.contents (behind file.new)) result }
 {
     match ended {
-        Ok(tally) => match tally.fault {
-            None => Outcome::Done,
-            Some(_) => Outcome::Faulted,
+        Ok(tally) => match file.flush() {
+            Ok(()) => match tally.fault {
+                None => Outcome::Done,
+                Some(_) => Outcome::Faulted,
+            },
+            Err(error) => Outcome::CannotWrite(path, Some(error.kind())),
         },
         Err(HostError::Memory) => Outcome::NoMemory,
-        Err(HostError::Report) => Outcome::CannotWrite(STANDARD_OUTPUT, None),
+        Err(HostError::Report) => {
+            let _ = file.flush();
+            Outcome::CannotWrite(STANDARD_OUTPUT, None)
+        }
         Err(HostError::Frames) => Outcome::CannotWrite(path, None),
     }
 }
 
 /// Runs a program on a frame stream with checks. The report goes to `out` as it comes, and the
-/// frames out to a file that was opened by this path.
-pub fn trace_stream<'a, R: Read + Drop, W1: Write, W2: Write>(
+/// frames out to a file that was opened by this path, behind a buffer.
+pub fn trace_stream<'a, R: Read + Drop, W1: Write, W2: Write + Drop>(
     alloc: Global,
     image: Image,
     limit: StepLimit,
     source: R,
     path: &'a str,
     out: &mut W1,
-    file: &mut W2,
+    file: &mut PromptWriter<W2>,
 ) -> Outcome<'a>
     ensures { Traces image limit.steps (R.remaining source) path.now
-        record { report = W1.contents out.old; frames = W2.contents file.old }
-        record { report = W1.contents out.new; frames = W2.contents file.new } result }
+        record { report = W1.contents out.old; frames = held W2.contents file.old }
+        record { report = W1.contents out.new; frames = W2.contents (behind file.new) } result }
 {
-    outcome_of(
-        path,
-        run_checked(alloc, image, limit.steps, source, out, file),
-    )
+    let ended = run_checked(alloc, image, limit.steps, source, out, file);
+    outcome_of(path, ended, file)
 }
 
 /// Runs an accepted program on a frame stream. The report goes to `out` as it comes, and the frames
-/// out to a file that was opened by this path.
-pub fn run_stream<'a, R: Read + Drop, W1: Write, W2: Write>(
+/// out to a file that was opened by this path, behind a buffer.
+pub fn run_stream<'a, R: Read + Drop, W1: Write, W2: Write + Drop>(
     alloc: Global,
     verified: Verified,
     source: R,
     path: &'a str,
     out: &mut W1,
-    file: &mut W2,
+    file: &mut PromptWriter<W2>,
 ) -> Outcome<'a>
     ensures { RunsAccepted verified (R.remaining source) path.now
-        record { report = W1.contents out.old; frames = W2.contents file.old }
-        record { report = W1.contents out.new; frames = W2.contents file.new } result }
+        record { report = W1.contents out.old; frames = held W2.contents file.old }
+        record { report = W1.contents out.new; frames = W2.contents (behind file.new) } result }
 {
-    outcome_of(path, run(alloc, verified, source, out, file))
+    let ended = run(alloc, verified, source, out, file);
+    outcome_of(path, ended, file)
 }
 
 /// Writes an image to a file that was opened by this path, and then says a line.

@@ -1,5 +1,6 @@
 //! A module for each crate or subject that is tested.
 
+mod buffers;
 mod records;
 mod streams;
 mod transfers;

@@ -9,7 +9,7 @@ use std::test::Fail;
 const LOST: &str = "cannot read lost\nno such file or folder\n";
 
 // A command, its status, and what standard output and standard error have.
-const FAILING: [(&[&str], u8, &str, &str); 10] = [
+const FAILING: [(&[&str], u8, &str, &str); 11] = [
     (&["dis", "lost"], 4, "", LOST),
     (&["dis", "short"], 2, "refused I2\n", SHORT),
     (&["trace", "lost", "frames", "sent"], 4, "", LOST),
@@ -35,6 +35,12 @@ const FAILING: [(&[&str], u8, &str, &str); 10] = [
     ),
     (
         &["trace", "image", "frames", "/dev/full"],
+        4,
+        "",
+        "cannot write /dev/full\n",
+    ),
+    (
+        &["run", "image", "frames", "/dev/full"],
         4,
         "",
         "cannot write /dev/full\n",

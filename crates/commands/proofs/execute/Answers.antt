@@ -1,39 +1,39 @@
 use Rattle.std.proofs.Common.{◌∙◌, None, refl, sym}
 use Rattle.tasks.specs.Requests.{request_of}
 use Rattle.serving.specs.declared.endings.Ending.{Ending}
-use Rattle.commands.proofs.Knowing.{served_knows}
+use Rattle.commands.proofs.Knowing.{whole_knows}
 use Rattle.commands.proofs.Endings.{silent_words, silent_memory, unsaid_done, unsaid_faulted, unsaid_knows, told_refused}
-use Rattle.commands.proofs.Silence.{served_silent}
+use Rattle.commands.proofs.Silence.{whole_silent}
 use Rattle.commands.proofs.Served.{asked-served, unasked}
 use Rattle.commands.proofs.execute.Goals as goal
 
 pub returns-in-Ok-clause-executes : goal.returns-in-Ok-clause-executes
 returns-in-Ok-clause-executes g c = (
-  c.serve.result,
+  c.flushed.result,
   c.tell.ensures.status,
-  asked-served _ (request_of c.in-Ok.task) _ _ _ _ _ c.in-Ok.ensures refl refl c.serve.ensures,
+  asked-served _ (request_of c.in-Ok.task) _ _ _ _ _ c.in-Ok.ensures c.serve.ensures c.flushed.ensures,
   c.tell.ensures.said,
 )
 
 pub returns-in-Ok-clause-wrong_words : goal.returns-in-Ok-clause-wrong_words
-returns-in-Ok-clause-wrong_words g c e = served_silent (request_of c.in-Ok.task) _ _ c.serve.result c.serve.ensures (silent_words _ (sym c.tell.ensures.status ∙ e))
+returns-in-Ok-clause-wrong_words g c e = whole_silent (request_of c.in-Ok.task) _ _ _ _ c.flushed.result c.serve.ensures c.flushed.ensures (silent_words _ (sym c.tell.ensures.status ∙ e))
 
 pub returns-in-Ok-clause-no_memory : goal.returns-in-Ok-clause-no_memory
-returns-in-Ok-clause-no_memory g c e = served_silent (request_of c.in-Ok.task) _ _ c.serve.result c.serve.ensures (silent_memory _ (sym c.tell.ensures.status ∙ e))
+returns-in-Ok-clause-no_memory g c e = whole_silent (request_of c.in-Ok.task) _ _ _ _ c.flushed.result c.serve.ensures c.flushed.ensures (silent_memory _ (sym c.tell.ensures.status ∙ e))
 
 pub returns-in-Ok-clause-done : goal.returns-in-Ok-clause-done
 returns-in-Ok-clause-done g c e =
     let unsaid = unsaid_done _ (sym c.tell.ensures.status ∙ e) in
-    c.tell.ensures.unsaid unsaid (unsaid_knows _ _ (served_knows (request_of c.in-Ok.task) _ _ c.serve.result c.serve.ensures) unsaid)
+    c.tell.ensures.unsaid unsaid (unsaid_knows _ _ (whole_knows (request_of c.in-Ok.task) _ _ _ _ c.flushed.result c.serve.ensures c.flushed.ensures) unsaid)
 
 pub returns-in-Ok-clause-faulted : goal.returns-in-Ok-clause-faulted
 returns-in-Ok-clause-faulted g c e =
     let unsaid = unsaid_faulted _ (sym c.tell.ensures.status ∙ e) in
-    c.tell.ensures.unsaid unsaid (unsaid_knows _ _ (served_knows (request_of c.in-Ok.task) _ _ c.serve.result c.serve.ensures) unsaid)
+    c.tell.ensures.unsaid unsaid (unsaid_knows _ _ (whole_knows (request_of c.in-Ok.task) _ _ _ _ c.flushed.result c.serve.ensures c.flushed.ensures) unsaid)
 
 pub returns-in-Ok-clause-refused : goal.returns-in-Ok-clause-refused
 returns-in-Ok-clause-refused g c e =
-    told_refused c.serve.result.outcome c.serve.result.why _ _ (served_knows (request_of c.in-Ok.task) _ _ c.serve.result c.serve.ensures)
+    told_refused c.flushed.result.outcome c.flushed.result.why _ _ (whole_knows (request_of c.in-Ok.task) _ _ _ _ c.flushed.result c.serve.ensures c.flushed.ensures)
     (sym c.tell.ensures.status ∙ e) c.tell.ensures.said
 
 pub returns-in-Err-clause-executes : goal.returns-in-Err-clause-executes

@@ -1,0 +1,21 @@
+-- What a writer with a buffer holds.
+use Rattle.std.specs.Prelude.{ℕ, List, Option}
+use Rattle.std.specs.Io.Buffered.{writer_buffer, writer_inner}
+use Rattle.std.specs.Io.KnownBytes.{append_known}
+use Rattle.buffered_io.specs.declared.PromptWriter.{PromptWriter}
+
+-- the writer behind the buffer
+abbrev pub behind : {W : Type 0} → PromptWriter W → W
+behind w = writer_inner w.buffered
+
+-- what waits in the buffer
+abbrev pub waiting : {W : Type 0} → PromptWriter W → List ℕ
+waiting w = writer_buffer w.buffered
+
+-- how many bytes are still to go through at once
+abbrev pub prompt_left : {W : Type 0} → PromptWriter W → ℕ
+prompt_left w = w.prompt
+
+-- what the writer behind the buffer holds, where it tells, and then what waits
+abbrev pub held : {W : Type 0} → (W → Option (List ℕ)) → PromptWriter W → Option (List ℕ)
+held contents w = append_known (contents (behind w)) (waiting w)
