@@ -1,6 +1,7 @@
 //! The commands on files that the tests write: the words that are given, the lines of the report,
 //! and an output that fails.
 
+mod cuts;
 mod files;
 mod map_runs;
 mod programs;
@@ -22,6 +23,9 @@ const SHORT: &str = "the image is shorter than its head, or than its counts say\
 
 const USAGE: &str = "usage: xdpvm asm|dis|verify|run|trace|prove|recheck\n";
 
+// Why a report breaks off that nobody reads any more.
+const CLOSED: &str = "cannot write standard output\nits reader has closed it\n";
+
 // What an output says once in place of taking a byte.
 const BROKEN: Stumble = Stumble::Error(ErrorKind::BrokenPipe);
 
@@ -33,6 +37,8 @@ const PASSES_IMAGE: &[u8] = b"XBP1\0\0\x02\0\xb7\0\0\0\x02\0\0\0\x95\0\0\0\0\0\0
 const TRACE: &[&str] = &["trace", "image", "frames", "sent"];
 
 const RUN: &[&str] = &["run", "image", "frames", "sent"];
+
+const VERIFY: &[&str] = &["verify", "image"];
 
 fn words_of(alloc: Global, texts: &[&str]) -> Result<Vec<String>, Fail> {
     let mut words = Vec::new(alloc);
@@ -90,6 +96,29 @@ fn answers<R: Files + AllocGlobal + Abort>(
     assert_eq!(rt; out.taken.as_slice(), report.as_bytes(), "{texts:?}");
     assert_eq!(rt; err.taken.as_slice(), said.as_bytes(), "{texts:?}");
     Ok(())
+}
+
+// The words of a command, its status, and what standard output and standard error have.
+type Answer = (&'static [&'static str], u8, &'static str, &'static str);
+
+fn all_answer<R: Files + AllocGlobal + Abort>(rt: &R, rows: &[Answer]) -> Result<(), Fail> {
+    for (texts, status, report, said) in rows {
+        answers(rt, *texts, *status, *report, *said)?;
+    }
+    Ok(())
+}
+
+// A file has these bytes.
+fn holds<R: Files + AllocGlobal + Abort>(rt: &R, path: &str, wanted: &[u8]) -> Result<(), Fail> {
+    let bytes = fs::read(rt, path)?;
+    assert_eq!(rt; bytes.as_slice(), wanted, "{path}");
+    Ok(())
+}
+
+// Two files have the same bytes.
+fn are_equal<R: Files + AllocGlobal + Abort>(rt: &R, one: &str, other: &str) -> Result<(), Fail> {
+    let bytes = fs::read(rt, one)?;
+    holds(rt, other, bytes.as_slice())
 }
 
 // The same where standard output breaks after some bytes: the status is 4, the output has the front
@@ -218,44 +247,47 @@ fn wrong_words(rt: HostRuntime) -> Result<(), Fail> {
 const PASSED: &str = "0 PASS 0 2\nend 1\n";
 
 // Words that run the program, and the report.
-const RIGHT: [(&[&str], &str); 5] = [
-    (TRACE, PASSED),
-    (RUN, PASSED),
+const RIGHT: [Answer; 5] = [
+    (TRACE, 0, PASSED, ""),
+    (RUN, 0, PASSED, ""),
     (
         &["trace", "--limit", "002", "image", "frames", "sent"],
+        0,
         PASSED,
+        "",
     ),
     (
         &["trace", "image", "--limit", "1", "frames", "sent"],
+        0,
         "0 LIMIT 0 1\nend 1\n",
+        "",
     ),
     (
         &["trace", "image", "frames", "sent", "--limit", "1000000"],
+        0,
         PASSED,
+        "",
     ),
 ];
 
 #[test]
 fn right_words(rt: HostRuntime) -> Result<(), Fail> {
     write_files(&rt)?;
-    for (texts, report) in RIGHT.iter() {
-        answers(&rt, *texts, 0, *report, "")?;
-    }
-    let sent = fs::read(&rt, "sent")?;
-    let frames = fs::read(&rt, "frames")?;
-    assert_eq!(rt; sent.as_slice(), frames.as_slice());
+    all_answer(&rt, &RIGHT)?;
+    are_equal(&rt, "sent", "frames")?;
     remove_files(&rt)
 }
 
+const NOT_BUILT: [(&[&str], &str); 2] = [
+    (&["prove", "a", "b"], "prove"),
+    (&["recheck", "a", "b"], "recheck"),
+];
+
 #[test]
 fn commands_that_are_not_built(rt: HostRuntime) -> Result<(), Fail> {
-    let rows: [(&[&str], &str); 2] = [
-        (&["prove", "a", "b"], "prove"),
-        (&["recheck", "a", "b"], "recheck"),
-    ];
-    for (texts, name) in rows {
+    for (texts, name) in NOT_BUILT.iter() {
         let said = format!(in rt.alloc(); "{USAGE}this build has no command {name}\n")?;
-        answers(&rt, texts, 1, "", said.as_str())?;
+        answers(&rt, *texts, 1, "", said.as_str())?;
     }
     Ok(())
 }
@@ -318,75 +350,14 @@ const NO_IMAGES: [(&[u8], &str, &str); 11] = [
     ),
 ];
 
+const TRACE_OTHER: &[&str] = &["trace", "other", "frames", "sent"];
+
 #[test]
 fn no_images(rt: HostRuntime) -> Result<(), Fail> {
     write_files(&rt)?;
     for (bytes, report, why) in NO_IMAGES.iter() {
         fs::write(&rt, "other", *bytes)?;
-        answers(&rt, &["trace", "other", "frames", "sent"], 2, *report, *why)?;
+        answers(&rt, TRACE_OTHER, 2, *report, *why)?;
     }
-    remove_files(&rt)
-}
-
-// What the stream of two empty records reports where it is cut after that many bytes.
-fn report_cut_at(count: usize) -> (u8, &'static str) {
-    match count {
-        0..=3 => (3, "fault F1 at 0\n"),
-        4 => (0, "end 0\n"),
-        5..=23 => (3, "fault F2 at 4\n"),
-        24 => (0, "0 PASS 0 2\nend 1\n"),
-        25..=43 => (3, "0 PASS 0 2\nfault F2 at 24\n"),
-        _ => (0, "0 PASS 0 2\n1 PASS 0 2\nend 2\n"),
-    }
-}
-
-#[test]
-fn cut_frames(rt: HostRuntime) -> Result<(), Fail> {
-    write_files(&rt)?;
-    let two = stream(rt.alloc(), 40)?;
-    for count in 0..45usize {
-        let front = two.get(..count).ok_or("too long a cut")?;
-        fs::write(&rt, "cut", front)?;
-        let (status, report) = report_cut_at(count);
-        answers(&rt, &["run", "image", "cut", "sent"], status, report, "")?;
-    }
-    remove_files(&rt)
-}
-
-#[test]
-fn cut_images(rt: HostRuntime) -> Result<(), Fail> {
-    write_files(&rt)?;
-    for count in 0..24usize {
-        let front = PASSES_IMAGE.get(..count).ok_or("too long a cut")?;
-        fs::write(&rt, "cut", front)?;
-        answers(
-            &rt,
-            &["run", "cut", "frames", "sent"],
-            2,
-            "refused I2\n",
-            SHORT,
-        )?;
-    }
-    remove_files(&rt)
-}
-
-// Standard output fails after each byte: the report is what came before, and the frames out follow
-// it.
-#[test]
-fn standard_output_fails(rt: HostRuntime) -> Result<(), Fail> {
-    write_files(&rt)?;
-    let said = "cannot write standard output\nits reader has closed it\n";
-    for room in 0..17usize {
-        breaks(&rt, RUN, room, PASSED, "cannot write standard output\n")?;
-        let sent = fs::read(&rt, "sent")?;
-        assert_eq!(rt; sent.len(), if room < 11 { 4 } else { 24 }, "after {room}");
-    }
-    breaks(
-        &rt,
-        &["run", "short", "frames", "sent"],
-        3,
-        "refused I2\n",
-        said,
-    )?;
     remove_files(&rt)
 }

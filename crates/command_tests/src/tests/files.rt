@@ -1,15 +1,18 @@
 //! Files that fail, that are read and written at once, and that are large.
 
-use super::{PASSED, RUN, SHORT, answers, remove_files, write_files};
-use assembler::assemble;
+use super::{
+    Answer, PASSED, RUN, SHORT, all_answer, answers, are_equal, holds, remove_files, write_files,
+    write_program,
+};
 use std::fs;
+use std::process::Abort;
+use std::rt::Files;
 use std::test::Fail;
 
 // What standard error has where the file that is named so is not there.
 const LOST: &str = "cannot read lost\nno such file or folder\n";
 
-// A command, its status, and what standard output and standard error have.
-const FAILING: [(&[&str], u8, &str, &str); 11] = [
+const FAILING: [Answer; 11] = [
     (&["dis", "lost"], 4, "", LOST),
     (&["dis", "short"], 2, "refused I2\n", SHORT),
     (&["trace", "lost", "frames", "sent"], 4, "", LOST),
@@ -57,9 +60,7 @@ const FAILING: [(&[&str], u8, &str, &str); 11] = [
 fn files_that_fail(rt: HostRuntime) -> Result<(), Fail> {
     write_files(&rt)?;
     fs::create_dir(&rt, "folder")?;
-    for (texts, status, report, said) in FAILING.iter() {
-        answers(&rt, *texts, *status, *report, *said)?;
-    }
+    all_answer(&rt, &FAILING)?;
     fs::remove_dir(&rt, "folder")?;
     remove_files(&rt)
 }
@@ -75,6 +76,17 @@ const READ_TOO: [(&[&str], &str); 7] = [
     (&["run", "image", "cut", "cut"], "cut"),
 ];
 
+fn is_read_too<R: Files + AllocGlobal + Abort>(
+    rt: &R,
+    texts: &[&str],
+    path: &str,
+) -> Result<(), Fail> {
+    let said = format!(in rt.alloc();
+        "cannot write {path}\nit is one of the files that are read\n"
+    )?;
+    answers(rt, texts, 4, "", said.as_str())
+}
+
 /// Files that are read are not written over, whatever they are called.
 #[test]
 fn files_that_are_read_too(rt: HostRuntime) -> Result<(), Fail> {
@@ -82,16 +94,17 @@ fn files_that_are_read_too(rt: HostRuntime) -> Result<(), Fail> {
     fs::write(&rt, "text", b"exit")?;
     fs::write(&rt, "cut", b"")?;
     for (texts, path) in READ_TOO.iter() {
-        let said = format!(in rt.alloc();
-            "cannot write {path}\nit is one of the files that are read\n"
-        )?;
-        answers(&rt, *texts, 4, "", said.as_str())?;
+        is_read_too(&rt, *texts, *path)?;
     }
     answers(&rt, RUN, 0, PASSED, "")?;
-    let text = fs::read(&rt, "text")?;
-    assert_eq!(rt; text.as_slice(), b"exit".as_slice());
+    holds(&rt, "text", b"exit")?;
     remove_files(&rt)
 }
+
+const WRITING: [Answer; 2] = [
+    (RUN, 0, PASSED, ""),
+    (&["asm", "text", "made"], 0, "ok maps 0 slots 2\n", ""),
+];
 
 /// A file that is written keeps nothing of what it held.
 #[test]
@@ -101,15 +114,27 @@ fn files_that_are_written_over(rt: HostRuntime) -> Result<(), Fail> {
     let before = [7u8; 100];
     fs::write(&rt, "sent", before.as_slice())?;
     fs::write(&rt, "made", before.as_slice())?;
-    answers(&rt, RUN, 0, PASSED, "")?;
-    answers(&rt, &["asm", "text", "made"], 0, "ok maps 0 slots 2\n", "")?;
-    for (written, wanted) in [("sent", "frames"), ("made", "image")] {
-        let written = fs::read(&rt, written)?;
-        let wanted = fs::read(&rt, wanted)?;
-        assert_eq!(rt; written.as_slice(), wanted.as_slice());
-    }
+    all_answer(&rt, &WRITING)?;
+    are_equal(&rt, "sent", "frames")?;
+    are_equal(&rt, "made", "image")?;
     remove_files(&rt)
 }
+
+const LARGE: [Answer; 3] = [
+    (&["verify", "largest"], 0, "ok bound 4096\n", ""),
+    (
+        &["verify", "long"],
+        2,
+        "refused I3\n",
+        "the image is longer than its counts say\n",
+    ),
+    (
+        &["verify", "/dev/zero"],
+        2,
+        "refused I1\n",
+        "the bytes do not begin with XBP1\n",
+    ),
+];
 
 /// The largest image is read whole; of a longer file no more is read than shows that it is too
 /// long, and a device that never ends is refused by its first bytes.
@@ -120,41 +145,25 @@ fn large_images(rt: HostRuntime) -> Result<(), Fail> {
         text.push_str("r0 = 2\n")?;
     }
     text.push_str("exit")?;
-    let mut bytes = Vec::new(rt.alloc());
-    assemble(rt.alloc(), text.as_bytes())?.write(&mut bytes)?;
-    fs::write(&rt, "largest", bytes.as_slice())?;
+    write_program(&rt, "largest", text.as_str())?;
+    let mut bytes = fs::read(&rt, "largest")?;
     bytes.push(0)?;
     fs::write(&rt, "long", bytes.as_slice())?;
-    for (path, status, line, said) in [
-        ("largest", 0, "ok bound 4096\n", ""),
-        (
-            "long",
-            2,
-            "refused I3\n",
-            "the image is longer than its counts say\n",
-        ),
-        (
-            "/dev/zero",
-            2,
-            "refused I1\n",
-            "the bytes do not begin with XBP1\n",
-        ),
-    ] {
-        answers(&rt, &["verify", path], status, line, said)?;
-    }
+    all_answer(&rt, &LARGE)?;
     remove_files(&rt)
 }
+
+const DEVICES: [Answer; 1] = [(
+    &["trace", "image", "/dev/null", "/dev/null"],
+    3,
+    "fault F1 at 0\n",
+    "",
+)];
 
 /// A device is read and written at once: it holds nothing that could be lost.
 #[test]
 fn devices_that_are_read_too(rt: HostRuntime) -> Result<(), Fail> {
     write_files(&rt)?;
-    answers(
-        &rt,
-        &["trace", "image", "/dev/null", "/dev/null"],
-        3,
-        "fault F1 at 0\n",
-        "",
-    )?;
+    all_answer(&rt, &DEVICES)?;
     remove_files(&rt)
 }

@@ -1,8 +1,10 @@
 //! Programs with maps and helpers: the entries in the report, also after a trap.
 
 use super::programs::{EMPTY, write_frames};
-use super::{RUN, TRACE, answers, remove_files, write_program};
+use super::{Answer, RUN, TRACE, VERIFY, all_answer, answers, remove_files, write_program};
 use std::fs;
+use std::process::Abort;
+use std::rt::Files;
 use std::test::Fail;
 
 const ONE_AND_ONE: &[(u8, u8)] = &[(0, 0), (0, 0)];
@@ -78,14 +80,24 @@ const ACCEPTED: [Accepted; 8] = [
 ];
 
 /// `run` writes what `trace` writes.
+fn is_accepted<R: Files + AllocGlobal + Abort>(
+    rt: &R,
+    bound: &str,
+    report: &str,
+) -> Result<(), Fail> {
+    answers(rt, VERIFY, 0, bound, "")?;
+    for texts in [RUN, TRACE] {
+        answers(rt, texts, 0, report, "")?;
+    }
+    Ok(())
+}
+
 #[test]
 fn maps_are_run(rt: HostRuntime) -> Result<(), Fail> {
     for (text, frames, bound, report) in ACCEPTED.iter() {
         write_program(&rt, "image", *text)?;
         write_frames(&rt, *frames)?;
-        answers(&rt, &["verify", "image"], 0, *bound, "")?;
-        answers(&rt, RUN, 0, *report, "")?;
-        answers(&rt, TRACE, 0, *report, "")?;
+        is_accepted(&rt, *bound, *report)?;
     }
     remove_files(&rt)
 }
@@ -119,13 +131,17 @@ fn maps_stay_after_a_trap(rt: HostRuntime) -> Result<(), Fail> {
     remove_files(&rt)
 }
 
+const TIMED: [Answer; 2] = [
+    (VERIFY, 0, "ok bound 3\n", ""),
+    (RUN, 0, "0 TX 0 3\nend 1\n", ""),
+];
+
 /// The answer of helper 5 is the frame's time.
 #[test]
 fn helpers_tell_the_time(rt: HostRuntime) -> Result<(), Fail> {
     write_program(&rt, "image", "call 5; r0 &= 3; exit")?;
     let frame = b"XPF1\xff\xff\xff\xff\xff\xff\xff\xff\0\0\0\0\0\0\0\0\0\0\0\0";
     fs::write(&rt, "frames", frame)?;
-    answers(&rt, &["verify", "image"], 0, "ok bound 3\n", "")?;
-    answers(&rt, RUN, 0, "0 TX 0 3\nend 1\n", "")?;
+    all_answer(&rt, &TIMED)?;
     remove_files(&rt)
 }

@@ -28,18 +28,28 @@ const ON_5_AND_7: &[(u8, u8)] = &[(5, 0), (7, 0)];
 
 const OF_6_AND_5: &[(u8, u8)] = &[(0, 6), (0, 5)];
 
+fn add_frame(bytes: &mut Vec<u8>, interface: u8, length: u8) -> Result<(), Fail> {
+    bytes.extend_from_slice(&[0, 0, 0, 0, 0, 0, 0, 0, interface, 0, 0, 0, 0, 0, 0, 0])?;
+    bytes.extend_from_slice(&[length, 0, 0, 0])?;
+    for _ in 0..length {
+        bytes.push(0)?;
+    }
+    Ok(())
+}
+
 /// A stream of frames of zero bytes, at time 0 and on queue 0.
 pub fn write_frames<R: Files + AllocGlobal>(rt: &R, frames: &[(u8, u8)]) -> Result<(), Fail> {
     let mut bytes = b"XPF1".to_vec(rt.alloc())?;
     for (interface, length) in frames {
-        bytes.extend_from_slice(&[0, 0, 0, 0, 0, 0, 0, 0, *interface, 0, 0, 0, 0, 0, 0, 0])?;
-        bytes.extend_from_slice(&[*length, 0, 0, 0])?;
-        for _ in 0..*length {
-            bytes.push(0)?;
-        }
+        add_frame(&mut bytes, *interface, *length)?;
     }
     fs::write(rt, "frames", bytes.as_slice())?;
     Ok(())
+}
+
+fn trace<R: Files + AllocGlobal + Abort>(rt: &R, limit: &str, report: &str) -> Result<(), Fail> {
+    let words = ["trace", "image", "frames", "sent", "--limit", limit];
+    answers(rt, &words, 0, report, "")
 }
 
 /// What `trace` writes of each, always with status 0.
@@ -47,8 +57,7 @@ fn traces<R: Files + AllocGlobal + Abort>(rt: &R, examples: &[Example]) -> Resul
     for (text, frames, limit, report) in examples {
         write_program(rt, "image", *text)?;
         write_frames(rt, *frames)?;
-        let words = ["trace", "image", "frames", "sent", "--limit", *limit];
-        answers(rt, &words, 0, *report, "")?;
+        trace(rt, *limit, *report)?;
     }
     remove_files(rt)
 }

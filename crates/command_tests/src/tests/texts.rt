@@ -1,18 +1,26 @@
 //! Texts made into images, and images into texts.
 
-use super::{PASSES_IMAGE, answers, breaks, remove_files, write_program};
+use super::{
+    Answer, CLOSED, PASSES_IMAGE, all_answer, answers, breaks, holds, remove_files, write_program,
+};
 use std::fs;
 use std::test::Fail;
+
+const DIS: &[&str] = &["dis", "image"];
+
+const ASM: &[&str] = &["asm", "text", "made"];
+
+const MADE: &str = "ok maps 0 slots 2\n";
+
+const TWO_LINES: &str = "r1 = 16\ngoto -2\n";
 
 // The text of an image, and what is left of it where standard output fails.
 #[test]
 fn texts(rt: HostRuntime) -> Result<(), Fail> {
-    let text = "r1 = 16\ngoto -2\n";
-    write_program(&rt, "image", text)?;
-    answers(&rt, &["dis", "image"], 0, text, "")?;
-    let said = "cannot write standard output\nits reader has closed it\n";
+    write_program(&rt, "image", TWO_LINES)?;
+    answers(&rt, DIS, 0, TWO_LINES, "")?;
     for room in 0..16usize {
-        breaks(&rt, &["dis", "image"], room, text, said)?;
+        breaks(&rt, DIS, room, TWO_LINES, CLOSED)?;
     }
     remove_files(&rt)
 }
@@ -20,42 +28,38 @@ fn texts(rt: HostRuntime) -> Result<(), Fail> {
 #[test]
 fn assembles(rt: HostRuntime) -> Result<(), Fail> {
     fs::write(&rt, "text", b"r0 = 2\nexit")?;
-    answers(&rt, &["asm", "text", "made"], 0, "ok maps 0 slots 2\n", "")?;
-    let made = fs::read(&rt, "made")?;
-    assert_eq!(rt; made.as_slice(), PASSES_IMAGE);
+    answers(&rt, ASM, 0, MADE, "")?;
+    holds(&rt, "made", PASSES_IMAGE)?;
     remove_files(&rt)
 }
 
-#[test]
-fn refuses_texts_before_the_image_is_opened(rt: HostRuntime) -> Result<(), Fail> {
-    fs::write(&rt, "wrong", b"exit\ngoto a")?;
-    answers(
-        &rt,
+/// Of a text that is refused the image is not opened.
+const FAILING: [Answer; 3] = [
+    (
         &["asm", "wrong", "none/made"],
         2,
         "refused A5 line 2 column 6\n",
         "the name is not defined\nline 2 column 6\n",
-    )?;
-    remove_files(&rt)
-}
-
-#[test]
-fn files_of_an_assembly_that_fail(rt: HostRuntime) -> Result<(), Fail> {
-    fs::write(&rt, "right", b"exit")?;
-    answers(
-        &rt,
+    ),
+    (
         &["asm", "right", "none/made"],
         4,
         "",
         "cannot write none/made\nno such file or folder\n",
-    )?;
-    answers(
-        &rt,
+    ),
+    (
         &["asm", "absent", "made"],
         4,
         "",
         "cannot read absent\nno such file or folder\n",
-    )?;
+    ),
+];
+
+#[test]
+fn texts_and_files_that_fail(rt: HostRuntime) -> Result<(), Fail> {
+    fs::write(&rt, "wrong", b"exit\ngoto a")?;
+    fs::write(&rt, "right", b"exit")?;
+    all_answer(&rt, &FAILING)?;
     remove_files(&rt)
 }
 
@@ -68,6 +72,6 @@ fn a_long_text(rt: HostRuntime) -> Result<(), Fail> {
     }
     text.extend_from_slice(b"exit")?;
     fs::write(&rt, "text", text.as_slice())?;
-    answers(&rt, &["asm", "text", "made"], 0, "ok maps 0 slots 2\n", "")?;
+    answers(&rt, ASM, 0, MADE, "")?;
     remove_files(&rt)
 }

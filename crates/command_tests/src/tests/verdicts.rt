@@ -1,8 +1,10 @@
 //! Programs that are verified and run.
 
 use super::programs::{EMPTY, write_frames};
-use super::{RUN, TRACE, answers, remove_files, write_files, write_program};
+use super::{Answer, RUN, TRACE, VERIFY, all_answer, answers, holds, remove_files, write_program};
 use std::fs;
+use std::process::Abort;
+use std::rt::Files;
 use std::test::Fail;
 
 /// A program, what `verify` says of it, and its report.
@@ -40,18 +42,22 @@ const ACCEPTED: [(&str, &str, &str); 7] = [
     ),
 ];
 
+/// Runs, and traces what was run: the frames out stay as they were.
+fn runs_as_it_traces<R: Files + AllocGlobal + Abort>(rt: &R, report: &str) -> Result<(), Fail> {
+    answers(rt, RUN, 0, report, "")?;
+    let sent = fs::read(rt, "sent")?;
+    answers(rt, TRACE, 0, report, "")?;
+    holds(rt, "sent", sent.as_slice())
+}
+
 /// What is accepted, with its bound; `run` writes what `trace` writes.
 #[test]
 fn verifies_and_runs(rt: HostRuntime) -> Result<(), Fail> {
     write_frames(&rt, EMPTY)?;
     for (text, bound, report) in ACCEPTED.iter() {
         write_program(&rt, "image", *text)?;
-        answers(&rt, &["verify", "image"], 0, *bound, "")?;
-        answers(&rt, RUN, 0, *report, "")?;
-        let sent = fs::read(&rt, "sent")?;
-        answers(&rt, TRACE, 0, *report, "")?;
-        let again = fs::read(&rt, "sent")?;
-        assert_eq!(rt; sent.as_slice(), again.as_slice(), "{text}");
+        answers(&rt, VERIFY, 0, *bound, "")?;
+        runs_as_it_traces(&rt, *report)?;
     }
     remove_files(&rt)
 }
@@ -129,28 +135,38 @@ const REFUSED: [(&str, &str, &str); 12] = [
     ),
 ];
 
+/// The commands that refuse a program, also where the frames and the frames out are not there.
+const REFUSING: [&[&str]; 3] = [VERIFY, &["run", "image", "lost", "lost/sent"], RUN];
+
+fn is_refused<R: Files + AllocGlobal + Abort>(
+    rt: &R,
+    refusal: &str,
+    why: &str,
+) -> Result<(), Fail> {
+    for texts in REFUSING.iter() {
+        answers(rt, *texts, 2, refusal, why)?;
+    }
+    Ok(())
+}
+
 /// What is refused, why and where. No instruction is run, and the frames and the frames out are
 /// not opened.
 #[test]
 fn refuses_and_runs_nothing(rt: HostRuntime) -> Result<(), Fail> {
     write_frames(&rt, EMPTY)?;
+    fs::write(&rt, "sent", b"kept")?;
     for (text, refusal, why) in REFUSED.iter() {
         write_program(&rt, "image", *text)?;
-        answers(&rt, &["verify", "image"], 2, *refusal, *why)?;
-        answers(
-            &rt,
-            &["run", "image", "lost", "lost/sent"],
-            2,
-            *refusal,
-            *why,
-        )?;
-        fs::write(&rt, "sent", b"kept")?;
-        answers(&rt, RUN, 2, *refusal, *why)?;
-        let sent = fs::read(&rt, "sent")?;
-        assert_eq!(rt; sent.as_slice(), b"kept".as_slice(), "{text}");
+        is_refused(&rt, *refusal, *why)?;
+        holds(&rt, "sent", b"kept")?;
     }
     remove_files(&rt)
 }
+
+const JOINED: [Answer; 2] = [
+    (VERIFY, 0, "ok bound 42\n", ""),
+    (RUN, 0, "0 PASS 0 42\nend 1\n", ""),
+];
 
 /// Both sides of each jump come together again: without that, 2,097,151 instructions would be
 /// explored.
@@ -163,7 +179,6 @@ fn verifies_where_paths_join(rt: HostRuntime) -> Result<(), Fail> {
     text.push_str("exit")?;
     write_program(&rt, "image", text.as_str())?;
     write_frames(&rt, EMPTY)?;
-    answers(&rt, &["verify", "image"], 0, "ok bound 42\n", "")?;
-    answers(&rt, RUN, 0, "0 PASS 0 42\nend 1\n", "")?;
+    all_answer(&rt, &JOINED)?;
     remove_files(&rt)
 }

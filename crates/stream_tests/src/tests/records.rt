@@ -2,7 +2,9 @@
 
 use frames::{FrameReader, Next, write_frame};
 use isa_model::{Fault, FrameHead};
+use std::alloc::Global;
 use std::io::{ErrorKind, Read};
+use std::process::Abort;
 use std::test::Fail;
 use stumbling_io::{Reader, STUMBLES, Stumble, Writer};
 
@@ -38,170 +40,246 @@ fn stop_of<R: Read + Drop>(source: R) -> (u32, Next, Next) {
     (3, Next::End, Next::End)
 }
 
-#[test]
-fn cut(rt: HostRuntime) {
-    for step in [1, 2, 3, 7usize] {
-        for n in 0..45usize {
-            let (count, stop) = match n {
-                0..4 => (0, Next::Fault(Fault::BadMagic, 0)),
-                4 => (0, Next::End),
-                24 => (1, Next::End),
-                44 => (2, Next::End),
-                5..24 => (0, Next::Fault(Fault::TruncatedHead, 4)),
-                _ => (1, Next::Fault(Fault::TruncatedHead, 24)),
-            };
-            let source = Reader {
-                left: &TWO[..n],
-                step,
-                room: 0,
-                stumble: None,
-            };
-            assert_eq!(rt; stop_of(source), (count, stop, stop), "{n} bytes");
-        }
-    }
-    for n in 24..29usize {
-        let stop = Next::Fault(Fault::TruncatedBody, 4);
-        assert_eq!(rt; stop_of(&RECORD[..n]), (0, stop, stop), "{n} bytes");
+// A reader of some bytes that stumbles after some of them.
+fn reader(left: &[u8], step: usize, room: usize, stumble: Option<Stumble>) -> Reader<'_> {
+    Reader {
+        left,
+        step,
+        room,
+        stumble,
     }
 }
+
+// How many bytes move at a call.
+const STEPS: [usize; 4] = [1, 2, 3, 7];
+
+// How many of the two records are read where the stream is cut, and how it stops.
+fn stop_of_cut(length: usize) -> (u32, Next) {
+    match length {
+        0..4 => (0, Next::Fault(Fault::BadMagic, 0)),
+        4 => (0, Next::End),
+        24 => (1, Next::End),
+        44 => (2, Next::End),
+        5..24 => (0, Next::Fault(Fault::TruncatedHead, 4)),
+        _ => (1, Next::Fault(Fault::TruncatedHead, 24)),
+    }
+}
+
+#[test]
+fn cut(rt: HostRuntime) {
+    for step in STEPS.iter() {
+        for length in 0..45usize {
+            let (count, stop) = stop_of_cut(length);
+            let source = reader(&TWO[..length], *step, 0, None);
+            assert_eq!(rt; stop_of(source), (count, stop, stop), "{length} bytes");
+        }
+    }
+}
+
+#[test]
+fn cut_bodies(rt: HostRuntime) {
+    let stop = Next::Fault(Fault::TruncatedBody, 4);
+    for length in 24..29usize {
+        let found = stop_of(&RECORD[..length]);
+        assert_eq!(rt; found, (0, stop, stop), "{length} bytes");
+    }
+}
+
+// How many of the two records are read before a read fails, and where the next one begins.
+fn stop_of_failure(length: usize) -> (u32, Next) {
+    let (count, offset) = match length {
+        0..4 => (0, 0),
+        4..24 => (0, 4),
+        24..44 => (1, 24),
+        _ => (2, 44),
+    };
+    (count, Next::Fault(Fault::ReadFailed, offset))
+}
+
+// The errors among the stumbles.
+const ERRORS: [Stumble; 2] = [
+    Stumble::Error(ErrorKind::BrokenPipe),
+    Stumble::Error(ErrorKind::Interrupted),
+];
 
 #[test]
 fn broken(rt: HostRuntime) {
-    for error in [STUMBLES[0], STUMBLES[1]] {
-        for step in [1, 2, 3, 7usize] {
-            for n in 0..45usize {
-                let (count, offset) = match n {
-                    0..4 => (0, 0),
-                    4..24 => (0, 4),
-                    24..44 => (1, 24),
-                    _ => (2, 44),
-                };
-                let stop = Next::Fault(Fault::ReadFailed, offset);
-                let source = Reader {
-                    left: &TWO,
-                    step,
-                    room: n,
-                    stumble: Some(error),
-                };
-                assert_eq!(rt; stop_of(source), (count, stop, stop), "{n} bytes");
-            }
-            for n in 24..29usize {
-                let stop = Next::Fault(Fault::ReadFailed, 4);
-                let source = Reader {
-                    left: &RECORD,
-                    step,
-                    room: n,
-                    stumble: Some(error),
-                };
-                assert_eq!(rt; stop_of(source), (0, stop, stop), "{n} bytes");
+    for error in ERRORS.iter() {
+        for step in STEPS.iter() {
+            for room in 0..45usize {
+                let (count, stop) = stop_of_failure(room);
+                let source = reader(&TWO, *step, room, Some(*error));
+                assert_eq!(rt; stop_of(source), (count, stop, stop), "{room} bytes");
             }
         }
     }
 }
 
-// The two records, and what is damaged: the place of a byte, its value, and what stops the stream.
 #[test]
-fn damaged(rt: HostRuntime) {
-    for (place, byte, count, stop) in [
-        (3, 50, 0, Next::Fault(Fault::BadMagic, 0)),
-        (20, 20, 1, Next::End),
-        (20, 21, 0, Next::Fault(Fault::TruncatedBody, 4)),
-        (21, 16, 0, Next::Fault(Fault::TruncatedBody, 4)),
-        (41, 16, 1, Next::Fault(Fault::TruncatedBody, 24)),
-        (41, 17, 1, Next::Fault(Fault::TooLong, 24)),
-        (23, 1, 0, Next::Fault(Fault::TooLong, 4)),
-    ] {
-        let mut bytes = TWO;
-        bytes[place] = byte;
-        assert_eq!(rt;
-            stop_of(bytes.as_slice()),
-            (count, stop, stop),
-            "{byte} at {place}"
-        );
+fn broken_bodies(rt: HostRuntime) {
+    let stop = Next::Fault(Fault::ReadFailed, 4);
+    for error in ERRORS.iter() {
+        for step in STEPS.iter() {
+            for room in 24..29usize {
+                let source = reader(&RECORD, *step, room, Some(*error));
+                assert_eq!(rt; stop_of(source), (0, stop, stop), "{room} bytes");
+            }
+        }
     }
-    let mut long = TWO;
-    long[20] = 1;
-    long[21] = 16;
-    let stop = Next::Fault(Fault::TooLong, 4);
-    assert_eq!(rt; stop_of(long.as_slice()), (0, stop, stop));
+}
+
+// What is damaged in the two records, how many come before the stop, and the stop.
+#[rattlefmt::skip]
+const DAMAGED: [(&[(usize, u8)], u32, Next); 8] = [
+    (&[(3, 50)], 0, Next::Fault(Fault::BadMagic, 0)),
+    (&[(20, 20)], 1, Next::End),
+    (&[(20, 21)], 0, Next::Fault(Fault::TruncatedBody, 4)),
+    (&[(21, 16)], 0, Next::Fault(Fault::TruncatedBody, 4)),
+    (&[(41, 16)], 1, Next::Fault(Fault::TruncatedBody, 24)),
+    (&[(41, 17)], 1, Next::Fault(Fault::TooLong, 24)),
+    (&[(23, 1)], 0, Next::Fault(Fault::TooLong, 4)),
+    (&[(20, 1), (21, 16)], 0, Next::Fault(Fault::TooLong, 4)),
+];
+
+// The two records with other bytes in some places.
+fn with_bytes(changes: &[(usize, u8)]) -> [u8; 44] {
+    let mut bytes = TWO;
+    for (place, value) in changes {
+        if let Some(byte) = bytes.get_mut(*place) {
+            *byte = *value;
+        }
+    }
+    bytes
 }
 
 #[test]
-fn round_trip(rt: HostRuntime) -> Result<(), Fail> {
+fn damaged(rt: HostRuntime) {
+    for (changes, count, stop) in DAMAGED.iter() {
+        let bytes = with_bytes(*changes);
+        let found = stop_of(bytes.as_slice());
+        assert_eq!(rt; found, (*count, *stop, *stop), "{changes:?}");
+    }
+}
+
+// Appends a record to a stream.
+fn add_record(bytes: &mut Vec<u8>, head: &FrameHead, body: &[u8]) -> Result<(), Fail> {
+    if body.len() <= 4096 {
+        write_frame(bytes, head, body)?;
+    }
+    Ok(())
+}
+
+// Two records, of 4,096 bytes and of none.
+fn full_and_empty(alloc: Global, body: &[u8]) -> Result<Vec<u8>, Fail> {
+    let mut bytes = b"XPF1".to_vec(alloc)?;
+    add_record(&mut bytes, &HEAD, body)?;
+    add_record(&mut bytes, &HEAD, &[])?;
+    Ok(bytes)
+}
+
+// A body of 4,096 bytes whose ends are marked.
+fn full_body() -> [u8; 4096] {
     let mut body = [7u8; 4096];
     body[0] = 1;
     body[4095] = 2;
-    let mut bytes = Vec::new(rt.alloc());
-    bytes.extend_from_slice(b"XPF1")?;
-    write_frame(&mut bytes, &HEAD, &body)?;
-    write_frame(&mut bytes, &HEAD, &[])?;
-    assert_eq!(rt; bytes.len(), 4140);
-    assert_eq!(rt; &bytes[4..20], HEAD_BYTES.as_slice());
-    assert_eq!(rt; &bytes[20..24], [0, 16, 0, 0].as_slice());
-    assert_eq!(rt; &bytes[24..4120], body.as_slice());
-    assert_eq!(rt; &bytes[4120..4136], HEAD_BYTES.as_slice());
-    assert_eq!(rt; &bytes[4136..], [0, 0, 0, 0].as_slice());
-    let mut reader = FrameReader::new(Reader {
-        left: &bytes,
-        step: 7,
-        room: 0,
-        stumble: None,
-    });
+    body
+}
+
+#[test]
+fn writes_records(rt: HostRuntime) -> Result<(), Fail> {
+    let body = full_body();
+    let bytes = full_and_empty(rt.alloc(), &body)?;
+    let mut wanted = b"XPF1".to_vec(rt.alloc())?;
+    wanted.extend_from_slice(&HEAD_BYTES)?;
+    wanted.extend_from_slice(&[0, 16, 0, 0])?;
+    wanted.extend_from_slice(&body)?;
+    wanted.extend_from_slice(&HEAD_BYTES)?;
+    wanted.extend_from_slice(&[0, 0, 0, 0])?;
+    assert_eq!(rt; bytes.as_slice(), wanted.as_slice());
+    Ok(())
+}
+
+fn next_of<R: Read + Drop>(reader: &mut FrameReader<R>, buffer: &mut [u8; 4096]) -> Next {
+    reader.next(buffer)
+}
+
+#[test]
+fn reads_records(rt: HostRuntime) -> Result<(), Fail> {
+    let body = full_body();
+    let bytes = full_and_empty(rt.alloc(), &body)?;
+    let mut source = FrameReader::new(reader(&bytes, 7, 0, None));
     let mut buffer = [0; 4096];
-    assert_eq!(rt; reader.next(&mut buffer), Next::Frame(HEAD, 4096));
+    let first = next_of(&mut source, &mut buffer);
+    assert_eq!(rt; first, Next::Frame(HEAD, 4096));
     assert_eq!(rt; buffer.as_slice(), body.as_slice());
-    assert_eq!(rt; reader.next(&mut buffer), Next::Frame(HEAD, 0));
-    assert_eq!(rt; reader.next(&mut buffer), Next::End);
-    assert_eq!(rt; reader.next(&mut buffer), Next::End);
+    for wanted in [Next::Frame(HEAD, 0), Next::End, Next::End] {
+        assert_eq!(rt; next_of(&mut source, &mut buffer), wanted);
+    }
     Ok(())
 }
 
 // The bodies of 300 records have 0 to 5 bytes, 750 together, and after them stand 19 bytes of a
 // head.
-#[test]
-fn many_records(rt: HostRuntime) -> Result<(), Fail> {
-    let mut bytes = Vec::new(rt.alloc());
-    bytes.extend_from_slice(b"XPF1")?;
+fn many(alloc: Global) -> Result<Vec<u8>, Fail> {
+    let mut bytes = b"XPF1".to_vec(alloc)?;
     for time in 0..300u64 {
         let head = FrameHead { time, ..HEAD };
-        write_frame(&mut bytes, &head, &[7; 6][..time as usize % 6])?;
+        add_record(&mut bytes, &head, &[7; 6][..time as usize % 6])?;
     }
     bytes.extend_from_slice(&[0; 19])?;
-    let mut reader = FrameReader::new(bytes.as_slice());
-    let mut buffer = [0; 4096];
-    for time in 0..300u64 {
-        let head = FrameHead { time, ..HEAD };
-        let want = Next::Frame(head, time as usize % 6);
-        assert_eq!(rt; reader.next(&mut buffer), want, "record {time}");
-    }
-    let stop = Next::Fault(Fault::TruncatedHead, 4 + 300 * 20 + 750);
-    assert_eq!(rt; reader.next(&mut buffer), stop);
-    Ok(())
+    Ok(bytes)
 }
 
 #[test]
-fn failing_writes(rt: HostRuntime) -> Result<(), Fail> {
-    let record = &RECORD[4..];
-    for stumble in STUMBLES {
+fn many_records(rt: HostRuntime) -> Result<(), Fail> {
+    let bytes = many(rt.alloc())?;
+    let mut source = FrameReader::new(bytes.as_slice());
+    let mut buffer = [0; 4096];
+    for time in 0..300u64 {
+        let head = FrameHead { time, ..HEAD };
+        let wanted = Next::Frame(head, time as usize % 6);
+        assert_eq!(rt; next_of(&mut source, &mut buffer), wanted, "record {time}");
+    }
+    let stop = Next::Fault(Fault::TruncatedHead, 4 + 300 * 20 + 750);
+    assert_eq!(rt; next_of(&mut source, &mut buffer), stop);
+    Ok(())
+}
+
+// Why writing the record fails, if it does.
+fn failure_of_writing(writer: &mut Writer) -> Option<ErrorKind> {
+    match write_frame(writer, &HEAD, b"hello") {
+        Ok(()) => None,
+        Err(error) => Some(error.kind()),
+    }
+}
+
+fn stumbles_in_writing(
+    rt: &(impl AllocGlobal + Abort),
+    step: usize,
+    room: usize,
+    stumble: Stumble,
+) {
+    let told = match stumble {
+        Stumble::Error(kind) => kind,
+        Stumble::Nothing => ErrorKind::WriteZero,
+    };
+    let wanted = if room < 25 { Some(told) } else { None };
+    let mut writer = Writer::new(rt.alloc(), step, room, Some(stumble));
+    assert_eq!(rt; failure_of_writing(&mut writer), wanted, "{room} bytes");
+    assert_eq!(rt;
+        Some(writer.taken.as_slice()),
+        RECORD[4..].get(..room),
+        "{room} bytes"
+    );
+}
+
+#[test]
+fn failing_writes(rt: HostRuntime) {
+    for stumble in STUMBLES.iter() {
         for step in [1, 7, 25usize] {
             for room in 0..26usize {
-                let mut writer = Writer::new(rt.alloc(), step, room, Some(stumble));
-                let result = write_frame(&mut writer, &HEAD, b"hello");
-                let want = match stumble {
-                    Stumble::Error(kind) => kind,
-                    Stumble::Nothing => ErrorKind::WriteZero,
-                };
-                if room == 25 {
-                    assert!(rt; result.is_ok());
-                } else {
-                    assert!(rt;
-                        result.is_err_and(|error| error.kind() == want),
-                        "{room} bytes"
-                    );
-                }
-                assert_eq!(rt; writer.taken.as_slice(), &record[..room], "{room} bytes");
+                stumbles_in_writing(&rt, step, room, *stumble);
             }
         }
     }
-    Ok(())
 }

@@ -7,6 +7,7 @@ use image::Image;
 use isa_model::Fault;
 use std::alloc::Global;
 use std::io::{ErrorKind, Read};
+use std::process::Abort;
 use std::test::Fail;
 use stumbling_io::{Reader, STUMBLES, Stumble, Writer};
 
@@ -82,19 +83,48 @@ fn checked<R: Read + Drop>(
     Ok(run_checked(alloc, image, limit, frames, report, out))
 }
 
+// The room and the stumble of either output, what a run answers that passes each frame, and what it
+// has written.
+#[derive(Drop)]
+struct Case<'a> {
+    report: (usize, Option<Stumble>),
+    out: (usize, Option<Stumble>),
+    answer: Result<Tally, HostError>,
+    lines: &'a [u8],
+    sent: &'a [u8],
+}
+
+fn ends_so<R: Read + Drop>(
+    rt: &(impl AllocGlobal + Abort),
+    frames: R,
+    case: &Case<'_>,
+) -> Result<(), Fail> {
+    let alloc = rt.alloc();
+    let mut report = make_writer(alloc, case.report.0, case.report.1);
+    let mut out = make_writer(alloc, case.out.0, case.out.1);
+    let answer = checked(alloc, PASSES, 100, frames, &mut report, &mut out)?;
+    assert_eq!(rt; answer, case.answer);
+    assert_eq!(rt; report.taken.as_slice(), case.lines);
+    assert_eq!(rt; out.taken.as_slice(), case.sent);
+    Ok(())
+}
+
+const LINES: &[u8] = b"0 PASS 0 2\nend 1\n";
+
+const ENDLESS: (usize, Option<Stumble>) = (0, None);
+
 #[test]
 fn report_fails(rt: HostRuntime) -> Result<(), Fail> {
-    let alloc = rt.alloc();
-    let lines = b"0 PASS 0 2\nend 1\n";
-    for stumble in STUMBLES {
-        for k in 0..17usize {
-            let mut report = make_writer(alloc, k, Some(stumble));
-            let mut out = make_writer(alloc, 0, None);
-            let result = checked(alloc, PASSES, 100, ONE.as_slice(), &mut report, &mut out)?;
-            assert_eq!(rt; result, Err(HostError::Report), "after {k} bytes");
-            assert_eq!(rt; report.taken.as_slice(), &lines[..k]);
-            let sent = if k < 11 { &ONE[..4] } else { &ONE };
-            assert_eq!(rt; out.taken.as_slice(), sent);
+    for stumble in STUMBLES.iter() {
+        for room in 0..17usize {
+            let case = Case {
+                report: (room, Some(*stumble)),
+                out: ENDLESS,
+                answer: Err(HostError::Report),
+                lines: &LINES[..room],
+                sent: if room < 11 { MAGIC } else { &ONE },
+            };
+            ends_so(&rt, ONE.as_slice(), &case)?;
         }
     }
     Ok(())
@@ -102,17 +132,16 @@ fn report_fails(rt: HostRuntime) -> Result<(), Fail> {
 
 #[test]
 fn frames_fail(rt: HostRuntime) -> Result<(), Fail> {
-    let alloc = rt.alloc();
-    let line = b"0 PASS 0 2\n";
-    for stumble in STUMBLES {
-        for k in 0..24usize {
-            let mut report = make_writer(alloc, 0, None);
-            let mut out = make_writer(alloc, k, Some(stumble));
-            let result = checked(alloc, PASSES, 100, ONE.as_slice(), &mut report, &mut out)?;
-            assert_eq!(rt; result, Err(HostError::Frames), "after {k} bytes");
-            assert_eq!(rt; out.taken.as_slice(), &ONE[..k]);
-            let told = if k < 4 { &line[..0] } else { line };
-            assert_eq!(rt; report.taken.as_slice(), told);
+    for stumble in STUMBLES.iter() {
+        for room in 0..24usize {
+            let case = Case {
+                report: ENDLESS,
+                out: (room, Some(*stumble)),
+                answer: Err(HostError::Frames),
+                lines: if room < 4 { b"" } else { b"0 PASS 0 2\n" },
+                sent: &ONE[..room],
+            };
+            ends_so(&rt, ONE.as_slice(), &case)?;
         }
     }
     Ok(())
@@ -231,58 +260,72 @@ fn runs_end(rt: HostRuntime) -> Result<(), Fail> {
     Ok(())
 }
 
-#[test]
-fn faults(rt: HostRuntime) -> Result<(), Fail> {
-    let alloc = rt.alloc();
-    for n in 0..45usize {
-        let (frames, fault) = match n {
-            0..4 => (0, Some((Fault::BadMagic, 0))),
-            4 => (0, None),
-            5..24 => (0, Some((Fault::TruncatedHead, 4))),
-            24 => (1, None),
-            25..44 => (1, Some((Fault::TruncatedHead, 24))),
-            _ => (2, None),
-        };
-        let mut report = make_writer(alloc, 0, None);
-        let mut out = make_writer(alloc, 0, None);
-        let result = checked(alloc, PASSES, 100, &TWO[..n], &mut report, &mut out)?;
-        assert_eq!(rt; result, Ok(Tally { frames, fault }), "{n} bytes");
-        assert_eq!(rt; out.taken.as_slice(), &TWO[..4 + 20 * frames as usize]);
-        let place = match n {
-            0..4 => 0,
-            4..24 => 4,
-            24..44 => 24,
-            _ => 44,
-        };
-        let left = broken(&TWO[..n]);
-        let mut report = make_writer(alloc, 0, None);
-        let mut out = make_writer(alloc, 0, None);
-        let result = checked(alloc, PASSES, 100, left, &mut report, &mut out)?;
-        let fault = Some((Fault::ReadFailed, place));
-        assert_eq!(rt; result, Ok(Tally { frames, fault }), "{n} bytes");
+// How many of the two records are run where the stream is cut, the fault, and the report.
+fn end_of_cut(length: usize) -> (u32, Option<(Fault, u64)>, &'static [u8]) {
+    match length {
+        0..4 => (0, Some((Fault::BadMagic, 0)), b"fault F1 at 0\n"),
+        4 => (0, None, b"end 0\n"),
+        5..24 => (0, Some((Fault::TruncatedHead, 4)), b"fault F2 at 4\n"),
+        24 => (1, None, b"0 PASS 0 2\nend 1\n"),
+        25..44 => (
+            1,
+            Some((Fault::TruncatedHead, 24)),
+            b"0 PASS 0 2\nfault F2 at 24\n",
+        ),
+        _ => (2, None, b"0 PASS 0 2\n1 PASS 0 2\nend 2\n"),
     }
-    Ok(())
+}
+
+// The same where a read fails.
+fn end_of_failure(length: usize) -> (u32, u64, &'static [u8]) {
+    match length {
+        0..4 => (0, 0, b"fault F5 at 0\n"),
+        4..24 => (0, 4, b"fault F5 at 4\n"),
+        24..44 => (1, 24, b"0 PASS 0 2\nfault F5 at 24\n"),
+        _ => (2, 44, b"0 PASS 0 2\n1 PASS 0 2\nfault F5 at 44\n"),
+    }
+}
+
+// The magic and the records that are whole.
+fn whole_records(length: usize) -> &'static [u8] {
+    match length {
+        0..24 => MAGIC,
+        24..44 => &ONE,
+        _ => &TWO,
+    }
 }
 
 // Where a stream ends with a fault, the last line names it and its place.
 #[test]
-fn last_lines(rt: HostRuntime) -> Result<(), Fail> {
-    let alloc = rt.alloc();
-    for (n, lines) in [
-        (29usize, "0 PASS 0 2\nfault F5 at 24\n"),
-        (44, "0 PASS 0 2\n1 PASS 0 2\nfault F5 at 44\n"),
-    ] {
-        let mut report = make_writer(alloc, 0, None);
-        let mut out = make_writer(alloc, 0, None);
-        let left = broken(&TWO[..n]);
-        let _tally = checked(alloc, PASSES, 100, left, &mut report, &mut out)?;
-        assert_eq!(rt; report.taken.as_slice(), lines.as_bytes());
+fn cut_streams(rt: HostRuntime) -> Result<(), Fail> {
+    for length in 0..45usize {
+        let (frames, fault, lines) = end_of_cut(length);
+        let case = Case {
+            report: ENDLESS,
+            out: ENDLESS,
+            answer: Ok(Tally { frames, fault }),
+            lines,
+            sent: whole_records(length),
+        };
+        ends_so(&rt, &TWO[..length], &case)?;
     }
-    let mut report = make_writer(alloc, 0, None);
-    let mut out = make_writer(alloc, 0, None);
-    let _tally = checked(alloc, PASSES, 100, &TWO[..29], &mut report, &mut out)?;
-    let lines = "0 PASS 0 2\nfault F2 at 24\n";
-    assert_eq!(rt; report.taken.as_slice(), lines.as_bytes());
+    Ok(())
+}
+
+#[test]
+fn broken_streams(rt: HostRuntime) -> Result<(), Fail> {
+    for length in 0..45usize {
+        let (frames, place, lines) = end_of_failure(length);
+        let fault = Some((Fault::ReadFailed, place));
+        let case = Case {
+            report: ENDLESS,
+            out: ENDLESS,
+            answer: Ok(Tally { frames, fault }),
+            lines,
+            sent: whole_records(length),
+        };
+        ends_so(&rt, broken(&TWO[..length]), &case)?;
+    }
     Ok(())
 }
 

@@ -2,75 +2,110 @@
 
 use exact_io::{Filled, fill, write_bytes};
 use std::io::ErrorKind;
-use std::test::Fail;
+use std::process::Abort;
 use stumbling_io::{Reader, STUMBLES, Stumble, Writer};
 
 const TEXT: &[u8; 7] = b"letters";
 
+/// How many bytes move at a call.
+const STEPS: [usize; 4] = [1, 2, 3, 7];
+
+/// Why writing fails, if it does.
+fn failure_of_writing(writer: &mut Writer, bytes: &[u8]) -> Option<ErrorKind> {
+    match write_bytes(writer, bytes) {
+        Ok(()) => None,
+        Err(error) => Some(error.kind()),
+    }
+}
+
+/// What a stumble after some of the bytes is told as.
+fn told(stumble: Stumble) -> ErrorKind {
+    match stumble {
+        Stumble::Error(kind) => kind,
+        Stumble::Nothing => ErrorKind::WriteZero,
+    }
+}
+
+fn stumbles_in_writing(
+    rt: &(impl AllocGlobal + Abort),
+    step: usize,
+    room: usize,
+    stumble: Stumble,
+) {
+    let mut writer = Writer::new(rt.alloc(), step, room, Some(stumble));
+    let failure = failure_of_writing(&mut writer, TEXT);
+    let wanted = if room < TEXT.len() {
+        Some(told(stumble))
+    } else {
+        None
+    };
+    assert_eq!(rt; failure, wanted, "at {room}");
+    assert_eq!(rt; Some(writer.taken.as_slice()), TEXT.get(..room));
+}
+
 #[test]
-fn writes(rt: HostRuntime) -> Result<(), Fail> {
-    for step in [1, 2, 3, 7usize] {
+fn writes(rt: HostRuntime) {
+    for step in STEPS.iter() {
         for room in 0..8usize {
-            for stumble in STUMBLES {
-                let mut writer = Writer::new(rt.alloc(), step, room, Some(stumble));
-                let result = write_bytes(&mut writer, TEXT);
-                assert_eq!(rt; writer.taken.as_slice(), &TEXT[..room]);
-                match (room, stumble) {
-                    (7, _) => assert!(rt; result.is_ok()),
-                    (_, Stumble::Error(kind)) => {
-                        assert!(rt;
-                            result.is_err_and(|error| error.kind() == kind),
-                            "at {room}"
-                        );
-                    }
-                    (_, Stumble::Nothing) => {
-                        assert!(rt;
-                            result.is_err_and(|error| error.kind() == ErrorKind::WriteZero)
-                        );
-                    }
-                }
+            for stumble in STUMBLES.iter() {
+                stumbles_in_writing(&rt, *step, room, *stumble);
             }
         }
     }
-    Ok(())
+}
+
+fn filled(reader: &mut Reader<'_>, buffer: &mut [u8]) -> Filled {
+    fill(reader, buffer)
+}
+
+fn stumbles_in_filling(rt: &impl Abort, step: usize, room: usize, stumble: Stumble) {
+    let mut reader = Reader {
+        left: TEXT.as_slice(),
+        step,
+        room,
+        stumble: Some(stumble),
+    };
+    let mut buffer = [0; 5];
+    let wanted = match (room, stumble) {
+        (5, _) => Filled::Whole,
+        (_, Stumble::Error(_)) => Filled::Failed(room),
+        (_, Stumble::Nothing) => Filled::Ended(room),
+    };
+    assert_eq!(rt; filled(&mut reader, &mut buffer), wanted);
+    assert_eq!(rt; buffer.get(..room), TEXT.get(..room));
+    assert_eq!(rt; Some(reader.left), TEXT.get(room..));
 }
 
 #[test]
 fn fills(rt: HostRuntime) {
-    let text = TEXT.as_slice();
-    for step in [1, 2, 3, 7usize] {
+    for step in STEPS.iter() {
         for room in 0..6usize {
-            for stumble in STUMBLES {
-                let mut reader = Reader {
-                    left: text,
-                    step,
-                    room,
-                    stumble: Some(stumble),
-                };
-                let mut buffer = [0; 5];
-                let want = match (room, stumble) {
-                    (5, _) => Filled::Whole,
-                    (_, Stumble::Error(_)) => Filled::Failed(room),
-                    (_, Stumble::Nothing) => Filled::Ended(room),
-                };
-                assert_eq!(rt; fill(&mut reader, &mut buffer), want);
-                assert_eq!(rt; &buffer[..room], &text[..room]);
-                let rest = &text[room..];
-                assert_eq!(rt; reader.left, rest);
+            for stumble in STUMBLES.iter() {
+                stumbles_in_filling(&rt, *step, room, *stumble);
             }
         }
     }
+}
+
+fn filled_of_slice(left: &mut &[u8], buffer: &mut [u8]) -> Filled {
+    fill(left, buffer)
+}
+
+fn is_written_to_none(bytes: &[u8]) -> bool {
+    let mut full: [u8; 0] = [];
+    let mut writer = full.as_mut_slice();
+    write_bytes(&mut writer, bytes).is_ok()
 }
 
 #[test]
 fn empty(rt: HostRuntime) {
     let mut source = TEXT.as_slice();
-    assert_eq!(rt; fill(&mut source, &mut []), Filled::Whole);
+    assert_eq!(rt; filled_of_slice(&mut source, &mut []), Filled::Whole);
     assert_eq!(rt; source.len(), 7);
     let mut none: &[u8] = &[];
-    assert_eq!(rt; fill(&mut none, &mut [0; 5]), Filled::Ended(0));
-    let mut full: [u8; 0] = [];
-    let mut writer = full.as_mut_slice();
-    assert!(rt; write_bytes(&mut writer, b"").is_ok());
-    assert!(rt; write_bytes(&mut writer, b"x").is_err());
+    assert_eq!(rt; filled_of_slice(&mut none, &mut [0; 5]), Filled::Ended(0));
+    assert_eq!(rt;
+        (is_written_to_none(b""), is_written_to_none(b"x")),
+        (true, false)
+    );
 }

@@ -132,25 +132,37 @@ fn tells_live_registers(rt: HostRuntime) -> Result<(), Fail> {
     Ok(())
 }
 
+/// How 4,095 tests go on, and why the program is refused, if it is.
+const LONGEST: [(&str, Option<(FlowError, usize)>); 2] = [
+    ("exit", None),
+    ("r0 = 2", Some((FallsOff, 4095))),
+];
+
 #[test]
 fn takes_the_longest_program(rt: HostRuntime) -> Result<(), Fail> {
-    for (last, wanted) in [("exit", None), ("r0 = 2", Some((FallsOff, 4095)))] {
-        let text = repeated(rt.alloc(), "", "if r0 == 0 goto +0\n", 4095, last)?;
-        assert_eq!(rt; refusal(rt.alloc(), text.as_str())?, wanted);
+    for (last, wanted) in LONGEST.iter() {
+        let text = repeated(rt.alloc(), "", "if r0 == 0 goto +0\n", 4095, *last)?;
+        assert_eq!(rt; refusal(rt.alloc(), text.as_str())?, *wanted);
     }
     Ok(())
 }
 
+const CODES: [(FlowError, &str); 6] = [
+    (TargetOutside, "G1"),
+    (SecondHalf, "G2"),
+    (FallsOff, "G3"),
+    (Unreachable, "G4"),
+    (OtherFunction, "G5"),
+    (Memory, "G6"),
+];
+
+fn code_of(error: FlowError) -> &'static str {
+    error.code()
+}
+
 #[test]
 fn names_refusals(rt: HostRuntime) {
-    for (error, code) in [
-        (TargetOutside, "G1"),
-        (SecondHalf, "G2"),
-        (FallsOff, "G3"),
-        (Unreachable, "G4"),
-        (OtherFunction, "G5"),
-        (Memory, "G6"),
-    ] {
-        assert_eq!(rt; error.code(), code);
+    for (error, code) in CODES.iter() {
+        assert_eq!(rt; code_of(*error), *code);
     }
 }

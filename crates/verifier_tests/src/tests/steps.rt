@@ -136,15 +136,21 @@ fn both_sides_of_a_jump_are_narrowed(rt: HostRuntime) -> Result<(), Fail> {
     Ok(())
 }
 
+const CODES: [(Refusal, &str); 5] = [
+    (Refusal::UnsetRegister, "V1"),
+    (Refusal::ReadOnlyRegister, "V2"),
+    (Refusal::PointerOperand, "V3"),
+    (Refusal::ExitValue, "V17"),
+    (Refusal::PacketAtomic, "V20"),
+];
+
+fn code_of(refusal: Refusal) -> &'static str {
+    refusal.code()
+}
+
 #[test]
 fn refusals_are_named(rt: HostRuntime) {
-    for (refusal, name) in [
-        (Refusal::UnsetRegister, "V1"),
-        (Refusal::ReadOnlyRegister, "V2"),
-        (Refusal::PointerOperand, "V3"),
-        (Refusal::ExitValue, "V17"),
-        (Refusal::PacketAtomic, "V20"),
-    ] {
-        assert_eq!(rt; refusal.code(), name);
+    for (refusal, code) in CODES.iter() {
+        assert_eq!(rt; code_of(*refusal), *code);
     }
 }
