@@ -3,31 +3,32 @@
 use super::programs::{are_verdicts, repeated};
 use std::test::Fail;
 
-const STRAIGHT: [(&str, &str); 10] = [
-    ("r0 = 2; exit", "ok 2"),
-    ("r0 = 0x102030405060708 ll; r0 = be16 r0; exit", "ok 3"),
-    ("r0 = 0x100000002 ll; w1 = 0; w0 %= w1; exit", "ok 4"),
-    (
-        "r0 = 0x8000000000000000 ll; r1 = -1; r0 s/= r1; r0 >>= 62; exit",
-        "ok 5",
-    ),
-    ("r0 = -1; r1 = 0; w0 %= w1; r0 >>= 31; exit", "ok 5"),
-    ("r0 = -1; r1 = 0; w0 s%= w1; r0 >>= 31; exit", "ok 5"),
-    ("r1 = 0; r1 += 1; if r1 < 10 goto -2; r0 = 2; exit", "ok 23"),
-    (
-        "r1 = 0; r1 += 1; if r1 < 300000 goto -2; r0 = 2; exit",
-        "ok 600003",
-    ),
-    ("r0 = 0; goto -1", "V18 slot 1"),
-    (
-        "r6 = *(u32 *)(r1 + 12); if r6 != 0 goto -2; r0 = 2; exit",
-        "V18 slot 0",
-    ),
-];
-
 #[test]
 fn straight_lines_divisions_and_loops(rt: HostRuntime) -> Result<(), Fail> {
-    are_verdicts(&rt, &STRAIGHT)
+    are_verdicts(
+        &rt,
+        &[
+            ("r0 = 2; exit", "ok 2"),
+            ("r0 = 0x102030405060708 ll; r0 = be16 r0; exit", "ok 3"),
+            ("r0 = 0x100000002 ll; w1 = 0; w0 %= w1; exit", "ok 4"),
+            (
+                "r0 = 0x8000000000000000 ll; r1 = -1; r0 s/= r1; r0 >>= 62; exit",
+                "ok 5",
+            ),
+            ("r0 = -1; r1 = 0; w0 %= w1; r0 >>= 31; exit", "ok 5"),
+            ("r0 = -1; r1 = 0; w0 s%= w1; r0 >>= 31; exit", "ok 5"),
+            ("r1 = 0; r1 += 1; if r1 < 10 goto -2; r0 = 2; exit", "ok 23"),
+            (
+                "r1 = 0; r1 += 1; if r1 < 300000 goto -2; r0 = 2; exit",
+                "ok 600003",
+            ),
+            ("r0 = 0; goto -1", "V18 slot 1"),
+            (
+                "r6 = *(u32 *)(r1 + 12); if r6 != 0 goto -2; r0 = 2; exit",
+                "V18 slot 0",
+            ),
+        ],
+    )
 }
 
 /// A text that is repeated between two others, and the verdict.

@@ -3,135 +3,139 @@
 use super::programs::{are_verdicts, repeated};
 use std::test::Fail;
 
-const HANDED_OVER: [(&str, &str); 10] = [
-    // r1 to r5 go in, and r0 comes back
-    ("r1 = 5; call pc+1; exit; r0 = r1; r0 -= 3; exit", "ok 6"),
-    ("call pc+1; exit; r0 = r1; exit", "V17 slot 1"),
-    ("r0 = 2; call pc+1; exit; r0 += 1; exit", "V1 slot 3"),
-    ("r6 = 2; call pc+1; exit; r0 = r6; exit", "V1 slot 3"),
-    // an unset r0 comes back too
-    ("r0 = 2; call pc+1; exit; exit", "V17 slot 2"),
-    ("call pc+2; r0 = 2; exit; exit", "ok 4"),
-    // the caller's r6 to r9 stay, and r1 to r5 go
-    ("r6 = 2; call pc+2; r0 = r6; exit; r6 = r10; exit", "ok 6"),
-    ("r9 = 2; call pc+2; r0 = r9; exit; exit", "ok 5"),
-    (
-        "r1 = 5; call pc+2; r0 = r1; exit; r0 = r1; exit",
-        "V1 slot 2",
-    ),
-    ("call pc+2; r0 = r5; exit; r5 = 2; exit", "V1 slot 1"),
-];
-
 #[test]
 fn registers_are_handed_over_and_kept(rt: HostRuntime) -> Result<(), Fail> {
-    are_verdicts(&rt, &HANDED_OVER)
+    are_verdicts(
+        &rt,
+        &[
+            // r1 to r5 go in, and r0 comes back
+            ("r1 = 5; call pc+1; exit; r0 = r1; r0 -= 3; exit", "ok 6"),
+            ("call pc+1; exit; r0 = r1; exit", "V17 slot 1"),
+            ("r0 = 2; call pc+1; exit; r0 += 1; exit", "V1 slot 3"),
+            ("r6 = 2; call pc+1; exit; r0 = r6; exit", "V1 slot 3"),
+            // an unset r0 comes back too
+            ("r0 = 2; call pc+1; exit; exit", "V17 slot 2"),
+            ("call pc+2; r0 = 2; exit; exit", "ok 4"),
+            // the caller's r6 to r9 stay, and r1 to r5 go
+            ("r6 = 2; call pc+2; r0 = r6; exit; r6 = r10; exit", "ok 6"),
+            ("r9 = 2; call pc+2; r0 = r9; exit; exit", "ok 5"),
+            (
+                "r1 = 5; call pc+2; r0 = r1; exit; r0 = r1; exit",
+                "V1 slot 2",
+            ),
+            ("call pc+2; r0 = r5; exit; r5 = 2; exit", "V1 slot 1"),
+        ],
+    )
 }
-
-const OWN_BYTES: [(&str, &str); 10] = [
-    (
-        "*(u64 *)(r10 - 8) = 2; call pc+2; r0 = *(u64 *)(r10 - 8); exit
-         *(u64 *)(r10 - 8) = 7; exit",
-        "ok 6",
-    ),
-    (
-        "*(u64 *)(r10 - 8) = 2; call pc+1; exit; r0 = *(u64 *)(r10 - 8); exit",
-        "V7 slot 3",
-    ),
-    // what the function leaves there is gone after its exit
-    (
-        "r6 = 0; r0 = 0; call pc+5; if r6 != 0 goto +3; r6 = 1; call pc+2; r0 = 2; exit
-         r0 = *(u64 *)(r10 - 8); *(u64 *)(r10 - 8) = 7; exit",
-        "V7 slot 8",
-    ),
-    // bytes of an outer frame are read and written through the pointer that goes in
-    (
-        "*(u64 *)(r10 - 8) = 2; r1 = r10; r1 += -8; call pc+1; exit
-         r0 = *(u64 *)(r1 + 0); exit",
-        "ok 7",
-    ),
-    (
-        "r1 = r10; r1 += -8; call pc+2; r0 = *(u64 *)(r10 - 8); exit
-         *(u64 *)(r1 + 0) = 2; exit",
-        "ok 7",
-    ),
-    (
-        "r2 = r1; r1 = r10; r1 += -8; call pc+3; r2 = *(u64 *)(r10 - 8)
-         r0 = *(u32 *)(r2 + 12); exit; *(u64 *)(r1 + 0) = r2; exit",
-        "ok 9",
-    ),
-    // it may come back, and a pointer into the frame that ends may not
-    (
-        "*(u64 *)(r10 - 8) = 2; r1 = r10; r1 += -8; call pc+2; r0 = *(u64 *)(r0 + 0); exit
-         r0 = r1; exit",
-        "ok 8",
-    ),
-    ("call pc+1; exit; r0 = r10; exit", "V17 slot 3"),
-    // a frame pointer is stored in the innermost frame only
-    (
-        "r1 = r10; r1 += -8; call pc+1; exit; *(u64 *)(r1 + 0) = r10; r0 = 0; exit",
-        "V12 slot 4",
-    ),
-    (
-        "call pc+2; r0 = 2; exit; *(u64 *)(r10 - 8) = r10; exit",
-        "ok 5",
-    ),
-];
 
 #[test]
 fn each_frame_has_bytes_of_its_own(rt: HostRuntime) -> Result<(), Fail> {
-    are_verdicts(&rt, &OWN_BYTES)
+    are_verdicts(
+        &rt,
+        &[
+            (
+                "*(u64 *)(r10 - 8) = 2; call pc+2; r0 = *(u64 *)(r10 - 8); exit
+                 *(u64 *)(r10 - 8) = 7; exit",
+                "ok 6",
+            ),
+            (
+                "*(u64 *)(r10 - 8) = 2; call pc+1; exit; r0 = *(u64 *)(r10 - 8); exit",
+                "V7 slot 3",
+            ),
+            // what the function leaves there is gone after its exit
+            (
+                "r6 = 0; r0 = 0; call pc+5; if r6 != 0 goto +3; r6 = 1; call pc+2; r0 = 2; exit
+                 r0 = *(u64 *)(r10 - 8); *(u64 *)(r10 - 8) = 7; exit",
+                "V7 slot 8",
+            ),
+            // bytes of an outer frame are read and written through the pointer that goes in
+            (
+                "*(u64 *)(r10 - 8) = 2; r1 = r10; r1 += -8; call pc+1; exit
+                 r0 = *(u64 *)(r1 + 0); exit",
+                "ok 7",
+            ),
+            (
+                "r1 = r10; r1 += -8; call pc+2; r0 = *(u64 *)(r10 - 8); exit
+                 *(u64 *)(r1 + 0) = 2; exit",
+                "ok 7",
+            ),
+            (
+                "r2 = r1; r1 = r10; r1 += -8; call pc+3; r2 = *(u64 *)(r10 - 8)
+                 r0 = *(u32 *)(r2 + 12); exit; *(u64 *)(r1 + 0) = r2; exit",
+                "ok 9",
+            ),
+            // it may come back, and a pointer into the frame that ends may not
+            (
+                "*(u64 *)(r10 - 8) = 2; r1 = r10; r1 += -8; call pc+2; r0 = *(u64 *)(r0 + 0); exit
+                 r0 = r1; exit",
+                "ok 8",
+            ),
+            ("call pc+1; exit; r0 = r10; exit", "V17 slot 3"),
+            // a frame pointer is stored in the innermost frame only
+            (
+                "r1 = r10; r1 += -8; call pc+1; exit; *(u64 *)(r1 + 0) = r10; r0 = 0; exit",
+                "V12 slot 4",
+            ),
+            (
+                "call pc+2; r0 = 2; exit; *(u64 *)(r10 - 8) = r10; exit",
+                "ok 5",
+            ),
+        ],
+    )
 }
-
-const COPIES: [(&str, &str); 3] = [
-    (
-        "r2 = *(u32 *)(r1 + 0); r3 = *(u32 *)(r1 + 4); r6 = r2; call pc+3
-         if r0 != 0 goto +1; r0 = *(u8 *)(r6 + 0); exit
-         r4 = r2; r4 += 1; r0 = 1; if r4 > r3 goto +1; r0 = 0; exit",
-        "ok 13",
-    ),
-    (
-        "r2 = *(u32 *)(r1 + 0); r3 = *(u32 *)(r1 + 4); r6 = r2; call pc+3
-         if r0 != 0 goto +1; r0 = *(u8 *)(r6 + 1); exit
-         r4 = r2; r4 += 1; r0 = 1; if r4 > r3 goto +1; r0 = 0; exit",
-        "V9 slot 5",
-    ),
-    (
-        "r2 = *(u32 *)(r1 + 0); r3 = *(u32 *)(r1 + 4); *(u64 *)(r10 - 8) = r2; call pc+4
-         if r0 != 0 goto +2; r2 = *(u64 *)(r10 - 8); r0 = *(u8 *)(r2 + 0); exit
-         r4 = r2; r4 += 1; r0 = 1; if r4 > r3 goto +1; r0 = 0; exit",
-        "ok 14",
-    ),
-];
 
 /// A test in a function is a test of the caller's copies too.
 #[test]
 fn tests_reach_every_frame(rt: HostRuntime) -> Result<(), Fail> {
-    are_verdicts(&rt, &COPIES)
+    are_verdicts(
+        &rt,
+        &[
+            (
+                "r2 = *(u32 *)(r1 + 0); r3 = *(u32 *)(r1 + 4); r6 = r2; call pc+3
+                 if r0 != 0 goto +1; r0 = *(u8 *)(r6 + 0); exit
+                 r4 = r2; r4 += 1; r0 = 1; if r4 > r3 goto +1; r0 = 0; exit",
+                "ok 13",
+            ),
+            (
+                "r2 = *(u32 *)(r1 + 0); r3 = *(u32 *)(r1 + 4); r6 = r2; call pc+3
+                 if r0 != 0 goto +1; r0 = *(u8 *)(r6 + 1); exit
+                 r4 = r2; r4 += 1; r0 = 1; if r4 > r3 goto +1; r0 = 0; exit",
+                "V9 slot 5",
+            ),
+            (
+                "r2 = *(u32 *)(r1 + 0); r3 = *(u32 *)(r1 + 4); *(u64 *)(r10 - 8) = r2; call pc+4
+                 if r0 != 0 goto +2; r2 = *(u64 *)(r10 - 8); r0 = *(u8 *)(r2 + 0); exit
+                 r4 = r2; r4 += 1; r0 = 1; if r4 > r3 goto +1; r0 = 0; exit",
+                "ok 14",
+            ),
+        ],
+    )
 }
-
-const CALLED_TWICE: [(&str, &str); 5] = [
-    // the same function twice, in states that differ in nothing else
-    ("call pc+2; call pc+1; exit; r0 = 2; exit", "ok 7"),
-    (
-        "call pc+2; r1 = r0; exit; call pc+1; exit; r0 = 2; exit",
-        "ok 7",
-    ),
-    (
-        "r7 = *(u32 *)(r1 + 12); r1 = r7; call pc+3; r1 = r7; call pc+1; exit
-         if r1 == 0 goto +0; r0 = 2; exit",
-        "ok 12",
-    ),
-    // loops in functions
-    (
-        "call pc+1; exit; r0 = 0; r0 += 1; if r0 < 10 goto -2; exit",
-        "ok 24",
-    ),
-    ("call pc+1; exit; goto -1", "V18 slot 2"),
-];
 
 #[test]
 fn control_comes_back_behind_the_call(rt: HostRuntime) -> Result<(), Fail> {
-    are_verdicts(&rt, &CALLED_TWICE)
+    are_verdicts(
+        &rt,
+        &[
+            // the same function twice, in states that differ in nothing else
+            ("call pc+2; call pc+1; exit; r0 = 2; exit", "ok 7"),
+            (
+                "call pc+2; r1 = r0; exit; call pc+1; exit; r0 = 2; exit",
+                "ok 7",
+            ),
+            (
+                "r7 = *(u32 *)(r1 + 12); r1 = r7; call pc+3; r1 = r7; call pc+1; exit
+                 if r1 == 0 goto +0; r0 = 2; exit",
+                "ok 12",
+            ),
+            // loops in functions
+            (
+                "call pc+1; exit; r0 = 0; r0 += 1; if r0 < 10 goto -2; exit",
+                "ok 24",
+            ),
+            ("call pc+1; exit; goto -1", "V18 slot 2"),
+        ],
+    )
 }
 
 #[test]

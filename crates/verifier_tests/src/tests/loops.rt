@@ -31,41 +31,42 @@ fn counters_on_the_stack(rt: HostRuntime) -> Result<(), Fail> {
     Ok(())
 }
 
-const TURNS: [(&str, &str); 4] = [
-    // its high half
-    (
-        "
-        r2 = 0x10000000000 ll; r3 = 0x3D0900000000000 ll; r1 = 0
-        loop: r1 += r2; if r1 < r3 goto loop
-        r0 = 2; exit
-        ",
-        "ok 500005",
-    ),
-    // its limits: it grows by 1 from some number up to 900
-    (
-        "
-        r2 = *(u32 *)(r1 + 12); if r2 > 900 goto end
-        loop: r2 += 1; if r2 < 250000 goto loop
-        end: r0 = 2; exit
-        ",
-        "ok 500004",
-    ),
-    // its signed limits, -5 and 5 in one turn and -6 and 4 in the next
-    (
-        "
-        r2 = *(u32 *)(r1 + 12); r3 = 0x80000000 ll; r2 -= r3; r0 = 0
-        if r2 s> 5 goto end; if r2 s< -5 goto end
-        loop: r3 = -1; r3 -= r2; r2 = r3; goto loop
-        end: exit
-        ",
-        "V18 slot 7",
-    ),
-    // a counter that comes round again after 1,024 turns
-    ("r1 = 0; r1 += 1; r1 &= 1023; goto -3", "V18 slot 1"),
-];
-
 /// Another part of what is known of a register.
 #[test]
 fn what_tells_turns_apart(rt: HostRuntime) -> Result<(), Fail> {
-    are_verdicts(&rt, &TURNS)
+    are_verdicts(
+        &rt,
+        &[
+            // its high half
+            (
+                "
+                r2 = 0x10000000000 ll; r3 = 0x3D0900000000000 ll; r1 = 0
+                loop: r1 += r2; if r1 < r3 goto loop
+                r0 = 2; exit
+                ",
+                "ok 500005",
+            ),
+            // its limits: it grows by 1 from some number up to 900
+            (
+                "
+                r2 = *(u32 *)(r1 + 12); if r2 > 900 goto end
+                loop: r2 += 1; if r2 < 250000 goto loop
+                end: r0 = 2; exit
+                ",
+                "ok 500004",
+            ),
+            // its signed limits, -5 and 5 in one turn and -6 and 4 in the next
+            (
+                "
+                r2 = *(u32 *)(r1 + 12); r3 = 0x80000000 ll; r2 -= r3; r0 = 0
+                if r2 s> 5 goto end; if r2 s< -5 goto end
+                loop: r3 = -1; r3 -= r2; r2 = r3; goto loop
+                end: exit
+                ",
+                "V18 slot 7",
+            ),
+            // a counter that comes round again after 1,024 turns
+            ("r1 = 0; r1 += 1; r1 &= 1023; goto -3", "V18 slot 1"),
+        ],
+    )
 }

@@ -1,45 +1,54 @@
 //! Programs that look up, update and delete keys of maps.
 
 use super::programs::{are_verdicts, verdict};
+use std::alloc::Global;
 use std::test::Fail;
 
 /// A key of 4 bytes is looked up: the next slot is 6.
 const LOOKUP: &str = "map hash 4 8 4; *(u32 *)(r10 - 4) = 1; r1 = map_by_idx(0); \
     r2 = r10; r2 += -4; call 1; ";
 
+/// What follows the lookup, and the verdict.
+const LOOKED_UP: [(&str, &str); 9] = [
+    ("r0 = *(u64 *)(r0 + 0); exit", "V11 slot 6"),
+    ("r0 += 8; exit", "V11 slot 6"),
+    ("*(u64 *)(r0 + 0) = 1; exit", "V11 slot 6"),
+    ("if r0 > 0 goto +0; exit", "V11 slot 6"),
+    ("if w0 == 0 goto +0; exit", "V11 slot 6"),
+    ("exit", "V17 slot 6"),
+    // the test serves every copy, on the stack too
+    (
+        "*(u64 *)(r10 - 16) = r0; if r0 == 0 goto +3; r3 = *(u64 *)(r10 - 16); \
+         r0 = *(u64 *)(r3 + 0); exit; r0 = 1; exit",
+        "ok 10",
+    ),
+    // and no copy of another lookup
+    (
+        "r6 = r0; *(u32 *)(r10 - 4) = 2; r1 = map_by_idx(0); r2 = r10; r2 += -4; call 1; \
+         if r0 == 0 goto +1; r0 = *(u64 *)(r6 + 0); r0 = 2; exit",
+        "V11 slot 14",
+    ),
+    // a delete ends what pointers into the map point to
+    (
+        "if r0 == 0 goto +10; *(u64 *)(r10 - 16) = r0; *(u32 *)(r10 - 4) = 2; \
+         r1 = map_by_idx(0); r2 = r10; r2 += -4; call 3; r3 = *(u64 *)(r10 - 16); \
+         r0 = *(u64 *)(r3 + 0); exit; r0 = 1; exit",
+        "V7 slot 14",
+    ),
+];
+
+/// What is said of the lookup and what follows it.
+fn after_lookup(alloc: Global, rest: &str) -> Result<String, Fail> {
+    let mut text = LOOKUP.to_string(alloc)?;
+    text.push_str(rest)?;
+    verdict(alloc, text.as_str())
+}
+
 #[test]
 fn looked_up_values_are_tested_first(rt: HostRuntime) -> Result<(), Fail> {
-    for (rest, wanted) in [
-        ("r0 = *(u64 *)(r0 + 0); exit", "V11 slot 6"),
-        ("r0 += 8; exit", "V11 slot 6"),
-        ("*(u64 *)(r0 + 0) = 1; exit", "V11 slot 6"),
-        ("if r0 > 0 goto +0; exit", "V11 slot 6"),
-        ("if w0 == 0 goto +0; exit", "V11 slot 6"),
-        ("exit", "V17 slot 6"),
-        // the test serves every copy, on the stack too
-        (
-            "*(u64 *)(r10 - 16) = r0; if r0 == 0 goto +3; r3 = *(u64 *)(r10 - 16); \
-             r0 = *(u64 *)(r3 + 0); exit; r0 = 1; exit",
-            "ok 10",
-        ),
-        // and no copy of another lookup
-        (
-            "r6 = r0; *(u32 *)(r10 - 4) = 2; r1 = map_by_idx(0); r2 = r10; r2 += -4; call 1; \
-             if r0 == 0 goto +1; r0 = *(u64 *)(r6 + 0); r0 = 2; exit",
-            "V11 slot 14",
-        ),
-        // a delete ends what pointers into the map point to
-        (
-            "if r0 == 0 goto +10; *(u64 *)(r10 - 16) = r0; *(u32 *)(r10 - 4) = 2; \
-             r1 = map_by_idx(0); r2 = r10; r2 += -4; call 3; r3 = *(u64 *)(r10 - 16); \
-             r0 = *(u64 *)(r3 + 0); exit; r0 = 1; exit",
-            "V7 slot 14",
-        ),
-    ] {
-        let mut text = LOOKUP.to_string(rt.alloc())?;
-        text.push_str(rest)?;
-        let told = verdict(rt.alloc(), text.as_str())?;
-        assert_eq!(rt; told.as_str(), wanted, "{rest}");
+    for (rest, wanted) in LOOKED_UP.iter() {
+        let told = after_lookup(rt.alloc(), *rest)?;
+        assert_eq!(rt; told.as_str(), *wanted, "{rest}");
     }
     Ok(())
 }
@@ -109,19 +118,24 @@ fn helpers_take_what_they_take(rt: HostRuntime) -> Result<(), Fail> {
     )
 }
 
+/// What is said of a load of a byte of a value of this size, at a number that is masked.
+fn masked(alloc: Global, size: u32, mask: u32) -> Result<String, Fail> {
+    let text = format!(in alloc;
+        "map array 4 {size} 1; *(u32 *)(r10 - 4) = 0; \
+        r1 = map_by_idx(0); r2 = r10; r2 += -4; call 1; if r0 == 0 goto +5; r6 = r0; \
+        call 5; r0 &= {mask}; r6 += r0; r0 = *(u8 *)(r6 + 0); exit"
+    )?;
+    verdict(alloc, text.as_str())
+}
+
 /// A byte of a value of any size, at any number below a power of two: it is accepted where every
 /// such number is below the size, and else refused at the load.
 #[test]
 fn masked_offsets_stay_below_the_size(rt: HostRuntime) -> Result<(), Fail> {
     for size in 1..=64_u32 {
         for mask in 0..=63_u32 {
-            let text = format!(in rt.alloc();
-                "map array 4 {size} 1; *(u32 *)(r10 - 4) = 0; \
-                r1 = map_by_idx(0); r2 = r10; r2 += -4; call 1; if r0 == 0 goto +5; r6 = r0; \
-                call 5; r0 &= {mask}; r6 += r0; r0 = *(u8 *)(r6 + 0); exit"
-            )?;
+            let told = masked(rt.alloc(), size, mask)?;
             let wanted = if mask < size { "ok 12" } else { "V10 slot 11" };
-            let told = verdict(rt.alloc(), text.as_str())?;
             assert_eq!(rt; told.as_str(), wanted, "size {size}, mask {mask}");
         }
     }
