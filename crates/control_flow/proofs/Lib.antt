@@ -4,6 +4,5 @@ mod Owners
 mod Search
 mod Whole
 mod Reading
-mod Chains
-mod Backwards
 mod MaskLemmas
+mod Sweeping

@@ -1,6 +1,6 @@
 -- Which registers instructions read and write: what the tests of one register say.
 use Rattle.std.proofs.Common.{◌≡◌, ◌++◌, ◌∷◌, [], List, Option, Some, None, refl, sym, ◌∙◌, inl, inr}
-use Rattle.std.specs.Prelude.{◌↔◌, ◌⊎◌, ℤ, Bool, IsTrue}
+use Rattle.std.specs.Prelude.{◌↔◌, ◌⊎◌, ℤ}
 use Rattle.std.specs.Option.{option_to_list}
 use Rattle.std.proofs.lemmas.Option.{same_Some}
 use Rattle.isa_model.specs.declared.registers.Reg.{Reg}
@@ -35,10 +35,12 @@ one-option (Some d) r (inl e) = let same : d ≡ r = sym e in cc
 one-option (Some d) r (inr h) = absurd h
 one-option None r h = absurd h
 
--- a test whether the register that may be there is this one
-pub is_found-IsOneOf : (b : Bool) (o q : Option Reg) (r : Reg) → o ≡ q → IsTrue b ↔ (o ≡ Some r) → IsTrue b ↔ IsOneOf (option_to_list q) r
-is_found-IsOneOf b o q r same test =
-    (λ h. option-one q r (sym same ∙ test.0 h), λ among. test.1 (same ∙ one-option q r among))
+-- no register, and the one that may be there
+pub found-with : (A B : Type 0) (o q : Option Reg) (r : Reg) → o ≡ q → (A → ⊥) → B ↔ (A ⊎ (o ≡ Some r)) → B ↔ IsOneOf (option_to_list q) r
+found-with A B o q r same none x = (
+  λ b. elim (x.0 b) [ inl a ↦ absurd (none a) | inr e ↦ option-one q r (sym same ∙ e) ],
+  λ among. x.1 (inr (same ∙ one-option q r among)),
+)
 
 -- it is one of the first two, or one of the others
 pub among-first : (a b c d : Option Reg) (r : Reg) → (a ≡ Some r) ⊎ (b ≡ Some r)
@@ -74,14 +76,23 @@ among-cases a b c d r h =
       ]
     ]
 
--- where it is none of the first three, a test of the last one decides
-pub among-decides : (t : Bool) (a b c d : Option Reg) (r : Reg) → (a ≡ Some r → ⊥) → (b ≡ Some r → ⊥) → (c ≡ Some r → ⊥) → IsTrue t ↔ (d ≡ Some r)
-    → IsTrue t ↔ IsOneOf (((option_to_list a ++ option_to_list b) ++ option_to_list c) ++ option_to_list d) r
-among-decides t a b c d r first second third test = (
-  λ h. among-last a b c d r (inr (test.0 h)),
+-- no register, and those of the four that are there
+pub among-with : (A B C D E : Type 0) (a b c d : Option Reg) (r : Reg) → (A → ⊥) → B ↔ (A ⊎ (a ≡ Some r)) → C ↔ (B ⊎ (b ≡ Some r)) → D ↔ (C ⊎ (c ≡ Some r)) → E ↔ (D ⊎ (d ≡ Some r))
+    → E ↔ IsOneOf (((option_to_list a ++ option_to_list b) ++ option_to_list c) ++ option_to_list d) r
+among-with A B C D E a b c d r none x y z w = (
+  λ h4. elim (w.0 h4) [
+    | inr e ↦ among-last a b c d r (inr e)
+    | inl h3 ↦ elim (z.0 h3) [
+      | inr e ↦ among-last a b c d r (inl e)
+      | inl h2 ↦ elim (y.0 h2) [
+        | inr e ↦ among-first a b c d r (inr e)
+        | inl h1 ↦ elim (x.0 h1) [ inr e ↦ among-first a b c d r (inl e) | inl h0 ↦ absurd (none h0) ]
+      ]
+    ]
+  ],
   λ among. elim (among-cases a b c d r among) [
-    | inl front ↦ elim front [ inl e ↦ absurd (first e) | inr e ↦ absurd (second e) ]
-    | inr back ↦ elim back [ inl e ↦ absurd (third e) | inr e ↦ test.1 e ]
+    | inl front ↦ elim front [ inl e ↦ w.1 (inl (z.1 (inl (y.1 (inl (x.1 (inr e))))))) | inr e ↦ w.1 (inl (z.1 (inl (y.1 (inr e))))) ]
+    | inr back ↦ elim back [ inl e ↦ w.1 (inl (z.1 (inr e))) | inr e ↦ w.1 (inr e) ]
   ],
 )
 

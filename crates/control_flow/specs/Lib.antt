@@ -1,7 +1,7 @@
 pub mod Graph
 pub mod Functions
 pub mod Searches
-pub mod Sources
+pub mod Nodes
 pub mod RegisterLaws
 pub mod Masks
 pub mod Liveness

@@ -11,9 +11,9 @@ mod functions;
 mod liveness;
 mod marks;
 pub mod masks;
+mod nodes;
 mod reachability;
 mod searches;
-mod sources;
 mod targets;
 
 pub use errors::FlowError;

@@ -1,6 +1,6 @@
 //! Sets of registers.
 
-ghost use Rattle.std.specs.Prelude.{◌≡◌, ◌↔◌, ◌⊎◌, IsTrue};
+ghost use Rattle.std.specs.Prelude.{◌≡◌, ◌≤◌, ◌↔◌, ◌⊎◌, IsTrue};
 ghost use Rattle.isa_model.specs.declared.registers.Reg.{Reg as TheReg};
 ghost use Rattle.control_flow.specs.Masks.{mask_at};
 
@@ -35,6 +35,25 @@ impl RegisterMask {
     {
         RegisterMask {
             bits: self.bits | (1 << register.number()),
+        }
+    }
+
+    /// These and the others.
+    pub(crate) fn or(self, other: Self) -> Self
+        ensures all { (r : TheReg) → Has result r ↔ (Has self r ⊎ Has other r) }
+        ensures grown { self.bits ≤ result.bits }
+    {
+        RegisterMask {
+            bits: self.bits | other.bits,
+        }
+    }
+
+    /// These without the others.
+    pub(crate) fn without(self, other: Self) -> Self
+        ensures { (r : TheReg) → Has result r ↔ (Has self r × (¬ Has other r)) }
+    {
+        RegisterMask {
+            bits: self.bits & (self.bits ^ other.bits),
         }
     }
 }
