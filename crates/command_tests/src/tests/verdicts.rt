@@ -105,7 +105,7 @@ const REFUSED: [(&str, &str, &str); 12] = [
         "r6 = *(u32 *)(r1 + 12); if r6 != 0 goto -2; r0 = 2; exit",
         "refused V18 slot 0\n",
         "a path comes back to a state that it was in: the loop has no end\n\
-             slot 0: r6 = *(u32 *)(r1 + 12)\nr1: context\nway: 1 -> 0, 1 -> 0\n",
+             slot 0: r6 = *(u32 *)(r1 + 12)\nr1: context\nway: 1 -> 0\n",
     ),
     (
         "*(u32 *)(r10 - 8) = 5; r0 = *(u64 *)(r10 - 8); exit",

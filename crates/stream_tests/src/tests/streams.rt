@@ -15,7 +15,7 @@ use stumbling_io::{Reader, STUMBLES, Stumble, Writer};
 const PASSES: &str = "r0 = 2; exit";
 
 // Counts frames, adds the keys 254 and 16, and traps.
-const COUNTS: &str = "
+pub(super) const COUNTS: &str = "
     map hash 1 2 3; map array 4 8 1
     r1 = map_val(map_by_idx(1)) + 0; r2 = 1; lock *(u64 *)(r1 + 0) += r2
     *(u16 *)(r10 - 4) = 513
@@ -40,7 +40,7 @@ fn program(alloc: Global, text: &str) -> Result<Image, Fail> {
 }
 
 // A writer that takes at most 5 bytes at a call.
-fn make_writer(alloc: Global, room: usize, stumble: Option<Stumble>) -> Writer {
+pub(super) fn make_writer(alloc: Global, room: usize, stumble: Option<Stumble>) -> Writer {
     Writer::new(alloc, 5, room, stumble)
 }
 
@@ -54,10 +54,10 @@ fn broken(left: &[u8]) -> Reader<'_> {
     }
 }
 
-const MAGIC: &[u8] = b"XPF1";
+pub(super) const MAGIC: &[u8] = b"XPF1";
 
 // The magic and two empty records.
-const TWO: [u8; 44] = [
+pub(super) const TWO: [u8; 44] = [
     88, 80, 70, 49, 0, 0, 0, 0, 0, 0, 0, 0, 0, 0, 0, 0, 0, 0, 0, 0, 0, 0, 0, 0, 0, 0, 0, 0, 0, 0,
     0, 0, 0, 0, 0, 0, 0, 0, 0, 0, 0, 0, 0, 0,
 ];
@@ -68,7 +68,7 @@ const ONE: [u8; 24] = [
 ];
 
 // What a checked run on some frames answers, and what it has written.
-fn checked<R: Read + Drop>(
+pub(super) fn checked<R: Read + Drop>(
     alloc: Global,
     text: &str,
     limit: u32,
@@ -330,7 +330,7 @@ fn broken_streams(rt: HostRuntime) -> Result<(), Fail> {
 }
 
 // What a verified program's run on two frames answers.
-fn verified(
+pub(super) fn verified(
     alloc: Global,
     text: &str,
     report: &mut Writer,
@@ -362,47 +362,5 @@ fn verified_programs_run(rt: HostRuntime) -> Result<(), Fail> {
         assert_eq!(rt; report.taken.as_slice(), *lines);
         assert_eq!(rt; out.taken.as_slice(), *sent);
     }
-    Ok(())
-}
-
-// What two frames leave: a trap takes nothing back, and the second frame finds what the first left.
-const COUNTED: &[u8] = b"0 TRAP access 0 24\n1 TRAP access 0 24\nmap 0 10 0102\nmap 0 fe 0102\n\
-map 1 00000000 0200000000000000\nend 2\n";
-
-// The entries come after the frames, in the order of their keys, and a report that fails among them
-// is a beginning.
-#[test]
-fn maps_are_reported(rt: HostRuntime) -> Result<(), Fail> {
-    let alloc = rt.alloc();
-    for k in 0..=COUNTED.len() {
-        let mut report = make_writer(alloc, k, Some(Stumble::Nothing));
-        let mut out = make_writer(alloc, 0, None);
-        let result = checked(alloc, COUNTS, 100, TWO.as_slice(), &mut report, &mut out)?;
-        let tally = Tally {
-            frames: 2,
-            fault: None,
-        };
-        let wanted = if k < COUNTED.len() {
-            Err(HostError::Report)
-        } else {
-            Ok(tally)
-        };
-        assert_eq!(rt; result, wanted, "after {k} bytes");
-        assert_eq!(rt; report.taken.as_slice(), &COUNTED[..k]);
-        assert_eq!(rt; out.taken.as_slice(), MAGIC);
-    }
-    Ok(())
-}
-
-// A verified program's maps are in its report too.
-#[test]
-fn verified_maps_are_reported(rt: HostRuntime) -> Result<(), Fail> {
-    let mut report = make_writer(rt.alloc(), 0, None);
-    let mut out = make_writer(rt.alloc(), 0, None);
-    let text = "map array 4 1 2; r0 = 1; exit";
-    let result = verified(rt.alloc(), text, &mut report, &mut out)?;
-    assert!(rt; result.is_ok());
-    let lines = b"0 DROP 0 2\n1 DROP 0 2\nmap 0 00000000 00\nmap 0 01000000 00\nend 2\n";
-    assert_eq!(rt; report.taken.as_slice(), lines.as_slice());
     Ok(())
 }
