@@ -5,4 +5,6 @@ mod Search
 mod Whole
 mod Reading
 mod MaskLemmas
-mod Sweeping
+mod Graphs
+mod Chains
+mod Working

@@ -14,14 +14,14 @@ use Rattle.control_flow.proofs.MarkLemmas.{IsMarked-inside, IsMarked-set, set-Is
 -- ---- elements
 
 -- one element
-Contains-one : (x y : ℕ) → Contains (x ∷ []) y → x ≡ y
+pub Contains-one : (x y : ℕ) → Contains (x ∷ []) y → x ≡ y
 Contains-one x y (zero, lt, e) = e
 Contains-one x y (suc k, lt, e) = absurd (omega (arith, lt))
 
-one-Contains : (x : ℕ) → Contains (x ∷ []) x
+pub one-Contains : (x : ℕ) → Contains (x ∷ []) x
 one-Contains x = (0, omega arith, refl)
 
-no-Contains : (y : ℕ) → Contains [] y → ⊥
+pub no-Contains : (y : ℕ) → Contains [] y → ⊥
 no-Contains y (k, lt, e) = omega (arith, lt)
 
 -- ---- what finding does
@@ -47,6 +47,7 @@ Extends-new found frontier slot inside none = record {
     | inl old ↦ inl old
     | inr one ↦ inr (subst (λ (i : ℕ). IsMarked (set found slot true) i) (Contains-one slot k one) (set-IsMarked_here found slot inside))
   ];
+  even = omega (arith, count-set found slot inside none, length-append frontier (slot ∷ []));
   less = omega (arith, count-set found slot inside none, length-append frontier (slot ∷ []));
 }
 
@@ -59,6 +60,7 @@ Extends-none Wanted found frontier had = record {
   stays = λ k h. h;
   new = λ k h. inl h;
   adds = λ k h. inl h;
+  even = omega arith;
   less = omega arith;
 }
 
@@ -77,6 +79,7 @@ Extends-next A B f s g t h u x y = record {
     | inl early ↦ elim (x.adds k early) [ inl old ↦ inl old | inr m ↦ inr (y.kept k m) ]
     | inr m ↦ inr m
   ];
+  even = let a = x.even in let b = y.even in omega arith;
   less = let a = x.less in let b = y.less in omega arith;
 }
 
@@ -89,6 +92,7 @@ Extends-same A B f s g t same x = record {
   stays = x.stays;
   new = λ k m. elim (x.new k m) [ inl old ↦ inl old | inr n ↦ inr (n.0, (same k).0 n.1) ];
   adds = x.adds;
+  even = x.even;
   less = x.less;
 }
 
@@ -139,7 +143,7 @@ IsSearch-start Found Goes Start size found frontier starts x =
     }
 
 -- the slot to go on from was found
-on_top : (slot : ℕ) (s rest : List ℕ) → s ≡ rest ++ slot ∷ [] → Contains s slot
+pub on_top : (slot : ℕ) (s rest : List ℕ) → s ≡ rest ++ slot ∷ [] → Contains s slot
 on_top slot s rest popped =
     subst (λ (l : List ℕ). Contains l slot) (sym popped) (Contains-append_right rest (slot ∷ []) slot (one-Contains slot))
 

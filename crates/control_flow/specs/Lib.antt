@@ -2,6 +2,7 @@ pub mod Graph
 pub mod Functions
 pub mod Searches
 pub mod Nodes
+pub mod Sources
 pub mod RegisterLaws
 pub mod Masks
 pub mod Liveness

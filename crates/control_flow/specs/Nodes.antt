@@ -1,12 +1,14 @@
--- The code as a graph of slots, and what sweeps over it add to the registers that are live.
-use Rattle.std.specs.Prelude.{◌≡◌, ◌↔◌, ◌⊎◌, ℕ, ◌<◌, ◌≤◌, ◌-◌, ◌^◌, Bool, true, false, List, length, sum_by, Option, Some, None, slice_get}
+-- The code as a graph of slots, and what is added to the registers that are live there.
+use Rattle.std.specs.Prelude.{◌≡◌, ◌≢◌, ◌↔◌, ◌⊎◌, ℕ, ◌+◌, ◌<◌, ◌-◌, ◌^◌, Bool, true, false, List, [], replicate, length, sum_by, Option, Some, None, slice_get}
+use Rattle.std.specs.Option.{option_and_then}
 use Rattle.isa_model.specs.declared.registers.Reg.{Reg}
 use Rattle.isa_model.specs.Code.Instructions.{Program}
 use Rattle.control_flow.specs.declared.masks.RegisterMask.{RegisterMask}
 use Rattle.control_flow.specs.declared.nodes.Node.{Node}
 use Rattle.control_flow.specs.Graph.{fall_to, jump_to}
 use Rattle.control_flow.specs.Masks.{Has, mask_at}
-use Rattle.control_flow.specs.Liveness.{Reads, Writes, GoesTo, IsLive}
+use Rattle.control_flow.specs.Searches.{Extends}
+use Rattle.control_flow.specs.Liveness.{Reads, Writes, IsLive}
 
 -- ---- nodes
 
@@ -22,6 +24,23 @@ pub record AreNodes (p : Program) (nodes : List Node) : Type 0 where
   pub same : length nodes ≡ length p.insns
   pub each : (slot : ℕ) (node : Node) → slice_get nodes slot ≡ Some node → IsNode p slot node
 
+-- ---- ways
+
+-- where control goes from a slot
+abbrev pub fall_from : List Node → ℕ → Option ℕ
+fall_from nodes slot = option_and_then (λ (node : Node). node.falls_to) (slice_get nodes slot)
+
+abbrev pub jump_from : List Node → ℕ → Option ℕ
+jump_from nodes slot = option_and_then (λ (node : Node). node.jumps_to) (slice_get nodes slot)
+
+-- control comes to a slot from another one
+abbrev pub ComesFrom : List Node → ℕ → ℕ → Type 0
+ComesFrom nodes to slot = (fall_from nodes slot ≡ Some to) ⊎ (jump_from nodes slot ≡ Some to)
+
+-- control falls through to the next slot, or to the one after that
+abbrev pub FallsNear : List Node → Type 0
+FallsNear nodes = (slot to : ℕ) → fall_from nodes slot ≡ Some to → (slot + 1 ≡ to) ⊎ (slot + 2 ≡ to)
+
 -- ---- what is live before an instruction
 
 -- the slot to which control goes has the register
@@ -33,24 +52,30 @@ HasBehind masks (Some to) r = Has (mask_at masks to) r
 abbrev pub IsLiveBefore : List RegisterMask → Node → Reg → Type 0
 IsLiveBefore masks node r = Has node.reads r ⊎ ((HasBehind masks node.falls_to r ⊎ HasBehind masks node.jumps_to r) × (¬ Has node.writes r))
 
--- ---- sweeps
+-- ---- what is added
 
 -- the masks have no register that is not live
 abbrev pub AreSound : Program → List RegisterMask → Type 0
 AreSound p masks = (r : Reg) (slot : ℕ) → Has (mask_at masks slot) r → IsLive p r slot
 
--- the masks have what is live before each instruction by what they have behind it
-abbrev pub AreClosed : List Node → List RegisterMask → Type 0
-AreClosed nodes masks = (slot : ℕ) (node : Node) → slice_get nodes slot ≡ Some node → (r : Reg) → IsLiveBefore masks node r → Has (mask_at masks slot) r
+-- the mask of a slot has what is live before its instruction by what the masks have behind it
+abbrev pub IsClosedAt : List RegisterMask → ℕ → Node → Type 0
+IsClosedAt masks slot node = (r : Reg) → IsLiveBefore masks node r → Has (mask_at masks slot) r
 
 -- what may still be added
 abbrev pub room_left : List RegisterMask → ℕ
 room_left masks = sum_by (λ (mask : RegisterMask). 2 ^ 16 - mask.bits) masks
 
--- a sweep adds nothing that is not live; where it adds nothing, nothing is missing
-pub record Sweeps (nodes : List Node) (old new : List RegisterMask) (grown : Bool) : Type 0 where
+-- the mask of a slot gets what is live before its instruction, and nothing that is not live
+pub record AddsAt (nodes : List Node) (slot : ℕ) (old new : List RegisterMask) (grown : Bool) : Type 0 where
   pub same : length new ≡ length old
   pub sound : (p : Program) → AreNodes p nodes → AreSound p old → AreSound p new
-  pub closed : grown ≡ false → AreClosed nodes new
-  pub room : room_left new ≤ room_left old
+  pub kept : (r : Reg) → Has (mask_at old slot) r → Has (mask_at new slot) r
+  pub added : (node : Node) → slice_get nodes slot ≡ Some node → (r : Reg) → IsLiveBefore old node r → Has (mask_at new slot) r
+  pub others : (k : ℕ) → k ≢ slot → mask_at new k ≡ mask_at old k
+  pub still : grown ≡ false → new ≡ old
   pub less : grown ≡ true → room_left new < room_left old
+
+-- all slots of the code are found, and the search has not gone on from any
+abbrev pub HasAll : ℕ → List Bool → List ℕ → Type 0
+HasAll size found frontier = Extends (λ k. k < size) (replicate size false) [] found frontier

@@ -14,4 +14,5 @@ pub record Extends (Wanted : ℕ → Type 0) (found : List Bool) (frontier : Lis
   pub stays : (k : ℕ) → Contains frontier k → Contains frontier' k
   pub new : (k : ℕ) → IsMarked found' k → IsMarked found k ⊎ (Contains frontier' k × Wanted k)
   pub adds : (k : ℕ) → Contains frontier' k → Contains frontier k ⊎ IsMarked found' k
+  pub even : count_by not found' + length frontier' ≤ count_by not found + length frontier
   pub less : room_of found' frontier' ≤ room_of found frontier

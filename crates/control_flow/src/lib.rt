@@ -14,6 +14,7 @@ pub mod masks;
 mod nodes;
 mod reachability;
 mod searches;
+mod sources;
 mod targets;
 
 pub use errors::FlowError;

@@ -1,13 +1,19 @@
 //! Which registers are live at which slots.
 
-ghost use Rattle.std.specs.Prelude.{◌≡◌, ◌↔◌, ◌⊎◌, length, IfOk};
+ghost use Rattle.std.specs.Prelude.{◌≡◌, ◌+◌, ◌<◌, ◌↔◌, ◌⊎◌, ℕ, Some, length, IfOk, OnOk};
 ghost use Rattle.isa_model.specs.declared.registers.Reg.{Reg as TheReg};
-ghost use Rattle.control_flow.specs.Flows.{MarksLive};
+ghost use Rattle.control_flow.specs.Flows.{Fails, MarksLive};
 ghost use Rattle.control_flow.specs.Masks.{Has};
-ghost use Rattle.control_flow.specs.Nodes.{Sweeps, HasBehind, IsLiveBefore};
+ghost use Rattle.control_flow.specs.Nodes.{HasBehind, IsLiveBefore, AddsAt, fall_from, FallsNear};
+ghost use Rattle.control_flow.specs.Nodes.{ComesFrom, HasAll};
+ghost use Rattle.control_flow.specs.Searches.{Extends};
+ghost use Rattle.control_flow.specs.Sources.{AreSources};
 
+use crate::errors::FlowError;
 use crate::masks::{RegisterMask, mask_of};
 use crate::nodes::{Node, nodes_of};
+use crate::searches::Search;
+use crate::sources::{Sources, sources_of};
 use image::Image;
 use std::alloc::{AllocError, Global};
 
@@ -30,36 +36,89 @@ fn live_before(node: &Node, masks: &[RegisterMask]) -> RegisterMask
     node.reads.or(fallen.or(jumped).without(node.writes))
 }
 
-/// Adds what is live before each instruction, from the last one to the first. Says whether there
-/// was something to add.
-fn sweep(nodes: &[Node], masks: &mut [RegisterMask]) -> bool
-    requires { length masks.old ≡ length nodes.now }
-    ensures { Sweeps nodes.now masks.old masks.new result }
+/// Adds what is live before the instruction at a slot. Says whether there was something to add.
+fn add_live(nodes: &[Node], masks: &mut [RegisterMask], slot: usize) -> bool
+    requires inside { slot < length nodes.now }
+    requires same { length masks.old ≡ length nodes.now }
+    ensures { AddsAt nodes.now slot masks.old masks.new result }
 {
-    let mut grown = false;
-    for slot in (0..nodes.len()).rev() {
-        let old = masks[slot];
-        let new = old.or(live_before(&nodes[slot], masks));
-        if new != old {
-            masks[slot] = new;
-            grown = true;
-        }
+    let old = masks[slot];
+    let new = old.or(live_before(&nodes[slot], masks));
+    if new == old {
+        return false;
     }
-    grown
+    masks[slot] = new;
+    true
+}
+
+/// The slot so far back, if the instruction there falls through to this one.
+fn falling(nodes: &[Node], slot: usize, back: usize) -> Option<usize>
+    requires { slot < length nodes.now }
+    ensures { (k : ℕ) → (result ≡ Some k)
+        ↔ ((k + back ≡ slot) × (fall_from nodes.now k ≡ Some slot)) }
+{
+    if slot < back {
+        return None;
+    }
+    let from = slot - back;
+    let to = nodes[from].falls_to?;
+    if to == slot { Some(from) } else { None }
+}
+
+/// Finds the slots from which control comes to a slot.
+fn go_back(
+    work: &mut Search,
+    nodes: &[Node],
+    sources: &Sources,
+    slot: usize,
+) -> Result<(), AllocError>
+    requires inside { slot < length nodes.now }
+    requires near { FallsNear nodes.now }
+    requires sources { AreSources nodes.now sources.now.last.items sources.now.before.items }
+    requires room { length work.old.found.items ≡ length nodes.now }
+    ensures { OnOk result (Extends (ComesFrom nodes.now slot)
+        work.old.found.items work.old.frontier.items
+        work.new.found.items work.new.frontier.items) }
+{
+    work.find(falling(nodes, slot, 1))?;
+    work.find(falling(nodes, slot, 2))?;
+    let mut from = sources.last[slot];
+    while let Some(source) = from {
+        work.find(Some(source))?;
+        from = sources.before[source];
+    }
+    Ok(())
+}
+
+/// A search that has found all slots, and goes on from the last one first.
+fn all_slots(alloc: Global, slots: usize) -> Result<Search, AllocError>
+    ensures { IfOk result (λ work. HasAll slots work.found.items work.frontier.items) }
+{
+    let mut work = Search::new(alloc, slots)?;
+    for slot in 0..slots {
+        work.find(Some(slot))?;
+    }
+    Ok(work)
 }
 
 /// For each slot the registers that are live there.
 ///
-/// One sweep carries them over all ways forward, and each further one over a jump back. So there are
-/// at most two more sweeps than a path without a turn takes jumps back.
+/// The work that is left is a list of slots, at first all of them, the last one on top. Where a
+/// mask grows, the slots from which control comes there go on the list again. A mask grows at most
+/// once for each register, so the time is linear in slots times registers.
 pub fn live_registers(alloc: Global, image: &Image) -> Result<Vec<RegisterMask>, AllocError>
+    requires { (slot : ℕ) → ¬ Fails image.now FlowError.TargetOutside slot }
     ensures { IfOk result (λ masks. MarksLive image.now masks.items) }
 {
     let nodes = nodes_of(alloc, image)?;
-    let mut masks = vec![in alloc; RegisterMask::none(); image.slots()]?;
-    let mut grown = true;
-    while grown {
-        grown = sweep(&nodes, masks.as_mut_slice());
+    let sources = sources_of(alloc, &nodes)?;
+    let mut masks = vec![in alloc; RegisterMask::none(); nodes.len()]?;
+    let mut work = all_slots(alloc, nodes.len())?;
+    while let Some(slot) = work.frontier.pop() {
+        work.found[slot] = false;
+        if add_live(&nodes, masks.as_mut_slice(), slot) {
+            go_back(&mut work, &nodes, &sources, slot)?;
+        }
     }
     Ok(masks)
 }

@@ -21,7 +21,7 @@ impl Search {
     {
         Ok(Search {
             found: vec![in alloc; false; slots]?,
-            frontier: Vec::new(alloc),
+            frontier: Vec::with_capacity(alloc, slots)?,
         })
     }
 

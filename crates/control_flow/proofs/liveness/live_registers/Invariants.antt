@@ -1,10 +1,8 @@
-use Rattle.std.specs.Prelude.{◌+◌, cond}
-use Rattle.control_flow.specs.Nodes.{room_left}
-use Rattle.control_flow.proofs.Sweeping.{AreLiving}
+use Rattle.control_flow.proofs.Working.{IsWorking, work_left}
 use Rattle.control_flow.proofs.liveness.live_registers.Given as goal
 
-abbrev pub invariant-loop-grown : goal.invariant-loop-grown
-invariant-loop-grown l = AreLiving l.image l.nodes.items l.masks.items l.grown
+abbrev pub invariant-loop-slot : goal.invariant-loop-slot
+invariant-loop-slot l = IsWorking l.image l.nodes.items l.masks.items l.work.found.items l.work.frontier.items
 
-abbrev pub decreases-loop-grown : goal.decreases-loop-grown
-decreases-loop-grown l = room_left l.masks.items + cond l.grown 1 0
+abbrev pub decreases-loop-slot : goal.decreases-loop-slot
+decreases-loop-slot l = work_left l.nodes.items l.masks.items l.work.frontier.items

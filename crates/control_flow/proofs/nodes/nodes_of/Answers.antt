@@ -1,4 +1,4 @@
-use Rattle.control_flow.proofs.Sweeping.{nodes_more}
+use Rattle.control_flow.proofs.Graphs.{nodes_more}
 use Rattle.control_flow.proofs.nodes.nodes_of.Goals as goal
 
 pub loop-slot-preserved : goal.loop-slot-preserved

@@ -1,4 +1,4 @@
-use Rattle.control_flow.proofs.Sweeping.{NodesBelow}
+use Rattle.control_flow.proofs.Graphs.{NodesBelow}
 use Rattle.control_flow.proofs.nodes.nodes_of.Given as goal
 
 abbrev pub invariant-loop-slot : goal.invariant-loop-slot

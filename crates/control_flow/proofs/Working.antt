@@ -1,0 +1,309 @@
+-- The work list: what one slot that is taken from it adds, what the list keeps, and what is live when it is empty.
+use Rattle.std.proofs.Common.{◌≡◌, ◌≢◌, ℕ, zero, suc, ◌+◌, ◌*◌, ◌-◌, ◌^◌, ◌<◌, ◌≤◌, Bool, true, false, not, cond, eqb, List, [], ◌∷◌, ◌++◌, length, take, drop, replicate, get_or, set, sum_by, Option, Some, None, refl, sym, ap, ◌∙◌, subst, arith, inl, inr}
+use Rattle.std.specs.Prelude.{◌↔◌, ◌⊎◌, slice_get, count_by, Contains}
+use Rattle.std.specs.Int.{bit_at}
+use Rattle.std.proofs.Math.Nat.{mul-le-mul_left}
+use Rattle.std.proofs.lemmas.Bool.{cases_eq, eqb-true, eqb-false}
+use Rattle.std.proofs.lemmas.Option.{same_Some, slice_get_within}
+use Rattle.std.proofs.lemmas.List.{get_or-set_same, get_or-set_other, length-set, length-append, length-replicate, append-nil, take_all}
+use Rattle.std.proofs.Math.ListN.{drop_of_length-le}
+use Rattle.std.proofs.lemmas.List.Sums.{sum_by-set, count_by-le-length}
+use Rattle.std.proofs.lemmas.List.Elements.{Contains-append_left, Contains-append_cases}
+use Rattle.isa_model.specs.declared.registers.Reg.{Reg}
+use Rattle.isa_model.specs.Code.Registers.{reg_number}
+use Rattle.isa_model.specs.Code.Instructions.{Program}
+use Rattle.control_flow.specs.declared.masks.RegisterMask.{RegisterMask}
+use Rattle.control_flow.specs.declared.nodes.Node.{Node}
+use Rattle.control_flow.specs.Graph.{Falls, Jumps}
+use Rattle.control_flow.specs.FlowLaws.{BeginsInsn-inside, fetch-BeginsInsn, Leads-inside}
+use Rattle.control_flow.specs.Flows.{IsMarked, MarksLive}
+use Rattle.control_flow.specs.Masks.{Has, no_registers, mask_at}
+use Rattle.control_flow.specs.Liveness.{IsReadAfter, IsLive}
+use Rattle.control_flow.specs.Nodes.{IsNode, AreNodes, ComesFrom, HasBehind, IsLiveBefore, AreSound, IsClosedAt, room_left, AddsAt, HasAll}
+use Rattle.control_flow.specs.Searches.{Extends}
+use Rattle.control_flow.proofs.MarkLemmas.{IsMarked-inside, new-IsMarked}
+use Rattle.control_flow.proofs.MaskLemmas.{none_has, mask_at-none}
+use Rattle.control_flow.proofs.Search.{Extends-none, Extends-next, Extends-same, Extends-new_search, Contains-one, no-Contains, on_top}
+use Rattle.control_flow.proofs.Graphs.{node_at, node-fall_from, node-jump_from}
+
+-- ---- one slot
+
+-- what is live behind an instruction is live behind it by one of its ways
+behind_to : (p : Program) (masks : List RegisterMask) (o : Option ℕ) (r : Reg) → AreSound p masks → HasBehind masks o r → (to : ℕ) × (o ≡ Some to) × IsLive p r to
+behind_to p masks None r sound h = absurd h
+behind_to p masks (Some to) r sound h = (to, refl, sound r to h)
+
+before_live : (p : Program) (masks : List RegisterMask) (slot : ℕ) (node : Node) (r : Reg) → IsNode p slot node → AreSound p masks → IsLiveBefore masks node r → IsLive p r slot
+before_live p masks slot node r is sound (inl reads) = (zero, (is.reads r).0 reads)
+before_live p masks slot node r is sound (inr (inl falls, keeps)) =
+    let way = behind_to p masks node.falls_to r sound falls in
+    (suc way.2.0, (way.0, inl (sym is.falls ∙ way.1), λ w. keeps ((is.writes r).1 w), way.2.1))
+before_live p masks slot node r is sound (inr (inr jumps, keeps)) =
+    let way = behind_to p masks node.jumps_to r sound jumps in
+    (suc way.2.0, (way.0, inr (sym is.jumps ∙ way.1), λ w. keeps ((is.writes r).1 w), way.2.1))
+
+-- ---- what the code finds at a slot
+
+abbrev IsStep : List Node → ℕ → Node → List RegisterMask → RegisterMask → RegisterMask → Type 0
+IsStep nodes n node masks before mask =
+    (slice_get nodes n ≡ Some node) × ((r : Reg) → Has before r ↔ IsLiveBefore masks node r) × ((r : Reg) → Has mask r ↔ (Has (mask_at masks n) r ⊎ Has before r))
+
+-- the mask of the slot stays
+pub step_same : (nodes : List Node) (n : ℕ) (node : Node) (masks : List RegisterMask) (before mask : RegisterMask) → IsStep nodes n node masks before mask
+    → eqb mask.bits (mask_at masks n).bits ≡ true → AddsAt nodes n masks masks false
+step_same nodes n node masks before mask (here, adds, both) stays =
+    let same : mask.bits ≡ (mask_at masks n).bits = eqb-true mask.bits (mask_at masks n).bits stays in record {
+      same = refl;
+      sound = λ p are sound. sound;
+      kept = λ r h. h;
+      added = λ x there r live.
+          let one : x ≡ node = same_Some x node (sym there ∙ here) in
+          let has : Has mask r = (both r).1 (inr ((adds r).1 (subst (λ (y : Node). IsLiveBefore masks y r) one live))) in
+          ap (λ (b : ℕ). bit_at b (reg_number r)) (sym same) ∙ has;
+      others = λ k apart. refl;
+      still = λ e. refl;
+      less = λ e. absurd cc;
+    }
+
+-- the mask of the slot grows
+pub step_more : (nodes : List Node) (n : ℕ) (node : Node) (masks : List RegisterMask) (before mask : RegisterMask) → IsStep nodes n node masks before mask
+    → n < length masks → mask.bits < 2 ^ 16 → (mask_at masks n).bits ≤ mask.bits → eqb mask.bits (mask_at masks n).bits ≡ false
+    → AddsAt nodes n masks (set masks n mask) true
+step_more nodes n node masks before mask (here, adds, both) inside fits up other =
+    let apart = eqb-false mask.bits (mask_at masks n).bits other in
+    let is : mask_at (set masks n mask) n ≡ mask = get_or-set_same masks n mask no_registers inside in record {
+      same = length-set masks n mask;
+      sound = λ p are sound r slot h. elim (cases_eq slot n) [
+        | inl e ↦
+            let has : Has mask r = subst (λ x. Has x r) (ap (mask_at (set masks n mask)) e ∙ is) h in
+            subst (λ (k : ℕ). IsLive p r k) (sym e) (elim ((both r).0 has) [
+              | inl had ↦ sound r n had
+              | inr live ↦ before_live p masks n node r (are.each n node here) sound ((adds r).0 live)
+            ])
+        | inr elsewhere ↦ sound r slot (subst (λ x. Has x r) (get_or-set_other masks n slot mask no_registers elsewhere) h)
+      ];
+      kept = λ r h. subst (λ x. Has x r) (sym is) ((both r).1 (inl h));
+      added = λ x there r live.
+          let one : x ≡ node = same_Some x node (sym there ∙ here) in
+          subst (λ y. Has y r) (sym is) ((both r).1 (inr ((adds r).1 (subst (λ (y : Node). IsLiveBefore masks y r) one live))));
+      others = λ k elsewhere. get_or-set_other masks n k mask no_registers elsewhere;
+      still = λ e. absurd cc;
+      less = λ e.
+          let moved = sum_by-set (λ (x : RegisterMask). 2 ^ 16 - x.bits) masks n mask no_registers inside in
+          omega (arith, moved, up, apart, fits);
+    }
+
+-- ---- the slots that were found first
+
+pub all_none : (n : ℕ) (f : List Bool) (s : List ℕ) → f ≡ replicate n false → s ≡ [] → Extends (λ k. k < 0) (replicate n false) [] f s
+all_none n f s none empty =
+    Extends-new_search (λ k. k < 0) n n f s f s refl none empty (Extends-none (λ k. k < 0) f s (λ k below. absurd (omega arith)))
+
+pub all_more : (n : ℕ) (f : List Bool) (s : List ℕ) (g : List Bool) (t : List ℕ) (h : List Bool) (u : List ℕ)
+    → Extends (λ k. k < n) f s g t → Extends (λ k. Some n ≡ Some k) g t h u → Extends (λ k. k < n + 1) f s h u
+all_more n f s g t h u x y =
+    Extends-same (λ k. (k < n) ⊎ (Some n ≡ Some k)) (λ k. k < n + 1) f s h u
+    (λ k. (
+      λ w. elim w [
+        | inl below ↦ omega arith
+        | inr e ↦ let same : n ≡ k = same_Some n k e in omega (arith, same)
+      ],
+      λ below. elim (cases_eq k n) [
+        | inl e ↦ inr (ap (λ (i : ℕ). let o : Option ℕ = Some i in o) (sym e))
+        | inr apart ↦ inl (omega arith)
+      ],
+    ))
+    (Extends-next (λ k. k < n) (λ k. Some n ≡ Some k) f s g t h u x y)
+
+-- ---- the loop
+
+-- the masks have nothing that is not live, and all that is live before each instruction whose slot is not on the list
+pub record IsWorking (p : Program) (nodes : List Node) (masks : List RegisterMask) (found : List Bool) (frontier : List ℕ) : Type 0 where
+  pub same : length masks ≡ length nodes
+  pub same_found : length found ≡ length nodes
+  pub sound : AreSound p masks
+  pub inside : (k : ℕ) → Contains frontier k → k < length nodes
+  pub waits : (k : ℕ) → IsMarked found k → Contains frontier k
+  pub closed : (k : ℕ) (node : Node) → slice_get nodes k ≡ Some node → IsMarked found k ⊎ IsClosedAt masks k node
+  pub room : count_by not found + length frontier ≤ length nodes
+
+pub working_start : (p : Program) (nodes : List Node) (n size : ℕ) (found : List Bool) (frontier : List ℕ) → n ≡ length nodes → size ≡ length nodes → HasAll size found frontier
+    → IsWorking p nodes (replicate n no_registers) found frontier
+working_start p nodes n size found frontier all all_found x =
+    let same : length found ≡ size = x.same ∙ length-replicate size false in record {
+      same = length-replicate n no_registers ∙ all;
+      same_found = same ∙ all_found;
+      sound = λ r slot h. absurd (none_has r (subst (λ x. Has x r) (mask_at-none n slot) h));
+      inside = λ k c. elim (x.adds k c) [
+        | inl old ↦ absurd (no-Contains k old)
+        | inr m ↦ let low = IsMarked-inside found k m in omega (arith, low, same, all_found)
+      ];
+      waits = λ k m. elim (x.new k m) [ inl old ↦ absurd (new-IsMarked size k old) | inr new ↦ new.0 ];
+      closed = λ k node here. let low = slice_get_within nodes k node here in inl (x.all k (omega (arith, low, all_found)));
+      room = omega (arith, x.even, count_by-le-length not (replicate size false), length-replicate size false, all_found);
+    }
+
+-- the slot on top is inside the code
+pub working_inside : (p : Program) (nodes : List Node) (masks : List RegisterMask) (found : List Bool) (frontier rest : List ℕ) (slot : ℕ)
+    → frontier ≡ rest ++ slot ∷ [] → IsWorking p nodes masks found frontier → slot < length nodes
+working_inside p nodes masks found frontier rest slot popped m = m.inside slot (on_top slot frontier rest popped)
+
+-- what is live behind by masks that are the same there
+behind_same : (old new : List RegisterMask) (o : Option ℕ) (r : Reg) → ((to : ℕ) → o ≡ Some to → mask_at new to ≡ mask_at old to) → HasBehind new o r → HasBehind old o r
+behind_same old new None r same h = h
+behind_same old new (Some to) r same h = subst (λ x. Has x r) (same to refl) h
+
+before_same : (old new : List RegisterMask) (node : Node) (r : Reg)
+    → ((to : ℕ) → (node.falls_to ≡ Some to) ⊎ (node.jumps_to ≡ Some to) → mask_at new to ≡ mask_at old to) → IsLiveBefore new node r → IsLiveBefore old node r
+before_same old new node r same (inl reads) = inl reads
+before_same old new node r same (inr (inl falls, keeps)) = inr (inl (behind_same old new node.falls_to r (λ to e. same to (inl e)) falls), keeps)
+before_same old new node r same (inr (inr jumps, keeps)) = inr (inr (behind_same old new node.jumps_to r (λ to e. same to (inr e)) jumps), keeps)
+
+-- a way leads to a slot or not
+leads_there : (o : Option ℕ) (slot : ℕ) → (o ≡ Some slot) ⊎ ((to : ℕ) → o ≡ Some to → to ≢ slot)
+leads_there None slot = inr (λ to e. absurd cc)
+leads_there (Some k) slot = elim (cases_eq k slot) [
+  | inl e ↦ inl (ap (λ (i : ℕ). let o : Option ℕ = Some i in o) e)
+  | inr apart ↦ inr (λ to e same. apart (same_Some k to e ∙ same))
+]
+
+node_there : (node : Node) (slot : ℕ) → ((node.falls_to ≡ Some slot) ⊎ (node.jumps_to ≡ Some slot)) ⊎ ((to : ℕ) → (node.falls_to ≡ Some to) ⊎ (node.jumps_to ≡ Some to) → to ≢ slot)
+node_there node slot = elim (leads_there node.falls_to slot) [
+  | inl falls ↦ inl (inl falls)
+  | inr other ↦ elim (leads_there node.jumps_to slot) [
+    | inl jumps ↦ inl (inr jumps)
+    | inr another ↦ inr (λ to way. elim way [ inl e ↦ other to e | inr e ↦ another to e ])
+  ]
+]
+
+comes_from : (nodes : List Node) (k slot : ℕ) (node : Node) → slice_get nodes k ≡ Some node → (node.falls_to ≡ Some slot) ⊎ (node.jumps_to ≡ Some slot) → ComesFrom nodes slot k
+comes_from nodes k slot node here (inl falls) = inl (node-fall_from nodes k node here ∙ falls)
+comes_from nodes k slot node here (inr jumps) = inr (node-jump_from nodes k node here ∙ jumps)
+
+-- a slot that was not on the list, or was on its top, has what is live before it by the masks of before
+closed_old : (nodes : List Node) (slot k : ℕ) (node : Node) (old new : List RegisterMask) (grown : Bool) (r : Reg) → slice_get nodes k ≡ Some node
+    → AddsAt nodes slot old new grown → (k ≡ slot) ⊎ IsClosedAt old k node → IsLiveBefore old node r → Has (mask_at new k) r
+closed_old nodes slot k node old new grown r here x closed live = elim (cases_eq k slot) [
+  | inl e ↦
+      let there : slice_get nodes slot ≡ Some node = subst (λ (i : ℕ). slice_get nodes i ≡ Some node) e here in
+      subst (λ (i : ℕ). Has (mask_at new i) r) (sym e) (x.added node there r live)
+  | inr apart ↦ elim closed [
+    | inl e ↦ absurd (apart e)
+    | inr was ↦ subst (λ y. Has y r) (sym (x.others k apart)) (was r live)
+  ]
+]
+
+-- the marks of the slots but the one that is taken
+unmarked : (found : List Bool) (slot k : ℕ) → slot < length found → IsMarked (set found slot false) k → IsMarked found k × (k ≢ slot)
+unmarked found slot k inside h = elim (cases_eq k slot) [
+  | inl e ↦
+      let none : get_or (set found slot false) k false ≡ false = ap (λ (i : ℕ). get_or (set found slot false) i false) e ∙ get_or-set_same found slot false false inside in
+      absurd cc
+  | inr apart ↦ (sym (get_or-set_other found slot k false false apart) ∙ h, apart)
+]
+
+still_marked : (found : List Bool) (slot k : ℕ) → k ≢ slot → IsMarked found k → IsMarked (set found slot false) k
+still_marked found slot k apart h = get_or-set_other found slot k false false apart ∙ h
+
+count-unset : (found : List Bool) (slot : ℕ) → slot < length found → count_by not (set found slot false) ≤ count_by not found + 1
+count-unset found slot inside =
+    let moved : sum_by (λ x. cond (not x) 1 0) (set found slot false) + cond (not (get_or found slot false)) 1 0 ≡ sum_by (λ x. cond (not x) 1 0) found + cond (not false) 1 0 = sum_by-set (λ x. cond (not x) 1 0) found slot false false inside in
+    omega (arith, moved)
+
+-- a slot is taken from the list; if its mask grows, the slots from which control comes there go on it
+pub working_next : (p : Program) (nodes : List Node) (W : ℕ → Type 0) (slot : ℕ) (old new : List RegisterMask) (grown : Bool) (f : List Bool) (s rest : List ℕ) (g : List Bool) (t : List ℕ)
+    → AreNodes p nodes → s ≡ rest ++ slot ∷ [] → AddsAt nodes slot old new grown → Extends W (set f slot false) rest g t
+    → (grown ≡ false) ⊎ ((k : ℕ) → ComesFrom nodes slot k → W k)
+    → IsWorking p nodes old f s → IsWorking p nodes new g t
+working_next p nodes W slot old new grown f s rest g t are popped x y wants m =
+    let low : slot < length f = let first = m.inside slot (on_top slot s rest popped) in omega (arith, first, m.same_found) in
+    let same_found : length g ≡ length nodes = y.same ∙ length-set f slot false ∙ m.same_found in record {
+      same = x.same ∙ m.same;
+      same_found = same_found;
+      sound = x.sound p are m.sound;
+      inside = λ k c. elim (y.adds k c) [
+        | inl below ↦ m.inside k (subst (λ (l : List ℕ). Contains l k) (sym popped) (Contains-append_left rest (slot ∷ []) k below))
+        | inr marked ↦ let within = IsMarked-inside g k marked in omega (arith, within, same_found)
+      ];
+      waits = λ k h. elim (y.new k h) [
+        | inl marked ↦
+            let was = unmarked f slot k low marked in
+            elim (Contains-append_cases rest (slot ∷ []) k (subst (λ (l : List ℕ). Contains l k) popped (m.waits k was.0))) [
+              | inl below ↦ y.stays k below
+              | inr one ↦ absurd (was.1 (sym (Contains-one slot k one)))
+            ]
+        | inr new ↦ new.0
+      ];
+      closed = λ k node here. elim (before k node here) [
+        | inl marked ↦ inl (y.kept k marked)
+        | inr was ↦ elim wants [
+          | inl still ↦ inr (λ r live. closed_old nodes slot k node old new grown r here x was
+              (before_same old new node r (λ to way. ap (λ (l : List RegisterMask). mask_at l to) (x.still still)) live))
+          | inr all ↦ elim (node_there node slot) [
+            | inl way ↦ inl (y.all k (all k (comes_from nodes k slot node here way)))
+            | inr other ↦ inr (λ r live. closed_old nodes slot k node old new grown r here x was
+                (before_same old new node r (λ to way. x.others to (other to way)) live))
+          ]
+        ]
+      ];
+      room = let more = count-unset f slot low in omega (arith, more, y.even, m.room, ap length popped, length-append rest (slot ∷ []));
+    } where
+      before : (k : ℕ) (node : Node) → slice_get nodes k ≡ Some node → IsMarked (set f slot false) k ⊎ ((k ≡ slot) ⊎ IsClosedAt old k node)
+      before k node here = elim (cases_eq k slot) [
+        | inl e ↦ inr (inl e)
+        | inr apart ↦ elim (m.closed k node here) [
+          | inl marked ↦ inl (still_marked f slot k apart marked)
+          | inr was ↦ inr (inr was)
+        ]
+      ]
+
+-- ---- it comes to an end
+
+-- what may still be added, and for each of that the whole list
+abbrev pub work_left : List Node → List RegisterMask → List ℕ → ℕ
+work_left nodes masks frontier = (length nodes + 1) * room_left masks + length frontier
+
+-- a mask has grown
+pub work_less : (p : Program) (nodes : List Node) (old new : List RegisterMask) (g : List Bool) (s t : List ℕ) → room_left new < room_left old
+    → IsWorking p nodes new g t → work_left nodes new t < work_left nodes old s
+work_less p nodes old new g s t less m =
+    let product = mul-le-mul_left {m = room_left new + 1} {n = room_left old} (length nodes + 1) (omega arith) in
+    omega (arith, product, m.room)
+
+-- ---- the list is empty
+
+behind : (masks : List RegisterMask) (o : Option ℕ) (to : ℕ) (r : Reg) → o ≡ Some to → Has (mask_at masks to) r → HasBehind masks o r
+behind masks o to r e h = subst (λ (x : Option ℕ). HasBehind masks x r) (sym e) h
+
+live_has : (p : Program) (nodes : List Node) (masks : List RegisterMask) → AreNodes p nodes → ((k : ℕ) (node : Node) → slice_get nodes k ≡ Some node → IsClosedAt masks k node) → (r : Reg) (n slot : ℕ) → IsReadAfter p r n slot → Has (mask_at masks slot) r
+live_has p nodes masks are closed r zero slot reads =
+    let inside : slot < length p.insns = BeginsInsn-inside p slot (fetch-BeginsInsn p slot reads.0 reads.1) in
+    let found = node_at p nodes slot are inside in
+    closed slot found.0 found.1 r (inl (((are.each slot found.0 found.1).reads r).1 reads))
+live_has p nodes masks are closed r (suc n) slot (next, inl falls, keeps, path) =
+    let found = node_at p nodes slot are (Leads-inside p slot next (Falls falls)) in
+    let is = are.each slot found.0 found.1 in
+    let has = live_has p nodes masks are closed r n next path in
+    closed slot found.0 found.1 r (inr (inl (behind masks found.0.falls_to next r (is.falls ∙ falls) has), λ w. keeps ((is.writes r).0 w)))
+live_has p nodes masks are closed r (suc n) slot (next, inr jumps, keeps, path) =
+    let found = node_at p nodes slot are (Leads-inside p slot next (Jumps jumps)) in
+    let is = are.each slot found.0 found.1 in
+    let has = live_has p nodes masks are closed r n next path in
+    closed slot found.0 found.1 r (inr (inr (behind masks found.0.jumps_to next r (is.jumps ∙ jumps) has), λ w. keeps ((is.writes r).0 w)))
+
+pub working_end : (p : Program) (nodes : List Node) (masks : List RegisterMask) (found : List Bool) (frontier : List ℕ) → length frontier ≡ 0 → AreNodes p nodes
+    → IsWorking p nodes masks found frontier → MarksLive p masks
+working_end p nodes masks found [] over are m r slot = (
+  λ h. m.sound r slot h,
+  λ (n, path). live_has p nodes masks are (λ k node here. elim (m.closed k node here) [
+    | inl marked ↦ absurd (no-Contains k (m.waits k marked))
+    | inr closed ↦ closed
+  ]) r n slot path,
+)
+working_end p nodes masks found (x ∷ xs) over are m r slot = absurd (omega (arith, over))
+
+-- a slice of all masks is written back
+pub written_back : (n : ℕ) (new old : List RegisterMask) → n ≡ length old → length new ≡ length old → take n (new ++ drop (length new) old) ≡ new
+written_back n new old all same =
+    let none : drop (length new) old ≡ [] = drop_of_length-le old (omega arith) in
+    ap (λ (l : List RegisterMask). take n (new ++ l)) none ∙ ap (take n) (append-nil new) ∙ take_all n new (omega arith)
