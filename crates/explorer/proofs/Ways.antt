@@ -1,5 +1,5 @@
 -- The last jumps on a way, a step at a time.
-use Rattle.std.proofs.Common.{◌≡◌, ◌≢◌, ◌∙◌, ℕ, zero, suc, ◌+◌, ◌-◌, ◌<◌, ◌≤◌, [], ◌∷◌, ◌++◌, List, length, drop, Some, if◌then◌else◌, Bool, true, false, ◌⊎◌, inl, inr, arith, refl, sym, ap, subst}
+use Rattle.std.proofs.Common.{◌≡◌, ◌≢◌, ◌∙◌, ℕ, zero, suc, ◌+◌, ◌-◌, ◌<◌, ◌≤◌, [], ◌∷◌, ◌++◌, List, length, drop, Some, if◌then◌else◌, Bool, ◌⊎◌, inl, inr, arith, refl, sym, ap}
 use Rattle.std.proofs.lemmas.Bool.{ne_eqb, eq-eqb}
 use Rattle.std.proofs.lemmas.List.{append-nil, length-append, length-drop, drop-append-le, drop-drop}
 use Rattle.isa_model.specs.declared.instructions.Insn.{Insn}
@@ -10,7 +10,7 @@ use Rattle.explorer.specs.declared.explanations.Jump.{Jump}
 use Rattle.explorer.specs.declared.explanations.TheConstants.{MOST_JUMPS}
 use Rattle.explorer.specs.Forgetting.{Forgets}
 use Rattle.explorer.specs.Walks.{StepsTo}
-use Rattle.explorer.specs.Explained.{jump_of, ComesBy, IsStart, OneMore, last, IsLed}
+use Rattle.explorer.specs.Explained.{jump_of, IsStart, OneMore, last, IsLed}
 
 pub led_start : (p : Program) (s : State) (way : List Jump) → Forgets p start s → way ≡ [] → IsLed p s way
 unfolding last

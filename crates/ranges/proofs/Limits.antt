@@ -5,23 +5,19 @@ use mir.Val.{hbits}
 use Rattle.std.specs.Int.{Width as IntWidth, w8, w16, w32, cast_signed, cast_unsigned, int_shr}
 use lib.Signed.{shr_z, mag_shr, le_z}
 use Rattle.std.proofs.Math.Facts.{sfits_to_z}
-use Rattle.std.proofs.lemmas.Int.{ints, to_z-of_z}
-use Rattle.isa_model.specs.declared.sizes.Width.{Width}
+use Rattle.std.proofs.lemmas.Int.{ints}
 use Rattle.isa_model.specs.declared.sizes.Width.TheVariants.{Low32, Full64}
 use Rattle.isa_model.specs.declared.sizes.Extension.{Extension}
 use Rattle.isa_model.specs.declared.sizes.Extension.TheVariants.{Low8, Low16, Full8, Full16, Full32}
-use Rattle.isa_model.specs.declared.instructions.AluOp.{AluOp}
-use Rattle.isa_model.specs.declared.instructions.AluOp.TheVariants.{Add, Sub, Mul, Div, SignedDiv, Or, And, Lsh, Rsh, Mod, SignedMod, Xor, Mov, Arsh}
+use Rattle.isa_model.specs.declared.instructions.AluOp.TheVariants.{Arsh}
 use Rattle.isa_model.specs.Code.Sizes.{width_bits}
-use Rattle.isa_model.specs.Code.Numbers.{result_of, shift, sign_extended}
+use Rattle.isa_model.specs.Code.Numbers.{result_of, sign_extended}
 use Rattle.isa_model.specs.Code.NumberLemmas.{signed_equation}
 use Rattle.isa_model.specs.Code.ExtensionLemmas.{extension_bits, extension_width, sign_extended_cases, sign_extended_fits, sign_extended-small}
 use Rattle.std.proofs.lemmas.Bool.{cases_lt, lt-ltb, ne_eqb}
-use Rattle.std.proofs.lemmas.Nat.{le-div, pow_pos, mul-le, mod_below, and_le_l, and_le_r}
+use Rattle.std.proofs.lemmas.Nat.{le-div, pow_pos, mul-le, mod_below}
 use Rattle.std.proofs.Math.Nat.{div-mul-le_self, mod-eq_of_lt, div-le_self, mod-le, div-zero, add-mod_right}
-use Rattle.ranges.specs.declared.wide.Wide.{Wide}
 use Rattle.ranges.specs.Keeps.{extension_signed}
-use Rattle.ranges.specs.Wides.{Has, IsBetween, IsSignedBetween, KeepsLimits, KeepsSignedLimits}
 
 -- ---- sums and differences that fit
 

@@ -1,13 +1,13 @@
 -- Low halves: their signed readings, wider limits, limits that are reached, and halves of numbers between two limits.
-use Rattle.std.proofs.Common.{◌≡◌, ℕ, ℤ, pos, negsuc, ◌+◌, ◌*◌, ◌/◌, ◌%◌, ◌^◌, ◌<◌, ◌≤◌, inl, inr, sym, subst, arith, w64}
+use Rattle.std.proofs.Common.{◌≡◌, ℕ, ℤ, ◌+◌, ◌*◌, ◌/◌, ◌%◌, ◌^◌, ◌<◌, ◌≤◌, inl, inr, sym, subst, arith, w64}
 use Rattle.std.specs.Prelude.{◌⊎◌, ◌≤ℤ◌, FitsSigned}
-use Rattle.std.specs.Int.{Width as IntWidth, w32, cast_signed, cast_unsigned}
+use Rattle.std.specs.Int.{w32, cast_signed, cast_unsigned}
 use borrow.Author.Differences.{up, down}
-use Rattle.std.proofs.lemmas.Int.{ints, to_z-of_z}
+use Rattle.std.proofs.lemmas.Int.{ints}
 use Rattle.std.proofs.lemmas.Bool.{cases_lt, lt-ltb, le-ltb}
 use Rattle.isa_model.specs.Code.NumberLemmas.{signed_equation}
 use Rattle.ranges.specs.Joint.{IsAmong}
-use Rattle.ranges.specs.Lows.{Has, Encloses, IsOfEither, AreReached}
+use Rattle.ranges.specs.Lows.{IsOfEither, AreReached}
 use Rattle.ranges.specs.declared.low.Low.{Low}
 use Rattle.ranges.proofs.Limits.{fits_32}
 

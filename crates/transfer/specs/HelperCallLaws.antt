@@ -1,7 +1,7 @@
 -- Calls of helpers: the machine's arguments are those that the kinds show, their bytes are there, and what the call leaves
 -- means where the machine goes on.
-use Rattle.std.specs.Prelude.{◌≡◌, ℕ, ◌+◌, ◌^◌, ◌<◌, ◌≤◌, ℤ, pos, ◌+ℤ◌, nat_le, Bool, true, false, ◌||◌, ◌&&◌, List, [], map, take, drop, length, slice_get, slice_index_or, All, Option, Some, None, Result, Ok, Err, IfOk, refl}
-use Rattle.std.specs.List.{list_all, list_any}
+use Rattle.std.specs.Prelude.{◌≡◌, ℕ, ◌+◌, ◌<◌, ◌≤◌, ℤ, pos, ◌+ℤ◌, nat_le, Bool, true, false, ◌||◌, ◌&&◌, List, [], map, take, drop, length, slice_get, All, Option, Some, None, Result, Ok, Err, IfOk, refl}
+use Rattle.std.specs.List.{list_all}
 use Rattle.std.proofs.Common.{sym, ap, ◌∙◌, subst, arith}
 use Rattle.std.proofs.lemmas.Bool.{le-leb}
 use Rattle.std.proofs.lemmas.Int.{ints}
@@ -24,13 +24,13 @@ use Rattle.isa_model.specs.Code.Instructions.{Program}
 use Rattle.isa_model.specs.Code.MapRows.{KeyFits, IsRow}
 use Rattle.isa_model.specs.Machine.States.{reg, content_of, frame_at, new_frame}
 use Rattle.isa_model.specs.Machine.States as Machine
-use Rattle.isa_model.specs.Machine.Memory.{and_then, is_byte, is_unwritten, byte_in, index_from, index_at, entry_at, read}
+use Rattle.isa_model.specs.Machine.Memory.{and_then, is_byte, byte_in, index_from, index_at, entry_at, read}
 use Rattle.isa_model.specs.Machine.MachineStates.{IsState, IsClock, IsCallFrame}
-use Rattle.isa_model.specs.Machine.MapContents.{at_key, update_answer, delete_answer}
+use Rattle.isa_model.specs.Machine.MapContents.{update_answer, delete_answer}
 use Rattle.isa_model.specs.Machine.MapHelpers.{Helped, map_lookup_elem, map_update_elem, map_delete_elem}
 use Rattle.isa_model.specs.Machine.HelperCalls.{MapArgument, map_of_row, map_argument, BytesArgument, bytes_argument, number_argument, bytes_in, bytes_at, lookup_call, update_call, delete_call, ktime_get_ns, helper_call, answered, after_call}
 use Rattle.isa_model.specs.Machine.HelperStates.{IsHelped, helper_call_fits, IsState-answered}
-use Rattle.isa_model.specs.Machine.ByteCells.{list_any-is_unwritten-Byte, list_all-is_byte-Byte, take-drop-Byte}
+use Rattle.isa_model.specs.Machine.ByteCells.{list_all-is_byte-Byte, take-drop-Byte}
 use Rattle.reg_state.specs.declared.kinds.Kind.{Kind}
 use Rattle.reg_state.specs.declared.kinds.Kind.TheVariants.{Number, Stack, Packet, Map, MapValue, MapValueOrNull}
 use Rattle.reg_state.specs.Kinds.{Assigned, Allows}
@@ -38,24 +38,19 @@ use Rattle.stack_state.specs.declared.states.State.{State}
 use Rattle.stack_state.specs.Meaning.{slots_of, MeansBy}
 use Rattle.stack_state.specs.MeaningLaws.{reg_allowed, depth_is_length}
 use Rattle.stack_state.specs.Places.{kind_of}
-use Rattle.stack_state.specs.Slots.{IsAnyNumber}
 use Rattle.stack_state.specs.StackMeaning.{part_of}
 use Rattle.stack_state.specs.CellLaws.{none_unwritten}
 use Rattle.stack_state.specs.StackLaws.{marked_are_bytes}
 use Rattle.stack_state.specs.FillLaws.{any_number}
 use Rattle.stack_state.specs.FrameLaws.{IsHere, read_here}
 use Rattle.stack_state.specs.FramePlaceLaws.{frame_index-serial}
-use Rattle.stack_state.specs.Identities.{IsLeastFreshNull}
-use Rattle.stack_state.specs.Effects.{forgotten_in}
 use Rattle.stack_state.specs.Answers.{with_answer}
 use Rattle.stack_state.specs.HelperEffects.{MeansBy-answered, MeansBy-looked_up, MeansBy-update, MeansBy-asked, MeansBy-delete}
 use Rattle.transfer.specs.declared.refusals.Refusal.{Refusal}
 use Rattle.transfer.specs.declared.helpers.CalledMap.{CalledMap}
 use Rattle.transfer.specs.Refusing.{is_untested}
-use Rattle.transfer.specs.Packets.{AreInPacket}
 use Rattle.transfer.specs.PacketLaws.{packet_place}
 use Rattle.transfer.specs.StackAccessLaws.{GoesInto}
-use Rattle.transfer.specs.Values.{value_size, AreInValue}
 use Rattle.transfer.specs.ValueLaws.{IsAt, at_value, GoesIntoSome}
 use Rattle.transfer.specs.HelperCalls.{map_with_row, called_map, points_to_bytes, is_number, judged, key_arguments, update_arguments, AreInFrame, AreKnown, KeyIsKnown, ValueIsKnown, AnswersNumber, AnswersValue, without_values, LeavesIf, Helps, CallsHelper}
 

@@ -1,6 +1,4 @@
-use Rattle.std.proofs.Common.{refl, subst, rules, w64, arith}
-use Rattle.std.specs.Prelude.{FitsSigned}
-use Rattle.std.specs.Int.{w32, cast_signed, cast_unsigned}
+use Rattle.std.proofs.Common.{refl, subst}
 use Rattle.isa_model.specs.declared.instructions.AluOp.TheVariants.{Sub}
 use Rattle.ranges.specs.Lows.{Has}
 use Rattle.ranges.proofs.LowResults.{low_of_extended, signed_kept, widened}

@@ -1,4 +1,4 @@
-use Rattle.std.proofs.Common.{ℕ, ◌≢◌, ◌%◌, ◌^◌, subst, refl, sym, ◌∙◌}
+use Rattle.std.proofs.Common.{ℕ, ◌≢◌, ◌%◌, ◌^◌, subst, sym, ◌∙◌}
 use Rattle.std.proofs.lemmas.Option.{IfSome_then, none-some}
 use Rattle.ranges.specs.Lows.{IsLimit}
 use Rattle.ranges.specs.Ranges.{Has}

@@ -1,6 +1,4 @@
-use Rattle.std.proofs.Common.{◌%◌, ◌^◌, subst, sym, ap, arith, ℕ}
-use Rattle.std.proofs.lemmas.Int.{ints}
-use Rattle.isa_model.specs.Code.Numbers.{sign_extended}
+use Rattle.std.proofs.Common.{◌%◌, ◌^◌, subst, sym, ℕ}
 use Rattle.ranges.specs.Keeps.{extension_signed}
 use Rattle.ranges.specs.Lows.{Has}
 use Rattle.ranges.specs.FitsLaws.{narrower_fits}

@@ -1,9 +1,8 @@
-use Rattle.std.proofs.Common.{ℕ, ◌≡◌, ◌≤◌, ◌<◌, ◌%◌, ◌^◌, ◌∙◌, sym, subst, ap, inl, inr, w64, arith}
-use Rattle.std.specs.Int.{cast_signed, cast_unsigned}
+use Rattle.std.proofs.Common.{ℕ, ◌≡◌, ◌≤◌, ◌%◌, ◌^◌, ◌∙◌, sym, subst, ap, inl, inr, w64, arith}
+use Rattle.std.specs.Int.{cast_unsigned}
 use Rattle.std.proofs.lemmas.Int.{ints, of_z-to_z}
 use Rattle.isa_model.specs.Code.NumberLemmas.{signed_equation}
 use Rattle.ranges.specs.Joint.{IsAmong}
-use Rattle.ranges.specs.Wides as W
 use Rattle.ranges.specs.Lows as L
 use Rattle.ranges.specs.Ranges.{Has, HasLow}
 use Rattle.ranges.specs.declared.range.Range.{Range}

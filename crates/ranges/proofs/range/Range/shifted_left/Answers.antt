@@ -1,10 +1,8 @@
-use Rattle.std.proofs.Common.{◌≡◌, subst, ap, sym, ◌∙◌, arith}
+use Rattle.std.proofs.Common.{◌≡◌, subst, sym, ◌∙◌, arith}
 use Rattle.std.proofs.lemmas.Int.{ints}
 use Rattle.isa_model.specs.declared.sizes.Width.TheVariants.{Full64}
-use Rattle.isa_model.specs.declared.instructions.AluOp.TheVariants.{Lsh}
-use Rattle.isa_model.specs.Code.Numbers.{alu, shift}
+use Rattle.isa_model.specs.Code.Numbers.{shift}
 use Rattle.ranges.specs.Wides as W
-use Rattle.ranges.specs.KeepsMaps.{keeps_map}
 use Rattle.ranges.proofs.Raised.{shifted_raised}
 use Rattle.ranges.proofs.range.Range.shifted_left.Goals as goal
 

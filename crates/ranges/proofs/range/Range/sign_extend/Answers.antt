@@ -1,12 +1,8 @@
-use Rattle.std.proofs.Common.{◌≡◌, ◌%◌, ◌^◌, arith, subst, ap, ◌∙◌, w64}
-use Rattle.std.specs.Int.{w32, cast_signed}
-use Rattle.std.proofs.lemmas.Int.{ints}
+use Rattle.std.proofs.Common.{◌≡◌, ◌%◌, ◌^◌, arith, subst, ap, ◌∙◌}
 use Rattle.isa_model.specs.Code.Numbers.{sign_extended}
 use Rattle.isa_model.specs.Code.ExtensionLemmas.{sign_extended_below}
 use Rattle.ranges.specs.Keeps.{extension_signed}
 use Rattle.ranges.specs.Ranges.{Has}
-use Rattle.ranges.specs.declared.wide.Wide.{Wide}
-use Rattle.ranges.specs.declared.low.Low.{Low}
 use Rattle.ranges.proofs.Limits.{extended_same, extended_signed, extended_small}
 use Rattle.ranges.proofs.Extended.{extended_half, half_extended_signed}
 use Rattle.ranges.specs.FitsLaws.{narrower_fits}

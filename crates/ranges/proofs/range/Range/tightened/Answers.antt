@@ -1,4 +1,4 @@
-use Rattle.std.proofs.Common.{ℕ, ◌^◌, inl, inr, arith}
+use Rattle.std.proofs.Common.{◌^◌, inl, inr}
 use Rattle.std.proofs.lemmas.Bool.{cases_lt}
 use Rattle.std.proofs.lemmas.Option.{IfSome_then}
 use Rattle.ranges.specs.EnclosesLaws.{enclosed_has}

@@ -1,5 +1,3 @@
-use Rattle.std.proofs.Common.{ℕ, subst, sym}
-use Rattle.known_bits.specs.Bits as B
 use Rattle.reg_state.specs.Constants.{range_constant_enclosed}
 use Rattle.reg_state.proofs.scalars.Scalar.includes.Goals as goal
 
