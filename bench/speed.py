@@ -269,10 +269,10 @@ def compared(name, text, stream):
 def main():
     rows = [
         ("packet parse, 64 in a frame", PARSE, packets(5000)),
-        ("loop of 2 instructions", counted(499_998), plain(100)),
-        ("loop of 7 instructions", SEVEN, plain(150)),
-        ("3,000 straight slots, 5 forms in turn", straight(3_000), plain(20_000)),
-        ("3,000 straight slots, forms at random", mixed(3_000), plain(8_000)),
+        ("loop of 2 instructions", counted(499_998), plain(400)),
+        ("loop of 7 instructions", SEVEN, plain(300)),
+        ("3,000 straight slots, 5 forms in turn", straight(3_000), plain(40_000)),
+        ("3,000 straight slots, forms at random", mixed(3_000), plain(20_000)),
         ("byte loop over a stack frame", FRAME, plain(800)),
         ("byte loop over a packet", PACKET, packets(2000)),
         ("ten branches on a packet, 64 in a frame", branches(), packets(3000)),
