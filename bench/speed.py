@@ -276,7 +276,7 @@ def main():
         ("byte loop over a stack frame", FRAME, plain(800)),
         ("byte loop over a packet", PACKET, packets(2000)),
         ("ten branches on a packet, 64 in a frame", branches(), packets(3000)),
-        ("array map: look-up, atomic add, update", MAP, plain(1_500)),
+        ("array map: look-up, atomic add, store", MAP, plain(1_500)),
     ]
     with tempfile.TemporaryDirectory() as folder:
         os.chdir(folder)
