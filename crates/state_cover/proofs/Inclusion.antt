@@ -1,5 +1,5 @@
 -- Where each frame covers the other state's, what the other state means is meant.
-use Rattle.std.proofs.Common.{◌≡◌, ◌∙◌, ℕ, zero, suc, ◌<◌, ◌≤◌, ◌++◌, inl, inr, List, [], ◌∷◌, length, map, get_or, refl, sym, ap, arith}
+use Rattle.std.proofs.Common.{◌≡◌, ◌∙◌, ℕ, zero, suc, ◌<◌, ◌≤◌, ◌++◌, inl, inr, List, [], ◌∷◌, length, map, get_or, refl, ap, arith}
 use Rattle.std.proofs.lemmas.List.{get_or_past}
 use Rattle.std.proofs.lemmas.Bool.{cases_lt}
 use Rattle.isa_model.specs.declared.values.Cell.{Cell}
@@ -15,9 +15,9 @@ use Rattle.stack_state.specs.declared.states.State.{State}
 use Rattle.stack_state.specs.Slots.{slot_at}
 use Rattle.stack_state.specs.StackMeaning.{SlotMeans}
 use Rattle.stack_state.specs.StackLaws.{SlotMeans-spilled, SlotMeans-marks}
-use Rattle.stack_state.specs.Meaning.{Covers, Means, MeansBy, kind_at, frames_of, no_frame, frame_of}
+use Rattle.stack_state.specs.Meaning.{Covers, Means, kind_at, frames_of, no_frame, frame_of}
 use Rattle.stack_state.specs.MeaningLaws.{FrameKeeps, MeansBy-change}
-use Rattle.state_cover.specs.FrameCover.{FrameCovers, KindsCover, SlotCovers, SlotsCover}
+use Rattle.state_cover.specs.FrameCover.{FrameCovers, KindsCover, SlotCovers}
 
 -- past the last register a kind is Unset, which covers every kind
 kind_covers_past : (packet null : ℕ → ℕ) (xs ys : List Kind) (k : ℕ) → length xs ≤ k
