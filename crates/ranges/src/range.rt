@@ -1,7 +1,7 @@
 //! Ranges: the type, common numbers and inclusion.
 
-ghost use Rattle.std.specs.Prelude.{◌≡◌, ℕ, ◌%◌, ◌^◌, ◌<◌, ◌≤◌, ◌≤ℤ◌, ◌⊎◌, ◌↔◌, Some, IsSomeAnd, IfSome};
-ghost use Rattle.std.specs.Prelude.{IsTrue};
+ghost use Rattle.std.specs.Prelude.{◌≡◌, ℕ, ◌%◌, ◌^◌, ◌<◌, ◌≤◌, ◌≤ℤ◌, ◌⊎◌, ◌↔◌, Some};
+ghost use Rattle.std.specs.Prelude.{IsSomeAnd, IfSome, IsTrue};
 ghost use Rattle.std.specs.Int.{w64, cast_signed, cast_unsigned};
 ghost use Rattle.isa_model.specs.Code.Sizes.{width_bits};
 ghost use Rattle.ranges.specs.Lows as L;
@@ -74,7 +74,8 @@ impl Range {
         requires { least ≤ℤ greatest }
         ensures members { (x : ℕ) → (Has result x
             ↔ ((x < 2 ^ 64) × (least ≤ℤ cast_signed w64 x) × (cast_signed w64 x ≤ℤ greatest))) }
-        ensures limits { (result.wide.signed_least ≡ least) × (result.wide.signed_greatest ≡ greatest) }
+        ensures limits { (result.wide.signed_least ≡ least)
+            × (result.wide.signed_greatest ≡ greatest) }
         ensures unsigned { cast_unsigned w64 least ≤ cast_unsigned w64 greatest
             → (result.wide.least ≡ cast_unsigned w64 least)
             × (result.wide.greatest ≡ cast_unsigned w64 greatest) }

@@ -180,8 +180,8 @@ impl Range {
         ensures common { (x : ℕ) → Has self x → x ≢ number → IsSomeAnd result (λ r. Has r x) }
         ensures left { IfSome result (λ r. (x : ℕ) → Has r x → Has self x) }
         ensures enclosed { IfSome result (Encloses self) }
-        ensures limit { IfSome result (λ r. (self.wide.least ≡ number) ⊎ (self.wide.greatest ≡ number)
-            → Has r number → ⊥) }
+        ensures limit { IfSome result (λ r. (self.wide.least ≡ number)
+            ⊎ (self.wide.greatest ≡ number) → Has r number → ⊥) }
     {
         if self.wide.least == number {
             if number == u64::MAX {

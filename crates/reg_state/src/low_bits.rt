@@ -50,7 +50,8 @@ pub(crate) fn plain_pair(a: Bits, b: Bits, halves: Option<(Bits, Bits)>) -> Opti
 // The same, where they are extended by their signs.
 pub(crate) fn signed_pair(a: Bits, b: Bits, halves: Option<(Bits, Bits)>) -> Option<(Bits, Bits)>
     ensures common { (x y : ℕ) → Has a x → Has b y
-        → IsSomeAnd halves (λ p. Has p.0 (sign_extended Full32 x) × Has p.1 (sign_extended Full32 y))
+        → IsSomeAnd halves
+        (λ p. Has p.0 (sign_extended Full32 x) × Has p.1 (sign_extended Full32 y))
         → IsSomeAnd result (λ p. Has p.0 x × Has p.1 y) }
     ensures left { IfSome result (λ p. (x : ℕ) → Has p.0 x → Has a x) }
     ensures right { IfSome result (λ p. (y : ℕ) → Has p.1 y → Has b y) }

@@ -50,8 +50,8 @@ impl<'a> Ending<'a> {
         Ending { outcome, why }
     }
 
-    /// The task ended so, and then standard output is to hand on what it was given. Where it fails at
-    /// that, this is how the task ended. Where it was given nothing it is left as it is.
+    /// Flushes standard output after a task that ended so. A failed flush is how the task ended
+    /// then. Where standard output was given nothing it is left as it is.
     pub fn flushed<W: Write>(self, out: &mut W) -> Self
         ensures { HandsOn (W.contents out.old) (W.contents out.new) self.entry result }
     {
