@@ -23,12 +23,19 @@ static int breaks(const char *kind) {
     return 1;
 }
 
+/* whether an allocation is refused: one of them, or one and all after it */
+static int refused(void) {
+    static int from_here;
+    from_here |= breaks("allocs");
+    return from_here || breaks("alloc");
+}
+
 void *malloc(size_t size) {
-    return breaks("alloc") ? NULL : __libc_malloc(size);
+    return refused() ? NULL : __libc_malloc(size);
 }
 
 void *realloc(void *old, size_t size) {
-    return breaks("alloc") ? NULL : __libc_realloc(old, size);
+    return refused() ? NULL : __libc_realloc(old, size);
 }
 
 ssize_t read(int file, void *bytes, size_t count) {

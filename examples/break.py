@@ -8,8 +8,8 @@ import subprocess
 import sys
 from collections import Counter
 
-program, examples, work = sys.argv[1:]
-KINDS = ("alloc", "read", "write", "no-write", "short-read", "short-write")
+program, examples, work, *folders = sys.argv[1:]
+KINDS = ("alloc", "allocs", "read", "write", "no-write", "short-read", "short-write")
 
 
 def image(name):
@@ -44,6 +44,19 @@ RUNS = [
     ["verify", "lost"],
     ["walk"],
 ]
+
+
+def runs_of(folder):
+    """The commands on the images of a folder, and on their frames where there are some of the same name."""
+    for name in sorted(os.listdir(folder)):
+        stem, kind = os.path.splitext(os.path.join(folder, name))
+        if kind == ".image":
+            yield ["verify", f"{stem}.image"]
+            if os.path.exists(f"{stem}.frames"):
+                yield ["run", f"{stem}.image", f"{stem}.frames", "made"]
+                yield ["trace", f"{stem}.image", f"{stem}.frames", "made"]
+        elif kind == ".text":
+            yield ["asm", f"{stem}.text", "made"]
 
 
 def records(stream):
@@ -146,7 +159,7 @@ def of_short(words, found, good):
     return "unchanged" if found.is_as(good) else None
 
 
-ALLOWED = dict(zip(KINDS, (of_memory, of_read, of_write, of_write, of_short, of_short)))
+ALLOWED = dict(zip(KINDS, (of_memory, of_memory, of_read, of_write, of_write, of_short, of_short)))
 
 
 def comes_at_once():
@@ -181,7 +194,8 @@ def main():
     if not comes_at_once():
         wrong += 1
         print("WRONG the first line or the magic did not come before the second frame", flush=True)
-    for words, stored in itertools.product(RUNS, (False, True)):
+    runs = [words for folder in folders for words in runs_of(folder)] or RUNS
+    for words, stored in itertools.product(runs, (False, True)):
         good = Answer(words, stored=stored)
         for kind in KINDS:
             for call in range(1, 100000):
@@ -195,8 +209,8 @@ def main():
                     print("WRONG", kind, call, words, found.status, found.out, found.err, found.made, flush=True)
     for (kind, answer), count in sorted(given.items(), key=str):
         print(f"{count:6} {kind}: {answer}")
-    memory = sum(count for (kind, _), count in given.items() if kind == "alloc")
-    print(f"{sum(given.values())} refusals tried on {2 * len(RUNS)} runs, {memory} of memory: {wrong} wrong answers")
+    memory = sum(count for (kind, _), count in given.items() if kind.startswith("alloc"))
+    print(f"{sum(given.values())} refusals tried on {2 * len(runs)} runs, {memory} of memory: {wrong} wrong answers")
     sys.exit(1 if wrong or not memory else 0)
 
 

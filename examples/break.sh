@@ -1,9 +1,10 @@
 #!/bin/bash
 # Tries to break the program from outside: makes each allocation, each read and each write fail in turn, and each read
 # and write move only one byte in turn, for every command on the examples here. README.md says which answers are allowed;
-# the last line says how many were tried. It takes about half a minute.
-# usage: bash examples/break.sh [PROGRAM]
-# Without PROGRAM it takes the one that `rt run` keeps, and proves and builds it first if there is none.
+# the last line says how many were tried. It takes about a minute.
+# usage: bash examples/break.sh [PROGRAM [FOLDER]]
+# Without PROGRAM it takes the one that `rt run` keeps, and proves and builds it first if there is none. With FOLDER it
+# takes what is there: NAME.image, with NAME.frames if there are some, and NAME.text.
 set -eu
 here=$(cd "$(dirname "$0")" && pwd)
 program=${1:-$here/../crates/xdpvm/out/xdpvm}
@@ -17,4 +18,4 @@ if ! "${CC:-cc}" -O1 -fPIC -shared -o "$work/between.so" "$here/break.c"; then
     echo "a C compiler is needed: name one in CC" >&2
     exit 2
 fi
-python3 "$here/break.py" "$(realpath "$program")" "$here" "$work"
+python3 "$here/break.py" "$(realpath "$program")" "$here" "$work" ${2:+"$(realpath "$2")"}
