@@ -1,0 +1,116 @@
+#!/usr/bin/env python3
+"""Attacks the verifier rule by rule: sums that wrap and signs mixed, tests of the packet before and after moves, pointers
+overwritten in part, values that are gone, and pointers into frames that have ended.
+
+usage: python3 examples/attacks.py [PROGRAM] [--programs N] [--seed S] [--jobs J] [--keep FOLDER] [--family NAME]
+
+N programs of each family are made, as texts. Reported is each that `verify` accepts and `trace` ends with a trap or after
+more steps than the bound, or `run` and `trace` run differently; its text and frames are kept in FOLDER. A line for each
+family says how many were accepted, and why the others were refused. The exit status is 1 if anything was reported.
+"""
+import argparse
+import collections
+import json
+import os
+import random
+import shutil
+import struct
+import subprocess
+import sys
+import tempfile
+
+from attack_programs import CORNERS, EDGES, FAMILIES
+from fuzz import HERE, differs
+
+
+def frames(chance):
+    """Frames of many lengths, whose interface and queue are near the edges, small, or any."""
+    out = b"XPF1"
+    for length in [0, 1, 3, 4, 7, 8, 14, 15, 16, 22, 23, 24, 31, 40, 300] * 3:
+        words = [chance.choice([chance.choice(CORNERS), chance.choice(EDGES), chance.randrange(256), chance.randrange(2**32)]) for _ in range(2)]
+        out += struct.pack("<QIII", chance.randrange(2**64), *words, length) + bytes(length)
+    return out
+
+
+def tried(program, family, seed, folder):
+    """What is wrong with the answers for one seed (None: nothing), and the verdict's code."""
+    chance = random.Random(f"{family} {seed}")
+    paths = [os.path.join(folder, name) for name in ("image", "frames", "sent", "resent")]
+    text = os.path.join(folder, "text")
+    with open(text, "w") as file:
+        file.write("\n".join(FAMILIES[family](chance)) + "\n")
+    with open(paths[1], "wb") as file:
+        file.write(frames(chance))
+
+    def run(*words):
+        return subprocess.run([program, *words], stdin=subprocess.DEVNULL, stdout=subprocess.PIPE, stderr=subprocess.PIPE)
+
+    made = run("asm", text, paths[0])
+    if made.returncode != 0:
+        return f"asm: {made}", "no image"
+    verdict = run("verify", paths[0])
+    said = verdict.stdout.decode().split()
+    if (verdict.returncode, said[:1]) == (2, ["refused"]):
+        return None, said[1]
+    if (verdict.returncode, said[:2]) != (0, ["ok", "bound"]):
+        return f"verify: {verdict}", "no verdict"
+    return differs(paths, int(said[2]), run), "accepted"
+
+
+def worker(asked, family, first, out):
+    folder, counts, found = tempfile.mkdtemp(), collections.Counter(), 0
+    for seed in range(first, asked.seed + asked.programs, asked.jobs):
+        wrong, code = tried(os.path.abspath(asked.program), family, seed, folder)
+        counts[code] += 1
+        if wrong:
+            found += 1
+            os.makedirs(asked.keep, exist_ok=True)
+            for name in ("text", "frames"):
+                shutil.copy(os.path.join(folder, name), os.path.join(asked.keep, f"{family}-{seed}.{name}"))
+            print(f"{family} {seed}: {wrong}", flush=True)
+    shutil.rmtree(folder)
+    with os.fdopen(out, "w") as file:
+        json.dump((counts, found), file)
+
+
+def attacked(asked, family):
+    """The verdicts on the programs of a family, and how many were found."""
+    children = []
+    for job in range(asked.jobs):
+        back, out = os.pipe()
+        if os.fork() == 0:
+            os.close(back)
+            worker(asked, family, asked.seed + job, out)
+            os._exit(0)
+        os.close(out)
+        children.append(back)
+    counts, found = collections.Counter(), 0
+    for back in children:
+        with os.fdopen(back) as file:
+            part, some = json.load(file)
+        counts.update(part)
+        found += some
+    return counts, found
+
+
+def main():
+    words = argparse.ArgumentParser(description=__doc__.split("\n")[0])
+    words.add_argument("program", nargs="?", default=os.path.join(HERE, "../crates/xdpvm/out/xdpvm"))
+    words.add_argument("--programs", type=int, default=2_000)
+    words.add_argument("--seed", type=int, default=1)
+    words.add_argument("--jobs", type=int, default=os.cpu_count())
+    words.add_argument("--keep", default="found", help="folder for what is found")
+    words.add_argument("--family", choices=FAMILIES, action="append", help="only this family")
+    asked = words.parse_args()
+    every, findings = collections.Counter(), 0
+    for family in asked.family or FAMILIES:
+        counts, found = attacked(asked, family)
+        print(f"{family}: " + ", ".join(f"{code} {count}" for code, count in counts.most_common()), flush=True)
+        every.update(counts)
+        findings += found
+    print(f"{sum(every.values())} programs, {every['accepted']} accepted, {findings} findings")
+    sys.exit(1 if findings else 0)
+
+
+if __name__ == "__main__":
+    main()
