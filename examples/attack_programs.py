@@ -48,18 +48,19 @@ def change(chance):
 
 def limit(chance, number=2):
     """One or two tests that leave small numbers, if sign and width are right."""
-    target = register(chance, number)
+    target, other = register(chance, number), register(chance, number)
     return chance.choice([
         [f"if {target} > {constant(chance, [63, 31])} goto out"],
         [f"if {target} >= {constant(chance, [64, 32])} goto out"],
         [f"if {target} s> {constant(chance, [63, 31])} goto out"],
-        [f"if {target} s> {constant(chance, [63])} goto out", f"if {register(chance, number)} s< {constant(chance, [0])} goto out"],
-        [f"if {target} s< {constant(chance, [0])} goto out", f"if {register(chance, number)} > {constant(chance, [63])} goto out"],
+        [f"if {target} s> {constant(chance, [63])} goto out", f"if {other} s< {constant(chance, [0])} goto out"],
+        [f"if {target} s< {constant(chance, [0])} goto out", f"if {other} > {constant(chance, [63])} goto out"],
         [f"if {target} < {constant(chance, [64])} goto +1", "goto out"],
         [f"if {target} & {constant(chance, [-64, -32, 2**31 - 64])} goto out"],
         [f"{target} &= {constant(chance, [63, 31, 15])}"],
         [f"{target} %= {constant(chance, [64, 32])}"],
-        [f"if {target} {chance.choice(TESTS)} {constant(chance, [63, 0, -1, -64])} goto out", f"{register(chance, number)} &= {constant(chance, [127, 63])}"],
+        [f"if {target} {chance.choice(TESTS)} {constant(chance, [63, 0, -1, -64])} goto out",
+         f"{other} &= {constant(chance, [127, 63])}"],
     ])
 
 
@@ -74,7 +75,8 @@ def sums(chance):
     place = chance.choice([0, 0, 0, 1, -1, 1 - SIZES[size]])
     lines += chance.choice([["r4 = map_val(map_by_idx(0)) + 0"], ["r4 = r10", "r4 += -64"]])
     lines += chance.choice([["r4 += r2"], ["r4 += r2"], ["r4 -= r2", "r4 += 63"], ["r4 += r2", "r4 += r3", "r4 -= r3"]])
-    lines += chance.choice([[f"r0 = *({size} *)(r4 + {place})".replace("+ -", "- ")], [f"*({size} *)(r4 + {place}) = r3".replace("+ -", "- ")]])
+    at = f"*({size} *)(r4 + {place})".replace("+ -", "- ")
+    lines.append(chance.choice([f"r0 = {at}", f"{at} = r3"]))
     fill = [f"*(u64 *)(r10 - {at}) = 0" for at in range(8, 65, 8)]
     return program(["map array 4 64 1"], fill + lines, {})
 
@@ -86,9 +88,10 @@ def lengths(chance):
     lines += chance.choice([[], unknown, unknown + ["r8 = r4"]])
     size = chance.randrange(1, 24)
     lines += [f"r4 += {size}"] + chance.choice([[], [], [], ["r4 += r5"], ["r8 = r4"]])
-    yes = chance.choice([["if r4 > r3 goto out"], ["if r3 < r4 goto out"], ["if r4 >= r3 goto out"], ["if r3 <= r4 goto out"],
-                         ["if r4 <= r3 goto +1", "goto out"], ["if r3 >= r4 goto +1", "goto out"], ["if r4 < r3 goto +1", "goto out"]])
-    lines += yes
+    lines += chance.choice([
+        ["if r4 > r3 goto out"], ["if r3 < r4 goto out"], ["if r4 >= r3 goto out"], ["if r3 <= r4 goto out"],
+        ["if r4 <= r3 goto +1", "goto out"], ["if r3 >= r4 goto +1", "goto out"], ["if r4 < r3 goto +1", "goto out"],
+    ])
     moves = [["r8 += 1"], ["r4 += -1"], ["r4 -= r5"], ["r8 += r5"], ["r5 &= 3", "r8 += r5"], ["r7 = r4", "r7 += -4", "r4 = r7"],
              ["*(u64 *)(r10 - 8) = r4", "r4 += 8", "r4 = *(u64 *)(r10 - 8)"], ["r8 = r4", "r8 += r5"], ["r8 = r2"]]
     lines += sum((chance.choice(moves) for _ in range(chance.choice([0, 0, 1, 1, 2]))), [])
@@ -118,8 +121,9 @@ def spills(chance):
         ["r2 = *(u32 *)(r1 + 16)", "r2 &= 7", "r3 = r10", f"r3 += {place - 7}", "r3 += r2", "*(u8 *)(r3 + 0) = 1"],
         ["r1 = r10", f"r1 += {place}", "call write"], ["r2 = 0", f"r2 = xchg_64(r10 - 8, r2)", "*(u64 *)(r10 - 16) = r2"],
     ])
-    back = chance.choice(["u64", "u64", "u64", "u32"])
-    lines += [f"r7 = *({back} *)(r10 - {chance.choice([8, 8, 8, 16])})", f"r0 = *({chance.choice(['u8', 'u32'])} *)(r7 - {chance.choice([0, 0, 1, 8])})"]
+    back, size = chance.choice(["u64", "u64", "u64", "u32"]), chance.choice(["u8", "u32"])
+    lines.append(f"r7 = *({back} *)(r10 - {chance.choice([8, 8, 8, 16])})")
+    lines.append(f"r0 = *({size} *)(r7 - {chance.choice([0, 0, 1, 8])})")
     return program(["map array 4 64 1"], lines, {"write": ["*(u8 *)(r1 + 0) = 3", "r0 = 0"]})
 
 
@@ -133,7 +137,8 @@ def freed(chance):
     own = chance.choice(maps)
     fill = ["*(u64 *)(r10 - 8) = 0", "*(u64 *)(r10 - 24) = 1", "*(u64 *)(r10 - 32) = 2", "*(u64 *)(r10 - 40) = 0"]
     lines = fill + chance.choice([put(own), []]) + find(own)
-    lines += chance.choice([["if r0 == 0 goto out"], ["if r0 == 0 goto out"], ["if r0 != 0 goto +1", "goto out"], [], ["r9 = r0", "if r9 == 0 goto out"]])
+    found = ["if r0 == 0 goto out"]
+    lines += chance.choice([found, found, ["if r0 != 0 goto +1", "goto out"], [], ["r9 = r0", "if r9 == 0 goto out"]])
     lines += chance.choice([["r7 = r0"], ["*(u64 *)(r10 - 40) = r0"], ["r7 = r0", "*(u64 *)(r10 - 40) = r0"]])
     between = [[], delete(chance.choice(maps)), put(chance.choice(maps)), find(own) + ["r7 = r0"], find(own), ["call remove"],
                find(own) + ["if r0 == 0 goto out"], ["call 5"]]
@@ -151,14 +156,23 @@ def frames(chance):
     give = [["r1 = r10", "r1 += -8"], ["r1 = r10", "r1 += -16"], ["r1 = r10", "r1 += -16"], ["r1 = r6"], []]
     lines = keep + chance.choice(give) + ["call first"]
     again = ["r1 = r0", "call second"]
-    lines += chance.choice([[], again, again, chance.choice(give) + ["call second"], ["r7 = *(u64 *)(r10 - 8)", "r1 = r7", "call second"]])
-    lines += chance.choice([["r7 = r0"], ["r7 = *(u64 *)(r10 - 8)"], ["r7 = r6"], ["r7 = r6", "r7 += -8"], ["r7 = r9"]])
+    stored = ["r7 = *(u64 *)(r10 - 8)", "r1 = r7", "call second"]
+    lines += chance.choice([[], again, again, chance.choice(give) + ["call second"], stored])
+    lines += chance.choice([
+        ["r7 = r0"], ["r7 = *(u64 *)(r10 - 8)"], ["r7 = r6"], ["r7 = r6", "r7 += -8"], ["r7 = r9"],
+    ])
     lines += chance.choice([[], [f"r0 = *(u64 *)(r7 - {chance.choice([0, 8, 8, 16])})"]])
-    first = chance.choice([["r0 = r10"], ["r0 = r10", "r0 += -8"], ["r0 = r10", "r0 += -8"], ["r0 = r1", "r0 += 8"], ["*(u64 *)(r10 - 8) = 3", "r0 = r10"], ["*(u64 *)(r1 + 0) = r10", "r0 = 0"],
-                           ["r2 = r10", "r2 += -8", "*(u64 *)(r2 + 0) = 6", "*(u64 *)(r1 + 0) = r2", "r0 = 1"], ["r9 = r10", "r0 = r1"], ["r0 = r1"], ["r6 = r1", "r0 = 0"],
-                           ["*(u64 *)(r10 - 8) = 1", "r1 = r10", "r1 += -8", "call second"], ["r0 = 3", "*(u64 *)(r1 + 0) = 3"]])
-    second = chance.choice([["r0 = *(u64 *)(r1 + 0)"], ["*(u64 *)(r10 - 8) = 1", "r0 = *(u64 *)(r1 + 0)"], ["r0 = *(u64 *)(r1 - 8)"], ["*(u64 *)(r1 + 0) = 9", "r0 = 0"], ["r0 = *(u64 *)(r10 - 8)"],
-                            ["r0 = r1"], ["r0 = *(u64 *)(r1 + 0)", "r0 = *(u64 *)(r0 + 0)"], ["r0 = *(u8 *)(r6 + 0)"]])
+    first = chance.choice([
+        ["r0 = r10"], ["r0 = r10", "r0 += -8"], ["r0 = r10", "r0 += -8"], ["r0 = r1", "r0 += 8"], ["r0 = r1"],
+        ["*(u64 *)(r10 - 8) = 3", "r0 = r10"], ["*(u64 *)(r1 + 0) = r10", "r0 = 0"], ["r0 = 3", "*(u64 *)(r1 + 0) = 3"],
+        ["r2 = r10", "r2 += -8", "*(u64 *)(r2 + 0) = 6", "*(u64 *)(r1 + 0) = r2", "r0 = 1"],
+        ["r9 = r10", "r0 = r1"], ["r6 = r1", "r0 = 0"], ["*(u64 *)(r10 - 8) = 1", "r1 = r10", "r1 += -8", "call second"],
+    ])
+    second = chance.choice([
+        ["r0 = *(u64 *)(r1 + 0)"], ["*(u64 *)(r10 - 8) = 1", "r0 = *(u64 *)(r1 + 0)"], ["r0 = *(u64 *)(r1 - 8)"],
+        ["*(u64 *)(r1 + 0) = 9", "r0 = 0"], ["r0 = *(u64 *)(r10 - 8)"], ["r0 = r1"],
+        ["r0 = *(u64 *)(r1 + 0)", "r0 = *(u64 *)(r0 + 0)"], ["r0 = *(u8 *)(r6 + 0)"],
+    ])
     return program([], lines, {"first": first, "second": second})
 
 

@@ -27,7 +27,8 @@ def frames(chance):
     """Frames of many lengths, whose interface and queue are near the edges, small, or any."""
     out = b"XPF1"
     for length in [0, 1, 3, 4, 7, 8, 14, 15, 16, 22, 23, 24, 31, 40, 300] * 3:
-        words = [chance.choice([chance.choice(CORNERS), chance.choice(EDGES), chance.randrange(256), chance.randrange(2**32)]) for _ in range(2)]
+        some = lambda: [chance.choice(CORNERS), chance.choice(EDGES), chance.randrange(256), chance.randrange(2**32)]
+        words = [chance.choice(some()) for _ in range(2)]
         out += struct.pack("<QIII", chance.randrange(2**64), *words, length) + bytes(length)
     return out
 
