@@ -5,7 +5,7 @@ overwritten in part, values that are gone, and pointers into frames that have en
 usage: python3 examples/attacks.py [PROGRAM] [--programs N] [--seed S] [--jobs J] [--keep FOLDER] [--family NAME]
 
 N programs of each family are made, as texts. Reported is each that `verify` accepts and `trace` ends with a trap or after
-more steps than the bound, or `run` and `trace` run differently; its text and frames are kept in FOLDER. A line for each
+more steps than the bound, or `run` and `trace` run differently, or that takes more than a minute; its text and frames are kept in FOLDER. A line for each
 family says how many were accepted, and why the others were refused. The exit status is 1 if anything was reported.
 """
 import argparse
@@ -20,7 +20,7 @@ import sys
 import tempfile
 
 from attack_programs import CORNERS, EDGES, FAMILIES
-from fuzz import HERE, differs
+from fuzz import HERE, SECONDS, differs, runner
 
 
 def frames(chance):
@@ -43,9 +43,7 @@ def tried(program, family, seed, folder):
     with open(paths[1], "wb") as file:
         file.write(frames(chance))
 
-    def run(*words):
-        return subprocess.run([program, *words], stdin=subprocess.DEVNULL, stdout=subprocess.PIPE, stderr=subprocess.PIPE)
-
+    run = runner(program)
     made = run("asm", text, paths[0])
     if made.returncode != 0:
         return f"asm: {made}", "no image"
@@ -61,7 +59,10 @@ def tried(program, family, seed, folder):
 def worker(asked, family, first, out):
     folder, counts, found = tempfile.mkdtemp(), collections.Counter(), 0
     for seed in range(first, asked.seed + asked.programs, asked.jobs):
-        wrong, code = tried(os.path.abspath(asked.program), family, seed, folder)
+        try:
+            wrong, code = tried(os.path.abspath(asked.program), family, seed, folder)
+        except subprocess.TimeoutExpired as late:
+            wrong, code = f"no answer in {SECONDS} seconds: {late.cmd[1]}", "no answer"
         counts[code] += 1
         if wrong:
             found += 1

@@ -5,8 +5,8 @@ maps, helpers and functions, and runs those that are accepted on random frames.
 usage: python3 examples/fuzz.py [PROGRAM] [--programs N] [--seed S] [--jobs J] [--keep FOLDER] [--ways]
 
 Reported is each accepted program that `trace` ends with a trap or after more steps than the bound, or that `run` and
-`trace` run differently; and each refusal whose way (the jumps on standard error) is none of the program. The program
-and its frames are kept in FOLDER. Most programs are right by construction up to one or two changes, such as a limit that
+`trace` run differently; each refusal whose way (the jumps on standard error) is none of the program; and each command
+that takes more than a minute. The program and its frames are kept in FOLDER. Most programs are right by construction up to one or two changes, such as a limit that
 is off by one, so that about half are accepted. The last line counts. The exit status is 1 if anything was reported.
 """
 import argparse
@@ -23,6 +23,7 @@ import tempfile
 from random_programs import Maker
 
 HERE = os.path.dirname(os.path.abspath(__file__))
+SECONDS = 60
 
 
 def frames(chance):
@@ -93,6 +94,12 @@ def differs(paths, bound, run):
     return None if same and traced.returncode == 0 else f"run and trace differ: {ran.stdout} {traced.stdout}"
 
 
+def runner(program):
+    """Runs the program with these words, for a minute at most."""
+    quiet = {"stdin": subprocess.DEVNULL, "stdout": subprocess.PIPE, "stderr": subprocess.PIPE}
+    return lambda *words: subprocess.run([program, *words], timeout=SECONDS, **quiet)
+
+
 def tried(program, seed, folder, ways):
     """What is wrong with the answers for one seed (None: nothing), and the verdict's code."""
     maker = Maker(seed)
@@ -101,9 +108,7 @@ def tried(program, seed, folder, ways):
         with open(path, "wb") as file:
             file.write(data)
 
-    def run(*words):
-        return subprocess.run([program, *words], stdin=subprocess.DEVNULL, stdout=subprocess.PIPE, stderr=subprocess.PIPE)
-
+    run = runner(program)
     verdict = run("verify", paths[0])
     said = verdict.stdout.decode().split()
     if (verdict.returncode, said[:1]) == (2, ["refused"]):
@@ -116,7 +121,10 @@ def tried(program, seed, folder, ways):
 def worker(program, seeds, keep, ways, out):
     folder, counts, found = tempfile.mkdtemp(), collections.Counter(), 0
     for seed in seeds:
-        wrong, code = tried(program, seed, folder, ways)
+        try:
+            wrong, code = tried(program, seed, folder, ways)
+        except subprocess.TimeoutExpired as late:
+            wrong, code = f"no answer in {SECONDS} seconds: {late.cmd[1]}", "no answer"
         counts[code] += 1
         if wrong:
             found += 1
