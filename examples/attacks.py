@@ -5,8 +5,9 @@ overwritten in part, values that are gone, and pointers into frames that have en
 usage: python3 examples/attacks.py [PROGRAM] [--programs N] [--seed S] [--jobs J] [--keep FOLDER] [--family NAME]
 
 N programs of each family are made, as texts. Reported is each that `verify` accepts and `trace` ends with a trap or after
-more steps than the bound, or `run` and `trace` run differently, or that takes more than a minute; its text and frames are kept in FOLDER. A line for each
-family says how many were accepted, and why the others were refused. The exit status is 1 if anything was reported.
+more steps than the bound, or that `run` and `trace` run differently, and each that takes more than a minute; its text
+and frames are kept in FOLDER. A line for each family says how many were accepted, and why the others were refused. The
+exit status is 1 if anything was reported.
 """
 import argparse
 import collections
