@@ -4,12 +4,12 @@
 
 use crate::limits::Limits;
 use crate::lists::{Link, list_of};
-use crate::trees::Tree;
+use crate::trees::{Sought, Tree};
 use std::alloc::{AllocError, Global};
 use std::mem;
 
 /// How many entries are looked at on arrival at a state before trees of them are thought of.
-pub const LONG_WALK: usize = 128;
+pub const LONG_WALK: usize = 32;
 
 /// How often the entries without a tree are looked at before they come into one.
 const WALKS: usize = 16;
@@ -23,7 +23,7 @@ struct Grove {
     known: u64,
     /// The next one of its list.
     next: Option<u32>,
-    /// Each is larger than the one after it. While there is none, its entries are in a list.
+    /// The larger ones first. While there is none, its entries are in a list.
     trees: Vec<Tree>,
     /// The entries that are in no tree yet, once there is one, and how many they are.
     young: Option<u32>,
@@ -48,9 +48,9 @@ pub struct Walk<'a> {
     pub known: u64,
     pub limits: &'a [Limits],
     pub trees: &'a [Tree],
-    /// A leaf of the first tree, and the entries that are left of the one before it.
-    pub leaf: usize,
-    pub places: &'a [u32],
+    /// An entry of the first tree, and what is sought there once it is known.
+    pub number: usize,
+    pub sought: Option<Sought>,
     /// The first entry of a list.
     pub next: Option<u32>,
     /// Whether the entries of the list stand in the order in which they were stored.
@@ -60,41 +60,33 @@ pub struct Walk<'a> {
 impl<'a> Walk<'a> {
     /// The next entry that was stored before a place.
     pub fn next_before(&mut self, before: usize) -> Option<usize> {
-        for _tried in 0..self.links.len() {
-            match self.next_in_trees(before) {
-                None => return self.next_in_list(before),
-                Some(place) => {
-                    if place < before {
-                        return Some(place);
-                    }
-                }
-            }
-        }
-        None
-    }
-
-    /// The next entry of a leaf.
-    fn next_in_trees(&mut self, before: usize) -> Option<usize> {
-        for _turn in 0..self.trees.len().saturating_add(1) {
-            if let [place, others @ ..] = self.places {
-                self.places = others;
-                return Some(*place as usize);
-            }
+        for _tree in 0..self.trees.len() {
             let [tree, others @ ..] = self.trees else {
-                return None;
+                break;
             };
-            match tree.leaf_from(self.leaf, self.limits, before) {
-                Some(leaf) => {
-                    self.places = tree.leaf(leaf);
-                    self.leaf = leaf.saturating_add(1);
-                }
+            match self.next_in(tree, before) {
+                Some(place) => return Some(place),
                 None => {
                     self.trees = others;
-                    self.leaf = 0;
+                    self.number = 0;
+                    self.sought = None;
                 }
             }
         }
-        None
+        self.next_in_list(before)
+    }
+
+    /// The next entry of the first tree.
+    fn next_in(&mut self, tree: &Tree, before: usize) -> Option<usize> {
+        let mut sought = match self.sought {
+            Some(sought) => sought,
+            None => tree.sought(self.limits)?,
+        };
+        sought[0] = !(before.checked_sub(1)? as u64);
+        let number = tree.next_from(self.number, &sought)?;
+        self.number = number.saturating_add(1);
+        self.sought = Some(sought);
+        tree.place(number)
     }
 
     /// The next entry of the list.
@@ -182,7 +174,7 @@ impl Groves {
             true => walked,
             false => grove.young_count,
         };
-        Ok(count >= LONG_WALK / 2 && grove.effort / WALKS >= count)
+        Ok(count >= LONG_WALK && grove.effort / WALKS >= count)
     }
 
     fn add(&mut self, alloc: Global, known: u64) -> Result<usize, AllocError> {
@@ -221,19 +213,21 @@ impl Groves {
         Ok(())
     }
 
-    /// Adds those of the smallest trees to entries of which this is known that are fewer or not
-    /// many more; answers how many trees are left.
+    /// Adds those of the smallest trees to entries of which this is known, three trees at a time,
+    /// while these are not much larger; answers how many trees are left.
     pub fn gather(&self, known: u64, places: &mut Vec<u32>) -> Result<usize, AllocError> {
         let (trees, _) = self.trees(known);
         let mut left = trees;
         for _tree in 0..trees.len() {
-            let [others @ .., tree] = left else {
+            let [others @ .., third, second, first] = left else {
                 break;
             };
-            if tree.places().len() > places.len() {
+            if third.places().len() > places.len().saturating_mul(2) {
                 break;
             }
-            places.extend_from_slice(tree.places())?;
+            places.extend_from_slice(third.places())?;
+            places.extend_from_slice(second.places())?;
+            places.extend_from_slice(first.places())?;
             left = others;
         }
         Ok(left.len())

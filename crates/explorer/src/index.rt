@@ -146,8 +146,8 @@ impl Index {
             known,
             limits,
             trees,
-            leaf: 0,
-            places: &[],
+            number: 0,
+            sought: None,
             next,
             is_ordered,
         }

@@ -12,6 +12,7 @@ mod index;
 mod kept;
 mod limits;
 mod lists;
+mod orders;
 mod parts;
 pub mod refusals;
 mod search;

@@ -29,7 +29,14 @@ pub struct Limits {
     /// Frames come one after another, and in each of them registers before slots.
     pub place: u32,
     sort: Sort,
-    pub measures: [u64; 8],
+    measures: [u64; 8],
+}
+
+/// A measure of a place.
+#[derive(Clone, Copy, Drop)]
+pub struct Measure {
+    pub place: u32,
+    pub index: usize,
 }
 
 /// A number for a signed one: the greater of two has the greater number.
@@ -197,6 +204,16 @@ pub fn may_enclose(limits: &[Limits], others: &[Limits]) -> bool {
         }
     }
     true
+}
+
+/// A measure of a place; the greatest number where nothing is known of it.
+pub fn measured(limits: &[Limits], measure: Measure) -> u64 {
+    for own in limits {
+        if own.place == measure.place {
+            return own.measures.get(measure.index).copied().unwrap_or(0);
+        }
+    }
+    u64::MAX
 }
 
 /// Widens limits so that they enclose what others do, and leaves out places where they say nothing.

@@ -10,7 +10,7 @@ use crate::groves::LONG_WALK;
 use crate::index::Index;
 use crate::kept::Kept;
 use crate::sketches::Sketch;
-use crate::trees::{Item, Tree};
+use crate::trees::{Items, Tree};
 use stack_state::State;
 use state_cover::covers;
 use std::alloc::{AllocError, Global};
@@ -61,15 +61,14 @@ impl Table {
         ensures { self.new.entries.items ≡ self.old.entries.items }
     {
         let (places, left) = self.index.seeds(alloc, known)?;
-        let mut items = Vec::with_capacity(alloc, places.len())?;
+        let mut items = Items::new(alloc);
         for place in &places {
             if let Some(entry) = self.entries.get(*place as usize) {
-                let mut limits = Vec::new(alloc);
-                entry.state.take_limits(&mut limits)?;
-                items.push(Item::new(*place, limits))?;
+                entry.state.take_limits(items.room())?;
+                items.add(*place)?;
             }
         }
-        let tree = Tree::of(alloc, items)?;
+        let tree = Tree::of(alloc, &items)?;
         self.index.plant(known, left, tree)
     }
 
@@ -142,24 +141,36 @@ impl Table {
         (found, self.entries.len())
     }
 
-    /// The number of the first finished state that covers this one.
-    pub fn number_of(&mut self, state: &State, scratch: &mut State) -> Option<u32>
-        ensures covered { IfSome result (λ n. IsCovered self.new.entries.items state.now n) }
-        ensures same { self.new.entries.items ≡ self.old.entries.items }
+    /// The first finished state that covers this one, and the longest walk on the way to it.
+    fn first_covering(
+        &self,
+        state: &State,
+        scratch: &mut State,
+    ) -> (Option<(usize, u32)>, Walked)
+        ensures { IfSome result.0 (λ r. IsCovered self.now.entries.items state.now r.1) }
     {
         let mut first = None;
         let mut longest = Walked { known: 0, count: 0 };
         for shape in self.index.shapes_at(state.slot) {
             if let Some(known) = self.index.known_in(shape, &self.sketch) {
                 let (found, count) = self.first_known(known, first, state, scratch);
-                if found.is_some() {
-                    first = found;
+                if let Some(found) = found {
+                    first = Some(found);
                 }
                 if count > longest.count {
                     longest = Walked { known, count };
                 }
             }
         }
+        (first, longest)
+    }
+
+    /// The number of the first finished state that covers this one.
+    pub fn number_of(&mut self, state: &State, scratch: &mut State) -> Option<u32>
+        ensures covered { IfSome result (λ n. IsCovered self.old.entries.items state.now n) }
+        ensures same { self.new.entries.items ≡ self.old.entries.items }
+    {
+        let (first, longest) = self.first_covering(state, scratch);
         self.longest = longest;
         let (_, number) = first?;
         Some(number)

@@ -2,217 +2,206 @@
 //!
 //! No contract rests on them: they propose states, and `covers` decides.
 
-use crate::limits::{Limits, may_enclose, widen};
+use crate::limits::{Limits, Measure, may_enclose, measured, widen};
+use crate::orders::Order;
 use std::alloc::{AllocError, Global};
 
-/// How many entries a leaf has at most.
-const LEAF: usize = 16;
-
-/// How many nodes a node has beneath it at most: 2 to the power `FAN_BITS`.
+/// How many rows of a level a row of the next one stands for: 2 to the power `FAN_BITS`.
+pub const FAN: usize = 4;
 const FAN_BITS: u32 = 2;
-const FAN: usize = 4;
 
-/// How many items are looked at to see whether they differ in a measure.
-const SAMPLE: usize = 16;
+/// How many words a row has at most.
+const WIDTH: usize = 32;
 
-/// An entry that comes into a tree.
+/// The words that the rows of entries which cover a state reach.
+pub type Sought = [u64; WIDTH];
+
+/// Entries that come into a tree, with their limits one after another.
 #[derive(Drop)]
-pub struct Item {
-    place: u32,
+pub struct Items {
+    ends: Vec<Item>,
     limits: Vec<Limits>,
-    /// The measure by which it is put into order.
-    measure: u64,
 }
 
-/// A measure of a place.
+/// An entry, and where its limits end.
 #[derive(Clone, Copy, Drop)]
-struct Measure {
+struct Item {
     place: u32,
-    index: usize,
-}
-
-/// What is common to entries: the first of them in the order in which they were stored, and limits
-/// that enclose theirs.
-#[derive(Drop)]
-struct Node {
-    first: usize,
-    limits: Vec<Limits>,
+    end: usize,
 }
 
 /// Entries, those with like limits beside one another.
+///
+/// A row has a word for the place of an entry, which is greater where it was stored earlier, and
+/// one for each measure in which entries differ. It may cover a state only where each of its words
+/// is at least as great as the state's.
 #[derive(Drop)]
 pub struct Tree {
+    /// Limits that enclose those of all entries.
+    common: Vec<Limits>,
+    measures: Vec<Measure>,
     places: Vec<u32>,
-    /// The lowest level has a node for each leaf, each further one a node for up to `FAN` of the
-    /// level beneath it.
-    levels: Vec<Vec<Node>>,
+    /// The lowest level has a row for each entry. A row of a further one has the greatest words of
+    /// the rows that it stands for.
+    levels: Vec<Vec<u64>>,
 }
 
-impl Item {
-    pub fn new(place: u32, limits: Vec<Limits>) -> Self {
-        Item {
-            place,
-            limits,
-            measure: 0,
-        }
-    }
-
-    /// The greatest number where nothing is known of the place.
-    fn measured(&self, measure: Measure) -> u64 {
-        for limits in &self.limits {
-            if limits.place == measure.place {
-                return limits.measures.get(measure.index).copied().unwrap_or(0);
-            }
-        }
-        u64::MAX
-    }
-}
-
-/// Whether the items differ in a measure, as far as some of them show.
-fn differ(items: &[Item], measure: Measure) -> bool {
-    let Some(first) = items.first() else {
-        return false;
-    };
-    let number = first.measured(measure);
-    for item in items.iter().step_by(items.len() / SAMPLE + 1) {
-        if item.measured(measure) != number {
-            return true;
-        }
-    }
-    false
-}
-
-/// The measures in which the items differ, or the one after that many of them.
-fn differing(items: &[Item], skipped: usize) -> (usize, Option<Measure>) {
-    let mut count: usize = 0;
-    let Some(first) = items.first() else {
-        return (0, None);
-    };
-    for index in 0..8 {
-        for limits in &first.limits {
-            let measure = Measure {
-                place: limits.place,
-                index,
-            };
-            if differ(items, measure) {
-                if count == skipped {
-                    return (count, Some(measure));
-                }
-                count = count.saturating_add(1);
-            }
-        }
-    }
-    (count, None)
-}
-
-/// Puts half of the items before the others, by a measure in which they differ: by each in turn.
-fn split(items: &mut [Item], half: usize, turn: usize) {
-    if items.len() <= half {
-        return;
-    }
-    let (count, _) = differing(items, usize::MAX);
-    if count == 0 {
-        return;
-    }
-    let (_, Some(measure)) = differing(items, turn % count) else {
-        return;
-    };
-    for item in items.iter_mut() {
-        item.measure = item.measured(measure);
-    }
-    let _halves = items.select_nth_unstable_by_key(half, |item| item.measure);
-}
-
-/// Puts items with like limits beside one another.
-fn arrange(items: &mut [Item]) {
-    let mut size = LEAF;
-    for _doubled in 0..64 {
-        if size < items.len() {
-            size = size.saturating_mul(2);
-        }
-    }
-    for turn in 0..64 {
-        if size <= LEAF {
-            return;
-        }
-        for part in items.chunks_mut(size) {
-            split(part, size / 2, turn);
-        }
-        size /= 2;
-    }
-}
-
-impl Node {
-    fn of_items(alloc: Global, items: &[Item]) -> Result<Self, AllocError> {
-        let mut node = Node {
-            first: usize::MAX,
+impl Items {
+    pub fn new(alloc: Global) -> Self {
+        Items {
+            ends: Vec::new(alloc),
             limits: Vec::new(alloc),
-        };
-        for item in items {
-            node.take(item.place as usize, &item.limits)?;
         }
-        Ok(node)
     }
 
-    fn of_nodes(alloc: Global, nodes: &[Node]) -> Result<Self, AllocError> {
-        let mut node = Node {
-            first: usize::MAX,
-            limits: Vec::new(alloc),
-        };
-        for other in nodes {
-            node.take(other.first, &other.limits)?;
-        }
-        Ok(node)
+    /// Where the limits of the next entry are to be put.
+    pub fn room(&mut self) -> &mut Vec<Limits> {
+        &mut self.limits
     }
 
-    /// Takes entries in, whose limits these are.
-    fn take(&mut self, first: usize, limits: &[Limits]) -> Result<(), AllocError> {
-        if self.first == usize::MAX {
-            self.limits.extend_from_slice(limits)?;
-        } else {
-            widen(&mut self.limits, limits);
-        }
-        self.first = self.first.min(first);
+    /// Adds an entry, whose limits were put there.
+    pub fn add(&mut self, place: u32) -> Result<(), AllocError> {
+        let end = self.limits.len();
+        self.ends.push(Item { place, end })?;
         Ok(())
     }
-}
 
-fn leaves_of(alloc: Global, items: &[Item]) -> Result<Vec<Node>, AllocError> {
-    let mut nodes = Vec::new(alloc);
-    for part in items.chunks(LEAF) {
-        nodes.push(Node::of_items(alloc, part)?)?;
+    fn limits_of(&self, index: usize) -> &[Limits] {
+        let start = match index.checked_sub(1) {
+            Some(before) => self.ends.get(before).map_or(0, |item| item.end),
+            None => 0,
+        };
+        let end = self.ends.get(index).map_or(0, |item| item.end);
+        self.limits.get(start..end).unwrap_or(&[])
     }
-    Ok(nodes)
+
+    /// Limits that enclose those of all entries.
+    fn common(&self, alloc: Global) -> Result<Vec<Limits>, AllocError> {
+        let mut common = Vec::new(alloc);
+        common.extend_from_slice(self.limits_of(0))?;
+        for index in 1..self.ends.len() {
+            widen(&mut common, self.limits_of(index));
+        }
+        Ok(common)
+    }
+
+    /// The measures in which the entries differ.
+    fn measures(&self, alloc: Global, common: &[Limits]) -> Result<Vec<Measure>, AllocError> {
+        let mut measures = Vec::new(alloc);
+        for index in 0..8 {
+            for limits in common {
+                let measure = Measure {
+                    place: limits.place,
+                    index,
+                };
+                if measures.len() < WIDTH - 1 && self.differ(measure) {
+                    measures.push(measure)?;
+                }
+            }
+        }
+        Ok(measures)
+    }
+
+    fn differ(&self, measure: Measure) -> bool {
+        let first = measured(self.limits_of(0), measure);
+        for index in 1..self.ends.len() {
+            if measured(self.limits_of(index), measure) != first {
+                return true;
+            }
+        }
+        false
+    }
+
+    /// The rows of all entries.
+    fn rows(&self, alloc: Global, measures: &[Measure]) -> Result<Vec<u64>, AllocError> {
+        let words = self.ends.len().saturating_mul(width(measures));
+        let mut rows = Vec::with_capacity(alloc, words)?;
+        for index in 0..self.ends.len() {
+            if let Some(item) = self.ends.get(index) {
+                rows.push(!u64::from(item.place))?;
+                for measure in measures {
+                    rows.push(measured(self.limits_of(index), *measure))?;
+                }
+            }
+        }
+        Ok(rows)
+    }
 }
 
-fn level_above(alloc: Global, nodes: &[Node]) -> Result<Vec<Node>, AllocError> {
+/// How many words a row has.
+fn width(measures: &[Measure]) -> usize {
+    measures.len().saturating_add(1)
+}
+
+/// A row of a level.
+fn row(level: &[u64], width: usize, number: usize) -> Option<&[u64]> {
+    let rest = level.get(number.saturating_mul(width)..)?;
+    rest.get(..width)
+}
+
+/// Whether each word of a row is at least as great as the one that is sought.
+fn reaches(row: &[u64], sought: &[u64]) -> bool {
+    for (word, least) in row.iter().zip(sought) {
+        if word < least {
+            return false;
+        }
+    }
+    true
+}
+
+/// The greatest words of up to `FAN` rows each.
+fn level_above(alloc: Global, level: &[u64], width: usize) -> Result<Vec<u64>, AllocError> {
     let mut above = Vec::new(alloc);
-    for part in nodes.chunks(FAN) {
-        above.push(Node::of_nodes(alloc, part)?)?;
+    let rows = level.len().checked_div(width).unwrap_or(0);
+    for group in 0..rows.saturating_add(FAN - 1) / FAN {
+        let first = group.saturating_mul(FAN);
+        for column in 0..width {
+            let mut greatest: u64 = 0;
+            for number in first..first.saturating_add(FAN) {
+                if let Some(word) = level.get(number.saturating_mul(width).saturating_add(column)) {
+                    greatest = greatest.max(*word);
+                }
+            }
+            above.push(greatest)?;
+        }
     }
     Ok(above)
 }
 
 impl Tree {
     /// A tree of these entries.
-    pub fn of(alloc: Global, mut items: Vec<Item>) -> Result<Self, AllocError> {
-        arrange(&mut items);
-        let mut places = Vec::with_capacity(alloc, items.len())?;
-        for item in &items {
-            places.push(item.place)?;
+    pub fn of(alloc: Global, items: &Items) -> Result<Self, AllocError> {
+        let common = items.common(alloc)?;
+        let measures = items.measures(alloc, &common)?;
+        let width = width(&measures);
+        let rows = items.rows(alloc, &measures)?;
+        let mut order = Order::of(alloc, items.ends.len())?;
+        order.arrange(&rows, width);
+        let mut places = Vec::with_capacity(alloc, items.ends.len())?;
+        let mut nodes = Vec::with_capacity(alloc, rows.len())?;
+        for place in 0..items.ends.len() {
+            let number = order.number(place).unwrap_or(0);
+            if let Some(item) = items.ends.get(number) {
+                places.push(item.place)?;
+                nodes.extend_from_slice(row(&rows, width, number).unwrap_or(&[]))?;
+            }
         }
         let mut levels = Vec::new(alloc);
-        let mut nodes = leaves_of(alloc, &items)?;
         for _level in 0..32 {
-            if nodes.len() <= FAN {
-                break;
-            }
-            let above = level_above(alloc, &nodes)?;
+            let above = level_above(alloc, &nodes, width)?;
             levels.push(nodes)?;
             nodes = above;
+            if nodes.len() <= FAN.saturating_mul(width) {
+                break;
+            }
         }
         levels.push(nodes)?;
-        Ok(Tree { places, levels })
+        Ok(Tree {
+            common,
+            measures,
+            places,
+            levels,
+        })
     }
 
     /// The places of its entries.
@@ -220,38 +209,49 @@ impl Tree {
         &self.places
     }
 
-    /// The places of a leaf's entries.
-    pub fn leaf(&self, leaf: usize) -> &[u32] {
-        let rest = self.places.get(leaf.saturating_mul(LEAF)..).unwrap_or(&[]);
-        rest.get(..LEAF).unwrap_or(rest)
+    /// The words that are sought for a state with these limits, if an entry may cover it.
+    pub fn sought(&self, limits: &[Limits]) -> Option<Sought> {
+        if !may_enclose(&self.common, limits) {
+            return None;
+        }
+        let mut sought = [0; WIDTH];
+        for index in 0..self.measures.len() {
+            let word = measured(limits, *self.measures.get(index)?);
+            *sought.get_mut(index.saturating_add(1))? = word;
+        }
+        Some(sought)
     }
 
-    /// The first leaf from one on in which an entry that was stored before a place may enclose the
-    /// limits.
-    pub fn leaf_from(&self, leaf: usize, limits: &[Limits], before: usize) -> Option<usize> {
-        let count = self.levels.first()?.len();
-        let mut leaf = leaf;
-        for _tried in 0..count {
-            if leaf >= count {
+    /// The place of an entry.
+    pub fn place(&self, number: usize) -> Option<usize> {
+        let place = *self.places.get(number)?;
+        Some(place as usize)
+    }
+
+    /// The first entry from one on that may cover a state, by the words of its row.
+    pub fn next_from(&self, number: usize, sought: &Sought) -> Option<usize> {
+        let mut number = number;
+        for _tried in 0..self.places.len() {
+            if number >= self.places.len() {
                 return None;
             }
-            match self.barred_from(leaf, limits, before) {
-                Some(next) => leaf = next,
-                None => return Some(leaf),
+            match self.barred_from(number, sought) {
+                Some(next) => number = next,
+                None => return Some(number),
             }
         }
         None
     }
 
-    /// Where a node that begins at the leaf has no such entry, the leaf after it.
-    fn barred_from(&self, leaf: usize, limits: &[Limits], before: usize) -> Option<usize> {
+    /// Where a row that begins at the entry does not reach the words, the entry after it.
+    fn barred_from(&self, number: usize, sought: &Sought) -> Option<usize> {
         for level in (0..self.levels.len()).rev() {
             let shift = FAN_BITS.wrapping_mul(level as u32);
-            let number = leaf.wrapping_shr(shift);
-            if number.wrapping_shl(shift) == leaf {
-                let node = self.levels.get(level)?.get(number)?;
-                if node.first >= before || !may_enclose(&node.limits, limits) {
-                    return Some(number.wrapping_add(1).wrapping_shl(shift));
+            let group = number.wrapping_shr(shift);
+            if group.wrapping_shl(shift) == number {
+                let row = row(self.levels.get(level)?, width(&self.measures), group)?;
+                if !reaches(row, sought) {
+                    return Some(group.wrapping_add(1).wrapping_shl(shift));
                 }
             }
         }
