@@ -7,8 +7,9 @@ ghost use Rattle.std.specs.Iterator.{at_most};
 
 use crate::groves::{Groves, Walk};
 use crate::limits::Limits;
-use crate::lists::{Finished, Link, NO_FINISHED, NO_UNFINISHED, Stage, Unfinished};
-use crate::lists::{list_of, mark_of};
+use crate::lists::{
+    Finished, Link, NO_FINISHED, NO_UNFINISHED, Stage, Unfinished, list_of, mark_of,
+};
 use crate::shapes::Shape;
 use crate::sketches::{Sketch, mixed};
 use crate::trees::Tree;

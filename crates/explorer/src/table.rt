@@ -142,11 +142,7 @@ impl Table {
     }
 
     /// The first finished state that covers this one, and the longest walk on the way to it.
-    fn first_covering(
-        &self,
-        state: &State,
-        scratch: &mut State,
-    ) -> (Option<(usize, u32)>, Walked)
+    fn first_covering(&self, state: &State, scratch: &mut State) -> (Option<(usize, u32)>, Walked)
         ensures { IfSome result.0 (λ r. IsCovered self.now.entries.items state.now r.1) }
     {
         let mut first = None;

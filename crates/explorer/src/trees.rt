@@ -8,6 +8,7 @@ use std::alloc::{AllocError, Global};
 
 /// How many rows of a level a row of the next one stands for: 2 to the power `FAN_BITS`.
 pub const FAN: usize = 4;
+
 const FAN_BITS: u32 = 2;
 
 /// How many words a row has at most.
