@@ -217,20 +217,22 @@ impl Groves {
     /// while these are not much larger; answers how many trees are left.
     pub fn gather(&self, known: u64, places: &mut Vec<u32>) -> Result<usize, AllocError> {
         let (trees, _) = self.trees(known);
-        let mut left = trees;
-        for _tree in 0..trees.len() {
-            let [others @ .., third, second, first] = left else {
+        let mut left = trees.len();
+        for _group in 0..trees.len() {
+            let Some(start) = left.checked_sub(3) else {
                 break;
             };
-            if third.places().len() > places.len().saturating_mul(2) {
-                break;
+            let group = trees.get(start..left).unwrap_or(&[]);
+            match group.first() {
+                Some(tree) if tree.places().len() / 2 <= places.len() => {}
+                _ => break,
             }
-            places.extend_from_slice(third.places())?;
-            places.extend_from_slice(second.places())?;
-            places.extend_from_slice(first.places())?;
-            left = others;
+            for tree in group {
+                places.extend_from_slice(tree.places())?;
+            }
+            left = start;
         }
-        Ok(left.len())
+        Ok(left)
     }
 
     /// Puts a tree after so many of the others: no entry is without one then.

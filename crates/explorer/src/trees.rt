@@ -247,7 +247,7 @@ impl Tree {
     /// Where a row that begins at the entry does not reach the words, the entry after it.
     fn barred_from(&self, number: usize, sought: &Sought) -> Option<usize> {
         for level in (0..self.levels.len()).rev() {
-            let shift = FAN_BITS.wrapping_mul(level as u32);
+            let shift = FAN_BITS.wrapping_mul(u32::try_from(level).unwrap_or(0));
             let group = number.wrapping_shr(shift);
             if group.wrapping_shl(shift) == number {
                 let row = row(self.levels.get(level)?, width(&self.measures), group)?;
