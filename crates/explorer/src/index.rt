@@ -20,6 +20,9 @@ use std::mem;
 /// a power of two, and at least half as many as the entries in them.
 const LISTS: usize = 64;
 
+/// How many shapes a slot has at most, but for the last one, which knows nothing.
+const SHAPES: usize = 256;
+
 /// A shape that stored states have, and the next one of its slot.
 #[derive(Drop)]
 struct ShapeLink {
@@ -221,17 +224,26 @@ impl Index {
         slot: usize,
         sketch: &Sketch,
     ) -> Result<usize, AllocError> {
+        let mut shapes = 0usize;
         for number in self.shapes_at(slot) {
             if self.has_shape(number, sketch) {
                 return Ok(number);
             }
+            shapes = shapes.wrapping_add(1);
+        }
+        if shapes > SHAPES {
+            // the newest one, which knows nothing
+            return Ok(self.shapes_at(slot).next().unwrap_or(0));
         }
         let number = self.shapes.len();
         let mut next = None;
         if let Some(first) = self.first_shapes.get_mut(slot) {
             next = mem::replace(first, u32::try_from(number).ok());
         }
-        let shape = Shape::of(alloc, sketch)?;
+        let shape = match shapes < SHAPES {
+            true => Shape::of(alloc, sketch)?,
+            false => Shape::blank(alloc),
+        };
         self.shapes.push(ShapeLink { shape, next })?;
         Ok(number)
     }
