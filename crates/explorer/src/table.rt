@@ -165,6 +165,7 @@ impl Table {
     pub fn number_of(&mut self, state: &State, scratch: &mut State) -> Option<u32>
         ensures covered { IfSome result (λ n. IsCovered self.old.entries.items state.now n) }
         ensures same { self.new.entries.items ≡ self.old.entries.items }
+        ensures drawn { self.new.sketch ≡ self.old.sketch }
     {
         let (first, longest) = self.first_covering(state, scratch);
         self.longest = longest;
