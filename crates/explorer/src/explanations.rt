@@ -181,7 +181,9 @@ pub fn explain(alloc: Global, image: &Image, refusal: Refusal, slot: usize) -> O
     ensures { IfSome result (Explains image.now refusal slot) }
 {
     let slots = image.slots();
-    let flow = Flow::of(alloc, image).ok()?;
+    let Ok(flow) = Flow::of(alloc, image) else {
+        return None;
+    };
     let mut search = Search::new(alloc, slots).ok()?;
     let mut room = Vec::new(alloc);
     match search.explore(alloc, image, &flow, &mut room) {

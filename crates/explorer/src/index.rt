@@ -5,8 +5,14 @@
 ghost use Rattle.std.specs.Prelude.{◌≡◌, IfOk, vec_len};
 ghost use Rattle.std.specs.Iterator.{at_most};
 
+use crate::groves::{Groves, Walk};
+use crate::limits::Limits;
+use crate::lists::{
+    Finished, Link, NO_FINISHED, NO_UNFINISHED, Stage, Unfinished, list_of, mark_of,
+};
 use crate::shapes::Shape;
 use crate::sketches::{Sketch, mixed};
+use crate::trees::Tree;
 use std::alloc::{AllocError, Global};
 use std::mem;
 
@@ -14,44 +20,8 @@ use std::mem;
 /// a power of two, and at least half as many as the entries in them.
 const LISTS: usize = 64;
 
-/// Where an entry stands in the index. It is in one list at a time.
-#[derive(Clone, Copy, Drop)]
-struct Link {
-    fingerprint: u64,
-    /// Its shape, and what is known in it.
-    known: u64,
-    /// The one after it in its list.
-    next: Option<u32>,
-    /// The last finished entry of its list when it was stored; none where its mark was not on it.
-    before: Option<u32>,
-    is_finished: bool,
-}
-
-/// A list of finished entries: those of one fingerprint in the order in which they were stored.
-#[derive(Clone, Copy, Drop)]
-struct Finished {
-    first: Option<u32>,
-    last: Option<u32>,
-    marks: u32,
-}
-
-/// A list of unfinished entries, the newest first.
-#[derive(Clone, Copy, Drop)]
-struct Unfinished {
-    first: Option<u32>,
-    marks: u32,
-}
-
-const NO_FINISHED: Finished = Finished {
-    first: None,
-    last: None,
-    marks: 0,
-};
-
-const NO_UNFINISHED: Unfinished = Unfinished {
-    first: None,
-    marks: 0,
-};
+/// How many shapes a slot has at most, but for the last one, which knows nothing.
+const SHAPES: usize = 256;
 
 /// A shape that stored states have, and the next one of its slot.
 #[derive(Drop)]
@@ -73,6 +43,7 @@ pub struct Index {
     /// By fingerprint.
     unfinished: Vec<Unfinished>,
     unfinished_count: usize,
+    groves: Groves,
 }
 
 /// Entries of a list.
@@ -123,17 +94,6 @@ impl<'a> Iterator for ShapesAt<'a> {
     }
 }
 
-/// The list of a fingerprint, among that many.
-fn list_of(fingerprint: u64, lists: usize) -> usize {
-    (fingerprint >> 16) as usize & lists.wrapping_sub(1)
-}
-
-/// The mark that an entry with the fingerprint leaves on its list. A list without it has no such
-/// entry, so that no entry need be looked at.
-fn mark_of(fingerprint: u64) -> u32 {
-    1 << (fingerprint >> 59)
-}
-
 impl Index {
     /// The index of no entries, of code with that many slots.
     pub fn new(alloc: Global, slots: usize) -> Result<Self, AllocError>
@@ -147,6 +107,7 @@ impl Index {
             finished_count: 0,
             unfinished: vec![in alloc; NO_UNFINISHED; LISTS]?,
             unfinished_count: 0,
+            groves: Groves::new(alloc),
         })
     }
 
@@ -165,19 +126,73 @@ impl Index {
         Some(mixed(known, shape as u64))
     }
 
-    /// Finished entries, all of those with this shape and what is known in it among them, in the
-    /// order in which they were stored.
-    pub fn finished_like(&self, known: u64) -> Entries<'_> {
+    /// The first of a list of finished entries, which all with this shape and what is known in it
+    /// are in that are in no grove.
+    fn first_finished(&self, known: u64) -> Option<u32> {
         let list = list_of(known, self.finished.len());
-        let next = match self.finished.get(list) {
+        match self.finished.get(list) {
             Some(list) if list.marks & mark_of(known) != 0 => list.first,
             _ => None,
-        };
-        Entries {
-            links: &self.links,
-            next,
-            left: self.links.len(),
         }
+    }
+
+    /// The finished entries with this shape and what is known in it that may cover a state with
+    /// such limits.
+    pub fn finished_like<'a>(&'a self, known: u64, limits: &'a [Limits]) -> Walk<'a> {
+        let (trees, young) = self.groves.trees(known);
+        let is_ordered = trees.is_empty();
+        let next = match is_ordered {
+            true => self.first_finished(known),
+            false => young,
+        };
+        Walk {
+            links: &self.links,
+            known,
+            limits,
+            trees,
+            number: 0,
+            sought: None,
+            next,
+            is_ordered,
+        }
+    }
+
+    /// Whether there are entries that are found by their limits.
+    pub fn has_groves(&self) -> bool {
+        !self.groves.is_empty()
+    }
+
+    /// Notes that so many entries of which this is known were looked at, and answers whether a tree
+    /// of them is to be made.
+    pub fn wears(&mut self, alloc: Global, known: u64, walked: usize) -> Result<bool, AllocError> {
+        self.groves.wears(alloc, known, walked)
+    }
+
+    /// The entries that are to come into a tree, and how many trees of the same grove stay.
+    pub fn seeds(&self, alloc: Global, known: u64) -> Result<(Vec<u32>, usize), AllocError> {
+        let mut places = Vec::new(alloc);
+        let mut walk = self.finished_like(known, &[]);
+        walk.trees = &[];
+        for _entry in 0..self.links.len() {
+            let Some(place) = walk.next_before(usize::MAX) else {
+                break;
+            };
+            if let Ok(place) = u32::try_from(place) {
+                places.push(place)?;
+            }
+        }
+        let left = self.groves.gather(known, &mut places)?;
+        Ok((places, left))
+    }
+
+    /// Puts a tree into a grove after so many others, in place of its entries' links.
+    pub fn plant(&mut self, known: u64, left: usize, tree: Tree) -> Result<(), AllocError> {
+        for place in tree.places() {
+            if let Some(link) = self.links.get_mut(*place as usize) {
+                link.stage = Stage::Planted;
+            }
+        }
+        self.groves.plant(known, left, tree)
     }
 
     /// Unfinished entries, all of the fingerprint among them.
@@ -202,14 +217,6 @@ impl Index {
         }
     }
 
-    /// Whether this is known of an entry in its shape.
-    pub fn is_known(&self, index: usize, known: u64) -> bool {
-        match self.links.get(index) {
-            Some(link) => link.known == known,
-            None => false,
-        }
-    }
-
     /// The number of a state's shape, which is a new one where no stored state of its slot has it.
     fn shape_of(
         &mut self,
@@ -217,17 +224,26 @@ impl Index {
         slot: usize,
         sketch: &Sketch,
     ) -> Result<usize, AllocError> {
+        let mut shapes = 0usize;
         for number in self.shapes_at(slot) {
             if self.has_shape(number, sketch) {
                 return Ok(number);
             }
+            shapes = shapes.wrapping_add(1);
+        }
+        if shapes > SHAPES {
+            // the newest one, which knows nothing
+            return Ok(self.shapes_at(slot).next().unwrap_or(0));
         }
         let number = self.shapes.len();
         let mut next = None;
         if let Some(first) = self.first_shapes.get_mut(slot) {
             next = mem::replace(first, u32::try_from(number).ok());
         }
-        let shape = Shape::of(alloc, sketch)?;
+        let shape = match shapes < SHAPES {
+            true => Shape::of(alloc, sketch)?,
+            false => Shape::blank(alloc),
+        };
         self.shapes.push(ShapeLink { shape, next })?;
         Ok(number)
     }
@@ -251,7 +267,7 @@ impl Index {
             known,
             next: None,
             before: None,
-            is_finished: false,
+            stage: Stage::Unfinished,
         })?;
         self.unfinished_count = self.unfinished_count.wrapping_add(1);
         self.list_by_known(index);
@@ -286,7 +302,7 @@ impl Index {
         Ok(())
     }
 
-    /// Puts an entry into its list of finished ones, if it is finished, and else notes its place
+    /// Puts an entry into its list of finished ones, if it belongs there, and else notes its place
     /// there; all that were stored before it were listed, and those after it were not.
     fn list_by_known(&mut self, index: usize) {
         let Some(link) = self.links.get_mut(index) else {
@@ -298,7 +314,7 @@ impl Index {
             _ => None,
         };
         let link = *link;
-        if link.is_finished {
+        if link.stage == Stage::Finished {
             self.put_after(link.known, link.before, u32::try_from(index).ok());
         }
     }
@@ -309,7 +325,7 @@ impl Index {
         let Some(link) = self.links.get_mut(index) else {
             return;
         };
-        if link.is_finished {
+        if link.stage != Stage::Unfinished {
             return;
         }
         let list = list_of(link.fingerprint, self.unfinished.len());
@@ -324,7 +340,6 @@ impl Index {
         let Some(link) = self.links.get_mut(index) else {
             return;
         };
-        link.is_finished = true;
         let link = *link;
         let list = list_of(link.fingerprint, self.unfinished.len());
         if let Some(list) = self.unfinished.get_mut(list) {
@@ -335,7 +350,20 @@ impl Index {
         }
         self.unfinished_count = self.unfinished_count.wrapping_sub(1);
         self.finished_count = self.finished_count.wrapping_add(1);
-        self.put_after(link.known, link.before, u32::try_from(index).ok());
+        match self.groves.take_in(link.known, index) {
+            Some(next) => self.move_to(index, Stage::Planted, next),
+            None => {
+                self.move_to(index, Stage::Finished, None);
+                self.put_after(link.known, link.before, u32::try_from(index).ok());
+            }
+        }
+    }
+
+    fn move_to(&mut self, index: usize, stage: Stage, next: Option<u32>) {
+        if let Some(link) = self.links.get_mut(index) {
+            link.stage = stage;
+            link.next = next;
+        }
     }
 
     /// Makes the entry the one after another finished one of its list, or the first.

@@ -3,6 +3,7 @@
 ghost use Rattle.std.specs.Prelude.{◌≡◌, ◌≤◌, IfOk, IsTrue, length};
 ghost use Rattle.explorer.specs.Keeping.{AreParts};
 
+use crate::limits::{Limits, add_limits};
 use crate::parts::{Part, may_cover_place, take_parts, write};
 use crate::sketches::{Prints, Sketch};
 use arrayvec::ArrayVec;
@@ -171,8 +172,22 @@ impl Kept {
         }
         let parts = self.innermost.parts.as_slice();
         sketch.prints = prints.with_frame(self.innermost.return_slot, parts);
+        sketch.limits.clear();
+        if sketch.has_limits {
+            self.take_limits(&mut sketch.limits)?;
+        }
         sketch.parts.clear();
         sketch.parts.extend_from_slice(parts)
+    }
+
+    /// Puts the limits of all frames after others.
+    pub fn take_limits(&self, limits: &mut Vec<Limits>) -> Result<(), AllocError> {
+        let mut level = 0;
+        for frame in self.callers.as_slice() {
+            add_limits(limits, level, frame.parts.as_slice())?;
+            level = u32::wrapping_add(level, 1);
+        }
+        add_limits(limits, level, self.innermost.parts.as_slice())
     }
 
     /// A quick test whether the state may be one that this one covers: a no says that it is not.

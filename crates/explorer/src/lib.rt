@@ -7,8 +7,12 @@
 
 pub mod explanations;
 mod forgetting;
+mod groves;
 mod index;
 mod kept;
+mod limits;
+mod lists;
+mod orders;
 mod parts;
 pub mod refusals;
 mod search;
@@ -16,6 +20,7 @@ mod shapes;
 mod sketches;
 mod table;
 mod trail;
+mod trees;
 pub mod verified;
 
 pub use explanations::{Explanation, Jump, explain};

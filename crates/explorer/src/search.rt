@@ -86,7 +86,7 @@ pub fn arrive(
     if !flow.is_join(state.slot) {
         return Ok(Arrival::New(None));
     }
-    let Ok(()) = table.turn_to(state, &kept) else {
+    let Ok(()) = table.turn_to(alloc, state, &kept) else {
         return Err(NO_MEMORY);
     };
     if let Some(number) = table.number_of(state, scratch) {

@@ -50,6 +50,13 @@ impl Shape {
         Ok(Shape { numbers: known })
     }
 
+    /// The shape in which nothing is known, which every state has.
+    pub fn blank(alloc: Global) -> Self {
+        Shape {
+            numbers: Vec::new(alloc),
+        }
+    }
+
     /// Whether it is the shape of a state.
     pub fn is_of(&self, sketch: &Sketch) -> bool {
         let mut rest = self.numbers.as_slice();

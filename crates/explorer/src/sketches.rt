@@ -7,6 +7,7 @@
 ghost use Rattle.std.specs.Prelude.{OnOk};
 ghost use Rattle.explorer.specs.Keeping.{AreParts};
 
+use crate::limits::{Limits, add_limits};
 use crate::parts::{Part, take_parts};
 use ranges::Low;
 use reg_state::{Kind, Scalar};
@@ -42,11 +43,14 @@ impl Prints {
     }
 }
 
-/// The parts of a state's innermost frame, and fingerprints of all its frames.
+/// The parts of a state's innermost frame, fingerprints of all its frames, and their limits where
+/// these are asked for.
 #[derive(Drop)]
 pub struct Sketch {
     pub parts: Vec<Part>,
     pub prints: Prints,
+    pub limits: Vec<Limits>,
+    pub has_limits: bool,
 }
 
 impl Sketch {
@@ -55,6 +59,8 @@ impl Sketch {
         Ok(Sketch {
             parts: Vec::with_capacity(alloc, 74)?,
             prints: Prints::of(0),
+            limits: Vec::new(alloc),
+            has_limits: false,
         })
     }
 
@@ -63,11 +69,20 @@ impl Sketch {
         ensures { OnOk result (AreParts self.new.parts.items state.now.innermost) }
     {
         let mut prints = Prints::of(state.slot);
+        let mut level = 0;
+        self.limits.clear();
         for frame in state.callers.as_slice() {
             take_parts(&mut self.parts, frame)?;
             prints = prints.with_frame(frame.return_slot, &self.parts);
+            if self.has_limits {
+                add_limits(&mut self.limits, level, &self.parts)?;
+            }
+            level = u32::wrapping_add(level, 1);
         }
         take_parts(&mut self.parts, &state.innermost)?;
+        if self.has_limits {
+            add_limits(&mut self.limits, level, &self.parts)?;
+        }
         self.prints = prints.with_frame(state.innermost.return_slot, &self.parts);
         Ok(())
     }

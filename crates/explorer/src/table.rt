@@ -6,9 +6,11 @@ ghost use Rattle.stack_state.specs.declared.states.State.{State as TheState};
 ghost use Rattle.explorer.specs.Keeping.{AreParts};
 ghost use Rattle.explorer.specs.Table.{IsStored, IsCovered, IsRepeated, StoredAt, IsNumbered};
 
+use crate::groves::LONG_WALK;
 use crate::index::Index;
 use crate::kept::Kept;
 use crate::sketches::Sketch;
+use crate::trees::{Items, Tree};
 use stack_state::State;
 use state_cover::covers;
 use std::alloc::{AllocError, Global};
@@ -20,6 +22,13 @@ pub struct Stored {
     pub number: u32,
 }
 
+/// How many finished states were looked at of which this is known in their shape.
+#[derive(Clone, Copy, Drop)]
+struct Walked {
+    known: u64,
+    count: usize,
+}
+
 /// The stored states, in the order in which they were met.
 #[derive(Drop)]
 pub struct Table {
@@ -27,6 +36,8 @@ pub struct Table {
     index: Index,
     /// Of the state that is looked for.
     sketch: Sketch,
+    /// The longest walk when a state was looked for last.
+    longest: Walked,
 }
 
 impl Table {
@@ -41,15 +52,42 @@ impl Table {
             entries: Vec::new(alloc),
             index,
             sketch,
+            longest: Walked { known: 0, count: 0 },
         })
     }
 
+    /// Makes a tree of the finished states of which this is known in their shape.
+    fn plant(&mut self, alloc: Global, known: u64) -> Result<(), AllocError>
+        ensures { self.new.entries.items ≡ self.old.entries.items }
+    {
+        let (places, left) = self.index.seeds(alloc, known)?;
+        let mut items = Items::new(alloc);
+        for place in &places {
+            if let Some(entry) = self.entries.get(*place as usize) {
+                entry.state.take_limits(items.room())?;
+                items.add(*place)?;
+            }
+        }
+        let tree = Tree::of(alloc, &items)?;
+        self.index.plant(known, left, tree)
+    }
+
     /// Turns to a state, which is then looked for and stored. It may have been kept already.
-    pub fn turn_to(&mut self, state: &State, kept: &Option<Kept>) -> Result<(), AllocError>
+    pub fn turn_to(
+        &mut self,
+        alloc: Global,
+        state: &State,
+        kept: &Option<Kept>,
+    ) -> Result<(), AllocError>
         ensures same { self.new.entries.items ≡ self.old.entries.items }
         ensures drawn { OnOk result (kept.now ≡ None
             → AreParts self.new.sketch.parts.items state.now.innermost) }
     {
+        let Walked { known, count } = self.longest;
+        if count >= LONG_WALK && self.index.wears(alloc, known, count)? {
+            self.plant(alloc, known)?;
+        }
+        self.sketch.has_limits = self.index.has_groves();
         match kept {
             None => self.sketch.draw(state),
             Some(kept) => kept.draw(&mut self.sketch),
@@ -74,41 +112,63 @@ impl Table {
     }
 
     /// The first finished state that covers this one, of those of which this is known in their
-    /// shape, if it was stored before another one: its place and its number.
+    /// shape, if it was stored before another one: its place and its number. And how many were
+    /// looked at.
     fn first_known(
         &self,
         known: u64,
         other: Option<(usize, u32)>,
         state: &State,
         scratch: &mut State,
-    ) -> Option<(usize, u32)>
-        ensures { IfSome result (λ r. IsCovered self.now.entries.items state.now r.1) }
+    ) -> (Option<(usize, u32)>, usize)
+        ensures { IfSome result.0 (λ r. IsCovered self.now.entries.items state.now r.1) }
     {
-        for index in self.index.finished_like(known) {
-            if other.is_some_and(|(place, _)| place < index) {
-                return None;
+        let mut found = None;
+        let mut before = match other {
+            Some((place, _)) => place,
+            None => usize::MAX,
+        };
+        let mut walk = self.index.finished_like(known, &self.sketch.limits);
+        for walked in 0..self.entries.len() {
+            let Some(index) = walk.next_before(before) else {
+                return (found, walked);
+            };
+            if let Some(number) = self.covering(index, state, scratch) {
+                found = Some((index, number));
+                before = index;
             }
-            if self.index.is_known(index, known) {
-                if let Some(number) = self.covering(index, state, scratch) {
-                    return Some((index, number));
+        }
+        (found, self.entries.len())
+    }
+
+    /// The first finished state that covers this one, and the longest walk on the way to it.
+    fn first_covering(&self, state: &State, scratch: &mut State) -> (Option<(usize, u32)>, Walked)
+        ensures { IfSome result.0 (λ r. IsCovered self.now.entries.items state.now r.1) }
+    {
+        let mut first = None;
+        let mut longest = Walked { known: 0, count: 0 };
+        for shape in self.index.shapes_at(state.slot) {
+            if let Some(known) = self.index.known_in(shape, &self.sketch) {
+                let (found, count) = self.first_known(known, first, state, scratch);
+                if let Some(found) = found {
+                    first = Some(found);
+                }
+                if count > longest.count {
+                    longest = Walked { known, count };
                 }
             }
         }
-        None
+        (first, longest)
     }
 
     /// The number of the first finished state that covers this one.
-    pub fn number_of(&self, state: &State, scratch: &mut State) -> Option<u32>
-        ensures { IfSome result (λ n. IsCovered self.now.entries.items state.now n) }
+    pub fn number_of(&mut self, state: &State, scratch: &mut State) -> Option<u32>
+        ensures covered { IfSome result (λ n. IsCovered self.old.entries.items state.now n) }
+        ensures same { self.new.entries.items ≡ self.old.entries.items }
+        ensures drawn { self.new.sketch ≡ self.old.sketch }
     {
-        let mut first = None;
-        for shape in self.index.shapes_at(state.slot) {
-            if let Some(known) = self.index.known_in(shape, &self.sketch) {
-                if let Some(found) = self.first_known(known, first, state, scratch) {
-                    first = Some(found);
-                }
-            }
-        }
+        let (first, longest) = self.first_covering(state, scratch);
+        self.longest = longest;
         let (_, number) = first?;
         Some(number)
     }

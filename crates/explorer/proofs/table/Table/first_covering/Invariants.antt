@@ -1,6 +1,6 @@
 use Rattle.std.specs.Prelude.{IfSome}
 use Rattle.explorer.specs.Table.{IsCovered}
-use Rattle.explorer.proofs.table.Table.number_of.Given as goal
+use Rattle.explorer.proofs.table.Table.first_covering.Given as goal
 
 abbrev pub invariant-loop-shape : goal.invariant-loop-shape
 invariant-loop-shape l = IfSome l.first (λ f. IsCovered l.self.entries.items l.state f.1)
