@@ -1,3 +1,5 @@
+pub mod Tops
+pub mod FrameActs
 pub mod Running
 pub mod SlotOps
 pub mod Arguments

@@ -1,4 +1,6 @@
 pub mod Words
+pub mod Frames
+pub mod FrameLaws
 pub mod Ops
 pub mod Helping
 pub mod Machine

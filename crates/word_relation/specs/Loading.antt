@@ -31,7 +31,8 @@ use Rattle.isa_model.specs.Machine.Memory.{and_then, entry_index, entry_at, inde
 use Rattle.isa_model.specs.Machine.MachineStates.{IsValue, IsCallFrame, IsState}
 use Rattle.std.proofs.lemmas.List.Quantifiers.{position-Some}
 use Rattle.isa_model.specs.Machine.Memory.{frame_index as frame_index_of}
-use Rattle.word_machine.specs.Words.{Words, InPacket, InFrames, InBlock, base, first_frame, frame_index, spot_of, IsInside, get, in_context, word_from, Loads}
+use Rattle.word_machine.specs.FrameLaws.{spot_frame}
+use Rattle.word_machine.specs.Words.{Words, InPacket, InFrames, InBlock, base, first_frame, spot_of, IsInside, get, in_context, word_from, Loads}
 use Rattle.maps.specs.Maps.{map_at}
 use Rattle.word_relation.specs.Related.{Layout, start, moved, word, Shows, ShowsCells, Related}
 use Rattle.word_relation.specs.Values.{live_map, value_inside, value_at_block, value_long}
@@ -49,18 +50,6 @@ spot_packet i h =
     let high : (base 2 + i) / 4294967296 ≡ 2 = omega arith in
     let low : (base 2 + i) % 65536 ≡ i = omega arith in
     rw (high, low) refl
-
-frame_index-at : (d i : ℕ) → d < 8 → i < 512 → frame_index (d * 4294967296 + i) ≡ d * 512 + i
-frame_index-at d i h g = omega arith
-
-pub spot_frame : (d i x : ℕ) → d < 8 → i < 512 → x + 512 ≡ base (48 + d) + i → spot_of x ≡ InFrames (d * 512 + i)
-spot_frame d i x h g e =
-    let high : x / 4294967296 ≡ 48 + d = omega arith in
-    let past : x - first_frame ≡ d * 4294967296 + i = omega arith in
-    let index = frame_index-at d i h g in
-    let packet : (48 + d == 2) ≡ false = grind (arith, nat_tests) in
-    let frame : nat_le first_frame x ≡ true = grind (arith, nat_tests) in
-    rw (high, packet, frame, past, index) refl
 
 pub spot_block : (m i : ℕ) → m < 16 → i < 1073741824 → spot_of (base (32 + m) + i) ≡ InBlock m i
 spot_block m i h g =

@@ -1,10 +1,13 @@
 -- Runs of words are runs of states.
-use Rattle.std.proofs.Common.{◌≡◌, ℕ, zero, suc, ◌+◌, ◌<◌, ◌≤◌, length, refl, sym, ap, subst, ◌∙◌, arith, add-one, Option, Some, None}
+use Rattle.std.proofs.Common.{◌≡◌, ℕ, zero, suc, ◌+◌, ◌<◌, ◌≤◌, length, refl, sym, ap, subst, ◌∙◌, arith, add-one, Bool, true, false, Option, Some, None}
+use Rattle.std.specs.Prelude.{if◌then◌else◌}
+use Rattle.std.specs.List.{list_any}
 use Rattle.isa_model.specs.declared.instructions.Insn.{Insn}
 use Rattle.isa_model.specs.declared.instructions.Insn.TheVariants.{Exit}
-use Rattle.isa_model.specs.Code.Instructions.{Program, fetch}
-use Rattle.isa_model.specs.Machine.States.{State}
-use Rattle.isa_model.specs.Machine.Steps.{StepResult, Next, Finished, Trapped, performed_at, step}
+use Rattle.isa_model.specs.declared.ends.TrapReason.TheVariants.{UnsetRead, ReadOnly}
+use Rattle.isa_model.specs.Code.Instructions.{Program, fetch, reads, writes, is_frame_pointer}
+use Rattle.isa_model.specs.Machine.States.{State, reg}
+use Rattle.isa_model.specs.Machine.Steps.{StepResult, Next, Finished, Trapped, is_unset, act, performed_at, step}
 use Rattle.isa_model.specs.Machine.MachineStates.{IsProgram, IsClock, IsState}
 use Rattle.isa_model.specs.Machine.StepLaws.{IfNext, step_keeps}
 use Rattle.isa_model.specs.Running.Runs.{Reaches as ModelReaches}
@@ -45,14 +48,30 @@ fetched p clock s P h = by_fetch (fetch p s.slot) refl h
     by_fetch None e h = absurd h
     by_fetch (Some i) e h = (i, e)
 
+-- and its instruction does not write r10
+not_read_only : (p : Program) (clock : ℕ → ℕ) (s : State) (P : State → Type 0) (i : Insn) → fetch p s.slot ≡ Some i → After P (step p clock s)
+    → is_frame_pointer (writes i) ≡ false
+unfolding step
+not_read_only p clock s P i found h =
+    unset (list_any (λ r. is_unset (reg s r)) (reads i)) (subst (λ o. After P (performed_at p clock s o)) found h)
+  where
+    own : (b : Bool) (r : StepResult) → After P (if b then Trapped ReadOnly else r) → b ≡ false
+    own true r h = absurd h
+    own false r h = refl
+
+    unset : (b : Bool) → After P (if b then Trapped UnsetRead else if is_frame_pointer (writes i) then Trapped ReadOnly else act p clock s i)
+        → is_frame_pointer (writes i) ≡ false
+    unset true h = absurd h
+    unset false h = own (is_frame_pointer (writes i)) (act p clock s i) h
+
 module _ (p : Program) (clock : ℕ → ℕ) (program : IsProgram p) (answers : IsClock clock) where
   -- ---- runs that end
 
   -- a step that does not trap says what the move needs, and what holds of the next words where it holds of the next states
   stands : (P : Words → Type 0) (Q : State → Type 0) (a : Layout) (s : State) (w : Words) (R : Related p a s w) (K : IsState p s) (i : Insn) → fetch p s.slot ≡ Some i
-      → (q : StepResult) → After Q q → OkMove p clock a s w R K i q → IfNext q (IsState p)
+      → is_frame_pointer (writes i) ≡ false → (q : StepResult) → After Q q → OkMove p clock a s w R K i q → IfNext q (IsState p)
       → ((b : Layout) (t : State) (v : Words) → Related p b t v → IsState p t → Q t → P v) → Stands p clock w P
-  stands P Q a s w R K i found q ends move keeps rest = by_step q ends move keeps
+  stands P Q a s w R K i found own q ends move keeps rest = by_step q ends move keeps
     where
       shallow : length w.saved < 8
       shallow = let d = R.frames.depth in let e = K.depth in omega arith
@@ -65,6 +84,7 @@ module _ (p : Program) (clock : ℕ → ℕ) (program : IsProgram p) (answers : 
         insn = i;
         found = ap (fetch p) R.slot ∙ found;
         fits = move.0;
+        own = own;
         shallow = shallow;
         short = short;
         after = λ going v m. let (b, related) = move.2 v m in rest b t v related keeps ends;
@@ -73,6 +93,7 @@ module _ (p : Program) (clock : ℕ → ℕ) (program : IsProgram p) (answers : 
         insn = i;
         found = ap (fetch p) R.slot ∙ found;
         fits = subst (Fits w) (sym move.0.0) tt;
+        own = own;
         shallow = shallow;
         short = short;
         after = λ going v m. absurd (going move.0);
@@ -85,7 +106,8 @@ module _ (p : Program) (clock : ℕ → ℕ) (program : IsProgram p) (answers : 
   related_Ends zero a s w R K h = absurd h
   related_Ends (suc n) a s w R K h =
       let (i, found) = fetched p clock s (λ t. ModelEnds p clock t n) h in
-      stands (λ v. Ends p clock v n) (λ t. ModelEnds p clock t n) a s w R K i found (step p clock s) h (moves p clock a s w R K i found program)
+      stands (λ v. Ends p clock v n) (λ t. ModelEnds p clock t n) a s w R K i found
+      (not_read_only p clock s (λ t. ModelEnds p clock t n) i found h) (step p clock s) h (moves p clock a s w R K i found program)
       (step_keeps p clock s program answers K) (λ b t v related keeps ends. related_Ends n b t v related keeps ends)
 
   -- ---- runs so far

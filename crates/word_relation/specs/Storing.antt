@@ -41,7 +41,8 @@ use Rattle.word_relation.specs.Values.{contents_are, written, written_shown, set
 use Rattle.word_relation.specs.Addresses.{add_near}
 use Rattle.word_relation.specs.Arithmetic.{far}
 use Rattle.word_relation.specs.Cells.{shows-take, shows-drop, shows-append, shows-bytes, shows-length, shows-pieces}
-use Rattle.word_relation.specs.Loading.{spot_packet, spot_frame, spot_value, frame_whole, live_depth, live_value}
+use Rattle.word_machine.specs.FrameLaws.{spot_frame}
+use Rattle.word_relation.specs.Loading.{spot_packet, spot_value, frame_whole, live_depth, live_value}
 
 -- a frame of a list in which one was replaced
 at_set : (fs : List CallFrame) (j k : ℕ) (g : CallFrame) (P : CallFrame → Type 0) → j < length fs → (k ≡ j → P g) → ((k ≡ j → ⊥) → P (frame_at fs k)) → P (frame_at (slice_set fs j g) k)

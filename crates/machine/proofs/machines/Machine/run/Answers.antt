@@ -1,4 +1,4 @@
-use Rattle.std.proofs.Common.{subst}
+use Rattle.std.proofs.Common.{◌≡◌, length, subst, ap, arith}
 use Rattle.maps.specs.Maps.{contents_of}
 use Rattle.machine.specs.Running.{Running, Answers}
 use Rattle.machine.proofs.Runs.{run_ends, run_answers, still_ready}
@@ -8,6 +8,11 @@ pub run-answer-requires-clause-ends : goal.run-answer-requires-clause-ends
 run-answer-requires-clause-ends g c =
     run_ends c.self.inside.program c.self.inside.bound c.self.inside.memory c.self.invariant c.args.head c.args.packet.now (g.C.Clock.at c.args.clock.now)
     (g.met.C.Clock.within c.args.clock.now) c.requires c.in_range.ensures.bytes c.in_range.ensures.interface c.in_range.ensures.queue c.count-count.ensures.maps
+
+pub run-answer-requires-clause-top : goal.run-answer-requires-clause-top
+run-answer-requires-clause-top g c =
+    let none : length c.self.inside.memory.saved.items ≡ 0 = ap length c.self.invariant.outer in
+    omega arith
 
 pub invariant_of-self : goal.invariant_of-self
 invariant_of-self g c =
