@@ -5,7 +5,8 @@ ghost use Rattle.isa_model.specs.Code.Instructions.{Program};
 ghost use Rattle.isa_model.specs.Text.CanonicalText.{canonical_text};
 ghost use Rattle.image.specs.Images.{IsImage};
 ghost use Rattle.assembler.specs.declared.errors.AsmErrorKind.TheVariants as AsmErrorKind;
-ghost use Rattle.assembler.specs.Assembling.{start, read_on, finished, program_in, assembled};
+ghost use Rattle.assembler.specs.Assembling.{start, read_on, program_of};
+ghost use Rattle.assembler.specs.Assembling.{finished, program_in, assembled};
 ghost use Rattle.assembler.specs.Assembling.{Answers};
 ghost use Rattle.assembler.specs.Drafts.{progress_of};
 
@@ -14,6 +15,7 @@ use super::errors::{AsmError, AsmErrorKind};
 use super::names::resolve;
 use super::refusals::{Refusal, located};
 use image::Image;
+use isa_model::{Insn, MapDef};
 use lexer::lexeme_at;
 use std::alloc::Global;
 
@@ -62,6 +64,26 @@ fn read<'a>(alloc: Global, text: &'a [u8]) -> Result<Draft<'a>, Refusal>
     }
 }
 
+// The image of these map rows and instructions, of which all else that is refused was so statement
+// by statement.
+fn image_with(alloc: Global, maps: &[MapDef], insns: &[Insn]) -> Result<Image, Refusal>
+    ensures { Answers (λ image. image) result (program_of maps.now insns.now) }
+{
+    if insns.is_empty() {
+        return Err(Refusal {
+            kind: AsmErrorKind::SlotCount,
+            offset: 0,
+        });
+    }
+    match Image::of(alloc, maps, insns) {
+        Ok(image) => Ok(image),
+        Err(_) => Err(Refusal {
+            kind: AsmErrorKind::Memory,
+            offset: 0,
+        }),
+    }
+}
+
 // The image of a text that was read.
 fn finish(alloc: Global, draft: Draft<'_>) -> Result<Image, Refusal>
     ensures { Answers (λ image. image) result (finished (progress_of draft.entry)) }
@@ -76,20 +98,7 @@ fn finish(alloc: Global, draft: Draft<'_>) -> Result<Image, Refusal>
     } = draft;
     let mut insns = code.into_insns();
     resolve(&mut insns, &labels, &uses)?;
-    if insns.is_empty() {
-        return Err(Refusal {
-            kind: AsmErrorKind::SlotCount,
-            offset: 0,
-        });
-    }
-    // all else that is refused was so statement by statement
-    match Image::of(alloc, &maps, &insns) {
-        Ok(image) => Ok(image),
-        Err(_) => Err(Refusal {
-            kind: AsmErrorKind::Memory,
-            offset: 0,
-        }),
-    }
+    image_with(alloc, &maps, &insns)
 }
 
 fn image_of(alloc: Global, text: &[u8]) -> Result<Image, Refusal>

@@ -4,7 +4,7 @@ ghost use Rattle.std.specs.Prelude.{◌≡◌, ◌≤◌, length, map, drop, sli
 ghost use Rattle.lexer.specs.declared.tokens.Lexeme.TheVariants as Lexeme;
 ghost use Rattle.assembler.specs.declared.errors.AsmErrorKind.TheVariants as AsmErrorKind;
 ghost use Rattle.assembler.specs.declared.readings.Statement.TheVariants as Statement;
-ghost use Rattle.assembler.specs.Labelled.{label_length, has_form};
+ghost use Rattle.assembler.specs.Labelled.{is_label, label_length, has_form};
 ghost use Rattle.assembler.specs.Assembling.{start, accept, closed, ended, added, named};
 ghost use Rattle.assembler.specs.Assembling.{with_use, refused_by};
 ghost use Rattle.assembler.specs.Assembling.{refusal_of, offset_or, Answers};
@@ -42,6 +42,16 @@ pub struct Draft<'a> {
     pub code: Code,
     pub labels: Labels<'a>,
     pub uses: Vec<Use<'a>>,
+}
+
+// Whether a statement that begins with these tokens has a label: a name, and a colon after it.
+fn is_label(first: Option<Token>, second: Option<Token>) -> bool
+    ensures { result ≡ is_label first second }
+{
+    match (first, second) {
+        (Some(Token::Named(word)), Some(Token::Signed(Sign::Colon))) => is_name(word),
+        _ => false,
+    }
 }
 
 impl<'a> Draft<'a> {
@@ -103,6 +113,14 @@ impl<'a> Draft<'a> {
         if label > 0 {
             self.define_label()?;
         }
+        self.end(statement, label)
+    }
+
+    // Ends a statement that tokens spell, after a label of that many.
+    fn end(&mut self, statement: Statement, label: usize) -> Result<(), Refusal>
+        ensures { Answers (λ _. progress_of self.new) result
+            (ended (progress_of self.old) label statement) }
+    {
         match statement {
             Statement::Empty => {
                 self.tokens.clear();
@@ -193,9 +211,10 @@ impl<'a> Draft<'a> {
         ensures exact { result ≡ label_length self.now.tokens.items }
         ensures within { result ≤ length self.now.tokens.items }
     {
-        match (self.tokens.get(0).copied(), self.tokens.get(1).copied()) {
-            (Some(Token::Named(word)), Some(Token::Signed(Sign::Colon))) if is_name(word) => 2,
-            _ => 0,
+        if is_label(self.tokens.get(0).copied(), self.tokens.get(1).copied()) {
+            2
+        } else {
+            0
         }
     }
 

@@ -92,9 +92,12 @@ fn answers<R: Files + AllocGlobal + Abort>(
     let mut out = sink(rt.alloc());
     let mut err = sink(rt.alloc());
     let found = status_of(rt, texts, &mut out, &mut err)?;
-    assert_eq!(rt; found, status, "{texts:?}");
-    assert_eq!(rt; out.taken.as_slice(), report.as_bytes(), "{texts:?}");
-    assert_eq!(rt; err.taken.as_slice(), said.as_bytes(), "{texts:?}");
+    let answer = (found, out.taken.as_slice(), err.taken.as_slice());
+    assert_eq!(rt;
+        answer,
+        (status, report.as_bytes(), said.as_bytes()),
+        "{texts:?}"
+    );
     Ok(())
 }
 

@@ -62,9 +62,8 @@ fn one_identity_is_one_in_the_other(rt: HostRuntime) -> Result<(), Fail> {
     let one = state(3, registers(packet(1, 0), packet(1, 0)));
     let same = state(3, registers(packet(4, 0), packet(4, 0)));
     let two = state(3, registers(packet(4, 0), packet(5, 0)));
-    assert!(rt; covers(&one, &same));
-    assert!(rt; !covers(&one, &two));
-    assert!(rt; covers(&two, &one));
+    let covered = [covers(&one, &same), covers(&one, &two), covers(&two, &one)];
+    assert_eq!(rt; covered, [true, false, true]);
     Ok(())
 }
 
@@ -72,8 +71,8 @@ fn one_identity_is_one_in_the_other(rt: HostRuntime) -> Result<(), Fail> {
 fn a_longer_proof_is_not_covered(rt: HostRuntime) -> Result<(), Fail> {
     let more = state(3, registers(packet(1, 14), Kind::Unset));
     let less = state(3, registers(packet(2, 10), Kind::Unset));
-    assert!(rt; !covers(&more, &less));
-    assert!(rt; covers(&less, &more));
+    let covered = [covers(&more, &less), covers(&less, &more)];
+    assert_eq!(rt; covered, [false, true]);
     Ok(())
 }
 
@@ -83,10 +82,13 @@ fn unset_covers_and_the_slot_counts(rt: HostRuntime) -> Result<(), Fail> {
     let mut last = [Kind::Unset; 10];
     last[9] = Kind::Context;
     let some = state(3, last);
-    assert!(rt; covers(&nothing, &some));
-    assert!(rt; !covers(&some, &nothing));
-    assert!(rt; covers(&some, &some));
-    assert!(rt; !covers(&state(4, last), &some));
+    let covered = [
+        covers(&nothing, &some),
+        covers(&some, &nothing),
+        covers(&some, &some),
+        covers(&state(4, last), &some),
+    ];
+    assert_eq!(rt; covered, [true, false, true, false]);
     Ok(())
 }
 
@@ -96,8 +98,8 @@ fn numbers_go_by_their_limits(rt: HostRuntime) -> Result<(), Fail> {
     let seven = number(Bits::constant(7), Range::constant(7));
     let wide = state(3, registers(any, Kind::Unset));
     let narrow = state(3, registers(seven, Kind::Unset));
-    assert!(rt; covers(&wide, &narrow));
-    assert!(rt; !covers(&narrow, &wide));
+    let covered = [covers(&wide, &narrow), covers(&narrow, &wide)];
+    assert_eq!(rt; covered, [true, false]);
     Ok(())
 }
 
@@ -105,9 +107,12 @@ fn numbers_go_by_their_limits(rt: HostRuntime) -> Result<(), Fail> {
 fn return_slots_and_depth_count(rt: HostRuntime) -> Result<(), Fail> {
     let none = [Kind::Unset; 10];
     let seven = in_call(7, none, none);
-    assert!(rt; covers(&seven, &in_call(7, none, none)));
-    assert!(rt; !covers(&seven, &in_call(8, none, none)));
-    assert!(rt; !covers(&seven, &state(3, none)));
+    let covered = [
+        covers(&seven, &in_call(7, none, none)),
+        covers(&seven, &in_call(8, none, none)),
+        covers(&seven, &state(3, none)),
+    ];
+    assert_eq!(rt; covered, [true, false, false]);
     Ok(())
 }
 
@@ -118,8 +123,7 @@ fn names_hold_across_frames(rt: HostRuntime) -> Result<(), Fail> {
     kept[6] = packet(1, 0);
     let one = in_call(7, kept, registers(packet(1, 0), Kind::Unset));
     let two = in_call(7, kept, registers(packet(2, 0), Kind::Unset));
-    assert!(rt; covers(&one, &one));
-    assert!(rt; !covers(&one, &two));
-    assert!(rt; covers(&two, &one));
+    let covered = [covers(&one, &one), covers(&one, &two), covers(&two, &one)];
+    assert_eq!(rt; covered, [true, false, true]);
     Ok(())
 }

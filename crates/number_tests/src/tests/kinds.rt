@@ -27,19 +27,25 @@ fn packet(proved: u32) -> Kind {
 
 #[test]
 fn a_number_and_a_pointer_cover_neither(rt: HostRuntime) -> Result<(), Fail> {
-    assert!(rt; !any_number().covers(packet(0), OWN));
-    assert!(rt; !packet(0).covers(any_number(), OWN));
-    assert!(rt; Kind::Unset.covers(packet(0), OWN));
-    assert!(rt; Kind::Unset.covers(any_number(), OWN));
+    let covered = [
+        any_number().covers(packet(0), OWN),
+        packet(0).covers(any_number(), OWN),
+        Kind::Unset.covers(packet(0), OWN),
+        Kind::Unset.covers(any_number(), OWN),
+    ];
+    assert_eq!(rt; covered, [false, false, true, true]);
     Ok(())
 }
 
 #[test]
 fn a_proved_length_covers_a_longer_one(rt: HostRuntime) -> Result<(), Fail> {
-    assert!(rt; !packet(14).covers(packet(10), OWN));
-    assert!(rt; packet(10).covers(packet(14), OWN));
-    assert!(rt; packet(14).covers(packet(14), OWN));
-    assert!(rt; !packet(14).covers(packet(14), OWN + 1));
+    let covered = [
+        packet(14).covers(packet(10), OWN),
+        packet(10).covers(packet(14), OWN),
+        packet(14).covers(packet(14), OWN),
+        packet(14).covers(packet(14), OWN + 1),
+    ];
+    assert_eq!(rt; covered, [false, true, true, false]);
     Ok(())
 }
 
@@ -54,9 +60,12 @@ fn a_live_value_is_not_one_or_null(rt: HostRuntime) -> Result<(), Fail> {
         least: 0,
         greatest: 8,
     };
-    assert!(rt; !live.covers(answered, OWN));
-    assert!(rt; live.covers(live, OWN));
-    assert!(rt; answered.covers(answered, OWN));
+    let covered = [
+        live.covers(answered, OWN),
+        live.covers(live, OWN),
+        answered.covers(answered, OWN),
+    ];
+    assert_eq!(rt; covered, [false, true, true]);
     assert_eq!(rt; answered.null_identity(), Some(OWN));
     assert_eq!(rt; packet(0).packet_identity(), Some(OWN));
     Ok(())

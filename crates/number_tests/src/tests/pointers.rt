@@ -167,11 +167,23 @@ fn offsets_before_the_variable_part_prove_nothing(rt: HostRuntime) -> Result<(),
     let far = [packet(0, 3, 0x8000_0000); 4];
     let at_or_before = (Comparison::LessEqual, false, true);
     let is_before = (Comparison::Less, false, true);
-    assert_eq!(rt; packet_test(at_or_before, 0, before), Some(before));
-    assert_eq!(rt; packet_test(is_before, 0, before), Some(one));
-    assert_eq!(rt; packet_test(is_before, -1, before), Some(before));
-    assert_eq!(rt; packet_test(at_or_before, i32::MIN, before), Some(before));
-    assert_eq!(rt; packet_test(is_before, i32::MAX, before), Some(far));
+    let left = [
+        packet_test(at_or_before, 0, before),
+        packet_test(is_before, 0, before),
+        packet_test(is_before, -1, before),
+        packet_test(at_or_before, i32::MIN, before),
+        packet_test(is_before, i32::MAX, before),
+    ];
+    assert_eq!(rt;
+        left,
+        [
+            Some(before),
+            Some(one),
+            Some(before),
+            Some(before),
+            Some(far)
+        ]
+    );
     Ok(())
 }
 
@@ -184,10 +196,13 @@ fn null_tests_decide_every_copy(rt: HostRuntime) -> Result<(), Fail> {
     let state = in_call(looked_up(5), Kind::Unset, before);
     let equal = condition(Comparison::Equal, FULL, Reg::R2, ZERO);
     let unequal = condition(Comparison::NotEqual, FULL, Reg::R2, ZERO);
-    assert_eq!(rt; left_of(equal, true, &state), Some(null));
-    assert_eq!(rt; left_of(equal, false, &state), Some(live));
-    assert_eq!(rt; left_of(unequal, true, &state), Some(live));
-    assert_eq!(rt; left_of(unequal, false, &state), Some(null));
+    let left = [
+        left_of(equal, true, &state),
+        left_of(equal, false, &state),
+        left_of(unequal, true, &state),
+        left_of(unequal, false, &state),
+    ];
+    assert_eq!(rt; left, [Some(null), Some(live), Some(live), Some(null)]);
     Ok(())
 }
 
@@ -197,10 +212,13 @@ fn live_values_are_not_null(rt: HostRuntime) -> Result<(), Fail> {
     let state = in_call(VALUE, Kind::Unset, copies);
     let equal = condition(Comparison::Equal, FULL, Reg::R2, ZERO);
     let unequal = condition(Comparison::NotEqual, FULL, Reg::R2, ZERO);
-    assert_eq!(rt; left_of(equal, true, &state), None);
-    assert_eq!(rt; left_of(equal, false, &state), Some(copies));
-    assert_eq!(rt; left_of(unequal, true, &state), Some(copies));
-    assert_eq!(rt; left_of(unequal, false, &state), None);
+    let left = [
+        left_of(equal, true, &state),
+        left_of(equal, false, &state),
+        left_of(unequal, true, &state),
+        left_of(unequal, false, &state),
+    ];
+    assert_eq!(rt; left, [None, Some(copies), Some(copies), None]);
     Ok(())
 }
 

@@ -68,9 +68,12 @@ fn number(constant: u64) -> Slot {
 fn a_pointer_and_a_number_are_apart(rt: HostRuntime) -> Result<(), Fail> {
     let pointer = state(&[(5, Slot::Spilled(Kind::Context))]);
     let seven = state(&[(5, number(7))]);
-    assert!(rt; covers(&pointer, &pointer));
-    assert!(rt; !covers(&pointer, &seven));
-    assert!(rt; !covers(&seven, &pointer));
+    let covered = [
+        covers(&pointer, &pointer),
+        covers(&pointer, &seven),
+        covers(&seven, &pointer),
+    ];
+    assert_eq!(rt; covered, [true, false, false]);
     Ok(())
 }
 
@@ -80,14 +83,20 @@ fn written_bytes_cover_a_number(rt: HostRuntime) -> Result<(), Fail> {
     let half = state(&[(63, Slot::Written(0x0f))]);
     let whole = state(&[(63, Slot::Written(0xff))]);
     let seven = state(&[(63, number(7))]);
-    assert!(rt; covers(&nothing, &half));
-    assert!(rt; !covers(&half, &nothing));
-    assert!(rt; covers(&half, &whole));
-    assert!(rt; !covers(&whole, &half));
-    assert!(rt; covers(&whole, &seven));
-    assert!(rt; !covers(&seven, &whole));
-    assert!(rt; !covers(&seven, &state(&[(63, number(8))])));
-    assert!(rt; !covers(&whole, &state(&[(63, Slot::Spilled(Kind::Context))])));
+    let covered = [
+        covers(&nothing, &half),
+        covers(&half, &nothing),
+        covers(&half, &whole),
+        covers(&whole, &half),
+        covers(&whole, &seven),
+        covers(&seven, &whole),
+        covers(&seven, &state(&[(63, number(8))])),
+        covers(&whole, &state(&[(63, Slot::Spilled(Kind::Context))])),
+    ];
+    assert_eq!(rt;
+        covered,
+        [true, false, true, false, true, false, false, false]
+    );
     Ok(())
 }
 
@@ -96,10 +105,13 @@ fn identities_hold_across_slots(rt: HostRuntime) -> Result<(), Fail> {
     let one = state(&[(0, packet(1, 0)), (9, packet(1, 0))]);
     let same = state(&[(0, packet(4, 0)), (9, packet(4, 0))]);
     let two = state(&[(0, packet(4, 0)), (9, packet(5, 0))]);
-    assert!(rt; covers(&one, &same));
-    assert!(rt; !covers(&one, &two));
-    assert!(rt; covers(&two, &one));
-    assert!(rt; !covers(&state(&[(0, packet(1, 14))]), &state(&[(0, packet(1, 10))])));
+    let covered = [
+        covers(&one, &same),
+        covers(&one, &two),
+        covers(&two, &one),
+        covers(&state(&[(0, packet(1, 14))]), &state(&[(0, packet(1, 10))])),
+    ];
+    assert_eq!(rt; covered, [true, false, true, false]);
     Ok(())
 }
 
@@ -112,9 +124,12 @@ fn an_identity_is_one_in_registers_and_slots(rt: HostRuntime) -> Result<(), Fail
     same.innermost.registers[2] = pointer;
     let mut other = state(&[(8, packet(2, 0))]);
     other.innermost.registers[2] = pointer;
-    assert!(rt; covers(&same, &same));
-    assert!(rt; !covers(&same, &other));
-    assert!(rt; covers(&other, &same));
+    let covered = [
+        covers(&same, &same),
+        covers(&same, &other),
+        covers(&other, &same),
+    ];
+    assert_eq!(rt; covered, [true, false, true]);
     Ok(())
 }
 
@@ -122,10 +137,13 @@ fn an_identity_is_one_in_registers_and_slots(rt: HostRuntime) -> Result<(), Fail
 fn the_stacks_of_callers_count(rt: HostRuntime) -> Result<(), Fail> {
     let nothing = in_call(&[]);
     let seven = in_call(&[(2, number(7))]);
-    assert!(rt; covers(&nothing, &seven));
-    assert!(rt; covers(&seven, &seven));
-    assert!(rt; !covers(&seven, &nothing));
-    assert!(rt; !covers(&seven, &in_call(&[(3, number(7))])));
-    assert!(rt; !covers(&state(&[]), &nothing));
+    let covered = [
+        covers(&nothing, &seven),
+        covers(&seven, &seven),
+        covers(&seven, &nothing),
+        covers(&seven, &in_call(&[(3, number(7))])),
+        covers(&state(&[]), &nothing),
+    ];
+    assert_eq!(rt; covered, [true, true, false, false, false]);
     Ok(())
 }
