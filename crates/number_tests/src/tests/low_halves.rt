@@ -1,7 +1,7 @@
 //! How precise limits of low halves are, worked out by hand: of numbers whose upper halves are not
 //! known.
 
-use isa_model::{AluOp, Comparison, Extension, Width};
+use isa_model::{AluOp, ByteOrder, Comparison, Extension, Span, Width};
 use reg_state::{Domain, Scalar, refine};
 use std::test::Fail;
 
@@ -130,6 +130,10 @@ fn casts_take_them_up(rt: HostRuntime) -> Result<(), Fail> {
     let shifted = with(AluOp::Arsh, FULL, with(AluOp::Lsh, FULL, few, 32), 32);
     assert!(rt; shifted.range.wide.signed_least == -2);
     assert!(rt; shifted.range.wide.signed_greatest == 4);
+    // Known bits see the limits of the whole number that these leave.
+    assert!(rt; Scalar::sign_extend(Extension::Low16, digits).bits.mask == 15);
+    let word = Scalar::reorder(ByteOrder::Little, Span::B32, digits);
+    assert!(rt; word.bits.mask == 15);
     Ok(())
 }
 
