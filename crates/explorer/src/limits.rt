@@ -8,6 +8,9 @@ use reg_state::{Kind, Scalar};
 use stack_state::Slot;
 use std::alloc::AllocError;
 
+/// How many measures a place has.
+pub const MEASURES: usize = 9;
+
 /// What a place holds.
 #[derive(Clone, Copy, PartialEq, Eq, Drop)]
 enum Sort {
@@ -29,7 +32,7 @@ pub struct Limits {
     /// Frames come one after another, and in each of them registers before slots.
     pub place: u32,
     sort: Sort,
-    measures: [u64; 8],
+    measures: [u64; MEASURES],
 }
 
 /// A measure of a place.
@@ -54,11 +57,11 @@ fn same(number: i32) -> [u64; 2] {
     between(number, number)
 }
 
-fn of_two(first: [u64; 2], second: [u64; 2]) -> [u64; 8] {
-    [first[0], first[1], second[0], second[1], 0, 0, 0, 0]
+fn of_two(first: [u64; 2], second: [u64; 2]) -> [u64; MEASURES] {
+    [first[0], first[1], second[0], second[1], 0, 0, 0, 0, 0]
 }
 
-fn of_number(numbers: &Scalar) -> [u64; 8] {
+fn of_number(numbers: &Scalar) -> [u64; MEASURES] {
     let wide: &Wide = &numbers.range.wide;
     let low: &Low = &numbers.range.low;
     let halves = between(low.signed_least, low.signed_greatest);
@@ -71,14 +74,17 @@ fn of_number(numbers: &Scalar) -> [u64; 8] {
         u64::from(low.greatest),
         halves[0],
         halves[1],
+        // which bits may be any: of two such sets the one that has the other is no less in either
+        // order of the bits, and the limits go by the order from the top
+        numbers.bits.mask.reverse_bits(),
     ]
 }
 
-fn of_kind(kind: &Kind) -> Option<(Sort, [u64; 8])> {
+fn of_kind(kind: &Kind) -> Option<(Sort, [u64; MEASURES])> {
     let found = match kind {
         Kind::Unset => return None,
         Kind::Number(numbers) => (Sort::Number, of_number(numbers)),
-        Kind::Context => (Sort::Context, [0; 8]),
+        Kind::Context => (Sort::Context, [0; MEASURES]),
         Kind::Stack { frame, offset } => {
             (Sort::Stack, of_two(same(i32::from(*frame)), same(*offset)))
         }
@@ -93,7 +99,7 @@ fn of_kind(kind: &Kind) -> Option<(Sort, [u64; 8])> {
             measures[4] = !u64::from(*proved);
             (Sort::Packet, measures)
         }
-        Kind::PacketEnd => (Sort::PacketEnd, [0; 8]),
+        Kind::PacketEnd => (Sort::PacketEnd, [0; MEASURES]),
         Kind::Map { index } => (Sort::Map, of_two(same(i32::from(*index)), [0; 2])),
         Kind::MapValue {
             index,
@@ -112,7 +118,7 @@ fn of_kind(kind: &Kind) -> Option<(Sort, [u64; 8])> {
 }
 
 /// A measure for each byte: 1 where it need not be written.
-fn of_marks(marks: u8) -> [u64; 8] {
+fn of_marks(marks: u8) -> [u64; MEASURES] {
     let free = u64::from(!marks);
     [
         free & 1,
@@ -123,6 +129,7 @@ fn of_marks(marks: u8) -> [u64; 8] {
         free >> 5 & 1,
         free >> 6 & 1,
         free >> 7 & 1,
+        1,
     ]
 }
 
@@ -150,7 +157,7 @@ impl Limits {
         if self.sort != other.sort {
             return self.sort == Sort::Written;
         }
-        for index in 0..8 {
+        for index in 0..MEASURES {
             if self.measures[index] < other.measures[index] {
                 return false;
             }
@@ -164,10 +171,10 @@ impl Limits {
         if self.sort != other.sort {
             return false;
         }
-        for index in 0..8 {
+        for index in 0..MEASURES {
             self.measures[index] = self.measures[index].max(other.measures[index]);
         }
-        self.sort != Sort::Written || self.measures != [1; 8]
+        self.sort != Sort::Written || self.measures != [1; MEASURES]
     }
 }
 

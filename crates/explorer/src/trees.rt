@@ -2,7 +2,7 @@
 //!
 //! No contract rests on them: they propose states, and `covers` decides.
 
-use crate::limits::{Limits, Measure, may_enclose, measured, widen};
+use crate::limits::{Limits, MEASURES, Measure, may_enclose, measured, widen};
 use crate::orders::Order;
 use std::alloc::{AllocError, Global};
 
@@ -89,7 +89,7 @@ impl Items {
     /// The measures in which the entries differ.
     fn measures(&self, alloc: Global, common: &[Limits]) -> Result<Vec<Measure>, AllocError> {
         let mut measures = Vec::new(alloc);
-        for index in 0..8 {
+        for index in 0..MEASURES {
             for limits in common {
                 let measure = Measure {
                     place: limits.place,
