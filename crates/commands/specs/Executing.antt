@@ -1,5 +1,5 @@
 -- What the program does where it is given words.
-use Rattle.std.specs.Prelude.{◌≡◌, ℕ, List, ◌++◌, Option, None, ◌⊎◌}
+use Rattle.std.specs.Prelude.{ℕ, List, ◌++◌, Option, ◌⊎◌}
 use Rattle.isa_model.specs.declared.instructions.Insn.{Insn}
 use Rattle.isa_model.specs.{Program}
 use Rattle.explorer.specs.declared.refusals.Refusal.{Refusal}
