@@ -41,6 +41,7 @@ RUNS = [
     ["dis", image("allow")],
     ["asm", "right.text", "made"],
     ["asm", "wrong.text", "made"],
+    ["verify", "again.image"],
     ["verify", "lost"],
     ["walk"],
 ]
@@ -190,6 +191,9 @@ def main():
         it.write("  r0 = 2 # passes\nagain: r1 = 5; if r1 > 7 goto again\nexit\n")
     with open("wrong.text", "w") as it:
         it.write("exit\ngoto nowhere\n")
+    with open("again.text", "w") as it:
+        it.write("again: r6 = *(u32 *)(r1 + 12)\nif r6 != 0 goto again\nr0 = 2\nexit\n")
+    Answer(["asm", "again.text", "again.image"])
     given, wrong = Counter(), 0
     if not comes_at_once():
         wrong += 1

@@ -187,7 +187,9 @@ pub fn explain(alloc: Global, image: &Image, refusal: Refusal, slot: usize) -> O
     let mut search = Search::new(alloc, slots).ok()?;
     let mut room = Vec::new(alloc);
     match search.explore(alloc, image, &flow, &mut room) {
-        Ok(_) => None,
-        Err(_) => at_end(image, &flow, &search.path, refusal, slot),
+        Err((found, at)) if found == refusal && at == slot => {
+            at_end(image, &flow, &search.path, refusal, slot)
+        }
+        _ => None,
     }
 }
