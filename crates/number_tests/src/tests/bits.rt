@@ -233,3 +233,43 @@ fn relations(rt: HostRuntime) -> Result<(), Fail> {
     }
     Ok(())
 }
+
+const WORD: Pair = (0, 0xffff_ffff);
+
+/// A number whose low half is 7, and one whose low half is 8.
+const SEVEN: Pair = (0x5_0000_0007, 0);
+
+const EIGHT: Pair = (0x5_0000_0008, 0);
+
+/// A relation of low halves, two sets, and what it leaves of both. A number that may have an upper
+/// half stays as it is.
+const LOW_RELATIONS: [(Relation, Pair, Pair, Option<(Pair, Pair)>); 8] = [
+    (Relation::Equal, WORD, SEVEN, Some(((7, 0), SEVEN))),
+    (Relation::Equal, SEVEN, WORD, Some((SEVEN, (7, 0)))),
+    (Relation::Equal, SEVEN, EIGHT, None),
+    (Relation::Equal, ANY, SEVEN, Some((ANY, SEVEN))),
+    (Relation::Below, WORD, EIGHT, Some(((0, 7), EIGHT))),
+    (Relation::AtMost, WORD, SEVEN, Some(((0, 7), SEVEN))),
+    (
+        Relation::Disjoint,
+        SEVEN,
+        WORD,
+        Some((SEVEN, (0, 0xffff_fff8))),
+    ),
+    (
+        Relation::Overlapping,
+        WORD,
+        EIGHT,
+        Some(((8, 0xffff_fff7), EIGHT)),
+    ),
+];
+
+#[test]
+fn relations_of_low_halves(rt: HostRuntime) -> Result<(), Fail> {
+    for (relation, a, b, wanted) in LOW_RELATIONS.iter() {
+        let found = related(relation, LOW, bits_of(*a), bits_of(*b));
+        let left = found.map(|both| (pair_of(both.0), pair_of(both.1)));
+        assert_eq!(rt; left, *wanted);
+    }
+    Ok(())
+}

@@ -154,3 +154,35 @@ fn the_upper_half_shows_whole_limits(rt: HostRuntime) -> Result<(), Fail> {
     );
     Ok(())
 }
+
+/// Comparisons with numbers, of which a low half of 5 goes the other way.
+const NEVER: [(Comparison, bool, u64); 11] = [
+    (Comparison::Equal, true, 6),
+    (Comparison::NotEqual, true, 5),
+    (Comparison::Less, true, 5),
+    (Comparison::LessEqual, true, 4),
+    (Comparison::Greater, true, 5),
+    (Comparison::GreaterEqual, true, 6),
+    (Comparison::SignedLess, true, 0xffff_ffff),
+    (Comparison::SignedLessEqual, true, 0x8000_0000),
+    (Comparison::SignedGreater, false, 0xffff_ffff),
+    (Comparison::SignedGreaterEqual, false, 0x8000_0000),
+    (Comparison::AnyBit, false, 4),
+];
+
+#[test]
+fn a_known_low_half_goes_one_way(rt: HostRuntime) -> Result<(), Fail> {
+    let five = left_of(Comparison::Equal, true, Scalar::any(FULL), 5).ok_or("never equal")?;
+    for (comparison, taken, number) in NEVER.iter() {
+        assert_eq!(rt;
+            left_of(*comparison, *taken, five, *number),
+            None,
+            "{comparison:?}"
+        );
+        assert!(rt;
+            left_of(*comparison, !*taken, five, *number).is_some(),
+            "{comparison:?}"
+        );
+    }
+    Ok(())
+}

@@ -63,6 +63,17 @@ fn common_members(rt: HostRuntime) -> Result<(), Fail> {
     let even = with(AluOp::Lsh, Scalar::any(FULL), 1);
     assert_eq!(rt; even.meet(Scalar::between(8, 9)), Some(Scalar::constant(8)));
     assert_eq!(rt; even.meet(Scalar::constant(7)), None);
+    // Of 0 and 2, by the bits of both, the limits leave 2.
+    let few = refined(
+        Comparison::Less,
+        FULL,
+        false,
+        with(AluOp::And, Scalar::any(FULL), 11),
+        2,
+    );
+    let least = few.ok_or("none from 2 on")?;
+    let both = least.meet(with(AluOp::And, Scalar::any(FULL), 6));
+    assert_eq!(rt; both, Some(Scalar::constant(2)));
     assert_eq!(rt; Scalar::constant(8).number(), Some(8));
     assert_eq!(rt; Scalar::between(8, 8).number(), Some(8));
     assert_eq!(rt; byte().number(), None);
