@@ -1,10 +1,14 @@
 -- Ranges: wider limits, and low halves of their numbers.
-use Rattle.std.proofs.Common.{◌≡◌, ℕ, subst, sym, arith, w64}
-use Rattle.std.specs.Int.{cast_unsigned}
-use Rattle.std.proofs.lemmas.Int.{ints}
+use Rattle.std.proofs.Common.{◌≡◌, ◌<◌, ◌≤◌, ◌%◌, ◌^◌, ◌∙◌, ℕ, subst, sym, refl, ap, inl, inr, arith, w64}
+use Rattle.std.specs.Prelude.{ℤ, ◌-◌, ◌⊎◌, ◌↔◌, ◌≤ℤ◌, FitsSigned}
+use Rattle.std.specs.Int.{w32, cast_signed, cast_unsigned}
+use Rattle.std.proofs.lemmas.Int.{ints, of_z-to_z}
+use Rattle.std.proofs.lemmas.Bool.{cases_lt}
+use Rattle.isa_model.specs.Code.NumberLemmas.{signed_equation}
+use Rattle.ranges.specs.Joint.{IsAmong}
 use Rattle.ranges.specs.Wides as W
 use Rattle.ranges.specs.Lows as L
-use Rattle.ranges.specs.Ranges.{Has, HasLow, IsTight, Encloses}
+use Rattle.ranges.specs.Ranges.{Has, HasLow, IsConstant, IsTight, Encloses}
 use Rattle.ranges.specs.declared.wide.Wide.{Wide}
 use Rattle.ranges.specs.declared.low.Low.{Low}
 use Rattle.ranges.specs.declared.range.Range.{Range}
@@ -22,7 +26,84 @@ wide_trans a b c h k = (omega (arith, h, k), omega (arith, h, k), omega (arith, 
 pub low_trans : (a b c : Low) → L.Encloses a b → L.Encloses b c → L.Encloses a c
 low_trans a b c h k = (omega (arith, h, k), omega (arith, h, k), omega (arith, ints, h, k), omega (arith, ints, h, k))
 
+-- ---- numbers without a sign bit, or with it: both readings have one order
+
+pub alike_has : (r : Wide) (x : ℕ) → r.greatest < 2 ^ 64 → (r.greatest < 2 ^ 63) ⊎ (2 ^ 63 ≤ r.least) → W.ReadsAlike r
+    → r.least ≤ x → x ≤ r.greatest → W.Has r x
+alike_has r x below half alike from to =
+    let e = signed_equation r.least (omega arith) in
+    let f = signed_equation r.greatest below in
+    let g = signed_equation x (omega arith) in
+    let order : (cast_signed w64 r.least ≤ℤ cast_signed w64 x) × (cast_signed w64 x ≤ℤ cast_signed w64 r.greatest) =
+    elim half [
+      | inl plain ↦ (omega (arith, ints), omega (arith, ints))
+      | inr signed ↦ (omega (arith, ints), omega (arith, ints))
+    ] in
+    record { below = omega arith; from = from; to = to; signed_from = rw alike.0 order.0; signed_to = rw alike.1 order.1 }
+
+-- the low half of a number between such limits, which others enclose
+pub among_half : (s r : Wide) (half : ℕ) → r.greatest < 2 ^ 64 → (r.greatest < 2 ^ 63) ⊎ (2 ^ 63 ≤ r.least) → W.ReadsAlike r
+    → ((x : ℕ) → W.Has r x → W.Has s x) → IsAmong r.least r.greatest half → W.HasHalf s half
+among_half s r half below part alike left is =
+    record { number = is.number; has = left is.number (alike_has r is.number below part alike is.from is.to); low = is.low }
+
 -- ---- tight limits
+
+-- a signed limit that is one of the numbers
+signed_has : (r : Wide) (x : ℕ) (z : ℤ) → W.Has r x → z ≡ cast_signed w64 x → W.Has r (cast_unsigned w64 z)
+signed_has r x z h same = subst (W.Has r) (sym (ap (cast_unsigned w64) same ∙ of_z-to_z w64 x h.below)) h
+
+-- the numbers between two, where the signed limits are those of the type if they cross the sign bit
+pub between_tight : (r : Wide) (least greatest : ℕ) → least ≤ greatest → greatest < 2 ^ 64 → FitsSigned w64 r.signed_least
+    → FitsSigned w64 r.signed_greatest → ((x : ℕ) → (W.Has r x ↔ ((least ≤ x) × (x ≤ greatest))))
+    → (r.least ≡ least) × (r.greatest ≡ greatest)
+    → (cast_signed w64 least ≤ℤ cast_signed w64 greatest
+    → (r.signed_least ≡ cast_signed w64 least) × (r.signed_greatest ≡ cast_signed w64 greatest))
+    → W.IsTight r
+between_tight r least greatest ordered below fl fg members limits signed =
+    let e = signed_equation least (omega arith) in
+    let f = signed_equation greatest below in
+    let first = (members least).1 (omega arith, ordered) in
+    let last = (members greatest).1 (ordered, omega arith) in
+    let alike : cast_signed w64 least ≤ℤ cast_signed w64 greatest
+    → W.Has r (cast_unsigned w64 r.signed_least) × W.Has r (cast_unsigned w64 r.signed_greatest) = λ order.
+    (signed_has r least r.signed_least first (signed order).0, signed_has r greatest r.signed_greatest last (signed order).1) in
+    let both : W.Has r (cast_unsigned w64 r.signed_least) × W.Has r (cast_unsigned w64 r.signed_greatest) =
+    elim (cases_lt greatest (2 ^ 63)) [
+      | inl plain ↦ alike (omega (arith, ints))
+      | inr over ↦ elim (cases_lt least (2 ^ 63)) [
+        | inl under ↦
+            let a = (members (2 ^ 63)).1 (omega arith, omega arith) in
+            let b = (members (2 ^ 63 - 1)).1 (omega arith, omega arith) in
+            let ea = signed_equation (2 ^ 63) (omega arith) in
+            let eb = signed_equation (2 ^ 63 - 1) (omega arith) in (
+              signed_has r (2 ^ 63) r.signed_least a (omega (arith, ints, a.signed_from, fl.sfits)),
+              signed_has r (2 ^ 63 - 1) r.signed_greatest b (omega (arith, ints, b.signed_to, fg.sfits)),
+            )
+        | inr signed_all ↦ alike (omega (arith, ints))
+      ]
+    ] in
+    (subst (W.Has r) (sym limits.0) first, subst (W.Has r) (sym limits.1) last, both.0, both.1)
+
+-- those of one number
+pub constant_tight : (r : Range) (x : ℕ) → IsConstant r x → Has r x → IsTight r
+constant_tight r x is has =
+    let wide = has.0.below in
+    let back = subst (λ z. Has r (cast_unsigned w64 z)) (sym is.0.2) (subst (Has r) (sym (of_z-to_z w64 x wide)) has) in
+    let over = subst (λ z. Has r (cast_unsigned w64 z)) (sym is.0.3) (subst (Has r) (sym (of_z-to_z w64 x wide)) has) in
+    let half : HasLow r (x % 2 ^ 32) = record { number = x; has = has; low = refl } in
+    let same = of_z-to_z w32 (x % 2 ^ 32) has.1.below in (
+      subst (Has r) (sym is.0.0) has,
+      subst (Has r) (sym is.0.1) has,
+      back,
+      over,
+      (
+        subst (HasLow r) (sym is.1.0) half,
+        subst (HasLow r) (sym is.1.1) half,
+        subst (λ z. HasLow r (cast_unsigned w32 z)) (sym is.1.2) (subst (HasLow r) (sym same) half),
+        subst (λ z. HasLow r (cast_unsigned w32 z)) (sym is.1.3) (subst (HasLow r) (sym same) half),
+      ),
+    )
 
 -- two tight ranges, between whose outer limits a third one lies
 pub either_tight : (r a b : Range) → Encloses r a → Encloses r b → r.wide.least ≡ a.wide.least → r.wide.greatest ≡ b.wide.greatest

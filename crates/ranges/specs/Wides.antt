@@ -1,6 +1,6 @@
 -- What the contracts of `Wide` cite.
-use Rattle.std.specs.Prelude.{ℕ, ℤ, ◌≡◌, ◌≤◌, ◌≤ℤ◌, FitsSigned}
-use Rattle.std.specs.Int.{Width as IntWidth, w64, cast_signed}
+use Rattle.std.specs.Prelude.{ℕ, ℤ, ◌≡◌, ◌%◌, ◌^◌, ◌≤◌, ◌≤ℤ◌, FitsSigned}
+use Rattle.std.specs.Int.{Width as IntWidth, w64, cast_signed, cast_unsigned}
 use Rattle.isa_model.specs.declared.sizes.Width.{Width}
 use Rattle.isa_model.specs.declared.sizes.Width.TheVariants.{Full64}
 use Rattle.isa_model.specs.declared.instructions.AluOp.{AluOp}
@@ -33,6 +33,18 @@ IsSignedOf w r = FitsSigned w r.signed_least × FitsSigned w r.signed_greatest
 -- the signed limits are the unsigned ones, read with a sign
 abbrev pub ReadsAlike : Wide → Type 0
 ReadsAlike r = (r.signed_least ≡ cast_signed w64 r.least) × (r.signed_greatest ≡ cast_signed w64 r.greatest)
+
+-- each limit is one of the numbers: no narrower limits have all of them
+abbrev pub IsTight : Wide → Type 0
+IsTight r =
+    Has r r.least × Has r r.greatest
+    × Has r (cast_unsigned w64 r.signed_least) × Has r (cast_unsigned w64 r.signed_greatest)
+
+-- the number of 32 bits is the low half of one of the numbers
+pub record HasHalf (r : Wide) (half : ℕ) : Type 0 where
+  pub number : ℕ
+  pub has : Has r number
+  pub low : number % 2 ^ 32 ≡ half
 
 -- no limit of b is outside those of a
 abbrev pub Encloses : Wide → Wide → Type 0

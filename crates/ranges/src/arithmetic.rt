@@ -16,7 +16,7 @@ use crate::wide::Wide;
 use isa_model::{AluOp, ByteOrder, Span, Width, numbers};
 
 impl Range {
-    ghost use Rattle.ranges.specs.Ranges.{Has, IsConstant};
+    ghost use Rattle.ranges.specs.Ranges.{Has, IsConstant, IsTight};
 
     /// What the operation gives on the numbers of both.
     pub fn alu(op: AluOp, width: Width, a: Self, b: Self) -> Self
@@ -43,6 +43,7 @@ impl Range {
             → shift width b.wide.least ≡ 32
             → W.IsSignedBetween result.wide (a.low.signed_least *ℤ pos (2 ^ 32))
             (a.low.signed_greatest *ℤ pos (2 ^ 32)) }
+        ensures tight { (x y : ℕ) → Has a x → Has b y → IsTight result }
     {
         if a.wide.least == a.wide.greatest && b.wide.least == b.wide.greatest {
             return Range::constant(numbers::compute(op, width, a.wide.least, b.wide.least));
@@ -137,6 +138,7 @@ impl Range {
         ensures low_signed { (x : ℕ) → Has a x → FitsSigned w32 (pos 0 -ℤ a.low.signed_least)
             → L.IsSignedBetween result.low (pos 0 -ℤ a.low.signed_greatest)
             (pos 0 -ℤ a.low.signed_least) }
+        ensures tight { (x : ℕ) → Has a x → IsTight result }
     {
         Range::alu(AluOp::Sub, width, Range::constant(0), a)
     }
@@ -151,6 +153,7 @@ impl Range {
         ensures low_little { (x : ℕ) → Has a x → order ≡ ByteOrder.Little
             → a.low.greatest < 2 ^ span_bits span
             → L.IsBetween result.low a.low.least a.low.greatest }
+        ensures tight { (x : ℕ) → Has a x → IsTight result }
     {
         if a.wide.least == a.wide.greatest {
             return Range::constant(numbers::reorder(order, span, a.wide.least));

@@ -33,6 +33,7 @@ impl Range {
             → L.IsSignedOf (extension_signed extension) result.low }
         ensures low_kept { (x : ℕ) → R.Has a x → L.IsSignedOf (extension_signed extension) a.low
             → L.Encloses a.low result.low }
+        ensures tight { (x : ℕ) → R.Has a x → R.IsTight result }
     {
         if a.wide.least == a.wide.greatest {
             return Range::constant(numbers::sign_extend(extension, a.wide.least));

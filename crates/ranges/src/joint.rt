@@ -83,6 +83,7 @@ impl Wide {
             → L.IsBetween result self.least self.greatest }
         ensures signed { (x : ℕ) → W.Has self x → W.IsSignedOf w32 self
             → L.IsSignedBetween result self.signed_least self.signed_greatest }
+        ensures reached { (x : ℕ) → W.Has self x → L.AreReached result (W.HasHalf self) }
     {
         let Some(signed) = self.upper_half() else {
             return match self.lower_half() {
@@ -102,6 +103,7 @@ impl Wide {
         ensures small { self.greatest < 2 ^ 32 → L.IsBetween result self.least self.greatest }
         ensures signed { W.ReadsAlike self → W.IsSignedOf w32 self
             → L.IsSignedBetween result self.signed_least self.signed_greatest }
+        ensures reached { L.AreReached result (IsAmong self.least self.greatest) }
     {
         Low::any().among(self.least, self.greatest)
     }

@@ -10,7 +10,7 @@ use crate::low::Low;
 use crate::range::Range;
 
 impl Range {
-    ghost use Rattle.ranges.specs.Ranges.{Has, Encloses};
+    ghost use Rattle.ranges.specs.Ranges.{Has, IsTight, Encloses};
 
     /// Those whose low half is that of some number of the other, and the other way round.
     pub fn low_equal(self, other: Self) -> Option<(Self, Self)>
@@ -22,6 +22,7 @@ impl Range {
             → L.Has other.low (x % 2 ^ 32)) }
         ensures right_limit { IfSome result (λ p. (y : ℕ) → Has p.1 y
             → L.Has self.low (y % 2 ^ 32)) }
+        ensures tight { IfSome result (λ p. IsTight p.0 × IsTight p.1) }
     {
         let left = self.low_limited(other.low)?;
         let right = other.low_limited(self.low)?;
@@ -38,6 +39,7 @@ impl Range {
             → x % 2 ^ 32 < other.low.greatest) }
         ensures right_limit { IfSome result (λ p. (y : ℕ) → Has p.1 y
             → self.low.least < y % 2 ^ 32) }
+        ensures tight { IfSome result (λ p. IsTight p.0 × IsTight p.1) }
     {
         if other.low.greatest == 0 || self.low.least == u32::MAX {
             return None;
@@ -57,6 +59,7 @@ impl Range {
             → x % 2 ^ 32 ≤ other.low.greatest) }
         ensures right_limit { IfSome result (λ p. (y : ℕ) → Has p.1 y
             → self.low.least ≤ y % 2 ^ 32) }
+        ensures tight { IfSome result (λ p. IsTight p.0 × IsTight p.1) }
     {
         let left = self.low_from_to(0, other.low.greatest)?;
         let right = other.low_from_to(self.low.least, u32::MAX)?;
@@ -75,12 +78,14 @@ impl Range {
             → cast_signed w32 (x % 2 ^ 32) <ℤ other.low.signed_greatest) }
         ensures right_limit { IfSome result (λ p. (y : ℕ) → Has p.1 y
             → self.low.signed_least <ℤ cast_signed w32 (y % 2 ^ 32)) }
+        ensures tight { IfSome result (λ p. IsTight p.0 × IsTight p.1) }
     {
         if other.low.signed_greatest == i32::MIN || self.low.signed_least == i32::MAX {
             return None;
         }
+        let above = self.low.signed_least + 1;
         let left = self.low_signed_from_to(i32::MIN, other.low.signed_greatest - 1)?;
-        let right = other.low_signed_from_to(self.low.signed_least + 1, i32::MAX)?;
+        let right = other.low_signed_from_to(above, i32::MAX)?;
         Some((left, right))
     }
 
@@ -96,6 +101,7 @@ impl Range {
             → cast_signed w32 (x % 2 ^ 32) ≤ℤ other.low.signed_greatest) }
         ensures right_limit { IfSome result (λ p. (y : ℕ) → Has p.1 y
             → self.low.signed_least ≤ℤ cast_signed w32 (y % 2 ^ 32)) }
+        ensures tight { IfSome result (λ p. IsTight p.0 × IsTight p.1) }
     {
         let left = self.low_signed_from_to(i32::MIN, other.low.signed_greatest)?;
         let right = other.low_signed_from_to(self.low.signed_least, i32::MAX)?;
@@ -112,6 +118,8 @@ impl Range {
             → L.IsLimit self.low v → (x : ℕ) → Has p.0 x → x % 2 ^ 32 ≢ v) }
         ensures right_limit { IfSome result (λ p. (u : ℕ) → L.LeavesOnly self.low u
             → L.IsLimit other.low u → (y : ℕ) → Has p.1 y → y % 2 ^ 32 ≢ u) }
+        ensures tight { IsTight self → IsTight other
+            → IfSome result (λ p. IsTight p.0 × IsTight p.1) }
     {
         let left = self.low_apart_from(other)?;
         let right = other.low_apart_from(self)?;
@@ -146,6 +154,7 @@ impl Range {
         ensures right { IfSome result (λ p. (y : ℕ) → Has p.1 y → Has other y) }
         ensures left_limit { IfSome result (λ p. (x : ℕ) → Has p.0 x → 0 < x % 2 ^ 32) }
         ensures right_limit { IfSome result (λ p. (y : ℕ) → Has p.1 y → 0 < y % 2 ^ 32) }
+        ensures tight { IfSome result (λ p. IsTight p.0 × IsTight p.1) }
     {
         let left = self.low_from_to(1, u32::MAX)?;
         let right = other.low_from_to(1, u32::MAX)?;
@@ -161,6 +170,7 @@ impl Range {
         ensures right { IfSome result (λ m. (x : ℕ) → Has m x
             → (least ≤ x % 2 ^ 32) × (x % 2 ^ 32 ≤ greatest)) }
         ensures enclosed { IfSome result (Encloses self) }
+        ensures tight { IfSome result IsTight }
     {
         self.low_limited(Low::between(least, greatest))
     }
@@ -175,6 +185,7 @@ impl Range {
         ensures right { IfSome result (λ m. (x : ℕ) → Has m x
             → (least ≤ℤ cast_signed w32 (x % 2 ^ 32))
             × (cast_signed w32 (x % 2 ^ 32) ≤ℤ greatest)) }
+        ensures tight { IfSome result IsTight }
     {
         self.low_limited(Low::signed_between(least, greatest))
     }
@@ -186,6 +197,7 @@ impl Range {
         ensures left { IfSome result (λ r. (x : ℕ) → Has r x → Has self x) }
         ensures limit { IfSome result (λ r. (v : ℕ) → L.LeavesOnly other.low v
             → L.IsLimit self.low v → (x : ℕ) → Has r x → x % 2 ^ 32 ≢ v) }
+        ensures tight { IsTight self → IfSome result IsTight }
     {
         match other.low.number() {
             Some(half) => self.low_without(half),
@@ -200,6 +212,7 @@ impl Range {
         ensures left { IfSome result (λ r. (x : ℕ) → Has r x → Has self x) }
         ensures limit { IfSome result (λ r. L.IsLimit self.low half → (x : ℕ) → Has r x
             → x % 2 ^ 32 ≢ half) }
+        ensures tight { IsTight self → IfSome result IsTight }
     {
         let unsigned = self.low_without_unsigned(half)?;
         let left = unsigned.low_without_signed(half)?;
@@ -214,6 +227,7 @@ impl Range {
         ensures enclosed { IfSome result (Encloses self) }
         ensures limit { IfSome result (λ r. (self.low.least ≡ half) ⊎ (self.low.greatest ≡ half)
             → (x : ℕ) → Has r x → x % 2 ^ 32 ≢ half) }
+        ensures tight { IsTight self → IfSome result IsTight }
     {
         if self.low.least == half {
             if half == u32::MAX {
@@ -238,6 +252,7 @@ impl Range {
         ensures limit { IfSome result (λ r. (self.low.signed_least ≡ cast_signed w32 half)
             ⊎ (self.low.signed_greatest ≡ cast_signed w32 half)
             → (x : ℕ) → Has r x → x % 2 ^ 32 ≢ half) }
+        ensures tight { IsTight self → IfSome result IsTight }
     {
         let signed = half.cast_signed();
         if self.low.signed_least == signed {

@@ -25,6 +25,7 @@ impl Range {
     pub fn any(width: Width) -> Self
         ensures members { (x : ℕ) → (Has result x ↔ (x < 2 ^ width_bits width)) }
         ensures fits { result.wide.greatest < 2 ^ width_bits width }
+        ensures tight { IsTight result }
     {
         Range {
             wide: Wide::any(width),
@@ -65,6 +66,7 @@ impl Range {
         ensures signed { cast_signed w64 least ≤ℤ cast_signed w64 greatest
             → (result.wide.signed_least ≡ cast_signed w64 least)
             × (result.wide.signed_greatest ≡ cast_signed w64 greatest) }
+        ensures tight { IsTight result }
     {
         Range::within_limits(Wide::between(least, greatest))
     }
@@ -87,6 +89,7 @@ impl Range {
     fn within_limits(wide: Wide) -> Self
         ensures members { (x : ℕ) → (Has result x ↔ W.Has wide x) }
         ensures limits { result.wide ≡ wide }
+        ensures tight { W.IsTight wide → IsTight result }
     {
         Range {
             wide,
@@ -114,6 +117,7 @@ impl Range {
         ensures left { IfSome result (λ m. (x : ℕ) → Has m x → Has self x) }
         ensures right { IfSome result (λ m. (x : ℕ) → Has m x → W.Has wide x) }
         ensures enclosed { IfSome result (Encloses self) }
+        ensures tight { IfSome result IsTight }
     {
         let common = self.wide.within(wide)?;
         let both = Range {
@@ -130,6 +134,7 @@ impl Range {
         ensures left { IfSome result (λ m. (x : ℕ) → Has m x → Has self x) }
         ensures right { IfSome result (λ m. (x : ℕ) → Has m x → L.Has low (x % 2 ^ 32)) }
         ensures enclosed { IfSome result (Encloses self) }
+        ensures tight { IfSome result IsTight }
     {
         let common = self.low.within(low)?;
         let both = Range {

@@ -8,7 +8,7 @@ use crate::range::Range;
 use crate::wide::Wide;
 
 impl Range {
-    ghost use Rattle.ranges.specs.Ranges.{Has, IsConstant, IsLimit, LeavesOnly, Encloses};
+    ghost use Rattle.ranges.specs.Ranges.{Has, IsConstant, IsLimit, IsTight, LeavesOnly, Encloses};
 
     /// Those below some number of the other, and those above one. None: there is no such pair.
     pub fn below(self, other: Self) -> Option<(Self, Self)>
@@ -18,6 +18,7 @@ impl Range {
         ensures right { IfSome result (λ p. (y : ℕ) → Has p.1 y → Has other y) }
         ensures left_limit { IfSome result (λ p. (x : ℕ) → Has p.0 x → x < other.wide.greatest) }
         ensures right_limit { IfSome result (λ p. (y : ℕ) → Has p.1 y → self.wide.least < y) }
+        ensures tight { IfSome result (λ p. IsTight p.0 × IsTight p.1) }
     {
         if other.wide.greatest == 0 || self.wide.least == u64::MAX {
             return None;
@@ -35,6 +36,7 @@ impl Range {
         ensures right { IfSome result (λ p. (y : ℕ) → Has p.1 y → Has other y) }
         ensures left_limit { IfSome result (λ p. (x : ℕ) → Has p.0 x → x ≤ other.wide.greatest) }
         ensures right_limit { IfSome result (λ p. (y : ℕ) → Has p.1 y → self.wide.least ≤ y) }
+        ensures tight { IfSome result (λ p. IsTight p.0 × IsTight p.1) }
     {
         let left = self.from_to(0, other.wide.greatest)?;
         let right = other.from_to(self.wide.least, u64::MAX)?;
@@ -52,12 +54,14 @@ impl Range {
             → cast_signed w64 x <ℤ other.wide.signed_greatest) }
         ensures right_limit { IfSome result (λ p. (y : ℕ) → Has p.1 y
             → self.wide.signed_least <ℤ cast_signed w64 y) }
+        ensures tight { IfSome result (λ p. IsTight p.0 × IsTight p.1) }
     {
         if other.wide.signed_greatest == i64::MIN || self.wide.signed_least == i64::MAX {
             return None;
         }
+        let above = self.wide.signed_least + 1;
         let left = self.signed_from_to(i64::MIN, other.wide.signed_greatest - 1)?;
-        let right = other.signed_from_to(self.wide.signed_least + 1, i64::MAX)?;
+        let right = other.signed_from_to(above, i64::MAX)?;
         Some((left, right))
     }
 
@@ -72,6 +76,7 @@ impl Range {
             → cast_signed w64 x ≤ℤ other.wide.signed_greatest) }
         ensures right_limit { IfSome result (λ p. (y : ℕ) → Has p.1 y
             → self.wide.signed_least ≤ℤ cast_signed w64 y) }
+        ensures tight { IfSome result (λ p. IsTight p.0 × IsTight p.1) }
     {
         let left = self.signed_from_to(i64::MIN, other.wide.signed_greatest)?;
         let right = other.signed_from_to(self.wide.signed_least, i64::MAX)?;
@@ -88,6 +93,8 @@ impl Range {
             → Has p.0 v → ⊥) }
         ensures right_limit { IfSome result (λ p. (u : ℕ) → LeavesOnly self u → IsLimit other u
             → Has p.1 u → ⊥) }
+        ensures tight { IsTight self → IsTight other
+            → IfSome result (λ p. IsTight p.0 × IsTight p.1) }
     {
         let left = self.apart_from(other)?;
         let right = other.apart_from(self)?;
@@ -119,6 +126,7 @@ impl Range {
         ensures right { IfSome result (λ p. (y : ℕ) → Has p.1 y → Has other y) }
         ensures left_limit { IfSome result (λ p. (x : ℕ) → Has p.0 x → 0 < x) }
         ensures right_limit { IfSome result (λ p. (y : ℕ) → Has p.1 y → 0 < y) }
+        ensures tight { IfSome result (λ p. IsTight p.0 × IsTight p.1) }
     {
         let left = self.from_to(1, u64::MAX)?;
         let right = other.from_to(1, u64::MAX)?;
@@ -133,6 +141,7 @@ impl Range {
         ensures left { IfSome result (λ m. (x : ℕ) → Has m x → Has self x) }
         ensures right { IfSome result (λ m. (x : ℕ) → Has m x → (least ≤ x) × (x ≤ greatest)) }
         ensures enclosed { IfSome result (Encloses self) }
+        ensures tight { IfSome result IsTight }
     {
         self.limited(Wide::between(least, greatest))
     }
@@ -146,6 +155,7 @@ impl Range {
         ensures left { IfSome result (λ m. (x : ℕ) → Has m x → Has self x) }
         ensures right { IfSome result (λ m. (x : ℕ) → Has m x
             → (least ≤ℤ cast_signed w64 x) × (cast_signed w64 x ≤ℤ greatest)) }
+        ensures tight { IfSome result IsTight }
     {
         self.limited(Wide::signed_between(least, greatest))
     }
@@ -157,6 +167,7 @@ impl Range {
         ensures left { IfSome result (λ r. (x : ℕ) → Has r x → Has self x) }
         ensures limit { IfSome result (λ r. (v : ℕ) → LeavesOnly other v → IsLimit self v
             → Has r v → ⊥) }
+        ensures tight { IsTight self → IfSome result IsTight }
     {
         match other.number() {
             Some(number) => self.without(number),
@@ -169,6 +180,7 @@ impl Range {
         ensures common { (x : ℕ) → Has self x → x ≢ number → IsSomeAnd result (λ r. Has r x) }
         ensures left { IfSome result (λ r. (x : ℕ) → Has r x → Has self x) }
         ensures limit { IfSome result (λ r. IsLimit self number → Has r number → ⊥) }
+        ensures tight { IsTight self → IfSome result IsTight }
     {
         let unsigned = self.without_unsigned(number)?;
         let left = unsigned.without_signed(number)?;
@@ -182,6 +194,7 @@ impl Range {
         ensures enclosed { IfSome result (Encloses self) }
         ensures limit { IfSome result (λ r. (self.wide.least ≡ number)
             ⊎ (self.wide.greatest ≡ number) → Has r number → ⊥) }
+        ensures tight { IsTight self → IfSome result IsTight }
     {
         if self.wide.least == number {
             if number == u64::MAX {
@@ -205,6 +218,7 @@ impl Range {
         ensures limit { IfSome result (λ r. (self.wide.signed_least ≡ cast_signed w64 number)
             ⊎ (self.wide.signed_greatest ≡ cast_signed w64 number)
             → Has r number → ⊥) }
+        ensures tight { IsTight self → IfSome result IsTight }
     {
         let signed = number.cast_signed();
         if self.wide.signed_least == signed {

@@ -20,12 +20,13 @@ pub struct Wide {
 }
 
 impl Wide {
-    ghost use Rattle.ranges.specs.Wides.{Has, IsConstant, ReadsAlike, Encloses};
+    ghost use Rattle.ranges.specs.Wides.{Has, IsConstant, IsTight, ReadsAlike, Encloses};
 
     /// All numbers of the width.
     pub fn any(width: Width) -> Self
         ensures members { (x : ℕ) → (Has result x ↔ (x < 2 ^ width_bits width)) }
         ensures fits { result.greatest < 2 ^ width_bits width }
+        ensures tight { IsTight result }
     {
         Wide::between(0, greatest_of(width))
     }

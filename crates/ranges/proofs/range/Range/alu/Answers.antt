@@ -15,6 +15,7 @@ use Rattle.ranges.proofs.Limits.{shl_mono}
 use Rattle.ranges.specs.KeepsMaps.{keeps_map, keeps_signed_map}
 use Rattle.ranges.proofs.KeepsLaws.{keeps_member, keeps_signed_member}
 use Rattle.ranges.proofs.LowResults.{low_result_of}
+use Rattle.ranges.proofs.RangeLaws.{constant_tight}
 use Rattle.ranges.proofs.Raised.{shifted_raised, raised_signed, times_mono}
 use Rattle.ranges.proofs.range.Range.alu.Goals as goal
 
@@ -130,11 +131,19 @@ returns-then-b-clause-raised_signed c = λ x y hx hy op full one is32.
       times_mono (cast_signed w32 (x % 2 ^ 32)) low.signed_greatest hx.1.signed_to,
     )
 
+pub returns-then-b-clause-tight : goal.returns-then-b-clause-tight
+returns-then-b-clause-tight c = λ x y hx hy.
+    constant_tight c.constant.result c.compute.result c.constant.ensures.constant c.constant.ensures.contains
+
 -- ---- other numbers
 
 pub returns-clause-contains : goal.returns-clause-contains
 returns-clause-contains c = λ x y hx hy.
     c.settled.ensures.contains _ (c.wide_alu-wide.ensures.contains x y hx hy, c.low_alu-low.ensures.contains x y hx hy)
+
+pub returns-clause-tight : goal.returns-clause-tight
+returns-clause-tight c = λ x y hx hy.
+    c.settled.ensures.tight _ (c.wide_alu-wide.ensures.contains x y hx hy, c.low_alu-low.ensures.contains x y hx hy)
 
 pub returns-clause-limits : goal.returns-clause-limits
 returns-clause-limits c = λ fa fb.

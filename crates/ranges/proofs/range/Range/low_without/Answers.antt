@@ -22,3 +22,6 @@ returns-clause-limit c = λ is x h equal.
             c.in_ok-left.ensures.limit (inr same) x h equal
       ]
     ]
+
+pub returns-clause-tight : goal.returns-clause-tight
+returns-clause-tight c = λ tight. c.in_ok-left.ensures.tight (c.in_ok-unsigned.ensures.tight tight)

@@ -5,6 +5,9 @@ use Rattle.ranges.proofs.LowResults.{reads_difference}
 use Rattle.ranges.proofs.Limits.{negative_fits}
 use Rattle.ranges.proofs.range.Range.negate.Goals as goal
 
+pub returns-clause-tight : goal.returns-clause-tight
+returns-clause-tight c = λ x h. c.alu.ensures.tight 0 x c.constant.ensures.contains h
+
 pub returns-clause-signed : goal.returns-clause-signed
 returns-clause-signed c = λ x hx full fits.
     let a = c.args.a.wide in

@@ -6,6 +6,7 @@ use Rattle.isa_model.specs.Code.Numbers.{reordered}
 use Rattle.isa_model.specs.Code.NumberLemmas.{reordered_below}
 use Rattle.isa_model.specs.Code.Sizes.{span_bits}
 use Rattle.ranges.specs.Ranges.{Has}
+use Rattle.ranges.proofs.RangeLaws.{constant_tight}
 use Rattle.ranges.proofs.range.Range.reorder.Goals as goal
 
 -- low bytes that hold the low half are the low half
@@ -51,6 +52,14 @@ returns-then-a-clause-low_little c = λ x h little small.
     let first = h.1.from in
     let last = h.1.to in
     (omega (arith, k.0, v, first), omega (arith, k.1, v, last))
+
+pub returns-then-a-clause-tight : goal.returns-then-a-clause-tight
+returns-then-a-clause-tight c = λ x h.
+    constant_tight c.constant.result c.reorder.result c.constant.ensures.constant c.constant.ensures.contains
+
+pub returns-in-Little-clause-tight : goal.returns-in-Little-clause-tight
+returns-in-Little-clause-tight c = λ x h.
+    c.settled.ensures.tight _ (c.low.ensures.contains x h.0, c.low_part.ensures.contains x h.1)
 
 pub returns-in-Little-clause-contains : goal.returns-in-Little-clause-contains
 unfolding reordered

@@ -6,7 +6,7 @@ use Rattle.ranges.specs.Ranges.{Has}
 use Rattle.ranges.proofs.Limits.{extended_same, extended_signed, extended_small}
 use Rattle.ranges.proofs.Extended.{extended_half, half_extended_signed}
 use Rattle.ranges.specs.FitsLaws.{narrower_fits}
-use Rattle.ranges.proofs.RangeLaws.{wide_trans, low_trans}
+use Rattle.ranges.proofs.RangeLaws.{wide_trans, low_trans, constant_tight}
 use Rattle.ranges.proofs.range.Range.sign_extend.Goals as goal
 
 -- ---- constants
@@ -79,11 +79,19 @@ returns-then-a-clause-low_kept c = λ x hx is.
     let last = hx.1.to in
     (omega (arith, k.0, v, first), omega (arith, k.1, v, last), rw (k.2, v) hx.1.signed_from, rw (k.3, v) hx.1.signed_to)
 
+pub returns-then-a-clause-tight : goal.returns-then-a-clause-tight
+returns-then-a-clause-tight c = λ x h.
+    constant_tight c.constant.result c.sign_extend.result c.constant.ensures.constant c.constant.ensures.contains
+
 -- ---- other numbers
 
 pub returns-clause-contains : goal.returns-clause-contains
 returns-clause-contains c = λ x h.
     c.settled.ensures.contains _ (c.sign_extend-2.ensures.contains x h.0, c.low_extended.ensures.contains x h)
+
+pub returns-clause-tight : goal.returns-clause-tight
+returns-clause-tight c = λ x h.
+    c.settled.ensures.tight _ (c.sign_extend-2.ensures.contains x h.0, c.low_extended.ensures.contains x h)
 
 pub returns-clause-signed : goal.returns-clause-signed
 returns-clause-signed c = λ x hx full.

@@ -20,3 +20,6 @@ returns-clause-limit c = λ is h.
             c.in_ok-left.ensures.limit (inr same) h
       ]
     ]
+
+pub returns-clause-tight : goal.returns-clause-tight
+returns-clause-tight c = λ tight. c.in_ok-left.ensures.tight (c.in_ok-unsigned.ensures.tight tight)

@@ -2,7 +2,10 @@ use Rattle.std.proofs.Common.{◌^◌, inl, inr, arith}
 use Rattle.std.proofs.lemmas.Int.{ints}
 use Rattle.std.proofs.lemmas.Bool.{cases_lt}
 use Rattle.ranges.specs.EnclosesLaws.{enclosed_low}
-use Rattle.ranges.proofs.LowLaws.{fits_between}
+use Rattle.ranges.specs.Joint.{IsAmong}
+use Rattle.ranges.specs.Wides.{HasHalf}
+use Rattle.ranges.proofs.LowLaws.{reached_map, either_reached, fits_between}
+use Rattle.ranges.proofs.RangeLaws.{among_half}
 use Rattle.ranges.proofs.wide.Wide.low_limits.Goals as goal
 
 pub returns-in-Some-lower_half-2-clause-contains : goal.returns-in-Some-lower_half-2-clause-contains
@@ -37,3 +40,58 @@ returns-in-Some-lower_half-2-clause-signed c = λ x h is.
       elim c.hull.ensures.either.2 [ inl e ↦ omega (arith, ints, ra.0, ea.2, e) | inr e ↦ omega (arith, ints, rb.0, eb.2, e) ],
       elim c.hull.ensures.either.3 [ inl e ↦ omega (arith, ints, ra.1, ea.3, e) | inr e ↦ omega (arith, ints, rb.1, eb.3, e) ],
     )
+
+pub returns-in-Some-lower_half-2-clause-reached : goal.returns-in-Some-lower_half-2-clause-reached
+returns-in-Some-lower_half-2-clause-reached c = λ x h.
+    let s = c.args.self in
+    let a = c.in-Some-lower_half-2.plain in
+    let b = c.in-Some.signed in
+    let ra = c.run-in-Some-lower_half-2.result in
+    let rb = c.run-in-Some-lower_half-2-2.result in
+    either_reached c.hull.result ra rb (HasHalf s) c.hull.ensures.either
+    (reached_map ra (IsAmong a.least a.greatest) (HasHalf s)
+    (λ e is. among_half s a e (omega arith) (inl c.in-Some-lower_half-2.ensures.half) c.in-Some-lower_half-2.ensures.alike c.in-Some-lower_half-2.ensures.left is)
+    c.run-in-Some-lower_half-2.ensures.reached)
+    (reached_map rb (IsAmong b.least b.greatest) (HasHalf s)
+    (λ e is. among_half s b e (omega arith) (inr c.in-Some.ensures.half) c.in-Some.ensures.alike c.in-Some.ensures.left is)
+    c.run-in-Some-lower_half-2-2.ensures.reached)
+
+pub returns-in-Some-lower_half-clause-signed : goal.returns-in-Some-lower_half-clause-signed
+returns-in-Some-lower_half-clause-signed c = λ x h is.
+    let s = c.args.self in
+    let a = c.in-Some-lower_half.plain in
+    let ea = c.in-Some-lower_half.ensures.enclosed in
+    let oa = a.signed_ordered in
+    let ra = c.run.ensures.signed c.in-Some-lower_half.ensures.alike (
+      fits_between s.signed_least s.signed_greatest _ is.0 is.1 ea.2 (omega (arith, ints, ea.3)),
+      fits_between s.signed_least s.signed_greatest _ is.0 is.1 (omega (arith, ints, ea.2)) ea.3,
+    ) in
+    (omega (arith, ints, ra.0, ea.2), omega (arith, ints, ra.1, ea.3))
+
+pub returns-in-Some-lower_half-clause-reached : goal.returns-in-Some-lower_half-clause-reached
+returns-in-Some-lower_half-clause-reached c = λ x h.
+    let s = c.args.self in
+    let a = c.in-Some-lower_half.plain in
+    reached_map c.run.result (IsAmong a.least a.greatest) (HasHalf s)
+    (λ e is. among_half s a e (omega arith) (inl c.in-Some-lower_half.ensures.half) c.in-Some-lower_half.ensures.alike c.in-Some-lower_half.ensures.left is)
+    c.run.ensures.reached
+
+pub returns-in-None-lower_half-clause-signed : goal.returns-in-None-lower_half-clause-signed
+returns-in-None-lower_half-clause-signed c = λ x h is.
+    let s = c.args.self in
+    let a = c.in-Some.signed in
+    let ea = c.in-Some.ensures.enclosed in
+    let oa = a.signed_ordered in
+    let ra = c.run-in-None-lower_half.ensures.signed c.in-Some.ensures.alike (
+      fits_between s.signed_least s.signed_greatest _ is.0 is.1 ea.2 (omega (arith, ints, ea.3)),
+      fits_between s.signed_least s.signed_greatest _ is.0 is.1 (omega (arith, ints, ea.2)) ea.3,
+    ) in
+    (omega (arith, ints, ra.0, ea.2), omega (arith, ints, ra.1, ea.3))
+
+pub returns-in-None-lower_half-clause-reached : goal.returns-in-None-lower_half-clause-reached
+returns-in-None-lower_half-clause-reached c = λ x h.
+    let s = c.args.self in
+    let a = c.in-Some.signed in
+    reached_map c.run-in-None-lower_half.result (IsAmong a.least a.greatest) (HasHalf s)
+    (λ e is. among_half s a e (omega arith) (inr c.in-Some.ensures.half) c.in-Some.ensures.alike c.in-Some.ensures.left is)
+    c.run-in-None-lower_half.ensures.reached

@@ -33,3 +33,12 @@ returns-in_default-checked_sub-clause-limits c = λ fl fg.
     let f2 : FitsSigned w64 b.signed_least = search rules in
     let none = simp to_z-of_z at c.in_default-checked_sub.ensures in
     absurd (none fg)
+
+pub returns-in_default-clause-limits : goal.returns-in_default-clause-limits
+returns-in_default-clause-limits c = λ fl fg.
+    let a = c.args.self in
+    let b = c.args.other in
+    let f1 : FitsSigned w64 a.signed_least = search rules in
+    let f2 : FitsSigned w64 b.signed_greatest = search rules in
+    let none = simp to_z-of_z at c.in_default.ensures in
+    absurd (none fl)

@@ -1,0 +1,11 @@
+use Rattle.std.proofs.Common.{sym}
+use Rattle.ranges.proofs.range.Range.apart.Goals as goal
+
+pub returns-clause-common : goal.returns-clause-common
+returns-clause-common c = λ x y hx hy differs. (
+  c.in_ok-left.ensures.common x y hx hy differs,
+  c.in_ok-right.ensures.common y x hy hx (λ same. differs (sym same)),
+)
+
+pub returns-clause-tight : goal.returns-clause-tight
+returns-clause-tight c = λ left right. (c.in_ok-left.ensures.tight left, c.in_ok-right.ensures.tight right)
