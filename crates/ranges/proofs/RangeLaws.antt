@@ -2,7 +2,7 @@
 use Rattle.std.proofs.Common.{◌≡◌, ◌<◌, ◌≤◌, ◌%◌, ◌^◌, ◌∙◌, ℕ, subst, sym, refl, ap, inl, inr, arith, w64}
 use Rattle.std.specs.Prelude.{ℤ, ◌-◌, ◌⊎◌, ◌↔◌, ◌≤ℤ◌, FitsSigned}
 use Rattle.std.specs.Int.{w32, cast_signed, cast_unsigned}
-use Rattle.std.proofs.lemmas.Int.{ints, of_z-to_z}
+use Rattle.std.proofs.lemmas.Int.{ints, of_z-to_z, to_z-of_z}
 use Rattle.std.proofs.lemmas.Bool.{cases_lt}
 use Rattle.isa_model.specs.Code.NumberLemmas.{signed_equation}
 use Rattle.ranges.specs.Joint.{IsAmong}
@@ -13,6 +13,7 @@ use Rattle.ranges.specs.declared.wide.Wide.{Wide}
 use Rattle.ranges.specs.declared.low.Low.{Low}
 use Rattle.ranges.specs.declared.range.Range.{Range}
 use Rattle.ranges.specs.EnclosesLaws.{enclosed_has}
+use Rattle.ranges.proofs.Limits.{signed_below_64}
 use Rattle.ranges.proofs.LowLaws.{reached_map, either_reached}
 
 pub enclosed_half : (a b : Range) (e : ℕ) → Encloses a b → HasLow b e → HasLow a e
@@ -84,6 +85,40 @@ between_tight r least greatest ordered below fl fg members limits signed =
       ]
     ] in
     (subst (W.Has r) (sym limits.0) first, subst (W.Has r) (sym limits.1) last, both.0, both.1)
+
+-- the numbers between two read with a sign, where the unsigned limits are those of the type if they cross the sign bit
+pub signed_between_tight : (r : Wide) (least greatest : ℤ) → least ≤ℤ greatest → FitsSigned w64 least → FitsSigned w64 greatest
+    → r.greatest < 2 ^ 64
+    → ((x : ℕ) → (W.Has r x ↔ ((x < 2 ^ 64) × (least ≤ℤ cast_signed w64 x) × (cast_signed w64 x ≤ℤ greatest))))
+    → (r.signed_least ≡ least) × (r.signed_greatest ≡ greatest)
+    → (cast_unsigned w64 least ≤ cast_unsigned w64 greatest
+    → (r.least ≡ cast_unsigned w64 least) × (r.greatest ≡ cast_unsigned w64 greatest))
+    → W.IsTight r
+signed_between_tight r least greatest ordered fl fg most members limits unsigned =
+    let from_in = signed_below_64 least fl in
+    let to_in = signed_below_64 greatest fg in
+    let back = to_z-of_z w64 least fl in
+    let over = to_z-of_z w64 greatest fg in
+    let e = signed_equation (cast_unsigned w64 least) from_in in
+    let f = signed_equation (cast_unsigned w64 greatest) to_in in
+    let first = (members (cast_unsigned w64 least)).1 (from_in, omega (arith, ints, back), omega (arith, ints, back, ordered)) in
+    let last = (members (cast_unsigned w64 greatest)).1 (to_in, omega (arith, ints, over, ordered), omega (arith, ints, over)) in
+    let both : W.Has r r.least × W.Has r r.greatest =
+    elim (cases_lt (cast_unsigned w64 greatest) (cast_unsigned w64 least)) [
+      | inl crossed ↦
+          let zero = (members 0).1 (omega arith, omega (arith, ints, e, f, back, over, ordered, crossed), omega (arith, ints, e, f, back, over, ordered, crossed)) in
+          let ez = signed_equation (2 ^ 64 - 1) (omega arith) in
+          let all = (members (2 ^ 64 - 1)).1 (omega arith, omega (arith, ints, e, f, back, over, ordered, crossed), omega (arith, ints, e, f, back, over, ordered, crossed)) in
+          let is_zero : 0 ≡ r.least = omega (arith, zero.from) in
+          let is_all : 2 ^ 64 - 1 ≡ r.greatest = omega (arith, all.to, most) in
+          (subst (W.Has r) is_zero zero, subst (W.Has r) is_all all)
+      | inr plain ↦ (subst (W.Has r) (sym (unsigned plain).0) first, subst (W.Has r) (sym (unsigned plain).1) last)
+    ] in (
+      both.0,
+      both.1,
+      subst (λ z. W.Has r (cast_unsigned w64 z)) (sym limits.0) first,
+      subst (λ z. W.Has r (cast_unsigned w64 z)) (sym limits.1) last,
+    )
 
 -- those of one number
 pub constant_tight : (r : Range) (x : ℕ) → IsConstant r x → Has r x → IsTight r

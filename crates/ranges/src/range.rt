@@ -81,6 +81,7 @@ impl Range {
         ensures unsigned { cast_unsigned w64 least ≤ cast_unsigned w64 greatest
             → (result.wide.least ≡ cast_unsigned w64 least)
             × (result.wide.greatest ≡ cast_unsigned w64 greatest) }
+        ensures tight { IsTight result }
     {
         Range::within_limits(Wide::signed_between(least, greatest))
     }

@@ -1,6 +1,7 @@
-use Rattle.std.proofs.Common.{rules, w64}
+use Rattle.std.proofs.Common.{rules, arith, w64}
 use Rattle.std.specs.Prelude.{FitsSigned}
 use Rattle.std.proofs.lemmas.Int.{to_z-of_z}
+use Rattle.ranges.proofs.RangeLaws.{signed_between_tight}
 use Rattle.ranges.proofs.range.Range.signed_between.Goals as goal
 
 pub returns-clause-members : goal.returns-clause-members
@@ -17,3 +18,13 @@ returns-clause-unsigned c = λ le.
     let g : FitsSigned w64 c.args.greatest = search rules in
     let u = simp to_z-of_z at c.signed_between.ensures.unsigned in
     rw c.within_limits.ensures.limits (u le)
+
+pub returns-clause-tight : goal.returns-clause-tight
+returns-clause-tight c =
+    let f : FitsSigned w64 c.args.least = search rules in
+    let g : FitsSigned w64 c.args.greatest = search rules in
+    let limits = simp to_z-of_z at c.signed_between.ensures.limits in
+    let unsigned = simp to_z-of_z at c.signed_between.ensures.unsigned in
+    c.within_limits.ensures.tight
+    (signed_between_tight c.signed_between.result c.args.least c.args.greatest c.requires f g (omega arith)
+    (λ x. simp to_z-of_z at (c.signed_between.ensures.members x)) limits unsigned)
