@@ -6,6 +6,7 @@ use Rattle.stack_state.specs.declared.states.State.{State}
 use Rattle.stack_state.specs.Starts.{start}
 use Rattle.transfer.specs.Exact.{Refuses}
 use Rattle.explorer.specs.Forgetting.{Forgets}
+use Rattle.explorer.specs.Refused.{StopsAt}
 use Rattle.explorer.specs.Walks.{StepsTo}
 use Rattle.explorer.specs.declared.refusals.Refusal.{Refusal}
 use Rattle.explorer.specs.declared.refusals.Refusal.TheVariants.{Flow, Step, Repeats, TooLong, Memory}
@@ -41,8 +42,9 @@ StopsIn p s Repeats = Unit {0}
 StopsIn p s TooLong = Unit {0}
 StopsIn p s Memory = ⊥
 
--- the state in which a program is refused so, at the slot, and the last jumps on a way there
+-- the program is refused so, at the slot; the state in which it is, and the last jumps on a way there
 pub record Explains (p : Program) (e : Refusal) (slot : ℕ) (x : Explanation) : Type 0 where
+  pub refused : StopsAt p e slot
   pub led : IsLed p x.state x.way.items
   pub at : x.state.slot ≡ slot
   pub stops : StopsIn p x.state e

@@ -7,6 +7,7 @@ ghost use Rattle.isa_model.specs.Code.Instructions.{Program, fetch};
 ghost use Rattle.transfer.specs.Exact.{Refuses};
 ghost use Rattle.explorer.specs.Walks.{StepsTo, IsAmong};
 ghost use Rattle.explorer.specs.Explained.{IsLed, Explains};
+ghost use Rattle.explorer.specs.Refused.{StopsAt};
 
 use crate::forgetting::forget_dead;
 use crate::refusals::Refusal;
@@ -145,6 +146,20 @@ fn is_stuck(image: &Image, state: &State, other: &mut State, refusal: transfer::
     }
 }
 
+/// Whether two refusals are the same.
+fn are_one(one: Refusal, other: Refusal) -> bool
+    ensures { IsTrue result → one ≡ other }
+{
+    match (one, other) {
+        (Refusal::Flow(one), Refusal::Flow(other)) => one == other,
+        (Refusal::Step(one), Refusal::Step(other)) => one == other,
+        (Refusal::Repeats, Refusal::Repeats) => true,
+        (Refusal::TooLong, Refusal::TooLong) => true,
+        (Refusal::Memory, Refusal::Memory) => true,
+        _ => false,
+    }
+}
+
 /// What is known at the end of a path, if it is refused there so.
 fn at_end(
     image: &Image,
@@ -153,7 +168,8 @@ fn at_end(
     refusal: Refusal,
     slot: usize,
 ) -> Option<Explanation>
-    requires { flow.now ≡ image.now }
+    requires image { flow.now ≡ image.now }
+    requires refused { StopsAt image.now refusal slot }
     ensures { IfSome result (Explains image.now refusal slot) }
 {
     let mut found = Explanation::start(image, flow);
@@ -187,7 +203,7 @@ pub fn explain(alloc: Global, image: &Image, refusal: Refusal, slot: usize) -> O
     let mut search = Search::new(alloc, slots).ok()?;
     let mut room = Vec::new(alloc);
     match search.explore(alloc, image, &flow, &mut room) {
-        Err((found, at)) if found == refusal && at == slot => {
+        Err((found, at)) if are_one(found, refusal) && at == slot => {
             at_end(image, &flow, &search.path, refusal, slot)
         }
         _ => None,
