@@ -146,7 +146,7 @@ fn is_stuck(image: &Image, state: &State, other: &mut State, refusal: transfer::
     }
 }
 
-/// Whether two refusals are the same.
+/// Whether two refusals are the same. The derived `==` has no clause that says so.
 fn are_one(one: Refusal, other: Refusal) -> bool
     ensures { IsTrue result → one ≡ other }
 {
