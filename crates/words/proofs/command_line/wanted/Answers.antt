@@ -1,0 +1,16 @@
+use Rattle.std.proofs.Common.{◌∙◌, true, Some, ap}
+use Rattle.clap.specs.Walk.{Rule, rule_of}
+use Rattle.clap.specs.declared.builder.action.ArgAction.TheVariants.{Set}
+use Rattle.clap.specs.declared.builder.arg.Arg.{Arg}
+use Rattle.words.proofs.command_line.wanted.Goals as goal
+
+pub returns-clause-rule : goal.returns-clause-rule
+returns-clause-rule c =
+    ap rule_of c.action.ensures
+    ∙ (ap (λ (a : Arg). rule_of (record a { action = Some Set })) c.required.ensures
+    ∙ ap (λ (r : Rule). record r { required = true; action = Some Set }) c.new.ensures.rule)
+
+pub returns-clause-local : goal.returns-clause-local
+returns-clause-local c =
+    ap (λ (a : Arg). a.global) c.action.ensures
+    ∙ (ap (λ (a : Arg). a.global) c.required.ensures ∙ c.new.ensures.optional.1)
