@@ -1,4 +1,4 @@
-use Rattle.std.proofs.Common.{List, ◌∙◌, sym, subst}
+use Rattle.std.proofs.Common.{List, ◌∙◌, sym, subst, rules}
 use Rattle.std.specs.Prelude.{◌↔◌}
 use Rattle.isa_model.specs.declared.registers.Reg.{Reg}
 use Rattle.isa_model.specs.MustAccept.Paths.{IsOneOf}
@@ -16,3 +16,6 @@ returns-in_default c = λ r.
     c.read-first.result.0 c.read-first.result.1 c.read-first.result.2 c.read-first.result.3 r
     (λ h. none_has r (subst (λ (m : RegisterMask). Has m r) c.none-in_default.ensures h))
     (c.with_found.ensures r) (c.with_found-two.ensures r) (c.with_found-in_default.ensures r) (c.with_found-in_default-2.ensures r))
+
+pub returns-in-Exit : goal.returns-in-Exit
+returns-in-Exit c = search rules
