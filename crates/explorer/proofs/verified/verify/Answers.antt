@@ -1,3 +1,4 @@
+use Rattle.std.proofs.Common.{rules}
 use Rattle.std.proofs.lemmas.Result.{err_from_is_err_and}
 use Rattle.image.specs.Programs.{IsProgram-IsImage}
 use Rattle.explorer.proofs.Plain.{IsPlain-refused, IsPlain-bound}
