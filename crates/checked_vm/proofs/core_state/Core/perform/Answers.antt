@@ -14,3 +14,6 @@ returns-in-CallHelper-clause-step c = λ p clock count rows.
     let same =
     performed_acts p clock old c.args.insn.now _ c.in-CallHelper.is (sym c.reads_unset.ensures ∙ c.if-reads_unset.false) (sym c.writes_frame_pointer.ensures ∙ c.if-writes_frame_pointer.false) in
     subst (λ (r : StepResult). IsStep clock r c.call_helper.result old (state_of c.call_helper.new.self c.args.packet.now)) (sym same) step
+
+pub returns-in-Err : goal.returns-in-Err
+returns-in-Err c = search rules
