@@ -12,3 +12,6 @@ returns-clause-writes g c =
 pub returns-in-Ok-write_bytes-clause-writes : goal.returns-in-Ok-write_bytes-clause-writes
 returns-in-Ok-write_bytes-clause-writes g c =
     last_written _ _ _ _ _ c.into_maps-maps.ensures.rows c.into_maps-maps.ensures.contents _ _ _ (search rules) c.in-Ok.ensures.writes c.in-Ok-write_bytes.ensures.ok
+
+pub returns-in-Ok-write_bytes-clause-tally : goal.returns-in-Ok-write_bytes-clause-tally
+returns-in-Ok-write_bytes-clause-tally g c = search rules
