@@ -15,12 +15,3 @@ returns-clause-rule c = search rules
 
 pub returns-clause-rows : goal.returns-clause-rows
 returns-clause-rows c = search rules
-
-pub returns-in-Ok-new-clause-contents : goal.returns-in-Ok-new-clause-contents
-returns-in-Ok-new-clause-contents c = search rules
-
-pub returns-in-Ok-new-clause-rule : goal.returns-in-Ok-new-clause-rule
-returns-in-Ok-new-clause-rule c = search rules
-
-pub returns-in-Ok-new-clause-rows : goal.returns-in-Ok-new-clause-rows
-returns-in-Ok-new-clause-rows c = search rules
