@@ -1,4 +1,4 @@
-use Rattle.std.proofs.Common.{refl, sym, ◌∙◌, rules}
+use Rattle.std.proofs.Common.{refl, sym, ◌∙◌}
 use Rattle.stack_state.specs.Places.{kind_of}
 use Rattle.branch_refine.proofs.Kept.{Keeps-same, Keeps-none, Keeps-compared, Narrows-compared, others_compared, no_number, no_operand, just_number, just_operand}
 use Rattle.branch_refine.proofs.refine_numbers.Goals as goal

@@ -1,4 +1,3 @@
-use Rattle.std.proofs.Common.{rules}
 use Rattle.std.proofs.lemmas.Result.{err_from_is_err_and}
 use Rattle.control_flow.specs.declared.errors.FlowError.TheVariants.{TargetOutside}
 use Rattle.control_flow.specs.FlowLaws.{IsFlow-Fails}
