@@ -112,3 +112,8 @@ local false b g r h = cc
 pub command-more : (old sub new : Command) (a b : App) → AddsSubcommand old sub new → app_of old ≡ a → app_of sub ≡ b → b.top.is_plain ≡ true → app_of new ≡ with_command a b
 command-more old sub new a b added e f plain =
     added.shape (local _ _ _ _ (ap (λ (x : App). x.top.is_plain) f ∙ plain)) ∙ ap₂ with_command e f
+
+-- wanted arguments leave a command plain
+pub is_plain-wanted : (a : App) (names : List (List ℕ)) → (fold with_wanted a names).top.is_plain ≡ a.top.is_plain
+is_plain-wanted a [] = refl
+is_plain-wanted a (name ∷ names) = is_plain-wanted (with_wanted a name) names

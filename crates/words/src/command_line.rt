@@ -2,7 +2,7 @@
 
 ghost use Rattle.std.specs.Prelude.{◌≡◌, false, map, IfOk};
 ghost use Rattle.clap.specs.Words.{app_of, rule_of, with_rule};
-ghost use Rattle.words.specs.CommandLine.{wanted, limit, command, program};
+ghost use Rattle.words.specs.CommandLine.{wanted, limit, command, program, trace, with_command};
 
 use clap::{Arg, ArgAction, Command};
 use std::alloc::{AllocError, Global};
@@ -44,26 +44,48 @@ fn with_limit<'a>(alloc: Global, command: Command<'a>) -> Result<Command<'a>, Al
     command.arg(limit)
 }
 
+// The command `trace`.
+fn trace<'a>(alloc: Global) -> Result<Command<'a>, AllocError>
+    ensures { IfOk result (λ made. app_of made ≡ trace) }
+{
+    let unlimited = command(alloc, "trace", &["image", "frames", "out"])?;
+    with_limit(alloc, unlimited)
+}
+
+// A program with one more command, of this name, that wants these arguments.
+fn with_command<'a>(
+    alloc: Global,
+    program: Command<'a>,
+    name: &'static str,
+    arguments: &[&'static str],
+) -> Result<Command<'a>, AllocError>
+    ensures { IfOk result (λ made. app_of made ≡ with_command (app_of program.entry)
+        (command name.now (map (λ argument. argument.now) arguments.now))) }
+{
+    let made = command(alloc, name, arguments)?;
+    program.subcommand(made)
+}
+
+// A program with the command `trace`, too.
+fn with_trace<'a>(alloc: Global, program: Command<'a>) -> Result<Command<'a>, AllocError>
+    ensures { IfOk result (λ made. app_of made ≡ with_command (app_of program.entry) trace) }
+{
+    let made = trace(alloc)?;
+    program.subcommand(made)
+}
+
 /// The program with its commands, of which it wants one.
 pub fn program<'a>(alloc: Global) -> Result<Command<'a>, AllocError>
     ensures { IfOk result (λ made. app_of made ≡ program) }
 {
-    let asm = command(alloc, "asm", &["text", "image"])?;
-    let dis = command(alloc, "dis", &["image"])?;
-    let verify = command(alloc, "verify", &["image"])?;
-    let run = command(alloc, "run", &["image", "frames", "out"])?;
-    let unlimited = command(alloc, "trace", &["image", "frames", "out"])?;
-    let trace = with_limit(alloc, unlimited)?;
-    let prove = command(alloc, "prove", &["image", "table"])?;
-    let recheck = command(alloc, "recheck", &["image", "table"])?;
-    Command::new(alloc, "xdpvm")
+    let empty = Command::new(alloc, "xdpvm")
         .version(VERSION)
-        .subcommand_required(true)
-        .subcommand(asm)?
-        .subcommand(dis)?
-        .subcommand(verify)?
-        .subcommand(run)?
-        .subcommand(trace)?
-        .subcommand(prove)?
-        .subcommand(recheck)
+        .subcommand_required(true);
+    let with_asm = with_command(alloc, empty, "asm", &["text", "image"])?;
+    let with_dis = with_command(alloc, with_asm, "dis", &["image"])?;
+    let with_verify = with_command(alloc, with_dis, "verify", &["image"])?;
+    let with_run = with_command(alloc, with_verify, "run", &["image", "frames", "out"])?;
+    let with_trace = with_trace(alloc, with_run)?;
+    let with_prove = with_command(alloc, with_trace, "prove", &["image", "table"])?;
+    with_command(alloc, with_prove, "recheck", &["image", "table"])
 }

@@ -1,27 +1,22 @@
-use Rattle.std.proofs.Common.{◌≡◌, ◌∙◌, true, refl, ap}
+use Rattle.std.proofs.Common.{◌≡◌, ◌∙◌, true, ap}
 use Rattle.std.proofs.lemmas.Result.{IfOk-weaker}
 use Rattle.clap.specs.Simple.{app_of_fields, on_top}
-use Rattle.clap.specs.Words.{App, app_of, with_rule}
+use Rattle.clap.specs.Words.{App, app_of}
 use Rattle.words.specs.CommandLine as line
-use Rattle.words.proofs.Words.{command-more}
+use Rattle.words.specs.CommandLine.{with_command}
 use Rattle.words.proofs.command_line.program.Goals as goal
 
 pub returns : goal.returns
 unfolding line.program line.asm line.dis line.verify line.run line.trace line.prove line.recheck
 returns c =
-    let asm-is : app_of c.in_ok-asm.asm ≡ line.asm = c.in_ok-asm.ensures in
-    let dis-is : app_of c.in_ok-dis.dis ≡ line.dis = c.in_ok-dis.ensures in
-    let verify-is : app_of c.in_ok-verify.verify ≡ line.verify = c.in_ok-verify.ensures in
-    let run-is : app_of c.in_ok-run.run' ≡ line.run = c.in_ok-run.ensures in
-    let prove-is : app_of c.in_ok-prove.prove ≡ line.prove = c.in_ok-prove.ensures in
-    let recheck-is : app_of c.in_ok-recheck.recheck ≡ line.recheck = c.in_ok-recheck.ensures in
-    let trace-is : app_of c.in_ok-trace.trace ≡ line.trace = c.in_ok-trace.ensures ∙ ap (λ (a : App). with_rule a line.limit) c.in_ok-unlimited.ensures in
+    let more : (a b : App) (command : App) → a ≡ b → with_command a command ≡ with_command b command =
+    λ a b command h. ap (λ p. with_command p command) h in
     let versioned : app_of c.version.result ≡ line.versioned_program = ap app_of_fields c.version.ensures ∙ ap (on_top (λ s. record s { has_version = true })) c.new.ensures.app in
-    let start : app_of c.subcommand_required.result ≡ line.empty_program = ap app_of_fields c.subcommand_required.ensures ∙ ap (on_top (λ s. record s { subcommand_required = true })) versioned in
-    let with-asm = command-more _ _ _ _ line.asm c.in_ok-subcommand.ensures start asm-is refl in
-    let with-dis = command-more _ _ _ _ line.dis c.in_ok-subcommand-2.ensures with-asm dis-is refl in
-    let with-verify = command-more _ _ _ _ line.verify c.in_ok-subcommand-3.ensures with-dis verify-is refl in
-    let with-run = command-more _ _ _ _ line.run c.in_ok-subcommand-4.ensures with-verify run-is refl in
-    let with-trace = command-more _ _ _ _ line.trace c.in_ok-subcommand-5.ensures with-run trace-is refl in
-    let with-prove = command-more _ _ _ _ line.prove c.in_ok-subcommand-6.ensures with-trace prove-is refl in
-    IfOk-weaker c.subcommand-7.result _ _ (λ made h. command-more _ _ made _ line.recheck h with-prove recheck-is refl) c.subcommand-7.ensures
+    let start : app_of c.subcommand_required-empty.result ≡ line.empty_program = ap app_of_fields c.subcommand_required-empty.ensures ∙ ap (on_top (λ s. record s { subcommand_required = true })) versioned in
+    let with-asm = c.in_ok-with_asm.ensures ∙ more _ _ line.asm start in
+    let with-dis = c.in_ok-with_dis.ensures ∙ more _ _ line.dis with-asm in
+    let with-verify = c.in_ok-with_verify.ensures ∙ more _ _ line.verify with-dis in
+    let with-run = c.in_ok-with_run.ensures ∙ more _ _ line.run with-verify in
+    let with-trace = c.in_ok-with_trace.ensures ∙ more _ _ line.trace with-run in
+    let with-prove = c.in_ok-with_prove.ensures ∙ more _ _ line.prove with-trace in
+    IfOk-weaker c.with_command-6.result _ _ (λ made h. h ∙ more _ _ line.recheck with-prove) c.with_command-6.ensures

@@ -1,5 +1,0 @@
-//! A module for each subject that is tested.
-
-mod answers;
-mod orders;
-mod stores;

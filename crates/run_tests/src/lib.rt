@@ -1,0 +1,7 @@
+//! Tests of maps, of the two machines, and of streams and reports.
+//!
+//! They stand here, since a crate with tests is proved twice.
+#![tactic(auto)]
+
+#[cfg(test)]
+mod tests;

@@ -1,0 +1,6 @@
+//! A module for each part that is tested, and the programs that texts spell.
+
+mod machines;
+mod maps;
+mod programs;
+mod streams;
