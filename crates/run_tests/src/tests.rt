@@ -1,6 +1,6 @@
 //! A module for each part that is tested, and the programs that texts spell.
 
 mod machines;
-mod maps;
+mod map_stores;
 mod programs;
 mod streams;

@@ -5,7 +5,7 @@ use Rattle.isa_model.specs.declared.map_defs.MapKind.{MapKind}
 use Rattle.isa_model.specs.declared.map_defs.MapKind.TheVariants.{Hash, Array}
 use Rattle.isa_model.specs.declared.map_defs.MapDef.{MapDef}
 use Rattle.isa_model.specs.Code.MapRows.{IsRow, KeyFits}
-use Rattle.run_tests.proofs.tests.maps.orders.made.Goals as goal
+use Rattle.run_tests.proofs.tests.map_stores.orders.made.Goals as goal
 
 abbrev row : MapKind → ℕ → ℕ → MapDef
 row kind size entries = record { kind = kind; key_size = size; value_size = 1; entries = entries }
