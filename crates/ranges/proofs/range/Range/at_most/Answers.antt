@@ -1,6 +1,17 @@
 use Rattle.std.proofs.Common.{arith}
 use Rattle.ranges.proofs.range.Range.at_most.Goals as goal
 
+pub returns-in_err-left-clause-common : goal.returns-in_err-left-clause-common
+returns-in_err-left-clause-common c = λ x y hx hy h.
+    let to = hy.0.to in
+    absurd (c.in_err-left.ensures.common x hx (omega arith) (omega arith))
+
+pub returns-in_err-right-clause-common : goal.returns-in_err-right-clause-common
+returns-in_err-right-clause-common c = λ x y hx hy h.
+    let from = hx.0.from in
+    let below = hy.0.below in
+    absurd (c.in_err-right.ensures.common y hy (omega arith) (omega arith))
+
 pub returns-clause-common : goal.returns-clause-common
 returns-clause-common c = λ x y hx hy h.
     let from = hx.0.from in

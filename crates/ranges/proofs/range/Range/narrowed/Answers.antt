@@ -9,6 +9,24 @@ use Rattle.ranges.specs.declared.range.Range.{Range}
 use Rattle.ranges.proofs.LowLaws.{reached_map}
 use Rattle.ranges.proofs.range.Range.narrowed.Goals as goal
 
+pub returns-in_err-least-clause-common : goal.returns-in_err-least-clause-common
+returns-in_err-least-clause-common c = λ x hx h. absurd (c.in_err-least.ensures.first x (omega arith) (omega arith) h)
+
+pub returns-in_err-greatest-clause-common : goal.returns-in_err-greatest-clause-common
+returns-in_err-greatest-clause-common c = λ x hx h. absurd (c.in_err-greatest.ensures.last x (omega arith) h)
+
+pub returns-then-least-greatest-clause-common : goal.returns-then-least-greatest-clause-common
+returns-then-least-greatest-clause-common c = λ x hx h.
+    let from : c.in_ok-least.least ≤ x = c.in_ok-least.ensures.first x (omega arith) (omega arith) h in
+    let to : x ≤ c.in_ok-greatest.greatest = c.in_ok-greatest.ensures.last x (omega arith) h in
+    absurd (omega arith)
+
+pub returns-clause-common : goal.returns-clause-common
+returns-clause-common c = λ x hx h.
+    let from : c.in_ok-least.least ≤ x = c.in_ok-least.ensures.first x (omega arith) (omega arith) h in
+    let to : x ≤ c.in_ok-greatest.greatest = c.in_ok-greatest.ensures.last x (omega arith) h in
+    ((c.between.ensures.members x).1 (from, to), c.among.ensures.contains x from to h)
+
 pub returns-clause-tight : goal.returns-clause-tight
 returns-clause-tight c =
     let least = c.in_ok-least.least in

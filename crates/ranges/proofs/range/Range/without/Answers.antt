@@ -3,6 +3,20 @@ use Rattle.std.specs.Int.{w64, cast_signed}
 use Rattle.std.proofs.lemmas.Int.{ints}
 use Rattle.ranges.proofs.range.Range.without.Goals as goal
 
+pub returns-in_err-unsigned-clause-common : goal.returns-in_err-unsigned-clause-common
+returns-in_err-unsigned-clause-common c = λ x h differs. absurd (c.in_err-unsigned.ensures.common x h differs)
+
+pub returns-in_err-left-clause-common : goal.returns-in_err-left-clause-common
+returns-in_err-left-clause-common c = λ x h differs.
+    absurd (c.in_err-left.ensures.common x (c.in_ok-unsigned.ensures.common x h differs) differs)
+
+pub returns-clause-common : goal.returns-clause-common
+returns-clause-common c = λ x h differs.
+    c.in_ok-left.ensures.common x (c.in_ok-unsigned.ensures.common x h differs) differs
+
+pub returns-clause-left : goal.returns-clause-left
+returns-clause-left c = λ x h. c.in_ok-unsigned.ensures.left x (c.in_ok-left.ensures.left x h)
+
 pub returns-clause-limit : goal.returns-clause-limit
 returns-clause-limit c = λ is h.
     let unsigned = c.in_ok-unsigned.unsigned in
