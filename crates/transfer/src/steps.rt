@@ -121,10 +121,9 @@ fn store_at(
     requires { state.old.slot + 1 < 2 ^ 63 }
     ensures { GoesOn state.old (StoresAt maps.now state.old size place source) result state.new }
 {
-    let next = state.slot + 1;
     let base = state.kind_of(place.base);
     store(maps, state, size, base, place.offset, source)?;
-    state.slot = next;
+    state.slot += 1;
     Ok(Ways::One)
 }
 
@@ -142,7 +141,6 @@ fn swap_at(
     ensures { GoesOn state.old
         (SwapsAtPlace maps.now state.old width place source register) result state.new }
 {
-    let next = state.slot + 1;
     let base = state.kind_of(place.base);
     let value = state.kind_of(source);
     swap(
@@ -154,7 +152,7 @@ fn swap_at(
         width.size(),
         register,
     )?;
-    state.slot = next;
+    state.slot += 1;
     Ok(Ways::One)
 }
 
@@ -170,11 +168,10 @@ fn compare_at(
     ensures { GoesOn state.old
         (ComparesAtPlace maps.now state.old width place source) result state.new }
 {
-    let next = state.slot + 1;
     let base = state.kind_of(place.base);
     let value = state.kind_of(source);
     compare_and_swap(maps, state, value, base, place.offset, width.size())?;
-    state.slot = next;
+    state.slot += 1;
     Ok(Ways::One)
 }
 
