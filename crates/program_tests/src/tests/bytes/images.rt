@@ -61,6 +61,14 @@ fn reads_and_writes(rt: HostRuntime) -> Result<(), Fail> {
         assert_eq!(rt; written(rt.alloc(), &image)?.as_slice(), *bytes);
         assert_eq!(rt; (image.maps().len(), image.slots()), (0, code.len()));
         assert_eq!(rt; image.code(), *code);
+    }
+    Ok(())
+}
+
+#[test]
+fn finds_each_instruction(rt: HostRuntime) -> Result<(), Fail> {
+    for (bytes, code) in IMAGES.iter() {
+        let image = parsed(rt.alloc(), *bytes)?;
         for slot in 0..5usize {
             let insn = code.get(slot).copied().flatten();
             assert_eq!(rt; insn_at(&image, slot), insn, "slot {slot}");

@@ -15,7 +15,7 @@ use reg_state::Kind;
 use stack_state::State;
 use std::alloc::Global;
 use std::test::Fail;
-use transfer::Successors;
+use transfer::{Refusal, Successors};
 
 /// What the small explorer compares at a join.
 #[derive(Clone, Copy)]
@@ -72,6 +72,23 @@ fn is_covered(stored: &Vec<State>, state: &State) -> bool {
     false
 }
 
+/// Lets the successors of a step wait, and tells whether there was such a step.
+fn goes_on(
+    waiting: &mut Vec<State>,
+    step: Option<Result<Successors, Refusal>>,
+) -> Result<bool, Fail> {
+    match step {
+        None | Some(Err(_)) => return Ok(false),
+        Some(Ok(Successors::None)) => {}
+        Some(Ok(Successors::One(next))) => waiting.push(next)?,
+        Some(Ok(Successors::Two(stay, go))) => {
+            waiting.push(go)?;
+            waiting.push(stay)?;
+        }
+    }
+    Ok(true)
+}
+
 /// How many states of a program without loops are explored, or end at a join. `None`: a step is
 /// refused.
 fn explored(alloc: Global, text: &str, cover: Cover) -> Result<Option<usize>, Fail> {
@@ -92,14 +109,8 @@ fn explored(alloc: Global, text: &str, cover: Cover) -> Result<Option<usize>, Fa
             }
             stored.push(state.copy())?;
         }
-        match stepped(&image, &state) {
-            None | Some(Err(_)) => return Ok(None),
-            Some(Ok(Successors::None)) => {}
-            Some(Ok(Successors::One(next))) => waiting.push(next)?,
-            Some(Ok(Successors::Two(stay, go))) => {
-                waiting.push(go)?;
-                waiting.push(stay)?;
-            }
+        if !goes_on(&mut waiting, stepped(&image, &state))? {
+            return Ok(None);
         }
     }
     Err(Fail::new("too long"))
