@@ -1,6 +1,7 @@
 -- What an instruction is: registers, sizes, numbers, forms and their bytes.
 pub mod Registers
 pub mod Sizes
+pub mod Versions
 pub mod Helpers
 pub mod Instructions
 pub mod MapRows

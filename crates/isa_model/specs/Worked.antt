@@ -13,3 +13,7 @@ pub mod ReportExamples
 pub mod TextExamples
 pub mod AcceptExamples
 pub mod GuardedExamples
+pub mod WorkedLaws
+pub mod LoopExamples
+pub mod PlainExamples
+pub mod SignedLoadExamples

@@ -26,6 +26,8 @@ pub enum TrapReason {
     TooManyFrames,
     /// r0 is no number at the last exit.
     NoResult,
+    /// The last exit of a program of version 2 names no action.
+    BadAction,
 }
 
 impl TrapReason {
@@ -45,6 +47,7 @@ impl TrapReason {
             TrapReason::BadHelper => "helper",
             TrapReason::TooManyFrames => "frames",
             TrapReason::NoResult => "exit",
+            TrapReason::BadAction => "action",
         }
     }
 }

@@ -18,10 +18,11 @@ pub mod sizes;
 pub mod slots;
 pub mod streams;
 pub mod values;
+pub mod versions;
 
 pub use clocks::Clock;
 pub use ends::{End, MAX_STEPS, TrapReason};
-pub use frames::{Action, FrameHead, MAX_BODY};
+pub use frames::{Action, FrameHead, MAX_PACKET};
 pub use helpers::Helper;
 pub use instructions::{AluOp, AtomicOp, Comparison, Cond, Insn, Operand, Place};
 pub use jumps::destination;
@@ -31,3 +32,4 @@ pub use sizes::{ByteOrder, Extension, Narrow, Size, Span, Width};
 pub use slots::Slot;
 pub use streams::{Fault, Finish};
 pub use values::{CallFrame, Cell, Region, Value};
+pub use versions::Version;

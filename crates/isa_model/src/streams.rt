@@ -9,11 +9,11 @@ use std::fmt;
 /// What is wrong with a frame stream.
 #[derive(Clone, Copy, PartialEq, Eq, Debug)]
 pub enum Fault {
-    /// Fewer than 4 bytes, or another magic than `XPF1`.
+    /// Fewer than 4 bytes, or another magic than `XPF1` and `XPF2`.
     BadMagic,
-    /// 1 to 19 bytes of a record's head.
+    /// 1 to 19 bytes of a record's head, or to 23 in `XPF2`.
     TruncatedHead,
-    /// A length over 4,096.
+    /// A length over 4,096, or over 9,216 in `XPF2`.
     TooLong,
     /// Fewer bytes of the body than the length.
     TruncatedBody,
@@ -44,9 +44,9 @@ impl Fault {
         ensures { result.now ≡ sentence_of self }
     {
         match self {
-            Fault::BadMagic => "the stream does not begin with XPF1",
+            Fault::BadMagic => "the stream does not begin with XPF1 or XPF2",
             Fault::TruncatedHead => "the stream ends within the head of a record",
-            Fault::TooLong => "the frame is longer than 4096 bytes",
+            Fault::TooLong => "the frame is longer than 4096 bytes, or than 9216 in XPF2",
             Fault::TruncatedBody => "the stream ends within the bytes of a frame",
             Fault::ReadFailed => "the stream cannot be read",
             Fault::TooManyRecords => "the stream has more than 4294967295 records",

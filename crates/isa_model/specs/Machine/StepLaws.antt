@@ -21,7 +21,7 @@ use Rattle.isa_model.specs.declared.values.Value.{Value}
 use Rattle.isa_model.specs.declared.values.Value.TheVariants.{Unset, Num, Ptr}
 use Rattle.isa_model.specs.declared.values.CallFrame.{CallFrame}
 use Rattle.isa_model.specs.declared.ends.TrapReason.{TrapReason}
-use Rattle.isa_model.specs.declared.ends.TrapReason.TheVariants.{UnsetRead, ReadOnly, TooManyFrames}
+use Rattle.isa_model.specs.declared.ends.TrapReason.TheVariants.{UnsetRead, ReadOnly, TooManyFrames, BadAction}
 use Rattle.isa_model.specs.Code.Numbers.{low, unsigned, alu, sign_extended, reordered, negated, atomic_alu}
 use Rattle.isa_model.specs.Code.NumberLemmas.{alu_fits, reordered_fits}
 use Rattle.isa_model.specs.Code.ExtensionLemmas.{sign_extended_fits}
@@ -32,7 +32,7 @@ use Rattle.isa_model.specs.Code.MapRows.{IsRow, NamesRows}
 use Rattle.isa_model.specs.Machine.States.{Entries, entries_of, State, reg, set_reg, new_frame}
 use Rattle.isa_model.specs.Machine.Memory.{and_then}
 use Rattle.isa_model.specs.Machine.Calls.{most_frames, enter, leave}
-use Rattle.isa_model.specs.Machine.Steps.{StepResult, Next, Finished, Trapped, map_pointer, value_pointer, operand_value, base_of, destination, sets, goes_on, jumps, branches, test_of, calls, finishes, exits, atomic_number, act, is_unset, performed_at, step}
+use Rattle.isa_model.specs.Machine.Steps.{StepResult, Next, Finished, Trapped, map_pointer, value_pointer, operand_value, base_of, destination, sets, goes_on, jumps, branches, test_of, calls, is_answer, finishes, exits, atomic_number, act, is_unset, performed_at, step}
 use Rattle.isa_model.specs.Running.Runs.{numbered, numbered_maps, count_values, start_regs, start_state, GoesOn, Reaches}
 use Rattle.isa_model.specs.Running.RunLaws.{progress-zero}
 use Rattle.isa_model.specs.Running.Ends.{Reaches-last}
@@ -98,15 +98,19 @@ calls_keep p s by inside fits k = room (length s.frames == most_frames) refl
     room true e = tt
     room false e = IsState-enter p s (destination p s.slot by) (destination_fits p s.slot by inside fits) inside (λ h. grind (arith, nat_tests)) k
 
-finishes_keeps : (p : Program) (v : Value) → IfNext (finishes v) (IsState p)
-finishes_keeps p (Num n) = tt
+finishes_keeps : (p : Program) (v : Value) → IfNext (finishes p.version v) (IsState p)
+finishes_keeps p (Num n) = answers (is_answer p.version n)
+  where
+    answers : (b : Bool) → IfNext (if b then Finished n else Trapped BadAction) (IsState p)
+    answers true = tt
+    answers false = tt
 finishes_keeps p (Ptr r z) = tt
 finishes_keeps p Unset = tt
 
-exits_keep : (p : Program) (s : State) → IsState p s → IfNext (exits s) (IsState p)
+exits_keep : (p : Program) (s : State) → IsState p s → IfNext (exits p.version s) (IsState p)
 exits_keep p s k = last (length s.frames == 1) refl
   where
-    last : (one : Bool) → (length s.frames == 1) ≡ one → IfNext (if one then finishes (reg s R0) else Next (leave s)) (IsState p)
+    last : (one : Bool) → (length s.frames == 1) ≡ one → IfNext (if one then finishes p.version (reg s R0) else Next (leave s)) (IsState p)
     last true e = finishes_keeps p (reg s R0)
     last false e = IsState-leave p s (λ h. grind (arith, nat_tests)) k
 

@@ -12,9 +12,9 @@ code_of ReadFailed = codes "F5"
 code_of TooManyRecords = codes "F6"
 
 abbrev pub sentence_of : Fault → List ℕ
-sentence_of BadMagic = codes "the stream does not begin with XPF1"
+sentence_of BadMagic = codes "the stream does not begin with XPF1 or XPF2"
 sentence_of TruncatedHead = codes "the stream ends within the head of a record"
-sentence_of TooLong = codes "the frame is longer than 4096 bytes"
+sentence_of TooLong = codes "the frame is longer than 4096 bytes, or than 9216 in XPF2"
 sentence_of TruncatedBody = codes "the stream ends within the bytes of a frame"
 sentence_of ReadFailed = codes "the stream cannot be read"
 sentence_of TooManyRecords = codes "the stream has more than 4294967295 records"

@@ -1,5 +1,5 @@
 -- What running a program over a frame stream writes: the report and the frames out, as pieces in their order. docs/FORMATS.md.
-use Rattle.std.specs.Prelude.{◌≡◌, ℕ, ◌+◌, if◌then◌else◌, Bool, true, false, List, [], ◌∷◌, ◌++◌, length, map, fold, replicate, codes, decimal, Option}
+use Rattle.std.specs.Prelude.{◌≡◌, ℕ, ◌+◌, ◌/◌, ◌^◌, ◌==◌, if◌then◌else◌, Bool, true, false, List, [], ◌∷◌, ◌++◌, length, map, fold, replicate, codes, decimal, Option, Some, None}
 use Rattle.std.specs.List.{flat_map, filter_map, range_with_len}
 use Rattle.std.specs.Option.{option_map}
 use Rattle.std.specs.Ordering.{nat_cmp}
@@ -16,15 +16,18 @@ use Rattle.isa_model.specs.declared.frames.Action.TheVariants as action
 use Rattle.isa_model.specs.declared.streams.Finish.{Finish}
 use Rattle.isa_model.specs.declared.streams.Finish.TheVariants as finish
 use Rattle.isa_model.specs.declared.ends.TrapReason.{TrapReason}
-use Rattle.isa_model.specs.declared.ends.TrapReason.TheVariants.{NoCode, UnsetRead, ReadOnly, BadPointer, OutOfRange, BadAccess, BadCompare, BadHelper, TooManyFrames, NoResult}
+use Rattle.isa_model.specs.declared.ends.TrapReason.TheVariants.{NoCode, UnsetRead, ReadOnly, BadPointer, OutOfRange, BadAccess, BadCompare, BadHelper, TooManyFrames, NoResult, BadAction}
 use Rattle.isa_model.specs.declared.ends.End.{End}
 use Rattle.isa_model.specs.declared.ends.End.TheVariants.{Exit, Trap, Limit}
 use Rattle.isa_model.specs.Reporting.Frames.{action_of}
 use Rattle.isa_model.specs.Code.Instructions.{Program}
 use Rattle.isa_model.specs.Machine.States.{Entries}
-use Rattle.isa_model.specs.Reporting.Streams.{Frame, magic, frame_bytes}
+use Rattle.isa_model.specs.declared.versions.Version.{Version}
+use Rattle.isa_model.specs.declared.versions.Version.TheVariants.{One, Two}
+use Rattle.isa_model.specs.Code.Versions.{stream_magic}
+use Rattle.isa_model.specs.Reporting.Streams.{Frame, Stream, frame_bytes}
 use Rattle.isa_model.specs.Reporting.Messages.{code_of}
-use Rattle.isa_model.specs.Running.Runs.{Outcome, HasOutcome, Turn, turn}
+use Rattle.isa_model.specs.Running.Runs.{Outcome, HasOutcome, max_steps, Turn, turn}
 
 -- ---- names
 
@@ -47,17 +50,50 @@ reason_name BadCompare = codes "compare"
 reason_name BadHelper = codes "helper"
 reason_name TooManyFrames = codes "frames"
 reason_name NoResult = codes "exit"
+reason_name BadAction = codes "action"
+
+-- ---- what is done with a frame, and why
+
+abbrev pub is_forwarded : Action → Bool
+is_forwarded action.Pass = true
+is_forwarded action.Tx = true
+is_forwarded other = false
+
+-- a program of version 2 tells in the upper half of its answer why a frame is not sent on; 1 stands for no cause told
+abbrev pub told_reason : Version → ℕ → ℕ
+told_reason One value = 1
+told_reason Two value = if value / 2 ^ 32 == 0 then 1 else value / 2 ^ 32
+
+-- the reason of a frame, by the program's version and answer; 0 where the frame is sent on
+abbrev pub reason_of : Version → ℕ → ℕ
+reason_of program value = if is_forwarded (action_of value) then 0 else told_reason program value
 
 -- ---- lines, each ended by one line feed
 
--- a frame's line, by the limit of steps, the frame's number, how its run ended, and the length of its body
-unfoldable pub frame_line : ℕ → ℕ → End → ℕ → List ℕ
-frame_line limit number (Exit value steps) size =
-    decimal number ++ codes " " ++ action_name (action_of value) ++ codes " " ++ decimal size ++ codes " " ++ decimal steps ++ codes "\n"
-frame_line limit number (Trap reason steps) size =
+-- what the lines depend on beside the runs: the limit of steps, and the versions of the program and of the stream
+pub record Form : Type 0 where
+  pub limit : ℕ
+  pub program : Version
+  pub stream : Version
+
+-- the field of a line that tells the reason, where the stream has reasons
+abbrev pub reason_text : Version → ℕ → List ℕ
+reason_text One reason = []
+reason_text Two reason = codes " " ++ decimal reason
+
+-- a frame's line, by its number, how its run ended, and the length of its body
+unfoldable pub frame_line : Form → ℕ → End → ℕ → List ℕ
+frame_line form number (Exit value steps) size =
+    decimal number ++ codes " " ++ action_name (action_of value) ++ codes " " ++ decimal size ++ codes " " ++ decimal steps
+    ++ reason_text form.stream (reason_of form.program value) ++ codes "\n"
+frame_line form number (Trap reason steps) size =
     decimal number ++ codes " TRAP " ++ reason_name reason ++ codes " " ++ decimal size ++ codes " " ++ decimal steps ++ codes "\n"
-frame_line limit number Limit size =
-    decimal number ++ codes " LIMIT " ++ decimal size ++ codes " " ++ decimal limit ++ codes "\n"
+frame_line form number Limit size =
+    decimal number ++ codes " LIMIT " ++ decimal size ++ codes " " ++ decimal form.limit ++ codes "\n"
+
+-- the line of a frame that has a reason already, and is not run
+unfoldable pub skip_line : ℕ → ℕ → ℕ → List ℕ
+skip_line number size reason = decimal number ++ codes " SKIP " ++ decimal size ++ codes " 0 " ++ decimal reason ++ codes "\n"
 
 -- an entry's line, by the map's index, in lower-case hexadecimal
 unfoldable pub map_line : ℕ → (List ℕ × List ℕ) → List ℕ
@@ -92,38 +128,57 @@ frames_out pieces = flat_map frames_part pieces
 
 -- ---- frames
 
-abbrev pub is_forwarded : Action → Bool
-is_forwarded action.Pass = true
-is_forwarded action.Tx = true
-is_forwarded other = false
+-- PASS and TX frames are written out, and where the stream has reasons all frames whose runs exit
+abbrev pub is_sent : Version → End → Bool
+is_sent One (Exit value steps) = is_forwarded (action_of value)
+is_sent Two (Exit value steps) = true
+is_sent stream end = false
 
--- PASS and TX frames are written out
-abbrev pub is_sent : End → Bool
-is_sent (Exit value steps) = is_forwarded (action_of value)
-is_sent (Trap reason steps) = false
-is_sent Limit = false
+-- the reason that a frame is written out with
+abbrev pub end_reason : Version → End → ℕ
+end_reason program (Exit value steps) = reason_of program value
+end_reason program end = 0
 
-abbrev pub record_pieces : FrameHead → Turn → List Piece
-record_pieces head t = if is_sent t.ends then ToFrames (frame_bytes (record { head = head; body = t.packet })) ∷ [] else []
+abbrev pub record_pieces : Form → FrameHead → Turn → List Piece
+record_pieces form head t =
+    if is_sent form.stream t.ends
+    then ToFrames (frame_bytes form.stream (record { head = head; body = t.packet; reason = end_reason form.program t.ends })) ∷ []
+    else []
 
 -- a frame's line, and then its record if it has one
-unfoldable pub frame_pieces : ℕ → ℕ → Frame → Turn → List Piece
-frame_pieces limit number f t = ToReport (frame_line limit number t.ends (length f.body)) ∷ record_pieces f.head t
+unfoldable pub frame_pieces : Form → ℕ → Frame → Turn → List Piece
+frame_pieces form number f t = ToReport (frame_line form number t.ends (length f.body)) ∷ record_pieces form f.head t
+
+-- a frame that is not run goes out as it came
+unfoldable pub skip_pieces : Form → ℕ → Frame → List Piece
+skip_pieces form number f = ToReport (skip_line number (length f.body) f.reason) ∷ ToFrames (frame_bytes form.stream f) ∷ []
 
 -- what running a frame on map contents gives
 abbrev pub Rule : Type 0
 Rule = FrameHead → List ℕ → List Entries → Turn
 
+-- a frame is run unless it has a reason
+abbrev pub turn_on : Rule → List Entries → Frame → Option Turn
+turn_on rule contents f = if f.reason == 0 then Some (rule f.head f.body contents) else None
+
+abbrev pub turn_pieces : Form → ℕ → Frame → Option Turn → List Piece
+turn_pieces form number f (Some t) = frame_pieces form number f t
+turn_pieces form number f None = skip_pieces form number f
+
+abbrev pub contents_left : List Entries → Option Turn → List Entries
+contents_left contents (Some t) = t.contents
+contents_left contents None = contents
+
 -- the frames' pieces, the maps' contents carried along
-abbrev pub turns_pieces : ℕ → Rule → ℕ → List Entries → List Frame → List Piece
-turns_pieces limit rule number contents [] = []
-turns_pieces limit rule number contents (f ∷ frames) =
-    let t = rule f.head f.body contents in
-    frame_pieces limit number f t ++ turns_pieces limit rule (number + 1) t.contents frames
+abbrev pub turns_pieces : Form → Rule → ℕ → List Entries → List Frame → List Piece
+turns_pieces form rule number contents [] = []
+turns_pieces form rule number contents (f ∷ frames) =
+    let t = turn_on rule contents f in
+    turn_pieces form number f t ++ turns_pieces form rule (number + 1) (contents_left contents t) frames
 
 abbrev pub contents_after : Rule → List Entries → List Frame → List Entries
 contents_after rule contents [] = contents
-contents_after rule contents (f ∷ frames) = contents_after rule (rule f.head f.body contents).contents frames
+contents_after rule contents (f ∷ frames) = contents_after rule (contents_left contents (turn_on rule contents f)) frames
 
 -- ---- maps
 
@@ -157,34 +212,47 @@ starting_contents rows = map (λ row. starting_entries row.kind row) rows
 -- ---- reports
 
 -- the magic, each frame's pieces, the maps' lines, and the last line
-abbrev pub report_of : ℕ → List MapDef → Rule → List Entries → List Frame × Finish → List Piece
-report_of limit rows rule contents found =
-    (ToFrames magic ∷ turns_pieces limit rule 0 contents found.0)
-    ++ (maps_pieces 0 rows (contents_after rule contents found.0) ++ ToReport (last_line (length found.0) found.1) ∷ [])
+abbrev pub report_of : ℕ → Version → List MapDef → Rule → List Entries → Stream → List Piece
+report_of limit program rows rule contents found =
+    let form : Form = record { limit = limit; program = program; stream = found.version } in
+    (ToFrames (stream_magic found.version) ∷ turns_pieces form rule 0 contents found.frames)
+    ++ (maps_pieces 0 rows (contents_after rule contents found.frames) ++ ToReport (last_line (length found.frames) found.finish) ∷ [])
 
 -- a run with checks, stopped at the limit; every answer of the clock is the frame's time
 abbrev pub checked_rule : Program → ℕ → Rule
 checked_rule p limit head body contents = turn p limit (λ k. head.time) head body contents
 
--- the checked report of a program, a limit, and the frames and the end or fault of a stream
-abbrev pub checked_report : Program → ℕ → List Frame × Finish → List Piece
-checked_report p limit found = report_of limit p.maps (checked_rule p limit) (starting_contents p.maps) found
+-- the checked report of a program, a limit, and a stream
+abbrev pub checked_report : Program → ℕ → Stream → List Piece
+checked_report p limit found = report_of limit p.version p.maps (checked_rule p limit) (starting_contents p.maps) found
 
 -- the turn of a run that has this outcome
 abbrev pub turn_by : Outcome → Turn
 turn_by o = record { ends = Exit o.number o.steps; packet = o.packet; contents = o.contents; clock_calls = o.clock_calls }
 
--- the frames' pieces by the outcomes of their runs, and the contents that the last one leaves
-abbrev pub ReportsFrames : Program → ℕ → List Entries → List Frame → List Piece → List Entries → Type 0
-ReportsFrames p number contents [] pieces last = (pieces ≡ []) × (last ≡ contents)
-ReportsFrames p number contents (f ∷ frames) pieces last =
-    (o : Outcome) × (rest : List Piece) × HasOutcome p f.head f.body contents (λ k. f.head.time) o
-    × (pieces ≡ frame_pieces o.steps number f (turn_by o) ++ rest) × ReportsFrames p (number + 1) o.contents frames rest last
+-- a frame without a reason has the pieces of its run's outcome, which leaves the contents; every other one is skipped
+abbrev pub ReportsFrame : Form → Program → ℕ → List Entries → Frame → Bool → List Piece → List Entries → Type 0
+ReportsFrame form p number contents f true pieces next =
+    (o : Outcome) × HasOutcome p f.head f.body contents (λ k. f.head.time) o
+    × (pieces ≡ frame_pieces form number f (turn_by o)) × (next ≡ o.contents)
+ReportsFrame form p number contents f false pieces next = (pieces ≡ skip_pieces form number f) × (next ≡ contents)
 
--- the report of a program, and the frames and the end or fault of a stream: every run exits
-pub record IsReport (p : Program) (found : List Frame × Finish) (pieces : List Piece) : Type 0 where
+-- the frames' pieces by the outcomes of their runs, and the contents that the last one leaves
+abbrev pub ReportsFrames : Form → Program → ℕ → List Entries → List Frame → List Piece → List Entries → Type 0
+ReportsFrames form p number contents [] pieces last = (pieces ≡ []) × (last ≡ contents)
+ReportsFrames form p number contents (f ∷ frames) pieces last =
+    (front : List Piece) × (rest : List Piece) × (next : List Entries)
+    × ReportsFrame form p number contents f (f.reason == 0) front next
+    × (pieces ≡ front ++ rest) × ReportsFrames form p (number + 1) next frames rest last
+
+-- the form of a report; no line of it tells the limit, since every run exits
+abbrev pub form_of : Program → Stream → Form
+form_of p found = record { limit = max_steps; program = p.version; stream = found.version }
+
+-- the report of a program, and a stream: every run exits
+pub record IsReport (p : Program) (found : Stream) (pieces : List Piece) : Type 0 where
   pub turns : List Piece
   pub last : List Entries
-  pub frames : ReportsFrames p 0 (starting_contents p.maps) found.0 turns last
-  pub whole : pieces ≡ (ToFrames magic ∷ turns)
-      ++ (maps_pieces 0 p.maps last ++ ToReport (last_line (length found.0) found.1) ∷ [])
+  pub frames : ReportsFrames (form_of p found) p 0 (starting_contents p.maps) found.frames turns last
+  pub whole : pieces ≡ (ToFrames (stream_magic found.version) ∷ turns)
+      ++ (maps_pieces 0 p.maps last ++ ToReport (last_line (length found.frames) found.finish) ∷ [])

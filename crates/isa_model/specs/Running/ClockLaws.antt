@@ -23,7 +23,8 @@ use Rattle.isa_model.specs.declared.helpers.Helper.{Helper}
 use Rattle.isa_model.specs.declared.helpers.Helper.TheVariants.{MapLookupElem, MapUpdateElem, MapDeleteElem, KtimeGetNs}
 use Rattle.isa_model.specs.declared.frames.FrameHead.{FrameHead}
 use Rattle.isa_model.specs.declared.ends.TrapReason.{TrapReason}
-use Rattle.isa_model.specs.declared.ends.TrapReason.TheVariants.{UnsetRead, ReadOnly, TooManyFrames}
+use Rattle.isa_model.specs.declared.versions.Version.{Version}
+use Rattle.isa_model.specs.declared.ends.TrapReason.TheVariants.{UnsetRead, ReadOnly, TooManyFrames, BadAction}
 use Rattle.isa_model.specs.Code.Sizes.{width_size}
 use Rattle.isa_model.specs.Code.Numbers.{low, unsigned, alu, bytes_of, atomic_alu}
 use Rattle.isa_model.specs.Code.Helpers.{helper_numbered}
@@ -34,7 +35,7 @@ use Rattle.isa_model.specs.Machine.Calls.{most_frames, enter, leave}
 use Rattle.isa_model.specs.Machine.MapContents.{update_answer, delete_answer}
 use Rattle.isa_model.specs.Machine.MapHelpers.{Helped, put_bytes, remove_key, map_update_elem, map_delete_elem}
 use Rattle.isa_model.specs.Machine.HelperCalls.{map_argument, bytes_argument, number_argument, bytes_at, lookup_call, update_call, delete_call, helper_call, after_call}
-use Rattle.isa_model.specs.Machine.Steps.{StepResult, Next, Finished, Trapped, map_pointer, value_pointer, base_of, destination, sets, goes_on, branches, test_of, finishes, swaps_in, fetched_into, act, is_unset, performed_at, step}
+use Rattle.isa_model.specs.Machine.Steps.{StepResult, Next, Finished, Trapped, map_pointer, value_pointer, base_of, destination, sets, goes_on, branches, test_of, is_answer, finishes, swaps_in, fetched_into, act, is_unset, performed_at, step}
 use Rattle.isa_model.specs.Running.Runs.{start_state, Progress, GoesOn, Ended, after_step, advanced, progress, turn_of, turn}
 use Rattle.isa_model.specs.Machine.ValueLaws.{IfOk-and_then, IfOk-then}
 use Rattle.isa_model.specs.Machine.StepLaws.{IfNext, with_number}
@@ -120,11 +121,6 @@ sets_calls : (s : State) (i : Insn) (d : Reg) (r : Result Value TrapReason) → 
 sets_calls s i d (Ok v) = omega arith
 sets_calls s i d (Err e) = tt
 
-finishes_calls : (s : State) (v : Value) → IfNext (finishes v) (OneCall s)
-finishes_calls s (Num n) = tt
-finishes_calls s (Ptr r z) = tt
-finishes_calls s Unset = tt
-
 -- a helper asks the clock at most once
 
 updated_calls : (row : MapDef) (s : State) (m : ℕ) (key bytes : List ℕ) (flags : ℕ)
@@ -186,6 +182,11 @@ if_next : (P : State → Type 0) (b : Bool) (q r : StepResult) → IfNext q P �
 if_next P true q r h k = h
 if_next P false q r h k = k
 
+finishes_calls : (s : State) (version : Version) (v : Value) → IfNext (finishes version v) (OneCall s)
+finishes_calls s version (Num n) = if_next (OneCall s) (is_answer version n) (Finished n) (Trapped BadAction) tt tt
+finishes_calls s version (Ptr r z) = tt
+finishes_calls s version Unset = tt
+
 act_calls : (p : Program) (clock : ℕ → ℕ) (s : State) (i : Insn) → IfNext (act p clock s i) (OneCall s)
 unfolding act
 act_calls p clock s (Alu w op d x) = sets_calls s (Alu w op d x) d _
@@ -218,7 +219,7 @@ act_calls p clock s (CallHelper number) =
 act_calls p clock s (CallLocal by) =
     if_next (OneCall s) (length s.frames == most_frames) (Trapped TooManyFrames) (Next (enter s (destination p s.slot by))) tt (omega arith)
 act_calls p clock s Exit =
-    if_next (OneCall s) (length s.frames == 1) (finishes (reg s R0)) (Next (leave s)) (finishes_calls s (reg s R0)) (omega arith)
+    if_next (OneCall s) (length s.frames == 1) (finishes p.version (reg s R0)) (Next (leave s)) (finishes_calls s p.version (reg s R0)) (omega arith)
 
 performed_at_calls : (p : Program) (clock : ℕ → ℕ) (s : State) (o : Option Insn) → IfNext (performed_at p clock s o) (OneCall s)
 performed_at_calls p clock s None = tt

@@ -1,4 +1,5 @@
--- Canonical text: the one text of a program, a line for each map row and then for each instruction. docs/FORMATS.md.
+-- Canonical text: the one text of a program, a line for its version where it is not the first, one for each map row and
+-- then for each instruction. docs/FORMATS.md.
 -- Numbers are decimal, those of wide loads hexadecimal. Jump distances count slots from the one after the instruction.
 --
 -- Signs and words hold no spaces: each space stands in a line's own letters.
@@ -33,6 +34,8 @@ use Rattle.isa_model.specs.declared.instructions.Insn.TheVariants.{Alu, Neg, Mov
 use Rattle.isa_model.specs.declared.map_defs.MapKind.{MapKind}
 use Rattle.isa_model.specs.declared.map_defs.MapKind.TheVariants.{Hash, Array}
 use Rattle.isa_model.specs.declared.map_defs.MapDef.{MapDef}
+use Rattle.isa_model.specs.declared.versions.Version.{Version}
+use Rattle.isa_model.specs.declared.versions.Version.TheVariants.{One, Two}
 use Rattle.isa_model.specs.Code.Instructions.{Program}
 use Rattle.isa_model.specs.Code.Sizes.{width_size}
 
@@ -229,5 +232,10 @@ rows_text rows = flat_map row_line rows
 abbrev pub code_text : List Insn → List ℕ
 code_text insns = flat_map line_of insns
 
+-- a program of the first version does not say it
+abbrev pub version_line : Version → List ℕ
+version_line One = []
+version_line Two = codes "version 2\n"
+
 unfoldable pub canonical_text : Program → List ℕ
-canonical_text p = rows_text p.maps ++ code_text (instructions p.insns)
+canonical_text p = version_line p.version ++ (rows_text p.maps ++ code_text (instructions p.insns))

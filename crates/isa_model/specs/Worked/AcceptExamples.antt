@@ -16,12 +16,13 @@ use Rattle.isa_model.specs.Running.Runs.{start_state, progress}
 use Rattle.isa_model.specs.MustAccept.Paths.{IsPlainForm, Each, IsOneOf, needs, written_too, PathTo, IsWhole}
 use Rattle.isa_model.specs.MustAccept.Plain.{IsPlain}
 use Rattle.isa_model.specs.MustAccept.Determined.{IsDeterminedForm, operands, HasRun, IsDetermined}
+use Rattle.isa_model.specs.declared.versions.Version.TheVariants.{One}
 
 abbrev pub two : Insn
 two = Alu Full64 Mov R0 (Constant (pos 2))
 
 abbrev pub passes : Program
-passes = record { insns = Some two ∷ Some Exit ∷ []; maps = [] }
+passes = record { insns = Some two ∷ Some Exit ∷ []; maps = []; version = One }
 
 -- its instructions
 insn_at : (slot : ℕ) (i : Insn) → fetch passes slot ≡ Some i → ((slot ≡ 0) × (i ≡ two)) ⊎ ((slot ≡ 1) × (i ≡ Exit))

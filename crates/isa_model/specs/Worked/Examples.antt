@@ -26,6 +26,7 @@ use Rattle.isa_model.specs.Code.Instructions.{slots}
 use Rattle.isa_model.specs.Machine.States.{new_frame}
 use Rattle.isa_model.specs.Machine.Steps.{act, step}
 use Rattle.isa_model.specs.Running.Runs.{start_state, progress, Turn, turn}
+use Rattle.isa_model.specs.declared.versions.Version.TheVariants.{One}
 
 -- ---- short forms
 
@@ -36,7 +37,7 @@ head_by interface = record { time = 0; interface = interface; queue = 0 }
 -- a run on a frame, with no maps and a clock that answers 0
 abbrev pub turn_on : List Insn → FrameHead → List ℕ → ℕ → Turn
 turn_on code head packet limit =
-    turn (record { insns = slots code; maps = [] }) limit (λ k. 0) head packet []
+    turn (record { insns = slots code; maps = []; version = One }) limit (λ k. 0) head packet []
 
 -- how it ends on this packet
 abbrev pub end_on : List Insn → List ℕ → ℕ → End

@@ -15,6 +15,7 @@ use Rattle.isa_model.specs.Machine.Steps.{destination}
 use Rattle.isa_model.specs.Machine.Successors.{falls_through, jump_distance, FallsTo, JumpsTo}
 use Rattle.isa_model.specs.MustAccept.Paths.{Each, IsOneOf, needs, written_too, PathTo, IsWhole}
 use Rattle.isa_model.specs.MustAccept.Guarded.{IsBodyForm, IsGuarded}
+use Rattle.isa_model.specs.declared.versions.Version.TheVariants.{One}
 
 -- ---- the program
 
@@ -46,6 +47,7 @@ first_byte = record {
       ∷ Some copied ∷ Some moved_on ∷ Some to_answer
       ∷ Some byte_loaded ∷ Some Exit ∷ Some answered ∷ Some Exit ∷ [];
   maps = [];
+  version = One;
 }
 
 -- what holds of each of its instructions at its slot

@@ -16,11 +16,12 @@ use Rattle.isa_model.specs.Machine.Steps.{act, step}
 use Rattle.isa_model.specs.Running.Runs.{start_state, progress, Turn, turn}
 use Rattle.isa_model.specs.Worked.Examples.{head_by, end_on, set, copy, add, above, below, minus}
 use Rattle.isa_model.specs.Worked.MapExamples.{one_entry, one_index, index, value, zero_filled}
+use Rattle.isa_model.specs.declared.versions.Version.TheVariants.{One}
 
 -- a run on a frame of no bytes, with one map, and a clock that answers 7, 8, ..
 abbrev pub turn_with : MapDef → Entries → List Insn → Turn
 turn_with row content code =
-    turn (record { insns = slots code; maps = row ∷ [] }) 100 (λ k. k + 7) (head_by 0) [] (content ∷ [])
+    turn (record { insns = slots code; maps = row ∷ []; version = One }) 100 (λ k. k + 7) (head_by 0) [] (content ∷ [])
 
 -- the map's content that it leaves, where it did not ask the clock
 abbrev pub left : End → Entries → Turn

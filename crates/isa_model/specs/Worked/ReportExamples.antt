@@ -10,7 +10,7 @@ use Rattle.isa_model.specs.declared.map_defs.MapKind.TheVariants.{Hash, Array}
 use Rattle.isa_model.specs.declared.map_defs.MapDef.{MapDef}
 use Rattle.isa_model.specs.declared.frames.Action.TheVariants as action
 use Rattle.isa_model.specs.declared.ends.End.TheVariants.{Exit, Trap, Limit}
-use Rattle.isa_model.specs.declared.ends.TrapReason.TheVariants.{NoCode, UnsetRead, ReadOnly, BadPointer, OutOfRange, BadAccess, BadCompare, BadHelper, TooManyFrames, NoResult}
+use Rattle.isa_model.specs.declared.ends.TrapReason.TheVariants.{NoCode, UnsetRead, ReadOnly, BadPointer, OutOfRange, BadAccess, BadCompare, BadHelper, TooManyFrames, NoResult, BadAction}
 use Rattle.isa_model.specs.declared.streams.Fault.TheVariants.{BadMagic, TruncatedHead, TooLong, TruncatedBody, ReadFailed, TooManyRecords}
 use Rattle.isa_model.specs.declared.streams.Finish.TheVariants as finish
 use Rattle.isa_model.specs.Code.Numbers.{alu}
@@ -19,16 +19,19 @@ use Rattle.isa_model.specs.Code.Instructions.{Program, slots}
 use Rattle.isa_model.specs.Machine.States.{new_frame}
 use Rattle.isa_model.specs.Machine.Steps.{act, step}
 use Rattle.isa_model.specs.Running.Runs.{start_state, progress, turn}
-use Rattle.isa_model.specs.Reporting.Streams.{magic, ByEnd, head_bytes, stop_at, stop_from, frames_from, stream_of}
-use Rattle.isa_model.specs.Reporting.Reports.{frame_line, map_line, last_line, report_bytes, frames_out, is_sent, frame_pieces, Rule, in_report_order, starting_contents, report_of, checked_report}
+use Rattle.isa_model.specs.Code.Versions.{stream_magic}
+use Rattle.isa_model.specs.Reporting.Streams.{ByEnd, head_bytes, opened, stop_at, frames_from, stream_of}
+use Rattle.isa_model.specs.Reporting.Reports.{Form, frame_line, skip_line, skip_pieces, map_line, last_line, report_bytes, frames_out, is_sent, frame_pieces, reason_of, Rule, in_report_order, starting_contents, report_of, checked_report}
 use Rattle.isa_model.specs.Worked.StreamExamples.{head_of}
 use Rattle.isa_model.specs.Worked.Examples.{set, copy, above, zeros}
+use Rattle.isa_model.specs.declared.versions.Version.{Version}
+use Rattle.isa_model.specs.declared.versions.Version.TheVariants.{One, Two}
 
 -- ---- whole reports
 
 -- r0 = 2; exit
 abbrev pub passes : Program
-passes = record { insns = slots (set R0 (pos 2) ∷ insn.Exit ∷ []); maps = [] }
+passes = record { insns = slots (set R0 (pos 2) ∷ insn.Exit ∷ []); maps = []; version = One }
 
 -- the report, and the frames out, on bytes that end
 abbrev pub report_on : Program → List ℕ → List ℕ
@@ -39,55 +42,59 @@ out_on p bytes = frames_out (checked_report p 100 (stream_of (record { bytes = b
 
 -- the magic and a record of no bytes
 abbrev pub one_empty_record : List ℕ
-one_empty_record = magic ++ zeros 20
+one_empty_record = stream_magic One ++ zeros 20
 
 pub passes_an_empty_frame : report_on passes one_empty_record ≡ codes "0 PASS 0 2\nend 1\n"
-unfolding frames_from stop_from stop_at turn progress start_state new_frame step act alu frame_pieces frame_line last_line digits
+unfolding frames_from opened stop_at turn progress start_state new_frame step act alu frame_pieces frame_line last_line digits
 passes_an_empty_frame = refl
 
 pub passed_frame_is_written_out : out_on passes one_empty_record ≡ one_empty_record
-unfolding frames_from stop_from stop_at turn progress start_state new_frame step act alu frame_pieces frame_line last_line head_bytes digits
+unfolding frames_from opened stop_at turn progress start_state new_frame step act alu frame_pieces frame_line last_line head_bytes digits
 passed_frame_is_written_out = refl
 
 pub too_long_a_body : report_on passes (one_empty_record ++ head_of 4097) ≡ codes "0 PASS 0 2\nfault F3 at 24\n"
-unfolding frames_from stop_from stop_at turn progress start_state new_frame step act alu frame_pieces frame_line last_line digits
+unfolding frames_from opened stop_at turn progress start_state new_frame step act alu frame_pieces frame_line last_line digits
 too_long_a_body = refl
 
 pub body_cut_off : report_on passes (one_empty_record ++ head_of 10 ++ zeros 9) ≡ codes "0 PASS 0 2\nfault F4 at 24\n"
-unfolding frames_from stop_from stop_at turn progress start_state new_frame step act alu frame_pieces frame_line last_line digits
+unfolding frames_from opened stop_at turn progress start_state new_frame step act alu frame_pieces frame_line last_line digits
 body_cut_off = refl
 
 pub head_cut_off : report_on passes (one_empty_record ++ zeros 5) ≡ codes "0 PASS 0 2\nfault F2 at 24\n"
-unfolding frames_from stop_from stop_at turn progress start_state new_frame step act alu frame_pieces frame_line last_line digits
+unfolding frames_from opened stop_at turn progress start_state new_frame step act alu frame_pieces frame_line last_line digits
 head_cut_off = refl
 
 pub longest_body : report_on passes (one_empty_record ++ head_of 4096 ++ zeros 4096) ≡ codes "0 PASS 0 2\n1 PASS 4096 2\nend 2\n"
-unfolding frames_from stop_from stop_at turn progress start_state new_frame step act alu frame_pieces frame_line last_line digits
+unfolding frames_from opened stop_at turn progress start_state new_frame step act alu frame_pieces frame_line last_line digits
 longest_body = refl
 
 pub empty_stream : report_on passes [] ≡ codes "fault F1 at 0\n"
-unfolding frames_from stop_from stop_at last_line digits
+unfolding frames_from opened stop_at last_line digits
 empty_stream = refl
 
 pub empty_stream_out : out_on passes [] ≡ codes "XPF1"
-unfolding frames_from stop_from stop_at last_line digits
+unfolding frames_from opened stop_at last_line digits
 empty_stream_out = refl
 
 -- r0 = r2; exit: the frame traps, and is not written out
-pub trap_line : report_on (record { insns = slots (copy R0 R2 ∷ insn.Exit ∷ []); maps = [] }) one_empty_record ≡ codes "0 TRAP unset 0 0\nend 1\n"
-unfolding frames_from stop_from stop_at turn progress start_state new_frame step act alu frame_pieces frame_line last_line digits
+pub trap_line : report_on (record { insns = slots (copy R0 R2 ∷ insn.Exit ∷ []); maps = []; version = One }) one_empty_record ≡ codes "0 TRAP unset 0 0\nend 1\n"
+unfolding frames_from opened stop_at turn progress start_state new_frame step act alu frame_pieces frame_line last_line digits
 trap_line = refl
 
-pub trapped_frame_is_not_written_out : out_on (record { insns = slots (copy R0 R2 ∷ insn.Exit ∷ []); maps = [] }) one_empty_record ≡ codes "XPF1"
-unfolding frames_from stop_from stop_at turn progress start_state new_frame step act alu frame_pieces frame_line last_line digits
+pub trapped_frame_is_not_written_out : out_on (record { insns = slots (copy R0 R2 ∷ insn.Exit ∷ []); maps = []; version = One }) one_empty_record ≡ codes "XPF1"
+unfolding frames_from opened stop_at turn progress start_state new_frame step act alu frame_pieces frame_line last_line digits
 trapped_frame_is_not_written_out = refl
 
 -- goto +0; goto -1
-pub limit_line : report_on (record { insns = slots (insn.Jump (pos 0) ∷ insn.Jump (negsuc 0) ∷ []); maps = [] }) one_empty_record ≡ codes "0 LIMIT 0 100\nend 1\n"
-unfolding frames_from stop_from stop_at turn progress start_state new_frame step act alu frame_pieces frame_line last_line digits
+pub limit_line : report_on (record { insns = slots (insn.Jump (pos 0) ∷ insn.Jump (negsuc 0) ∷ []); maps = []; version = One }) one_empty_record ≡ codes "0 LIMIT 0 100\nend 1\n"
+unfolding frames_from opened stop_at turn progress start_state new_frame step act alu frame_pieces frame_line last_line digits
 limit_line = refl
 
 -- ---- actions and lines
+
+-- a program and a stream of the first version
+abbrev form : ℕ → Form
+form limit = record { limit = limit; program = One; stream = One }
 
 -- 0 to 5, and results whose low 32 bits are 2, 4 and 2^32 - 1
 pub actions : map action_of (0 ∷ 1 ∷ 2 ∷ 3 ∷ 4 ∷ 5 ∷ 0x700000002 ∷ 0x100000004 ∷ 0xffffffff ∷ [])
@@ -95,19 +102,19 @@ pub actions : map action_of (0 ∷ 1 ∷ 2 ∷ 3 ∷ 4 ∷ 5 ∷ 0x700000002 ∷
 actions = refl
 
 -- frame 12 of 60 bytes, by a program that answers 0 to 5 after 7 steps
-pub lines_of_actions : map (λ n. frame_line 100 12 (Exit n 7) 60) (0 ∷ 1 ∷ 2 ∷ 3 ∷ 4 ∷ 5 ∷ [])
+pub lines_of_actions : map (λ n. frame_line (form 100) 12 (Exit n 7) 60) (0 ∷ 1 ∷ 2 ∷ 3 ∷ 4 ∷ 5 ∷ [])
     ≡ codes "12 ABORTED 60 7\n" ∷ codes "12 DROP 60 7\n" ∷ codes "12 PASS 60 7\n" ∷ codes "12 TX 60 7\n" ∷ codes "12 REDIRECT 60 7\n" ∷ codes "12 INVALID 60 7\n" ∷ []
 unfolding frame_line digits
 lines_of_actions = refl
 
-pub lines_of_traps : map (λ reason. frame_line 100 12 (Trap reason 7) 60)
-    (NoCode ∷ UnsetRead ∷ ReadOnly ∷ BadPointer ∷ OutOfRange ∷ BadAccess ∷ BadCompare ∷ BadHelper ∷ TooManyFrames ∷ NoResult ∷ [])
+pub lines_of_traps : map (λ reason. frame_line (form 100) 12 (Trap reason 7) 60)
+    (NoCode ∷ UnsetRead ∷ ReadOnly ∷ BadPointer ∷ OutOfRange ∷ BadAccess ∷ BadCompare ∷ BadHelper ∷ TooManyFrames ∷ NoResult ∷ BadAction ∷ [])
     ≡ codes "12 TRAP code 60 7\n" ∷ codes "12 TRAP unset 60 7\n" ∷ codes "12 TRAP readonly 60 7\n" ∷ codes "12 TRAP pointer 60 7\n" ∷ codes "12 TRAP range 60 7\n"
-    ∷ codes "12 TRAP access 60 7\n" ∷ codes "12 TRAP compare 60 7\n" ∷ codes "12 TRAP helper 60 7\n" ∷ codes "12 TRAP frames 60 7\n" ∷ codes "12 TRAP exit 60 7\n" ∷ []
+    ∷ codes "12 TRAP access 60 7\n" ∷ codes "12 TRAP compare 60 7\n" ∷ codes "12 TRAP helper 60 7\n" ∷ codes "12 TRAP frames 60 7\n" ∷ codes "12 TRAP exit 60 7\n" ∷ codes "12 TRAP action 60 7\n" ∷ []
 unfolding frame_line digits
 lines_of_traps = refl
 
-pub line_at_the_limit : frame_line 1000000 12 Limit 60 ≡ codes "12 LIMIT 60 1000000\n"
+pub line_at_the_limit : frame_line (form 1000000) 12 Limit 60 ≡ codes "12 LIMIT 60 1000000\n"
 unfolding frame_line digits
 line_at_the_limit = refl
 
@@ -117,7 +124,7 @@ unfolding last_line digits
 last_lines = refl
 
 -- PASS and TX frames go out
-pub frames_sent : map is_sent (Exit 0 1 ∷ Exit 1 1 ∷ Exit 2 1 ∷ Exit 3 1 ∷ Exit 4 1 ∷ Exit 5 1 ∷ Exit 0x700000003 1 ∷ Trap NoResult 2 ∷ Limit ∷ [])
+pub frames_sent : map (is_sent One) (Exit 0 1 ∷ Exit 1 1 ∷ Exit 2 1 ∷ Exit 3 1 ∷ Exit 4 1 ∷ Exit 5 1 ∷ Exit 0x700000003 1 ∷ Trap NoResult 2 ∷ Limit ∷ [])
     ≡ false ∷ false ∷ true ∷ true ∷ false ∷ false ∷ true ∷ false ∷ false ∷ []
 frames_sent = refl
 
@@ -126,19 +133,19 @@ frames_sent = refl
 -- r2 = *(u32 *)(r1 + 0); *(u8 *)(r2 + 1) = 7; r0 = 3; exit
 abbrev pub writes_and_sends_back : Program
 writes_and_sends_back =
-    record { insns = slots (insn.Load U32 R2 (above R1 0) ∷ insn.StoreConstant U8 (above R2 1) (pos 7) ∷ set R0 (pos 3) ∷ insn.Exit ∷ []); maps = [] }
+    record { insns = slots (insn.Load U32 R2 (above R1 0) ∷ insn.StoreConstant U8 (above R2 1) (pos 7) ∷ set R0 (pos 3) ∷ insn.Exit ∷ []); maps = []; version = One }
 
 -- a record whose head's bytes count up from 1, as far as the length
 abbrev pub record_of : List ℕ → List ℕ
 record_of body = range_with_len 1 16 ++ length body ∷ 0 ∷ 0 ∷ 0 ∷ body
 
 abbrev pub three_records : List ℕ
-three_records = magic ++ record_of (8 ∷ 9 ∷ []) ++ record_of (8 ∷ []) ++ record_of (5 ∷ 5 ∷ 5 ∷ [])
+three_records = stream_magic One ++ record_of (8 ∷ 9 ∷ []) ++ record_of (8 ∷ []) ++ record_of (5 ∷ 5 ∷ 5 ∷ [])
 
 -- a frame goes out as its run left it, with its head; the run on the second one, of one byte, traps, and the third is run
 pub frames_out_as_they_are_left : report_on writes_and_sends_back three_records ∷ out_on writes_and_sends_back three_records ∷ []
-    ≡ codes "0 TX 2 4\n1 TRAP access 1 1\n2 TX 3 4\nend 3\n" ∷ (magic ++ record_of (8 ∷ 7 ∷ []) ++ record_of (5 ∷ 7 ∷ 5 ∷ [])) ∷ []
-unfolding frames_from stop_from stop_at turn progress start_state new_frame step act alu frame_pieces frame_line last_line head_bytes digits
+    ≡ codes "0 TX 2 4\n1 TRAP access 1 1\n2 TX 3 4\nend 3\n" ∷ (stream_magic One ++ record_of (8 ∷ 7 ∷ []) ++ record_of (5 ∷ 7 ∷ 5 ∷ [])) ∷ []
+unfolding frames_from opened stop_at turn progress start_state new_frame step act alu frame_pieces frame_line last_line head_bytes digits
 frames_out_as_they_are_left = refl
 
 -- ---- maps
@@ -169,8 +176,59 @@ remembers head body contents = record {
 }
 
 -- contents are carried from frame to frame, also where a run traps, and then each map's lines come, map by map
-pub contents_carried_along : report_bytes (report_of 100 rows remembers (starting_contents rows)
-    (map (λ body. record { head = record { time = 0; interface = 0; queue = 0 }; body = body }) ((8 ∷ []) ∷ (9 ∷ 10 ∷ []) ∷ []), finish.Fault ReadFailed 70))
+pub contents_carried_along : report_bytes (report_of 100 One rows remembers (starting_contents rows) (record {
+  version = One;
+  frames = map (λ body. record { head = record { time = 0; interface = 0; queue = 0 }; body = body; reason = 0 }) ((8 ∷ []) ∷ (9 ∷ 10 ∷ []) ∷ []);
+  finish = finish.Fault ReadFailed 70;
+}))
     ≡ codes "0 TRAP code 1 5\n1 TRAP code 2 5\nmap 0 00000000 000000\nmap 0 01000000 000000\nmap 1 08 08\nmap 1 09 090a\nfault F5 at 70\n"
 unfolding frame_pieces frame_line map_line last_line encode_with digits
 contents_carried_along = refl
+
+-- ---- streams and programs of version 2
+
+-- r0 = n ll; exit
+abbrev pub answers : Version → ℕ → Program
+answers version n = record { insns = slots (insn.LoadNumber R0 n ∷ insn.Exit ∷ []); maps = []; version = version }
+
+-- a record of a body of n bytes with a reason, all other fields 0
+abbrev pub told_head : ℕ → ℕ → List ℕ
+told_head n reason = zeros 16 ++ n ∷ 0 ∷ 0 ∷ 0 ∷ reason ∷ 0 ∷ 0 ∷ 0 ∷ []
+
+-- a frame that is dropped goes out with its reason, as the program tells it
+pub told_reason_goes_out : report_on (answers Two 0x700000001) (stream_magic Two ++ told_head 3 0 ++ 170 ∷ 187 ∷ 204 ∷ [])
+    ∷ out_on (answers Two 0x700000001) (stream_magic Two ++ told_head 3 0 ++ 170 ∷ 187 ∷ 204 ∷ []) ∷ []
+    ≡ codes "0 DROP 3 2 7\nend 1\n" ∷ (stream_magic Two ++ told_head 3 7 ++ 170 ∷ 187 ∷ 204 ∷ []) ∷ []
+unfolding frames_from opened stop_at turn progress start_state new_frame step act alu frame_pieces frame_line last_line head_bytes digits
+told_reason_goes_out = refl
+
+-- on a stream without reasons it is not told
+pub no_reason_told : report_on (answers Two 0x700000001) (stream_magic One ++ head_of 3 ++ 170 ∷ 187 ∷ 204 ∷ [])
+    ∷ out_on (answers Two 0x700000001) (stream_magic One ++ head_of 3 ++ 170 ∷ 187 ∷ 204 ∷ []) ∷ []
+    ≡ codes "0 DROP 3 2\nend 1\n" ∷ codes "XPF1" ∷ []
+unfolding frames_from opened stop_at turn progress start_state new_frame step act alu frame_pieces frame_line last_line head_bytes digits
+no_reason_told = refl
+
+-- a frame that has a reason is not run, and goes out as it came
+pub frame_with_a_reason_is_skipped : report_on (answers One 0x700000001) (stream_magic Two ++ told_head 0 0 ++ told_head 2 5 ++ 1 ∷ 2 ∷ [])
+    ∷ out_on (answers One 0x700000001) (stream_magic Two ++ told_head 0 0 ++ told_head 2 5 ++ 1 ∷ 2 ∷ []) ∷ []
+    ≡ codes "0 DROP 0 2 1\n1 SKIP 2 0 5\nend 2\n" ∷ (stream_magic Two ++ told_head 0 1 ++ told_head 2 5 ++ 1 ∷ 2 ∷ []) ∷ []
+unfolding frames_from opened stop_at turn progress start_state new_frame step act alu frame_pieces frame_line skip_pieces skip_line last_line head_bytes digits
+frame_with_a_reason_is_skipped = refl
+
+-- a program of version 2 has to answer an action; one of version 1 may answer any number
+pub action_over_4 : map (λ version. report_on (answers version 6) (stream_magic Two ++ told_head 0 0)) (One ∷ Two ∷ [])
+    ≡ codes "0 INVALID 0 2 1\nend 1\n" ∷ codes "0 TRAP action 0 1\nend 1\n" ∷ []
+unfolding frames_from opened stop_at turn progress start_state new_frame step act alu frame_pieces frame_line last_line digits
+action_over_4 = refl
+
+-- a trapped frame is not written out
+pub trapped_frame_has_no_record : out_on (answers Two 6) (stream_magic Two ++ told_head 0 0) ≡ codes "XPF2"
+unfolding frames_from opened stop_at turn progress start_state new_frame step act alu frame_pieces frame_line last_line digits
+trapped_frame_has_no_record = refl
+
+-- of PASS and TX the reason is 0; else the upper half of the answer, and 1 where that is 0, or where the program is of version 1
+pub reasons : map (reason_of Two) (0x700000002 ∷ 0x700000003 ∷ 0x700000004 ∷ 0xffffffff00000000 ∷ 1 ∷ [])
+    ++ map (reason_of One) (0x700000002 ∷ 0x700000001 ∷ 9 ∷ [])
+    ≡ 0 ∷ 0 ∷ 7 ∷ 0xffffffff ∷ 1 ∷ 0 ∷ 1 ∷ 1 ∷ []
+reasons = refl

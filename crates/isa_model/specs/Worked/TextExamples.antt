@@ -15,8 +15,10 @@ use Rattle.isa_model.specs.declared.instructions.Comparison.TheVariants.{Equal, 
 use Rattle.isa_model.specs.declared.instructions.Operand.TheVariants.{Constant, Register}
 use Rattle.isa_model.specs.declared.instructions.Insn.TheVariants as insn
 use Rattle.isa_model.specs.declared.map_defs.MapKind.TheVariants.{Hash, Array}
-use Rattle.isa_model.specs.Code.Instructions.{slots}
+use Rattle.isa_model.specs.Code.Instructions.{Program, slots}
 use Rattle.isa_model.specs.Text.CanonicalText.{line_of, row_line, canonical_text}
+use Rattle.isa_model.specs.declared.versions.Version.{Version}
+use Rattle.isa_model.specs.declared.versions.Version.TheVariants.{One, Two}
 
 -- every sign, between two registers
 pub operations : flat_map (λ op. line_of (insn.Alu Full64 op R1 (Register R10))) (Add ∷ Sub ∷ Mul ∷ Div ∷ SignedDiv ∷ Or ∷ And ∷ Lsh ∷ Rsh ∷ Mod ∷ SignedMod ∷ Xor ∷ Mov ∷ Arsh ∷ [])
@@ -129,10 +131,18 @@ unfolding row_line digits
 hash_row = refl
 
 -- a map row, then the instructions; a wide load has one line
-pub program : canonical_text (record {
+abbrev two_loaded : Version → Program
+two_loaded version = record {
   insns = slots (insn.LoadNumber R0 2 ∷ insn.Exit ∷ []);
   maps = record { kind = Array; key_size = 4; value_size = 16; entries = 1 } ∷ [];
-})
-    ≡ codes "map array 4 16 1\nr0 = 0x2 ll\nexit\n"
+  version = version;
+}
+
+pub program : canonical_text (two_loaded One) ≡ codes "map array 4 16 1\nr0 = 0x2 ll\nexit\n"
 unfolding canonical_text row_line line_of digits
 program = refl
+
+-- a program of version 2 begins with it
+pub program_of_version_2 : canonical_text (two_loaded Two) ≡ codes "version 2\nmap array 4 16 1\nr0 = 0x2 ll\nexit\n"
+unfolding canonical_text row_line line_of digits
+program_of_version_2 = refl

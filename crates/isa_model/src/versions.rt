@@ -1,0 +1,46 @@
+//! The versions of the formats.
+
+ghost use Rattle.std.specs.Prelude.{◌≡◌, ◌≤◌};
+ghost use Rattle.isa_model.specs.Code.Versions.{version_number, head_size, max_body};
+
+/// The version of an image or of a frame stream, which its magic says: `XBP1` and `XPF1`, or `XBP2`
+/// and `XPF2`.
+#[derive(Clone, Copy, PartialEq, Eq, Debug)]
+pub enum Version {
+    One,
+    Two,
+}
+
+impl Version {
+    /// 1 or 2.
+    pub fn number(self) -> u8
+        ensures { result ≡ version_number self }
+    {
+        match self {
+            Version::One => 1,
+            Version::Two => 2,
+        }
+    }
+
+    /// How many bytes stand before a record's body in a stream of this version.
+    pub fn head_size(self) -> usize
+        ensures size { result ≡ head_size self }
+        ensures bounded { result ≤ 24 }
+    {
+        match self {
+            Version::One => 20,
+            Version::Two => 24,
+        }
+    }
+
+    /// The most bytes of a frame in a stream of this version.
+    pub fn max_body(self) -> usize
+        ensures most { result ≡ max_body self }
+        ensures bounded { result ≤ 9216 }
+    {
+        match self {
+            Version::One => 4096,
+            Version::Two => 9216,
+        }
+    }
+}
