@@ -9,19 +9,24 @@ pub little_from-behind : (n i : ℕ) (xs : List ℕ) → little_from 0 n (take (
 little_from-behind n i xs =
     ap (little_from 0 n) (take_all (length xs - i) (drop i xs) (omega (arith, length-drop i xs))) ∙ little_from-drop n 0 i xs
 
+-- a number, and the bytes behind it
+front : (xs : List ℕ) (n i : ℕ) (rest : List ℕ) → EachByte xs → i + n ≤ length xs → rest ≡ drop (i + n) xs → little_bytes n (little_from i n xs) ++ rest ≡ drop i xs
+front xs n i rest small fits is =
+    ap (λ l. l ++ rest) (little_bytes-little_from n i xs small fits) ∙ ap (λ l. take n (drop i xs) ++ l) (is ∙ sym (drop-drop n i xs)) ∙ take-append-drop n (drop i xs)
+
+-- the last number
+last : (xs : List ℕ) (n i : ℕ) → EachByte xs → i + n ≡ length xs → little_bytes n (little_from i n xs) ≡ drop i xs
+last xs n i small ends = little_bytes-little_from n i xs small (omega arith) ∙ take_all n (drop i xs) (omega (arith, length-drop i xs))
+
 -- the bytes of four numbers that stand one after another
 pub little_bytes-four : (xs : List ℕ) → EachByte xs → length xs ≡ 20
     → little_bytes 8 (little_from 0 8 xs) ++ (little_bytes 4 (little_from 8 4 xs) ++ (little_bytes 4 (little_from 12 4 xs) ++ little_bytes 4 (little_from 16 4 xs))) ≡ xs
 little_bytes-four xs small size =
-    let part : (n i : ℕ) → i + n ≤ 20 → little_bytes n (little_from i n xs) ≡ take n (drop i xs) = λ n i fits. little_bytes-little_from n i xs small (omega arith) in
-    let last : take 4 (drop 16 xs) ≡ drop 16 xs = take_all 4 (drop 16 xs) (omega (arith, length-drop 16 xs)) in
-    let third : take 4 (drop 12 xs) ++ drop 16 xs ≡ drop 12 xs = ap (λ l. take 4 (drop 12 xs) ++ l) (sym (drop-drop 4 12 xs)) ∙ take-append-drop 4 (drop 12 xs) in
-    let second : take 4 (drop 8 xs) ++ drop 12 xs ≡ drop 8 xs = ap (λ l. take 4 (drop 8 xs) ++ l) (sym (drop-drop 4 8 xs)) ∙ take-append-drop 4 (drop 8 xs) in
-    ap (λ l. l ++ (little_bytes 4 (little_from 8 4 xs) ++ (little_bytes 4 (little_from 12 4 xs) ++ little_bytes 4 (little_from 16 4 xs)))) (part 8 0 (omega arith))
-    ∙ ap (λ l. take 8 xs ++ l) (
-    ap (λ l. l ++ (little_bytes 4 (little_from 12 4 xs) ++ little_bytes 4 (little_from 16 4 xs))) (part 4 8 (omega arith))
-    ∙ ap (λ l. take 4 (drop 8 xs) ++ l) (
-    ap (λ l. l ++ little_bytes 4 (little_from 16 4 xs)) (part 4 12 (omega arith))
-    ∙ ap (λ l. take 4 (drop 12 xs) ++ l) (part 4 16 (omega arith) ∙ last) ∙ third)
-    ∙ second)
-    ∙ take-append-drop 8 xs
+    front xs 8 0 _ small (omega arith) (front xs 4 8 _ small (omega arith) (front xs 4 12 _ small (omega arith) (last xs 4 16 small (omega arith))))
+
+-- and of five
+pub little_bytes-five : (xs : List ℕ) → EachByte xs → length xs ≡ 24
+    → little_bytes 8 (little_from 0 8 xs) ++ (little_bytes 4 (little_from 8 4 xs) ++ (little_bytes 4 (little_from 12 4 xs)
+    ++ (little_bytes 4 (little_from 16 4 xs) ++ little_bytes 4 (little_from 20 4 xs)))) ≡ xs
+little_bytes-five xs small size =
+    front xs 8 0 _ small (omega arith) (front xs 4 8 _ small (omega arith) (front xs 4 12 _ small (omega arith) (front xs 4 16 _ small (omega arith) (last xs 4 20 small (omega arith)))))

@@ -1,13 +1,53 @@
--- What a call of a frame reader finds, and what it does to the bytes that its source has left.
-use Rattle.std.specs.Prelude.{◌≡◌, ℕ, ◌≤◌, List, ◌++◌, take, Option, Some, None}
+-- What the calls of a frame reader find, and what they do to the bytes that its source has left.
+use Rattle.std.specs.Prelude.{◌≡◌, ℕ, ◌+◌, ◌<◌, ◌≤◌, List, ◌++◌, take, Option, Some, None, Result, Ok, Err}
 use Rattle.std.specs.Io.KnownBytes.{Consumes}
-use Rattle.isa_model.specs.declared.streams.Fault.TheVariants.{ReadFailed}
+use Rattle.isa_model.specs.declared.streams.Fault.{Fault}
+use Rattle.isa_model.specs.declared.streams.Fault.TheVariants.{BadMagic, ReadFailed}
 use Rattle.isa_model.specs.declared.streams.Finish.{Finish}
 use Rattle.isa_model.specs.declared.streams.Finish.TheVariants as finish
-use Rattle.isa_model.specs.Reporting.Streams.{Frame, max_body, frame_bytes, IsOpen, Ending, ByEnd, ByError, Position, Done, stop_from, opening, after_frame}
-use Rattle.frames.specs.Readers.{Reading}
+use Rattle.isa_model.specs.declared.versions.Version.{Version}
+use Rattle.isa_model.specs.declared.versions.Version.TheVariants.{One}
+use Rattle.isa_model.specs.Code.Versions.{version_number, stream_magic, max_packet}
+use Rattle.isa_model.specs.Reporting.Streams.{Frame, IsFrame, max_frames, frame_bytes, record_size, Ending, ByEnd, ByError, opened, stop_at}
+use Rattle.frames.specs.Readers.{Position, Fresh, At, Done, Reading}
 use Rattle.frames.specs.declared.reader.Next.{Next}
 use Rattle.frames.specs.declared.reader.Next.TheVariants as next
+
+-- ---- the magic
+
+-- where a reader stands after the magic, or what stands in its place
+abbrev pub position_opened : Result Version Fault → Position
+position_opened (Ok version) = At version 0 4
+position_opened (Err fault) = Done One (finish.Fault fault 0)
+
+-- The magic of a version was read from a source with these bytes left before and those after; or it is the fault that
+-- stands in its place, and only for ReadFailed did the source answer an error, after the bytes that it lost.
+abbrev pub ReadsMagic : Option (List ℕ) → Option (List ℕ) → Result Version Fault → Type 0
+ReadsMagic None new answer = Unit {0}
+ReadsMagic (Some bytes) new (Err ReadFailed) = (read : List ℕ) × Consumes (Some bytes) new read × (opened read ByError ≡ Err ReadFailed)
+ReadsMagic (Some bytes) new (Err fault) = opened bytes ByEnd ≡ Err fault
+ReadsMagic (Some bytes) None (Ok version) = ⊥
+ReadsMagic (Some bytes) (Some rest) (Ok version) = bytes ≡ stream_magic version ++ rest
+
+-- there are bytes, and an end of them, in which this fault stands in the place of the magic
+abbrev pub MayOpen : Result Version Fault → Type 0
+MayOpen (Ok version) = Unit {0}
+MayOpen (Err fault) = (bytes : List ℕ) × (ending : Ending) × (opened bytes ending ≡ Err fault)
+
+-- the magic is read once: a reader that stands behind it reads nothing and stays there
+abbrev pub Opens : Position → Option (List ℕ) → Option (List ℕ) → Position → Type 0
+Opens Fresh old new after = (answer : Result Version Fault) × ReadsMagic old new answer × MayOpen answer × (after ≡ position_opened answer)
+Opens (At version number offset) old new after = (after ≡ At version number offset) × (new ≡ old)
+Opens (Done version stop) old new after = (after ≡ Done version stop) × (new ≡ old)
+
+-- the version of the stream in which a reader stands, or the fault by which it is done
+abbrev pub begun_at : Position → Result ℕ (Fault × ℕ)
+begun_at Fresh = Err (BadMagic, 0)
+begun_at (At version number offset) = Ok (version_number version)
+begun_at (Done version finish.End) = Ok (version_number version)
+begun_at (Done version (finish.Fault fault offset)) = Err (fault, offset)
+
+-- ---- records
 
 -- what one call finds: a record, or why there is none
 pub data Finding : Type 0 where
@@ -16,14 +56,28 @@ pub data Finding : Type 0 where
 
 -- what a call answered, with what it left in the buffer
 abbrev pub finding_of : Next → List ℕ → Finding
-finding_of (next.Frame head n) buffer = Found (record { head = head; body = take n buffer })
+finding_of (next.Frame head n reason) buffer = Found (record { head = head; body = take n buffer; reason = reason })
 finding_of next.End buffer = Stopped finish.End
 finding_of (next.Fault f offset) buffer = Stopped (finish.Fault f offset)
+
+abbrev pub after_frame : Position → Frame → Position
+after_frame (At version number offset) f = At version (number + 1) (offset + record_size version f)
+after_frame position f = position
+
+abbrev pub after_stop : Position → Finish → Position
+after_stop (At version number offset) stop = Done version stop
+after_stop position stop = position
 
 -- where the reader stands after it
 abbrev pub next_position : Position → Finding → Position
 next_position position (Found f) = after_frame position f
-next_position position (Stopped stop) = Done stop
+next_position position (Stopped stop) = after_stop position stop
+
+-- why no record follows at a position behind the magic, if none does
+abbrev pub stop_from : Position → List ℕ → Ending → Option Finish
+stop_from Fresh bytes ending = None
+stop_from (At version number offset) bytes ending = stop_at version number offset bytes ending
+stop_from (Done version stop) bytes ending = Some stop
 
 -- The stream stops at a position, where the source has these bytes left before the call and those after it. Only
 -- for ReadFailed did the source answer an error, after the bytes that it lost.
@@ -32,13 +86,23 @@ Stops position bytes new (finish.Fault ReadFailed offset) =
     (read : List ℕ) × Consumes (Some bytes) new read × (stop_from position read ByError ≡ Some (finish.Fault ReadFailed offset))
 Stops position bytes new stop = stop_from position bytes ByEnd ≡ Some stop
 
+-- the bytes begin with this record, and then there are others
+abbrev pub Begins : Position → List ℕ → Frame → List ℕ → Type 0
+Begins (At version number offset) bytes f rest = bytes ≡ frame_bytes version f ++ rest
+Begins position bytes f rest = ⊥
+
 -- What a call does where the source's bytes are known: the bytes of the record that it finds are gone, or the
 -- stream stops there.
 abbrev pub Reads : Position → Option (List ℕ) → Option (List ℕ) → Finding → Type 0
 Reads position None new finding = Unit {0}
 Reads position (Some bytes) new (Stopped stop) = Stops position bytes new stop
 Reads position (Some bytes) None (Found f) = ⊥
-Reads position (Some bytes) (Some rest) (Found f) = bytes ≡ opening position ++ (frame_bytes f ++ rest)
+Reads position (Some bytes) (Some rest) (Found f) = Begins position bytes f rest
+
+-- this record may stand at the position
+abbrev pub IsOpen : Position → Frame → Type 0
+IsOpen (At version number offset) f = (number < max_frames) × IsFrame version f
+IsOpen position f = ⊥
 
 -- there are bytes, and an end of them, at which a stream stops so at the position
 pub record CanStop (position : Position) (stop : Finish) : Type 0 where
@@ -51,12 +115,21 @@ abbrev pub HasRoom : Position → Finding → Type 0
 HasRoom position (Found f) = IsOpen position f
 HasRoom position (Stopped stop) = CanStop position stop
 
+-- What a call of `next` finds, and where it leaves the reader. The magic is read first, where it was not.
+pub record Finds (before : Position) (old new : Option (List ℕ)) (after : Position) (finding : Finding) : Type 0 where
+  pub begun : Position
+  pub left : Option (List ℕ)
+  pub opens : Opens before old left begun
+  pub reads : Reads begun left new finding
+  pub room : HasRoom begun finding
+  pub stands : after ≡ next_position begun finding
+
 -- a body fits the buffer
 abbrev pub FitsBuffer : Next → Type 0
-FitsBuffer (next.Frame head n) = n ≤ max_body
+FitsBuffer (next.Frame head n reason) = n ≤ max_packet
 FitsBuffer next.End = Unit {0}
 FitsBuffer (next.Fault f offset) = Unit {0}
 
 -- a reader that is done answers the same again, and reads nothing
 abbrev pub StaysDone : {R : Type 0} → Reading R → Reading R → Finding → Type 0
-StaysDone old new finding = (stop : Finish) → old.position ≡ Done stop → (finding ≡ Stopped stop) × (new ≡ old)
+StaysDone old new finding = (version : Version) (stop : Finish) → old.position ≡ Done version stop → (finding ≡ Stopped stop) × (new ≡ old)

@@ -1,22 +1,23 @@
 //! Reads records one by one.
-ghost use Rattle.std.specs.Prelude.{◌≡◌, ◌+◌, ◌*◌, ◌≤◌, Option};
+ghost use Rattle.std.specs.Prelude.{◌≡◌, ◌≢◌, ◌+◌, ◌*◌, ◌≤◌, Option};
 ghost use Rattle.isa_model.specs.Machine.MachineStates.{AreBytes};
-ghost use Rattle.isa_model.specs.Reporting.Streams.{Position, Fresh, At};
-ghost use Rattle.frames.specs.Reading.{finding_of, next_position, Reads, HasRoom, FitsBuffer};
-ghost use Rattle.frames.specs.Reading.{StaysDone};
-ghost use Rattle.frames.specs.Stages.{ReadsMagic, MayFail, HasRoomFor, IsStageAfter};
+ghost use Rattle.frames.specs.Readers.{Position, Fresh, At};
+ghost use Rattle.frames.specs.Reading.{ReadsMagic, MayOpen, Opens, begun_at, Finds, finding_of};
+ghost use Rattle.frames.specs.Reading.{Reads, HasRoom, FitsBuffer, StaysDone};
+ghost use Rattle.frames.specs.Stages.{position_of, IsWithin, HasRoomFor, IsStageAfter};
 
 use super::heads::decode_head;
 use exact_io::{Filled, fill};
-use isa_model::{Fault, Finish, FrameHead, MAX_BODY};
+use isa_model::{Fault, Finish, FrameHead, MAX_PACKET, Version};
 use std::io::Read;
 use std::marker::Model;
 
 /// What a call of `FrameReader::next` found.
 #[derive(Clone, Copy, PartialEq, Eq, Debug)]
 pub enum Next {
-    /// A record: its head, and the length of its body, which stands at the front of the buffer.
-    Frame(FrameHead, usize),
+    /// A record: its head, the length of its body, which stands at the front of the buffer, and its
+    /// reason, which is 0 in an `XPF1` stream.
+    Frame(FrameHead, usize, u32),
     /// The end of the stream.
     End,
     /// What is wrong, and the offset in bytes of the record in which it was found (0 while the
@@ -29,8 +30,8 @@ pub enum Next {
 #[derive(Clone, Copy)]
 enum Stage {
     Fresh,
-    At(u32, u64),
-    Done(Finish),
+    At(Version, u32, u64),
+    Done(Version, Finish),
 }
 
 /// Reads the records of a stream one by one.
@@ -64,72 +65,102 @@ impl<R: Read> FrameReader<R> {
         }
     }
 
+    /// Reads the magic, and answers the stream's version, 1 or 2, or the fault that stands in its
+    /// place. Where the magic was read before, it reads nothing, and answers the version, or after a
+    /// fault that fault.
+    pub fn begin(&mut self) -> Result<u8, (Fault, u64)>
+        ensures opens { Opens self.old.position (R.remaining self.old.source)
+            (R.remaining self.new.source) self.new.position }
+        ensures answers { result ≡ begun_at self.new.position }
+        ensures again { self.old.position ≢ Fresh → self.new ≡ self.old }
+    {
+        self.stage = stage_begun(&mut self.source, self.stage);
+        match self.stage {
+            Stage::Fresh => Err((Fault::BadMagic, 0)),
+            Stage::At(version, _, _) => Ok(version.number()),
+            Stage::Done(version, Finish::End) => Ok(version.number()),
+            Stage::Done(_, Finish::Fault(fault, offset)) => Err((fault, offset)),
+        }
+    }
+
     /// Finds the next record, and puts its body at the front of the buffer. The rest of the buffer,
-    /// and all of it where no record was found, may then hold any bytes.
+    /// and all of it where no record was found, may then hold any bytes. The magic is read first,
+    /// where it was not.
     ///
     /// The source's first error, of any kind, is the fault `ReadFailed`, and nothing is tried
     /// again. After the end or a fault each further call answers the same and reads nothing.
-    pub fn next(&mut self, buffer: &mut [u8; MAX_BODY]) -> Next
-        ensures bytes { Reads self.old.position (R.remaining self.old.source)
-            (R.remaining self.new.source) (finding_of result buffer.new) }
-        ensures room { HasRoom self.old.position (finding_of result buffer.new) }
+    pub fn next(&mut self, buffer: &mut [u8; MAX_PACKET]) -> Next
+        ensures finds { Finds self.old.position (R.remaining self.old.source)
+            (R.remaining self.new.source) self.new.position (finding_of result buffer.new) }
         ensures fits { FitsBuffer result }
-        ensures position { self.new.position
-            ≡ next_position self.old.position (finding_of result buffer.new) }
         ensures done { StaysDone self.old self.new (finding_of result buffer.new) }
     {
+        self.stage = stage_begun(&mut self.source, self.stage);
         match self.stage {
-            Stage::Fresh => match read_magic(&mut self.source) {
-                None => {
-                    let next = read_record(&mut self.source, 0, 4, buffer);
-                    self.stage = stage_after(0, 4, &next);
-                    next
-                }
-                Some(fault) => {
-                    self.stage = Stage::Done(Finish::Fault(fault, 0));
-                    Next::Fault(fault, 0)
-                }
-            },
-            Stage::At(number, offset) => {
-                let next = read_record(&mut self.source, number, offset, buffer);
-                self.stage = stage_after(number, offset, &next);
+            Stage::Fresh => Next::End,
+            Stage::At(version, number, offset) => {
+                let next = read_record(&mut self.source, version, number, offset, buffer);
+                self.stage = stage_after(version, number, offset, &next);
                 next
             }
-            Stage::Done(Finish::End) => Next::End,
-            Stage::Done(Finish::Fault(fault, offset)) => Next::Fault(fault, offset),
+            Stage::Done(_, Finish::End) => Next::End,
+            Stage::Done(_, Finish::Fault(fault, offset)) => Next::Fault(fault, offset),
         }
     }
 }
 
+// Where a reader stands when the magic is read, if it was not.
+fn stage_begun<R: Read>(source: &mut R, stage: Stage) -> Stage
+    requires within { IsWithin stage }
+    ensures opens { Opens (position_of stage) (R.remaining source.old) (R.remaining source.new)
+        (position_of result) }
+    ensures within { IsWithin result }
+    ensures begun { position_of result ≢ Fresh }
+    ensures again { position_of stage ≢ Fresh → source.new ≡ source.old }
+{
+    match stage {
+        Stage::Fresh => match read_magic(source) {
+            Ok(version) => Stage::At(version, 0, 4),
+            Err(fault) => Stage::Done(Version::One, Finish::Fault(fault, 0)),
+        },
+        begun => begun,
+    }
+}
+
 // Where a reader stands after what it found at a record's place.
-fn stage_after(number: u32, offset: u64, next: &Next) -> Stage
+fn stage_after(version: Version, number: u32, offset: u64, next: &Next) -> Stage
     requires room { HasRoomFor number next.now }
-    requires bound { offset ≤ 4 + 4116 * number }
-    ensures { IsStageAfter number offset next.now result }
+    requires bound { offset ≤ 4 + 9240 * number }
+    ensures { IsStageAfter version number offset next.now result }
 {
     match next {
-        Next::Frame(_, length) => Stage::At(number + 1, offset + (20 + *length as u64)),
-        Next::End => Stage::Done(Finish::End),
-        Next::Fault(fault, at) => Stage::Done(Finish::Fault(*fault, *at)),
+        Next::Frame(_, length, _) => {
+            let size = version.head_size() as u64 + *length as u64;
+            Stage::At(version, number + 1, offset + size)
+        }
+        Next::End => Stage::Done(version, Finish::End),
+        Next::Fault(fault, at) => Stage::Done(version, Finish::Fault(*fault, *at)),
     }
 }
 
 // Reads the magic, or says what stands in its place.
-fn read_magic<R: Read>(source: &mut R) -> Option<Fault>
+fn read_magic<R: Read>(source: &mut R) -> Result<Version, Fault>
     ensures bytes { ReadsMagic (R.remaining source.old) (R.remaining source.new) result }
-    ensures room { MayFail result }
+    ensures room { MayOpen result }
 {
     let mut magic = [0; 4];
     match fill(source, &mut magic) {
         Filled::Whole => {
             if magic == *b"XPF1" {
-                None
+                Ok(Version::One)
+            } else if magic == *b"XPF2" {
+                Ok(Version::Two)
             } else {
-                Some(Fault::BadMagic)
+                Err(Fault::BadMagic)
             }
         }
-        Filled::Ended(_) => Some(Fault::BadMagic),
-        Filled::Failed(_) => Some(Fault::ReadFailed),
+        Filled::Ended(_) => Err(Fault::BadMagic),
+        Filled::Failed(_) => Err(Fault::ReadFailed),
     }
 }
 
@@ -143,39 +174,41 @@ fn in_range(body: &[u8])
 // Reads the record with this number, which begins at this offset.
 fn read_record<R: Read>(
     source: &mut R,
+    version: Version,
     number: u32,
     offset: u64,
-    buffer: &mut [u8; MAX_BODY],
+    buffer: &mut [u8; MAX_PACKET],
 ) -> Next
-    ensures bytes { Reads (At number offset) (R.remaining source.old) (R.remaining source.new)
-        (finding_of result buffer.new) }
-    ensures room { HasRoom (At number offset) (finding_of result buffer.new) }
+    ensures bytes { Reads (At version number offset) (R.remaining source.old)
+        (R.remaining source.new) (finding_of result buffer.new) }
+    ensures room { HasRoom (At version number offset) (finding_of result buffer.new) }
     ensures fits { FitsBuffer result }
 {
-    let mut head = [0; 20];
+    let mut room = [0; 24];
     if number == u32::MAX {
-        return match fill(source, &mut head[..1]) {
+        return match fill(source, &mut room[..1]) {
             Filled::Whole => Next::Fault(Fault::TooManyRecords, offset),
             Filled::Ended(_) => Next::End,
             Filled::Failed(_) => Next::Fault(Fault::ReadFailed, offset),
         };
     }
-    match fill(source, &mut head) {
+    let head = &mut room[..version.head_size()];
+    match fill(source, head) {
         Filled::Whole => {}
         Filled::Ended(0) => return Next::End,
         Filled::Ended(_) => return Next::Fault(Fault::TruncatedHead, offset),
         Filled::Failed(_) => return Next::Fault(Fault::ReadFailed, offset),
     }
-    let (frame_head, length) = decode_head(&head);
+    let (frame_head, length, reason) = decode_head(version, head);
     let length = length as usize;
-    if length > MAX_BODY {
+    if length > version.max_body() {
         return Next::Fault(Fault::TooLong, offset);
     }
     let body = &mut buffer[..length];
     match fill(source, body) {
         Filled::Whole => {
             in_range(body);
-            Next::Frame(frame_head, length)
+            Next::Frame(frame_head, length, reason)
         }
         Filled::Ended(_) => Next::Fault(Fault::TruncatedBody, offset),
         Filled::Failed(_) => Next::Fault(Fault::ReadFailed, offset),

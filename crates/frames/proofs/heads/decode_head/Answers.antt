@@ -1,16 +1,30 @@
-use Rattle.std.proofs.Common.{◌≡◌, arith, ◌∙◌}
+use Rattle.std.proofs.Common.{◌≡◌, arith, ◌∙◌, rules}
 use Rattle.byteorder.specs.Endian.{little_from}
+use Rattle.isa_model.specs.declared.versions.Version.TheVariants.{One, Two}
 use Rattle.isa_model.specs.Reporting.Streams.{head_bytes}
 use Rattle.isa_model.specs.Code.LittleEndian.{EachByte}
-use Rattle.frames.proofs.HeadNumbers.{little_from-behind, little_bytes-four}
+use Rattle.frames.proofs.HeadNumbers.{little_from-behind, little_bytes-four, little_bytes-five}
 use Rattle.frames.proofs.heads.decode_head.Goals as goal
 
-pub returns-clause-spelled : goal.returns-clause-spelled
+pub returns-in-One-clause-spelled : goal.returns-in-One-clause-spelled
 unfolding head_bytes
-returns-clause-spelled c =
+returns-in-One-clause-spelled c =
     let xs = c.args.bytes.now in
     let small : EachByte xs = λ j. omega (arith, c.type_inv.bytes j) in
     let interface : c.read_u32.result ≡ little_from 8 4 xs = c.read_u32.ensures ∙ little_from-behind 4 8 xs in
     let queue : c.read_u32-2.result ≡ little_from 12 4 xs = c.read_u32-2.ensures ∙ little_from-behind 4 12 xs in
-    let size : c.read_u32-3.result ≡ little_from 16 4 xs = c.read_u32-3.ensures ∙ little_from-behind 4 16 xs in
-    rw (c.read_u64.ensures, interface, queue, size) (little_bytes-four xs small c.requires)
+    let size : c.read_u32-length.result ≡ little_from 16 4 xs = c.read_u32-length.ensures ∙ little_from-behind 4 16 xs in
+    let one : c.args.version ≡ One = search rules in
+    rw (one, c.read_u64.ensures, interface, queue, size) (little_bytes-four xs small (search rules))
+
+pub returns-in-Two-clause-spelled : goal.returns-in-Two-clause-spelled
+unfolding head_bytes
+returns-in-Two-clause-spelled c =
+    let xs = c.args.bytes.now in
+    let small : EachByte xs = λ j. omega (arith, c.type_inv.bytes j) in
+    let interface : c.read_u32.result ≡ little_from 8 4 xs = c.read_u32.ensures ∙ little_from-behind 4 8 xs in
+    let queue : c.read_u32-2.result ≡ little_from 12 4 xs = c.read_u32-2.ensures ∙ little_from-behind 4 12 xs in
+    let size : c.read_u32-length.result ≡ little_from 16 4 xs = c.read_u32-length.ensures ∙ little_from-behind 4 16 xs in
+    let reason : c.read_u32-in-Two.result ≡ little_from 20 4 xs = c.read_u32-in-Two.ensures ∙ little_from-behind 4 20 xs in
+    let two : c.args.version ≡ Two = search rules in
+    rw (two, c.read_u64.ensures, interface, queue, size, reason) (little_bytes-five xs small (search rules))

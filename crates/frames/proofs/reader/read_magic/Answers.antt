@@ -1,5 +1,5 @@
 use Rattle.std.proofs.Common.{sym, ◌∙◌}
-use Rattle.frames.proofs.Findings.{magic_failed, magic_ended, magic_wrong, can_stop_short, can_fail_first}
+use Rattle.frames.proofs.Findings.{magic_failed, magic_ended, magic_wrong, may_be_short, may_fail}
 use Rattle.frames.proofs.reader.read_magic.Goals as goal
 
 pub returns-in-Failed-clause-bytes : goal.returns-in-Failed-clause-bytes
@@ -8,14 +8,15 @@ returns-in-Failed-clause-bytes g c = magic_failed _ _ _ _ c.fill.auto.buffer c.i
 pub returns-in-Ended-clause-bytes : goal.returns-in-Ended-clause-bytes
 returns-in-Ended-clause-bytes g c = magic_ended _ _ _ _ c.fill.auto.buffer c.in-Ended.ensures.0 c.in-Ended.ensures.1 c.in-Ended.ensures.2
 
-pub returns-else-eq-clause-bytes : goal.returns-else-eq-clause-bytes
-returns-else-eq-clause-bytes g c = magic_wrong _ _ _ c.fill.auto.buffer (sym c.eq.ensures ∙ c.if-eq.false) c.in-Whole.ensures
-
 pub returns-in-Failed-clause-room : goal.returns-in-Failed-clause-room
-returns-in-Failed-clause-room g c = can_fail_first
+returns-in-Failed-clause-room g c = may_fail
 
 pub returns-in-Ended-clause-room : goal.returns-in-Ended-clause-room
-returns-in-Ended-clause-room g c = can_stop_short
+returns-in-Ended-clause-room g c = may_be_short
 
-pub returns-else-eq-clause-room : goal.returns-else-eq-clause-room
-returns-else-eq-clause-room g c = can_stop_short
+pub returns-else-eq-2-clause-bytes : goal.returns-else-eq-2-clause-bytes
+returns-else-eq-2-clause-bytes g c =
+    magic_wrong _ _ _ c.fill.auto.buffer (sym c.eq.ensures ∙ c.if-eq.false) (sym c.eq-else-eq.ensures ∙ c.if-eq-2.false) c.in-Whole.ensures
+
+pub returns-else-eq-2-clause-room : goal.returns-else-eq-2-clause-room
+returns-else-eq-2-clause-room g c = may_be_short

@@ -1,60 +1,60 @@
-use Rattle.std.proofs.Common.{arith, rules}
-use Rattle.frames.proofs.Findings.{record_many, record_end, record_failed, record_cut, record_long, body_cut, body_failed, record_whole, can_end, can_fail, can_be_many, can_be_cut, can_be_long, can_lack_body}
+use Rattle.std.proofs.Common.{arith, rules, refl}
+use Rattle.frames.proofs.Findings.{whole_head, record_many, record_end, record_failed, record_cut, record_long, body_cut, body_failed, record_whole, can_end, can_fail, can_be_many, can_be_cut, can_be_long, can_lack_body}
 use Rattle.frames.proofs.reader.read_record.Goals as goal
 
 pub returns-in-Whole-clause-bytes : goal.returns-in-Whole-clause-bytes
-returns-in-Whole-clause-bytes g c = record_many _ _ _ _ _ (search rules) (search rules) c.in-Whole.ensures
+returns-in-Whole-clause-bytes g c = record_many _ _ _ _ _ _ (search rules) (search rules) c.in-Whole.ensures
 
 pub returns-in-Ended-clause-bytes : goal.returns-in-Ended-clause-bytes
-returns-in-Ended-clause-bytes g c = record_end _ _ _ _ _ _ (search (rules, c.in-Ended.ensures.0)) c.in-Ended.ensures.1 c.in-Ended.ensures.2
+returns-in-Ended-clause-bytes g c = record_end _ _ _ _ _ _ _ (search (rules, c.in-Ended.ensures.0)) c.in-Ended.ensures.1 c.in-Ended.ensures.2
 
 pub returns-in-Failed-clause-bytes : goal.returns-in-Failed-clause-bytes
-returns-in-Failed-clause-bytes g c = record_failed _ _ _ _ _ _ (λ _. search (rules, c.in-Failed.ensures.0)) (search rules) c.in-Failed.ensures.0 c.in-Failed.ensures.1
+returns-in-Failed-clause-bytes g c = record_failed _ _ _ _ _ _ _ (λ _. search (rules, c.in-Failed.ensures.0)) (search rules) c.in-Failed.ensures.0 c.in-Failed.ensures.1
 
 pub returns-in-Ended-eq0-clause-bytes : goal.returns-in-Ended-eq0-clause-bytes
-returns-in-Ended-eq0-clause-bytes g c = record_end _ _ _ _ _ _ c.in-Ended-eq0.field-0-test c.in-Ended-eq0.ensures.1 c.in-Ended-eq0.ensures.2
+returns-in-Ended-eq0-clause-bytes g c = record_end _ _ _ _ _ _ _ c.in-Ended-eq0.field-0-test c.in-Ended-eq0.ensures.1 c.in-Ended-eq0.ensures.2
 
 pub returns-in-Ended-fill-clause-bytes : goal.returns-in-Ended-fill-clause-bytes
-returns-in-Ended-fill-clause-bytes g c = record_cut _ _ _ _ _ _ (search rules) (search rules) c.fill-2.auto.buffer c.in-Ended-fill.ensures.0 c.in-Ended-fill.ensures.1 c.in-Ended-fill.ensures.2
+returns-in-Ended-fill-clause-bytes g c = record_cut _ _ _ _ _ _ _ (search rules) (search rules) (whole_head _ _ _ _ c.fill-2.auto.buffer c.head_size.ensures.size c.head_size.ensures.bounded refl) c.in-Ended-fill.ensures.0 c.in-Ended-fill.ensures.1 c.in-Ended-fill.ensures.2
 
 pub returns-in-Failed-fill-clause-bytes : goal.returns-in-Failed-fill-clause-bytes
-returns-in-Failed-fill-clause-bytes g c = record_failed _ _ _ _ _ _ (λ last. search rules) (search rules) c.in-Failed-fill.ensures.0 c.in-Failed-fill.ensures.1
+returns-in-Failed-fill-clause-bytes g c = record_failed _ _ _ _ _ _ _ (λ last. search rules) (search rules) c.in-Failed-fill.ensures.0 c.in-Failed-fill.ensures.1
 
-pub returns-then-length-gt-MAX_BODY-clause-bytes : goal.returns-then-length-gt-MAX_BODY-clause-bytes
-returns-then-length-gt-MAX_BODY-clause-bytes g c = record_long _ _ _ _ _ (search rules) c.fill-2.auto.buffer (omega arith) c.in-Whole-fill.ensures
+pub returns-then-length-max_body-clause-bytes : goal.returns-then-length-max_body-clause-bytes
+returns-then-length-max_body-clause-bytes g c = record_long _ _ _ _ _ _ (search rules) (whole_head _ _ _ _ c.fill-2.auto.buffer c.head_size.ensures.size c.head_size.ensures.bounded refl) (omega (arith, c.max_body.ensures.most, c.decode_head-length.ensures.field)) c.in-Whole-fill.ensures
 
 pub returns-in-Whole-fill-2-clause-bytes : goal.returns-in-Whole-fill-2-clause-bytes
-returns-in-Whole-fill-2-clause-bytes g c = record_whole _ _ _ _ _ _ _ _ _ _ c.decode_head-length.ensures.spelled (search rules) c.in-Whole-fill.ensures c.in-Whole-fill-2.ensures
+returns-in-Whole-fill-2-clause-bytes g c = record_whole _ _ _ _ _ _ _ _ _ _ _ _ c.decode_head-length.ensures.spelled (search rules) c.in-Whole-fill.ensures c.in-Whole-fill-2.ensures
 
 pub returns-in-Ended-fill-2-clause-bytes : goal.returns-in-Ended-fill-2-clause-bytes
-returns-in-Ended-fill-2-clause-bytes g c = body_cut _ _ _ _ _ _ _ _ (search rules) c.fill-2.auto.buffer (omega arith) (search rules) c.in-Ended-fill-2.ensures.0 c.in-Whole-fill.ensures c.in-Ended-fill-2.ensures.1 c.in-Ended-fill-2.ensures.2
+returns-in-Ended-fill-2-clause-bytes g c = body_cut _ _ _ _ _ _ _ _ _ (search rules) (whole_head _ _ _ _ c.fill-2.auto.buffer c.head_size.ensures.size c.head_size.ensures.bounded refl) (omega (arith, c.max_body.ensures.most, c.decode_head-length.ensures.field)) (search rules) c.in-Ended-fill-2.ensures.0 c.in-Whole-fill.ensures c.in-Ended-fill-2.ensures.1 c.in-Ended-fill-2.ensures.2
 
 pub returns-in-Failed-fill-2-clause-bytes : goal.returns-in-Failed-fill-2-clause-bytes
-returns-in-Failed-fill-2-clause-bytes g c = body_failed _ _ _ _ _ _ _ _ (search rules) c.fill-2.auto.buffer (omega arith) (search rules) c.in-Failed-fill-2.ensures.0 c.in-Whole-fill.ensures c.in-Failed-fill-2.ensures.1
+returns-in-Failed-fill-2-clause-bytes g c = body_failed _ _ _ _ _ _ _ _ _ (search rules) (whole_head _ _ _ _ c.fill-2.auto.buffer c.head_size.ensures.size c.head_size.ensures.bounded refl) (omega (arith, c.max_body.ensures.most, c.decode_head-length.ensures.field)) (search rules) c.in-Failed-fill-2.ensures.0 c.in-Whole-fill.ensures c.in-Failed-fill-2.ensures.1
 
 pub returns-in-Whole-clause-room : goal.returns-in-Whole-clause-room
-returns-in-Whole-clause-room g c = can_be_many _ _ (search rules)
+returns-in-Whole-clause-room g c = can_be_many _ _ _ (search rules)
 
 pub returns-in-Ended-clause-room : goal.returns-in-Ended-clause-room
-returns-in-Ended-clause-room g c = can_end _ _
+returns-in-Ended-clause-room g c = can_end _ _ _
 
 pub returns-in-Failed-clause-room : goal.returns-in-Failed-clause-room
-returns-in-Failed-clause-room g c = can_fail _ _
+returns-in-Failed-clause-room g c = can_fail _ _ _
 
 pub returns-in-Ended-eq0-clause-room : goal.returns-in-Ended-eq0-clause-room
-returns-in-Ended-eq0-clause-room g c = can_end _ _
+returns-in-Ended-eq0-clause-room g c = can_end _ _ _
 
 pub returns-in-Ended-fill-clause-room : goal.returns-in-Ended-fill-clause-room
-returns-in-Ended-fill-clause-room g c = can_be_cut _ _ (search rules)
+returns-in-Ended-fill-clause-room g c = can_be_cut _ _ _ (search rules)
 
 pub returns-in-Failed-fill-clause-room : goal.returns-in-Failed-fill-clause-room
-returns-in-Failed-fill-clause-room g c = can_fail _ _
+returns-in-Failed-fill-clause-room g c = can_fail _ _ _
 
-pub returns-then-length-gt-MAX_BODY-clause-room : goal.returns-then-length-gt-MAX_BODY-clause-room
-returns-then-length-gt-MAX_BODY-clause-room g c = can_be_long _ _ c.fill-2.new.buffer (search rules) c.fill-2.auto.buffer (omega arith)
+pub returns-then-length-max_body-clause-room : goal.returns-then-length-max_body-clause-room
+returns-then-length-max_body-clause-room g c = can_be_long _ _ _ c.fill-2.new.buffer (search rules) (whole_head _ _ _ _ c.fill-2.auto.buffer c.head_size.ensures.size c.head_size.ensures.bounded refl) (omega (arith, c.max_body.ensures.most, c.decode_head-length.ensures.field))
 
 pub returns-in-Ended-fill-2-clause-room : goal.returns-in-Ended-fill-2-clause-room
-returns-in-Ended-fill-2-clause-room g c = can_lack_body _ _ c.fill-2.new.buffer _ _ (search rules) c.fill-2.auto.buffer (omega arith) (search rules) c.in-Ended-fill-2.ensures.0
+returns-in-Ended-fill-2-clause-room g c = can_lack_body _ _ _ c.fill-2.new.buffer _ _ (search rules) (whole_head _ _ _ _ c.fill-2.auto.buffer c.head_size.ensures.size c.head_size.ensures.bounded refl) (omega (arith, c.max_body.ensures.most, c.decode_head-length.ensures.field)) (search rules) c.in-Ended-fill-2.ensures.0
 
 pub returns-in-Failed-fill-2-clause-room : goal.returns-in-Failed-fill-2-clause-room
-returns-in-Failed-fill-2-clause-room g c = can_fail _ _
+returns-in-Failed-fill-2-clause-room g c = can_fail _ _ _
