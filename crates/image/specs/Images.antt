@@ -1,4 +1,4 @@
--- Images: the magic `XBP1`, u16 map count, u16 slot count, the map rows, the slots; the lowest byte of a number first.
+-- Images: the magic `XBP1` or `XBP2`, u16 map count, u16 slot count, the map rows, the slots; the lowest byte of a number first.
 -- A map row: u16 type, u16 key size, u32 value size, u32 entries. A slot: 8 bytes, RFC 9669, section 3.
 use Rattle.std.specs.Prelude.{◌≡◌, ℕ, ◌+◌, ◌*◌, ◌≤◌, Bool, true, false, List, [], ◌∷◌, ◌++◌, length, sum_by, All, Option, Some, None, codes, ◌==◌}
 use Rattle.std.specs.List.{flat_map}
@@ -7,6 +7,8 @@ use Rattle.isa_model.specs.declared.map_defs.MapKind.{MapKind}
 use Rattle.isa_model.specs.declared.map_defs.MapKind.TheVariants.{Hash, Array}
 use Rattle.isa_model.specs.declared.map_defs.MapDef.{MapDef}
 use Rattle.isa_model.specs.declared.instructions.Insn.{Insn}
+use Rattle.isa_model.specs.declared.versions.Version.{Version}
+use Rattle.isa_model.specs.declared.versions.Version.TheVariants.{One, Two}
 use Rattle.isa_model.specs.Code.Instructions.{Program, slots, slots_of}
 use Rattle.isa_model.specs.Code.MapRows.{IsRow, NamesRows}
 use Rattle.isa_model.specs.Code.Spelling.{spelling_of, InsnFits}
@@ -14,8 +16,9 @@ use Rattle.image.specs.declared.head.TheConstants.{MAX_MAPS, MAX_MAP_ROOM, MAX_S
 
 -- ---- spelling
 
-abbrev pub magic : List ℕ
-magic = codes "XBP1"
+abbrev pub magic : Version → List ℕ
+magic One = codes "XBP1"
+magic Two = codes "XBP2"
 
 -- Linux, enum bpf_map_type
 abbrev pub kind_code : MapKind → ℕ
@@ -37,7 +40,7 @@ code_bytes xs = flat_map slot_spelling xs
 
 -- the 8 bytes before the rows
 abbrev pub head_bytes : Program → List ℕ
-head_bytes p = magic ++ (little_bytes 2 (length p.maps) ++ little_bytes 2 (length p.insns))
+head_bytes p = magic p.version ++ (little_bytes 2 (length p.maps) ++ little_bytes 2 (length p.insns))
 
 unfoldable pub image_bytes : Program → List ℕ
 image_bytes p = head_bytes p ++ (flat_map row_bytes p.maps ++ code_bytes p.insns)
@@ -75,6 +78,6 @@ pub record IsImage (p : Program) : Type 0 where
   pub code : IsCode false p.insns
   pub named : NamesMaps p.maps p.insns
 
--- the program of these map rows and instructions
-abbrev pub program_of : List MapDef → List Insn → Program
-program_of maps insns = record { insns = slots insns; maps = maps }
+-- the program of this version, these map rows and instructions
+abbrev pub program_of : Version → List MapDef → List Insn → Program
+program_of version maps insns = record { insns = slots insns; maps = maps; version = version }

@@ -19,7 +19,7 @@ code_of (ValuePointer slot) = codes "I11"
 
 abbrev pub sentence_of : ImageError → List ℕ
 sentence_of (Code slot error) = codec.sentence_of error
-sentence_of Magic = codes "the bytes do not begin with XBP1"
+sentence_of Magic = codes "the bytes do not begin with XBP1 or XBP2"
 sentence_of Short = codes "the image is shorter than its head, or than its counts say"
 sentence_of Long = codes "the image is longer than its counts say"
 sentence_of TooManyMaps = codes "the image has more than 16 map rows"

@@ -1,5 +1,5 @@
 -- Why bytes are no image: the first test that fails.
-use Rattle.std.specs.Prelude.{◌≡◌, ℕ, zero, suc, ◌+◌, ◌*◌, ◌⊎◌, nat_lt, nat_le, nat_eq, ◌==◌, ◌&&◌, Bool, true, false, not, if◌then◌else◌, List, [], ◌∷◌, length, drop, sum_by, slice_get, Option, Some, None, Result, Ok, Err}
+use Rattle.std.specs.Prelude.{◌≡◌, ℕ, zero, suc, ◌+◌, ◌*◌, ◌⊎◌, nat_lt, nat_le, nat_eq, ◌==◌, ◌&&◌, Bool, true, false, if◌then◌else◌, List, [], ◌∷◌, length, drop, sum_by, slice_get, Option, Some, None, Result, Ok, Err, is_none, unwrap_or}
 use Rattle.std.specs.List.{starts_with}
 use Rattle.std.specs.Option.{option_or, option_map}
 use Rattle.std.specs.Result.{result_err}
@@ -9,6 +9,8 @@ use Rattle.isa_model.specs.declared.map_defs.MapKind.TheVariants.{Hash, Array}
 use Rattle.isa_model.specs.declared.map_defs.MapDef.{MapDef}
 use Rattle.isa_model.specs.declared.instructions.Insn.{Insn}
 use Rattle.isa_model.specs.declared.instructions.Insn.TheVariants.{LoadMap, LoadMapValue}
+use Rattle.isa_model.specs.declared.versions.Version.{Version}
+use Rattle.isa_model.specs.declared.versions.Version.TheVariants.{One, Two}
 use Rattle.isa_model.specs.Code.Instructions.{Program}
 use Rattle.insn_codec.specs.declared.errors.CodecError.{CodecError}
 use Rattle.insn_codec.specs.Decoding.{decoded}
@@ -29,6 +31,16 @@ unless (Some e) x = Err e
 
 -- ---- the head and the whole length
 
+-- the version that the magic at the front of bytes says, if it is one
+abbrev pub version_at : List ℕ → Option Version
+version_at bytes =
+    if starts_with nat_eq bytes (magic One) then Some One
+    else if starts_with nat_eq bytes (magic Two) then Some Two
+    else None
+
+abbrev pub version_read : List ℕ → Version
+version_read bytes = unwrap_or (version_at bytes) One
+
 -- the counts in the head
 abbrev pub map_count : List ℕ → ℕ
 map_count bytes = little_number 2 (drop 4 bytes)
@@ -43,7 +55,7 @@ size_of maps slots = 8 + 12 * maps + 8 * slots
 abbrev pub size_refusal : List ℕ → Option ImageError
 size_refusal bytes =
     if nat_lt (length bytes) 8 then Some Short
-    else if not (starts_with nat_eq bytes magic) then Some Magic
+    else if is_none (version_at bytes) then Some Magic
     else if nat_lt MAX_MAPS (map_count bytes) then Some TooManyMaps
     else if slot_count bytes == 0 then Some SlotCount
     else if nat_lt MAX_SLOTS (slot_count bytes) then Some SlotCount
@@ -165,7 +177,7 @@ code_read bytes rows = code_from rows (slot_count bytes) false 0 (drop (8 + 12 *
 
 abbrev pub program_read : List ℕ → Result Program ImageError
 program_read bytes =
-    rows_read bytes >>= λ rows. code_read bytes rows >>= λ xs. Ok (record { insns = xs; maps = rows })
+    rows_read bytes >>= λ rows. code_read bytes rows >>= λ xs. Ok (record { insns = xs; maps = rows; version = version_read bytes })
 
 unfoldable pub refusal_of : List ℕ → Option ImageError
 refusal_of bytes = option_or (size_refusal bytes) (result_err (program_read bytes))

@@ -13,7 +13,7 @@ use std::fmt;
 /// I8, I10, I11. I9 may come at any of these.
 #[derive(Clone, Copy, PartialEq, Eq, Debug)]
 pub enum ImageError {
-    /// Another magic than `XBP1`.
+    /// Another magic than `XBP1` and `XBP2`.
     Magic,
     /// Fewer bytes than the head has, or than its counts say.
     Short,
@@ -65,7 +65,7 @@ impl ImageError {
     {
         match self {
             ImageError::Code(_slot, error) => error.sentence(),
-            ImageError::Magic => "the bytes do not begin with XBP1",
+            ImageError::Magic => "the bytes do not begin with XBP1 or XBP2",
             ImageError::Short => "the image is shorter than its head, or than its counts say",
             ImageError::Long => "the image is longer than its counts say",
             ImageError::TooManyMaps => "the image has more than 16 map rows",

@@ -3,10 +3,11 @@
 ghost use Rattle.std.specs.Prelude.{◌≡◌, ◌≤◌, ◌++◌, length};
 ghost use Rattle.byteorder.specs.Endian.{little_bytes};
 ghost use Rattle.image.specs.Images.{magic};
-ghost use Rattle.image.specs.Refusals.{count_refusal, map_count, size_refusal};
+ghost use Rattle.image.specs.Refusals.{count_refusal, map_count, size_refusal, version_read};
 
 use crate::errors::ImageError;
 use byteorder::{ByteOrder, LittleEndian};
+use isa_model::Version;
 
 /// The most map rows of an image.
 pub const MAX_MAPS: u16 = 16;
@@ -24,7 +25,7 @@ pub fn size_refusal(bytes: &[u8]) -> Option<ImageError>
     if bytes.len() < 8 {
         return Some(ImageError::Short);
     }
-    if !bytes.starts_with(b"XBP1") {
+    if !bytes.starts_with(b"XBP1") && !bytes.starts_with(b"XBP2") {
         return Some(ImageError::Magic);
     }
     let maps = LittleEndian::read_u16(&bytes[4..]);
@@ -43,6 +44,19 @@ pub fn size_refusal(bytes: &[u8]) -> Option<ImageError>
         return Some(ImageError::Long);
     }
     None
+}
+
+/// The version that the magic says.
+pub fn version_of(bytes: &[u8]) -> Version
+    ensures { result ≡ version_read bytes.now }
+{
+    if bytes.starts_with(b"XBP1") {
+        Version::One
+    } else if bytes.starts_with(b"XBP2") {
+        Version::Two
+    } else {
+        Version::One
+    }
 }
 
 /// How many map rows the head says.
@@ -64,11 +78,14 @@ pub fn count_refusal(slots: usize) -> Option<ImageError>
     }
 }
 
-/// The head of an image with that many map rows and slots.
-pub fn head_of(maps: u16, slots: u16) -> [u8; 8]
-    ensures { result ≡ magic ++ (little_bytes 2 maps ++ little_bytes 2 slots) }
+/// The head of an image of that version, with that many map rows and slots.
+pub fn head_of(version: Version, maps: u16, slots: u16) -> [u8; 8]
+    ensures { result ≡ magic version ++ (little_bytes 2 maps ++ little_bytes 2 slots) }
 {
-    let mut head = *b"XBP1\0\0\0\0";
+    let mut head = match version {
+        Version::One => *b"XBP1\0\0\0\0",
+        Version::Two => *b"XBP2\0\0\0\0",
+    };
     LittleEndian::write_u16(&mut head[4..], maps);
     LittleEndian::write_u16(&mut head[6..], slots);
     head

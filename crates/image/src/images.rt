@@ -3,19 +3,21 @@
 ghost use Rattle.std.specs.Prelude.{◌≡◌, ◌⊎◌, None, Some, length, IfOk, MatchResult, OnOk, OnErr};
 ghost use Rattle.std.specs.Option.{option_copied};
 ghost use Rattle.std.specs.Io.KnownBytes.{Appends};
+ghost use Rattle.isa_model.specs.Code.Versions.{version_number};
 ghost use Rattle.isa_model.specs.Code.Instructions.{Program, fetch, slots};
 ghost use Rattle.exact_io.specs.Transfers.{AppendsBeginning};
 ghost use Rattle.image.specs.Images.{IsImage, image_bytes, program_of};
-ghost use Rattle.image.specs.Refusals.{Gives, size_refusal, program_read, refusal_of, parts_refusal};
+ghost use Rattle.image.specs.Refusals.{Gives, size_refusal, version_read, program_read, refusal_of};
+ghost use Rattle.image.specs.Refusals.{parts_refusal};
 
 use crate::code::{by_slot, code_of, write_code};
 use crate::errors::ImageError;
-use crate::head::{MAX_MAPS, count_refusal, head_of, map_count, size_refusal};
+use crate::head::{MAX_MAPS, count_refusal, head_of, map_count, size_refusal, version_of};
 use crate::named::maps_refusal;
 use crate::rows::{room_refusal, rows_of, rows_refusal, write_rows};
 use exact_io::write_bytes;
 use insn_codec::decoding_laws;
-use isa_model::{Insn, MapDef};
+use isa_model::{Insn, MapDef, Version};
 use std::alloc::{AllocError, Global};
 use std::io;
 use std::io::Write;
@@ -26,6 +28,7 @@ use std::marker::Model;
 /// Contracts see its program.
 #[derive(Drop)]
 pub struct Image {
+    version: Version,
     maps: Vec<MapDef>,
     slots: Vec<Option<Insn>>,
 }
@@ -33,19 +36,27 @@ pub struct Image {
 impl Model for Image {
     ghost Value = { Program };
 
-    ghost view = { λ image. record { insns = image.slots.items; maps = image.maps.items } };
+    ghost view = { λ image. record {
+      insns = image.slots.items;
+      maps = image.maps.items;
+      version = image.version;
+    } };
 
     ghost invariant = { λ image. IsImage (record {
       insns = image.slots.items;
       maps = image.maps.items;
+      version = image.version;
     }) };
 }
 
 // The rows and the code of an image whose sizes are right.
 fn parts_of(alloc: Global, bytes: &[u8]) -> Result<(Vec<MapDef>, Vec<Option<Insn>>), ImageError>
     requires { size_refusal bytes.now ≡ None }
-    ensures { Gives (λ parts. record { insns = parts.1.items; maps = parts.0.items }) result
-        (program_read bytes.now) }
+    ensures { Gives (λ parts. record {
+      insns = parts.1.items;
+      maps = parts.0.items;
+      version = version_read bytes.now;
+    }) result (program_read bytes.now) }
 {
     let count = map_count(bytes);
     let maps = rows_of(alloc, count, &bytes[8..])?;
@@ -95,15 +106,25 @@ impl Image {
             return Err(error);
         }
         let (maps, slots) = parts_of(alloc, bytes)?;
-        Ok(Image { maps, slots })
+        Ok(Image {
+            version: version_of(bytes),
+            maps,
+            slots,
+        })
     }
 
-    /// The image of these map rows and instructions.
+    /// The image of this version, these map rows and instructions.
     ///
     /// The refusals come in the order I4, I6, I5 row by row, I7, and then slot by slot I10, I11; I9
     /// may come at any of these. Jump targets are not tested.
-    pub fn of(alloc: Global, maps: &[MapDef], insns: &[Insn]) -> Result<Self, ImageError>
-        ensures found { IfOk result (λ image. image ≡ program_of maps.now insns.now) }
+    pub fn of(
+        alloc: Global,
+        version: Version,
+        maps: &[MapDef],
+        insns: &[Insn],
+    ) -> Result<Self, ImageError>
+        ensures found { IfOk result
+            (λ image. image ≡ program_of version maps.now insns.now) }
         ensures fits { IfOk result IsImage }
 
         // All that are no image get the first refusal, running out of memory aside.
@@ -118,7 +139,11 @@ impl Image {
         }
         let mut rows = Vec::new(alloc);
         rows.extend_from_slice(maps)?;
-        Ok(Image { maps: rows, slots })
+        Ok(Image {
+            version,
+            maps: rows,
+            slots,
+        })
     }
 
     /// Another one like it.
@@ -127,7 +152,11 @@ impl Image {
     {
         let maps = Vec::from_slice(alloc, &self.maps)?;
         let slots = Vec::from_slice(alloc, &self.slots)?;
-        Ok(Image { maps, slots })
+        Ok(Image {
+            version: self.version,
+            maps,
+            slots,
+        })
     }
 
     /// Writes the bytes of the image.
@@ -142,10 +171,18 @@ impl Image {
             (AppendsBeginning (W.contents writer.old) (W.contents writer.new)
             (image_bytes self.now)) }
     {
-        let head = head_of(self.maps.len() as u16, self.slots.len() as u16);
+        let (maps, slots) = (self.maps.len() as u16, self.slots.len() as u16);
+        let head = head_of(self.version, maps, slots);
         write_bytes(writer, &head)?;
         write_rows(writer, &self.maps)?;
         write_code(writer, &self.slots)
+    }
+
+    /// 1 for an `XBP1` image, 2 for an `XBP2` one.
+    pub fn version(&self) -> u8
+        ensures { result ≡ version_number self.now.version }
+    {
+        self.version.number()
     }
 
     /// The map rows.

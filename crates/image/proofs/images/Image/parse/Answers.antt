@@ -1,4 +1,4 @@
-use Rattle.std.proofs.Common.{◌≡◌, ℕ, List, Some, None, Ok, Err, inl, inr, sym, ◌∙◌, arith}
+use Rattle.std.proofs.Common.{◌≡◌, ℕ, List, Some, None, Result, Ok, Err, inl, inr, sym, ap, ◌∙◌, arith}
 use Rattle.std.specs.Prelude.{◌⊎◌}
 use Rattle.std.proofs.lemmas.Result.{err_from_is_err_and}
 use Rattle.isa_model.specs.Code.Instructions.{Program}
@@ -7,8 +7,11 @@ use Rattle.image.specs.declared.errors.ImageError.TheVariants.{Memory}
 use Rattle.image.specs.Images.{IsImage, image_bytes}
 use Rattle.image.specs.Refusals.{size_refusal, program_read, refusal_of}
 use Rattle.image.proofs.CodeSpelling.{Laws}
-use Rattle.image.proofs.Whole.{sizes, program_read-found, image_bytes-read, refusal_of-sizes, refusal_of-program, not_both, not_err, same_program}
+use Rattle.image.proofs.Whole.{parts, sizes, program_read-found, image_bytes-read, refusal_of-sizes, refusal_of-program, not_both, not_err, same_program}
 use Rattle.image.proofs.images.Image.parse.Goals as goal
+
+abbrev ok : Program → Result Program ImageError
+ok p = Ok p
 
 -- a refusal of what was read is the image's, and no image has one
 only_memory : Laws → (bytes : List ℕ) (e : ImageError) → (e ≡ Memory) ⊎ (program_read bytes ≡ Err e) → (p : Program) → IsImage p → bytes ≡ image_bytes p → e ≡ Memory
@@ -42,36 +45,41 @@ pub invariant_of-result : goal.invariant_of-result
 invariant_of-result c =
     let bytes = c.args.bytes.now in
     let laws : Laws = record { found = c.decoding_laws.ensures.found; fits = c.decoding_laws.ensures.fits; again = c.decoding_laws.ensures.again } in
-    let p : Program = record { insns = c.in_ok-maps.slots.items; maps = c.in_ok-maps.maps.items } in
-    let found = program_read-found laws bytes p (λ j. omega (arith, c.type_inv.bytes j)) (sizes bytes (sym c.in_default.ensures)) c.in_ok-maps.ensures in
+    let p : Program = record { insns = c.in_ok-maps.slots.items; maps = c.in_ok-maps.maps.items; version = c.version_of.result } in
+    let e : program_read bytes ≡ ok p = c.in_ok-maps.ensures ∙ ap (λ v. ok (parts v c.in_ok-maps.maps.items c.in_ok-maps.slots.items)) (sym c.version_of.ensures) in
+    let found = program_read-found laws bytes p (λ j. omega (arith, c.type_inv.bytes j)) (sizes bytes (sym c.in_default.ensures)) e in
     found.image
 
 pub returns-clause-found : goal.returns-clause-found
 returns-clause-found c =
     let bytes = c.args.bytes.now in
     let laws : Laws = record { found = c.decoding_laws.ensures.found; fits = c.decoding_laws.ensures.fits; again = c.decoding_laws.ensures.again } in
-    let p : Program = record { insns = c.in_ok-maps.slots.items; maps = c.in_ok-maps.maps.items } in
-    let found = program_read-found laws bytes p (λ j. omega (arith, c.type_inv.bytes j)) (sizes bytes (sym c.in_default.ensures)) c.in_ok-maps.ensures in
+    let p : Program = record { insns = c.in_ok-maps.slots.items; maps = c.in_ok-maps.maps.items; version = c.version_of.result } in
+    let e : program_read bytes ≡ ok p = c.in_ok-maps.ensures ∙ ap (λ v. ok (parts v c.in_ok-maps.maps.items c.in_ok-maps.slots.items)) (sym c.version_of.ensures) in
+    let found = program_read-found laws bytes p (λ j. omega (arith, c.type_inv.bytes j)) (sizes bytes (sym c.in_default.ensures)) e in
     found.spelled
 
 pub returns-clause-fits : goal.returns-clause-fits
 returns-clause-fits c =
     let bytes = c.args.bytes.now in
     let laws : Laws = record { found = c.decoding_laws.ensures.found; fits = c.decoding_laws.ensures.fits; again = c.decoding_laws.ensures.again } in
-    let p : Program = record { insns = c.in_ok-maps.slots.items; maps = c.in_ok-maps.maps.items } in
-    let found = program_read-found laws bytes p (λ j. omega (arith, c.type_inv.bytes j)) (sizes bytes (sym c.in_default.ensures)) c.in_ok-maps.ensures in
+    let p : Program = record { insns = c.in_ok-maps.slots.items; maps = c.in_ok-maps.maps.items; version = c.version_of.result } in
+    let e : program_read bytes ≡ ok p = c.in_ok-maps.ensures ∙ ap (λ v. ok (parts v c.in_ok-maps.maps.items c.in_ok-maps.slots.items)) (sym c.version_of.ensures) in
+    let found = program_read-found laws bytes p (λ j. omega (arith, c.type_inv.bytes j)) (sizes bytes (sym c.in_default.ensures)) e in
     found.image
 
 pub returns-clause-only : goal.returns-clause-only
-returns-clause-only c = λ q h e.
+returns-clause-only c = λ q h spelled.
     let bytes = c.args.bytes.now in
     let laws : Laws = record { found = c.decoding_laws.ensures.found; fits = c.decoding_laws.ensures.fits; again = c.decoding_laws.ensures.again } in
-    let p : Program = record { insns = c.in_ok-maps.slots.items; maps = c.in_ok-maps.maps.items } in
-    same_program p q (sym c.in_ok-maps.ensures ∙ (image_bytes-read laws bytes q h e).program)
+    let p : Program = record { insns = c.in_ok-maps.slots.items; maps = c.in_ok-maps.maps.items; version = c.version_of.result } in
+    let e : program_read bytes ≡ ok p = c.in_ok-maps.ensures ∙ ap (λ v. ok (parts v c.in_ok-maps.maps.items c.in_ok-maps.slots.items)) (sym c.version_of.ensures) in
+    same_program p q (sym e ∙ (image_bytes-read laws bytes q h spelled).program)
 
 pub returns-clause-refused : goal.returns-clause-refused
 returns-clause-refused c =
     let bytes = c.args.bytes.now in
     let laws : Laws = record { found = c.decoding_laws.ensures.found; fits = c.decoding_laws.ensures.fits; again = c.decoding_laws.ensures.again } in
-    let p : Program = record { insns = c.in_ok-maps.slots.items; maps = c.in_ok-maps.maps.items } in
-    refusal_of-program bytes (Ok p) (sym c.in_default.ensures) c.in_ok-maps.ensures
+    let p : Program = record { insns = c.in_ok-maps.slots.items; maps = c.in_ok-maps.maps.items; version = c.version_of.result } in
+    let e : program_read bytes ≡ ok p = c.in_ok-maps.ensures ∙ ap (λ v. ok (parts v c.in_ok-maps.maps.items c.in_ok-maps.slots.items)) (sym c.version_of.ensures) in
+    refusal_of-program bytes (Ok p) (sym c.in_default.ensures) e

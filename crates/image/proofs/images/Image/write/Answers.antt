@@ -14,7 +14,7 @@ use Rattle.image.proofs.images.Image.write.Goals as goal
 
 pub returns-in_err-write_bytes-clause-err : goal.returns-in_err-write_bytes-clause-err
 returns-in_err-write_bytes-clause-err g c =
-    let p : Program = record { insns = c.self.inside.slots.items; maps = c.self.inside.maps.items } in
+    let p : Program = record { insns = c.self.inside.slots.items; maps = c.self.inside.maps.items; version = c.self.inside.version } in
     let head = c.head_of-head.result in
     let rows = flat_map row_bytes p.maps in
     let code = code_bytes p.insns in
@@ -27,7 +27,7 @@ returns-in_err-write_bytes-clause-err g c =
 
 pub returns-in_err-write_rows-clause-err : goal.returns-in_err-write_rows-clause-err
 returns-in_err-write_rows-clause-err g c =
-    let p : Program = record { insns = c.self.inside.slots.items; maps = c.self.inside.maps.items } in
+    let p : Program = record { insns = c.self.inside.slots.items; maps = c.self.inside.maps.items; version = c.self.inside.version } in
     let head = c.head_of-head.result in
     let rows = flat_map row_bytes p.maps in
     let code = code_bytes p.insns in
@@ -41,7 +41,7 @@ returns-in_err-write_rows-clause-err g c =
 
 pub returns-clause-ok : goal.returns-clause-ok
 returns-clause-ok g c =
-    let p : Program = record { insns = c.self.inside.slots.items; maps = c.self.inside.maps.items } in
+    let p : Program = record { insns = c.self.inside.slots.items; maps = c.self.inside.maps.items; version = c.self.inside.version } in
     let head = c.head_of-head.result in
     let rows = flat_map row_bytes p.maps in
     let code = code_bytes p.insns in
@@ -56,7 +56,7 @@ returns-clause-ok g c =
 
 pub returns-clause-err : goal.returns-clause-err
 returns-clause-err g c =
-    let p : Program = record { insns = c.self.inside.slots.items; maps = c.self.inside.maps.items } in
+    let p : Program = record { insns = c.self.inside.slots.items; maps = c.self.inside.maps.items; version = c.self.inside.version } in
     let head = c.head_of-head.result in
     let rows = flat_map row_bytes p.maps in
     let code = code_bytes p.insns in
