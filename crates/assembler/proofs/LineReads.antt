@@ -29,8 +29,8 @@ use Rattle.lexer.specs.declared.tokens.Sign.TheVariants as sign
 use Rattle.lexer.specs.declared.tokens.Token.{Token}
 use Rattle.lexer.specs.declared.tokens.Token.TheVariants.{Named, Number, Signed}
 use Rattle.assembler.specs.Statements.{map_line}
-use Rattle.assembler.specs.Labelled.{begins_map_line}
-use Rattle.assembler.proofs.PlainTexts.{◌>>=◌, keep, plain_statement, not-map-line, Parts, with_insn, takes, added, added_row, assembled}
+use Rattle.assembler.specs.Labelled.{begins_map_line, begins_version_line, version_line}
+use Rattle.assembler.proofs.PlainTexts.{◌>>=◌, keep, plain_statement, not-map-line, not-version-line, Parts, with_insn, takes, added, added_row, added_version, assembled}
 use Rattle.assembler.proofs.DigitRuns.{hexadecimal-read}
 use Rattle.assembler.proofs.TokenReads.{draft, reg-read, size-read, narrow-read, extension-read, extended_from, swap-read, fetch-read, exchange-read, compare-read, op-read, op_sign, atomic-read, atomic_sign, comparison-read, comparison_sign, negative-read, signed_tokens, constant_tokens, operand_tokens, place_tokens, distance-read, near-read, constant-read, operand-read, place-read}
 use Rattle.assembler.proofs.FormReads.{alu-form, neg-form, extension-form, swap-form, wide-form, memory_tokens, load-form, extending-form, store-form, constant-form, lock-form, exchange_tokens, fetch-form, exchange-form, compare-form, jump-form, long-form, call-form, helper-form, exit-form, condition-form}
@@ -39,7 +39,8 @@ use Rattle.assembler.proofs.FormReads.{alu-form, neg-form, extension-form, swap-
 
 ended : (ts : List Token) (i : Insn) (ps : Parts) (rest : List ℕ) → (length ts == 0) ≡ false → plain_statement ts ≡ Some i → takes ps i ≡ true → assembled (10 ∷ rest) 0 (draft ts ps) ≡ assembled rest 0 (draft [] (with_insn ps i))
 ended ts i ps rest some h room =
-    ap (λ (b : Bool). (if b then Some (draft ts ps) else if begins_map_line (slice_get ts 0) then added_row ps (map_line ts) else added ps (plain_statement ts)) >>= λ t. assembled rest 0 t) some
+    ap (λ (b : Bool). (if b then Some (draft ts ps) else if begins_version_line (slice_get ts 0) then added_version ps (version_line ts) else if begins_map_line (slice_get ts 0) then added_row ps (map_line ts) else added ps (plain_statement ts)) >>= λ t. assembled rest 0 t) some
+    ∙ ap (λ (b : Bool). (if b then added_version ps (version_line ts) else if begins_map_line (slice_get ts 0) then added_row ps (map_line ts) else added ps (plain_statement ts)) >>= λ t. assembled rest 0 t) (not-version-line ts i h)
     ∙ ap (λ (b : Bool). (if b then added_row ps (map_line ts) else added ps (plain_statement ts)) >>= λ t. assembled rest 0 t) (not-map-line ts i h)
     ∙ ap (λ (o : Option Insn). added ps o >>= λ t. assembled rest 0 t) h
     ∙ ap (λ (b : Bool). keep b (draft [] (with_insn ps i)) >>= λ t. assembled rest 0 t) room

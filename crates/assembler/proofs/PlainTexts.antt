@@ -12,8 +12,13 @@ use Rattle.assembler.specs.declared.readings.Reading.{Reading}
 use Rattle.assembler.specs.declared.wrong.Wrong.{Wrong}
 use Rattle.isa_model.specs.declared.map_defs.MapDef.{MapDef}
 use Rattle.assembler.specs.Statements.{statement_of, map_line}
-use Rattle.assembler.specs.Labelled.{begins_map_line}
+use Rattle.assembler.specs.Labelled.{begins_map_line, begins_version_line, version_line}
 use Rattle.assembler.specs.MapTests.{takes_row, objection_to_load}
+use Rattle.assembler.specs.declared.readings.Statement.{Statement}
+use Rattle.assembler.specs.declared.readings.Statement.TheVariants.{Version}
+use Rattle.isa_model.specs.declared.versions.Version.{Version as Edition}
+use Rattle.isa_model.specs.declared.versions.Version.TheVariants.{One, Two}
+use Rattle.assembler.specs.Assembling.{is_one}
 pub use Rattle.assembler.specs.Assembling.{has_room}
 
 infixl 10 ◌>>=◌
@@ -37,8 +42,9 @@ unnamed_reading (Err wrong) = None
 abbrev pub plain_statement : List Token → Option Insn
 plain_statement ts = unnamed_reading (statement_of ts)
 
--- the map rows and the instructions before a statement
+-- the version, the map rows and the instructions before a statement
 pub record Parts : Type 0 where
+  pub version : Edition
   pub maps : List MapDef
   pub insns : List Insn
 
@@ -48,10 +54,17 @@ pub record Progress : Type 0 where
   pub parts : Parts
 
 abbrev pub with_row : Parts → MapDef → Parts
-with_row ps row = record { maps = ps.maps ++ row ∷ []; insns = ps.insns }
+with_row ps row = record { version = ps.version; maps = ps.maps ++ row ∷ []; insns = ps.insns }
 
 abbrev pub with_insn : Parts → Insn → Parts
-with_insn ps i = record { maps = ps.maps; insns = ps.insns ++ i ∷ [] }
+with_insn ps i = record { version = ps.version; maps = ps.maps; insns = ps.insns ++ i ∷ [] }
+
+abbrev pub with_version : Parts → Parts
+with_version ps = record { version = Two; maps = ps.maps; insns = ps.insns }
+
+-- whether nothing comes before the statement
+abbrev pub is_start : Parts → Bool
+is_start ps = is_one ps.version && (length ps.maps == 0 && (length ps.insns == 0))
 
 -- whether there is a place for the instruction, and the maps that it loads are there
 abbrev pub takes : Parts → Insn → Bool
@@ -65,10 +78,15 @@ abbrev pub added_row : Parts → Result MapDef Wrong → Option Progress
 added_row ps (Err wrong) = None
 added_row ps (Ok row) = keep (takes_row ps.insns ps.maps row) (record { tokens = []; parts = with_row ps row })
 
+abbrev pub added_version : Parts → Result Statement Wrong → Option Progress
+added_version ps (Ok Version) = keep (is_start ps) (record { tokens = []; parts = with_version ps })
+added_version ps r = None
+
 -- at the end of a statement
 abbrev pub closed : Progress → Option Progress
 closed s =
     if length s.tokens == 0 then Some s
+    else if begins_version_line (slice_get s.tokens 0) then added_version s.parts (version_line s.tokens)
     else if begins_map_line (slice_get s.tokens 0) then added_row s.parts (map_line s.tokens)
     else added s.parts (plain_statement s.tokens)
 
@@ -84,7 +102,7 @@ assembled (b ∷ bs) (suc k) s = assembled bs k s
 assembled (b ∷ bs) zero s = lexeme_at (b ∷ bs) >>= λ (p : Lexeme × ℕ). accept s p.0 >>= λ t. assembled bs (p.1 - 1) t
 
 abbrev pub start : Progress
-start = record { tokens = []; parts = record { maps = []; insns = [] } }
+start = record { tokens = []; parts = record { version = One; maps = []; insns = [] } }
 
 -- ---- a map line is no instruction
 
@@ -99,3 +117,10 @@ unfolding statement_of
 not-map-line [] i h = refl
 not-map-line (Named word.Map ∷ ts) i h = absurd (no-insn i h)
 not-map-line (t ∷ ts) i h = refl
+
+-- nor is a version line
+pub not-version-line : (ts : List Token) (i : Insn) → plain_statement ts ≡ Some i → begins_version_line (slice_get ts 0) ≡ false
+unfolding statement_of
+not-version-line [] i h = refl
+not-version-line (Named word.Version ∷ ts) i h = absurd (no-insn i h)
+not-version-line (t ∷ ts) i h = refl

@@ -1,11 +1,13 @@
 -- The canonical text of an image is read as its instructions.
 use Rattle.std.proofs.lemmas.List.Sums.{sum_by-append, sum_by-cons}
 use Rattle.std.proofs.lemmas.List.Elements.{All-nil, All-cons, All-head, All-tail}
-use Rattle.std.proofs.Common.{◌≡◌, ℕ, suc, ◌+◌, ◌≤◌, ◌==◌, nat_lt, nat_le, lt-ltb, le-leb, sum_by, All, Bool, true, false, true, not, if◌then◌else◌, is_none, List, [], ◌∷◌, ◌++◌, length, Option, Some, None, Result, Ok, Err, refl, sym, ap, ◌∙◌, arith, append_assoc, append-nil, length-append, le-ltb, ne_eqb}
+use Rattle.std.proofs.Common.{◌≡◌, ℕ, suc, ◌+◌, ◌≤◌, ◌==◌, nat_lt, nat_le, lt-ltb, le-leb, sum_by, All, Bool, true, false, not, if◌then◌else◌, is_none, List, [], ◌∷◌, ◌++◌, length, Option, Some, None, Result, Ok, Err, refl, sym, ap, ◌∙◌, arith, append_assoc, append-nil, length-append, le-ltb, ne_eqb}
 use Rattle.isa_model.specs.declared.map_defs.MapDef.{MapDef}
 use Rattle.isa_model.specs.declared.instructions.Insn.{Insn}
+use Rattle.isa_model.specs.declared.versions.Version.{Version}
+use Rattle.isa_model.specs.declared.versions.Version.TheVariants.{One, Two}
 use Rattle.isa_model.specs.Code.Instructions.{Program, slots}
-use Rattle.isa_model.specs.Text.CanonicalText.{canonical_text, code_text, rows_text, row_line, instructions}
+use Rattle.isa_model.specs.Text.CanonicalText.{version_line, canonical_text, code_text, rows_text, row_line, instructions}
 use Rattle.isa_model.specs.Code.MapRows.{IsRow, NamesRows}
 use Rattle.image.specs.Images.{IsImage, NamesMaps, room_of, program_of}
 use Rattle.image.specs.CodeLaws.{AllFit, AllFit-instructions, slots-append, slots-instructions}
@@ -38,15 +40,22 @@ row-taken before rows row h few room =
     let spare : nat_le (sum_by room_of before + room_of row) 16777216 ≡ true = le-leb (sum_by room_of before + room_of row) 16777216 (omega (arith, sum, room)) in
     rw (place, fits, spare) refl
 
-rows-read : (rows before : List MapDef) (rest : List ℕ) → All IsRow rows → length (before ++ rows) ≤ 16 → sum_by room_of (before ++ rows) ≤ 16777216 → assembled (rows_text rows ++ rest) 0 (draft [] (record { maps = before; insns = [] })) ≡ assembled rest 0 (draft [] (record { maps = before ++ rows; insns = [] }))
-rows-read [] before rest h few room = ap (λ (l : List MapDef). assembled rest 0 (draft [] (record { maps = l; insns = [] }))) (sym (append-nil before))
-rows-read (row ∷ rows) before rest h few room =
+rows-read : (v : Version) (rows before : List MapDef) (rest : List ℕ) → All IsRow rows → length (before ++ rows) ≤ 16 → sum_by room_of (before ++ rows) ≤ 16777216 → assembled (rows_text rows ++ rest) 0 (draft [] (record { version = v; maps = before; insns = [] })) ≡ assembled rest 0 (draft [] (record { version = v; maps = before ++ rows; insns = [] }))
+rows-read v [] before rest h few room = ap (λ (l : List MapDef). assembled rest 0 (draft [] (record { version = v; maps = l; insns = [] }))) (sym (append-nil before))
+rows-read v (row ∷ rows) before rest h few room =
     let same : (before ++ row ∷ []) ++ rows ≡ before ++ row ∷ rows = append_assoc before (row ∷ []) rows in
     let fits : IsRow row = All-head IsRow row rows h in
-    ap (λ bs. assembled bs 0 (draft [] (record { maps = before; insns = [] }))) (append_assoc (row_line row) (rows_text rows) rest)
-    ∙ row-read row (record { maps = before; insns = [] }) (rows_text rows ++ rest) fits (row-taken before rows row fits few room)
-    ∙ rows-read rows (before ++ row ∷ []) rest (All-tail IsRow row rows h) (rw same few) (rw same room)
-    ∙ ap (λ (l : List MapDef). assembled rest 0 (draft [] (record { maps = l; insns = [] }))) same
+    ap (λ bs. assembled bs 0 (draft [] (record { version = v; maps = before; insns = [] }))) (append_assoc (row_line row) (rows_text rows) rest)
+    ∙ row-read row (record { version = v; maps = before; insns = [] }) (rows_text rows ++ rest) fits (row-taken before rows row fits few room)
+    ∙ rows-read v rows (before ++ row ∷ []) rest (All-tail IsRow row rows h) (rw same few) (rw same room)
+    ∙ ap (λ (l : List MapDef). assembled rest 0 (draft [] (record { version = v; maps = l; insns = [] }))) same
+
+-- ---- the version line
+
+-- a text that begins with its version's line goes on with that version
+version-read : (v : Version) (rest : List ℕ) → assembled (version_line v ++ rest) 0 start ≡ assembled rest 0 (draft [] (record { version = v; maps = []; insns = [] }))
+version-read One rest = refl
+version-read Two rest = refl
 
 -- ---- code
 
@@ -57,23 +66,23 @@ room-before is js h =
     ap not (le-ltb 4096 (length (slots is)) (omega (arith, h, e)))
 
 -- the instructions behind others, after map rows
-abbrev behind : List MapDef → List Insn → Parts
-behind maps is = record { maps = maps; insns = is }
+abbrev behind : Version → List MapDef → List Insn → Parts
+behind v maps is = record { version = v; maps = maps; insns = is }
 
-taken : (maps : List MapDef) (before is : List Insn) (i : Insn) → NamesRows maps i → length (slots ((before ++ i ∷ []) ++ is)) ≤ 4096 → takes (behind maps before) i ≡ true
-taken maps before is i named all =
+taken : (v : Version) (maps : List MapDef) (before is : List Insn) (i : Insn) → NamesRows maps i → length (slots ((before ++ i ∷ []) ++ is)) ≤ 4096 → takes (behind v maps before) i ≡ true
+taken v maps before is i named all =
     let there : is_none (objection_to_load maps i) ≡ true = objection_to_load-NamesRows maps i named in
     let room : has_room (before ++ i ∷ []) ≡ true = room-before (before ++ i ∷ []) is all in
     rw (there, room) refl
 
-code-read : (maps : List MapDef) (is before : List Insn) → AllFit is → All (NamesRows maps) is → length (slots (before ++ is)) ≤ 4096 → assembled (code_text is) 0 (draft [] (behind maps before)) ≡ Some (draft [] (behind maps (before ++ is)))
-code-read maps [] before h named room = ap (λ (l : List Insn). Some (draft [] (behind maps l))) (sym (append-nil before))
-code-read maps (i ∷ is) before h named room =
+code-read : (v : Version) (maps : List MapDef) (is before : List Insn) → AllFit is → All (NamesRows maps) is → length (slots (before ++ is)) ≤ 4096 → assembled (code_text is) 0 (draft [] (behind v maps before)) ≡ Some (draft [] (behind v maps (before ++ is)))
+code-read v maps [] before h named room = ap (λ (l : List Insn). Some (draft [] (behind v maps l))) (sym (append-nil before))
+code-read v maps (i ∷ is) before h named room =
     let same : (before ++ i ∷ []) ++ is ≡ before ++ i ∷ is = append_assoc before (i ∷ []) is in
     let all : length (slots ((before ++ i ∷ []) ++ is)) ≤ 4096 = rw same room in
-    line-read i (behind maps before) (code_text is) h.0 (taken maps before is i (All-head (NamesRows maps) i is named) all)
-    ∙ code-read maps is (before ++ i ∷ []) h.1 (All-tail (NamesRows maps) i is named) all
-    ∙ ap (λ (l : List Insn). Some (draft [] (behind maps l))) same
+    line-read i (behind v maps before) (code_text is) h.0 (taken v maps before is i (All-head (NamesRows maps) i is named) all)
+    ∙ code-read v maps is (before ++ i ∷ []) h.1 (All-tail (NamesRows maps) i is named) all
+    ∙ ap (λ (l : List Insn). Some (draft [] (behind v maps l))) same
 
 all-named : (maps : List MapDef) (xs : List (Option Insn)) → NamesMaps maps xs → All (NamesRows maps) (instructions xs)
 all-named maps [] h = All-nil (NamesRows maps)
@@ -81,15 +90,16 @@ all-named maps (None ∷ xs) h = all-named maps xs h
 all-named maps (Some i ∷ xs) h = All-cons (NamesRows maps) i (instructions xs) h.0 (all-named maps xs h.1)
 
 -- an image is the one that its rows and instructions make
-image-again : (p : Program) → IsImage p → program_of p.maps (instructions p.insns) ≡ p
-image-again p h = ap (λ xs. let q : Program = record { insns = xs; maps = p.maps } in q) (slots-instructions p.insns h.code)
+image-again : (p : Program) → IsImage p → program_of p.version p.maps (instructions p.insns) ≡ p
+image-again p h = ap (λ xs. let q : Program = record p { insns = xs } in q) (slots-instructions p.insns h.code)
 
-pub text-read : (p : Program) → IsImage p → assembled (canonical_text p) 0 start ≡ Some (draft [] (behind p.maps (instructions p.insns)))
+pub text-read : (p : Program) → IsImage p → assembled (canonical_text p) 0 start ≡ Some (draft [] (behind p.version p.maps (instructions p.insns)))
 unfolding canonical_text
 text-read p h =
     let few : length (slots (instructions p.insns)) ≤ 4096 = rw (slots-instructions p.insns h.code) (omega (arith, h.few_slots)) in
-    rows-read p.maps [] (code_text (instructions p.insns)) h.rows h.few_maps h.room
-    ∙ code-read p.maps (instructions p.insns) [] (AllFit-instructions p.insns false h.code) (all-named p.maps p.insns h.named) few
+    version-read p.version (rows_text p.maps ++ code_text (instructions p.insns))
+    ∙ rows-read p.version p.maps [] (code_text (instructions p.insns)) h.rows h.few_maps h.room
+    ∙ code-read p.version p.maps (instructions p.insns) [] (AllFit-instructions p.insns false h.code) (all-named p.maps p.insns h.named) few
 
 -- ---- programs
 
@@ -99,23 +109,23 @@ counted n some few =
     let fits : nat_lt 4096 n ≡ false = le-ltb 4096 n few in
     rw (more, fits) refl
 
-program_of-instructions : (p : Program) → IsImage p → text.program_of p.maps (instructions p.insns) ≡ Ok p
+program_of-instructions : (p : Program) → IsImage p → text.program_of p.version p.maps (instructions p.insns) ≡ Ok p
 program_of-instructions p h =
     let is : List Insn = instructions p.insns in
     let long : length (slots is) ≡ length p.insns = ap (λ xs. length xs) (slots-instructions p.insns h.code) in
     let few : is_none (count_refusal (length (slots is))) ≡ true = ap (λ n. is_none (count_refusal n)) long ∙ counted (length p.insns) h.some_slots h.few_slots in
-    ap (λ (b : Bool). let r : Result Program Refusal = if b then Ok (program_of p.maps is) else Err (record { kind = SlotCount; offset = 0 }) in r) few
+    ap (λ (b : Bool). let r : Result Program Refusal = if b then Ok (program_of p.version p.maps is) else Err (record { kind = SlotCount; offset = 0 }) in r) few
     ∙ ap (λ (q : Program). let r : Result Program Refusal = Ok q in r) (image-again p h)
 
 -- what was read without names is a program as it stands
-finished-unused : (s : Progress) (parts : Parts) → (shadow s).parts ≡ parts → s.uses ≡ [] → finished s ≡ text.program_of parts.maps parts.insns
+finished-unused : (s : Progress) (parts : Parts) → (shadow s).parts ≡ parts → s.uses ≡ [] → finished s ≡ text.program_of parts.version parts.maps parts.insns
 finished-unused s parts e unused =
-    ap (λ us. resolved (slot_in s.labels) us s.insns >>= text.program_of s.maps) unused ∙ ap (λ (ps : Parts). text.program_of ps.maps ps.insns) e
+    ap (λ us. resolved (slot_in s.labels) us s.insns >>= text.program_of s.version s.maps) unused ∙ ap (λ (ps : Parts). text.program_of ps.version ps.maps ps.insns) e
 
 -- the canonical text of an image spells that image
 pub program_in-canonical_text : (p : Program) → IsImage p → program_in (canonical_text p) ≡ Ok p
 program_in-canonical_text p h =
-    let went = read-goes (canonical_text p) 0 0 text.start (draft [] (behind p.maps (instructions p.insns))) refl (text-read p h) in
+    let went = read-goes (canonical_text p) 0 0 text.start (draft [] (behind p.version p.maps (instructions p.insns))) (refl, refl) (text-read p h) in
     ap (λ (r : Result Progress Refusal). r >>= finished) went.1
-    ∙ finished-unused went.0 (behind p.maps (instructions p.insns)) (ap (λ (s : plain.Progress). s.parts) went.2) went.3
+    ∙ finished-unused went.0 (behind p.version p.maps (instructions p.insns)) (ap (λ (s : plain.Progress). s.parts) went.2) went.3.0
     ∙ program_of-instructions p h

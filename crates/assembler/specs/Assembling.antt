@@ -1,9 +1,12 @@
 -- Programs from texts: lexeme by lexeme, a statement at a time.
-use Rattle.std.specs.Prelude.{◌≡◌, ℕ, zero, suc, ◌+◌, ◌-◌, ◌==◌, nat_lt, not, Bool, if◌then◌else◌, is_none, List, [], ◌∷◌, ◌++◌, length, take, drop, slice_get, Option, Some, None, ok_or, Result, Ok, Err, ◌⊎◌}
+use Rattle.std.specs.Prelude.{◌≡◌, ℕ, zero, suc, ◌+◌, ◌-◌, ◌==◌, nat_lt, not, Bool, if◌then◌else◌, is_none, List, [], ◌∷◌, ◌++◌, length, take, drop, slice_get, Option, Some, None, ok_or, Result, Ok, Err, ◌⊎◌, true, false, ◌&&◌}
 use Rattle.isa_model.specs.declared.map_defs.MapDef.{MapDef}
 use Rattle.isa_model.specs.declared.instructions.Insn.{Insn}
+use Rattle.isa_model.specs.declared.versions.Version.{Version}
+use Rattle.isa_model.specs.declared.versions.Version.TheVariants.{One, Two}
 use Rattle.isa_model.specs.Code.Instructions.{Program, slots}
 use Rattle.isa_model.specs.Machine.MachineStates.{max_slots}
+use Rattle.image.specs.Images as image
 use Rattle.image.specs.Refusals.{count_refusal}
 use Rattle.assembler.specs.declared.errors.AsmErrorKind.{AsmErrorKind}
 use Rattle.assembler.specs.declared.errors.AsmErrorKind.TheVariants.{UnknownByte, NoForm, OutOfRange, Memory, SlotCount}
@@ -11,7 +14,7 @@ use Rattle.assembler.specs.declared.errors.AsmError.{AsmError}
 use Rattle.assembler.specs.declared.refusals.Refusal.{Refusal}
 use Rattle.assembler.specs.declared.readings.Reading.{Reading}
 use Rattle.assembler.specs.declared.readings.Statement.{Statement}
-use Rattle.assembler.specs.declared.readings.Statement.TheVariants.{Empty, Row, Instruction}
+use Rattle.assembler.specs.declared.readings.Statement.TheVariants as said
 use Rattle.assembler.specs.declared.wrong.Wrong.{Wrong}
 use Rattle.assembler.specs.declared.wrong.Objection.{Objection}
 use Rattle.assembler.specs.declared.wrong.Wrong.TheVariants.{Form, Range}
@@ -20,7 +23,7 @@ use Rattle.lexer.specs.declared.tokens.Lexeme.{Lexeme}
 use Rattle.lexer.specs.declared.tokens.Lexeme.TheVariants.{Blank, End, Solid}
 use Rattle.lexer.specs.Lexing.{lexeme_at, fault_at}
 use Rattle.assembler.specs.Operands.{◌>>=◌}
-use Rattle.assembler.specs.Labelled.{spelled, has_form, label_length}
+use Rattle.assembler.specs.Labelled.{spelled_behind, has_form, label_length}
 use Rattle.assembler.specs.MapTests.{objection}
 use Rattle.assembler.specs.Labels.{with_label, slot_in}
 use Rattle.assembler.specs.Naming.{NameUse, resolved}
@@ -35,7 +38,8 @@ pub record Progress : Type 0 where
   -- the tokens of the statement, and where they stand
   pub tokens : List Token
   pub places : List TokenPlace
-  -- the map rows and the instructions before it
+  -- the version, the map rows and the instructions before it
+  pub version : Version
   pub maps : List MapDef
   pub insns : List Insn
   -- the names and their slots, and where names are used
@@ -43,7 +47,7 @@ pub record Progress : Type 0 where
   pub uses : List NameUse
 
 abbrev pub start : Progress
-start = record { tokens = []; places = []; maps = []; insns = []; labels = []; uses = [] }
+start = record { tokens = []; places = []; version = One; maps = []; insns = []; labels = []; uses = [] }
 
 -- ---- refusals
 
@@ -104,7 +108,7 @@ name_place s k (Some i) = slice_get s.places (i + k)
 abbrev pub added : Progress → ℕ → Reading → Result Progress Refusal
 added s k r =
     refused_at (begins_at s) (with_insn s.insns r.insn)
-    >>= λ insns. Ok (record { tokens = []; places = []; maps = s.maps; insns = insns; labels = s.labels; uses = with_use s (name_place s k r.name) })
+    >>= λ insns. Ok (record { tokens = []; places = []; version = s.version; maps = s.maps; insns = insns; labels = s.labels; uses = with_use s (name_place s k r.name) })
 
 -- ---- labels
 
@@ -113,7 +117,7 @@ abbrev pub named_by : Progress → Option TokenPlace → Result Progress Refusal
 named_by s None = Ok s
 named_by s (Some place) =
     refused_at place.0 (with_label s.labels place.1 (length (slots s.insns)))
-    >>= λ labels. Ok (record { tokens = s.tokens; places = s.places; maps = s.maps; insns = s.insns; labels = labels; uses = s.uses })
+    >>= λ labels. Ok (record { tokens = s.tokens; places = s.places; version = s.version; maps = s.maps; insns = s.insns; labels = labels; uses = s.uses })
 
 -- the statement's first token is the name
 abbrev pub named : Progress → Result Progress Refusal
@@ -121,17 +125,26 @@ named s = named_by s (slice_get s.places 0)
 
 -- ---- statements
 
+abbrev pub is_one : Version → Bool
+is_one One = true
+is_one Two = false
+
+-- no statement was read that is not empty: each one leaves a name, a version, a row or an instruction
+abbrev pub is_first : Progress → Bool
+is_first s = length s.labels == 0 && (is_one s.version && (length s.maps == 0 && (length s.insns == 0)))
+
 -- after a label of that many tokens
 abbrev pub ended : Progress → ℕ → Statement → Result Progress Refusal
-ended s k Empty = Ok (record { tokens = []; places = []; maps = s.maps; insns = s.insns; labels = s.labels; uses = s.uses })
-ended s k (Row row) = Ok (record { tokens = []; places = []; maps = s.maps ++ row ∷ []; insns = s.insns; labels = s.labels; uses = s.uses })
-ended s k (Instruction r) = added s k r
+ended s k said.Empty = Ok (record { tokens = []; places = []; version = s.version; maps = s.maps; insns = s.insns; labels = s.labels; uses = s.uses })
+ended s k said.Version = Ok (record { tokens = []; places = []; version = Two; maps = s.maps; insns = s.insns; labels = s.labels; uses = s.uses })
+ended s k (said.Row row) = Ok (record { tokens = []; places = []; version = s.version; maps = s.maps ++ row ∷ []; insns = s.insns; labels = s.labels; uses = s.uses })
+ended s k (said.Instruction r) = added s k r
 
 -- at the end of a statement with a label of that many tokens
 abbrev pub closed_behind : Progress → ℕ → Result Progress Refusal
 closed_behind s k =
-    unless_wrong s k (spelled (drop k s.tokens))
-    >>= λ said. unless_refused s k (objection s.insns s.maps said)
+    unless_wrong s k (spelled_behind k (drop k s.tokens))
+    >>= λ said. unless_refused s k (objection (is_first s) s.insns s.maps said)
     >>= λ u. (if k == 0 then Ok s else named s)
     >>= λ t. ended t k said
 
@@ -145,7 +158,7 @@ abbrev pub accept : Progress → Lexeme → TokenPlace → Result Progress Refus
 accept s Blank place = Ok s
 accept s End place = closed s
 accept s (Solid t) place =
-    Ok (record { tokens = s.tokens ++ t ∷ []; places = s.places ++ place ∷ []; maps = s.maps; insns = s.insns; labels = s.labels; uses = s.uses })
+    Ok (record { tokens = s.tokens ++ t ∷ []; places = s.places ++ place ∷ []; version = s.version; maps = s.maps; insns = s.insns; labels = s.labels; uses = s.uses })
 
 -- ---- texts
 
@@ -161,15 +174,15 @@ read_on (b ∷ bs) zero at s =
     next_lexeme at (b ∷ bs)
     >>= λ (p : Lexeme × ℕ). accept s p.0 (at, take p.1 (b ∷ bs)) >>= λ t. read_on bs (p.1 - 1) (at + 1) t
 
--- the program of these map rows and instructions; that there is none is refused where the text begins
-abbrev pub program_of : List MapDef → List Insn → Result Program Refusal
-program_of maps insns =
-    if is_none (count_refusal (length (slots insns))) then Ok (record { insns = slots insns; maps = maps })
+-- the program of this version, these map rows and instructions; that there is none is refused where the text begins
+abbrev pub program_of : Version → List MapDef → List Insn → Result Program Refusal
+program_of version maps insns =
+    if is_none (count_refusal (length (slots insns))) then Ok (image.program_of version maps insns)
     else Err (record { kind = SlotCount; offset = 0 })
 
 -- the program once names have become distances
 abbrev pub finished : Progress → Result Program Refusal
-finished s = resolved (slot_in s.labels) s.uses s.insns >>= program_of s.maps
+finished s = resolved (slot_in s.labels) s.uses s.insns >>= program_of s.version s.maps
 
 abbrev pub error_in : {A : Type 0} → List ℕ → Result A Refusal → Result A AsmError
 error_in text (Ok x) = Ok x

@@ -14,6 +14,7 @@ progress_of d =
     record {
       tokens = d.tokens.items;
       places = map place_of d.spans.items;
+      version = d.version;
       maps = d.maps.items;
       insns = d.code.insns.items;
       labels = map label_of d.labels.entries;

@@ -1,13 +1,14 @@
 -- Statements with their labels.
-use Rattle.std.specs.Prelude.{ℕ, ◌==◌, Bool, true, false, if◌then◌else◌, List, map, length, slice_get, Option, Some, is_ok, Result, Ok}
+use Rattle.std.specs.Prelude.{ℕ, ◌==◌, Bool, true, false, if◌then◌else◌, List, map, length, slice_get, Option, Some, is_ok, Result, Ok, Err, ◌&&◌, ◌||◌}
 use Rattle.lexer.specs.declared.tokens.Word.TheVariants as word
 use Rattle.lexer.specs.declared.tokens.Sign.TheVariants as sign
 use Rattle.lexer.specs.declared.tokens.Token.{Token}
 use Rattle.lexer.specs.declared.tokens.Token.TheVariants.{Named, Number, Signed}
 use Rattle.assembler.specs.declared.readings.Statement.{Statement}
-use Rattle.assembler.specs.declared.readings.Statement.TheVariants.{Empty, Row, Instruction}
+use Rattle.assembler.specs.declared.readings.Statement.TheVariants.{Empty, Version, Row, Instruction}
 use Rattle.assembler.specs.declared.wrong.Wrong.{Wrong}
-use Rattle.assembler.specs.Operands.{◌>>=◌, is_name}
+use Rattle.assembler.specs.declared.wrong.Wrong.TheVariants.{Form, Range}
+use Rattle.assembler.specs.Operands.{◌>>=◌, keep, is_name, number_at}
 use Rattle.assembler.specs.Statements.{statement_of, map_line}
 
 -- ---- what stands after a label
@@ -17,6 +18,19 @@ abbrev pub begins_map_line : Option Token → Bool
 begins_map_line (Some (Named word.Map)) = true
 begins_map_line t = false
 
+-- whether a version line begins with that token
+abbrev pub begins_version_line : Option Token → Bool
+begins_version_line (Some (Named word.Version)) = true
+begins_version_line t = false
+
+-- the number of a version line
+abbrev pub version_number : List Token → Result ℕ Wrong
+version_number ts = number_at ts 1 >>= λ n. keep (length ts == 2) n
+
+-- `version 2`: another number is out of range
+abbrev pub version_line : List Token → Result Statement Wrong
+version_line ts = version_number ts >>= λ n. if n == 2 then Ok Version else Err (Range 1)
+
 -- nothing, a map line or an instruction
 abbrev pub spelled : List Token → Result Statement Wrong
 spelled ts =
@@ -24,14 +38,23 @@ spelled ts =
     else if begins_map_line (slice_get ts 0) then (map_line ts >>= λ row. Ok (Row row))
     else (statement_of ts >>= λ r. Ok (Instruction r))
 
--- any number of the text as 0, which is in all ranges
+-- what the tokens of a statement spell, behind a label of that many; a version line has none
+abbrev pub spelled_behind : ℕ → List Token → Result Statement Wrong
+spelled_behind k ts =
+    if begins_version_line (slice_get ts 0) then (if k == 0 then version_line ts else Err Form) else spelled ts
+
+-- whether a form fits them: a version line whatever its number is, or an instruction
+abbrev pub fits_form : List Token → Bool
+fits_form ts = (begins_version_line (slice_get ts 0) && is_ok (version_number ts)) || is_ok (statement_of ts)
+
+-- any number of the text as 0, which is in all ranges of instructions
 abbrev pub zeroed : Token → Token
 zeroed (Number n) = Number 0
 zeroed t = t
 
 -- whether a form fits the tokens but for the ranges of their numbers
 abbrev pub has_form : List Token → Bool
-has_form ts = is_ok (statement_of (map zeroed ts))
+has_form ts = fits_form (map zeroed ts)
 
 -- ---- labels
 

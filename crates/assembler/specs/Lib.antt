@@ -9,3 +9,11 @@ pub mod Labels
 pub mod Assembling
 pub mod Drafts
 pub mod Messages
+pub mod Spells
+pub mod SpellsReads
+pub mod SpellsTokens
+pub mod SpellsParts
+pub mod SpellsRegisters
+pub mod SpellsLaws
+pub mod SpellsTexts
+pub mod SpellsRefusals

@@ -1,4 +1,4 @@
--- Map lines and loads of maps that a program has no place for.
+-- Map lines, loads of maps and version lines that a program has no place for.
 use Rattle.std.specs.Prelude.{ℕ, ◌+◌, ◌==◌, ◌&&◌, nat_lt, nat_le, Bool, if◌then◌else◌, List, length, slice_get, sum_by, Option, Some, None}
 use Rattle.isa_model.specs.declared.map_defs.MapDef.{MapDef}
 use Rattle.isa_model.specs.declared.instructions.Insn.{Insn}
@@ -6,9 +6,9 @@ use Rattle.isa_model.specs.declared.instructions.Insn.TheVariants.{LoadMap, Load
 use Rattle.image.specs.Images.{room_of}
 use Rattle.image.specs.Refusals.{row_fits, is_array}
 use Rattle.image.specs.declared.head.TheConstants.{MAX_MAPS, MAX_MAP_ROOM}
-use Rattle.assembler.specs.declared.errors.AsmErrorKind.TheVariants.{MapLine, NoMap, NotOneValue, PastValue}
+use Rattle.assembler.specs.declared.errors.AsmErrorKind.TheVariants.{MapLine, NoMap, NotOneValue, PastValue, LateVersion}
 use Rattle.assembler.specs.declared.readings.Statement.{Statement}
-use Rattle.assembler.specs.declared.readings.Statement.TheVariants.{Empty, Row, Instruction}
+use Rattle.assembler.specs.declared.readings.Statement.TheVariants.{Empty, Version, Row, Instruction}
 use Rattle.assembler.specs.declared.wrong.Objection.{Objection}
 
 -- ---- map lines
@@ -40,8 +40,9 @@ objection_to_load maps i = None
 
 -- ---- statements
 
--- what is wrong with the statement behind these instructions and map rows
-abbrev pub objection : List Insn → List MapDef → Statement → Option Objection
-objection insns maps Empty = None
-objection insns maps (Row row) = if takes_row insns maps row then None else Some (record { kind = MapLine; token = 0 })
-objection insns maps (Instruction r) = objection_to_load maps r.insn
+-- what is wrong with the statement, the first of all or not, behind these instructions and map rows
+abbrev pub objection : Bool → List Insn → List MapDef → Statement → Option Objection
+objection first insns maps Empty = None
+objection first insns maps Version = if first then None else Some (record { kind = LateVersion; token = 0 })
+objection first insns maps (Row row) = if takes_row insns maps row then None else Some (record { kind = MapLine; token = 0 })
+objection first insns maps (Instruction r) = objection_to_load maps r.insn

@@ -1,7 +1,7 @@
 -- The code of each refusal, and the sentence that says what is wrong.
 use Rattle.std.specs.Prelude.{ℕ, List, codes}
 use Rattle.assembler.specs.declared.errors.AsmErrorKind.{AsmErrorKind}
-use Rattle.assembler.specs.declared.errors.AsmErrorKind.TheVariants.{UnknownByte, NoForm, OutOfRange, DefinedTwice, NotDefined, TooFar, MapLine, NoMap, NotOneValue, PastValue, Memory, SlotCount}
+use Rattle.assembler.specs.declared.errors.AsmErrorKind.TheVariants.{UnknownByte, NoForm, OutOfRange, DefinedTwice, NotDefined, TooFar, MapLine, NoMap, NotOneValue, PastValue, LateVersion, Memory, SlotCount}
 
 abbrev pub code_of : AsmErrorKind → List ℕ
 code_of UnknownByte = codes "A1"
@@ -14,6 +14,7 @@ code_of MapLine = codes "A7"
 code_of NoMap = codes "A7"
 code_of NotOneValue = codes "A10"
 code_of PastValue = codes "A10"
+code_of LateVersion = codes "A11"
 code_of Memory = codes "A8"
 code_of SlotCount = codes "A9"
 
@@ -28,5 +29,6 @@ sentence_of MapLine = codes "the map line comes after an instruction, is the 17t
 sentence_of NoMap = codes "no map line has this index"
 sentence_of NotOneValue = codes "the map is not an array of one entry"
 sentence_of PastValue = codes "the offset is not below the size of the map's values"
+sentence_of LateVersion = codes "the version line is not the first statement"
 sentence_of Memory = codes "out of memory"
 sentence_of SlotCount = codes "the text has no instruction, or more than 4096 slots"

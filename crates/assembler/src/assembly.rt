@@ -15,7 +15,7 @@ use super::errors::{AsmError, AsmErrorKind};
 use super::names::resolve;
 use super::refusals::{Refusal, located};
 use image::Image;
-use isa_model::{Insn, MapDef};
+use isa_model::{Insn, MapDef, Version};
 use lexer::lexeme_at;
 use std::alloc::Global;
 
@@ -64,10 +64,15 @@ fn read<'a>(alloc: Global, text: &'a [u8]) -> Result<Draft<'a>, Refusal>
     }
 }
 
-// The image of these map rows and instructions, of which all else that is refused was so statement
-// by statement.
-fn image_with(alloc: Global, maps: &[MapDef], insns: &[Insn]) -> Result<Image, Refusal>
-    ensures { Answers (λ image. image) result (program_of maps.now insns.now) }
+// The image of this version, these map rows and instructions, of which all else that is refused was
+// so statement by statement.
+fn image_with(
+    alloc: Global,
+    version: Version,
+    maps: &[MapDef],
+    insns: &[Insn],
+) -> Result<Image, Refusal>
+    ensures { Answers (λ image. image) result (program_of version maps.now insns.now) }
 {
     if insns.is_empty() {
         return Err(Refusal {
@@ -75,7 +80,7 @@ fn image_with(alloc: Global, maps: &[MapDef], insns: &[Insn]) -> Result<Image, R
             offset: 0,
         });
     }
-    match Image::of(alloc, maps, insns) {
+    match Image::of(alloc, version, maps, insns) {
         Ok(image) => Ok(image),
         Err(_) => Err(Refusal {
             kind: AsmErrorKind::Memory,
@@ -91,6 +96,7 @@ fn finish(alloc: Global, draft: Draft<'_>) -> Result<Image, Refusal>
     let Draft {
         tokens: _,
         spans: _,
+        version,
         maps,
         code,
         labels,
@@ -98,7 +104,7 @@ fn finish(alloc: Global, draft: Draft<'_>) -> Result<Image, Refusal>
     } = draft;
     let mut insns = code.into_insns();
     resolve(&mut insns, &labels, &uses)?;
-    image_with(alloc, &maps, &insns)
+    image_with(alloc, version, &maps, &insns)
 }
 
 fn image_of(alloc: Global, text: &[u8]) -> Result<Image, Refusal>

@@ -6,7 +6,7 @@ ghost use Rattle.assembler.specs.declared.errors.AsmErrorKind.TheVariants as Asm
 ghost use Rattle.assembler.specs.declared.readings.Statement.TheVariants as Statement;
 ghost use Rattle.assembler.specs.Labelled.{is_label, label_length, has_form};
 ghost use Rattle.assembler.specs.Assembling.{start, accept, closed, ended, added, named};
-ghost use Rattle.assembler.specs.Assembling.{with_use, refused_by};
+ghost use Rattle.assembler.specs.Assembling.{is_first, with_use, refused_by};
 ghost use Rattle.assembler.specs.Assembling.{refusal_of, offset_or, Answers};
 ghost use Rattle.assembler.specs.Drafts.{place_of, progress_of};
 ghost use Rattle.assembler.specs.Naming.{use_of};
@@ -19,10 +19,10 @@ use super::operands::is_name;
 use super::parts::zeroed;
 use super::readings::{Reading, Statement};
 use super::refusals::Refusal;
-use super::statements::{spelled, statement_of};
+use super::statements::{fits_form, spelled_behind};
 use super::wrong::{Objection, Wrong};
 use indexmap::IndexMap;
-use isa_model::MapDef;
+use isa_model::{MapDef, Version};
 use lexer::{Lexeme, Sign, Token};
 use std::alloc::Global;
 
@@ -38,6 +38,7 @@ pub struct Span<'a> {
 pub struct Draft<'a> {
     pub tokens: Vec<Token>,
     pub spans: Vec<Span<'a>>,
+    pub version: Version,
     pub maps: Vec<MapDef>,
     pub code: Code,
     pub labels: Labels<'a>,
@@ -61,6 +62,7 @@ impl<'a> Draft<'a> {
         Draft {
             tokens: Vec::new(alloc),
             spans: Vec::new(alloc),
+            version: Version::One,
             maps: Vec::new(alloc),
             code: Code::new(alloc),
             labels: IndexMap::new(alloc),
@@ -97,17 +99,19 @@ impl<'a> Draft<'a> {
         }
     }
 
-    /// Ends the statement: an optional label, and nothing, a map line or an instruction.
+    /// Ends the statement: an optional label, and nothing, a map line or an instruction; or a
+    /// version line.
     pub fn close(&mut self) -> Result<(), Refusal>
         ensures { Answers (λ _. progress_of self.new) result (closed (progress_of self.old)) }
     {
         let label = self.label_length();
-        let statement = match spelled(&self.tokens[label..]) {
+        let statement = match spelled_behind(label, &self.tokens[label..]) {
             Ok(statement) => statement,
             Err(wrong) => return Err(self.refusal(wrong, label)),
         };
+        let first = self.is_first();
         let code = &self.code;
-        if let Some(objection) = objection(&code.insns, &self.maps, statement) {
+        if let Some(objection) = objection(first, &code.insns, &self.maps, statement) {
             return Err(self.refused_by(objection, label));
         }
         if label > 0 {
@@ -123,6 +127,12 @@ impl<'a> Draft<'a> {
     {
         match statement {
             Statement::Empty => {
+                self.tokens.clear();
+                self.spans.clear();
+                Ok(())
+            }
+            Statement::Version => {
+                self.version = Version::Two;
                 self.tokens.clear();
                 self.spans.clear();
                 Ok(())
@@ -180,6 +190,7 @@ impl<'a> Draft<'a> {
             (λ e. (e.kind ≡ AsmErrorKind.Memory)
             × (e.offset ≡ offset_or (slice_get (map place_of self.old.spans.items) 0) 0)) }
         ensures rest { (self.new.tokens.items ≡ self.old.tokens.items)
+            × (self.new.version ≡ self.old.version)
             × (self.new.spans.items ≡ self.old.spans.items) × (self.new.maps ≡ self.old.maps)
             × (self.new.code ≡ self.old.code) × (self.new.labels ≡ self.old.labels) }
         ensures noted { OnOk result
@@ -204,6 +215,16 @@ impl<'a> Draft<'a> {
                 offset,
             }),
         }
+    }
+
+    // Whether no statement was read that is not empty.
+    fn is_first(&self) -> bool
+        ensures { result ≡ is_first (progress_of self.now) }
+    {
+        self.labels.is_empty()
+            && matches!(self.version, Version::One)
+            && self.maps.is_empty()
+            && self.code.insns.is_empty()
     }
 
     // How many tokens the statement's label is.
@@ -274,7 +295,7 @@ impl<'a> Draft<'a> {
             *token = zeroed(*token);
         }
         match self.tokens.get(skipped..) {
-            Some(tokens) => statement_of(tokens).is_ok(),
+            Some(tokens) => fits_form(tokens),
             None => false,
         }
     }

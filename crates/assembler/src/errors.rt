@@ -29,6 +29,8 @@ pub enum AsmErrorKind {
     NotOneValue,
     /// An offset that is not below the size of the map's values.
     PastValue,
+    /// A version line that is not the first statement.
+    LateVersion,
     /// Out of memory.
     Memory,
     /// No instruction, or more than 4,096 slots.
@@ -49,6 +51,7 @@ impl AsmErrorKind {
             AsmErrorKind::TooFar => "A6",
             AsmErrorKind::MapLine | AsmErrorKind::NoMap => "A7",
             AsmErrorKind::NotOneValue | AsmErrorKind::PastValue => "A10",
+            AsmErrorKind::LateVersion => "A11",
             AsmErrorKind::Memory => "A8",
             AsmErrorKind::SlotCount => "A9",
         }
@@ -71,6 +74,7 @@ impl AsmErrorKind {
             AsmErrorKind::NoMap => "no map line has this index",
             AsmErrorKind::NotOneValue => "the map is not an array of one entry",
             AsmErrorKind::PastValue => "the offset is not below the size of the map's values",
+            AsmErrorKind::LateVersion => "the version line is not the first statement",
             AsmErrorKind::Memory => "out of memory",
             AsmErrorKind::SlotCount => "the text has no instruction, or more than 4096 slots",
         }

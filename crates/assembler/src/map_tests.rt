@@ -1,4 +1,4 @@
-//! Map lines and loads of maps that a program has no place for.
+//! Map lines, loads of maps and version lines that a program has no place for.
 
 ghost use Rattle.std.specs.Prelude.{◌≡◌, ◌+◌, ◌*◌, sum_by, nat_le};
 ghost use Rattle.image.specs.Images.{room_of};
@@ -106,12 +106,28 @@ fn objection_to_load(maps: &[MapDef], insn: Insn) -> Option<Objection>
 }
 
 /// What is wrong with the statement behind these instructions and map rows: a map line that they do
-/// not take, or the load of a map that they do not have.
-pub fn objection(insns: &[Insn], maps: &[MapDef], statement: Statement) -> Option<Objection>
-    ensures { result ≡ objection insns.now maps.now statement }
+/// not take, or the load of a map that they do not have; or a version line that is not the first
+/// statement.
+pub fn objection(
+    first: bool,
+    insns: &[Insn],
+    maps: &[MapDef],
+    statement: Statement,
+) -> Option<Objection>
+    ensures { result ≡ objection first insns.now maps.now statement }
 {
     match statement {
         Statement::Empty => None,
+        Statement::Version => {
+            if first {
+                None
+            } else {
+                Some(Objection {
+                    kind: AsmErrorKind::LateVersion,
+                    token: 0,
+                })
+            }
+        }
         Statement::Row(row) => {
             if takes_row(insns, maps, &row) {
                 None

@@ -15,6 +15,8 @@ pub struct Reading {
 #[derive(Clone, Copy)]
 pub enum Statement {
     Empty,
+    /// `version 2`.
+    Version,
     /// A map line.
     Row(MapDef),
     Instruction(Reading),

@@ -5,6 +5,8 @@ ghost use Rattle.assembler.specs.Statements.{stored_token, stored, locked, jump,
 ghost use Rattle.assembler.specs.Statements.{is_goto, goto_at, condition, tested, called_word};
 ghost use Rattle.assembler.specs.Statements.{called, by_word, by_token, statement_of};
 ghost use Rattle.assembler.specs.Labelled.{begins_map_line, spelled};
+ghost use Rattle.assembler.specs.Labelled.{begins_version_line, version_number, version_line};
+ghost use Rattle.assembler.specs.Labelled.{fits_form, spelled_behind};
 
 use super::assignments::{assigned, plain};
 use super::map_lines::map_line;
@@ -13,7 +15,8 @@ use super::operands::{
     signed_imm,
 };
 use super::parts::{
-    as_size, atomic_op_of, comparison_of, expect_at, sign_at, token_at, width_of, word_at,
+    as_size, atomic_op_of, comparison_of, expect_at, number_at, sign_at, token_at, width_of,
+    word_at,
 };
 use super::readings::{Reading, Statement};
 use super::wrong::Wrong;
@@ -202,6 +205,63 @@ fn begins_map_line(token: Option<Token>) -> bool
     match token {
         Some(Token::Named(Word::Map)) => true,
         _ => false,
+    }
+}
+
+// Whether a version line begins with that token.
+fn begins_version_line(token: Option<Token>) -> bool
+    ensures { result ≡ begins_version_line token }
+{
+    match token {
+        Some(Token::Named(Word::Version)) => true,
+        _ => false,
+    }
+}
+
+// The number of a version line.
+fn version_number(tokens: &[Token]) -> Result<u128, Wrong>
+    ensures { result ≡ version_number tokens.now }
+{
+    let number = number_at(tokens, 1)?;
+    if tokens.len() == 2 {
+        Ok(number)
+    } else {
+        Err(Wrong::Form)
+    }
+}
+
+// `version 2`.
+fn version_line(tokens: &[Token]) -> Result<Statement, Wrong>
+    ensures { result ≡ version_line tokens.now }
+{
+    if version_number(tokens)? == 2 {
+        Ok(Statement::Version)
+    } else {
+        Err(Wrong::Range(1))
+    }
+}
+
+/// Whether a form fits the tokens of a statement without a label: a version line, whatever its
+/// number is, or an instruction.
+pub fn fits_form(tokens: &[Token]) -> bool
+    ensures { result ≡ fits_form tokens.now }
+{
+    (begins_version_line(tokens.get(0).copied()) && version_number(tokens).is_ok())
+        || statement_of(tokens).is_ok()
+}
+
+/// What the tokens of a statement spell, behind a label of that many.
+pub fn spelled_behind(label: usize, tokens: &[Token]) -> Result<Statement, Wrong>
+    ensures { result ≡ spelled_behind label tokens.now }
+{
+    if begins_version_line(tokens.get(0).copied()) {
+        if label == 0 {
+            version_line(tokens)
+        } else {
+            Err(Wrong::Form)
+        }
+    } else {
+        spelled(tokens)
     }
 }
 

@@ -1,11 +1,12 @@
 //! The text of an image.
 
-ghost use Rattle.std.specs.Prelude.{OnOk, OnErr};
+ghost use Rattle.std.specs.Prelude.{◌≡◌, OnOk, OnErr};
 ghost use Rattle.std.specs.List.{flat_map};
 ghost use Rattle.std.specs.Io.KnownBytes.{Appends};
-ghost use Rattle.isa_model.specs.Text.CanonicalText.{line_of, row_line, rows_text, canonical_text};
+ghost use Rattle.isa_model.specs.Text.CanonicalText.{line_of, row_line, rows_text, version_line};
+ghost use Rattle.isa_model.specs.Text.CanonicalText.{canonical_text};
 ghost use Rattle.exact_io.specs.Transfers.{AppendsBeginning};
-ghost use Rattle.disassembler.specs.SlotText.{slot_text};
+ghost use Rattle.disassembler.specs.SlotText.{slot_text, program_text};
 
 use super::lines::{line_of, line_of_row};
 use exact_io::write_bytes;
@@ -63,6 +64,40 @@ fn write_code<W: Write>(out: &mut W, slots: &[Option<Insn>]) -> io::Result<()>
     Ok(())
 }
 
+// The line of the image's version; the first one has none.
+fn line_of_version(image: &Image) -> &'static str
+    ensures { result.now ≡ version_line image.now.version }
+{
+    if image.version() == 2 {
+        "version 2\n"
+    } else {
+        ""
+    }
+}
+
+// Writes it.
+fn write_version<W: Write>(image: &Image, out: &mut W) -> io::Result<()>
+    ensures ok { OnOk result
+        (Appends (W.contents out.old) (W.contents out.new) (version_line image.now.version)) }
+    ensures err { OnErr result
+        (AppendsBeginning (W.contents out.old) (W.contents out.new)
+        (version_line image.now.version)) }
+{
+    write_bytes(out, line_of_version(image).as_bytes())
+}
+
+// Writes the lines behind it.
+fn write_program<W: Write>(image: &Image, out: &mut W) -> io::Result<()>
+    ensures ok { OnOk result
+        (Appends (W.contents out.old) (W.contents out.new) (program_text image.now)) }
+    ensures err { OnErr result
+        (AppendsBeginning (W.contents out.old) (W.contents out.new) (program_text image.now)) }
+{
+    write_rows(out, image.maps())?;
+    write_code(out, image.code())?;
+    Ok(())
+}
+
 /// Writes the canonical text of the image's program.
 ///
 /// The writer's first error, of any kind, is the failure and is handed on; a write of no byte is
@@ -74,7 +109,7 @@ pub fn disassemble<W: Write>(image: &Image, out: &mut W) -> io::Result<()>
     ensures err { OnErr result
         (AppendsBeginning (W.contents out.old) (W.contents out.new) (canonical_text image.now)) }
 {
-    write_rows(out, image.maps())?;
-    write_code(out, image.code())?;
+    write_version(image, out)?;
+    write_program(image, out)?;
     Ok(())
 }

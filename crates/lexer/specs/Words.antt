@@ -35,6 +35,7 @@ map_word cs =
     else if bytes_eq cs (codes "array") then word.Kind Array
     else if bytes_eq cs (codes "map_by_idx") then word.MapByIndex
     else if bytes_eq cs (codes "map_val") then word.MapValue
+    else if bytes_eq cs (codes "version") then word.Version
     else word.Other
 
 abbrev pub atomic_word : List ℕ → Word

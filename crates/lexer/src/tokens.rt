@@ -38,6 +38,8 @@ pub enum Word {
     MapByIndex,
     /// `map_val`.
     MapValue,
+    /// `version`, which begins a version line.
+    Version,
     Other,
 }
 

@@ -54,6 +54,8 @@ fn map_word(word: &[u8]) -> Word
         Word::MapByIndex
     } else if is_text(word, "map_val") {
         Word::MapValue
+    } else if is_text(word, "version") {
+        Word::Version
     } else {
         Word::Other
     }

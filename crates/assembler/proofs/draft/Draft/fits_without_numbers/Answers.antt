@@ -1,4 +1,4 @@
-use Rattle.std.proofs.Common.{rules, ◌≡◌, ◌≤◌, ◌<◌, ◌∙◌, ap, length, map, drop, is_ok, slice_index_or, get_or}
+use Rattle.std.proofs.Common.{rules, ◌≡◌, ◌≤◌, ◌<◌, ◌∙◌, ap, length, map, drop, slice_index_or, get_or}
 use Rattle.std.proofs.lemmas.List.{get_or_default, drop-map}
 use Rattle.std.proofs.lemmas.List.Edits.{map_over_more}
 use Rattle.lexer.specs.declared.tokens.Token.{Token}
@@ -6,8 +6,7 @@ use Rattle.lexer.specs.declared.tokens.Token.TheVariants.{Named}
 use Rattle.lexer.specs.declared.tokens.Word.TheVariants as word
 use Rattle.isa_model.specs.declared.registers.Reg.TheVariants.{R0}
 use Rattle.isa_model.specs.declared.sizes.Width.TheVariants.{Low32}
-use Rattle.assembler.specs.Statements.{statement_of}
-use Rattle.assembler.specs.Labelled.{zeroed}
+use Rattle.assembler.specs.Labelled.{zeroed, fits_form}
 use Rattle.assembler.proofs.ZeroedTokens.{range-end, same-items, all-zeroed, has_form-none}
 use Rattle.assembler.proofs.draft.Draft.fits_without_numbers.Goals as goal
 
@@ -30,7 +29,7 @@ returns-in-Some c =
     let whole : c.deref.result.now ≡ map zeroed c.args.self.now.tokens.items = same ∙ c.loop-token.invariant ∙ all-zeroed c.args.self.now.tokens.items c.loop-token.token-index past in
     let behind : c.in-Some.tokens.now ≡ drop c.args.skipped c.deref.result.now = c.in-Some.ensures.lookup.0.2 ∙ range-end c.args.skipped c.deref.result.now in
     let rest : c.in-Some.tokens.now ≡ map zeroed (drop c.args.skipped c.args.self.now.tokens.items) = behind ∙ ap (λ ts. drop c.args.skipped ts) whole ∙ drop-map zeroed c.args.skipped c.args.self.now.tokens.items in
-    c.is_ok.ensures.value ∙ ap (λ r. is_ok r) (c.statement_of.ensures ∙ ap (λ ts. statement_of ts) rest)
+    c.fits_form.ensures ∙ ap (λ ts. fits_form ts) rest
 
 pub returns-in-None : goal.returns-in-None
 returns-in-None c =
