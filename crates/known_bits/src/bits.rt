@@ -13,6 +13,8 @@ pub struct Bits {
     pub value: u64,
     pub mask: u64,
     pub ghost apart: { bit_and value mask ≡ 0 },
+    // A law does not see that the mask is a number of 64 bits.
+    pub ghost fits: { mask < 2 ^ 64 },
 }
 
 impl Bits {

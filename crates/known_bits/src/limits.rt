@@ -1,14 +1,15 @@
 //! The least and the greatest of the numbers with known bits.
 
-ghost use Rattle.std.specs.Prelude.{◌≡◌, ℕ, ◌≤◌, ◌≤ℤ◌, ◌↔◌, Some, bit_or};
+ghost use Rattle.std.specs.Prelude.{◌≡◌, ℕ, ◌%◌, ◌^◌, ◌≤◌, ◌≤ℤ◌, ◌↔◌, Some, bit_or};
 ghost use Rattle.std.specs.Int.{w64, cast_signed, cast_unsigned};
 
 use crate::bits::Bits;
+use isa_model::numbers;
 
 const SIGN: u64 = 0x8000_0000_0000_0000;
 
 impl Bits {
-    ghost use Rattle.known_bits.specs.Bits.{Has, IsConstant};
+    ghost use Rattle.known_bits.specs.Bits.{Has, IsConstant, greatest_of};
 
     /// The number, where there is only one.
     pub fn number(self) -> Option<u64>
@@ -37,6 +38,14 @@ impl Bits {
         ensures bound { (x : ℕ) → Has self x → x ≤ result }
     {
         self.least() | self.mask
+    }
+
+    /// The greatest of the low halves of the numbers.
+    pub fn low_greatest(self) -> u32
+        ensures value { result ≡ greatest_of self % 2 ^ 32 }
+        ensures bound { (x : ℕ) → Has self x → x % 2 ^ 32 ≤ result }
+    {
+        numbers::low_word(self.greatest())
     }
 
     /// The least of the numbers, read as signed ones: an unknown sign bit is set.

@@ -1,5 +1,5 @@
 -- What an instruction makes of an abstract state, and why it is refused, exactly.
-use Rattle.std.specs.Prelude.{◌≡◌, ◌≢◌, ℕ, zero, suc, ◌+◌, ◌<◌, ◌≤◌, ◌==◌, ℤ, pos, Bool, true, false, List, length, Option, Some, None, Result, Ok, Err}
+use Rattle.std.specs.Prelude.{◌≡◌, ◌≢◌, ℕ, zero, suc, ◌+◌, ◌%◌, ◌^◌, ◌<◌, ◌≤◌, ◌==◌, nat_le, ℤ, pos, Bool, true, false, ◌||◌, if◌then◌else◌, List, length, Option, Some, None, Result, Ok, Err}
 use Rattle.isa_model.specs.declared.sizes.Width.{Width}
 use Rattle.isa_model.specs.declared.sizes.Width.TheVariants.{Full64}
 use Rattle.isa_model.specs.declared.sizes.Size.{Size}
@@ -12,11 +12,15 @@ use Rattle.isa_model.specs.declared.instructions.Place.{Place}
 use Rattle.isa_model.specs.declared.instructions.Insn.{Insn}
 use Rattle.isa_model.specs.declared.instructions.Insn.TheVariants.{Alu, Neg, MovSx, ByteSwap, LoadNumber, LoadMap, LoadMapValue, Load, LoadSx, StoreConstant, Store, Atomic, Exchange, CompareExchange, Jump, JumpLong, JumpIf, CallHelper, CallLocal, Exit}
 use Rattle.isa_model.specs.declared.map_defs.MapDef.{MapDef}
+use Rattle.isa_model.specs.declared.versions.Version.{Version}
+use Rattle.isa_model.specs.declared.versions.Version.TheVariants as version
 use Rattle.isa_model.specs.Code.Sizes.{width_size}
 use Rattle.isa_model.specs.Code.Numbers.{unsigned}
 use Rattle.isa_model.specs.Code.Instructions.{Program, slots_of, writes}
 use Rattle.isa_model.specs.Machine.Calls.{most_frames}
 use Rattle.isa_model.specs.Machine.Steps.{destination}
+use Rattle.known_bits.specs.Bits.{greatest_of}
+use Rattle.reg_state.specs.declared.scalars.Scalar.{Scalar}
 use Rattle.reg_state.specs.declared.kinds.Kind.{Kind}
 use Rattle.reg_state.specs.declared.kinds.Kind.TheVariants.{Number, Stack, Map, MapValue}
 use Rattle.reg_state.specs.Arithmetic.{IsNegated, IsReordered, IsSignExtended}
@@ -29,7 +33,7 @@ use Rattle.branch_refine.specs.Comparing.{compared_by, IsDefined}
 use Rattle.transfer.specs.declared.Ways.{Ways}
 use Rattle.transfer.specs.declared.Ways.TheVariants as ways
 use Rattle.transfer.specs.declared.refusals.Refusal.{Refusal}
-use Rattle.transfer.specs.declared.refusals.Refusal.TheVariants.{TooManyFrames, ExitValue}
+use Rattle.transfer.specs.declared.refusals.Refusal.TheVariants.{TooManyFrames, ExitValue, NoAction}
 use Rattle.transfer.specs.Refusing.{register_refusal, comparison_refusal}
 use Rattle.transfer.specs.Results.{OfNumber, Arithmetic}
 use Rattle.transfer.specs.Accesses.{Loads, LoadsSigned, Stores}
@@ -140,9 +144,17 @@ abbrev pub Calls : Program → State → ℤ → Result Ways Refusal → State �
 Calls p a by (Ok w) b = (depth a < most_frames) × (w ≡ ways.One) × (b ≡ entered a (destination p a.slot by))
 Calls p a by (Err e) b = (most_frames ≤ depth a) × (e ≡ TooManyFrames)
 
-abbrev pub answered : Kind → Result Ways Refusal
-answered (Number numbers) = Ok ways.None
-answered k = Err ExitValue
+-- known bits or limits show that the low half of each number is at most 4, which a program of version 2 must answer
+abbrev pub shows_action : Version → Scalar → Bool
+shows_action version.One numbers = true
+shows_action version.Two numbers =
+    nat_le (greatest_of numbers.bits % 2 ^ 32) 4
+    || (nat_le numbers.range.low.greatest 4 || nat_le numbers.range.wide.greatest 4)
+
+-- what the program answers: a number, and an action
+abbrev pub answered : Version → Kind → Result Ways Refusal
+answered v (Number numbers) = if shows_action v numbers then Ok ways.None else Err NoAction
+answered v k = Err ExitValue
 
 -- into the nth frame
 abbrev pub points_into : ℕ → Kind → Bool
@@ -154,13 +166,13 @@ abbrev pub Returns : State → Result Ways Refusal → State → Type 0
 Returns a (Ok w) b = (points_into (length a.callers.items) (kind_of a R0) ≡ false) × (w ≡ ways.One) × (b ≡ ended a)
 Returns a (Err e) b = (points_into (length a.callers.items) (kind_of a R0) ≡ true) × (e ≡ ExitValue)
 
-abbrev pub ExitsFrom : ℕ → State → Result Ways Refusal → State → Type 0
-ExitsFrom zero a result b = result ≡ answered (kind_of a R0)
-ExitsFrom (suc n) a result b = Returns a result b
+abbrev pub ExitsFrom : Version → ℕ → State → Result Ways Refusal → State → Type 0
+ExitsFrom v zero a result b = result ≡ answered v (kind_of a R0)
+ExitsFrom v (suc n) a result b = Returns a result b
 
--- the first frame, which has no callers, answers a number
-abbrev pub Exits : State → Result Ways Refusal → State → Type 0
-Exits a result b = ExitsFrom (length a.callers.items) a result b
+-- the first frame, which has no callers, answers
+abbrev pub Exits : Version → State → Result Ways Refusal → State → Type 0
+Exits v a result b = ExitsFrom v (length a.callers.items) a result b
 
 -- ---- instructions
 
@@ -177,7 +189,7 @@ Performs p a (Jump by) result b c = JumpsTo p a by result b
 Performs p a (JumpLong by) result b c = JumpsTo p a by result b
 Performs p a (JumpIf cond by) result b c = BranchesOr p a cond by result b c
 Performs p a (CallLocal by) result b c = Calls p a by result b
-Performs p a Exit result b c = Exits a result b
+Performs p a Exit result b c = Exits p.version a result b
 Performs p a (CallHelper number) result b c = GoesOn a (CallsHelper p.maps a number) result b
 Performs p a i result b c = SetsOr p.maps a i result b
 

@@ -22,6 +22,7 @@ use Rattle.isa_model.specs.declared.values.Value.{Value}
 use Rattle.isa_model.specs.declared.values.Value.TheVariants as value
 use Rattle.isa_model.specs.declared.ends.TrapReason.{TrapReason}
 use Rattle.isa_model.specs.declared.ends.TrapReason.TheVariants.{TooManyFrames}
+use Rattle.isa_model.specs.declared.versions.Version.{Version}
 use Rattle.isa_model.specs.Code.Registers.{reg_number}
 use Rattle.isa_model.specs.Code.Numbers.{alu, low, unsigned, atomic_alu, negated, sign_extended, reordered}
 use Rattle.isa_model.specs.Code.Spelling.{InsnFits, OperandFits}
@@ -33,7 +34,7 @@ use Rattle.isa_model.specs.Machine.States.{reg, set_reg}
 use Rattle.isa_model.specs.Machine.States as Machine
 use Rattle.isa_model.specs.Machine.Calls.{most_frames, enter, leave}
 use Rattle.isa_model.specs.Machine.Memory.{and_then, load, load_signed, store}
-use Rattle.isa_model.specs.Machine.Steps.{Next, Trapped, map_pointer, value_pointer, operand_value, base_of, destination, sets, goes_on, jumps, branches, test_of, calls, atomic_number, swaps_in, fetched_into, finishes, exits, act, is_unset, performed_at, step}
+use Rattle.isa_model.specs.Machine.Steps.{Next, Trapped, map_pointer, value_pointer, operand_value, base_of, destination, sets, goes_on, jumps, branches, test_of, calls, atomic_number, swaps_in, fetched_into, is_answer, finishes, exits, act, is_unset, performed_at, step}
 use Rattle.isa_model.specs.Running.Ends.{After, After-weaker}
 use Rattle.isa_model.specs.Machine.HelperCalls.{helper_call, after_call}
 use Rattle.isa_model.specs.Machine.MachineStates.{IsClock, IsProgram, IsState, IsValue}
@@ -51,7 +52,7 @@ use Rattle.stack_state.specs.Calls.{entered, with_new_frame, without_last, ended
 use Rattle.stack_state.specs.CallLaws.{MeansBy-enter}
 use Rattle.stack_state.specs.EndLaws.{MeansBy-ended}
 use Rattle.stack_state.specs.MeaningLaws.{reg_allowed, depth_is_length, MeansBy-go_to, MeansBy-set}
-use Rattle.branch_refine.specs.Refining.{IsNumber, IsJust, Keeps}
+use Rattle.branch_refine.specs.Refining.{IsJust, Keeps}
 use Rattle.branch_refine.specs.ComparingLaws.{test-defined}
 use Rattle.transfer.specs.declared.refusals.Refusal.{Refusal}
 use Rattle.transfer.specs.declared.refusals.Refusal.TheVariants.{UnsetRegister, ReadOnlyRegister}
@@ -60,6 +61,7 @@ use Rattle.transfer.specs.declared.Ways.TheVariants as ways
 use Rattle.transfer.specs.Leading.{InSome, LeadsTo}
 use Rattle.transfer.specs.Refusing.{reads_unset}
 use Rattle.transfer.specs.RegisterLaws.{neither, unset_in, none_unset, performed_acts}
+use Rattle.transfer.specs.AnswerLaws.{shows_action-answers, answered_number}
 use Rattle.transfer.specs.ResultLaws.{Yields, YieldsUnder, on_number_yields}
 use Rattle.transfer.specs.ArithmeticLaws.{arithmetic_yields}
 use Rattle.transfer.specs.StackAccessLaws.{GoesInto}
@@ -68,7 +70,7 @@ use Rattle.transfer.specs.AccessLaws.{load_yields, load_signed_yields, store_goe
 use Rattle.transfer.specs.AtomicLaws.{keep_old, swap_goes, compare_and_swap_goes}
 use Rattle.transfer.specs.HelperCalls.{CallsHelper}
 use Rattle.transfer.specs.HelperCallLaws.{helper_call_goes}
-use Rattle.transfer.specs.Exact.{IsOperand, Puts, Sets, GoesOn, StoresAt, SwapsAtPlace, ComparesAtPlace, Sides, Branches, JumpsTo, answered, Calls, ExitsFrom, Performs, Tested, Steps}
+use Rattle.transfer.specs.Exact.{IsOperand, Puts, Sets, GoesOn, StoresAt, SwapsAtPlace, ComparesAtPlace, Sides, Branches, JumpsTo, Calls, ExitsFrom, Performs, Tested, Steps}
 
 -- ---- operands
 
@@ -254,10 +256,6 @@ jumps_in p e a s by w b c is m h =
     one_means p e w b c (go_to a (destination p a.slot by)) (Machine.go_to s n) (cc h.0) h.1
     (subst (λ m. MeansBy p e (go_to a (destination p m by)) (Machine.go_to s n)) m.slot_is (MeansBy-go_to p e a s n is.slot m))
 
-number_there : (e : Assigned) (k : Kind) (v : Value) → IsNumber k → Allows e k v → (n : ℕ) × (v ≡ value.Num n)
-number_there e (kind.Number c) v h allowed = (allowed.0, allowed.1)
-number_there e k v h allowed = absurd h
-
 -- the side that the test goes to is one of the successors
 stay_means : (p : Program) (e : Assigned) (stays goes : Bool) (stay go : State) (w : Ways) (b c : State) (t : Machine.State)
     → Sides stays goes stay go w b c → stays ≡ true → MeansBy p e stay t → InSome p w b c t
@@ -303,28 +301,25 @@ calls_in p e a s by w b c is m h =
     rw free (one_means p f w b c (entered a (destination p a.slot by)) t h.1 h.2
     (subst (λ n. MeansBy p f (entered a (destination p n by)) t) m.slot_is (MeansBy-enter p e a s (destination p s.slot by) t_is m)))
 
-finishes_after : (P : Machine.State → Type 0) (v : Value) (n : ℕ) → v ≡ value.Num n → After P (finishes v)
-finishes_after P v n is = subst (λ v. After P (finishes v)) (sym is) tt
-
-answered_number : (k : Kind) (w : Ways) → Ok w ≡ answered k → IsNumber k
-answered_number (kind.Number numbers) w h = tt
-answered_number k w h = absurd (cc)
+-- a number that names an action ends the run
+finishes_after : (P : Machine.State → Type 0) (version : Version) (v : Value) (n : ℕ) → v ≡ value.Num n → is_answer version n ≡ true → After P (finishes version v)
+finishes_after P version v n is names = subst (λ v. After P (finishes version v)) (sym is) (rw names tt)
 
 exits_in : (p : Program) (e : Assigned) (a : State) (s : Machine.State) (w : Ways) (b c : State) (n : ℕ) → length a.callers.items ≡ n
-    → IfNext (exits s) (IsState p) → MeansBy p e a s → ExitsFrom n a (Ok w) b → After (InSome p w b c) (exits s)
+    → IfNext (exits p.version s) (IsState p) → MeansBy p e a s → ExitsFrom p.version n a (Ok w) b → After (InSome p w b c) (exits p.version s)
 exits_in p e a s w b c zero callers is m h =
-    let number = answered_number (kind_of a R0) w h in
-    let (x, at) = number_there e (kind_of a R0) (reg s R0) number (reg_allowed p e a s m R0) in
+    let (numbers, known, shown, none) = answered_number p.version (kind_of a R0) w h in
+    let (x, at, has) = subst (λ k. Allows e k (reg s R0)) known (reg_allowed p e a s m R0) in
     let count = depth_is_length p e a s m in
     let one : length s.frames ≡ 1 = omega arith in
     let first : (length s.frames == 1) ≡ true = grind (arith, nat_tests) in
-    rw first (finishes_after (InSome p w b c) (reg s R0) x at)
+    rw first (finishes_after (InSome p w b c) p.version (reg s R0) x at (shows_action-answers p.version numbers x has shown))
 exits_in p e a s w b c (suc n) callers is m h =
     let count = depth_is_length p e a s m in
     let more : length s.frames ≢ 1 = (λ one. absurd (omega arith)) in
     let inner : (length s.frames == 1) ≡ false = grind (arith, nat_tests) in
     let t : Machine.State = leave s in
-    let t_is : IsState p t = subst (λ x. IfNext (if x then finishes (reg s R0) else Next t) (IsState p)) inner is in
+    let t_is : IsState p t = subst (λ x. IfNext (if x then finishes p.version (reg s R0) else Next t) (IsState p)) inner is in
     rw inner (one_means p (without_last e) w b c (ended a) t h.1 h.2 (MeansBy-ended p e a s (omega arith) t_is m))
 
 -- ---- instructions

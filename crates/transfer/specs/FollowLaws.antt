@@ -9,8 +9,6 @@ use Rattle.isa_model.specs.Code.Sizes.{width_size}
 use Rattle.isa_model.specs.Code.Instructions.{Program, fetch, slots_of, writes, is_frame_pointer}
 use Rattle.isa_model.specs.Machine.Steps.{destination}
 use Rattle.isa_model.specs.Machine.Successors.{falls_through, jump_distance}
-use Rattle.reg_state.specs.declared.kinds.Kind.{Kind}
-use Rattle.reg_state.specs.declared.kinds.Kind.TheVariants as kind
 use Rattle.stack_state.specs.declared.states.State.{State}
 use Rattle.stack_state.specs.MeaningLaws.{returns-with}
 use Rattle.stack_state.specs.Places.{kind_of, with_register, go_to}
@@ -25,7 +23,8 @@ use Rattle.transfer.specs.Refusing.{reads_unset}
 use Rattle.transfer.specs.Following.{returns_of, GoesOnTo}
 use Rattle.transfer.specs.ReturnLaws.{returns-stores, returns-swaps, returns-compares, returns-refines, returns-calls_helper}
 use Rattle.transfer.specs.HelperCalls.{CallsHelper}
-use Rattle.transfer.specs.Exact.{Sets, GoesOn, Sides, Branches, Calls, answered, ExitsFrom, Performs, Steps}
+use Rattle.transfer.specs.Exact.{Sets, GoesOn, Sides, Branches, Calls, ExitsFrom, Performs, Steps}
+use Rattle.transfer.specs.AnswerLaws.{answered_number}
 use Rattle.transfer.specs.ExactLaws.{tested_rest}
 
 each_one : (w : Ways) (b c : State) (P : State → Type 0) → w ≡ ways.One → P b → EachWay w b c P
@@ -37,10 +36,6 @@ each_side true true stay go w b c P h x y = subst (λ v. EachWay v b c P) (sym h
 each_side true false stay go w b c P h x y = each_one w b c P h.0 (subst P (sym h.1) x)
 each_side false true stay go w b c P h x y = each_one w b c P h.0 (subst P (sym h.1) y)
 each_side false false stay go w b c P h x y = subst (λ v. EachWay v b c P) (sym h) tt
-
-answered_none : (k : Kind) (w : Ways) → Ok w ≡ answered k → w ≡ ways.None
-answered_none (kind.Number numbers) w h = cc
-answered_none k w h = absurd (cc)
 
 -- ---- within the function
 
@@ -94,8 +89,9 @@ calls_follow p a by w b c here h =
     })))
 
 exits_follow : (p : Program) (a : State) (w : Ways) (b c : State) (n : ℕ) → length a.callers.items ≡ n → fetch p a.slot ≡ Some Exit
-    → ExitsFrom n a (Ok w) b → EachWay w b c (GoesOnTo p a)
-exits_follow p a w b c zero callers here h = subst (λ v. EachWay v b c (GoesOnTo p a)) (sym (answered_none (kind_of a R0) w h)) tt
+    → ExitsFrom p.version n a (Ok w) b → EachWay w b c (GoesOnTo p a)
+exits_follow p a w b c zero callers here h =
+    subst (λ v. EachWay v b c (GoesOnTo p a)) (sym (answered_number p.version (kind_of a R0) w h).3) tt
 exits_follow p a w b c (suc n) callers here h =
     each_one w b c (GoesOnTo p a) h.1 (inr (inr (record {
       here = here;

@@ -17,6 +17,7 @@ pub mod ValueLaws
 pub mod AccessLaws
 pub mod AtomicLaws
 pub mod RegisterLaws
+pub mod AnswerLaws
 pub mod HelperCallLaws
 pub mod ExactLaws
 pub mod Following

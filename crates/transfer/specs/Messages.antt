@@ -1,7 +1,7 @@
 -- The code of each refusal, and the sentence that says what is wrong.
 use Rattle.std.specs.Prelude.{ℕ, List, codes}
 use Rattle.transfer.specs.declared.refusals.Refusal.{Refusal}
-use Rattle.transfer.specs.declared.refusals.Refusal.TheVariants.{UnsetRegister, ReadOnlyRegister, PointerOperand, PointerOffset, NotMemory, StackPlace, StackBytes, ContextAccess, PacketBytes, MapValueBytes, NullNotTested, PointerStored, Comparison, HelperArgument, HelperBytes, TooManyFrames, ExitValue, PacketAtomic}
+use Rattle.transfer.specs.declared.refusals.Refusal.TheVariants.{UnsetRegister, ReadOnlyRegister, PointerOperand, PointerOffset, NotMemory, StackPlace, StackBytes, ContextAccess, PacketBytes, MapValueBytes, NullNotTested, PointerStored, Comparison, HelperArgument, HelperBytes, TooManyFrames, ExitValue, PacketAtomic, NoAction}
 
 abbrev pub code_of : Refusal → List ℕ
 code_of UnsetRegister = codes "V1"
@@ -22,6 +22,7 @@ code_of HelperBytes = codes "V15"
 code_of TooManyFrames = codes "V16"
 code_of ExitValue = codes "V17"
 code_of PacketAtomic = codes "V20"
+code_of NoAction = codes "V21"
 
 abbrev pub sentence_of : Refusal → List ℕ
 sentence_of UnsetRegister = codes "a register is read that may be unset"
@@ -42,3 +43,4 @@ sentence_of HelperBytes = codes "the helper's key or value bytes are not all wri
 sentence_of TooManyFrames = codes "the call makes a ninth frame, and 8 may be live"
 sentence_of ExitValue = codes "r0 is no number at the last exit, or points into the frame that ends"
 sentence_of PacketAtomic = codes "the atomic instruction is on the context or the packet"
+sentence_of NoAction = codes "r0 is not proved to name an action at the last exit of a version 2 program"

@@ -4,20 +4,44 @@ ghost use Rattle.std.specs.Prelude.{◌≡◌, ◌+◌, ◌<◌, ◌^◌, length
 ghost use Rattle.stack_state.specs.Meaning.{depth};
 ghost use Rattle.stack_state.specs.Places.{kind_of};
 ghost use Rattle.isa_model.specs.Code.Instructions.{Program};
-ghost use Rattle.transfer.specs.Exact.{answered, points_into, Calls, Exits, Returns};
+ghost use Rattle.transfer.specs.Exact.{shows_action, answered, points_into, Calls, Exits, Returns};
 
 use crate::Ways;
 use crate::refusals::Refusal;
-use isa_model::{Reg, destination};
-use reg_state::Kind;
+use isa_model::{Reg, Version, destination};
+use reg_state::{Kind, Scalar};
 use stack_state::State;
 
-/// What the program answers.
-fn answered(kind: Kind) -> Result<Ways, Refusal>
-    ensures { result ≡ answered kind }
+// The greatest number that names an action.
+const MOST: u32 = 4;
+
+/// Whether known bits or limits show that the low half of each number names an action, where the
+/// version asks for that.
+fn shows_action(version: Version, numbers: Scalar) -> bool
+    ensures { result ≡ shows_action version numbers }
+{
+    match version {
+        Version::One => true,
+        Version::Two => {
+            numbers.bits.low_greatest() <= MOST
+                || numbers.range.low.greatest <= MOST
+                || numbers.range.wide.greatest <= u64::from(MOST)
+        }
+    }
+}
+
+/// What a program of that version answers.
+fn answered(version: Version, kind: Kind) -> Result<Ways, Refusal>
+    ensures { result ≡ answered version kind }
 {
     match kind {
-        Kind::Number(_) => Ok(Ways::None),
+        Kind::Number(numbers) => {
+            if shows_action(version, numbers) {
+                Ok(Ways::None)
+            } else {
+                Err(Refusal::NoAction)
+            }
+        }
         _ => Err(Refusal::ExitValue),
     }
 }
@@ -57,12 +81,12 @@ fn return_to_caller(state: &mut State) -> Result<Ways, Refusal>
     Ok(Ways::One)
 }
 
-/// An exit: the first frame answers a number, and every other one returns to its caller.
-pub fn exit(state: &mut State) -> Result<Ways, Refusal>
-    ensures { Exits state.old result state.new }
+/// An exit: the first frame answers, and every other one returns to its caller.
+pub fn exit(version: Version, state: &mut State) -> Result<Ways, Refusal>
+    ensures { Exits version state.old result state.new }
 {
     if state.callers.is_empty() {
-        return answered(state.kind_of(Reg::R0));
+        return answered(version, state.kind_of(Reg::R0));
     }
     let ways = return_to_caller(state)?;
     Ok(ways)

@@ -25,6 +25,7 @@ mod values;
 
 use crate::steps::{perform, reads_unset};
 use image::Image;
+use isa_model::Version;
 pub use refusals::Refusal;
 use stack_state::State;
 
@@ -87,6 +88,23 @@ pub fn step_in_place(image: &Image, state: &mut State, other: &mut State) -> Res
     if insn.writes_frame_pointer() {
         return Err(Refusal::ReadOnlyRegister);
     }
-    let ways = perform(insn, image.slots(), image.maps(), state, other)?;
+    let ways = perform(
+        insn,
+        image.slots(),
+        image.maps(),
+        version_of(image),
+        state,
+        other,
+    )?;
     Ok(ways)
+}
+
+// The version of an image's program.
+fn version_of(image: &Image) -> Version
+    ensures { result ≡ image.now.version }
+{
+    match image.version() {
+        1 => Version::One,
+        _ => Version::Two,
+    }
 }

@@ -49,6 +49,9 @@ pub enum Refusal {
     ExitValue,
     /// An atomic instruction on the context or the packet.
     PacketAtomic,
+    /// The last exit of a program of version 2 with a number in r0 that is not proved to name an
+    /// action.
+    NoAction,
 }
 
 impl Refusal {
@@ -75,6 +78,7 @@ impl Refusal {
             Refusal::TooManyFrames => "V16",
             Refusal::ExitValue => "V17",
             Refusal::PacketAtomic => "V20",
+            Refusal::NoAction => "V21",
         }
     }
 
@@ -108,6 +112,8 @@ impl Refusal {
             Refusal::ExitValue =>
                 "r0 is no number at the last exit, or points into the frame that ends",
             Refusal::PacketAtomic => "the atomic instruction is on the context or the packet",
+            Refusal::NoAction =>
+                "r0 is not proved to name an action at the last exit of a version 2 program",
         }
     }
 }

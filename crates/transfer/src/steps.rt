@@ -21,7 +21,7 @@ use crate::memory::{load, load_signed, store};
 use crate::refusals::Refusal;
 use crate::values::{map_pointer, value_pointer};
 use isa_model::numbers::unsigned;
-use isa_model::{Insn, MapDef, Operand, Place, Reg, Size, Width, destination};
+use isa_model::{Insn, MapDef, Operand, Place, Reg, Size, Version, Width, destination};
 use reg_state::Kind;
 use stack_state::State;
 
@@ -195,13 +195,14 @@ pub fn perform(
     insn: &Insn,
     slots: usize,
     maps: &[MapDef],
+    version: Version,
     state: &mut State,
     other: &mut State,
 ) -> Result<Ways, Refusal>
     requires writable { is_frame_pointer (writes insn.now) ≡ false }
     requires slot { state.old.slot + slots_of insn.now < 2 ^ 63 }
     requires named { NamesFit insn.now }
-    ensures { (p : Program) → length p.insns ≡ slots → p.maps ≡ maps.now
+    ensures { (p : Program) → length p.insns ≡ slots → p.maps ≡ maps.now → p.version ≡ version
         → Performs p state.old insn.now result state.new other.new }
 {
     match *insn {
@@ -234,7 +235,7 @@ pub fn perform(
         }
         Insn::JumpIf(cond, by) => jump_if(cond, i32::from(by), slots, state, other),
         Insn::CallLocal(by) => call(by, slots, state),
-        Insn::Exit => exit(state),
+        Insn::Exit => exit(version, state),
         Insn::CallHelper(number) => help(maps, number, state),
         Insn::Alu(..)
         | Insn::Neg(..)

@@ -13,7 +13,7 @@ returns-clause-leads c =
     let own : is_frame_pointer (writes c.in-Some.insn.now) ≡ false = sym c.writes_frame_pointer.ensures ∙ c.if-writes_frame_pointer.false in
     Steps-leads c.args.image.now c.args.state.now c.in-Some.insn.now c.in_ok-ways.ways c.perform.new.state c.perform.new.other
     (IsProgram-IsImage c.args.image.now c.slots.ensures.fits) (sym c.in-Some.ensures)
-    (rw (known, own) (c.in_ok-ways.ensures c.args.image.now (sym c.slots.ensures.count) (sym c.maps.ensures)))
+    (rw (known, own) (c.in_ok-ways.ensures c.args.image.now (sym c.slots.ensures.count) (sym c.maps.ensures) (sym c.version_of.ensures)))
 
 pub returns-clause-follows : goal.returns-clause-follows
 returns-clause-follows c =
@@ -21,7 +21,7 @@ returns-clause-follows c =
     let own : is_frame_pointer (writes c.in-Some.insn.now) ≡ false = sym c.writes_frame_pointer.ensures ∙ c.if-writes_frame_pointer.false in
     Steps-follows c.args.image.now c.args.state.now c.in-Some.insn.now c.in_ok-ways.ways c.perform.new.state c.perform.new.other
     (sym c.in-Some.ensures)
-    (rw (known, own) (c.in_ok-ways.ensures c.args.image.now (sym c.slots.ensures.count) (sym c.maps.ensures)))
+    (rw (known, own) (c.in_ok-ways.ensures c.args.image.now (sym c.slots.ensures.count) (sym c.maps.ensures) (sym c.version_of.ensures)))
 
 pub perform-requires-clause-named : goal.perform-requires-clause-named
 perform-requires-clause-named c =

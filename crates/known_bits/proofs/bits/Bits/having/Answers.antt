@@ -3,7 +3,7 @@ use Rattle.known_bits.proofs.Overlaps.{having_member, having_apart, member_havin
 use Rattle.known_bits.proofs.bits.Bits.having.Goals as goal
 
 pub invariant_of-result : goal.invariant_of-result
-invariant_of-result c = record { apart = having_apart (1 * 2 ^ c.args.place % 2 ^ 64) (omega arith) }
+invariant_of-result c = record { apart = having_apart (1 * 2 ^ c.args.place % 2 ^ 64) (omega arith); fits = omega arith }
 
 pub returns-clause-contains : goal.returns-clause-contains
 returns-clause-contains c = λ x x_in one. having_member x c.args.place c.requires x_in one

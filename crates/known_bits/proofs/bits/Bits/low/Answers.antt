@@ -1,5 +1,5 @@
 use Rattle.std.proofs.Common.{arith, ◌≡◌, ◌-◌, ◌^◌}
-use Rattle.std.proofs.lemmas.Nat.{and_mask}
+use Rattle.std.proofs.lemmas.Nat.{and_mask, and_le_l}
 use Rattle.known_bits.proofs.Members.{known}
 use Rattle.known_bits.proofs.Parts.{low_known, low_contains}
 use Rattle.known_bits.proofs.Order.{low_fits}
@@ -10,7 +10,7 @@ invariant_of-result c =
     let ka = known c.args.self (omega arith) (omega arith) in
     let k = c.args.count in
     let e : c.ones-ones.result ≡ 2 ^ k - 1 = omega arith in
-    record { apart = rw (e, and_mask c.args.self.value k, and_mask c.args.self.mask k) (low_known ka k).apart }
+    record { apart = rw (e, and_mask c.args.self.value k, and_mask c.args.self.mask k) (low_known ka k).apart; fits = let le = and_le_l c.args.self.mask c.ones-ones.result in omega arith }
 
 pub returns-clause-contains : goal.returns-clause-contains
 returns-clause-contains c =

@@ -13,7 +13,7 @@ pub invariant_of-result : goal.invariant_of-result
 invariant_of-result c =
     let ka = known c.args.self (omega arith) (omega arith) in
     let kb = known c.args.other (omega arith) (omega arith) in
-    record { apart = (meet_known ka kb).apart }
+    record { apart = (meet_known ka kb).apart; fits = (meet_known ka kb).mask_in }
 
 pub returns-clause-common : goal.returns-clause-common
 returns-clause-common c =

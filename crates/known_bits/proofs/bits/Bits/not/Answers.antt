@@ -6,7 +6,7 @@ use Rattle.known_bits.proofs.bits.Bits.not.Goals as goal
 pub invariant_of-result : goal.invariant_of-result
 invariant_of-result c =
     let k = known c.args.self (omega arith) (omega arith) in
-    record { apart = (not_known k).apart }
+    record { apart = (not_known k).apart; fits = (not_known k).mask_in }
 
 pub returns-clause-contains : goal.returns-clause-contains
 returns-clause-contains c =

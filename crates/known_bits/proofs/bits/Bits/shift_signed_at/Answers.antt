@@ -14,7 +14,7 @@ returns-then-other-ne0-clause-contains c = λ x y hx hy. (c.any.ensures _).1 (al
 pub invariant_of-result : goal.invariant_of-result
 invariant_of-result c =
     let k = known c.args.self (omega arith) (omega arith) in
-    record { apart = rw (c.compute.ensures, c.compute-2.ensures) ((copied_known (shift_copies c.args.width c.args.other.value) k).apart) }
+    record { apart = rw (c.compute.ensures, c.compute-2.ensures) ((copied_known (shift_copies c.args.width c.args.other.value) k).apart); fits = omega arith }
 
 pub returns-clause-contains : goal.returns-clause-contains
 returns-clause-contains c = λ x y hx hy.

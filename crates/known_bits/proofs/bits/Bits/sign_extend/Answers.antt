@@ -22,7 +22,7 @@ returns-clause-fits c = λ x h.
 pub invariant_of-result : goal.invariant_of-result
 invariant_of-result c =
     let ka = known c.args.a (omega arith) (omega arith) in
-    record { apart = rw (c.sign_extend.ensures, c.sign_extend-2.ensures) ((copied_known (extension_copies c.args.extension) ka).apart) }
+    record { apart = rw (c.sign_extend.ensures, c.sign_extend-2.ensures) ((copied_known (extension_copies c.args.extension) ka).apart); fits = omega arith }
 
 pub returns-clause-exact : goal.returns-clause-exact
 returns-clause-exact c = λ u h.

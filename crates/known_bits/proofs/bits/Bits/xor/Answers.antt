@@ -8,7 +8,7 @@ pub invariant_of-result : goal.invariant_of-result
 invariant_of-result c =
     let ka = known c.args.self (omega arith) (omega arith) in
     let kb = known c.args.other (omega arith) (omega arith) in
-    record { apart = (xor_known ka kb).apart }
+    record { apart = (xor_known ka kb).apart; fits = (xor_known ka kb).mask_in }
 
 pub returns-clause-contains : goal.returns-clause-contains
 returns-clause-contains c =

@@ -1,0 +1,8 @@
+use Rattle.std.proofs.Common.{arith}
+use Rattle.known_bits.specs.MemberLaws.{low-greatest}
+use Rattle.known_bits.proofs.bits.Bits.low_greatest.Goals as goal
+
+pub returns-clause-bound : goal.returns-clause-bound
+returns-clause-bound c = λ x h.
+    let low = low-greatest c.args.self x 32 (omega arith) h in
+    omega arith
