@@ -13,11 +13,15 @@ use Rattle.isa_model.specs.declared.helpers.Helper.{Helper}
 use Rattle.isa_model.specs.declared.helpers.Helper.TheVariants.{MapLookupElem, MapUpdateElem, MapDeleteElem}
 use Rattle.isa_model.specs.Code.Helpers.{helper_numbered}
 use Rattle.reg_state.specs.declared.kinds.Kind.{Kind}
-use Rattle.reg_state.specs.declared.kinds.Kind.TheVariants.{Stack, Map}
+use Rattle.reg_state.specs.declared.kinds.Kind.TheVariants.{Number, Stack, Map}
 use Rattle.stack_state.specs.declared.states.State.{State}
 use Rattle.stack_state.specs.Meaning.{slots_of}
 use Rattle.stack_state.specs.Places.{kind_of}
+use Rattle.transfer.specs.declared.refusals.Refusal.TheVariants.{NoAction}
+use Rattle.explorer.specs.declared.refusals.Refusal.{Refusal}
+use Rattle.explorer.specs.declared.refusals.Refusal.TheVariants.{Step}
 use Rattle.explorer.specs.declared.explanations.Jump.{Jump}
+use Rattle.explanations.specs.Numbers.{half_words}
 use Rattle.explanations.specs.Kinds.{kind_words}
 use Rattle.explanations.specs.Slots.{byte_at, byte_line, slot_line, first_open}
 
@@ -34,6 +38,19 @@ register_line a r =
 
 abbrev pub register_lines : State → Insn → List ℕ
 register_lines a i = flat_map (register_line a) (concerned i)
+
+-- ---- answers
+
+-- the low half of a number that has to name an action, and the cure
+abbrev pub half_line : Kind → List ℕ
+half_line (Number numbers) =
+    codes "low half of r0: " ++ (half_words numbers ++ codes "; actions are 0 to 4: mask it (r0 &= 3) or test it\n")
+half_line k = []
+
+-- of r0, where an exit is not shown to answer with an action
+abbrev pub answer_line : State → Refusal → List ℕ
+answer_line a (Step NoAction) = half_line (kind_of a R0)
+answer_line a e = []
 
 -- ---- stack slots
 

@@ -1,7 +1,8 @@
 -- What is known of a number, in words.
-use Rattle.std.specs.Prelude.{ℕ, ◌-◌, ◌^◌, ◌==◌, nat_le, Bool, ◌&&◌, ◌||◌, List, ◌++◌, pos, negsuc, int_lt, codes, decimal, if◌then◌else◌}
+use Rattle.std.specs.Prelude.{ℕ, ◌-◌, ◌%◌, ◌^◌, min, max, ◌==◌, nat_le, Bool, ◌&&◌, ◌||◌, List, ◌++◌, pos, negsuc, int_lt, codes, decimal, if◌then◌else◌}
 use Rattle.std.specs.Fmt.{signed_decimal}
 use Rattle.std.specs.Int.{w64, cast_signed}
+use Rattle.known_bits.specs.Bits.{greatest_of}
 use Rattle.ranges.specs.declared.wide.Wide.{Wide}
 use Rattle.reg_state.specs.declared.scalars.Scalar.{Scalar}
 
@@ -19,3 +20,17 @@ number_words numbers =
     codes "number " ++ (signed_decimal numbers.range.wide.signed_least ++ (codes " to " ++ signed_decimal numbers.range.wide.signed_greatest))
     else if numbers.range.wide.least == 0 && numbers.range.wide.greatest == 2 ^ 64 - 1 then codes "any number"
     else codes "number " ++ (decimal numbers.range.wide.least ++ (codes " to " ++ decimal numbers.range.wide.greatest))
+
+-- ---- low halves
+
+-- what bits and limits show of the low half
+abbrev pub low_least : Scalar → ℕ
+low_least numbers = max (numbers.bits.value % 2 ^ 32) numbers.range.low.least
+
+abbrev pub low_greatest : Scalar → ℕ
+low_greatest numbers = min (min (greatest_of numbers.bits % 2 ^ 32) numbers.range.low.greatest) numbers.range.wide.greatest
+
+abbrev pub half_words : Scalar → List ℕ
+half_words numbers =
+    if low_least numbers == low_greatest numbers then decimal (low_least numbers)
+    else decimal (low_least numbers) ++ (codes " to " ++ decimal (low_greatest numbers))

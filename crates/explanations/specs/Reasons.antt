@@ -6,11 +6,13 @@ use Rattle.isa_model.specs.Code.Instructions.{Program, fetch}
 use Rattle.explorer.specs.declared.refusals.Refusal.{Refusal}
 use Rattle.explorer.specs.declared.explanations.Explanation.{Explanation}
 use Rattle.explorer.specs.Explained.{Explains}
-use Rattle.explanations.specs.Lines.{register_lines, stack_lines, way_line}
+use Rattle.explanations.specs.Lines.{register_lines, answer_line, stack_lines, way_line}
 
--- the registers and stack slots that concern the instruction, in the state in which it is refused, and the last jumps
-abbrev pub lines_of : List MapDef → Insn → Explanation → List ℕ
-lines_of rows i x = register_lines x.state i ++ (stack_lines rows x.state i ++ way_line x.way.items)
+-- the registers, an answer's low half and the stack slots that concern the instruction, in the state in which it is refused
+-- so, and the last jumps
+abbrev pub lines_of : List MapDef → Insn → Refusal → Explanation → List ℕ
+lines_of rows i e x =
+    register_lines x.state i ++ (answer_line x.state e ++ (stack_lines rows x.state i ++ way_line x.way.items))
 
 -- the lines of a state in which the program is refused so, at the slot
 pub record IsReason (p : Program) (e : Refusal) (slot : ℕ) (text : List ℕ) : Type 0 where
@@ -18,4 +20,4 @@ pub record IsReason (p : Program) (e : Refusal) (slot : ℕ) (text : List ℕ) :
   pub explains : Explains p e slot found
   pub insn : Insn
   pub here : fetch p slot ≡ Some insn
-  pub text_is : text ≡ lines_of p.maps insn found
+  pub text_is : text ≡ lines_of p.maps insn e found

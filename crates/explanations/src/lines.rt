@@ -1,4 +1,4 @@
-//! What of a state concerns an instruction, a line each, and the way.
+//! What of a state concerns an instruction or its refusal, a line each, and the way.
 
 ghost use Rattle.std.specs.Prelude.{◌≡◌, ◌++◌, IfOk, MatchOption, None, Some, option_to_list};
 ghost use Rattle.std.specs.List.{flat_map};
@@ -10,12 +10,14 @@ ghost use Rattle.explanations.specs.Lines.{concerned, register_lines, called_row
 ghost use Rattle.explanations.specs.Lines.{more_jumps};
 
 use crate::kinds::kind_words;
+use crate::numbers::half_words;
 use crate::slots::{byte_at, first_open, slot_line};
-use explorer::Jump;
+use explorer::{Jump, Refusal};
 use isa_model::{Helper, Insn, MapDef, Place, Reg};
 use reg_state::Kind;
 use stack_state::State;
 use std::alloc::{AllocError, Global};
+use transfer::Refusal as StepRefusal;
 
 // ---- registers
 
@@ -58,6 +60,22 @@ pub fn register_lines(alloc: Global, state: &State, insn: &Insn) -> Result<Strin
     let third = register_line(alloc, state, third)?;
     let fourth = register_line(alloc, state, fourth)?;
     format!(in alloc; "{first}{second}{third}{fourth}")
+}
+
+// ---- answers
+
+/// The line of the low half of r0, where an exit is not shown to answer with an action.
+pub fn answer_line(alloc: Global, state: &State, refusal: Refusal) -> Result<String, AllocError>
+    ensures { IfOk result (λ text. string_bytes text ≡ spec.answer_line state.now refusal) }
+{
+    let Refusal::Step(StepRefusal::NoAction) = refusal else {
+        return Ok(String::new(alloc));
+    };
+    let Kind::Number(numbers) = state.kind_of(Reg::R0) else {
+        return Ok(String::new(alloc));
+    };
+    let words = half_words(alloc, numbers)?;
+    format!(in alloc; "low half of r0: {words}; actions are 0 to 4: mask it (r0 &= 3) or test it\n")
 }
 
 // ---- stack slots

@@ -3,7 +3,9 @@
 ghost use Rattle.std.specs.Prelude.{◌≡◌, IfOk};
 ghost use Rattle.std.specs.String.{string_bytes};
 ghost use Rattle.explanations.specs.Numbers.{says_more, number_words};
+ghost use Rattle.explanations.specs.Numbers.{low_least, low_greatest, half_words};
 
+use isa_model::numbers::low_word;
 use ranges::Wide;
 use reg_state::Scalar;
 use std::alloc::{AllocError, Global};
@@ -36,4 +38,33 @@ pub fn number_words(alloc: Global, numbers: Scalar) -> Result<String, AllocError
         return String::from_str(alloc, "any number");
     }
     format!(in alloc; "number {least} to {greatest}")
+}
+
+// ---- low halves
+
+/// The least that bits and limits show of the low half.
+fn low_least(numbers: Scalar) -> u32
+    ensures { result ≡ low_least numbers }
+{
+    low_word(numbers.bits.value).max(numbers.range.low.least)
+}
+
+/// The greatest that bits and limits show of the low half.
+fn low_greatest(numbers: Scalar) -> u64
+    ensures { result ≡ low_greatest numbers }
+{
+    let half = numbers.bits.low_greatest().min(numbers.range.low.greatest);
+    u64::from(half).min(numbers.range.wide.greatest)
+}
+
+/// The low half, or its limits.
+pub fn half_words(alloc: Global, numbers: Scalar) -> Result<String, AllocError>
+    ensures { IfOk result (λ text. string_bytes text ≡ half_words numbers) }
+{
+    let least = low_least(numbers);
+    let greatest = low_greatest(numbers);
+    if u64::from(least) == greatest {
+        return format!(in alloc; "{least}");
+    }
+    format!(in alloc; "{least} to {greatest}")
 }

@@ -4,7 +4,7 @@ ghost use Rattle.std.specs.Prelude.{◌≡◌, IfOk, IfSome};
 ghost use Rattle.std.specs.String.{string_bytes};
 ghost use Rattle.explanations.specs.Reasons.{lines_of, IsReason};
 
-use crate::lines::{register_lines, stack_lines, way_line};
+use crate::lines::{answer_line, register_lines, stack_lines, way_line};
 use explorer::{Explanation, Refusal, explain};
 use image::Image;
 use isa_model::Insn;
@@ -15,23 +15,25 @@ fn lines_of(
     alloc: Global,
     image: &Image,
     insn: &Insn,
+    refusal: Refusal,
     found: &Explanation,
 ) -> Result<String, AllocError>
-    ensures { IfOk result (λ text. string_bytes text ≡ lines_of image.now.maps insn.now found.now) }
+    ensures { IfOk result (λ text. string_bytes text ≡ lines_of image.now.maps insn.now refusal found.now) }
 {
     let registers = register_lines(alloc, &found.state, insn)?;
+    let answer = answer_line(alloc, &found.state, refusal)?;
     let stack = stack_lines(alloc, image.maps(), &found.state, insn)?;
     let way = way_line(alloc, found.way.as_slice())?;
-    format!(in alloc; "{registers}{stack}{way}")
+    format!(in alloc; "{registers}{answer}{stack}{way}")
 }
 
 /// What is known where a program is refused so, at this slot: the registers and the stack slots
-/// that concern its instruction, and the last jumps on the way there. None: the refusal is one of
-/// control flow, or memory ran out.
+/// that concern its instruction, the low half of an answer that has to name an action, and the last
+/// jumps on the way there. None: the refusal is one of control flow, or memory ran out.
 pub fn reason(alloc: Global, image: &Image, refusal: Refusal, slot: usize) -> Option<String>
     ensures { IfSome result (λ text. IsReason image.now refusal slot (string_bytes text)) }
 {
     let found = explain(alloc, image, refusal, slot)?;
     let insn = image.at(slot)?;
-    lines_of(alloc, image, insn, &found).ok()
+    lines_of(alloc, image, insn, refusal, &found).ok()
 }

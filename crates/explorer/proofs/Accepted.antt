@@ -1,5 +1,5 @@
--- What a program must meet to be refused for memory alone.
-use Rattle.std.proofs.Common.{◌≡◌, ◌≤◌, ◌+◌, ◌∷◌, [], ℕ, zero, suc, Some, None, Option, Bool, true, false, List, arith, refl, sym, subst, inl, inr}
+-- What a program must meet to be refused for memory and for its steps alone.
+use Rattle.std.proofs.Common.{◌≡◌, ◌≤◌, ◌+◌, ◌∷◌, [], ℕ, zero, suc, Some, None, Option, Bool, true, false, List, arith, refl, sym, subst, inl, inr, ◌⊎◌}
 use Rattle.std.specs.Prelude.{◌≢◌, ◌↔◌, ℤ, if◌then◌else◌}
 use Rattle.std.specs.List.{list_any}
 use Rattle.std.specs.Option.{option_map, option_and_then}
@@ -118,14 +118,14 @@ pub Flow-out_of_memory : (p : Program) (e : FlowError) (slot : ℕ) → IsFlow p
 Flow-out_of_memory p error.Memory slot good h = tt
 Flow-out_of_memory p e slot good h = absurd (IsFlow-Fails p e slot good h.fails)
 
--- nothing but memory is left to refuse the program for
-pub IsRefused-want : (p : Program) (e : Refusal) (slot : ℕ) → IsFlow p → ((e : StepRefusal) (slot : ℕ) → IsStuck p e slot → ⊥)
-    → ((slot : ℕ) → ComesBack p slot → ⊥) → (StartTakes p 1000001 → ⊥) → IsRefused p e slot → IsOutOfMemory e
-IsRefused-want p (Flow e) slot good moves parts ends h = Flow-out_of_memory p e slot good h
-IsRefused-want p (Step e) slot good moves parts ends h = absurd (moves e slot h.1)
-IsRefused-want p Repeats slot good moves parts ends h = absurd (parts slot h.1)
-IsRefused-want p TooLong slot good moves parts ends h = absurd (ends h.1.1)
-IsRefused-want p Memory slot good moves parts ends h = tt
+-- nothing is left to refuse the program for but memory, and what its steps may be refused for
+pub IsRefused-want : (p : Program) (e : Refusal) (slot : ℕ) (Rest : Refusal → Type 0) → IsFlow p → ((e : StepRefusal) (slot : ℕ) → IsStuck p e slot → Rest (Step e))
+    → ((slot : ℕ) → ComesBack p slot → ⊥) → (StartTakes p 1000001 → ⊥) → IsRefused p e slot → IsOutOfMemory e ⊎ Rest e
+IsRefused-want p (Flow e) slot Rest good moves parts ends h = inl (Flow-out_of_memory p e slot good h)
+IsRefused-want p (Step e) slot Rest good moves parts ends h = inr (moves e slot h.1)
+IsRefused-want p Repeats slot Rest good moves parts ends h = absurd (parts slot h.1)
+IsRefused-want p TooLong slot Rest good moves parts ends h = absurd (ends h.1.1)
+IsRefused-want p Memory slot Rest good moves parts ends h = inl tt
 
 -- ---- the tests of registers
 

@@ -40,7 +40,8 @@ use Rattle.transfer.specs.Exact.{Sets, Sides, Branches, Performs, Makes, GoesOnW
 use Rattle.control_flow.specs.Liveness.{IsLive}
 use Rattle.explorer.proofs.Living.{live_before}
 use Rattle.explorer.proofs.Accepted.{Each-more, own_register}
-use Rattle.explorer.proofs.OnNumbers.{NumbersIn, Remains, Refines-remains, Makes-performs, exited_none, kind_of-go_to, kind_of-with_own, room-with, compared_operand, just_number}
+use Rattle.explorer.proofs.Exits.{exited_none}
+use Rattle.explorer.proofs.OnNumbers.{NumbersIn, Remains, Refines-remains, Makes-performs, kind_of-go_to, kind_of-with_own, room-with, compared_operand, just_number}
 use Rattle.explorer.proofs.StackSlots.{Holds, PutsSlot, store_puts}
 use Rattle.explorer.proofs.Beside.{Mirrored, IsNoPointer, Mirrors, first, Along, Reads, none_unset, determined_calls, read_numbers, just_below, computed}
 
@@ -365,7 +366,7 @@ performs_along p steps d k s t (Jump by) w a b along here form h = jump_along p 
 performs_along p steps d k s t (JumpLong by) w a b along here form h = jump_along p steps d k s t (JumpLong by) by w a along here refl refl refl (cc (h.0)) h.1
 performs_along p steps d k s t (JumpIf c by) w a b along here form h =
     branch_along p steps d k s t c by (JumpIf c by) w a b along here refl (refl, refl) refl refl (read_numbers p steps d k s t (JumpIf c by) along here) h
-performs_along p steps d k s t Exit w a b along here form h = subst (λ v. NextAlong p steps d k v a) (sym (exited_none (length s.callers.items) s a w along.mirrors.one h)) tt
+performs_along p steps d k s t Exit w a b along here form h = subst (λ v. NextAlong p steps d k v a) (sym (exited_none p.version (length s.callers.items) s a w along.mirrors.one h)) tt
 performs_along p steps d k s t (Store U64 place r) w a b along here form h = store_along p steps d k s t place r w a along form here h.0 h.1
 performs_along p steps d k s t (Store size place r) w a b along here form h = absurd form
 performs_along p steps d k s t (StoreConstant U64 place n) w a b along here form h = store_constant_along p steps d k s t place n h.0 w a along form here h.1 h.2.0 h.2.1

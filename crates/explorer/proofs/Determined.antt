@@ -1,6 +1,6 @@
 -- Determined programs are accepted, and their bound is the count of steps of their run.
-use Rattle.std.proofs.Common.{◌≡◌, ◌≤◌, ◌+◌, ◌<◌, ℕ, zero, suc, Some, None, Err, true, false, length, set, arith, refl, sym, ap, ◌∙◌, subst, inl}
-use Rattle.std.specs.Prelude.{◌==◌, List}
+use Rattle.std.proofs.Common.{◌≡◌, ◌≤◌, ◌+◌, ◌<◌, ℕ, zero, suc, Some, None, Err, Bool, true, false, length, set, arith, refl, sym, ap, ◌∙◌, subst, inl, inr}
+use Rattle.std.specs.Prelude.{◌==◌, List, if◌then◌else◌}
 use Rattle.std.proofs.lemmas.Bool.Decides.{nat_tests}
 use Rattle.isa_model.specs.declared.map_defs.MapDef.{MapDef}
 use Rattle.isa_model.specs.declared.sizes.Size.TheVariants.{U64}
@@ -12,12 +12,12 @@ use Rattle.isa_model.specs.declared.instructions.Insn.{Insn}
 use Rattle.isa_model.specs.declared.instructions.Insn.TheVariants.{Alu, Neg, MovSx, ByteSwap, LoadNumber, Load, StoreConstant, Store, CallLocal, Jump, JumpLong, JumpIf, Exit}
 use Rattle.isa_model.specs.declared.values.Value.{Value}
 use Rattle.isa_model.specs.declared.values.Value.TheVariants.{Unset, Num, Ptr}
-use Rattle.isa_model.specs.declared.ends.TrapReason.TheVariants.{NoResult}
+use Rattle.isa_model.specs.declared.ends.TrapReason.TheVariants.{NoResult, BadAction}
 use Rattle.isa_model.specs.Code.Numbers.{unsigned}
 use Rattle.isa_model.specs.Code.Instructions.{Program, fetch, reads}
 use Rattle.isa_model.specs.Machine.States as Machine
 use Rattle.isa_model.specs.Machine.States.{reg, set_reg, value_at, new_frame}
-use Rattle.isa_model.specs.Machine.Steps.{StepResult, Next, Finished, Trapped, finishes, exits, act, step}
+use Rattle.isa_model.specs.Machine.Steps.{StepResult, Next, Finished, Trapped, is_answer, finishes, exits, act, step}
 use Rattle.isa_model.specs.Machine.MachineStates.{IsProgram, IsClock}
 use Rattle.isa_model.specs.Running.Runs.{Runs}
 use Rattle.isa_model.specs.Running.RunLaws.{Runs-same}
@@ -31,7 +31,7 @@ use Rattle.stack_state.specs.declared.states.State.{State}
 use Rattle.stack_state.specs.Meaning.{depth, Means, Covers}
 use Rattle.stack_state.specs.Places.{kind_of}
 use Rattle.stack_state.specs.Starts.{start, Means-start}
-use Rattle.branch_refine.specs.Refining.{IsNumber}
+use Rattle.branch_refine.specs.Refining.{IsNumber, IsJust}
 use Rattle.transfer.specs.declared.Ways.{Ways}
 use Rattle.transfer.specs.declared.Ways.TheVariants as ways
 use Rattle.transfer.specs.declared.refusals.Refusal.{Refusal as StepRefusal}
@@ -50,7 +50,8 @@ use Rattle.control_flow.specs.Graph.{call_distance}
 use Rattle.explorer.proofs.Accepted.{IsFlow-whole, IsRefused-want, Each-more, sets_pass, number_set}
 use Rattle.explorer.proofs.Forgotten.{Means-forgets}
 use Rattle.explorer.proofs.Living.{needs_live}
-use Rattle.explorer.proofs.OnNumbers.{NumbersIn, Makes-performs, Refuses-performs, exited_none, just_number, performs_goes}
+use Rattle.explorer.proofs.Exits.{exited_none, constant_goes}
+use Rattle.explorer.proofs.OnNumbers.{NumbersIn, Makes-performs, Refuses-performs, just_number, form_goes}
 use Rattle.explorer.proofs.StackSlots.{Holds, load_goes, store_goes}
 use Rattle.explorer.proofs.Beside.{Mirrored, first, Along, Reads, read_numbers}
 use Rattle.explorer.proofs.Along.{run_acts, here_too, NextAlong, step_along}
@@ -105,26 +106,30 @@ steps_leads : (p : Program) (steps : ℕ) (d : IsDetermined p steps) (k : ℕ) (
     → Makes p s i w a b → LeadsTo p s w a b
 steps_leads p steps d k s t i w a b program along here makes = Steps-leads p s i w a b program here makes
 
--- an exit of the run finds a number in r0
-exit_number : (p : Program) (steps : ℕ) (d : IsDetermined p steps) (k : ℕ) (s : State) (t : Machine.State)
-    → Along p steps d k s t → fetch p t.slot ≡ Some Exit → IsNumber (kind_of s R0)
+-- an exit of the run finds a number in r0, which is known, and may be the answer
+exit_answer : (p : Program) (steps : ℕ) (d : IsDetermined p steps) (k : ℕ) (s : State) (t : Machine.State)
+    → Along p steps d k s t → fetch p t.slot ≡ Some Exit → (x : ℕ) × IsJust (kind_of s R0) x × (is_answer p.version x ≡ true)
 unfolding act
-exit_number p steps d k s t along here = of (reg t R0) refl (along.mirrors.regs R0 (λ e. absurd (cc e)) live) where
+exit_answer p steps d k s t along here = of (reg t R0) refl (along.mirrors.regs R0 (λ e. absurd (cc e)) live) where
   live : IsLive p R0 s.slot
   live = needs_live p s.slot Exit R0 (ap (fetch p) (sym along.mirrors.slot) ∙ here) tt (inl refl)
 
   one : (length t.frames == 1) ≡ true
   one = let same : length t.frames ≡ 1 = ap (λ fs. length fs) along.mirrors.stack.only in grind (arith, nat_tests, same)
 
-  gives : exits t ≡ finishes (reg t R0)
+  gives : exits p.version t ≡ finishes p.version (reg t R0)
   gives = rw one refl
 
-  stops : (v : Value) → reg t R0 ≡ v → step p d.run.clock t ≡ finishes v
-  stops v is = run_acts p steps d k s t Exit along here ∙ gives ∙ ap finishes is
+  stops : (v : Value) → reg t R0 ≡ v → step p d.run.clock t ≡ finishes p.version v
+  stops v is = run_acts p steps d k s t Exit along here ∙ gives ∙ ap (finishes p.version) is
 
-  of : (v : Value) → reg t R0 ≡ v → Mirrored v (kind_of s R0) → IsNumber (kind_of s R0)
+  named : (x : ℕ) (answers : Bool) → reg t R0 ≡ Num x → is_answer p.version x ≡ answers → is_answer p.version x ≡ true
+  named x true is says = says
+  named x false is says = absurd (no_trap p d.run.clock (first p steps d) steps d.run.number k t BadAction d.run.runs along.reached (stops (Num x) is ∙ ap (λ b. if b then Finished x else Trapped BadAction) says))
+
+  of : (v : Value) → reg t R0 ≡ v → Mirrored v (kind_of s R0) → (x : ℕ) × IsJust (kind_of s R0) x × (is_answer p.version x ≡ true)
   of Unset is mirrored = absurd (no_trap p d.run.clock (first p steps d) steps d.run.number k t NoResult d.run.runs along.reached (stops Unset is))
-  of (Num x) is mirrored = just_number (kind_of s R0) x mirrored
+  of (Num x) is mirrored = (x, mirrored, named x (is_answer p.version x) is refl)
   of (Ptr r z) is mirrored = absurd (no_trap p d.run.clock (first p steps d) steps d.run.number k t NoResult d.run.runs along.reached (stops (Ptr r z) is))
 
 -- a load finds the number that the run finds
@@ -155,15 +160,16 @@ goes_along_run p steps d k s t (StoreConstant U64 place n) e b c along here form
     refuses_store p.maps s h.2.0 place h.0 e form (just_number h.0 (unsigned Full64 n) h.1) h.2.1
 goes_along_run p steps d k s t (StoreConstant size place n) e b c along here form set h = form
 goes_along_run p steps d k s t Exit e b c along here form set h =
-    performs_goes p s Exit e b c tt (exit_number p steps d k s t along here, tt) along.mirrors.one h
-goes_along_run p steps d k s t (Alu v op x source) e b c along here form set h = performs_goes p s (Alu v op x source) e b c form set along.mirrors.one h
-goes_along_run p steps d k s t (Neg v x) e b c along here form set h = performs_goes p s (Neg v x) e b c form set along.mirrors.one h
-goes_along_run p steps d k s t (MovSx y x r) e b c along here form set h = performs_goes p s (MovSx y x r) e b c form set along.mirrors.one h
-goes_along_run p steps d k s t (ByteSwap order span x) e b c along here form set h = performs_goes p s (ByteSwap order span x) e b c form set along.mirrors.one h
-goes_along_run p steps d k s t (LoadNumber x n) e b c along here form set h = performs_goes p s (LoadNumber x n) e b c form set along.mirrors.one h
-goes_along_run p steps d k s t (Jump by) e b c along here form set h = performs_goes p s (Jump by) e b c form set along.mirrors.one h
-goes_along_run p steps d k s t (JumpLong by) e b c along here form set h = performs_goes p s (JumpLong by) e b c form set along.mirrors.one h
-goes_along_run p steps d k s t (JumpIf cond by) e b c along here form set h = performs_goes p s (JumpIf cond by) e b c form set along.mirrors.one h
+    let (x, just, answers) = exit_answer p steps d k s t along here in
+    constant_goes p.version (length s.callers.items) s b x e along.mirrors.one just answers h
+goes_along_run p steps d k s t (Alu v op x source) e b c along here form set h = form_goes p s (Alu v op x source) e b c form tt set h
+goes_along_run p steps d k s t (Neg v x) e b c along here form set h = form_goes p s (Neg v x) e b c form tt set h
+goes_along_run p steps d k s t (MovSx y x r) e b c along here form set h = form_goes p s (MovSx y x r) e b c form tt set h
+goes_along_run p steps d k s t (ByteSwap order span x) e b c along here form set h = form_goes p s (ByteSwap order span x) e b c form tt set h
+goes_along_run p steps d k s t (LoadNumber x n) e b c along here form set h = form_goes p s (LoadNumber x n) e b c form tt set h
+goes_along_run p steps d k s t (Jump by) e b c along here form set h = form_goes p s (Jump by) e b c form tt set h
+goes_along_run p steps d k s t (JumpLong by) e b c along here form set h = form_goes p s (JumpLong by) e b c form tt set h
+goes_along_run p steps d k s t (JumpIf cond by) e b c along here form set h = form_goes p s (JumpIf cond by) e b c form tt set h
 goes_along_run p steps d k s t i e b c along here form set h = absurd form
 
 -- a walk from the start goes along the run
@@ -189,7 +195,7 @@ same_slot p s v means = means.1.slot_is
 exit_nowhere : (p : Program) (s a b : State) (i : Insn) → depth s ≡ 1 → Makes p s i ways.One a b → i ≡ Exit → ⊥
 exit_nowhere p s a b i one makes is =
     let h = Makes-performs p s Exit ways.One a b (subst (λ x. Makes p s x ways.One a b) is makes) in
-    let none = exited_none (length s.callers.items) s a ways.One one h in
+    let none = exited_none p.version (length s.callers.items) s a ways.One one h in
     absurd (cc)
 
 -- each member of a state that goes on goes on into the next one
@@ -316,8 +322,9 @@ determined_no_call i form = refl
 pub IsDetermined-refused : (p : Program) (steps : ℕ) (e : Refusal) (slot : ℕ) → IsProgram p → IsRefused p e slot
     → IsDetermined p steps → IsOutOfMemory e
 IsDetermined-refused p steps e slot program refused d =
-    IsRefused-want p e slot (IsFlow-whole p d.whole (λ slot i here. determined_no_call i (d.forms slot i here))) (λ e slot h. never_stuck p steps d e slot h) (λ slot h. no_way_back p steps d slot program h)
-    (λ (s, begins, takes). let few = takes_along p steps d 0 s (first p steps d) 1000001 (first_along p steps d s begins) takes in let most = d.most in omega (arith, few, most)) refused
+    let rest = IsRefused-want p e slot (λ e. ⊥) (IsFlow-whole p d.whole (λ slot i here. determined_no_call i (d.forms slot i here))) (λ e slot h. never_stuck p steps d e slot h) (λ slot h. no_way_back p steps d slot program h)
+    (λ (s, begins, takes). let few = takes_along p steps d 0 s (first p steps d) 1000001 (first_along p steps d s begins) takes in let most = d.most in omega (arith, few, most)) refused in
+    elim rest [ inl memory ↦ memory | inr none ↦ absurd none ]
 
 pub IsDetermined-bound : (p : Program) (steps n : ℕ) → IsProgram p → HasNumber p start n → IsDetermined p steps
     → n ≡ steps

@@ -25,7 +25,8 @@ use Rattle.transfer.specs.FollowLaws.{Steps-follows}
 use Rattle.explorer.proofs.Accepted.{HasNoCalls}
 use Rattle.explorer.specs.Refused.{StartTakes}
 use Rattle.explorer.proofs.Forgotten.{Forgets-depth, GoesOnTo-forgets}
-use Rattle.explorer.proofs.OnNumbers.{Makes-performs, exits_not_two}
+use Rattle.explorer.proofs.Exits.{exits_not_two}
+use Rattle.explorer.proofs.OnNumbers.{Makes-performs}
 use Rattle.explorer.specs.Walks.{StepsTo, Leads, WalksTo, ComesBack, IsAmong}
 use Rattle.explorer.specs.Counts.{StepsInto, HasNumber, LeadsNowhere, LeadsToOne, LeadsToTwo, IsCoveredBy, Takes, Nothing, ItsOwn, OneMore, BothMore}
 use Rattle.isa_model.specs.MustAccept.Paths.{is_conditional, IsForward}
@@ -187,7 +188,7 @@ two_ways_jump p s a b i h = of i (Makes-performs p s i ways.Two a b h) where
   of (Jump by) h = absurd (cc (h.0))
   of (JumpLong by) h = absurd (cc (h.0))
   of (CallLocal by) h = absurd (cc (h.1))
-  of Exit h = absurd (exits_not_two (length s.callers.items) s a h)
+  of Exit h = absurd (exits_not_two p.version (length s.callers.items) s a h)
   of (StoreConstant size place k) h = absurd (cc (h.2.0))
   of (Store size place r) h = absurd (cc (h.0))
   of (Atomic w op fetched place r) h = absurd (cc (h.0))

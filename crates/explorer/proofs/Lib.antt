@@ -10,6 +10,7 @@ pub mod Trails
 pub mod Accepted
 pub mod Forgotten
 pub mod Living
+pub mod Exits
 pub mod OnNumbers
 pub mod Forward
 pub mod Plain

@@ -35,10 +35,11 @@ use Rattle.transfer.specs.declared.refusals.Refusal.{Refusal}
 use Rattle.transfer.specs.declared.refusals.Refusal.TheVariants.{UnsetRegister, ReadOnlyRegister}
 use Rattle.transfer.specs.Refusing.{register_refusal, reads_unset}
 use Rattle.transfer.specs.Results.{OfNumber, NumberAnd, Combined, Copied, Arithmetic}
-use Rattle.transfer.specs.Exact.{IsOperand, Puts, Sets, Sides, Branches, Performs, Tested, Makes, Refuses, answered, ExitsFrom}
+use Rattle.transfer.specs.Exact.{IsOperand, Puts, Sets, Sides, Branches, Performs, Tested, Makes, Refuses}
 use Rattle.transfer.specs.ExactLaws.{tested_rest}
 use Rattle.explorer.specs.Walks.{IsAmong}
 use Rattle.explorer.proofs.Accepted.{number_is}
+use Rattle.explorer.proofs.Exits.{exited_none, ShowsNoAction, exit_goes}
 
 -- ---- what a step makes
 
@@ -54,25 +55,11 @@ pub Makes-performs : (p : Program) (s : State) (i : Insn) (w : Ways) (a b : Stat
 Makes-performs p s i w a b h =
     (tested_rest (reads_unset s i) (is_frame_pointer (writes i)) UnsetRegister ReadOnlyRegister w (Performs p s i (Ok w) a b) h).2
 
-answered_none : (k : Kind) (w : Ways) → Ok w ≡ answered k → w ≡ ways.None
-answered_none (Number numbers) w h = cc
-answered_none k w h = absurd (cc)
-
--- the exit of the only frame, which has no callers, leads nowhere
-pub exited_none : (callers : ℕ) (s b : State) (w : Ways) → callers + 1 ≡ 1 → ExitsFrom callers s (Ok w) b → w ≡ ways.None
-exited_none zero s b w one h = answered_none (kind_of s R0) w h
-exited_none (suc n) s b w one h = absurd (omega (arith, one))
-
--- an exit leads to one state at most
-pub exits_not_two : (callers : ℕ) (s b : State) → ExitsFrom callers s (Ok ways.Two) b → ⊥
-exits_not_two zero s b h = let none : ways.Two ≡ ways.None = answered_none (kind_of s R0) ways.Two h in absurd (cc)
-exits_not_two (suc n) s b h = absurd (cc h.1)
-
 performs_made : (p : Program) (s : State) (i : Insn) (w : Ways) (a b : State) → IsPlainForm i → depth s ≡ 1 → Performs p s i (Ok w) a b → Made p s i w a b
 performs_made p s (Jump by) w a b plain one h = (cc h.0, h.1)
 performs_made p s (JumpLong by) w a b plain one h = (cc h.0, h.1)
 performs_made p s (JumpIf c by) w a b plain one h = h
-performs_made p s Exit w a b plain one h = exited_none (length s.callers.items) s a w one h
+performs_made p s Exit w a b plain one h = exited_none p.version (length s.callers.items) s a w one h
 performs_made p s (Alu v op d source) w a b plain one h = h
 performs_made p s (Neg v d) w a b plain one h = h
 performs_made p s (MovSx e d r) w a b plain one h = h
@@ -318,33 +305,37 @@ arithmetic_goes : (s : State) (w : Width) (op : AluOp) (d : Reg) (source : Opera
 arithmetic_goes s w Mov d source b e set operand h = copied_goes w b e (operand_number s w source b set operand) h
 arithmetic_goes s w op d source b e set operand h = combined_goes s op w (kind_of s d) b e set.0 (operand_number s w source b set.1 operand) h
 
--- the exit of the only frame with a number in r0 is not refused
-pub exit_goes : (callers : ℕ) (s b : State) (e : Refusal) → callers + 1 ≡ 1 → NumbersIn s R0 → ExitsFrom callers s (Err e) b → ⊥
-exit_goes zero s b e one number h =
-    let (x, is) = number_is (kind_of s R0) number in
-    let known : answered (kind_of s R0) ≡ Ok ways.None = rw is refl in
-    absurd (cc (h, known))
-exit_goes (suc n) s b e one number h = absurd (omega (arith, one))
+abbrev pub IsNoExit : Insn → Type 0
+IsNoExit Exit = ⊥
+IsNoExit i = Unit {0}
 
-pub performs_goes : (p : Program) (s : State) (i : Insn) (e : Refusal) (b c : State) → IsPlainForm i → Each (NumbersIn s) (needs i) → depth s ≡ 1 → Performs p s i (Err e) b c → ⊥
-performs_goes p s (Alu w op d source) e b c plain set one h = arithmetic_goes s w op d source h.0 e set h.1 h.2
-performs_goes p s (Neg w d) e b c plain set one h = of_number_goes _ (kind_of s d) e set.0 h
-performs_goes p s (MovSx x d r) e b c plain set one h = of_number_goes _ (kind_of s r) e set.0 h
-performs_goes p s (ByteSwap order span d) e b c plain set one h = of_number_goes _ (kind_of s d) e set.0 h
-performs_goes p s (LoadNumber d n) e b c plain set one h = absurd (cc (h.2))
-performs_goes p s (Jump by) e b c plain set one h = absurd (cc (h.0))
-performs_goes p s (JumpLong by) e b c plain set one h = absurd (cc (h.0))
-performs_goes p s (JumpIf cond by) e b c plain set one h =
+-- no other form is refused
+pub form_goes : (p : Program) (s : State) (i : Insn) (e : Refusal) (b c : State) → IsPlainForm i → IsNoExit i → Each (NumbersIn s) (needs i) → Performs p s i (Err e) b c → ⊥
+form_goes p s (Alu w op d source) e b c plain goes set h = arithmetic_goes s w op d source h.0 e set h.1 h.2
+form_goes p s (Neg w d) e b c plain goes set h = of_number_goes _ (kind_of s d) e set.0 h
+form_goes p s (MovSx x d r) e b c plain goes set h = of_number_goes _ (kind_of s r) e set.0 h
+form_goes p s (ByteSwap order span d) e b c plain goes set h = of_number_goes _ (kind_of s d) e set.0 h
+form_goes p s (LoadNumber d n) e b c plain goes set h = absurd (cc (h.2))
+form_goes p s (Jump by) e b c plain goes set h = absurd (cc (h.0))
+form_goes p s (JumpLong by) e b c plain goes set h = absurd (cc (h.0))
+form_goes p s (JumpIf cond by) e b c plain goes set h =
     let compared = are_compared s cond set in
     h.1 (defined_by s cond cond.operand compared.0 compared.1)
-performs_goes p s Exit e b c plain set one h = exit_goes (length s.callers.items) s b e one set.0 h
-performs_goes p s i e b c plain set one h = absurd plain
+form_goes p s Exit e b c plain goes set h = absurd goes
+form_goes p s i e b c plain goes set h = absurd plain
+
+pub performs_goes : (p : Program) (s : State) (i : Insn) (e : Refusal) (b c : State) → IsPlainForm i → Each (NumbersIn s) (needs i) → depth s ≡ 1 → Performs p s i (Err e) b c
+    → ShowsNoAction p.version e
+performs_goes p s Exit e b c plain set one h = exit_goes p.version (length s.callers.items) s b e one set.0 h
+performs_goes p s i e b c plain set one h = absurd (form_goes p s i e b c plain tt set h)
 
 -- where the tests of the registers pass, the form's own decides
 pub Refuses-performs : (p : Program) (s : State) (i : Insn) (e : Refusal) (P : Type 0) → register_refusal s i ≡ None → Refuses p s i e → ((b c : State) → Performs p s i (Err e) b c → P) → P
 Refuses-performs p s i e P pass h goes =
     goes h.0 h.1 (subst (λ o. Tested o (Err e) (Performs p s i (Err e) h.0 h.1)) pass h.2)
 
--- a form on numbers is not refused
-pub not_refused : (p : Program) (s : State) (i : Insn) (e : Refusal) → IsPlainForm i → Each (NumbersIn s) (needs i) → depth s ≡ 1 → register_refusal s i ≡ None → Refuses p s i e → ⊥
-not_refused p s i e plain set one pass h = Refuses-performs p s i e ⊥ pass h (λ b c performs. performs_goes p s i e b c plain set one performs)
+-- a form on numbers is refused for no other reason
+pub refused_unshown : (p : Program) (s : State) (i : Insn) (e : Refusal) → IsPlainForm i → Each (NumbersIn s) (needs i) → depth s ≡ 1 → register_refusal s i ≡ None → Refuses p s i e
+    → ShowsNoAction p.version e
+refused_unshown p s i e plain set one pass h =
+    Refuses-performs p s i e (ShowsNoAction p.version e) pass h (λ b c performs. performs_goes p s i e b c plain set one performs)

@@ -1,5 +1,5 @@
 -- Plain programs are accepted.
-use Rattle.std.proofs.Common.{◌≡◌, ◌≤◌, [], ℕ, zero, suc, Some, List, length, arith, refl, sym, subst, inl, inr, ◌⊎◌}
+use Rattle.std.proofs.Common.{◌≡◌, ◌≤◌, [], ℕ, zero, suc, Some, List, length, arith, refl, sym, ap, subst, inl, inr, ◌⊎◌}
 use Rattle.isa_model.specs.declared.registers.Reg.{Reg}
 use Rattle.isa_model.specs.declared.instructions.Insn.{Insn}
 use Rattle.isa_model.specs.Code.Instructions.{Program, fetch, writes}
@@ -10,17 +10,19 @@ use Rattle.stack_state.specs.declared.states.State.{State}
 use Rattle.stack_state.specs.Starts.{start}
 use Rattle.transfer.specs.declared.refusals.Refusal.{Refusal as StepRefusal}
 use Rattle.explorer.specs.declared.refusals.Refusal.{Refusal}
+use Rattle.explorer.specs.declared.refusals.Refusal.TheVariants.{Step}
 use Rattle.explorer.specs.Walks.{StepsTo, Leads, IsStuck}
 use Rattle.explorer.specs.Counts.{HasNumber}
 use Rattle.explorer.specs.Refused.{IsRefused}
-use Rattle.explorer.specs.Accepting.{IsOutOfMemory}
+use Rattle.explorer.specs.Accepting.{IsOutOfMemory, IsUnanswered}
 use Rattle.control_flow.specs.Liveness.{IsLive}
 use Rattle.explorer.specs.Forgetting.{Forgets}
 use Rattle.explorer.proofs.Forgotten.{Forgets-slot}
 use Rattle.explorer.proofs.Living.{plain_calls, needs_live, live_before, Knows-forgets, known_further}
 use Rattle.explorer.proofs.Forward.{Makes-follows, one_frame-start, HasNumber-forward, StartTakes-few, ComesBack-forward}
 use Rattle.explorer.proofs.Accepted.{HasNoCalls, no_call, IsFlow-whole, IsRefused-want, Each-all, Each-one, needs_reads, tests_pass}
-use Rattle.explorer.proofs.OnNumbers.{NumbersIn, Knows, Knows-makes, not_refused}
+use Rattle.explorer.proofs.Exits.{ShowsNoAction}
+use Rattle.explorer.proofs.OnNumbers.{NumbersIn, Knows, Knows-makes, refused_unshown}
 
 IsPlain-no_calls : (p : Program) → IsPlain p → HasNoCalls p
 IsPlain-no_calls p plain = λ slot i here. no_call i (plain.forms slot i here)
@@ -102,20 +104,21 @@ start_known p = record {
 
 -- ---- what is accepted
 
-never_stuck : (p : Program) (e : StepRefusal) (slot : ℕ) → IsPlain p → IsStuck p e slot → ⊥
-never_stuck p e slot plain h =
+stuck_unshown : (p : Program) (e : StepRefusal) (slot : ℕ) → IsPlain p → IsStuck p e slot → ShowsNoAction p.version e
+stuck_unshown p e slot plain h =
     let walk = h.walk in
     let known = walk_known p h.steps walk.first h.state plain walk.leads (known_forgets p start walk.first walk.begins (start_known p)) in
     let set = needed p h.state h.insn plain h.here known in
     let pass = tests_pass h.state h.insn (needs_reads (NumbersIn h.state) h.insn set) (plain.own h.state.slot h.insn h.here) in
-    not_refused p h.state h.insn e (plain.forms h.state.slot h.insn h.here) set known.knows.one pass h.refused
+    refused_unshown p h.state h.insn e (plain.forms h.state.slot h.insn h.here) set known.knows.one pass h.refused
 
 -- ---- the floor
 
-pub IsPlain-refused : (p : Program) (e : Refusal) (slot : ℕ) → IsRefused p e slot → IsPlain p → IsOutOfMemory e
+pub IsPlain-refused : (p : Program) (e : Refusal) (slot : ℕ) → IsRefused p e slot → IsPlain p → IsOutOfMemory e ⊎ IsUnanswered p e
 IsPlain-refused p e slot refused plain =
     let free = IsPlain-no_calls p plain in
-    IsRefused-want p e slot (IsFlow-whole p plain.whole free) (λ e slot h. never_stuck p e slot plain h)
+    IsRefused-want p e slot (IsUnanswered p) (IsFlow-whole p plain.whole free)
+    (λ e slot h. let unshown = stuck_unshown p e slot plain h in (unshown.0, ap Step unshown.1))
     (λ slot h. ComesBack-forward p slot free plain.forward h) (λ h. StartTakes-few p free plain.forward h) refused
 
 pub IsPlain-bound : (p : Program) (n : ℕ) → HasNumber p start n → IsPlain p → n ≤ length p.insns

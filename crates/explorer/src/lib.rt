@@ -23,6 +23,7 @@ mod trail;
 mod trees;
 pub mod verified;
 
+pub use bounds::Verified;
 pub use explanations::{Explanation, Jump, explain};
 pub use refusals::Refusal;
-pub use verified::{MAX_EXPLORED, Verified, verify};
+pub use verified::{MAX_EXPLORED, verify};

@@ -1,8 +1,8 @@
-//! Programs each of whose runs ends within a bound.
+//! The search for a bound on the steps of every run.
 
 ghost use Rattle.std.specs.Prelude.{◌≡◌, ◌≤◌, IfOk, IfErr};
 ghost use Rattle.isa_model.specs.Running.Outcomes.{StartsEnd};
-ghost use Rattle.explorer.specs.Bounds.{IsVerified};
+ghost use Rattle.bounds.specs.Bounds.{IsVerified};
 ghost use Rattle.explorer.specs.Refused.{IsRefused};
 ghost use Rattle.explorer.specs.Accepting.{AcceptsAll, BoundsAll};
 ghost use Rattle.explorer.specs.Counts.{HasNumber};
@@ -10,60 +10,13 @@ ghost use Rattle.stack_state.specs.Starts.{start};
 
 use crate::refusals::Refusal;
 use crate::search::Search;
+use bounds::Verified;
 use control_flow::Flow;
 use image::Image;
 use std::alloc::Global;
-use std::marker::Model;
 
 /// The most instructions that are explored.
 pub const MAX_EXPLORED: u32 = 1_000_000;
-
-/// A program each of whose runs meets no trap and exits within the bound, whatever packet, context,
-/// map contents and clock it is given.
-///
-/// Contracts see the program and the bound.
-#[derive(Drop)]
-pub struct Verified {
-    image: Image,
-    bound: u32,
-}
-
-impl Model for Verified {
-    ghost use Rattle.explorer.specs.Bounds.{Bounded, IsVerified};
-
-    ghost Value = { Bounded };
-
-    ghost view = { λ v. record { program = v.image; bound = v.bound } };
-
-    ghost invariant = { λ v. IsVerified (record { program = v.image; bound = v.bound }) };
-}
-
-impl Verified {
-    /// The most steps of a run.
-    pub fn bound(&self) -> u32
-        ensures bound { result ≡ self.now.bound }
-        ensures verified { IsVerified self.now }
-    {
-        self.bound
-    }
-
-    /// The program's image.
-    pub fn image(&self) -> &Image
-        ensures program { result.now ≡ self.now.program }
-        ensures verified { IsVerified self.now }
-    {
-        &self.image
-    }
-
-    /// Gives the image back.
-    pub fn into_image(self) -> Image
-        ensures program { result ≡ self.program }
-        ensures verified { IsVerified self }
-    {
-        let Verified { image, bound: _ } = self;
-        image
-    }
-}
 
 /// The bound of a program's runs.
 fn bound_of(alloc: Global, image: &Image) -> Result<u32, (Refusal, usize)>
@@ -97,7 +50,8 @@ pub fn verify(alloc: Global, image: Image) -> Result<Verified, (Refusal, usize)>
     ensures refused { IfErr result (λ r. IsRefused image r.0 r.1) }
     ensures number { IfOk result (λ verified. HasNumber image start verified.bound) }
 
-    // Programs of the forms that must be accepted are refused only when memory runs out, and have
+    // Programs of the forms that must be accepted are refused only when memory runs out, plain and
+    // guarded ones of version 2 also where an exit is not shown to answer with an action, and have
     // the bounds that are known of them.
     ensures accepts { IfErr result (λ r. AcceptsAll image r.0) }
     ensures bounds { IfOk result (λ verified. BoundsAll image verified.bound) }
@@ -105,5 +59,5 @@ pub fn verify(alloc: Global, image: Image) -> Result<Verified, (Refusal, usize)>
     // only for the proof: this call says that the program is an image's, which `verified` needs
     let _slots = image.slots();
     let bound = bound_of(alloc, &image)?;
-    Ok(Verified { image, bound })
+    Ok(Verified::from_within(image, bound))
 }

@@ -1,4 +1,11 @@
+use Rattle.std.proofs.Common.{◌≡◌, ℕ, rules}
 use Rattle.std.proofs.lemmas.Result.{err_from_is_err_and}
+use Rattle.isa_model.specs.Code.Instructions.{Program}
+use Rattle.image.specs.Images.{IsImage}
+use Rattle.bounds.specs.Bounds.{Bounded}
+use Rattle.stack_state.specs.Starts.{start}
+use Rattle.explorer.specs.Accepting.{BoundsAll}
+use Rattle.explorer.specs.Counts.{HasNumber}
 use Rattle.image.specs.Programs.{IsProgram-IsImage}
 use Rattle.explorer.proofs.Plain.{IsPlain-refused, IsPlain-bound}
 use Rattle.explorer.proofs.Determined.{IsDetermined-refused, IsDetermined-bound}
@@ -18,16 +25,16 @@ returns-in_err-bound-clause-accepts c =
       guarded = λ len h. IsGuarded-refused p len e.0 e.1 refused h;
     })
 
+-- the bounds of the forms that must be accepted, by the number that the search found
+bounds : (p : Program) (v : Bounded) (n : ℕ) → IsImage p → HasNumber p start n → v ≡ record { program = p; bound = n } → BoundsAll p v.bound
+bounds p v n image number e = rw e (record {
+  plain = λ h. IsPlain-bound p n number h;
+  determined = λ steps h. IsDetermined-bound p steps n (IsProgram-IsImage p image) number h;
+  guarded = λ len h. IsGuarded-bound p len n number h;
+})
+
 pub returns-clause-bounds : goal.returns-clause-bounds
-returns-clause-bounds c =
-    let p = c.args.image in
-    let n = c.in_ok-bound.bound in
-    let number = c.in_ok-bound.ensures.number in
-    record {
-      plain = λ h. IsPlain-bound p n number h;
-      determined = λ steps h. IsDetermined-bound p steps n (IsProgram-IsImage p c.slots-slots.ensures.fits) number h;
-      guarded = λ len h. IsGuarded-bound p len n number h;
-    }
+returns-clause-bounds c = search (rules, bounds)
 
 pub returns-clause-refused : goal.returns-clause-refused
 returns-clause-refused c = tt
