@@ -1,9 +1,10 @@
 -- What helpers answer, and what they make of the maps. bpf-helpers(7).
 use Rattle.std.specs.Prelude.{◌≡◌, ℕ, ◌<◌, List, length, slice_set, Option, Some, None}
 use Rattle.std.specs.FinMap.{get}
+use Rattle.isa_model.specs.declared.helpers.Helper.{Helper}
+use Rattle.isa_model.specs.declared.helpers.Helper.TheVariants.{MapLookupElem, MapUpdateElem, MapDeleteElem, KtimeGetNs}
 use Rattle.maps.specs.Maps.{MapState, map_at, Updated, Deleted}
 use Rattle.helpers.specs.declared.calls.Request.{Request}
-use Rattle.helpers.specs.declared.calls.Request.TheVariants.{Lookup, Update, Delete, Time}
 use Rattle.helpers.specs.declared.calls.Answer.{Answer}
 use Rattle.helpers.specs.declared.calls.Answer.TheVariants.{Number, Value}
 
@@ -14,11 +15,14 @@ pub record HasKey (maps : List MapState) (m : ℕ) (key : List ℕ) : Type 0 whe
   pub map : m < length maps
   pub key_size : length key ≡ (map_at maps m).row.key_size
 
+abbrev pub FitsAt : Helper → List MapState → (map : ℕ) → (key value : List ℕ) → Type 0
+FitsAt MapLookupElem maps m key value = HasKey maps m key
+FitsAt MapUpdateElem maps m key value = HasKey maps m key × (length value ≡ (map_at maps m).row.value_size)
+FitsAt MapDeleteElem maps m key value = HasKey maps m key
+FitsAt KtimeGetNs maps m key value = Unit {0}
+
 abbrev pub Fits : List MapState → Request → Type 0
-Fits maps (Lookup m key) = HasKey maps m key.now
-Fits maps (Update m key value flags) = HasKey maps m key.now × (length value.now ≡ (map_at maps m).row.value_size)
-Fits maps (Delete m key) = HasKey maps m key.now
-Fits maps Time = Unit {0}
+Fits maps request = FitsAt request.helper maps request.map request.key.now request.value.now
 
 -- ---- the answers
 
@@ -31,18 +35,28 @@ found None = Number 0
 abbrev pub ChangesOne : ℕ → List MapState → List MapState → Type 0
 ChangesOne m old new = new ≡ slice_set old m (map_at new m)
 
--- A look-up and the time leave the maps as they are. An update and a delete answer 0 or an error, and change their map
--- alone.
+-- An update and a delete answer 0 or an error.
+abbrev pub IsNumber : Answer → (ℕ → Type 0) → Type 0
+IsNumber (Number n) P = P n
+IsNumber (Value place) P = ⊥
+
+-- A look-up and the time leave the maps as they are. An update and a delete change their map alone.
+abbrev pub AnswersAt : (clock : ℕ → ℕ) → Helper → (map : ℕ) → (key value : List ℕ) → (flags : ℕ) → (old : List MapState) → Answer → (new : List MapState) → Type 0
+AnswersAt clock MapLookupElem m key value flags old answer new = (answer ≡ found (get (map_at old m).places key)) × (new ≡ old)
+AnswersAt clock MapUpdateElem m key value flags old answer new =
+    IsNumber answer (λ n. Updated key value flags n (map_at old m) (map_at new m)) × ChangesOne m old new
+AnswersAt clock MapDeleteElem m key value flags old answer new =
+    IsNumber answer (λ n. Deleted key n (map_at old m) (map_at new m)) × ChangesOne m old new
+AnswersAt clock KtimeGetNs m key value flags old answer new = (answer ≡ Number (clock 0)) × (new ≡ old)
+
 abbrev pub Answers : (clock : ℕ → ℕ) → Request → (old : List MapState) → Answer → (new : List MapState) → Type 0
-Answers clock (Lookup m key) old answer new = (answer ≡ found (get (map_at old m).places key.now)) × (new ≡ old)
-Answers clock (Update m key value flags) old (Number n) new =
-    Updated key.now value.now flags n (map_at old m) (map_at new m) × ChangesOne m old new
-Answers clock (Update m key value flags) old (Value place) new = ⊥
-Answers clock (Delete m key) old (Number n) new = Deleted key.now n (map_at old m) (map_at new m) × ChangesOne m old new
-Answers clock (Delete m key) old (Value place) new = ⊥
-Answers clock Time old answer new = (answer ≡ Number (clock 0)) × (new ≡ old)
+Answers clock request old answer new =
+    AnswersAt clock request.helper request.map request.key.now request.value.now request.flags old answer new
 
 -- how often the clock is asked
+abbrev pub asks : Helper → ℕ
+asks KtimeGetNs = 1
+asks helper = 0
+
 abbrev pub clock_calls : Request → ℕ
-clock_calls Time = 1
-clock_calls request = 0
+clock_calls request = asks request.helper

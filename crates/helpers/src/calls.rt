@@ -3,32 +3,18 @@
 ghost use Rattle.std.specs.Prelude.{◌≡◌, ◌+◌, ℕ};
 ghost use Rattle.helpers.specs.Calls.{Fits, Answers, clock_calls};
 
-use isa_model::Clock;
+use isa_model::{Clock, Helper};
 use maps::Maps;
 
 /// What a program asks of a helper. A map is named by its index, and a key and a value have the
-/// sizes of its row.
+/// sizes of its row. What the helper does not take is not looked at.
 #[derive(Clone, Copy)]
-pub enum Request<'a> {
-    /// map_lookup_elem.
-    Lookup {
-        map: usize,
-        key: &'a [u8],
-    },
-    /// map_update_elem.
-    Update {
-        map: usize,
-        key: &'a [u8],
-        value: &'a [u8],
-        flags: u64,
-    },
-    /// map_delete_elem.
-    Delete {
-        map: usize,
-        key: &'a [u8],
-    },
-    /// ktime_get_ns.
-    Time,
+pub struct Request<'a> {
+    pub helper: Helper,
+    pub map: usize,
+    pub key: &'a [u8],
+    pub value: &'a [u8],
+    pub flags: u64,
 }
 
 /// What a helper answers.
@@ -40,23 +26,26 @@ pub enum Answer {
 }
 
 /// Does what a helper is asked for. It takes no memory.
+#[inline(always)]
 pub fn call<C: Clock>(maps: &mut Maps, request: &Request<'_>, clock: &mut C) -> Answer
     requires { Fits maps.old request.now }
     ensures answer { Answers (C.at clock.old) request.now maps.old result maps.new }
     ensures clock { (k : ℕ) → C.at clock.new k ≡ C.at clock.old (clock_calls request.now + k) }
 {
-    match *request {
-        Request::Lookup { map, key } => match maps.find(map, key) {
+    let Request {
+        helper,
+        map,
+        key,
+        value,
+        flags,
+    } = *request;
+    match helper {
+        Helper::MapLookupElem => match maps.find(map, key) {
             Some(place) => Answer::Value(place),
             None => Answer::Number(0),
         },
-        Request::Update {
-            map,
-            key,
-            value,
-            flags,
-        } => Answer::Number(maps.update(map, key, value, flags)),
-        Request::Delete { map, key } => Answer::Number(maps.delete(map, key)),
-        Request::Time => Answer::Number(clock.now()),
+        Helper::MapUpdateElem => Answer::Number(maps.update(map, key, value, flags)),
+        Helper::MapDeleteElem => Answer::Number(maps.delete(map, key)),
+        Helper::KtimeGetNs => Answer::Number(clock.now()),
     }
 }

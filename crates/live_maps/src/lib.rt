@@ -2,6 +2,7 @@
 //! that removes it, and its serial is not given again in a run.
 #![tactic(auto)]
 
+mod asked;
 pub mod live;
 mod numbering;
 mod table;

@@ -15,6 +15,7 @@ ghost use Rattle.maps.specs.Maps.{rows_of, contents_of};
 ghost use Rattle.maps.specs.Maps.{map_at};
 ghost use Rattle.live_maps.specs.Live.{serials_at, place_if_new, content_at, value_bytes, with_value, with_bytes, without};
 
+use crate::asked;
 use crate::numbering::{number_all, renumber_all};
 use crate::table::Table;
 use crate::tables::{find_serial, give_serial, serial_at, tables_for, take_away};
@@ -39,9 +40,9 @@ pub struct LiveMaps {
 }
 
 impl Model for LiveMaps {
-    ghost use Rattle.std.specs.Prelude.{◌≤◌, length, All, IfSome, vec_capacity};
+    ghost use Rattle.std.specs.Prelude.{◌≡◌, ◌≤◌, length, All, IfSome, vec_capacity};
     ghost use Rattle.maps.specs.Maps.{rows_of};
-    ghost use Rattle.live_maps.specs.Live.{Live, live_contents, AreLive};
+    ghost use Rattle.live_maps.specs.Live.{Live, live_contents, AreLive, IsLeastRoom};
     ghost use Rattle.live_maps.specs.Numbering.{IsNumbered};
 
     ghost Value = { Live };
@@ -55,12 +56,15 @@ impl Model for LiveMaps {
     ghost invariant = { λ l. (length l.maps ≤ 65536)
         × (All (λ m. m.row.entries ≤ vec_capacity l.list) l.maps)
         × (AreLive l.next l.maps l.serials.items)
-        × (IfSome l.numbered (λ n. IsNumbered n l.maps l.serials.items)) };
+        × (IfSome l.numbered (λ n. IsNumbered n l.maps l.serials.items))
+        × (vec_capacity l.serials ≡ length l.maps)
+        × (IsLeastRoom (vec_capacity l.list) (rows_of l.maps)) };
 }
 
 // The most entries that a map has.
 fn most_entries(maps: &Maps) -> usize
-    ensures { All (λ m. m.row.entries ≤ result) maps.now }
+    ensures enough { All (λ m. m.row.entries ≤ result) maps.now }
+    ensures least { (n : ℕ) → All (λ m. m.row.entries ≤ n) maps.now → result ≤ n }
 {
     let mut most = 0;
     for m in 0..maps.count() {
@@ -148,15 +152,14 @@ impl LiveMaps {
     }
 
     /// The serial of a key's value, if it has one.
-    pub fn lookup(&self, map: usize, key: &[u8]) -> Option<u64>
-        requires { IsSomeAnd (slice_get self.now.rows map) (λ row. length key.now ≡ row.key_size) }
-        ensures { result
-            ≡ option_map (λ v. v.serial) (at_key key.now (content_at self.now map)) }
+    pub fn lookup(&mut self, map: usize, key: &[u8]) -> Option<u64>
+        requires { IsSomeAnd (slice_get self.old.rows map) (λ row. length key.now ≡ row.key_size) }
+        ensures serial { result
+            ≡ option_map (λ v. v.serial) (at_key key.now (content_at self.old map)) }
+        ensures same { self.new ≡ self.old }
     {
-        match self.maps.find(map, key) {
-            Some(place) => serial_at(&self.serials, map, place),
-            None => None,
-        }
+        let place = asked::find(&mut self.maps, map, key)?;
+        serial_at(&self.serials, map, place)
     }
 
     /// Writes the value of a key, or adds the key with the next serial. The answer is 0, or the
@@ -171,7 +174,7 @@ impl LiveMaps {
             then with_bytes self.old map key.now value.now else self.old) }
     {
         let found = self.maps.find(map, key);
-        let answer = self.maps.update(map, key, value, flags);
+        let answer = asked::update(&mut self.maps, map, key, value, flags);
         let _count = self.maps.count();
         if answer == 0 {
             if let Some(place) = new_place(&self.maps, map, key, found) {
@@ -193,7 +196,7 @@ impl LiveMaps {
             then without self.old map key.now else self.old) }
     {
         let found = self.maps.find(map, key);
-        let answer = self.maps.delete(map, key);
+        let answer = asked::delete(&mut self.maps, map, key);
         let _count = self.maps.count();
         if answer == 0 {
             if let Some(place) = found {

@@ -18,6 +18,7 @@ pub fn number_all(maps: &Maps, all: &mut Vec<Table>, list: &mut Vec<usize>) -> u
     ensures numbered { IsNumbered result maps.now all.new.items }
     ensures maps { All IsMap maps.now }
     ensures list { vec_capacity list.new ≡ vec_capacity list.old }
+    ensures room { vec_capacity all.new ≡ vec_capacity all.old }
 {
     let mut next = 0;
     for m in 0..maps.count() {
@@ -45,6 +46,7 @@ pub fn renumber_all(
     ensures numbered { IsNumbered result maps.now all.new.items }
     ensures maps { All IsMap maps.now }
     ensures list { vec_capacity list.new ≡ vec_capacity list.old }
+    ensures room { vec_capacity all.new ≡ vec_capacity all.old }
 {
     match numbered {
         Some(count) => {

@@ -1,11 +1,12 @@
 //! The serials of one map's values, by place.
 
 ghost use Rattle.std.specs.Prelude.{◌≡◌, ◌+◌, ◌<◌, ◌^◌, ℕ, length, All, IfOk, IfSome, Some, None};
-ghost use Rattle.std.specs.Prelude.{slice_set, vec_len};
+ghost use Rattle.std.specs.Prelude.{slice_set, vec_len, vec_capacity};
 ghost use Rattle.std.specs.List.{position};
 ghost use Rattle.live_maps.specs.Live.{serial_in, has_serial};
 ghost use Rattle.live_maps.specs.Numbering.{Numbers, AreDistinct};
 
+use map_indexes::rooms::exact;
 use std::alloc::{AllocError, Global};
 use std::marker::Model;
 
@@ -30,6 +31,7 @@ fn place_of(serials: &[Option<u64>], serial: u64) -> Option<usize>
 fn clear(serials: &mut Vec<Option<u64>>)
     ensures none { (p : ℕ) → serial_in serials.new.items p ≡ None }
     ensures len { vec_len serials.new ≡ vec_len serials.old }
+    ensures room { vec_capacity serials.new ≡ vec_capacity serials.old }
 {
     for place in 0..serials.len() {
         serials[place] = None;
@@ -48,11 +50,17 @@ pub struct Table {
 }
 
 impl Model for Table {
+    ghost use Rattle.std.specs.Prelude.{◌≡◌, length, vec_capacity};
     ghost use Rattle.live_maps.specs.Live.{Serials};
 
     ghost Value = { Serials };
 
     ghost view = { λ t. t.serials.items };
+
+    // there is a hint for each place, and room for no more
+    ghost invariant = { λ t. (vec_capacity t.serials ≡ length t.serials.items)
+        × (length t.hints.items ≡ length t.serials.items)
+        × (vec_capacity t.hints ≡ length t.serials.items) };
 }
 
 impl Table {
@@ -60,8 +68,10 @@ impl Table {
     pub fn new(alloc: Global, places: usize) -> Result<Self, AllocError>
         ensures { IfOk result (λ t. length t ≡ places) }
     {
-        let serials = vec![in alloc; None; places]?;
-        let hints = vec![in alloc; 0; places]?;
+        let none = vec![in alloc; None; places]?;
+        let zeros = vec![in alloc; 0; places]?;
+        let serials = exact(none)?;
+        let hints = exact(zeros)?;
         Ok(Table { serials, hints })
     }
 

@@ -1,6 +1,6 @@
 //! The serials of all maps' values, by map and place.
 
-ghost use Rattle.std.specs.Prelude.{◌≡◌, ◌<◌, ℕ, length, IfOk, Some, None, slice_set, vec_len};
+ghost use Rattle.std.specs.Prelude.{◌≡◌, ◌<◌, ℕ, length, IfOk, Some, None, slice_set, vec_len, vec_capacity};
 ghost use Rattle.std.specs.List.{position};
 ghost use Rattle.maps.specs.Maps.{map_at};
 ghost use Rattle.live_maps.specs.Live.{serial_in, serials_at, has_serial};
@@ -12,6 +12,7 @@ use std::alloc::{AllocError, Global};
 /// Room for the serials of all maps' places.
 pub fn tables_for(alloc: Global, maps: &Maps) -> Result<Vec<Table>, AllocError>
     ensures len { IfOk result (λ all. vec_len all ≡ length maps.now) }
+    ensures room { IfOk result (λ all. vec_capacity all ≡ length maps.now) }
     ensures rooms { IfOk result (λ all. (m : ℕ) → m < length maps.now
         → length (serials_at all.items m) ≡ (map_at maps.now m).row.entries) }
 {
@@ -49,8 +50,9 @@ pub fn find_serial(all: &Vec<Table>, index: usize, serial: u64) -> Option<usize>
 pub fn give_serial(all: &mut Vec<Table>, index: usize, place: usize, serial: u64)
     requires index { index < vec_len all.old }
     requires place { place < length (serials_at all.old.items index) }
-    ensures { all.new.items ≡ slice_set all.old.items index
+    ensures given { all.new.items ≡ slice_set all.old.items index
         (slice_set (serials_at all.old.items index) place (Some serial)) }
+    ensures room { vec_capacity all.new ≡ vec_capacity all.old }
 {
     all[index].give(place, serial);
 }
@@ -59,8 +61,9 @@ pub fn give_serial(all: &mut Vec<Table>, index: usize, place: usize, serial: u64
 pub fn take_away(all: &mut Vec<Table>, index: usize, place: usize)
     requires index { index < vec_len all.old }
     requires place { place < length (serials_at all.old.items index) }
-    ensures { all.new.items ≡ slice_set all.old.items index
+    ensures taken { all.new.items ≡ slice_set all.old.items index
         (slice_set (serials_at all.old.items index) place None) }
+    ensures room { vec_capacity all.new ≡ vec_capacity all.old }
 {
     all[index].take(place);
 }

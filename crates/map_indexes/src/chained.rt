@@ -21,7 +21,7 @@ fn all_places(alloc: Global, count: u32) -> Result<Vec<u32>, AllocError>
     ensures len { IfOk result (λ v. length v.items ≡ count) }
     ensures places { IfOk result (λ v. (i : ℕ) → i < count
         → slice_index_or v.items i 0 ≡ count - 1 - i) }
-    ensures capacity { IfOk result (λ v. count ≤ vec_capacity v) }
+    ensures capacity { IfOk result (λ v. vec_capacity v ≡ count) }
 {
     let mut places = Vec::with_capacity(alloc, count as usize)?;
     for i in 0..count {
@@ -41,9 +41,10 @@ pub struct ChainIndex {
         (λ k. spot (get chains.links k)) },
     ghost sized: { AreKeys keys.size keys.slots },
     ghost chained: { 0 < chains.count },
+    ghost spread: { length keys.slots ≤ chains.count },
     ghost linked: { slab_len chains.links + length free.items ≡ length keys.slots },
-    ghost links_room: { length keys.slots ≤ chains.links.capacity },
-    ghost free_room: { length keys.slots ≤ vec_capacity free },
+    ghost links_room: { chains.links.capacity ≡ length keys.slots },
+    ghost free_room: { vec_capacity free ≡ length keys.slots },
 }
 
 impl ChainIndex {

@@ -1,11 +1,12 @@
 //! Chains of links.
 
-ghost use Rattle.std.specs.Prelude.{◌≡◌, ◌≢◌, ◌+◌, ◌<◌, ◌≤◌, ℕ, length, None, Some, IfOk};
+ghost use Rattle.std.specs.Prelude.{◌≡◌, ◌≢◌, ◌+◌, ◌<◌, ℕ, length, None, Some, IfOk, vec_capacity};
 ghost use Rattle.slab.specs.Slab.{get, slab_len, ContainsKey, HasRoomFor};
 ghost use Rattle.map_indexes.specs.LastBelow.{last_below};
 ghost use Rattle.map_indexes.specs.declared.chains.Link.{Link};
 ghost use Rattle.map_indexes.specs.Chains.{in_chain, spot, IsChained, StandsBehind, heads_led, link_led};
 
+use crate::rooms::exact;
 use slab::Slab;
 use std::alloc::{AllocError, Global};
 
@@ -28,6 +29,7 @@ fn lead(
     requires chain { chain < length heads.old.items }
     requires from { (k : ℕ) → from ≡ Some k → ContainsKey links.old k }
     ensures heads { heads.new.items ≡ heads_led from chain to heads.old.items }
+    ensures heads_room { vec_capacity heads.new ≡ vec_capacity heads.old }
     ensures links { (j : ℕ) → get links.new j ≡ link_led from to j (get links.old j) }
     ensures len { slab_len links.new ≡ slab_len links.old }
     ensures capacity { links.new.capacity ≡ links.old.capacity }
@@ -45,19 +47,25 @@ pub struct Chains {
     heads: Vec<Option<usize>>,
     links: Slab<Link>,
     ghost counted: { length heads.items ≡ count },
+    ghost exact: { vec_capacity heads ≡ count },
     ghost chained: { IsChained heads.items links.capacity (get links) },
 }
 
 impl Chains {
-    /// Chains without links, and room for so many links.
+    /// Chains without links, and room for so many links and no more.
     pub fn new(alloc: Global, count: u32, room: u32) -> Result<Self, AllocError>
         ensures count { IfOk result (λ c. c.count ≡ count) }
         ensures empty { IfOk result (λ c. (k : ℕ) → get c.links k ≡ None) }
         ensures len { IfOk result (λ c. slab_len c.links ≡ 0) }
-        ensures room { IfOk result (λ c. room ≤ c.links.capacity) }
+        ensures room { IfOk result (λ c. c.links.capacity ≡ room) }
     {
-        let heads = vec![in alloc; None; count as usize]?;
+        let none = vec![in alloc; None; count as usize]?;
+        let heads = exact(none)?;
         let links = Slab::with_capacity(alloc, room as usize)?;
+        // a slab may have more room than was asked for
+        if links.capacity() != room as usize {
+            return Err(AllocError);
+        }
         Ok(Chains {
             count,
             heads,

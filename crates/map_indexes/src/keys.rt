@@ -1,13 +1,14 @@
 //! Keys of one size in a block, by place.
 
 ghost use Rattle.std.specs.Prelude.{◌≡◌, ◌+◌, ◌*◌, ◌≤◌, ◌<◌, length, Some, None, IfOk, replicate};
-ghost use Rattle.std.specs.Prelude.{slice_set, is_some, true, IsPermutation};
+ghost use Rattle.std.specs.Prelude.{slice_set, is_some, true, IsPermutation, vec_capacity};
 ghost use Rattle.std.specs.List.{splice};
 ghost use Rattle.std.specs.List.Sorted.{IsSortedByKey};
 ghost use Rattle.isa_model.specs.Machine.MapContents.{key_order};
 ghost use Rattle.map_indexes.specs.KeyOrder.{key_or_none};
 ghost use Rattle.map_indexes.specs.Slots.{KeyTable, slot, slots_of};
 
+use crate::rooms::exact;
 use std::alloc::{AllocError, Global};
 use std::marker::Model;
 
@@ -36,7 +37,10 @@ impl Model for Keys {
           k.used.items;
     } };
 
-    ghost invariant = { λ k. length k.block.items ≡ length k.used.items * k.size };
+    // the block has the bytes of all places, and both lists have room for no more
+    ghost invariant = { λ k. (length k.block.items ≡ length k.used.items * k.size)
+        × (vec_capacity k.block ≡ length k.block.items)
+        × (vec_capacity k.used ≡ length k.used.items) };
 }
 
 impl Keys {
@@ -47,8 +51,10 @@ impl Keys {
     {
         let size = usize::from(size);
         let places = places as usize;
-        let block = vec![in alloc; 0; places * size]?;
-        let used = vec![in alloc; false; places]?;
+        let zeros = vec![in alloc; 0; places * size]?;
+        let unused = vec![in alloc; false; places]?;
+        let block = exact(zeros)?;
+        let used = exact(unused)?;
         Ok(Keys { size, block, used })
     }
 

@@ -10,6 +10,7 @@ mod chains;
 mod hashing;
 pub mod index;
 pub mod keys;
+pub mod rooms;
 pub mod scan;
 
 pub use arrays::ArrayIndex;

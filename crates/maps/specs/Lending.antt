@@ -5,6 +5,7 @@ use Rattle.std.proofs.Math.Nat.{ℕ_set}
 use Rattle.std.specs.Coded.{Coded-set}
 use Rattle.isa_model.specs.declared.map_defs.MapKind.{MapKind}
 use Rattle.isa_model.specs.contracts.map_defs.MapKind.{the_row as the_kind}
+use Rattle.std.specs.Prelude.{vec_capacity}
 use Rattle.std.specs.Vec.{with_items}
 use Rattle.std.specs.Borrow.{MutBor, Fml, RattleType}
 use Rattle.maps.specs.LentBytes.{LendsBytes}
@@ -33,11 +34,13 @@ module _ {I : Type 0} {g : Ghosts I} (s : Store I g) where
         key_size = s.key_size;
         room = s.room;
         whole = whole_with bytes;
+        exact = s.exact;
       }
 
   -- whatever shows that they are the entries of a map
   pub with_values-same : (bytes : List ℕ) (kind : g.kind s.index ≡ s.row.kind) (key_size : g.key_size s.index ≡ s.row.key_size)
       (room : g.room s.index ≡ s.row.entries) (whole : length (with_items s.values bytes).items ≡ s.row.entries * s.row.value_size)
+      (exact : vec_capacity (with_items s.values bytes) ≡ s.row.entries * s.row.value_size)
       → ◌≡◌ {A = Store I g} (record {
         row = s.row;
         index = s.index;
@@ -46,8 +49,9 @@ module _ {I : Type 0} {g : Ghosts I} (s : Store I g) where
         key_size = key_size;
         room = room;
         whole = whole;
+        exact = exact;
       }) (with_values bytes)
-  with_values-same bytes kind key_size room whole =
+  with_values-same bytes kind key_size room whole exact =
       λ k. record {
         row = s.row;
         index = s.index;
@@ -56,6 +60,7 @@ module _ {I : Type 0} {g : Ghosts I} (s : Store I g) where
         key_size = ℕ_set _ _ key_size s.key_size k;
         room = ℕ_set _ _ room s.room k;
         whole = ℕ_set _ _ whole (whole_with bytes) k;
+        exact = ℕ_set _ _ exact s.exact k;
       }
 
   -- the entries with another value at a place

@@ -1,7 +1,7 @@
 //! All maps of an image.
 
 ghost use Rattle.std.specs.Prelude.{◌≡◌, ◌<◌, ◌≤◌, length, map, All, IfOk, slice_set, option_copied};
-ghost use Rattle.std.specs.Prelude.{◌+◌, vec_capacity};
+ghost use Rattle.std.specs.Prelude.{◌+◌, ℕ, vec_capacity};
 ghost use Rattle.std.specs.Borrow.{sem};
 ghost use Rattle.std.specs.FinMap as finmap;
 ghost use Rattle.std.specs.FinMap.{values};
@@ -25,7 +25,9 @@ use std::marker::Model;
 
 // The most entries that a hash map of these rows has.
 fn most_entries(rows: &[MapDef]) -> usize
-    ensures { All (λ row. row.kind ≡ Hash → row.entries ≤ result) rows.now }
+    ensures enough { All (λ row. row.kind ≡ Hash → row.entries ≤ result) rows.now }
+    ensures least { (n : ℕ) → All (λ row. row.kind ≡ Hash → row.entries ≤ n) rows.now
+        → result ≤ n }
 {
     let mut most = 0;
     for row in rows {

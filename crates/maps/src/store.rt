@@ -1,7 +1,7 @@
 //! The entries of one map.
 
 ghost use Rattle.std.specs.Prelude.{◌≡◌, ◌+◌, ◌*◌, ◌<◌, ◌≤◌, ℕ, List, length, nat_le, vec_len};
-ghost use Rattle.std.specs.Prelude.{replicate, refl};
+ghost use Rattle.std.specs.Prelude.{replicate, refl, vec_capacity};
 ghost use Rattle.std.specs.Borrow.{sem};
 ghost use Rattle.maps.specs.LentBytes.{LendsBytes};
 ghost use Rattle.std.specs.Prelude.{None, Some, IsSome, IfSome, IfOk};
@@ -14,6 +14,7 @@ ghost use Rattle.maps.specs.Contents.{hash_row};
 ghost use Rattle.map_indexes.specs.Slots.{Places, TakesPlace};
 
 use isa_model::{MapDef, MapKind};
+use map_indexes::rooms::exact;
 use map_indexes::{ArrayIndex, ChainIndex, Index, ScanIndex, put_bytes};
 use std::alloc::{AllocError, Global};
 
@@ -128,6 +129,7 @@ pub struct Store<I: Index> {
     ghost key_size: { I.key_size index ≡ row.key_size },
     ghost room: { I.room index ≡ row.entries },
     ghost whole: { length values.items ≡ row.entries * row.value_size },
+    ghost exact: { vec_capacity values ≡ row.entries * row.value_size },
 }
 
 impl<I: Index> Store<I> {
@@ -144,7 +146,8 @@ impl<I: Index> Store<I> {
             ≡ replicate (row.entries * row.value_size) 0) }
     {
         let count = row.entries as usize * row.value_size as usize;
-        let values = vec![in alloc; 0; count]?;
+        let zeros = vec![in alloc; 0; count]?;
+        let values = exact(zeros)?;
         Ok(Store { row, index, values })
     }
 

@@ -52,6 +52,7 @@ loop-m-preserved c =
     (subst (λ (places : List ℕ). Numbers c.loop-m.next places t) listed c.number.ensures.numbers) in
     record {
       len = c.loop-m.invariant.len;
+      room = c.loop-m.invariant.room;
       list = c.list_places.ensures.capacity ∙ c.loop-m.invariant.list;
       rooms = rooms-next maps all (slice_set all m t) m t (omega arith) refl long c.loop-m.invariant.rooms;
       numbers = numbers-next maps all (slice_set all m t) m t (omega arith) refl c.loop-m.invariant.numbers numbers;
@@ -80,4 +81,5 @@ returns c =
           };
       maps = c.count-m-end.ensures.maps;
       list = inv.list;
+      room = inv.room;
     }

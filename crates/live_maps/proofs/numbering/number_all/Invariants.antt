@@ -9,6 +9,7 @@ use Rattle.live_maps.proofs.numbering.number_all.Given as goal
 abbrev pub invariant-loop-m : goal.invariant-loop-m
 invariant-loop-m l = record {
   len : vec_len l.all ≡ vec_len l.initial.all;
+  room : vec_capacity l.all ≡ vec_capacity l.initial.all;
   list : vec_capacity l.list ≡ vec_capacity l.initial.list;
   rooms : (k : ℕ) → k < length l.maps → length (serials_at l.all.items k) ≡ (map_at l.maps k).row.entries;
   numbers : (k : ℕ) → k < l.m → Numbers (count_before l.maps k) (values (map_at l.maps k).places) (serials_at l.all.items k);

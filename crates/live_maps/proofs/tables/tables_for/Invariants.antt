@@ -7,6 +7,6 @@ use Rattle.live_maps.proofs.tables.tables_for.Given as goal
 abbrev pub invariant-loop-m : goal.invariant-loop-m
 invariant-loop-m l = record {
   len : vec_len l.all ≡ l.m;
-  room : length l.maps ≤ vec_capacity l.all;
+  room : vec_capacity l.all ≡ length l.maps;
   rooms : (k : ℕ) → k < l.m → length (serials_at l.all.items k) ≡ (map_at l.maps k).row.entries;
 }

@@ -5,4 +5,4 @@ use Rattle.map_indexes.proofs.chained.all_places.Given as goal
 abbrev pub invariant-loop-i : goal.invariant-loop-i
 invariant-loop-i l =
     (length l.places.items ≡ l.i) × ((j : ℕ) → j < l.i → slice_index_or l.places.items j 0 ≡ l.count - 1 - j)
-    × (l.count ≤ vec_capacity l.places)
+    × (vec_capacity l.places ≡ l.count)

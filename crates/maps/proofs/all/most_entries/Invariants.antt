@@ -1,8 +1,10 @@
-use Rattle.std.proofs.Common.{◌≡◌, ℕ, ◌<◌, ◌≤◌, slice_index_or}
+use Rattle.std.proofs.Common.{◌≡◌, ℕ, ◌<◌, ◌≤◌, All, slice_index_or}
 use Rattle.isa_model.specs.declared.map_defs.MapKind.TheVariants.{Hash}
 use Rattle.isa_model.specs.declared.map_defs.MapDef.{MapDef}
 use Rattle.maps.proofs.all.most_entries.Given as goal
 
 abbrev pub invariant-loop-row : goal.invariant-loop-row
-invariant-loop-row l =
-    (k : ℕ) (d : MapDef) → k < l.row-index → (slice_index_or l.rows k d).kind ≡ Hash → (slice_index_or l.rows k d).entries ≤ l.most
+invariant-loop-row l = record {
+  enough : (k : ℕ) (d : MapDef) → k < l.row-index → (slice_index_or l.rows k d).kind ≡ Hash → (slice_index_or l.rows k d).entries ≤ l.most;
+  least : (n : ℕ) → All (λ row. row.kind ≡ Hash → row.entries ≤ n) l.rows → l.most ≤ n;
+}

@@ -3,9 +3,9 @@ use Rattle.std.specs.Prelude.{IsSomeAnd, slice_get, vec_capacity, ◌==◌, if�
 use Rattle.std.specs.FinMap.{get}
 use Rattle.isa_model.specs.declared.map_defs.MapDef.{MapDef}
 use Rattle.isa_model.specs.Machine.MapContents.{delete_answer}
-use Rattle.maps.specs.Maps.{IsMap, Deleted, map_at}
-use Rattle.live_maps.specs.Live.{Live, Serials, AreLive, content_at, without}
-use Rattle.live_maps.specs.ContentLaws.{rows_of-known, rows_of-some, live_of, length-changed_maps, All-rows-set}
+use Rattle.maps.specs.Maps.{IsMap, Deleted, map_at, rows_of}
+use Rattle.live_maps.specs.Live.{Live, Serials, AreLive, IsLeastRoom, content_at, without}
+use Rattle.live_maps.specs.ContentLaws.{rows_of-known, rows_of-some, live_of, length-changed_maps, All-rows-set, rows_of-set}
 use Rattle.live_maps.specs.LiveLaws.{live-removed, deleted_there, delete_answer-live}
 use Rattle.live_maps.specs.SearchLaws.{lookup-present}
 use Rattle.live_maps.proofs.live.LiveMaps.delete.Goals as goal
@@ -21,7 +21,7 @@ take_away-requires-clause-index c =
     let P : MapDef → Type 0 = λ row. length key ≡ row.key_size in
     let known = rows_of-known P maps m (subst (λ (l : Live). IsSomeAnd (slice_get l.rows m) P) (sym c.self.view_is) c.requires) in
     let inside = known.0 in
-    let new = c.delete-answer.new.self in
+    let new = c.delete-answer.new.maps in
     let others = c.delete-answer.ensures.others in
     let count = length-changed_maps maps new m (map_at new m) others in
     let is : IsMap (map_at new m) = c.count-count.ensures.maps m _ (omega arith) in
@@ -40,7 +40,7 @@ take_away-requires-clause-place c =
     let P : MapDef → Type 0 = λ row. length key ≡ row.key_size in
     let known = rows_of-known P maps m (subst (λ (l : Live). IsSomeAnd (slice_get l.rows m) P) (sym c.self.view_is) c.requires) in
     let inside = known.0 in
-    let new = c.delete-answer.new.self in
+    let new = c.delete-answer.new.maps in
     let others = c.delete-answer.ensures.others in
     let count = length-changed_maps maps new m (map_at new m) others in
     let is : IsMap (map_at new m) = c.count-count.ensures.maps m _ (omega arith) in
@@ -58,7 +58,7 @@ invariant_of-self c =
     let P : MapDef → Type 0 = λ row. length key ≡ row.key_size in
     let known = rows_of-known P maps m (subst (λ (l : Live). IsSomeAnd (slice_get l.rows m) P) (sym c.self.view_is) c.requires) in
     let inside = known.0 in
-    let new = c.delete-answer.new.self in
+    let new = c.delete-answer.new.maps in
     let others = c.delete-answer.ensures.others in
     let count = length-changed_maps maps new m (map_at new m) others in
     let is : IsMap (map_at new m) = c.count-count.ensures.maps m _ (omega arith) in
@@ -69,8 +69,9 @@ invariant_of-self c =
     let live = live-removed i.next maps all m new inside h others key p is d there in
     let few = c.self.invariant.0 in
     let rooms = All-rows-set (λ (row : MapDef). row.entries ≤ vec_capacity i.list) maps new m (map_at new m) others d.row inside c.self.invariant.1 in
-    let mine = subst (λ (a : List Serials). AreLive i.next new a) (sym c.take_away.ensures) live.0 in
-    (omega arith, rooms, mine, tt)
+    let mine = subst (λ (a : List Serials). AreLive i.next new a) (sym c.take_away.ensures.taken) live.0 in
+    let least = subst (IsLeastRoom (vec_capacity i.list)) (sym (ap rows_of others ∙ rows_of-set maps m (map_at new m) d.row)) c.self.invariant.5 in
+    (omega arith, rooms, mine, tt, c.take_away.ensures.room ∙ c.self.invariant.4 ∙ sym count, least)
 
 pub invariant_of-self-in_default : goal.invariant_of-self-in_default
 invariant_of-self-in_default c =
@@ -83,7 +84,7 @@ invariant_of-self-in_default c =
     let P : MapDef → Type 0 = λ row. length key ≡ row.key_size in
     let known = rows_of-known P maps m (subst (λ (l : Live). IsSomeAnd (slice_get l.rows m) P) (sym c.self.view_is) c.requires) in
     let inside = known.0 in
-    let new = c.delete-answer.new.self in
+    let new = c.delete-answer.new.maps in
     let others = c.delete-answer.ensures.others in
     let count = length-changed_maps maps new m (map_at new m) others in
     let is : IsMap (map_at new m) = c.count-count.ensures.maps m _ (omega arith) in
@@ -102,7 +103,7 @@ returns-in-Some-clause-answer c =
     let P : MapDef → Type 0 = λ row. length key ≡ row.key_size in
     let known = rows_of-known P maps m (subst (λ (l : Live). IsSomeAnd (slice_get l.rows m) P) (sym c.self.view_is) c.requires) in
     let inside = known.0 in
-    let new = c.delete-answer.new.self in
+    let new = c.delete-answer.new.maps in
     let others = c.delete-answer.ensures.others in
     let count = length-changed_maps maps new m (map_at new m) others in
     let is : IsMap (map_at new m) = c.count-count.ensures.maps m _ (omega arith) in
@@ -121,7 +122,7 @@ returns-in_default-clause-answer c =
     let P : MapDef → Type 0 = λ row. length key ≡ row.key_size in
     let known = rows_of-known P maps m (subst (λ (l : Live). IsSomeAnd (slice_get l.rows m) P) (sym c.self.view_is) c.requires) in
     let inside = known.0 in
-    let new = c.delete-answer.new.self in
+    let new = c.delete-answer.new.maps in
     let others = c.delete-answer.ensures.others in
     let count = length-changed_maps maps new m (map_at new m) others in
     let is : IsMap (map_at new m) = c.count-count.ensures.maps m _ (omega arith) in
@@ -140,7 +141,7 @@ returns-else-answer-eq0-clause-answer c =
     let P : MapDef → Type 0 = λ row. length key ≡ row.key_size in
     let known = rows_of-known P maps m (subst (λ (l : Live). IsSomeAnd (slice_get l.rows m) P) (sym c.self.view_is) c.requires) in
     let inside = known.0 in
-    let new = c.delete-answer.new.self in
+    let new = c.delete-answer.new.maps in
     let others = c.delete-answer.ensures.others in
     let count = length-changed_maps maps new m (map_at new m) others in
     let is : IsMap (map_at new m) = c.count-count.ensures.maps m _ (omega arith) in
@@ -159,7 +160,7 @@ returns-in-Some-clause-deleted c =
     let P : MapDef → Type 0 = λ row. length key ≡ row.key_size in
     let known = rows_of-known P maps m (subst (λ (l : Live). IsSomeAnd (slice_get l.rows m) P) (sym c.self.view_is) c.requires) in
     let inside = known.0 in
-    let new = c.delete-answer.new.self in
+    let new = c.delete-answer.new.maps in
     let others = c.delete-answer.ensures.others in
     let count = length-changed_maps maps new m (map_at new m) others in
     let is : IsMap (map_at new m) = c.count-count.ensures.maps m _ (omega arith) in
@@ -168,7 +169,7 @@ returns-in-Some-clause-deleted c =
     let p = c.in-Some.place in
     let there : get (map_at maps m).places key ≡ Some p = sym c.find-found.ensures ∙ c.in-Some.is in
     let live = live-removed i.next maps all m new inside h others key p is d there in
-    let done = ap (λ (a : List Serials). live_of new a i.next) c.take_away.ensures ∙ live.1 ∙ ap (λ (l : Live). without l m key) c.self.view_is in
+    let done = ap (λ (a : List Serials). live_of new a i.next) c.take_away.ensures.taken ∙ live.1 ∙ ap (λ (l : Live). without l m key) c.self.view_is in
     done ∙ ap (λ (a : ℕ). if a == 0 then without c.args.self.now m key else c.args.self.now) (sym zero)
 
 pub returns-in_default-clause-deleted : goal.returns-in_default-clause-deleted
@@ -182,7 +183,7 @@ returns-in_default-clause-deleted c =
     let P : MapDef → Type 0 = λ row. length key ≡ row.key_size in
     let known = rows_of-known P maps m (subst (λ (l : Live). IsSomeAnd (slice_get l.rows m) P) (sym c.self.view_is) c.requires) in
     let inside = known.0 in
-    let new = c.delete-answer.new.self in
+    let new = c.delete-answer.new.maps in
     let others = c.delete-answer.ensures.others in
     let count = length-changed_maps maps new m (map_at new m) others in
     let is : IsMap (map_at new m) = c.count-count.ensures.maps m _ (omega arith) in

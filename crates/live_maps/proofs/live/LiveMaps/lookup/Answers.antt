@@ -1,4 +1,4 @@
-use Rattle.std.proofs.Common.{◌≡◌, ◌∙◌, sym, ap, subst, length, arith}
+use Rattle.std.proofs.Common.{◌≡◌, ◌∙◌, None, sym, ap, subst, length, arith, rules}
 use Rattle.std.specs.Prelude.{IsSomeAnd, slice_get}
 use Rattle.std.specs.Option.{option_map}
 use Rattle.isa_model.specs.declared.map_defs.MapDef.{MapDef}
@@ -23,20 +23,21 @@ serial_at-requires-clause-place c =
     let i = c.self.inside in
     let P : MapDef → Type 0 = λ row. length c.args.key.now ≡ row.key_size in
     let known = rows_of-known P i.maps c.args.map (subst (λ (l : Live). IsSomeAnd (slice_get l.rows c.args.map) P) (sym c.self.view_is) c.requires) in
-    (lookup-present i.next i.maps i.serials.items c.args.map c.self.invariant.2 known.0 c.args.key.now c.in-Some.place (sym c.find.ensures ∙ c.in-Some.is)).0
+    (lookup-present i.next i.maps i.serials.items c.args.map c.self.invariant.2 known.0 c.args.key.now c.in_ok-place.place (sym c.in_ok-place.ensures.place)).0
 
-pub returns-in-Some : goal.returns-in-Some
-returns-in-Some c =
+pub returns-clause-serial : goal.returns-clause-serial
+returns-clause-serial c =
     let i = c.self.inside in
     let P : MapDef → Type 0 = λ row. length c.args.key.now ≡ row.key_size in
     let known = rows_of-known P i.maps c.args.map (subst (λ (l : Live). IsSomeAnd (slice_get l.rows c.args.map) P) (sym c.self.view_is) c.requires) in
-    let r = lookup-present i.next i.maps i.serials.items c.args.map c.self.invariant.2 known.0 c.args.key.now c.in-Some.place (sym c.find.ensures ∙ c.in-Some.is) in
+    let r = lookup-present i.next i.maps i.serials.items c.args.map c.self.invariant.2 known.0 c.args.key.now c.in_ok-place.place (sym c.in_ok-place.ensures.place) in
     c.serial_at.ensures ∙ sym r.1 ∙ ap (λ (l : Live). option_map (λ v. v.serial) (at_key c.args.key.now (content_at l c.args.map))) c.self.view_is
 
-pub returns-in-None : goal.returns-in-None
-returns-in-None c =
+pub returns-in_err-place-clause-serial : goal.returns-in_err-place-clause-serial
+returns-in_err-place-clause-serial c =
     let i = c.self.inside in
     let P : MapDef → Type 0 = λ row. length c.args.key.now ≡ row.key_size in
     let known = rows_of-known P i.maps c.args.map (subst (λ (l : Live). IsSomeAnd (slice_get l.rows c.args.map) P) (sym c.self.view_is) c.requires) in
-    sym (lookup-absent i.next i.maps i.serials.items c.args.map c.self.invariant.2 known.0 c.args.key.now (sym c.find.ensures ∙ c.in-None.is))
+    let none : c.from_residual.result ≡ None = search rules in
+    none ∙ sym (lookup-absent i.next i.maps i.serials.items c.args.map c.self.invariant.2 known.0 c.args.key.now (sym c.in_err-place.ensures.place))
     ∙ ap (λ (l : Live). option_map (λ v. v.serial) (at_key c.args.key.now (content_at l c.args.map))) c.self.view_is

@@ -1,8 +1,20 @@
-use Rattle.std.proofs.Common.{ℕ, sym, subst, arith}
+use Rattle.std.proofs.Common.{ℕ, ◌≤◌, List, All, sym, ap, subst, ◌∙◌, arith}
+use Rattle.std.proofs.Math.ListN.{get_or-map}
+use Rattle.std.proofs.lemmas.List.{length-map}
+use Rattle.isa_model.specs.declared.map_defs.MapDef.{MapDef}
+use Rattle.maps.specs.Maps.{MapState, rows_of}
 use Rattle.live_maps.specs.Live.{AreLive}
 use Rattle.live_maps.specs.ContentLaws.{entries_of-live_contents}
 use Rattle.live_maps.specs.Numbering.{AreLive-numbered}
 use Rattle.live_maps.proofs.live.LiveMaps.new.Goals as goal
+
+-- what holds of all rows, holds of the rows of all maps
+within : (maps : List MapState) (n : ℕ) → All (λ row. row.entries ≤ n) (rows_of maps) → All (λ m. m.row.entries ≤ n) maps
+within maps n h = λ k d l.
+    let long = length-map maps (λ m. m.row) in
+    let here = ap (λ (row : MapDef). row.entries) (get_or-map (λ m. m.row) maps k d) in
+    let few = h k d.row (omega arith) in
+    omega arith
 
 pub invariant_of-result : goal.invariant_of-result
 invariant_of-result c =
@@ -13,9 +25,11 @@ invariant_of-result c =
     let most = c.in_ok-list.ensures.capacity in
     let kept = done.list in (
       omega arith,
-      (λ k d l. let entries = c.most_entries.ensures k d l in omega arith),
+      (λ k d l. let entries = c.most_entries.ensures.enough k d l in omega arith),
       subst (λ (n : ℕ). AreLive n maps all) (sym done.numbered.counted) (AreLive-numbered maps all done.maps done.numbered.are),
       done.numbered,
+      done.room ∙ c.in_ok-serials.ensures.room,
+      (λ n h. let least = c.most_entries.ensures.least n (within maps n h) in let exact = c.in_ok-list.ensures.exact in omega arith),
     )
 
 pub returns-clause-contents : goal.returns-clause-contents

@@ -18,6 +18,8 @@ invariant_of-self c =
       (λ k d l. let entries = inv.1 k d l in omega arith),
       subst (λ (n : ℕ). AreLive n maps all) (sym done.numbered.counted) (AreLive-numbered maps all done.maps done.numbered.are),
       done.numbered,
+      done.room ∙ inv.4,
+      (λ n h. let least = inv.5 n h in omega arith),
     )
 
 pub returns-clause-numbered : goal.returns-clause-numbered

@@ -3,9 +3,9 @@ use Rattle.std.specs.Prelude.{IsSomeAnd, slice_get, slice_set, vec_capacity, ◌
 use Rattle.std.specs.FinMap.{get}
 use Rattle.isa_model.specs.declared.map_defs.MapDef.{MapDef}
 use Rattle.isa_model.specs.Machine.MapContents.{update_answer}
-use Rattle.maps.specs.Maps.{MapState, IsMap, Updated, map_at}
-use Rattle.live_maps.specs.Live.{Live, Serials, AreLive, place_if_new, content_at, serials_at, with_bytes}
-use Rattle.live_maps.specs.ContentLaws.{rows_of-known, rows_of-some, live_of, length-changed_maps, All-rows-set}
+use Rattle.maps.specs.Maps.{MapState, IsMap, Updated, map_at, rows_of}
+use Rattle.live_maps.specs.Live.{Live, Serials, AreLive, IsLeastRoom, place_if_new, content_at, serials_at, with_bytes}
+use Rattle.live_maps.specs.ContentLaws.{rows_of-known, rows_of-some, live_of, length-changed_maps, All-rows-set, rows_of-set}
 use Rattle.live_maps.specs.LiveLaws.{live-updated, live-added, live-same, not_zero, updated_there, place_if_new-Some, place_if_new-None, update_answer-live}
 use Rattle.live_maps.specs.Numbering.{IsNumbered, IsNumbered-set, IfSome-more}
 use Rattle.live_maps.proofs.live.LiveMaps.update.Goals as goal
@@ -22,7 +22,7 @@ give_serial-requires-clause-index c =
     let P : MapDef → Type 0 = λ row. (length key ≡ row.key_size) × (length value ≡ row.value_size) in
     let known = rows_of-known P maps m (subst (λ (l : Live). IsSomeAnd (slice_get l.rows m) P) (sym c.self.view_is) c.requires.sizes) in
     let inside = known.0 in
-    let new = c.update-answer.new.self in
+    let new = c.update-answer.new.maps in
     let others = c.update-answer.ensures.others in
     let count = length-changed_maps maps new m (map_at new m) others in
     let is : IsMap (map_at new m) = c.count-count.ensures.maps m _ (omega arith) in
@@ -42,7 +42,7 @@ give_serial-requires-clause-place c =
     let P : MapDef → Type 0 = λ row. (length key ≡ row.key_size) × (length value ≡ row.value_size) in
     let known = rows_of-known P maps m (subst (λ (l : Live). IsSomeAnd (slice_get l.rows m) P) (sym c.self.view_is) c.requires.sizes) in
     let inside = known.0 in
-    let new = c.update-answer.new.self in
+    let new = c.update-answer.new.maps in
     let others = c.update-answer.ensures.others in
     let count = length-changed_maps maps new m (map_at new m) others in
     let is : IsMap (map_at new m) = c.count-count.ensures.maps m _ (omega arith) in
@@ -71,7 +71,7 @@ invariant_of-self c =
     let P : MapDef → Type 0 = λ row. (length key ≡ row.key_size) × (length value ≡ row.value_size) in
     let known = rows_of-known P maps m (subst (λ (l : Live). IsSomeAnd (slice_get l.rows m) P) (sym c.self.view_is) c.requires.sizes) in
     let inside = known.0 in
-    let new = c.update-answer.new.self in
+    let new = c.update-answer.new.maps in
     let others = c.update-answer.ensures.others in
     let count = length-changed_maps maps new m (map_at new m) others in
     let is : IsMap (map_at new m) = c.count-count.ensures.maps m _ (omega arith) in
@@ -86,8 +86,9 @@ invariant_of-self c =
     let rooms = All-rows-set (λ (row : MapDef). row.entries ≤ vec_capacity i.list) maps new m (map_at new m) others u.row inside c.self.invariant.1 in
     let s : suc i.next ≡ i.next + 1 = omega arith in
     let after : List Serials = slice_set all m (slice_set (serials_at all m) p (Some i.next)) in
-    let mine = subst (λ (a : List Serials). AreLive (i.next + 1) new a) (sym c.give_serial.ensures) (subst (λ (n : ℕ). AreLive n new after) s live.0) in
-    (omega arith, rooms, mine, tt)
+    let mine = subst (λ (a : List Serials). AreLive (i.next + 1) new a) (sym c.give_serial.ensures.given) (subst (λ (n : ℕ). AreLive n new after) s live.0) in
+    let least = subst (IsLeastRoom (vec_capacity i.list)) (sym (ap rows_of others ∙ rows_of-set maps m (map_at new m) u.row)) c.self.invariant.5 in
+    (omega arith, rooms, mine, tt, c.give_serial.ensures.room ∙ c.self.invariant.4 ∙ sym count, least)
 
 pub invariant_of-self-in_default : goal.invariant_of-self-in_default
 invariant_of-self-in_default c =
@@ -101,7 +102,7 @@ invariant_of-self-in_default c =
     let P : MapDef → Type 0 = λ row. (length key ≡ row.key_size) × (length value ≡ row.value_size) in
     let known = rows_of-known P maps m (subst (λ (l : Live). IsSomeAnd (slice_get l.rows m) P) (sym c.self.view_is) c.requires.sizes) in
     let inside = known.0 in
-    let new = c.update-answer.new.self in
+    let new = c.update-answer.new.maps in
     let others = c.update-answer.ensures.others in
     let count = length-changed_maps maps new m (map_at new m) others in
     let is : IsMap (map_at new m) = c.count-count.ensures.maps m _ (omega arith) in
@@ -116,7 +117,8 @@ invariant_of-self-in_default c =
     let w = u.updates.writes refl in
     let numbered = IfSome-more (λ (n : ℕ). IsNumbered n maps all) (λ (n : ℕ). IsNumbered n new all) i.numbered
     (λ n. IsNumbered-set maps m (map_at new m) inside u.row (w.kept had.0 had.1) new others all n) c.self.invariant.3 in
-    (omega arith, rooms, live.0, numbered)
+    let least = subst (IsLeastRoom (vec_capacity i.list)) (sym (ap rows_of others ∙ rows_of-set maps m (map_at new m) u.row)) c.self.invariant.5 in
+    (omega arith, rooms, live.0, numbered, c.self.invariant.4 ∙ sym count, least)
 
 pub returns-in-Some-clause-answer : goal.returns-in-Some-clause-answer
 returns-in-Some-clause-answer c =
@@ -130,7 +132,7 @@ returns-in-Some-clause-answer c =
     let P : MapDef → Type 0 = λ row. (length key ≡ row.key_size) × (length value ≡ row.value_size) in
     let known = rows_of-known P maps m (subst (λ (l : Live). IsSomeAnd (slice_get l.rows m) P) (sym c.self.view_is) c.requires.sizes) in
     let inside = known.0 in
-    let new = c.update-answer.new.self in
+    let new = c.update-answer.new.maps in
     let others = c.update-answer.ensures.others in
     let count = length-changed_maps maps new m (map_at new m) others in
     let is : IsMap (map_at new m) = c.count-count.ensures.maps m _ (omega arith) in
@@ -150,7 +152,7 @@ returns-in_default-clause-answer c =
     let P : MapDef → Type 0 = λ row. (length key ≡ row.key_size) × (length value ≡ row.value_size) in
     let known = rows_of-known P maps m (subst (λ (l : Live). IsSomeAnd (slice_get l.rows m) P) (sym c.self.view_is) c.requires.sizes) in
     let inside = known.0 in
-    let new = c.update-answer.new.self in
+    let new = c.update-answer.new.maps in
     let others = c.update-answer.ensures.others in
     let count = length-changed_maps maps new m (map_at new m) others in
     let is : IsMap (map_at new m) = c.count-count.ensures.maps m _ (omega arith) in
@@ -170,7 +172,7 @@ returns-else-answer-eq0-clause-answer c =
     let P : MapDef → Type 0 = λ row. (length key ≡ row.key_size) × (length value ≡ row.value_size) in
     let known = rows_of-known P maps m (subst (λ (l : Live). IsSomeAnd (slice_get l.rows m) P) (sym c.self.view_is) c.requires.sizes) in
     let inside = known.0 in
-    let new = c.update-answer.new.self in
+    let new = c.update-answer.new.maps in
     let others = c.update-answer.ensures.others in
     let count = length-changed_maps maps new m (map_at new m) others in
     let is : IsMap (map_at new m) = c.count-count.ensures.maps m _ (omega arith) in
@@ -190,7 +192,7 @@ returns-in-Some-clause-updated c =
     let P : MapDef → Type 0 = λ row. (length key ≡ row.key_size) × (length value ≡ row.value_size) in
     let known = rows_of-known P maps m (subst (λ (l : Live). IsSomeAnd (slice_get l.rows m) P) (sym c.self.view_is) c.requires.sizes) in
     let inside = known.0 in
-    let new = c.update-answer.new.self in
+    let new = c.update-answer.new.maps in
     let others = c.update-answer.ensures.others in
     let count = length-changed_maps maps new m (map_at new m) others in
     let is : IsMap (map_at new m) = c.count-count.ensures.maps m _ (omega arith) in
@@ -202,7 +204,7 @@ returns-in-Some-clause-updated c =
     let two = place_if_new-Some (get (map_at maps m).places key) (get (map_at new m).places key) p place in
     let live = live-added i.next maps all m new inside h others key value c.args.flags p is known.1.1 u two.0 two.1 in
     let s : i.next + 1 ≡ suc i.next = omega arith in
-    let done = (λ j. live_of new (c.give_serial.ensures j) (s j)) ∙ live.1 ∙ ap (λ (l : Live). with_bytes l m key value) c.self.view_is in
+    let done = (λ j. live_of new (c.give_serial.ensures.given j) (s j)) ∙ live.1 ∙ ap (λ (l : Live). with_bytes l m key value) c.self.view_is in
     done ∙ ap (λ (a : ℕ). if a == 0 then with_bytes c.args.self.now m key value else c.args.self.now) (sym zero)
 
 pub returns-in_default-clause-updated : goal.returns-in_default-clause-updated
@@ -217,7 +219,7 @@ returns-in_default-clause-updated c =
     let P : MapDef → Type 0 = λ row. (length key ≡ row.key_size) × (length value ≡ row.value_size) in
     let known = rows_of-known P maps m (subst (λ (l : Live). IsSomeAnd (slice_get l.rows m) P) (sym c.self.view_is) c.requires.sizes) in
     let inside = known.0 in
-    let new = c.update-answer.new.self in
+    let new = c.update-answer.new.maps in
     let others = c.update-answer.ensures.others in
     let count = length-changed_maps maps new m (map_at new m) others in
     let is : IsMap (map_at new m) = c.count-count.ensures.maps m _ (omega arith) in
@@ -242,7 +244,7 @@ returns-else-answer-eq0-clause-updated c =
     let P : MapDef → Type 0 = λ row. (length key ≡ row.key_size) × (length value ≡ row.value_size) in
     let known = rows_of-known P maps m (subst (λ (l : Live). IsSomeAnd (slice_get l.rows m) P) (sym c.self.view_is) c.requires.sizes) in
     let inside = known.0 in
-    let new = c.update-answer.new.self in
+    let new = c.update-answer.new.maps in
     let others = c.update-answer.ensures.others in
     let count = length-changed_maps maps new m (map_at new m) others in
     let is : IsMap (map_at new m) = c.count-count.ensures.maps m _ (omega arith) in

@@ -1,9 +1,9 @@
 use Rattle.std.proofs.Common.{◌+◌, ◌≤◌, ◌∙◌, sym, ap, subst, length, List, ℕ, Option, arith}
 use Rattle.std.specs.Prelude.{IsSomeAnd, vec_capacity}
 use Rattle.isa_model.specs.declared.map_defs.MapDef.{MapDef}
-use Rattle.maps.specs.Maps.{IsMap, map_at}
-use Rattle.live_maps.specs.Live.{Live, content_at, serials_at, value_bytes, with_value}
-use Rattle.live_maps.specs.ContentLaws.{length-changed_maps, All-rows-set}
+use Rattle.maps.specs.Maps.{IsMap, map_at, rows_of}
+use Rattle.live_maps.specs.Live.{Live, IsLeastRoom, content_at, serials_at, value_bytes, with_value}
+use Rattle.live_maps.specs.ContentLaws.{length-changed_maps, All-rows-set, rows_of-set}
 use Rattle.live_maps.specs.LiveLaws.{live-written}
 use Rattle.live_maps.specs.SearchLaws.{serials-once, searched-none, searched-inside, searched-some, position-serial}
 use Rattle.live_maps.specs.Numbering.{IsNumbered, IsNumbered-set, IfSome-more}
@@ -74,12 +74,15 @@ invariant_of-self c =
     let count = length-changed_maps maps new m (map_at new m) others in
     let is : IsMap (map_at new m) = c.count-count.ensures.maps m _ (omega arith) in
     let live = live-written i.next maps all m new inside h others n p c.args.at c.args.bytes.now (position-serial n p (serials_at all m) found) (omega arith) is w in
-    let few = c.self.invariant.0 in (
+    let few = c.self.invariant.0 in
+    let least = subst (IsLeastRoom (vec_capacity i.list)) (sym (ap rows_of others ∙ rows_of-set maps m (map_at new m) w.row)) c.self.invariant.5 in (
       omega arith,
       All-rows-set (λ (row : MapDef). row.entries ≤ vec_capacity i.list) maps new m (map_at new m) others w.row inside c.self.invariant.1,
       live.0,
       IfSome-more (λ (k : ℕ). IsNumbered k maps all) (λ (k : ℕ). IsNumbered k new all) i.numbered
           (λ k. IsNumbered-set maps m (map_at new m) inside w.row w.places new others all k) c.self.invariant.3,
+      c.self.invariant.4 ∙ sym count,
+      least,
     )
 
 pub returns-in-Some : goal.returns-in-Some

@@ -41,6 +41,7 @@ invariant_of-self c =
     let lead = c.lead.ensures in
     record {
       counted = ap length lead.heads ∙ length-heads_led m.from chain (Some at) s.heads.items ∙ s.counted;
+      exact = lead.heads_room ∙ s.exact;
       chained = subst (λ (h : List (Option ℕ)). IsChained h c.lead.new.links.capacity (get c.lead.new.links)) (sym lead.heads)
           (slab_added s.heads.items s.links c.insert_reserved-at.new.self c.lead.new.links s.chained at link m.from behind (lead.capacity ∙ e.capacity) inside
           e.key_in_range e.capacity e.was_vacant next e.updates lead.links);

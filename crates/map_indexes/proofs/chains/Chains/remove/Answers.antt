@@ -11,6 +11,7 @@ invariant_of-self c =
     let lead = c.lead.ensures in
     record {
       counted = ap length lead.heads ∙ length-heads_led c.behind-from.result link.chain link.next s.heads.items ∙ s.counted;
+      exact = lead.heads_room ∙ s.exact;
       chained = subst (λ (h : List (Option ℕ)). IsChained h c.lead.new.links.capacity (get c.lead.new.links)) (sym lead.heads)
           (slab_removed s.heads.items s.links c.remove.new.self c.lead.new.links s.chained c.args.at link c.behind-from.result c.behind-from.ensures
           (lead.capacity ∙ c.remove.ensures.capacity) c.index.ensures c.remove.ensures.updates lead.links);

@@ -21,7 +21,7 @@ part a n xs ys e = let h : a + n - a ≡ n = omega arith in λ i. take (h i) (dr
 pub overflow_mul-start : goal.overflow_mul-start
 overflow_mul-start c =
     let k = c.self.inside in
-    let h = row_fits k.size k.block.items k.used.items c.args.self.now c.args.place c.self.view_is c.requires c.self.invariant in
+    let h = row_fits k.size k.block.items k.used.items c.args.self.now c.args.place c.self.view_is c.requires c.self.invariant.0 in
     let f = k.block.ok.0 in
     let g = k.block.small in
     omega arith
@@ -29,7 +29,7 @@ overflow_mul-start c =
 pub overflow_add-result : goal.overflow_add-result
 overflow_add-result c =
     let k = c.self.inside in
-    let h = row_fits k.size k.block.items k.used.items c.args.self.now c.args.place c.self.view_is c.requires c.self.invariant in
+    let h = row_fits k.size k.block.items k.used.items c.args.self.now c.args.place c.self.view_is c.requires c.self.invariant.0 in
     let f = k.block.ok.0 in
     let g = k.block.small in
     omega arith
@@ -37,7 +37,7 @@ overflow_add-result c =
 pub slice_bounds-result-end : goal.slice_bounds-result-end
 slice_bounds-result-end c =
     let k = c.self.inside in
-    let h = row_fits k.size k.block.items k.used.items c.args.self.now c.args.place c.self.view_is c.requires c.self.invariant in
+    let h = row_fits k.size k.block.items k.used.items c.args.self.now c.args.place c.self.view_is c.requires c.self.invariant.0 in
     let e = ap length c.deref.ensures.value in
     omega arith
 
@@ -45,7 +45,7 @@ pub returns-clause-size : goal.returns-clause-size
 returns-clause-size c =
     let k = c.self.inside in
     let start = c.args.place * k.size in
-    let h = row_fits k.size k.block.items k.used.items c.args.self.now c.args.place c.self.view_is c.requires c.self.invariant in
+    let h = row_fits k.size k.block.items k.used.items c.args.self.now c.args.place c.self.view_is c.requires c.self.invariant.0 in
     let e = ap length c.deref.ensures.value in
     let f = ap (λ (t : KeyTable). t.size) c.self.view_is in
     let t = length-take (start + k.size - start) (drop start c.deref.result.now) in

@@ -13,7 +13,7 @@ overflow_mul-start c =
     let e = table_places k.size k.block.items k.used.items c.args.self.now c.self.view_is in
     let p = c.requires.place in
     let h = row_end c.args.place (length k.used.items) k.size (omega arith) in
-    let i = c.self.invariant in
+    let i = c.self.invariant.0 in
     let f = k.block.ok.0 in
     let g = k.block.small in
     omega arith
@@ -24,7 +24,7 @@ put_bytes-requires c =
     let e = table_places k.size k.block.items k.used.items c.args.self.now c.self.view_is in
     let p = c.requires.place in
     let h = row_end c.args.place (length k.used.items) k.size (omega arith) in
-    let i = c.self.invariant in
+    let i = c.self.invariant.0 in
     let s = c.requires.size ∙ sym (ap (λ (t : KeyTable). t.size) c.self.view_is) in
     let v = ap length c.as_mut_slice.ensures.value in
     omega arith
@@ -50,7 +50,7 @@ returns-clause-slots c =
     let back : c.put_bytes.new.block ≡ with_row k.size k.block.items p key =
     c.put_bytes.ensures ∙ ap (λ (b : List ℕ). with_row k.size b p key) c.as_mut_slice.ensures.value in
     let whole : length c.put_bytes.new.block ≡ k.block.len =
-    ap length back ∙ length-with_row k.size k.block.items p key n long c.self.invariant inside ∙ sym c.self.invariant ∙ sym k.block.ok.0 in
+    ap length back ∙ length-with_row k.size k.block.items p key n long c.self.invariant.0 inside ∙ sym c.self.invariant.0 ∙ sym k.block.ok.0 in
     ap (λ (b : List ℕ). slots_of k.size b 0 (slice_set k.used.items p true)) (lent_whole c.put_bytes.new.block k.block.items k.block.len whole ∙ back)
-    ∙ slots_of-put k.size k.block.items p key n long c.self.invariant inside 0 k.used.items p (omega arith) inside
+    ∙ slots_of-put k.size k.block.items p key n long c.self.invariant.0 inside 0 k.used.items p (omega arith) inside
     ∙ ap (λ (t : KeyTable). slice_set t.slots p (Some key)) c.self.view_is
