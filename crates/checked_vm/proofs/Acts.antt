@@ -9,6 +9,7 @@ use Rattle.std.proofs.lemmas.Option.{slice_get_past, slice_get-get_or}
 use Rattle.isa_model.specs.declared.instructions.Insn.{Insn}
 use Rattle.isa_model.specs.declared.ends.TrapReason.{TrapReason}
 use Rattle.isa_model.specs.declared.ends.TrapReason.TheVariants.{NoCode}
+use Rattle.isa_model.specs.declared.versions.Version.{Version}
 use Rattle.isa_model.specs.Code.Instructions.{Program, fetch, reads, writes, is_frame_pointer}
 use Rattle.isa_model.specs.Machine.States.{State, reg}
 use Rattle.isa_model.specs.Machine.Calls.{enter, leave}
@@ -29,8 +30,8 @@ pub calls_enter : (s : State) (p : Program) (by : ℤ) (slots to : ℕ) → leng
 calls_enter s p by slots to count leads few = rw (leads, count) (grind (arith, nat_tests))
 
 -- an exit of an inner frame leaves it
-pub exits_leave : (s : State) → (length s.frames ≡ 1 → ⊥) → exits s ≡ Next (leave s)
-exits_leave s inner = grind (arith, nat_tests)
+pub exits_leave : (version : Version) (s : State) → (length s.frames ≡ 1 → ⊥) → exits version s ≡ Next (leave s)
+exits_leave version s inner = grind (arith, nat_tests)
 
 -- a form that keeps the frames leaves the machine running
 pub stays_running : (old new : Core) → KeepsFrames old new → IsRunning old → StaysRunning old new

@@ -39,11 +39,11 @@ pub record KeepsFrames (old new : Core) : Type 0 where
 abbrev pub NamesAllRows : List MapDef → List (Option Insn) → Type 0
 NamesAllRows rows insns = (slot : ℕ) (i : Insn) → slice_index_or insns slot None ≡ Some i → NamesRows rows i
 
--- in the middle of a run: 1 to 8 frames, and room for all of them
+-- in the middle of a run: 1 to 8 frames, and room for eight
 pub record IsRunning (core : Core) : Type 0 where
   pub some : 1 ≤ vec_len core.frames
   pub few : vec_len core.frames ≤ most_frames
-  pub room : most_frames ≤ vec_capacity core.frames
+  pub room : vec_capacity core.frames ≡ most_frames
 
 -- after a step the machine is still running; it has used one serial at most, and has not asked the clock
 pub record StaysRunning (old new : Core) : Type 0 where

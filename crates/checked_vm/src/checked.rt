@@ -1,7 +1,7 @@
 //! The checked machine: an image, and the room to run it.
 
 ghost use Rattle.std.specs.Prelude.{◌≡◌, ◌+◌, ◌≤◌, ℕ, length, IfOk};
-ghost use Rattle.isa_model.specs.Reporting.Streams.{max_body};
+ghost use Rattle.isa_model.specs.{max_packet};
 ghost use Rattle.isa_model.specs.Running.Runs.{max_steps, turn};
 ghost use Rattle.isa_model.specs.Reporting.Reports.{starting_contents};
 ghost use Rattle.maps.specs.Maps.{rows_of, contents_of};
@@ -9,7 +9,7 @@ ghost use Rattle.maps.specs.Maps.{rows_of, contents_of};
 use crate::core_state::Core;
 use crate::errors::VmError;
 use image::Image;
-use isa_model::{Clock, End, FrameHead};
+use isa_model::{Clock, End, FrameHead, Version};
 use live_maps::LiveMaps;
 use maps::Maps;
 use std::alloc::Global;
@@ -37,8 +37,19 @@ impl Model for Checked {
       contents = map entries_of machine.core.maps.contents;
     } };
 
-    ghost invariant = { λ machine. (most_frames ≤ vec_capacity machine.core.frames)
+    ghost invariant = { λ machine. (vec_capacity machine.core.frames ≡ most_frames)
         × (machine.core.maps.rows ≡ machine.image.maps) };
+}
+
+// The version of an image.
+fn version_of(image: &Image) -> Version
+    ensures { result ≡ image.now.version }
+{
+    if image.version() == 1 {
+        Version::One
+    } else {
+        Version::Two
+    }
 }
 
 impl Checked {
@@ -74,7 +85,7 @@ impl Checked {
         clock: &mut C,
         limit: u32,
     ) -> End
-        requires short { length packet.old ≤ max_body }
+        requires short { length packet.old ≤ max_packet }
         requires some { 1 ≤ limit }
         requires most { limit ≤ max_steps }
         ensures ends { result
@@ -92,7 +103,9 @@ impl Checked {
             self.old.contents).clock_calls + k) }
     {
         let _slots = self.image.slots();
-        self.core.run(self.image.code(), head, packet, clock, limit)
+        let version = version_of(&self.image);
+        self.core
+            .run(self.image.code(), version, head, packet, clock, limit)
     }
 
     /// Gives the maps back.

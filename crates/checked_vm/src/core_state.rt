@@ -50,7 +50,7 @@ pub fn new_frame(serial: u64, return_slot: usize, saved: [Value; 4]) -> CallFram
 impl Core {
     /// A machine with room for all call frames, not started.
     pub fn new(alloc: Global, maps: LiveMaps) -> Result<Self, AllocError>
-        ensures room { IfOk result (λ core. most_frames ≤ vec_capacity core.frames) }
+        ensures room { IfOk result (λ core. vec_capacity core.frames ≡ most_frames) }
         ensures maps { IfOk result (λ core. core.maps ≡ maps) }
     {
         Ok(Core {

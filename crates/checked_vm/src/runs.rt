@@ -12,23 +12,23 @@ ghost use Rattle.checked_vm.specs.Outcomes.{IsStep, Answers};
 
 use crate::core_state::Core;
 use crate::steps::Stepped;
-use isa_model::{Clock, End, FrameHead, Insn, TrapReason};
+use isa_model::{Clock, End, FrameHead, Insn, TrapReason, Version};
 
 impl Core {
-    /// One step in a program's code, by slot.
+    /// One step in the code, by slot, of a program of this version.
     #[tactic(auto, unfolding(isa_model::specs::Machine::Steps::step))]
-    fn step(&mut self, insns: &[Option<Insn>], packet: &mut [u8]) -> Stepped
+    fn step(&mut self, insns: &[Option<Insn>], version: Version, packet: &mut [u8]) -> Stepped
         requires running { IsRunning self.old }
         requires serial { self.old.maps.next_serial < 2 ^ 63 }
         requires named { NamesAllRows self.old.maps.rows insns.now }
         ensures stays { StaysRunning self.old self.new }
         ensures step { (p : Program) (clock : ℕ → ℕ) → p.insns ≡ insns.now
-            → p.maps ≡ self.old.maps.rows →
+            → p.maps ≡ self.old.maps.rows → p.version ≡ version →
             IsStep clock (step p clock (state_of self.old packet.old)) result
             (state_of self.old packet.old) (state_of self.new packet.new) }
     {
         match insns.get(self.slot) {
-            Some(Some(insn)) => self.perform(insn, insns.len(), packet),
+            Some(Some(insn)) => self.perform(insn, insns.len(), version, packet),
             _ => Stepped::Stopped(TrapReason::NoCode),
         }
     }
@@ -37,6 +37,7 @@ impl Core {
     fn step_with<C: Clock>(
         &mut self,
         insns: &[Option<Insn>],
+        version: Version,
         packet: &mut [u8],
         clock: &mut C,
     ) -> Stepped
@@ -52,11 +53,12 @@ impl Core {
         ensures clock { (c : ℕ → ℕ) → Answers c self.old.clock_calls (C.at clock.old)
             → Answers c self.new.clock_calls (C.at clock.new) }
         ensures step { (p : Program) (c : ℕ → ℕ) → p.insns ≡ insns.now
-            → p.maps ≡ self.old.maps.rows → Answers c self.old.clock_calls (C.at clock.old) →
+            → p.maps ≡ self.old.maps.rows → p.version ≡ version
+            → Answers c self.old.clock_calls (C.at clock.old) →
             IsStep c (step p c (state_of self.old packet.old)) result
             (state_of self.old packet.old) (state_of self.new packet.new) }
     {
-        match self.step(insns, packet) {
+        match self.step(insns, version, packet) {
             Stepped::AsksTime => {
                 self.answer_time(clock.now());
                 Stepped::Went
@@ -69,6 +71,7 @@ impl Core {
     fn steps<C: Clock>(
         &mut self,
         insns: &[Option<Insn>],
+        version: Version,
         packet: &mut [u8],
         clock: &mut C,
         limit: u32,
@@ -77,15 +80,16 @@ impl Core {
         requires serial { self.old.maps.next_serial ≤ 2 ^ 33 }
         requires named { NamesAllRows self.old.maps.rows insns.now }
         requires calls { self.old.clock_calls ≡ 0 }
-        ensures room { most_frames ≤ vec_capacity self.new.frames }
+        ensures room { vec_capacity self.new.frames ≡ most_frames }
         ensures rows { self.new.maps.rows ≡ self.old.maps.rows }
         ensures clock { Answers (C.at clock.old) self.new.clock_calls (C.at clock.new) }
-        ensures turn { (p : Program) → p.insns ≡ insns.now → p.maps ≡ self.old.maps.rows →
+        ensures turn { (p : Program) → p.insns ≡ insns.now → p.maps ≡ self.old.maps.rows
+            → p.version ≡ version →
             turn_of (progress p (C.at clock.old) limit (state_of self.old packet.old))
             ≡ left result (state_of self.new packet.new) }
     {
         for done in 0..limit {
-            match self.step_with(insns, packet, clock) {
+            match self.step_with(insns, version, packet, clock) {
                 Stepped::Went => {}
                 Stepped::AsksTime => unreachable!(),
                 Stepped::Ended(number) => return End::Exit(number, done + 1),
@@ -95,19 +99,21 @@ impl Core {
         End::Limit
     }
 
-    /// Runs a program's code on a packet from the start.
+    /// Runs the code of a program of this version on a packet from the start.
     #[tactic(auto, unfolding(isa_model::specs::Running::Runs::turn))]
     pub fn run<C: Clock>(
         &mut self,
         insns: &[Option<Insn>],
+        version: Version,
         head: FrameHead,
         packet: &mut [u8],
         clock: &mut C,
         limit: u32,
     ) -> End
-        requires room { most_frames ≤ vec_capacity self.old.frames }
+        requires room { vec_capacity self.old.frames ≡ most_frames }
         requires named { NamesAllRows self.old.maps.rows insns.now }
-        ensures turn { (p : Program) → p.insns ≡ insns.now → p.maps ≡ self.old.maps.rows →
+        ensures turn { (p : Program) → p.insns ≡ insns.now → p.maps ≡ self.old.maps.rows
+            → p.version ≡ version →
             turn p limit (C.at clock.old) head packet.old (map entries_of self.old.maps.contents)
             ≡ record {
               ends = result;
@@ -116,10 +122,10 @@ impl Core {
               clock_calls = self.new.clock_calls;
             } }
         ensures clock { (k : ℕ) → C.at clock.new k ≡ C.at clock.old (self.new.clock_calls + k) }
-        ensures room { most_frames ≤ vec_capacity self.new.frames }
+        ensures room { vec_capacity self.new.frames ≡ most_frames }
         ensures rows { self.new.maps.rows ≡ self.old.maps.rows }
     {
         self.start(head);
-        self.steps(insns, packet, clock, limit)
+        self.steps(insns, version, packet, clock, limit)
     }
 }

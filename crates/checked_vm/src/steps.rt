@@ -8,12 +8,12 @@ ghost use Rattle.isa_model.specs.Code.Registers.{reg_number};
 ghost use Rattle.isa_model.specs.Code.Instructions.{Program, reads};
 ghost use Rattle.isa_model.specs.Code.MapRows.{NamesRows};
 ghost use Rattle.isa_model.specs.Machine.States.{value_at};
-ghost use Rattle.isa_model.specs.Machine.Steps.{is_unset, act, performed};
+ghost use Rattle.isa_model.specs.Machine.Steps.{is_unset, is_answer, act, performed};
 ghost use Rattle.checked_vm.specs.Machine.{state_of, IsRunning, StaysRunning, PerformsIn};
 ghost use Rattle.checked_vm.specs.Outcomes.{IsStep};
 
 use crate::core_state::{Core, MOST_FRAMES};
-use isa_model::{Insn, Reg, Region, TrapReason, Value, destination};
+use isa_model::{Insn, Reg, Region, TrapReason, Value, Version, destination};
 
 /// What a step came to.
 #[derive(Clone, Copy, PartialEq, Eq, Debug)]
@@ -24,6 +24,17 @@ pub enum Stepped {
     /// A call of ktime_get_ns, which has no answer yet.
     AsksTime,
     Stopped(TrapReason),
+}
+
+// Whether a number may be the answer of a program of this version: in version 2 its low half names
+// an action.
+fn is_answer(version: Version, number: u64) -> bool
+    ensures { result ≡ is_answer version number }
+{
+    match version {
+        Version::One => true,
+        Version::Two => number % 0x1_0000_0000 <= 4,
+    }
 }
 
 impl Core {
@@ -108,18 +119,20 @@ impl Core {
         }
     }
 
-    /// EXIT: the first frame's ends the run, an inner one's leads back to the caller.
+    /// EXIT in a program of this version: the first frame's ends the run, an inner one's leads back
+    /// to the caller.
     #[tactic(auto, unfolding(isa_model::specs::Machine::Steps::act))]
-    fn exit(&mut self) -> Stepped
+    fn exit(&mut self, version: Version) -> Stepped
         requires { IsRunning self.old }
         ensures stays { StaysRunning self.old self.new }
-        ensures step { (packet : List ℕ) (p : Program) (clock : ℕ → ℕ)
+        ensures step { (packet : List ℕ) (p : Program) (clock : ℕ → ℕ) → p.version ≡ version
             → IsStep clock (act p clock (state_of self.old packet) Insn.Exit) result
             (state_of self.old packet) (state_of self.new packet) }
     {
         if self.depth() == 1 {
             match self.value(Reg::R0) {
-                Value::Num(n) => Stepped::Ended(n),
+                Value::Num(n) if is_answer(version, n) => Stepped::Ended(n),
+                Value::Num(_) => Stepped::Stopped(TrapReason::BadAction),
                 _ => Stepped::Stopped(TrapReason::NoResult),
             }
         } else {
@@ -128,15 +141,21 @@ impl Core {
         }
     }
 
-    /// An instruction, the tests of its registers first.
-    pub fn perform(&mut self, insn: &Insn, slots: usize, packet: &mut [u8]) -> Stepped
+    /// An instruction of a program of this version, the tests of its registers first.
+    pub fn perform(
+        &mut self,
+        insn: &Insn,
+        slots: usize,
+        version: Version,
+        packet: &mut [u8],
+    ) -> Stepped
         requires running { IsRunning self.old }
         requires slot { self.old.slot + 2 < 2 ^ 63 }
         requires serial { self.old.maps.next_serial < 2 ^ 63 }
         requires named { NamesRows self.old.maps.rows insn.now }
         ensures stays { StaysRunning self.old self.new }
         ensures step { (p : Program) (clock : ℕ → ℕ) → length p.insns ≡ slots
-            → p.maps ≡ self.old.maps.rows →
+            → p.maps ≡ self.old.maps.rows → p.version ≡ version →
             IsStep clock (performed p clock (state_of self.old packet.old) insn.now) result
             (state_of self.old packet.old) (state_of self.new packet.new) }
     {
@@ -147,7 +166,7 @@ impl Core {
             return Stepped::Stopped(TrapReason::ReadOnly);
         }
         match insn {
-            Insn::Exit => self.exit(),
+            Insn::Exit => self.exit(version),
             Insn::CallHelper(number) => self.call_helper(*number, packet),
             _ => match self.act(insn, slots, packet) {
                 Ok(()) => Stepped::Went,

@@ -5,11 +5,11 @@ use Rattle.std.specs.Prelude.{All, vec_capacity}
 use Rattle.isa_model.specs.declared.frames.FrameHead.{FrameHead}
 use Rattle.isa_model.specs.Code.Instructions.{Program}
 use Rattle.isa_model.specs.Machine.States.{Entries}
-use Rattle.isa_model.specs.Reporting.Streams.{max_body}
+use Rattle.isa_model.specs.{max_packet}
 use Rattle.isa_model.specs.Machine.MachineStates.{AreBytes, FitRows, IsClock, IsGiven}
 use Rattle.isa_model.specs.Running.Outcomes.{FitRows-HasOutcome}
 use Rattle.image.specs.Programs.{IsProgram-IsImage}
-use Rattle.explorer.specs.Bounds.{Bounded, IsVerified}
+use Rattle.bounds.specs.Bounds.{Bounded, IsVerified}
 use Rattle.maps.specs.Maps.{IsMap, contents_of}
 use Rattle.word_machine.specs.declared.memory.Saved.{Saved}
 use Rattle.word_machine.specs.declared.memory.Memory.{Memory}
@@ -39,7 +39,7 @@ abbrev pub memory_at : Memory → FrameHead → Memory
 memory_at memory head = record memory { interface = head.interface; queue = head.queue }
 
 module _ (p : Program) (bound : ℕ) (memory : Memory) (ready : IsReady p bound memory) (head : FrameHead) (packet : List ℕ) (clock : ℕ → ℕ)
-    (fits : IsClock clock) (short : length packet ≤ max_body) (bytes : AreBytes packet) (interface : head.interface < 2 ^ 32) (queue : head.queue < 2 ^ 32)
+    (fits : IsClock clock) (short : length packet ≤ max_packet) (bytes : AreBytes packet) (interface : head.interface < 2 ^ 32) (queue : head.queue < 2 ^ 32)
     (are : All IsMap memory.maps) where
   given : IsGiven p head packet (contents_of memory.maps)
   given = record { short = short; bytes = bytes; interface = interface; queue = queue; maps = ready.running.fits }

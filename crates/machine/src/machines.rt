@@ -1,13 +1,13 @@
 //! Machines, and their runs.
 
 ghost use Rattle.std.specs.Prelude.{◌≡◌, ◌<◌, ◌≤◌, ◌^◌, length, IfOk};
-ghost use Rattle.isa_model.specs.Reporting.Streams.{max_body};
+ghost use Rattle.isa_model.specs.{max_packet};
 ghost use Rattle.isa_model.specs.Machine.MachineStates.{AreBytes};
 ghost use Rattle.maps.specs.Maps.{rows_of, contents_of};
 ghost use Rattle.machine.specs.Running.{Answers, IsRunning};
 
 use super::errors::VmError;
-use explorer::Verified;
+use bounds::Verified;
 use isa_model::{Clock, FrameHead};
 use maps::Maps;
 use std::alloc::Global;
@@ -116,7 +116,7 @@ impl Machine {
 
     /// Runs the program on a packet from the start, to its exit. It takes no memory.
     pub fn run<C: Clock>(&mut self, head: FrameHead, packet: &mut [u8], clock: &mut C) -> Exit
-        requires { length packet.old ≤ max_body }
+        requires { length packet.old ≤ max_packet }
         ensures answers { Answers self.old head packet.old (C.at clock.old)
             result packet.new self.new.contents (C.at clock.new) }
         ensures program { self.new.program ≡ self.old.program }

@@ -1,16 +1,18 @@
 //! Calls of helpers.
 
-ghost use Rattle.std.specs.Prelude.{◌≡◌, ◌+◌, ◌-◌, ◌/◌, ◌≤◌, ℕ, [], length, slice_index, take, IfOk, vec_capacity};
+ghost use Rattle.std.specs.Prelude.{◌≡◌, ◌≢◌, ◌+◌, ◌-◌, ◌/◌, ◌≤◌, ℕ, [], length, slice_index, take, vec_capacity};
 ghost use Rattle.std.specs.FinMap as finmap;
+ghost use Rattle.helpers.specs.declared.calls.Answer.TheVariants.{Number, Value};
 ghost use Rattle.isa_model.specs.Code.Helpers.{helper_numbered};
 ghost use Rattle.word_machine.specs.Helping.{CallFits, Calls, asks, NamesKey, HasPlaces, NamesValue, Updates, Deletes};
 ghost use Rattle.word_machine.specs.Helping.{found_at, key_named, named};
 ghost use Rattle.word_machine.specs.Machine.{words_of, Rests};
 ghost use Rattle.word_machine.specs.Ops.{constant_of, HasConstant};
 
-use crate::memory::{Memory, bytes};
+use crate::memory::{Memory, bytes, bytes_or_kept, keep_of_maps};
 use crate::ops::Op;
-use isa_model::Clock;
+use helpers::{Answer, Request, call};
+use isa_model::{Clock, Helper};
 
 // The map to which r1 points.
 #[inline(always)]
@@ -20,41 +22,63 @@ fn map_named(regs: &[u64; 11]) -> usize
     (regs[1] / 0x1_0000_0000).saturating_sub(16) as usize
 }
 
-// Where the value of the key is to which r2 points, or 0.
-fn lookup(regs: &[u64; 11], memory: &Memory, packet: &[u8]) -> u64
-    requires key { NamesKey (words_of 0 regs.now memory.now packet.now 0) }
-    requires places { HasPlaces (words_of 0 regs.now memory.now packet.now 0) }
-    ensures { result ≡ found_at (words_of 0 regs.now memory.now packet.now 0)
-        (finmap.get (named (words_of 0 regs.now memory.now packet.now 0)).places
-        (key_named (words_of 0 regs.now memory.now packet.now 0))) }
+// The number that is answered, where it is no place.
+#[inline(always)]
+fn number(answer: Answer) -> u64
+    requires { (place : ℕ) → answer ≢ Value place }
+    ensures { answer ≡ Number result }
+{
+    match answer {
+        Answer::Number(n) => n,
+        Answer::Value(_) => unreachable!(),
+    }
+}
+
+// Where the value of the key is to which r2 points, or 0. A key that stands in a map is kept apart.
+fn lookup<C: Clock>(regs: &[u64; 11], memory: &mut Memory, packet: &[u8], clock: &mut C) -> u64
+    requires key { NamesKey (words_of 0 regs.now memory.old packet.now 0) }
+    requires places { HasPlaces (words_of 0 regs.now memory.old packet.now 0) }
+    ensures found { result ≡ found_at (words_of 0 regs.now memory.old packet.now 0)
+        (finmap.get (named (words_of 0 regs.now memory.old packet.now 0)).places
+        (key_named (words_of 0 regs.now memory.old packet.now 0))) }
+    ensures maps { memory.new.maps ≡ memory.old.maps }
+    ensures frames { memory.new.frames ≡ memory.old.frames }
+    ensures kept { vec_capacity memory.new.saved ≡ vec_capacity memory.old.saved }
+    ensures rest { Rests memory.old memory.new }
+    ensures clock { (k : ℕ) → C.at clock.new k ≡ C.at clock.old k }
 {
     let map = map_named(regs);
     let row = memory.maps.row(map);
     let size = usize::from(row.key_size);
-    let key = bytes(
-        memory.frames.as_slice(),
-        &memory.maps,
-        packet,
-        regs[2],
-        size,
-    );
-    match memory.maps.find(map, key) {
-        Some(place) => {
+    let frames = memory.frames.as_slice();
+    let room = &mut memory.room;
+    keep_of_maps(room, frames, &memory.maps, packet, regs[2], size);
+    let key = bytes_or_kept(frames, packet, room.front(size), regs[2], size);
+    let request = Request {
+        helper: Helper::MapLookupElem,
+        map,
+        key,
+        value: &[],
+        flags: 0,
+    };
+    match call(&mut memory.maps, &request, clock) {
+        Answer::Value(place) => {
             let start = place as u64 * u64::from(row.value_size);
             (32 + map as u64) * 0x1_0000_0000 + 0x8000_0000 + start
         }
-        None => 0,
+        Answer::Number(n) => n,
     }
 }
 
 // Writes the value to which r3 points for the key to which r2 does: 0, or an error.
-fn update(regs: &[u64; 11], memory: &mut Memory, packet: &[u8]) -> u64
+fn update<C: Clock>(regs: &[u64; 11], memory: &mut Memory, packet: &[u8], clock: &mut C) -> u64
     requires key { NamesKey (words_of 0 regs.now memory.old packet.now 0) }
     requires value { NamesValue (words_of 0 regs.now memory.old packet.now 0) }
     ensures updates { Updates (words_of 0 regs.now memory.old packet.now 0) result memory.new.maps }
     ensures frames { memory.new.frames ≡ memory.old.frames }
     ensures kept { vec_capacity memory.new.saved ≡ vec_capacity memory.old.saved }
     ensures rest { Rests memory.old memory.new }
+    ensures clock { (k : ℕ) → C.at clock.new k ≡ C.at clock.old k }
 {
     let map = map_named(regs);
     let row = memory.maps.row(map);
@@ -71,18 +95,26 @@ fn update(regs: &[u64; 11], memory: &mut Memory, packet: &[u8]) -> u64
         .room
         .keep(bytes(frames, &memory.maps, packet, regs[3], value_size));
     let value = memory.room.front(value_size);
-    let answer = memory.maps.update(map, &key[..size], value, regs[4]);
+    let request = Request {
+        helper: Helper::MapUpdateElem,
+        map,
+        key: &key[..size],
+        value,
+        flags: regs[4],
+    };
+    let answer = call(&mut memory.maps, &request, clock);
     let _count = memory.maps.count();
-    answer
+    number(answer)
 }
 
 // Removes the key to which r2 points: 0, or an error.
-fn delete(regs: &[u64; 11], memory: &mut Memory, packet: &[u8]) -> u64
+fn delete<C: Clock>(regs: &[u64; 11], memory: &mut Memory, packet: &[u8], clock: &mut C) -> u64
     requires { NamesKey (words_of 0 regs.now memory.old packet.now 0) }
     ensures deletes { Deletes (words_of 0 regs.now memory.old packet.now 0) result memory.new.maps }
     ensures frames { memory.new.frames ≡ memory.old.frames }
     ensures kept { vec_capacity memory.new.saved ≡ vec_capacity memory.old.saved }
     ensures rest { Rests memory.old memory.new }
+    ensures clock { (k : ℕ) → C.at clock.new k ≡ C.at clock.old k }
 {
     let map = map_named(regs);
     let mut key = [0u8; 64];
@@ -93,9 +125,32 @@ fn delete(regs: &[u64; 11], memory: &mut Memory, packet: &[u8]) -> u64
         &mut key,
         0,
     );
-    let answer = memory.maps.delete(map, &key[..size]);
+    let request = Request {
+        helper: Helper::MapDeleteElem,
+        map,
+        key: &key[..size],
+        value: &[],
+        flags: 0,
+    };
+    let answer = call(&mut memory.maps, &request, clock);
     let _count = memory.maps.count();
-    answer
+    number(answer)
+}
+
+// The clock's answer.
+fn time<C: Clock>(memory: &mut Memory, clock: &mut C) -> u64
+    ensures first { result ≡ C.at clock.old 0 }
+    ensures memory { memory.new ≡ memory.old }
+    ensures clock { (k : ℕ) → C.at clock.new k ≡ C.at clock.old (1 + k) }
+{
+    let request = Request {
+        helper: Helper::KtimeGetNs,
+        map: 0,
+        key: &[],
+        value: &[],
+        flags: 0,
+    };
+    number(call(&mut memory.maps, &request, clock))
 }
 
 /// Does the call of a helper.
@@ -120,9 +175,9 @@ pub fn help<C: Clock>(
         (asked + asks (helper_numbered (constant_of o.now)))) }
 {
     regs[0] = match o.imm {
-        1 => lookup(regs, memory, packet),
-        2 => update(regs, memory, packet),
-        3 => delete(regs, memory, packet),
-        _ => clock.now(),
+        1 => lookup(regs, memory, packet, clock),
+        2 => update(regs, memory, packet, clock),
+        3 => delete(regs, memory, packet, clock),
+        _ => time(memory, clock),
     };
 }

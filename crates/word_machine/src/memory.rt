@@ -1,10 +1,12 @@
 //! The machine's memory: the block of frames, the blocks of maps, and what callers left.
 
-ghost use Rattle.std.specs.Prelude.{◌≡◌, ◌+◌, ◌-◌, ◌*◌, ◌/◌, ◌%◌, ◌<◌, ◌≤◌, ℕ, List, [], length, vec_capacity, IfOk};
+ghost use Rattle.std.specs.Prelude.{◌≡◌, ◌+◌, ◌-◌, ◌*◌, ◌/◌, ◌%◌, ◌<◌, ◌≤◌, ℕ, List, [], length, take, vec_capacity, IfOk};
+ghost use Rattle.std.specs.Prelude.{if◌then◌else◌, true, false};
+ghost use Rattle.isa_model.specs.{max_packet};
 ghost use Rattle.isa_model.specs.Code.Numbers.{bytes_of, number_from};
 ghost use Rattle.isa_model.specs.Code.Sizes.{size_bytes};
 ghost use Rattle.isa_model.specs.declared.sizes.Size.TheVariants.{U8, U16, U32, U64};
-ghost use Rattle.word_machine.specs.Words.{IsInside, Loads, spot_of, get, word_from, number_at};
+ghost use Rattle.word_machine.specs.Words.{IsInside, Loads, spot_of, is_in_maps, get, word_from, number_at};
 ghost use Rattle.word_machine.specs.Words.{packet_after, frames_after, maps_after};
 ghost use Rattle.word_machine.specs.Words.{context_word, first_frame, frame_index};
 ghost use Rattle.word_machine.specs.Machine.{words_of, seen, Rests};
@@ -30,7 +32,7 @@ pub struct Memory {
     pub interface: u32,
     pub queue: u32,
     pub maps: Maps,
-    /// Where an update keeps a value.
+    /// Where a call of a helper keeps a value, and a key that stands in a map.
     pub room: Room,
 }
 
@@ -67,6 +69,14 @@ fn frame_place(address: u64) -> usize
 {
     let past = address - FIRST_FRAME;
     (past / 0x80_0000 + past % 512) as usize
+}
+
+/// Whether an address leads to the values of a map.
+#[inline(always)]
+fn is_in_maps(address: u64) -> bool
+    ensures { result ≡ is_in_maps (spot_of address) }
+{
+    address < FIRST_FRAME && address / 0x1_0000_0000 != 2
 }
 
 /// The byte at an address.
@@ -161,10 +171,59 @@ pub fn bytes<'a>(
     }
 }
 
+/// Keeps the bytes at an address that leads to the values of a map.
+#[inline(always)]
+pub fn keep_of_maps(
+    room: &mut Room,
+    frames: &[u8],
+    maps: &Maps,
+    packet: &[u8],
+    address: u64,
+    count: usize,
+)
+    requires some { 0 < count }
+    requires most { count ≤ 4096 }
+    requires inside { IsInside (seen frames.now maps.now packet.now) (spot_of address) count }
+    ensures { is_in_maps (spot_of address) ≡ true → take count room.new.bytes.items
+        ≡ get (seen frames.now maps.now packet.now) (spot_of address) count }
+{
+    if is_in_maps(address) {
+        room.keep(bytes(frames, maps, packet, address, count));
+    }
+}
+
+/// The bytes at an address, or those that are kept where it leads to the values of a map.
+#[inline(always)]
+pub fn bytes_or_kept<'a>(
+    frames: &'a [u8],
+    packet: &'a [u8],
+    kept: &'a [u8],
+    address: u64,
+    count: usize,
+) -> &'a [u8]
+    requires some { 0 < count }
+    requires inside { is_in_maps (spot_of address) ≡ false
+        → IsInside (seen frames.now [] packet.now) (spot_of address) count }
+    requires kept { length kept.now ≡ count }
+    ensures bytes { result.now ≡ (if is_in_maps (spot_of address) then kept.now
+        else get (seen frames.now [] packet.now) (spot_of address) count) }
+    ensures size { length result.now ≡ count }
+{
+    if is_in_maps(address) {
+        kept
+    } else if address / 0x1_0000_0000 == 2 {
+        let at = (address % 0x1_0000) as usize;
+        &packet[at..at + count]
+    } else {
+        let at = frame_place(address);
+        &frames[at..at + count]
+    }
+}
+
 /// A field of the context.
 #[inline(always)]
 pub fn field(memory: &Memory, packet: &[u8], address: u64) -> u64
-    requires { length packet.now ≤ 4096 }
+    requires { length packet.now ≤ max_packet }
     ensures { result ≡ context_word (words_of 0 [] memory.now packet.now 0) address }
 {
     match address {
@@ -315,7 +374,7 @@ pub fn put(size: Size, memory: &mut Memory, packet: &mut [u8], address: u64, num
 #[inline(always)]
 pub fn load(size: Size, memory: &Memory, packet: &[u8], address: u64) -> u64
     requires loads { Loads (words_of 0 [] memory.now packet.now 0) size address }
-    requires short { length packet.now ≤ 4096 }
+    requires short { length packet.now ≤ max_packet }
     ensures { result ≡ word_from (words_of 0 [] memory.now packet.now 0) size address }
 {
     match size {

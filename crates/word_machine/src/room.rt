@@ -29,7 +29,8 @@ impl Room {
     /// So many bytes at the front.
     pub fn front(&self, count: usize) -> &[u8]
         requires { count ≤ 4096 }
-        ensures { result.now ≡ take count self.now.bytes.items }
+        ensures front { result.now ≡ take count self.now.bytes.items }
+        ensures size { length result.now ≡ count }
     {
         &self.bytes[..count]
     }

@@ -25,7 +25,7 @@ use Rattle.isa_model.specs.declared.ends.TrapReason.TheVariants.{BadAccess}
 use Rattle.isa_model.specs.Code.Sizes.{size_bytes}
 use Rattle.isa_model.specs.Code.Numbers.{alu, unsigned, number_from}
 use Rattle.isa_model.specs.Machine.ByteCells.{take-drop-Byte}
-use Rattle.isa_model.specs.Code.Instructions.{Program}
+use Rattle.isa_model.specs.{Program, max_packet}
 use Rattle.isa_model.specs.Machine.States.{State, content_of, frame_at, new_frame}
 use Rattle.isa_model.specs.Machine.Memory.{and_then, entry_index, entry_at, index_from, index_at, place_in, cells_at, read, number_in, value_in, as_number, memory_load, context_field, context_load, load}
 use Rattle.isa_model.specs.Machine.MachineStates.{IsValue, IsCallFrame, IsState}
@@ -45,7 +45,7 @@ use Rattle.word_relation.specs.Cells.{shows-take, shows-drop, shows-bytes, shows
 
 -- ---- which block an address leads to
 
-pub spot_packet : (i : ℕ) → i ≤ 4096 → spot_of (base 2 + i) ≡ InPacket i
+pub spot_packet : (i : ℕ) → i ≤ max_packet → spot_of (base 2 + i) ≡ InPacket i
 spot_packet i h =
     let high : (base 2 + i) / 4294967296 ≡ 2 = omega arith in
     let low : (base 2 + i) % 65536 ≡ i = omega arith in

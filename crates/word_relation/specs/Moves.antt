@@ -16,7 +16,7 @@ use Rattle.isa_model.specs.declared.instructions.Insn.TheVariants.{Alu, Neg, Mov
 use Rattle.isa_model.specs.declared.values.Value.{Value}
 use Rattle.isa_model.specs.declared.values.Value.TheVariants.{Unset, Num, Ptr}
 use Rattle.isa_model.specs.declared.ends.TrapReason.{TrapReason}
-use Rattle.isa_model.specs.declared.ends.TrapReason.TheVariants.{UnsetRead, ReadOnly, TooManyFrames}
+use Rattle.isa_model.specs.declared.ends.TrapReason.TheVariants.{UnsetRead, ReadOnly, TooManyFrames, BadAction}
 use Rattle.isa_model.specs.Code.Sizes.{narrow_size, narrow_extension}
 use Rattle.isa_model.specs.Code.Registers.{reg_number}
 use Rattle.isa_model.specs.Code.Helpers.{helper_numbered}
@@ -30,7 +30,7 @@ use Rattle.isa_model.specs.Machine.Memory.{and_then, load, load_signed, store}
 use Rattle.isa_model.specs.Machine.MapHelpers.{Helped}
 use Rattle.isa_model.specs.Machine.HelperCalls.{helper_call, after_call}
 use Rattle.isa_model.specs.Machine.Calls.{most_frames, enter, leave}
-use Rattle.isa_model.specs.Machine.Steps.{StepResult, Next, Finished, Trapped, operand_value, base_of, destination, map_pointer, value_pointer, sets, goes_on, jumps, branches, tested, test_of, calls, finishes, exits, atomic_number, swaps_in, fetched_into, act, is_unset, performed_at, step}
+use Rattle.isa_model.specs.Machine.Steps.{StepResult, Next, Finished, Trapped, operand_value, base_of, destination, map_pointer, value_pointer, sets, goes_on, jumps, branches, tested, test_of, calls, is_answer, finishes, exits, atomic_number, swaps_in, fetched_into, act, is_unset, performed_at, step}
 use Rattle.isa_model.specs.Machine.MachineStates.{IsProgram, IsValue, IsState}
 use Rattle.isa_model.specs.Machine.ValueLaws.{unsigned_fits}
 use Rattle.isa_model.specs.Machine.StateLaws.{reg_fits}
@@ -179,15 +179,19 @@ module _ (p : Program) (clock : ℕ → ℕ) (a : Layout) (s : State) (w : Words
             ),
           )
 
-  finish : (v : Value) → length w.saved ≡ 0 → Shows a v (word_at w R0) → OkMove Exit (finishes v)
-  finish (Num n) e h = ((refl, e), h)
+  finish : (v : Value) → length w.saved ≡ 0 → Shows a v (word_at w R0) → OkMove Exit (finishes p.version v)
+  finish (Num n) e h = answers (is_answer p.version n)
+    where
+      answers : (b : Bool) → OkMove Exit (if b then Finished n else Trapped BadAction)
+      answers true = ((refl, e), h)
+      answers false = tt
   finish (Ptr r z) e h = tt
   finish Unset e h = tt
 
-  act_exit : OkMove Exit (exits s)
+  act_exit : OkMove Exit (exits p.version s)
   act_exit = last (length s.frames == 1) refl
     where
-      last : (one : Bool) → (length s.frames == 1) ≡ one → OkMove Exit (if one then finishes (reg s R0) else Next (leave s))
+      last : (one : Bool) → (length s.frames == 1) ≡ one → OkMove Exit (if one then finishes p.version (reg s R0) else Next (leave s))
       last true e =
           let one : length s.frames ≡ 1 = grind (arith, nat_tests) in
           let deep = R.frames.depth in

@@ -12,7 +12,7 @@ use Rattle.isa_model.specs.declared.values.Value.TheVariants.{Unset, Num, Ptr}
 use Rattle.isa_model.specs.declared.values.Cell.{Cell}
 use Rattle.isa_model.specs.declared.values.Cell.TheVariants.{Unwritten, Byte, Piece}
 use Rattle.isa_model.specs.declared.values.CallFrame.{CallFrame}
-use Rattle.isa_model.specs.Code.Instructions.{Program}
+use Rattle.isa_model.specs.{Program, max_packet}
 use Rattle.isa_model.specs.Machine.States.{State, Stored, Content, value_at, frame_at}
 use Rattle.map_indexes.specs.Rows.{row_at}
 use Rattle.maps.specs.ContentLaws.{changed}
@@ -31,7 +31,7 @@ pub record IsLayout (a : Layout) (rows : ℕ) : Type 0 where
   pub few : rows ≤ 16
   pub shallow : (n : ℕ) → a.depth n < 8
   pub low : (m n : ℕ) → a.value m n < 536870912
-  pub short : a.end ≤ 4096
+  pub short : a.end ≤ max_packet
 
 -- where a region's offset 0 is
 abbrev pub start : Layout → Region → ℕ

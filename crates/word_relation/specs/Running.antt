@@ -5,6 +5,7 @@ use Rattle.std.specs.List.{list_any}
 use Rattle.isa_model.specs.declared.instructions.Insn.{Insn}
 use Rattle.isa_model.specs.declared.instructions.Insn.TheVariants.{Exit}
 use Rattle.isa_model.specs.declared.ends.TrapReason.TheVariants.{UnsetRead, ReadOnly}
+use Rattle.isa_model.specs.{max_packet}
 use Rattle.isa_model.specs.Code.Instructions.{Program, fetch, reads, writes, is_frame_pointer}
 use Rattle.isa_model.specs.Machine.States.{State, reg}
 use Rattle.isa_model.specs.Machine.Steps.{StepResult, Next, Finished, Trapped, is_unset, act, performed_at, step}
@@ -76,7 +77,7 @@ module _ (p : Program) (clock : ℕ → ℕ) (program : IsProgram p) (answers : 
       shallow : length w.saved < 8
       shallow = let d = R.frames.depth in let e = K.depth in omega arith
 
-      short : length w.packet ≤ 4096
+      short : length w.packet ≤ max_packet
       short = let e = ap length R.packet in let f = K.short in omega arith
 
       by_step : (q : StepResult) → After Q q → OkMove p clock a s w R K i q → IfNext q (IsState p) → Stands p clock w P

@@ -10,7 +10,7 @@ use Rattle.flatmem.specs.Bytes.{bytes_at}
 use Rattle.flatmem.specs.BytesLaws.{length-bytes_at}
 use Rattle.isa_model.specs.declared.frames.FrameHead.{FrameHead}
 use Rattle.isa_model.specs.declared.values.Value.TheVariants.{Unset}
-use Rattle.isa_model.specs.Code.Instructions.{Program}
+use Rattle.isa_model.specs.{Program, max_packet}
 use Rattle.isa_model.specs.Machine.States.{Stored, value_at, new_frame, frame_at}
 use Rattle.isa_model.specs.Running.Runs.{start_state, start_regs, numbered, numbered_maps, count_values}
 use Rattle.map_indexes.specs.Rows.{row_at}
@@ -98,7 +98,7 @@ maps_shown first (state ∷ maps) (suc m) h = maps_shown (first + length (conten
 
 -- ---- the first state
 
-pub start_related : (p : Program) (head : FrameHead) (packet frames : List ℕ) (maps : List MapState) → length p.maps ≤ 16 → length packet ≤ 4096
+pub start_related : (p : Program) (head : FrameHead) (packet frames : List ℕ) (maps : List MapState) → length p.maps ≤ 16 → length packet ≤ max_packet
     → length frames ≡ 4096 → All IsMap maps → rows_of maps ≡ p.maps
     → Related p (start_layout packet maps) (start_state head packet (contents_of maps)) (start_of head packet frames maps)
 unfolding start_state new_frame

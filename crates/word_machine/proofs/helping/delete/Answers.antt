@@ -1,15 +1,22 @@
-use Rattle.std.proofs.Common.{◌∙◌, ap}
+use Rattle.std.proofs.Common.{◌∙◌, ℕ, List, ap, subst, take}
 use Rattle.isa_model.specs.declared.map_defs.MapDef.{MapDef}
+use Rattle.maps.specs.Maps.{map_at, Deleted}
+use Rattle.helpers.specs.declared.calls.Answer.{Answer}
+use Rattle.helpers.specs.Calls.{IsNumber}
 use Rattle.word_machine.specs.Machine.{words_of}
 use Rattle.word_machine.proofs.Arguments.{key_copied, deletes}
 use Rattle.word_machine.proofs.helping.delete.Goals as goal
 
 pub returns-clause-deletes : goal.returns-clause-deletes
-returns-clause-deletes c =
+returns-clause-deletes g c =
     let w = words_of 0 c.args.regs.now c.args.memory.now c.args.packet.now 0 in
     let m = c.map_named-map.result in
     let same = c.map_named-map.ensures in
     let size = c.from-size.ensures ∙ ap (λ (row : MapDef). row.key_size) c.row.ensures in
     let key = key_copied w m same c.as_slice-frames.result.now c.as_slice-frames.ensures.value _ c.copy.new.to c.bytes.result.now c.from-size.result c.copy.ensures c.bytes.ensures.bytes c.bytes.ensures.size size in
-    deletes w m same c.delete-answer.new.self c.count-count.ensures.maps c.requires.map c.delete-answer.ensures.others
-    _ c.delete-answer.result key c.delete-answer.ensures.deleted
+    let given : List ℕ = take c.from-size.result c.copy.new.to in
+    let answer = c.call-answer.ensures.answer in
+    let Is : Answer → Type 0 =
+    λ a. IsNumber a (λ n. Deleted given n (map_at c.args.memory.now.maps m) (map_at c.call-answer.new.maps m)) in
+    deletes w m same c.call-answer.new.maps c.count-count.ensures.maps c.requires.map answer.1
+    _ c.number.result key (subst Is c.number.ensures answer.0)

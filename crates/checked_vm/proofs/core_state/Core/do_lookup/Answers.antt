@@ -1,11 +1,12 @@
-use Rattle.std.proofs.Common.{◌≡◌, ◌≤◌, length, take, Ok, sym, ap, ◌∙◌, FitsSigned, w64, rules, arith}
+use Rattle.std.proofs.Common.{◌≡◌, ◌+◌, ◌≤◌, length, take, Ok, sym, ap, ◌∙◌, FitsSigned, w64, rules, arith}
 use Rattle.std.proofs.lemmas.Int.{to_z-of_z}
 use Rattle.std.proofs.lemmas.List.{length-take-le}
-use Rattle.isa_model.specs.Machine.States.{State}
+use Rattle.isa_model.specs.Machine.States.{State, go_to}
 use Rattle.isa_model.specs.Machine.Steps.{Next}
 use Rattle.isa_model.specs.Machine.MapContents.{at_key}
 use Rattle.isa_model.specs.Machine.MapHelpers.{pointer_or_zero}
-use Rattle.live_maps.specs.Live.{content_at}
+use Rattle.isa_model.specs.Machine.HelperCalls.{answered}
+use Rattle.live_maps.specs.Live.{Live, content_at}
 use Rattle.maps.specs.Maps.{KeyFits-most}
 use Rattle.checked_vm.specs.Machine.{state_of, helped_on}
 use Rattle.checked_vm.proofs.Helpers.{looks_up, found_key, no_key}
@@ -27,10 +28,12 @@ returns-clause-done c = λ p rows.
     let map_is = c.in_ok-index.ensures.argument p rows in
     let read = simp to_z-of_z at c.in_ok-read_argument.ensures.read in
     let answer_is : pointer_or_zero index (at_key key (content_at core.maps index)) ≡ c.match-lookup.answer = elim c.match-lookup.branch [
-      | in-Some w ↦ found_key index (at_key key (content_at core.maps index)) _ (sym w.in-Some.is ∙ c.lookup.ensures) ∙ sym w.answer-is
-      | in-None w ↦ no_key index (at_key key (content_at core.maps index)) (sym w.in-None.is ∙ c.lookup.ensures) ∙ sym w.answer-is
+      | in-Some w ↦ found_key index (at_key key (content_at core.maps index)) _ (sym w.in-Some.is ∙ c.lookup.ensures.serial) ∙ sym w.answer-is
+      | in-None w ↦ no_key index (at_key key (content_at core.maps index)) (sym w.in-None.is ∙ c.lookup.ensures.serial) ∙ sym w.answer-is
     ] in
     ap (helped_on s) (looks_up p s (record { index = index; row = row }) (record { region = c.in_ok-region.region; offset = c.in_ok-region.offset }) _ key
     (rw c.value.ensures at map_is) (rw c.value-2.ensures at c.in_ok-region.ensures) size read
     ∙ ap (λ v. Ok (record { answer = v; state = s })) answer_is)
+    ∙ ap (λ (maps : Live). Next (go_to (answered (record { answer = c.match-lookup.answer; state = state_of (record core { maps = maps }) packet })) (core.slot + 1)))
+    (sym c.lookup.ensures.same)
     ∙ ap Next (sym (c.answer.ensures.state packet))

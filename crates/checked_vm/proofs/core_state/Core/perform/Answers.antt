@@ -7,7 +7,7 @@ use Rattle.checked_vm.proofs.Acts.{performed_acts}
 use Rattle.checked_vm.proofs.core_state.Core.perform.Goals as goal
 
 pub returns-in-CallHelper-clause-step : goal.returns-in-CallHelper-clause-step
-returns-in-CallHelper-clause-step c = λ p clock count rows.
+returns-in-CallHelper-clause-step c = λ p clock count rows version.
     let fits : FitsSigned w32 c.in-CallHelper.number = search rules in
     let old = state_of c.args.self.now c.args.packet.now in
     let step = simp to_z-of_z at c.call_helper.ensures.step p clock rows in

@@ -7,7 +7,7 @@ use Rattle.checked_vm.proofs.core_state.Core.steps.Goals as goal
 
 pub loop-done-init : goal.loop-done-init
 loop-done-init g c = record {
-  so_far = λ p code rows. progress-zero p _ _;
+  so_far = λ p code rows version. progress-zero p _ _;
   running = c.requires.running;
   rows = refl;
   serial = omega arith;
@@ -20,9 +20,9 @@ loop-done-preserved g c =
     let inv = c.loop-done.invariant in
     let e = c.in-Went.ensures in
     record {
-      so_far = λ p code rows.
-          progress-next p (g.C.Clock.at c.args.clock.now) c.loop-done.done _ _ _ (inv.so_far p code rows)
-          (e.step p (g.C.Clock.at c.args.clock.now) code (rows ∙ sym inv.rows) inv.clock);
+      so_far = λ p code rows version.
+          progress-next p (g.C.Clock.at c.args.clock.now) c.loop-done.done _ _ _ (inv.so_far p code rows version)
+          (e.step p (g.C.Clock.at c.args.clock.now) code (rows ∙ sym inv.rows) version inv.clock);
       running = e.running;
       rows = e.rows ∙ inv.rows;
       serial = omega (arith, e.serial, inv.serial);
@@ -31,19 +31,19 @@ loop-done-preserved g c =
     }
 
 pub returns-in-Ended-clause-turn : goal.returns-in-Ended-clause-turn
-returns-in-Ended-clause-turn g c = λ p code rows.
+returns-in-Ended-clause-turn g c = λ p code rows version.
     let inv = c.loop-done.invariant in
     let clock = g.C.Clock.at c.args.clock.now in
-    let went = c.in-Ended.ensures.step p clock code (rows ∙ sym inv.rows) inv.clock in
-    turn_of-finished p clock c.loop-done.done c.args.limit c.in-Ended.number _ _ (inv.so_far p code rows) went.0 (omega arith)
+    let went = c.in-Ended.ensures.step p clock code (rows ∙ sym inv.rows) version inv.clock in
+    turn_of-finished p clock c.loop-done.done c.args.limit c.in-Ended.number _ _ (inv.so_far p code rows version) went.0 (omega arith)
     ∙ ap (left (Exit c.in-Ended.number (c.loop-done.done + 1))) (sym went.1)
 
 pub returns-in-Stopped-clause-turn : goal.returns-in-Stopped-clause-turn
-returns-in-Stopped-clause-turn g c = λ p code rows.
+returns-in-Stopped-clause-turn g c = λ p code rows version.
     let inv = c.loop-done.invariant in
     let clock = g.C.Clock.at c.args.clock.now in
-    let went = c.in-Stopped.ensures.step p clock code (rows ∙ sym inv.rows) inv.clock in
-    turn_of-trapped p clock c.loop-done.done c.args.limit c.in-Stopped.reason _ _ (inv.so_far p code rows) went.0 (omega arith)
+    let went = c.in-Stopped.ensures.step p clock code (rows ∙ sym inv.rows) version inv.clock in
+    turn_of-trapped p clock c.loop-done.done c.args.limit c.in-Stopped.reason _ _ (inv.so_far p code rows version) went.0 (omega arith)
     ∙ ap (left (Trap c.in-Stopped.reason c.loop-done.done)) (sym went.1)
 
 pub returns-in-Ended-clause-clock : goal.returns-in-Ended-clause-clock

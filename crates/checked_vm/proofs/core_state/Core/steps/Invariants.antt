@@ -7,7 +7,7 @@ use Rattle.checked_vm.proofs.core_state.Core.steps.Given as goal
 
 abbrev pub invariant-loop-done : goal.invariant-loop-done
 invariant-loop-done g l = record {
-  so_far : (p : Program) → p.insns ≡ l.insns → p.maps ≡ l.initial.self.maps.rows
+  so_far : (p : Program) → p.insns ≡ l.insns → p.maps ≡ l.initial.self.maps.rows → p.version ≡ l.version
       → progress p (g.C.Clock.at l.initial.clock) l.done (state_of l.initial.self l.initial.packet) ≡ GoesOn (state_of l.self l.packet);
   running : IsRunning l.self;
   rows : l.self.maps.rows ≡ l.initial.self.maps.rows;
