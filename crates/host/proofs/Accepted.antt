@@ -1,23 +1,33 @@
--- What the runs of an accepted program write.
-use Rattle.std.proofs.Common.{◌≡◌, ℕ, List, Option, Result, refl, sym, ap, ◌∙◌, subst}
+-- What the runs of a program write.
+use Rattle.std.proofs.Common.{◌≡◌, ℕ, ◌+◌, List, [], ◌∷◌, ◌++◌, length, Option, Result, Err, refl, sym, ap, ◌∙◌, subst, append_assoc, ◌⊎◌, inl, inr}
 use Rattle.isa_model.specs.declared.frames.FrameHead.{FrameHead}
+use Rattle.isa_model.specs.declared.map_defs.MapDef.{MapDef}
 use Rattle.isa_model.specs.declared.ends.End.TheVariants.{Exit}
 use Rattle.isa_model.specs.declared.streams.Finish.{Finish}
+use Rattle.isa_model.specs.declared.streams.Finish.TheVariants as finish
+use Rattle.isa_model.specs.declared.versions.Version.{Version}
+use Rattle.isa_model.specs.Code.Instructions.{Program}
+use Rattle.isa_model.specs.Code.Versions.{stream_magic}
 use Rattle.isa_model.specs.Machine.States.{Entries}
-use Rattle.isa_model.specs.Reporting.Streams.{Frame, Fresh}
+use Rattle.isa_model.specs.Reporting.Streams.{Frame, Stream, stream_with}
+use Rattle.isa_model.specs.Reporting.StreamLaws.{AreOpen}
 use Rattle.isa_model.specs.Running.Runs.{Turn, turn}
 use Rattle.isa_model.specs.Running.RunLaws.{turn-outcome}
-use Rattle.isa_model.specs.Reporting.Reports.{report_of, checked_rule, checked_report, starting_contents}
-use Rattle.isa_model.specs.Reporting.ReportLaws.{AreOpen-IsFrame, IsReport-checked}
+use Rattle.isa_model.specs.Reporting.Reports.{Piece, ToReport, ToFrames, Form, Rule, turns_pieces, contents_after, maps_pieces, last_line, report_of, checked_rule, checked_report, starting_contents, IsReport}
+use Rattle.isa_model.specs.Reporting.ReportLaws.{AllExit, IsReport-checked}
 use Rattle.image.specs.Programs.{IsProgram-IsImage, FitRows-starting_contents}
-use Rattle.explorer.specs.Bounds.{Bounded, IsVerified}
+use Rattle.bounds.specs.Bounds.{Bounded, IsVerified}
 use Rattle.machine.specs.declared.machines.Exit.{Exit as TheExit}
 use Rattle.machine.specs.Running.{Running, Answers}
+use Rattle.checked_vm.specs.Machines.{Running as Checking}
 use Rattle.host.specs.declared.errors.HostError.{HostError}
 use Rattle.host.specs.declared.tallies.Tally.{Tally}
-use Rattle.host.specs.Writing.{Outputs}
-use Rattle.host.specs.Reported.{Reports}
-use Rattle.host.specs.Accepted.{ReportsRun}
+use Rattle.host.specs.Writing.{Outputs, WroteBefore}
+use Rattle.host.specs.Reported.{Reports, ReportsBy, front_in}
+use Rattle.host.specs.Accepted.{ReportsRun, RunsWhole, RunsFront}
+use Rattle.host.proofs.Pieces.{WroteBefore-more}
+use Rattle.host.proofs.Turns.{turns_pieces-append}
+use Rattle.host.proofs.Fronts.{first_pieces}
 
 -- a machine's answer is the turn of its program
 pub turn-Answers : (r : Running) (head : FrameHead) (packet : List ℕ) (clock : ℕ → ℕ) (exit : TheExit) (after : List ℕ) (left : List Entries) (coming : ℕ → ℕ)
@@ -34,33 +44,97 @@ turn-Answers r head packet clock exit after left coming h =
       ap (λ (t : Turn). t.contents) same ∙ sym h.contents_are,
     )
 
+-- ---- from what a machine writes to the reports
+
+-- However a stream goes on after these frames, its checked report begins with their pieces.
+front_goes_on : (limit : ℕ) (program : Version) (rows : List MapDef) (rule : Rule) (contents : List Entries) (v : Version) (frames more : List Frame) (finish : Finish)
+    → (rest : List Piece) × (report_of limit program rows rule contents (stream_with v (frames ++ more, finish)) ≡ front_in (record { limit = limit; program = program; stream = v }) rule contents frames ++ rest)
+front_goes_on limit program rows rule contents v frames more finish =
+    let form : Form = record { limit = limit; program = program; stream = v } in
+    let later = turns_pieces form rule (0 + length frames) (contents_after rule contents frames) more in
+    let closing = maps_pieces 0 rows (contents_after rule contents (frames ++ more)) ++ ToReport (last_line (length (frames ++ more)) finish) ∷ [] in (
+      later ++ closing,
+      ap (λ (l : List Piece). (ToFrames (stream_magic v) ∷ l) ++ closing) (turns_pieces-append form rule 0 contents frames more)
+          ∙ append_assoc (front_in form rule contents frames) later closing,
+    )
+
+-- what a machine with checks writes is the checked report
+pub Reports-By : (p : Program) (limit : ℕ) (source : Option (List ℕ)) (old new : Outputs) (result : Result Tally HostError)
+    → ReportsBy source limit p.version p.maps (checked_rule p limit) (starting_contents p.maps) old new result → Reports source (checked_report p limit) old new result
+Reports-By p limit source old new result (inl r) = inl r
+Reports-By p limit source old new result (inr (error, is, r)) = inr (
+  error,
+  is,
+  record {
+    version = r.version;
+    frames = r.frames;
+    are_open = r.are_open;
+    begun = r.begun;
+    writes = λ more finish.
+        let (rest, whole) = front_goes_on limit p.version p.maps (checked_rule p limit) (starting_contents p.maps) r.version r.frames more finish in
+        subst (λ (l : List Piece). WroteBefore old new l error) (sym whole) (WroteBefore-more old new _ rest error r.writes);
+  },
+)
+
+-- the same of the checked machine that was made of the program and its maps as they start
+pub Reports-machine : (p : Program) (limit : ℕ) (source : Option (List ℕ)) (old new : Outputs) (result : Result Tally HostError) (program : Version) (m : Checking) → program ≡ p.version
+    → m ≡ record { program = p; contents = starting_contents p.maps }
+    → ReportsBy source limit program m.program.maps (checked_rule m.program limit) m.contents old new result → Reports source (checked_report p limit) old new result
+Reports-machine p limit source old new result program m version made r =
+    let versioned = subst (λ (v : Version). ReportsBy source limit v m.program.maps (checked_rule m.program limit) m.contents old new result) version r in
+    Reports-By p limit source old new result
+    (subst (λ (q : Checking). ReportsBy source limit p.version q.program.maps (checked_rule q.program limit) q.contents old new result) made versioned)
+
+-- the report of a stream, and the exits of its frames' runs
+reported : (a : Bounded) (found : Stream) → IsVerified a → AreOpen found.version found.frames
+    → IsReport a.program found (checked_report a.program a.bound found) × AllExit a.program a.bound (starting_contents a.program.maps) found.frames
+reported a found h open_here =
+    IsReport-checked a.program a.bound found (IsProgram-IsImage a.program h.image) h.ends (FitRows-starting_contents a.program h.image) open_here.fit
+
 -- what was written of an accepted program's turns is its report
-pub ReportsRun-Reports : (a : Bounded) (source : Option (List ℕ)) (old new : Outputs) (result : Result Tally HostError) → IsVerified a
-    → Reports source (checked_report a.program a.bound) old new result → ReportsRun a source old new result
-ReportsRun-Reports a source old new result h r =
-    let p = a.program in
-    let found : List Frame × Finish = (r.frames, r.finish) in
-    let fits = FitRows-starting_contents p h.image in
-    let (is_report, exits) = IsReport-checked p a.bound found (IsProgram-IsImage p h.image) h.ends fits (AreOpen-IsFrame Fresh r.frames r.are_open) in
-    record {
-      frames = r.frames;
-      finish = r.finish;
-      pieces = checked_report p a.bound found;
-      are_open = r.are_open;
-      read = r.read;
-      is_report = is_report;
-      exits = exits;
-      writes = r.writes;
-      tells = r.tells;
-    }
+pub ReportsRun-By : (a : Bounded) (source : Option (List ℕ)) (old new : Outputs) (result : Result Tally HostError) → IsVerified a
+    → ReportsBy source a.bound a.program.version a.program.maps (checked_rule a.program a.bound) (starting_contents a.program.maps) old new result → ReportsRun a source old new result
+ReportsRun-By a source old new result h r = record { some = h.some; most = h.most; reports = go r }
+  where
+    go : ReportsBy source a.bound a.program.version a.program.maps (checked_rule a.program a.bound) (starting_contents a.program.maps) old new result
+        → RunsWhole a source old new result ⊎ ((error : HostError) × (result ≡ Err error) × RunsFront a source old new error)
+    go (inl r) =
+        let (is_report, exits) = reported a r.found h r.are_open in
+        inl (record {
+          found = r.found;
+          pieces = checked_report a.program a.bound r.found;
+          are_open = r.are_open;
+          read = r.read;
+          is_report = is_report;
+          exits = exits;
+          writes = r.writes;
+          tells = r.tells;
+        })
+    go (inr (error, is, r)) =
+        let (is_report, exits) = reported a (stream_with r.version (r.frames, finish.End)) h r.are_open in
+        inr (
+          error,
+          is,
+          record {
+            version = r.version;
+            frames = r.frames;
+            are_open = r.are_open;
+            begun = r.begun;
+            exits = exits;
+            writes = λ more finish pieces report.
+                let (rest, whole) = first_pieces a.program a.bound r.version r.frames more finish pieces exits report in
+                subst (λ (l : List Piece). WroteBefore old new l error) (sym whole) (WroteBefore-more old new _ rest error r.writes);
+          },
+        )
 
 -- the same of the machine that was made of the program and its maps as they start, with its bound as the limit
-pub ReportsRun-machine : (a : Bounded) (source : Option (List ℕ)) (old new : Outputs) (result : Result Tally HostError) (limit : ℕ) (contents : List Entries) (m : Running) → IsVerified a
-    → limit ≡ a.bound → contents ≡ starting_contents a.program.maps → m ≡ record { program = a.program; bound = a.bound; contents = contents }
-    → Reports source (λ found. report_of limit m.program.maps (checked_rule m.program m.bound) m.contents found) old new result
+pub ReportsRun-machine : (a : Bounded) (source : Option (List ℕ)) (old new : Outputs) (result : Result Tally HostError) (limit : ℕ) (program : Version) (contents : List Entries) (m : Running) → IsVerified a
+    → limit ≡ a.bound → program ≡ a.program.version → contents ≡ starting_contents a.program.maps → m ≡ record { program = a.program; bound = a.bound; contents = contents }
+    → ReportsBy source limit program m.program.maps (checked_rule m.program m.bound) m.contents old new result
     → ReportsRun a source old new result
-ReportsRun-machine a source old new result limit contents m h bound start made r =
-    let bounded = subst (λ n. Reports source (λ found. report_of n m.program.maps (checked_rule m.program m.bound) m.contents found) old new result) bound r in
-    let by_program = subst (λ (q : Running). Reports source (λ found. report_of a.bound q.program.maps (checked_rule q.program q.bound) q.contents found) old new result) made bounded in
-    ReportsRun-Reports a source old new result h
-    (subst (λ (c : List Entries). Reports source (λ found. report_of a.bound a.program.maps (checked_rule a.program a.bound) c found) old new result) start by_program)
+ReportsRun-machine a source old new result limit program contents m h bound version start made r =
+    let bounded = subst (λ n. ReportsBy source n program m.program.maps (checked_rule m.program m.bound) m.contents old new result) bound r in
+    let versioned = subst (λ (v : Version). ReportsBy source a.bound v m.program.maps (checked_rule m.program m.bound) m.contents old new result) version bounded in
+    let by_program = subst (λ (q : Running). ReportsBy source a.bound a.program.version q.program.maps (checked_rule q.program q.bound) q.contents old new result) made versioned in
+    ReportsRun-By a source old new result h
+    (subst (λ (c : List Entries). ReportsBy source a.bound a.program.version a.program.maps (checked_rule a.program a.bound) c old new result) start by_program)

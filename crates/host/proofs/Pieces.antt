@@ -7,7 +7,7 @@ use Rattle.exact_io.specs.Transfers.{AppendsBeginning}
 use Rattle.isa_model.specs.declared.ends.End.{End}
 use Rattle.isa_model.specs.Reporting.Streams.{Frame, frame_bytes}
 use Rattle.isa_model.specs.Running.Runs.{Turn}
-use Rattle.isa_model.specs.Reporting.Reports.{Piece, ToReport, ToFrames, frame_line, frame_pieces, record_pieces, is_sent}
+use Rattle.isa_model.specs.Reporting.Reports.{Piece, ToReport, ToFrames, Form, frame_line, frame_pieces, record_pieces, is_sent, end_reason, skip_line, skip_pieces}
 use Rattle.host.specs.declared.errors.HostError.{HostError}
 use Rattle.host.specs.declared.errors.HostError.TheVariants as failure
 use Rattle.host.specs.Writing.{Outputs, Wrote, WroteBefore}
@@ -94,49 +94,73 @@ frames_failed r f g bytes rest p = record {
 
 -- ---- a frame's pieces, where its run ended by e and left these bytes
 
--- the line as it was made is the turn's
-line_is : (limit number : ℕ) (frame : Frame) (t : Turn) (e : End) (line : List ℕ) → e ≡ t.ends → line ≡ frame_line limit number e (length frame.body)
-    → line ≡ frame_line limit number t.ends (length frame.body)
-line_is limit number frame t e line ended is = is ∙ ap (λ (x : End). frame_line limit number x (length frame.body)) ended
+module _ (form : Form) (number : ℕ) (frame : Frame) (t : Turn) (e : End) (ended : e ≡ t.ends) where
+  module _ (line : List ℕ) (is : line ≡ frame_line form number e (length frame.body)) where
+    -- the line as it was made is the turn's
+    line_is : line ≡ frame_line form number t.ends (length frame.body)
+    line_is = is ∙ ap (λ (x : End). frame_line form number x (length frame.body)) ended
 
--- the line failed
-pub line_failed : (r s f : Option (List ℕ)) (limit number : ℕ) (frame : Frame) (t : Turn) (e : End) (line : List ℕ) → e ≡ t.ends → line ≡ frame_line limit number e (length frame.body)
-    → AppendsBeginning r s line → WroteBefore (record { report = r; frames = f }) (record { report = s; frames = f }) (frame_pieces limit number frame t) failure.Report
-unfolding frame_pieces
-line_failed r s f limit number frame t e line ended is p =
-    report_failed r s f _ (record_pieces frame.head t) (subst (AppendsBeginning r s) (line_is limit number frame t e line ended is) p)
+    -- the line failed
+    pub line_failed : (r s f : Option (List ℕ)) → AppendsBeginning r s line
+        → WroteBefore (record { report = r; frames = f }) (record { report = s; frames = f }) (frame_pieces form number frame t) failure.Report
+    unfolding frame_pieces
+    line_failed r s f p = report_failed r s f _ (record_pieces form frame.head t) (subst (AppendsBeginning r s) line_is p)
 
--- the frame is not written out
-pub frame_kept : (r s f : Option (List ℕ)) (limit number : ℕ) (frame : Frame) (t : Turn) (e : End) (line : List ℕ) → e ≡ t.ends → line ≡ frame_line limit number e (length frame.body)
-    → is_sent e ≡ false → Appends r s line → Wrote (record { report = r; frames = f }) (record { report = s; frames = f }) (frame_pieces limit number frame t)
-unfolding frame_pieces
-frame_kept r s f limit number frame t e line ended is sent p =
-    let kept : is_sent t.ends ≡ false = ap is_sent (sym ended) ∙ sent in
-    rw kept (wrote_report r s f _ (subst (Appends r s) (line_is limit number frame t e line ended is) p))
+    -- the frame is not written out
+    pub frame_kept : (r s f : Option (List ℕ)) → is_sent form.stream e ≡ false → Appends r s line
+        → Wrote (record { report = r; frames = f }) (record { report = s; frames = f }) (frame_pieces form number frame t)
+    unfolding frame_pieces
+    frame_kept r s f sent p =
+        let kept : is_sent form.stream t.ends ≡ false = ap (is_sent form.stream) (sym ended) ∙ sent in
+        rw kept (wrote_report r s f _ (subst (Appends r s) line_is p))
 
--- the record's bytes as they were left are the turn's
-record_is : (frame : Frame) (t : Turn) (bytes : List ℕ) → bytes ≡ t.packet
-    → frame_bytes (record { head = frame.head; body = bytes }) ≡ frame_bytes (record { head = frame.head; body = t.packet })
-record_is frame t bytes is = ap (λ l. frame_bytes (record { head = frame.head; body = l })) is
+    module _ (bytes : List ℕ) (left : bytes ≡ t.packet) (reason : ℕ) (told : reason ≡ end_reason form.program e) (sent : is_sent form.stream e ≡ true) where
+      -- the record as it was made is the turn's
+      record_is : frame_bytes form.stream (record { head = frame.head; body = bytes; reason = reason })
+          ≡ frame_bytes form.stream (record { head = frame.head; body = t.packet; reason = end_reason form.program t.ends })
+      record_is =
+          ap (λ l. frame_bytes form.stream (record { head = frame.head; body = l; reason = reason })) left
+          ∙ ap (λ n. frame_bytes form.stream (record { head = frame.head; body = t.packet; reason = n })) (told ∙ ap (λ (x : End). end_reason form.program x) ended)
 
--- the frame is written out after its line
-pub frame_sent : (r s f g : Option (List ℕ)) (limit number : ℕ) (frame : Frame) (t : Turn) (e : End) (bytes line : List ℕ) → e ≡ t.ends → bytes ≡ t.packet
-    → line ≡ frame_line limit number e (length frame.body) → is_sent e ≡ true → Appends r s line → Appends f g (frame_bytes (record { head = frame.head; body = bytes }))
-    → Wrote (record { report = r; frames = f }) (record { report = s; frames = g }) (frame_pieces limit number frame t)
-unfolding frame_pieces
-frame_sent r s f g limit number frame t e bytes line ended left is sent p q =
-    let goes_out : is_sent t.ends ≡ true = ap is_sent (sym ended) ∙ sent in
-    rw goes_out (Wrote-append _ _ _ (ToReport _ ∷ []) (ToFrames _ ∷ [])
-    (wrote_report r s f _ (subst (Appends r s) (line_is limit number frame t e line ended is) p))
-    (wrote_frames s f g _ (subst (Appends f g) (record_is frame t bytes left) q)))
+      goes_out : is_sent form.stream t.ends ≡ true
+      goes_out = ap (is_sent form.stream) (sym ended) ∙ sent
 
--- the record failed after the line
-pub record_failed : (r s f g : Option (List ℕ)) (limit number : ℕ) (frame : Frame) (t : Turn) (e : End) (bytes line : List ℕ) → e ≡ t.ends → bytes ≡ t.packet
-    → line ≡ frame_line limit number e (length frame.body) → is_sent e ≡ true → Appends r s line → AppendsBeginning f g (frame_bytes (record { head = frame.head; body = bytes }))
-    → WroteBefore (record { report = r; frames = f }) (record { report = s; frames = g }) (frame_pieces limit number frame t) failure.Frames
-unfolding frame_pieces
-record_failed r s f g limit number frame t e bytes line ended left is sent p q =
-    let goes_out : is_sent t.ends ≡ true = ap is_sent (sym ended) ∙ sent in
-    rw goes_out (WroteBefore-append _ _ _ (ToReport _ ∷ []) (ToFrames _ ∷ []) _
-    (wrote_report r s f _ (subst (Appends r s) (line_is limit number frame t e line ended is) p))
-    (frames_failed s f g _ [] (subst (AppendsBeginning f g) (record_is frame t bytes left) q)))
+      -- the frame is written out after its line
+      pub frame_sent : (r s f g : Option (List ℕ)) → Appends r s line → Appends f g (frame_bytes form.stream (record { head = frame.head; body = bytes; reason = reason }))
+          → Wrote (record { report = r; frames = f }) (record { report = s; frames = g }) (frame_pieces form number frame t)
+      unfolding frame_pieces
+      frame_sent r s f g p q =
+          let out : is_sent form.stream t.ends ≡ true = goes_out in
+          rw out (Wrote-append _ _ _ (ToReport _ ∷ []) (ToFrames _ ∷ [])
+          (wrote_report r s f _ (subst (Appends r s) line_is p))
+          (wrote_frames s f g _ (subst (Appends f g) record_is q)))
+
+      -- the record failed after the line
+      pub record_failed : (r s f g : Option (List ℕ)) → Appends r s line → AppendsBeginning f g (frame_bytes form.stream (record { head = frame.head; body = bytes; reason = reason }))
+          → WroteBefore (record { report = r; frames = f }) (record { report = s; frames = g }) (frame_pieces form number frame t) failure.Frames
+      unfolding frame_pieces
+      record_failed r s f g p q =
+          let out : is_sent form.stream t.ends ≡ true = goes_out in
+          rw out (WroteBefore-append _ _ _ (ToReport _ ∷ []) (ToFrames _ ∷ []) _
+          (wrote_report r s f _ (subst (Appends r s) line_is p))
+          (frames_failed s f g _ [] (subst (AppendsBeginning f g) record_is q)))
+
+-- ---- the pieces of a frame that is not run
+
+module _ (form : Form) (number : ℕ) (frame : Frame) (line : List ℕ) (is : line ≡ skip_line number (length frame.body) frame.reason) (r s f : Option (List ℕ)) where
+  -- the line failed
+  pub skip_line_failed : AppendsBeginning r s line → WroteBefore (record { report = r; frames = f }) (record { report = s; frames = f }) (skip_pieces form number frame) failure.Report
+  unfolding skip_pieces
+  skip_line_failed p = report_failed r s f _ (ToFrames (frame_bytes form.stream frame) ∷ []) (subst (AppendsBeginning r s) is p)
+
+  -- the record failed after the line
+  pub skip_record_failed : (g : Option (List ℕ)) → Appends r s line → AppendsBeginning f g (frame_bytes form.stream frame)
+      → WroteBefore (record { report = r; frames = f }) (record { report = s; frames = g }) (skip_pieces form number frame) failure.Frames
+  unfolding skip_pieces
+  skip_record_failed g p q =
+      WroteBefore-append _ _ _ (ToReport _ ∷ []) (ToFrames _ ∷ []) _ (wrote_report r s f _ (subst (Appends r s) is p)) (frames_failed s f g _ [] q)
+
+  pub skip_written : (g : Option (List ℕ)) → Appends r s line → Appends f g (frame_bytes form.stream frame)
+      → Wrote (record { report = r; frames = f }) (record { report = s; frames = g }) (skip_pieces form number frame)
+  unfolding skip_pieces
+  skip_written g p q = Wrote-append _ _ _ (ToReport _ ∷ []) (ToFrames _ ∷ []) (wrote_report r s f _ (subst (Appends r s) is p)) (wrote_frames s f g _ q)

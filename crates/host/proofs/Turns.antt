@@ -1,145 +1,169 @@
 -- One turn more, and the ends of a run over a stream.
-use Rattle.std.proofs.Common.{◌≡◌, ℕ, suc, ◌+◌, List, [], ◌∷◌, ◌++◌, length, Option, Result, Ok, Err, IfOk, refl, sym, ap, ◌∙◌, subst, append_assoc, append-nil, length-append, add-zero, zero-add, arith}
+use Rattle.std.proofs.Common.{◌≡◌, ℕ, suc, ◌+◌, ◌<◌, ◌≤◌, List, [], ◌∷◌, ◌++◌, length, Option, Result, Ok, Err, IfOk, refl, sym, ap, ◌∙◌, subst, append_assoc, append-nil, length-append, add-zero, zero-add, arith, inl, inr}
 use Rattle.std.specs.Io.KnownBytes.{Appends}
 use Rattle.exact_io.specs.Transfers.{AppendsBeginning}
 use Rattle.isa_model.specs.declared.map_defs.MapDef.{MapDef}
+use Rattle.isa_model.specs.declared.streams.Fault.{Fault}
 use Rattle.isa_model.specs.declared.streams.Finish.{Finish}
+use Rattle.isa_model.specs.declared.versions.Version.{Version}
+use Rattle.isa_model.specs.declared.versions.Version.TheVariants.{One, Two}
+use Rattle.isa_model.specs.Code.Versions.{stream_magic, max_body, max_packet}
 use Rattle.isa_model.specs.Machine.States.{Entries}
-use Rattle.isa_model.specs.Reporting.Streams.{Frame, magic, Position, Fresh, number_of, IsOpen}
-use Rattle.isa_model.specs.Reporting.Reports.{Piece, Rule, ToReport, ToFrames, turns_pieces, contents_after, frame_pieces, maps_pieces, last_line, report_of}
-use Rattle.frames.specs.Reading.{Found, Stopped, Reads, CanStop, next_position}
-use Rattle.frames.specs.Inputs.{HasFound, HasFound-fresh, HasFound-next, HasFound-count, HasFound-stops, HasFound-breaks, broken_off}
+use Rattle.isa_model.specs.Reporting.Streams.{Frame, max_frames, stream_with}
+use Rattle.isa_model.specs.Reporting.StreamLaws.{AreOpen-nil}
+use Rattle.isa_model.specs.Reporting.Reports.{Piece, Rule, Form, ToReport, ToFrames, turns_pieces, contents_after, turn_on, turn_pieces, contents_left, maps_pieces, last_line}
+use Rattle.frames.specs.Readers.{Position, Fresh}
+use Rattle.frames.specs.Reading.{Opens, begun_at, Found, Stopped, Finds}
+use Rattle.frames.specs.Inputs.{HasBegun, IsBegunVersion, HasBegun-opens, HasBegun-open, HasBegun-found, HasBegun-stopped, HasFound-begins, unopened}
 use Rattle.host.specs.declared.errors.HostError.{HostError}
 use Rattle.host.specs.declared.errors.HostError.TheVariants as failure
 use Rattle.host.specs.declared.tallies.Tally.{Tally}
 use Rattle.host.specs.Tallies.{tally_of}
 use Rattle.host.specs.Writing.{Outputs, Wrote, WroteBefore, Writes}
-use Rattle.host.specs.Reported.{Reports}
-use Rattle.host.proofs.Pieces.{Wrote-append, WroteBefore-append, WroteBefore-more, wrote_frames, frames_failed}
+use Rattle.host.specs.Reported.{front_in, ReportsBy}
+use Rattle.host.proofs.Pieces.{Wrote-append, WroteBefore-append, wrote_frames, frames_failed}
 use Rattle.host.proofs.SoFar.{SoFar}
+
+-- a body that may stand in a stream is a packet
+pub body_short : (v : Version) (n : ℕ) → n ≤ max_body v → n ≤ max_packet
+body_short One n h = omega arith
+body_short Two n h = h
+
+-- a reader that was made and then read the magic has begun
+pub begin_opens : (v : Version) (source old new : Option (List ℕ)) (p after : Position) (answer : Result ℕ (Fault × ℕ)) → p ≡ Fresh → old ≡ source → Opens p old new after
+    → answer ≡ begun_at after → IsBegunVersion answer v → HasBegun v [] source new after
+begin_opens v source old new p after answer fresh same opens answers is =
+    HasBegun-opens v source new after
+    (subst (λ (k : Option (List ℕ)). Opens Fresh k new after) same (subst (λ (x : Position). Opens x old new after) fresh opens))
+    (subst (λ (a : Result ℕ (Fault × ℕ)). IsBegunVersion a v) answers is)
 
 -- ---- frames in a row
 
 -- the pieces of frames, and of those after them
-turns_pieces-append : (limit : ℕ) (rule : Rule) (n : ℕ) (c : List Entries) (fs gs : List Frame)
-    → turns_pieces limit rule n c (fs ++ gs) ≡ turns_pieces limit rule n c fs ++ turns_pieces limit rule (n + length fs) (contents_after rule c fs) gs
-turns_pieces-append limit rule n c [] gs = ap (λ m. turns_pieces limit rule m c gs) (sym (add-zero n))
-turns_pieces-append limit rule n c (f ∷ fs) gs =
-    let next = (rule f.head f.body c).contents in
-    let front = frame_pieces limit n f (rule f.head f.body c) in
+pub turns_pieces-append : (form : Form) (rule : Rule) (n : ℕ) (c : List Entries) (fs gs : List Frame)
+    → turns_pieces form rule n c (fs ++ gs) ≡ turns_pieces form rule n c fs ++ turns_pieces form rule (n + length fs) (contents_after rule c fs) gs
+turns_pieces-append form rule n c [] gs = ap (λ m. turns_pieces form rule m c gs) (sym (add-zero n))
+turns_pieces-append form rule n c (f ∷ fs) gs =
+    let next = contents_left c (turn_on rule c f) in
+    let front = turn_pieces form n f (turn_on rule c f) in
     let same : (n + 1) + length fs ≡ n + suc (length fs) = omega arith in
-    ap (λ l. front ++ l) (turns_pieces-append limit rule (n + 1) next fs gs ∙ ap (λ m. turns_pieces limit rule (n + 1) next fs ++ turns_pieces limit rule m (contents_after rule next fs) gs) same)
-    ∙ sym (append_assoc front (turns_pieces limit rule (n + 1) next fs) (turns_pieces limit rule (n + suc (length fs)) (contents_after rule next fs) gs))
+    ap (λ l. front ++ l) (turns_pieces-append form rule (n + 1) next fs gs ∙ ap (λ m. turns_pieces form rule (n + 1) next fs ++ turns_pieces form rule m (contents_after rule next fs) gs) same)
+    ∙ sym (append_assoc front (turns_pieces form rule (n + 1) next fs) (turns_pieces form rule (n + suc (length fs)) (contents_after rule next fs) gs))
 
 -- the contents after frames and those after them
 contents_after-append : (rule : Rule) (c : List Entries) (fs gs : List Frame) → contents_after rule c (fs ++ gs) ≡ contents_after rule (contents_after rule c fs) gs
 contents_after-append rule c [] gs = refl
-contents_after-append rule c (f ∷ fs) gs = contents_after-append rule (rule f.head f.body c).contents fs gs
+contents_after-append rule c (f ∷ fs) gs = contents_after-append rule (contents_left c (turn_on rule c f)) fs gs
 
--- ---- a turn
+-- ---- a run of frames from these contents on, over this source
 
--- the number of a frame is how many were run before it
-count_of : (frames : List Frame) (old known : Option (List ℕ)) (p : Position) (number limit : ℕ) (rule : Rule) (start contents : List Entries) (before now : Outputs)
-    → SoFar frames old known p number limit rule start contents before now → number ≡ length frames
-count_of frames old known p number limit rule start contents before now s = s.numbered ∙ HasFound-count frames old known p s.found
+module _ (form : Form) (rule : Rule) (start : List Entries) (source : Option (List ℕ)) (before : Outputs) where
+  -- the pieces so far and those of one more frame
+  front_more : (frames : List Frame) (f : Frame) (number : ℕ) (contents : List Entries) → number ≡ length frames → contents ≡ contents_after rule start frames
+      → front_in form rule start frames ++ turn_pieces form number f (turn_on rule contents f) ≡ front_in form rule start (frames ++ f ∷ [])
+  front_more frames f number contents n m =
+      let so_far = turns_pieces form rule 0 start frames in
+      ap (λ l. ToFrames (stream_magic form.stream) ∷ l) (
+      ap (λ (x : List Entries). so_far ++ turn_pieces form number f (turn_on rule x f)) m
+      ∙ ap (λ k. so_far ++ turn_pieces form k f (turn_on rule (contents_after rule start frames) f)) (n ∙ sym (zero-add (length frames)))
+      ∙ ap (λ l. so_far ++ l) (sym (append-nil _))
+      ∙ sym (turns_pieces-append form rule 0 start frames (f ∷ [])))
 
--- the pieces so far and those of one more frame
-turn_pieces : (frames : List Frame) (f : Frame) (number limit : ℕ) (rule : Rule) (start contents : List Entries) → number ≡ length frames → contents ≡ contents_after rule start frames
-    → (ToFrames magic ∷ turns_pieces limit rule 0 start frames) ++ frame_pieces limit number f (rule f.head f.body contents) ≡ ToFrames magic ∷ turns_pieces limit rule 0 start (frames ++ f ∷ [])
-turn_pieces frames f number limit rule start contents n m =
-    ap (λ l. ToFrames magic ∷ l) (
-    ap (λ (x : List Entries). turns_pieces limit rule 0 start frames ++ frame_pieces limit number f (rule f.head f.body x)) m
-    ∙ ap (λ k. turns_pieces limit rule 0 start frames ++ frame_pieces limit k f (rule f.head f.body (contents_after rule start frames))) (n ∙ sym (zero-add (length frames)))
-    ∙ ap (λ l. turns_pieces limit rule 0 start frames ++ l) (sym (append-nil _))
-    ∙ sym (turns_pieces-append limit rule 0 start frames (f ∷ [])))
+  -- before the first turn, once the magic is written
+  pub no_turn : (known : Option (List ℕ)) (p : Position) (r f g : Option (List ℕ)) → HasBegun form.stream [] source known p → before ≡ record { report = r; frames = f }
+      → Appends f g (stream_magic form.stream) → SoFar form rule start source before [] known p 0 start (record { report = r; frames = g })
+  no_turn known p r f g begun is w = record {
+    begun = begun;
+    numbered = refl;
+    wrote = subst (λ (o : Outputs). Wrote o (record { report = r; frames = g }) (front_in form rule start [])) (sym is) (wrote_frames r f g (stream_magic form.stream) w);
+    carried = refl;
+  }
 
--- before the first turn, once the magic is written
-pub no_turn : (old known : Option (List ℕ)) (p : Position) (limit : ℕ) (rule : Rule) (start : List Entries) (r f g : Option (List ℕ)) → p ≡ Fresh → known ≡ old → Appends f g magic
-    → SoFar [] old known p 0 limit rule start start (record { report = r; frames = f }) (record { report = r; frames = g })
-no_turn old known p limit rule start r f g fresh same w = record {
-  found = subst (λ (k : Option (List ℕ)). HasFound [] old k p) (sym same) (subst (λ (x : Position). HasFound [] old old x) (sym fresh) (HasFound-fresh old));
-  numbered = sym (ap number_of fresh);
-  wrote = wrote_frames r f g magic w;
-  carried = refl;
-}
+  module _ (frames : List Frame) (known new : Option (List ℕ)) (p q : Position) (number : ℕ) (contents : List Entries) (now : Outputs) (so : SoFar form rule start source before frames known p number contents now) where
+    module _ (f : Frame) (h : Finds p known new q (Found f)) where
+      -- there is a number for the frame, and its body fits
+      pub turn_fits : (number < max_frames) × (length f.body ≤ max_body form.stream)
+      turn_fits =
+          let (found, early, fits) = HasBegun-found form.stream frames source known new p q f so.begun h in
+          let n = so.numbered in
+          (omega arith, fits.short)
 
--- one more frame was found and run, and its pieces were written
-pub turn_more : (frames : List Frame) (old known new : Option (List ℕ)) (p q : Position) (number limit : ℕ) (rule : Rule) (start contents contents' : List Entries) (before now after : Outputs) (f : Frame)
-    → SoFar frames old known p number limit rule start contents before now → Reads p known new (Found f) → IsOpen p f → q ≡ next_position p (Found f)
-    → Wrote now after (frame_pieces limit number f (rule f.head f.body contents)) → contents' ≡ (rule f.head f.body contents).contents
-    → SoFar (frames ++ f ∷ []) old new q (number + 1) limit rule start contents' before after
-turn_more frames old known new p q number limit rule start contents contents' before now after f s r ok moved w c =
-    let count = count_of frames old known p number limit rule start contents before now s in
-    let found : HasFound (frames ++ f ∷ []) old new q = subst (HasFound (frames ++ f ∷ []) old new) (sym moved) (HasFound-next frames old known new p f s.found r ok) in
-    let more = HasFound-count (frames ++ f ∷ []) old new q found in
-    record {
-      found = found;
-      numbered = omega (arith, length-append frames (f ∷ []), count, more);
-      wrote = subst (Wrote before after) (turn_pieces frames f number limit rule start contents count s.carried) (Wrote-append before now after _ _ s.wrote w);
-      carried = c ∙ ap (λ (x : List Entries). (rule f.head f.body x).contents) s.carried ∙ sym (contents_after-append rule start frames (f ∷ []));
-    }
+      -- one more frame was found and taken, and its pieces were written
+      pub turn_more : (contents' : List Entries) (after : Outputs) → Wrote now after (turn_pieces form number f (turn_on rule contents f)) → contents' ≡ contents_left contents (turn_on rule contents f)
+          → SoFar form rule start source before (frames ++ f ∷ []) new q (number + 1) contents' after
+      turn_more contents' after w c =
+          let (found, early, fits) = HasBegun-found form.stream frames source known new p q f so.begun h in
+          let n = so.numbered in
+          record {
+            begun = inl found;
+            numbered = omega (arith, length-append frames (f ∷ []), n);
+            wrote = subst (Wrote before after) (front_more frames f number contents so.numbered so.carried) (Wrote-append before now after _ _ so.wrote w);
+            carried = c ∙ ap (λ (x : List Entries). contents_left x (turn_on rule x f)) so.carried ∙ sym (contents_after-append rule start frames (f ∷ []));
+          }
 
 -- ---- the ends of a run
-
--- the magic failed
-pub magic_failed : (known : Option (List ℕ)) (limit : ℕ) (rows : List MapDef) (rule : Rule) (start : List Entries) (r f g : Option (List ℕ)) → AppendsBeginning f g magic
-    → Reports known (λ found. report_of limit rows rule start found) (record { report = r; frames = f }) (record { report = r; frames = g }) (Err failure.Frames)
-magic_failed known limit rows rule start r f g p = record {
-  frames = [];
-  finish = broken_off [];
-  are_open = tt;
-  read = HasFound-breaks [] known known Fresh (HasFound-fresh known);
-  writes = frames_failed r f g magic _ p;
-  tells = tt;
-}
-
--- a turn's piece failed
-pub turn_failed : (frames : List Frame) (old known new : Option (List ℕ)) (p : Position) (number limit : ℕ) (rows : List MapDef) (rule : Rule) (start contents : List Entries) (before now after : Outputs) (f : Frame) (error : HostError)
-    → SoFar frames old known p number limit rule start contents before now → Reads p known new (Found f) → IsOpen p f
-    → WroteBefore now after (frame_pieces limit number f (rule f.head f.body contents)) error
-    → Reports old (λ found. report_of limit rows rule start found) before after (Err error)
-turn_failed frames old known new p number limit rows rule start contents before now after f error s r ok w =
-    let all = frames ++ f ∷ [] in
-    let found = HasFound-next frames old known new p f s.found r ok in
-    let count = count_of frames old known p number limit rule start contents before now s in
-    let front = ToFrames magic ∷ turns_pieces limit rule 0 start frames in
-    let turn = frame_pieces limit number f (rule f.head f.body contents) in
-    let last = maps_pieces 0 rows (contents_after rule start all) ++ ToReport (last_line (length all) (broken_off all)) ∷ [] in
-    let whole : (front ++ turn) ++ last ≡ report_of limit rows rule start (all, broken_off all) =
-    ap (λ l. l ++ last) (turn_pieces frames f number limit rule start contents count s.carried) in
-    record {
-      frames = all;
-      finish = broken_off all;
-      are_open = found.are_open;
-      read = HasFound-breaks all old new (next_position p (Found f)) found;
-      writes = subst (λ (l : List Piece). WroteBefore before after l error) whole
-          (WroteBefore-more before after (front ++ turn) last error (WroteBefore-append before now after front turn error s.wrote w));
-      tells = tt;
-    }
 
 -- pieces after pieces, of which one of the later may have failed
 Writes-append : (a b c : Outputs) (front more : List Piece) (result : Result Tally HostError) → Wrote a b front → Writes b c result more → Writes a c result (front ++ more)
 Writes-append a b c front more (Ok tally) v w = Wrote-append a b c front more v w
 Writes-append a b c front more (Err e) v w = WroteBefore-append a b c front more e v w
 
--- the stream stopped, and the lines of maps and the last line were written, or one of them failed
-pub run_ended : (frames : List Frame) (old known new : Option (List ℕ)) (p : Position) (number limit : ℕ) (rows : List MapDef) (rule : Rule) (start contents : List Entries) (before : Outputs) (r s g : Option (List ℕ)) (stop : Finish) (result : Result Tally HostError)
-    → SoFar frames old known p number limit rule start contents before (record { report = r; frames = g }) → Reads p known new (Stopped stop) → CanStop p stop
-    → Writes (record { report = r; frames = g }) (record { report = s; frames = g }) result (maps_pieces 0 rows contents ++ ToReport (last_line number stop) ∷ [])
-    → IfOk result (λ tally. tally ≡ tally_of number stop)
-    → Reports old (λ found. report_of limit rows rule start found) before (record { report = s; frames = g }) result
-run_ended frames old known new p number limit rows rule start contents before r s g stop result so h can written tally =
-    let now : Outputs = record { report = r; frames = g } in
-    let after : Outputs = record { report = s; frames = g } in
-    let count = count_of frames old known p number limit rule start contents before now so in
-    let front = ToFrames magic ∷ turns_pieces limit rule 0 start frames in
-    let whole = Writes-append before now after front (maps_pieces 0 rows contents ++ ToReport (last_line number stop) ∷ []) result so.wrote written in
-    let counted = subst (λ (n : ℕ). Writes before after result (front ++ (maps_pieces 0 rows contents ++ ToReport (last_line n stop) ∷ []))) count whole in
-    record {
-      frames = frames;
-      finish = stop;
-      are_open = so.found.are_open;
-      read = HasFound-stops frames old known new p stop so.found h can;
-      writes = subst (λ (c : List Entries). Writes before after result (front ++ (maps_pieces 0 rows c ++ ToReport (last_line (length frames) stop) ∷ []))) so.carried counted;
-      tells = subst (λ (n : ℕ). IfOk result (λ t. t ≡ tally_of n stop)) count tally;
-    }
+module _ (limit : ℕ) (program : Version) (rows : List MapDef) (rule : Rule) (start : List Entries) (source : Option (List ℕ)) where
+  abbrev form_on : Version → Form
+  form_on v = record { limit = limit; program = program; stream = v }
+
+  -- the magic failed
+  pub magic_failed : (v : Version) (known : Option (List ℕ)) (p : Position) (r f g : Option (List ℕ)) → HasBegun v [] source known p → AppendsBeginning f g (stream_magic v)
+      → ReportsBy source limit program rows rule start (record { report = r; frames = f }) (record { report = r; frames = g }) (Err failure.Frames)
+  magic_failed v known p r f g (inl s) b = inr (
+    failure.Frames,
+    refl,
+    record { version = v; frames = []; are_open = s.are_open; begun = HasFound-begins v [] source known p s; writes = frames_failed r f g (stream_magic v) [] b },
+  )
+  magic_failed v known p r f g (inr u) b = inl (record {
+    found = unopened u.fault;
+    are_open = AreOpen-nil One;
+    read = u.read;
+    writes = frames_failed r f g (stream_magic One) _ (subst (λ (x : Version). AppendsBeginning f g (stream_magic x)) u.first b);
+    tells = tt;
+  })
+
+  module _ (v : Version) (before : Outputs) (frames : List Frame) (known new : Option (List ℕ)) (p q : Position) (number : ℕ) (contents : List Entries) where
+    -- a turn's piece failed
+    pub turn_failed : (now after : Outputs) (f : Frame) (error : HostError) → SoFar (form_on v) rule start source before frames known p number contents now → Finds p known new q (Found f)
+        → WroteBefore now after (turn_pieces (form_on v) number f (turn_on rule contents f)) error
+        → ReportsBy source limit program rows rule start before after (Err error)
+    turn_failed now after f error so h w =
+        let (found, early, fits) = HasBegun-found v frames source known new p q f so.begun h in
+        inr (
+          error,
+          refl,
+          record {
+            version = v;
+            frames = frames ++ f ∷ [];
+            are_open = found.are_open;
+            begun = HasFound-begins v (frames ++ f ∷ []) source new q found;
+            writes = subst (λ (l : List Piece). WroteBefore before after l error) (front_more (form_on v) rule start source before frames f number contents so.numbered so.carried)
+                (WroteBefore-append before now after _ _ error so.wrote w);
+          },
+        )
+
+    -- the stream stopped, and the lines of maps and the last line were written, or one of them failed
+    pub run_ended : (r s g : Option (List ℕ)) (stop : Finish) (result : Result Tally HostError)
+        → SoFar (form_on v) rule start source before frames known p number contents (record { report = r; frames = g }) → Finds p known new q (Stopped stop)
+        → Writes (record { report = r; frames = g }) (record { report = s; frames = g }) result (maps_pieces 0 rows contents ++ ToReport (last_line number stop) ∷ [])
+        → IfOk result (λ tally. tally ≡ tally_of number stop)
+        → ReportsBy source limit program rows rule start before (record { report = s; frames = g }) result
+    run_ended r s g stop result so h written tally =
+        let now : Outputs = record { report = r; frames = g } in
+        let after : Outputs = record { report = s; frames = g } in
+        let front = front_in (form_on v) rule start frames in
+        let whole = Writes-append before now after front (maps_pieces 0 rows contents ++ ToReport (last_line number stop) ∷ []) result so.wrote written in
+        let counted = subst (λ (n : ℕ). Writes before after result (front ++ (maps_pieces 0 rows contents ++ ToReport (last_line n stop) ∷ []))) so.numbered whole in
+        inl (record {
+          found = stream_with v (frames, stop);
+          are_open = HasBegun-open v frames source known p so.begun;
+          read = HasBegun-stopped v frames source known new p q stop so.begun h;
+          writes = subst (λ (c : List Entries). Writes before after result (front ++ (maps_pieces 0 rows c ++ ToReport (last_line (length frames) stop) ∷ []))) so.carried counted;
+          tells = subst (λ (n : ℕ). IfOk result (λ t. t ≡ tally_of n stop)) so.numbered tally;
+        })

@@ -1,27 +1,48 @@
 -- What a run of an accepted program writes of the stream that it reads.
-use Rattle.std.specs.Prelude.{◌≡◌, ℕ, List, length, Option, Result, IfOk}
+use Rattle.std.specs.Prelude.{◌≡◌, ℕ, ◌≤◌, List, ◌++◌, length, Option, Result, Err, IfOk, ◌⊎◌}
 use Rattle.isa_model.specs.declared.streams.Finish.{Finish}
-use Rattle.isa_model.specs.Reporting.Streams.{Frame, Fresh, AreOpen}
+use Rattle.isa_model.specs.declared.versions.Version.{Version}
+use Rattle.isa_model.specs.Running.Runs.{max_steps}
+use Rattle.isa_model.specs.Reporting.Streams.{Frame, Stream, stream_with}
+use Rattle.isa_model.specs.Reporting.StreamLaws.{AreOpen}
 use Rattle.isa_model.specs.Reporting.Reports.{Piece, IsReport, starting_contents}
 use Rattle.isa_model.specs.Reporting.ReportLaws.{AllExit}
-use Rattle.explorer.specs.Bounds.{Bounded}
-use Rattle.frames.specs.Inputs.{AreReadFrom}
+use Rattle.bounds.specs.Bounds.{Bounded}
+use Rattle.frames.specs.Inputs.{AreReadFrom, IsBegunBy}
 use Rattle.host.specs.declared.errors.HostError.{HostError}
 use Rattle.host.specs.declared.tallies.Tally.{Tally}
 use Rattle.host.specs.Tallies.{tally_of}
-use Rattle.host.specs.Writing.{Outputs, Writes}
+use Rattle.host.specs.Writing.{Outputs, Writes, WroteBefore}
 
--- Frames, and then an end or a fault, were read from the source: those that its bytes spell, where they are known.
--- The heads and the lengths of the bodies fit, and the bodies are bytes. The report of these frames was written: in the
--- run of each the meaning of the program meets no trap, and it exits within the bound. The tally is what the last line
--- shows. Where an output failed before that line, the frames are those up to the last one that was run.
-pub record ReportsRun (a : Bounded) (source : Option (List ℕ)) (old new : Outputs) (result : Result Tally HostError) : Type 0 where
-  pub frames : List Frame
-  pub finish : Finish
+-- The stream was read to its end, or to a fault: it is the stream of the source's bytes, where they are known. The heads,
+-- the lengths of the bodies and the reasons fit, and the bodies are bytes. The report of that stream was written, whole or
+-- up to a piece that failed: in the run of each frame without a reason the meaning of the program meets no trap, and it
+-- exits within the bound. The tally is what the last line shows.
+pub record RunsWhole (a : Bounded) (source : Option (List ℕ)) (old new : Outputs) (result : Result Tally HostError) : Type 0 where
+  pub found : Stream
   pub pieces : List Piece
-  pub are_open : AreOpen Fresh frames
-  pub read : AreReadFrom source (frames, finish)
-  pub is_report : IsReport a.program (frames, finish) pieces
-  pub exits : AllExit a.program a.bound (starting_contents a.program.maps) frames
+  pub are_open : AreOpen found.version found.frames
+  pub read : AreReadFrom source found
+  pub is_report : IsReport a.program found pieces
+  pub exits : AllExit a.program a.bound (starting_contents a.program.maps) found.frames
   pub writes : Writes old new result pieces
-  pub tells : IfOk result (λ tally. tally ≡ tally_of (length frames) finish)
+  pub tells : IfOk result (λ tally. tally ≡ tally_of (length found.frames) found.finish)
+
+-- An output failed at the magic or at a frame, and no more was read: the source begins with these frames, where its bytes
+-- are known, and the runs of these exit. However its stream goes on and ends, the outputs hold a beginning of that
+-- stream's report.
+pub record RunsFront (a : Bounded) (source : Option (List ℕ)) (old new : Outputs) (error : HostError) : Type 0 where
+  pub version : Version
+  pub frames : List Frame
+  pub are_open : AreOpen version frames
+  pub begun : IsBegunBy source version frames
+  pub exits : AllExit a.program a.bound (starting_contents a.program.maps) frames
+  pub writes : (more : List Frame) (finish : Finish) (pieces : List Piece) → IsReport a.program (stream_with version (frames ++ more, finish)) pieces → WroteBefore old new pieces error
+
+-- The bound is from 1 to 1,000,000. What was written is the report of the program and the source's stream; after a failed
+-- output it is a beginning of that report, and only where the failed piece is the magic or one of a frame was the
+-- stream not read to its end or fault.
+pub record ReportsRun (a : Bounded) (source : Option (List ℕ)) (old new : Outputs) (result : Result Tally HostError) : Type 0 where
+  pub some : 1 ≤ a.bound
+  pub most : a.bound ≤ max_steps
+  pub reports : RunsWhole a source old new result ⊎ ((error : HostError) × (result ≡ Err error) × RunsFront a source old new error)

@@ -1,4 +1,5 @@
 pub mod Messages
+pub mod Forms
 pub mod Tallies
 pub mod Writing
 pub mod Listed

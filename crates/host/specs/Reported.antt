@@ -1,22 +1,59 @@
 -- What a run writes of the stream that it reads.
-use Rattle.std.specs.Prelude.{◌≡◌, ℕ, List, length, Option, Result, IfOk}
+use Rattle.std.specs.Prelude.{◌≡◌, ℕ, List, ◌∷◌, ◌++◌, length, Option, Result, Err, IfOk, ◌⊎◌}
+use Rattle.isa_model.specs.declared.map_defs.MapDef.{MapDef}
 use Rattle.isa_model.specs.declared.streams.Finish.{Finish}
-use Rattle.isa_model.specs.Reporting.Streams.{Frame, Fresh, AreOpen}
-use Rattle.isa_model.specs.Reporting.Reports.{Piece}
-use Rattle.frames.specs.Inputs.{AreReadFrom}
+use Rattle.isa_model.specs.declared.versions.Version.{Version}
+use Rattle.isa_model.specs.Code.Versions.{stream_magic}
+use Rattle.isa_model.specs.Machine.States.{Entries}
+use Rattle.isa_model.specs.Reporting.Streams.{Frame, Stream, stream_with}
+use Rattle.isa_model.specs.Reporting.StreamLaws.{AreOpen}
+use Rattle.isa_model.specs.Reporting.Reports.{Piece, ToFrames, Form, Rule, turns_pieces, report_of}
+use Rattle.frames.specs.Inputs.{AreReadFrom, IsBegunBy}
 use Rattle.host.specs.declared.errors.HostError.{HostError}
 use Rattle.host.specs.declared.tallies.Tally.{Tally}
 use Rattle.host.specs.Tallies.{tally_of}
-use Rattle.host.specs.Writing.{Outputs, Writes}
+use Rattle.host.specs.Writing.{Outputs, Writes, WroteBefore}
 
--- Frames, and then an end or a fault, were read from the source: those that its bytes spell, where they are known.
--- The heads and the lengths of the bodies fit, and the bodies are bytes. The pieces of these frames were written, and
--- the tally is what their last line shows. Where an output failed before that line, the frames are those up to the last
--- one that was run.
-pub record Reports (source : Option (List ℕ)) (pieces : List Frame × Finish → List Piece) (old new : Outputs) (result : Result Tally HostError) : Type 0 where
+-- The stream was read to its end, or to a fault: it is the stream of the source's bytes, where they are known. The heads,
+-- the lengths of the bodies and the reasons fit, and the bodies are bytes. The stream's pieces were written, all of them
+-- or those before one that failed, and the tally is what their last line shows.
+pub record ReportsWhole (source : Option (List ℕ)) (pieces : Stream → List Piece) (old new : Outputs) (result : Result Tally HostError) : Type 0 where
+  pub found : Stream
+  pub are_open : AreOpen found.version found.frames
+  pub read : AreReadFrom source found
+  pub writes : Writes old new result (pieces found)
+  pub tells : IfOk result (λ tally. tally ≡ tally_of (length found.frames) found.finish)
+
+-- An output failed at the magic or at a frame, and no more was read: the source begins with these frames, where its bytes
+-- are known. However its stream goes on and ends, the outputs hold a beginning of that stream's report.
+pub record ReportsFront (source : Option (List ℕ)) (pieces : Stream → List Piece) (old new : Outputs) (error : HostError) : Type 0 where
+  pub version : Version
   pub frames : List Frame
-  pub finish : Finish
-  pub are_open : AreOpen Fresh frames
-  pub read : AreReadFrom source (frames, finish)
-  pub writes : Writes old new result (pieces (frames, finish))
-  pub tells : IfOk result (λ tally. tally ≡ tally_of (length frames) finish)
+  pub are_open : AreOpen version frames
+  pub begun : IsBegunBy source version frames
+  pub writes : (more : List Frame) (finish : Finish) → WroteBefore old new (pieces (stream_with version (frames ++ more, finish))) error
+
+-- What was written is the report of the source's stream. After a failed output it is a beginning of that report; only
+-- where the failed piece is the magic or one of a frame was the stream not read to its end or fault.
+abbrev pub Reports : Option (List ℕ) → (Stream → List Piece) → Outputs → Outputs → Result Tally HostError → Type 0
+Reports source pieces old new result =
+    ReportsWhole source pieces old new result ⊎ ((error : HostError) × (result ≡ Err error) × ReportsFront source pieces old new error)
+
+-- ---- the same of a machine, which runs frames by a rule
+
+-- the magic and the frames' pieces
+abbrev pub front_in : Form → Rule → List Entries → List Frame → List Piece
+front_in form rule contents frames = ToFrames (stream_magic form.stream) ∷ turns_pieces form rule 0 contents frames
+
+-- An output failed at one of the magic and these frames' pieces, and no more was read.
+pub record StopsAtFrame (source : Option (List ℕ)) (limit : ℕ) (program : Version) (rule : Rule) (contents : List Entries) (old new : Outputs) (error : HostError) : Type 0 where
+  pub version : Version
+  pub frames : List Frame
+  pub are_open : AreOpen version frames
+  pub begun : IsBegunBy source version frames
+  pub writes : WroteBefore old new (front_in (record { limit = limit; program = program; stream = version }) rule contents frames) error
+
+abbrev pub ReportsBy : Option (List ℕ) → ℕ → Version → List MapDef → Rule → List Entries → Outputs → Outputs → Result Tally HostError → Type 0
+ReportsBy source limit program rows rule contents old new result =
+    ReportsWhole source (λ found. report_of limit program rows rule contents found) old new result
+    ⊎ ((error : HostError) × (result ≡ Err error) × StopsAtFrame source limit program rule contents old new error)

@@ -9,6 +9,7 @@ use super::engine::run_frames;
 use super::errors::HostError;
 use super::runners::Runner;
 use super::tallies::Tally;
+use super::versions::version_of;
 use checked_vm::Checked;
 use image::Image;
 use isa_model::{End, FrameHead};
@@ -49,6 +50,8 @@ impl Runner for CheckedRunner {
 /// gives, at most `limit` steps a frame. The report goes to one writer, and the frames that are
 /// sent on to the other.
 ///
+/// A frame with a reason is not run, and goes out as it came.
+///
 /// Every answer of a frame's clock is the frame's time. Memory is taken before the first byte is
 /// written, and none after that. Nothing is tried again, and after a failure nothing is written to
 /// either output.
@@ -71,8 +74,10 @@ pub fn run_checked<R: Read + Drop, W1: Write, W2: Write>(
         record { report = W1.contents report.old; frames = W2.contents out.old }
         record { report = W1.contents report.new; frames = W2.contents out.new } result }
 {
+    let program = version_of(image.version());
     let Ok(machine) = Checked::new(alloc, image) else {
         return Err(HostError::Memory);
     };
-    run_frames(CheckedRunner { machine, limit }, limit, source, report, out)
+    let runner = CheckedRunner { machine, limit };
+    run_frames(runner, limit, program, source, report, out)
 }

@@ -1,68 +1,128 @@
 //! The run over all frames of a stream, written once for every machine. It takes no memory.
 ghost use Rattle.std.specs.Prelude.{◌≡◌, ◌≢◌, ◌≤◌, [], ◌∷◌, ◌++◌, length, IfOk};
-ghost use Rattle.isa_model.specs.{max_body};
-ghost use Rattle.isa_model.specs.Reporting.Reports.{ToReport, frame_pieces, maps_pieces, last_line};
-ghost use Rattle.isa_model.specs.Reporting.Reports.{is_sent, report_of};
+ghost use Rattle.isa_model.specs.Code.Versions.{max_body};
+ghost use Rattle.isa_model.specs.Reporting.Reports.{ToReport, maps_pieces, last_line};
+ghost use Rattle.isa_model.specs.Reporting.Reports.{frame_pieces, skip_pieces, turn_pieces};
+ghost use Rattle.isa_model.specs.Reporting.Reports.{turn_on, contents_left};
+ghost use Rattle.host.specs.Forms.{form_by};
 ghost use Rattle.host.specs.Tallies.{tally_of};
 ghost use Rattle.host.specs.Writing.{Writes, WritesReport};
-ghost use Rattle.host.specs.Reported.{Reports};
+ghost use Rattle.host.specs.Reported.{ReportsBy};
 
 use super::errors::HostError;
-use super::lines::{line_of_finish, line_of_frame};
+use super::forms::Form;
+use super::lines::{line_of_finish, line_of_frame, line_of_skip};
 use super::listings::write_maps;
+use super::reasons::{end_reason, is_written};
+use super::records::{write_magic, write_record};
 use super::runners::Runner;
 use super::tallies::Tally;
+use super::versions::version_begun;
 use exact_io::write_bytes;
-use frames::{FrameReader, Next, write_frame};
-use isa_model::{Action, End, Finish, FrameHead, MAX_BODY};
+use frames::{FrameReader, Next};
+use isa_model::{Finish, FrameHead, MAX_PACKET, Version};
 use std::io::{Read, Write};
 
-// Whether a frame is written out.
-fn is_written(end: End) -> bool
-    ensures { result ≡ is_sent end }
-{
-    match end {
-        End::Exit(value, _) => Action::of(value).is_forwarded(),
-        End::Trap(_, _) => false,
-        End::Limit => false,
-    }
+// A frame of the stream, beside its bytes: its number, its head, and its reason.
+#[derive(Clone, Copy)]
+struct Arrival {
+    number: u32,
+    head: FrameHead,
+    reason: u32,
 }
 
 // Runs a frame, and writes its line and then its record, if it has one.
 fn run_frame<M: Runner, W1: Write, W2: Write>(
     machine: &mut M,
-    limit: u32,
-    number: u32,
-    head: FrameHead,
+    form: Form,
+    frame: Arrival,
     body: &mut [u8],
     report: &mut W1,
     out: &mut W2,
 ) -> Result<(), HostError>
-    requires { length body.old ≤ max_body }
+    requires { length body.old ≤ max_body form.stream }
     ensures writes { Writes record { report = W1.contents report.old; frames = W2.contents out.old }
         record { report = W1.contents report.new; frames = W2.contents out.new } result
-        (frame_pieces limit number record { head = head; body = body.old }
-        (M.rule machine.old head body.old (M.contents machine.old))) }
+        (frame_pieces (form_by form) frame.number
+        record { head = frame.head; body = body.old; reason = frame.reason }
+        (M.rule machine.old frame.head body.old (M.contents machine.old))) }
     ensures contents { M.contents machine.new
-        ≡ (M.rule machine.old head body.old (M.contents machine.old)).contents }
+        ≡ (M.rule machine.old frame.head body.old (M.contents machine.old)).contents }
     ensures rule { M.rule machine.new ≡ M.rule machine.old }
     ensures rows { M.rows machine.new ≡ M.rows machine.old }
     ensures made { result ≢ Err HostError.Memory }
 {
     let size = body.len();
-    let end = machine.run(head, body);
-    let line = line_of_frame(limit, number, end, size);
+    let end = machine.run(frame.head, body);
+    let line = line_of_frame(form, frame.number, end, size);
     match write_bytes(report, line.as_str().as_bytes()) {
         Ok(()) => {}
         Err(_) => return Err(HostError::Report),
     }
-    if is_written(end) {
-        match write_frame(out, &head, body) {
+    if is_written(form.stream, end) {
+        let reason = end_reason(form.program, end);
+        match write_record(out, form.stream, &frame.head, body, reason) {
             Ok(()) => {}
             Err(_) => return Err(HostError::Frames),
         }
     }
     Ok(())
+}
+
+// Writes the line of a frame that is not run, and then its record as it came.
+fn skip_frame<W1: Write, W2: Write>(
+    form: Form,
+    frame: Arrival,
+    body: &[u8],
+    report: &mut W1,
+    out: &mut W2,
+) -> Result<(), HostError>
+    requires { length body.now ≤ max_body form.stream }
+    ensures writes { Writes record { report = W1.contents report.old; frames = W2.contents out.old }
+        record { report = W1.contents report.new; frames = W2.contents out.new } result
+        (skip_pieces (form_by form) frame.number
+        record { head = frame.head; body = body.now; reason = frame.reason }) }
+    ensures made { result ≢ Err HostError.Memory }
+{
+    let line = line_of_skip(frame.number, body.len(), frame.reason);
+    match write_bytes(report, line.as_str().as_bytes()) {
+        Ok(()) => {}
+        Err(_) => return Err(HostError::Report),
+    }
+    match write_record(out, form.stream, &frame.head, body, frame.reason) {
+        Ok(()) => Ok(()),
+        Err(_) => Err(HostError::Frames),
+    }
+}
+
+// Runs a frame, unless it has a reason already.
+fn take_frame<M: Runner, W1: Write, W2: Write>(
+    machine: &mut M,
+    form: Form,
+    frame: Arrival,
+    body: &mut [u8],
+    report: &mut W1,
+    out: &mut W2,
+) -> Result<(), HostError>
+    requires { length body.old ≤ max_body form.stream }
+    ensures writes { Writes record { report = W1.contents report.old; frames = W2.contents out.old }
+        record { report = W1.contents report.new; frames = W2.contents out.new } result
+        (turn_pieces (form_by form) frame.number
+        record { head = frame.head; body = body.old; reason = frame.reason }
+        (turn_on (M.rule machine.old) (M.contents machine.old)
+        record { head = frame.head; body = body.old; reason = frame.reason })) }
+    ensures contents { M.contents machine.new ≡ contents_left (M.contents machine.old)
+        (turn_on (M.rule machine.old) (M.contents machine.old)
+        record { head = frame.head; body = body.old; reason = frame.reason }) }
+    ensures rule { M.rule machine.new ≡ M.rule machine.old }
+    ensures rows { M.rows machine.new ≡ M.rows machine.old }
+    ensures made { result ≢ Err HostError.Memory }
+{
+    if frame.reason == 0 {
+        run_frame(machine, form, frame, body, report, out)
+    } else {
+        skip_frame(form, frame, body, report, out)
+    }
 }
 
 // Writes the lines of maps, and then the last line.
@@ -96,33 +156,45 @@ fn end_run<M: Runner + Drop, W1: Write>(
     }
 }
 
-/// Runs the frames of the stream that a source gives. The report goes to one writer, and the frames
-/// that are sent on to the other.
+/// Runs the frames of the stream that a source gives, by a program of this version. The report goes
+/// to one writer, and the frames out to the other, behind the magic that the stream has.
 pub fn run_frames<M: Runner + Drop, R: Read + Drop, W1: Write, W2: Write>(
     mut machine: M,
     limit: u32,
+    program: Version,
     source: R,
     report: &mut W1,
     out: &mut W2,
 ) -> Result<Tally, HostError>
-    ensures reports { Reports (R.remaining source)
-        (λ found. report_of limit (M.rows machine) (M.rule machine) (M.contents machine) found)
+    ensures reports { ReportsBy (R.remaining source) limit program
+        (M.rows machine) (M.rule machine) (M.contents machine)
         record { report = W1.contents report.old; frames = W2.contents out.old }
         record { report = W1.contents report.new; frames = W2.contents out.new } result }
     ensures made { result ≢ Err HostError.Memory }
 {
-    match write_bytes(out, b"XPF1") {
+    let mut reader = FrameReader::new(source);
+    let mut buffer = [0; MAX_PACKET];
+    let stream = version_begun(reader.begin());
+    match write_magic(out, stream) {
         Ok(()) => {}
         Err(_) => return Err(HostError::Frames),
     }
-    let mut reader = FrameReader::new(source);
-    let mut buffer = [0; MAX_BODY];
+    let form = Form {
+        limit,
+        program,
+        stream,
+    };
     let mut number = 0u32;
     'turns: loop {
         match reader.next(&mut buffer) {
-            Next::Frame(head, length) => {
+            Next::Frame(head, length, reason) => {
+                let frame = Arrival {
+                    number,
+                    head,
+                    reason,
+                };
                 let body = &mut buffer[..length];
-                match run_frame(&mut machine, limit, number, head, body, report, out) {
+                match take_frame(&mut machine, form, frame, body, report, out) {
                     Ok(()) => number += 1,
                     Err(error) => return Err(error),
                 }

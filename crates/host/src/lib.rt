@@ -9,11 +9,15 @@ mod clocks;
 mod engine;
 mod entries;
 mod errors;
+mod forms;
 mod lines;
 mod listings;
+mod reasons;
+mod records;
 mod runners;
 mod tallies;
 mod verified;
+mod versions;
 
 pub use checked::run_checked;
 pub use errors::HostError;

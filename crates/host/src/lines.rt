@@ -1,10 +1,14 @@
 //! The lines of the report, made in a buffer of fixed size.
 ghost use Rattle.std.specs.Prelude.{◌≡◌, ◌+◌, ◌≤◌, ◌++◌, decimal};
 ghost use Rattle.arrayvec.specs.ArrayString.{array_string_len};
-ghost use Rattle.isa_model.specs.Reporting.Reports.{frame_line, last_line};
+ghost use Rattle.isa_model.specs.Reporting.Reports.{frame_line, skip_line, last_line};
+ghost use Rattle.isa_model.specs.Reporting.Reports.{reason_text};
+ghost use Rattle.host.specs.Forms.{form_by};
 
+use super::forms::Form;
+use super::reasons::reason_of;
 use arrayvec::ArrayString;
-use isa_model::{Action, End, Finish};
+use isa_model::{Action, End, Finish, Version};
 use itoa::Buffer;
 
 /// A line of the report; none has more than 72 bytes.
@@ -20,11 +24,25 @@ fn push_number(line: &mut Line, number: u64)
     line.push_str(buffer.format(number));
 }
 
-/// The line of the frame with this number, by how its run within the limit ended and how many bytes
-/// it has.
+// Appends the field of a reason, in a stream that has reasons.
+fn push_reason(line: &mut Line, stream: Version, reason: u32)
+    requires { array_string_len line.old + 21 ≤ 96 }
+    ensures bytes { line.new.bytes ≡ line.old.bytes ++ reason_text stream reason }
+    ensures len { array_string_len line.new ≤ array_string_len line.old + 21 }
+{
+    match stream {
+        Version::One => {}
+        Version::Two => {
+            line.push_str(" ");
+            push_number(line, u64::from(reason));
+        }
+    }
+}
+
+/// The line of the frame with this number, by how its run ended and how many bytes it has.
 #[tactic(auto, unfolding(isa_model::specs::Reporting::Reports::frame_line))]
-pub fn line_of_frame(limit: u32, number: u32, end: End, size: usize) -> Line
-    ensures { result.bytes ≡ frame_line limit number end size }
+pub fn line_of_frame(form: Form, number: u32, end: End, size: usize) -> Line
+    ensures { result.bytes ≡ frame_line (form_by form) number end size }
 {
     let mut line = Line::new();
     push_number(&mut line, u64::from(number));
@@ -36,6 +54,7 @@ pub fn line_of_frame(limit: u32, number: u32, end: End, size: usize) -> Line
             push_number(&mut line, size as u64);
             line.push_str(" ");
             push_number(&mut line, u64::from(steps));
+            push_reason(&mut line, form.stream, reason_of(form.program, value));
         }
         End::Trap(reason, steps) => {
             line.push_str(" TRAP ");
@@ -49,9 +68,24 @@ pub fn line_of_frame(limit: u32, number: u32, end: End, size: usize) -> Line
             line.push_str(" LIMIT ");
             push_number(&mut line, size as u64);
             line.push_str(" ");
-            push_number(&mut line, u64::from(limit));
+            push_number(&mut line, u64::from(form.limit));
         }
     }
+    line.push_str("\n");
+    line
+}
+
+/// The line of a frame that has a reason already, and is not run.
+#[tactic(auto, unfolding(isa_model::specs::Reporting::Reports::skip_line))]
+pub fn line_of_skip(number: u32, size: usize, reason: u32) -> Line
+    ensures { result.bytes ≡ skip_line number size reason }
+{
+    let mut line = Line::new();
+    push_number(&mut line, u64::from(number));
+    line.push_str(" SKIP ");
+    push_number(&mut line, size as u64);
+    line.push_str(" 0 ");
+    push_number(&mut line, u64::from(reason));
     line.push_str("\n");
     line
 }

@@ -1,7 +1,7 @@
 //! What runs frames.
 ghost use Rattle.std.specs.Prelude.{◌≡◌, ◌≤◌, length, List};
 ghost use Rattle.isa_model.specs.declared.map_defs.MapDef.{MapDef};
-ghost use Rattle.isa_model.specs.{Entries, max_body};
+ghost use Rattle.isa_model.specs.{Entries, max_packet};
 ghost use Rattle.isa_model.specs.Reporting.Reports.{Rule};
 ghost use Rattle.maps.specs.Maps.{rows_of, contents_of};
 
@@ -21,7 +21,7 @@ pub trait Runner {
 
     /// Runs a frame, and leaves in `body` its bytes after the run.
     fn run(&mut self, head: FrameHead, body: &mut [u8]) -> End
-        requires { length body.old ≤ max_body }
+        requires { length body.old ≤ max_packet }
         ensures ends { result ≡ (rule self.old head body.old (contents self.old)).ends }
         ensures body { body.new ≡ (rule self.old head body.old (contents self.old)).packet }
         ensures contents { contents self.new

@@ -7,7 +7,8 @@ use super::engine::run_frames;
 use super::errors::HostError;
 use super::runners::Runner;
 use super::tallies::Tally;
-use explorer::Verified;
+use super::versions::version_of;
+use bounds::Verified;
 use isa_model::{End, FrameHead};
 use machine::Machine;
 use maps::Maps;
@@ -47,7 +48,7 @@ impl Runner for MachineRunner {
 /// What is written is exactly the report of the program and those frames; in every frame's run the
 /// step by step meaning of the program meets no trap, and it exits within the bound. Nothing is
 /// asked of the source: its stream may be damaged, cut off, without an end, or fail in the middle;
-/// at most 4,294,967,295 frames are run. Where the source tells its bytes, the frames are those
+/// at most 4,294,967,295 frames are run. A frame with a reason is not run, and goes out as it came. Where the source tells its bytes, the frames are those
 /// that they spell, from the first on; where it does not, as a file, they are those of some bytes.
 ///
 /// Every answer of a frame's clock is the frame's time. Memory is taken before the first byte is
@@ -69,11 +70,13 @@ pub fn run<R: Read + Drop, W1: Write, W2: Write>(
         record { report = W1.contents report.new; frames = W2.contents out.new } result }
 {
     let bound = verified.bound();
+    let program = version_of(verified.image().version());
     let Ok(maps) = Maps::new(alloc, verified.image()) else {
         return Err(HostError::Memory);
     };
     let Ok(machine) = Machine::new(alloc, verified, maps) else {
         return Err(HostError::Memory);
     };
-    run_frames(MachineRunner { machine }, bound, source, report, out)
+    let runner = MachineRunner { machine };
+    run_frames(runner, bound, program, source, report, out)
 }

@@ -1,12 +1,14 @@
 use Rattle.std.proofs.Common.{◌≡◌, ◌-◌, List}
 use Rattle.isa_model.specs.Reporting.Streams.{Frame}
+use Rattle.host.specs.Forms.{form_by}
 use Rattle.host.proofs.SoFar.{SoFar}
 use Rattle.host.proofs.engine.run_frames.Given as goal
 
 abbrev pub invariant-turns : goal.invariant-turns
-invariant-turns g l = (frames : List Frame) × SoFar frames (g.R.Read.remaining l.fn.source) (g.R.Read.remaining l.reader.source) l.reader.position l.number l.limit
-    (g.M.Runner.rule l.fn.machine) (g.M.Runner.contents l.fn.machine) (g.M.Runner.contents l.machine)
+invariant-turns g l = (frames : List Frame) × SoFar (form_by l.form)
+    (g.M.Runner.rule l.fn.machine) (g.M.Runner.contents l.fn.machine) (g.R.Read.remaining l.fn.source)
     (record { report = g.W1.Write.contents l.fn.report; frames = g.W2.Write.contents l.fn.out })
+    frames (g.R.Read.remaining l.reader.source) l.reader.position l.number (g.M.Runner.contents l.machine)
     (record { report = g.W1.Write.contents l.report; frames = g.W2.Write.contents l.out })
     × (g.M.Runner.rule l.machine ≡ g.M.Runner.rule l.fn.machine)
     × (g.M.Runner.rows l.machine ≡ g.M.Runner.rows l.fn.machine)

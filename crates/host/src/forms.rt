@@ -1,0 +1,11 @@
+//! What the lines of a report depend on beside the runs.
+
+use isa_model::Version;
+
+/// The most steps of a run, and the versions of the program and of the stream.
+#[derive(Clone, Copy, PartialEq, Eq, Debug)]
+pub struct Form {
+    pub limit: u32,
+    pub program: Version,
+    pub stream: Version,
+}
