@@ -1,7 +1,10 @@
--- What a writer with a buffer holds.
-use Rattle.std.specs.Prelude.{ℕ, List, Option}
+-- What a writer with a buffer holds, and whether it has failed.
+use Rattle.std.specs.Prelude.{◌≡◌, ℕ, List, Option, Result, Ok, Err}
+use Rattle.std.specs.IoError.{error_kind}
 use Rattle.std.specs.Io.Buffered.{writer_buffer, writer_inner}
 use Rattle.std.specs.Io.KnownBytes.{append_known}
+use Rattle.std.specs.declared.io.ErrorKind.{ErrorKind}
+use Rattle.std.specs.declared.io.Error.{Error}
 use Rattle.buffered_io.specs.declared.PromptWriter.{PromptWriter}
 
 -- the writer behind the buffer
@@ -16,6 +19,15 @@ waiting w = writer_buffer w.buffered
 abbrev pub prompt_left : {W : Type 0} → PromptWriter W → ℕ
 prompt_left w = w.prompt
 
+-- why a write or a flush failed, if one did
+abbrev pub failure_of : {W : Type 0} → PromptWriter W → Option ErrorKind
+failure_of w = w.failure
+
 -- what the writer behind the buffer holds, where it tells, and then what waits
 abbrev pub held : {W : Type 0} → (W → Option (List ℕ)) → PromptWriter W → Option (List ℕ)
 held contents w = append_known (contents (behind w)) (waiting w)
+
+-- a call failed for this reason
+abbrev pub FailsWith : {A : Type 0} → ErrorKind → Result A Error → Type 0
+FailsWith kind (Ok a) = ⊥
+FailsWith kind (Err error) = error_kind error ≡ kind

@@ -1,10 +1,10 @@
-//! A writer with a buffer, through which the first bytes go at once.
+//! A writer with a buffer, through which the first bytes go at once, and which says why it failed.
 //!
 //! std's `BufWriter` keeps all bytes until it is full. A file that cannot be written is then found
 //! only when much else has been done.
 #![tactic(auto)]
 
-ghost use Rattle.std.specs.Prelude.{◌≡◌, ◌<◌, ◌-◌, [], IfOk, OnOk, IfErr};
+ghost use Rattle.std.specs.Prelude.{◌≡◌, ◌<◌, ◌-◌, [], length, None, Some, IfOk, OnOk, IfErr, MatchResult};
 ghost use Rattle.std.specs.IoError.{error_kind};
 ghost use Rattle.std.specs.Io.{WritesAtMost};
 ghost use Rattle.std.specs.Io.KnownBytes.{Keeps, WriteAppends};
@@ -14,38 +14,52 @@ use std::io;
 use std::io::{BufWriter, ErrorKind, Write};
 
 /// A writer with a buffer. What waits in the buffer when this is dropped is not written.
+///
+/// A write or a flush that fails is the last one: each later one fails for the same reason, and
+/// nothing is tried again. A write that the writer behind answers by no byte fails with
+/// `ErrorKind::WriteZero`.
 pub struct PromptWriter<W: Write + Drop> {
     buffered: BufWriter<W>,
     // How many bytes are still to go through at once.
     prompt: usize,
+    // Why a write or a flush failed.
+    failure: Option<ErrorKind>,
 }
 
 impl<W: Write + Drop> PromptWriter<W> {
-    ghost use Rattle.buffered_io.specs.Waiting.{behind, prompt_left, waiting};
+    ghost use Rattle.buffered_io.specs.Waiting.{behind, failure_of, held, prompt_left, waiting};
 
     /// Puts a buffer in front of a writer. So many of the first bytes go through it at once.
     pub fn new(alloc: Global, capacity: usize, prompt: usize, writer: W) -> io::Result<Self>
         ensures behind { IfOk result (λ w. behind w ≡ writer) }
         ensures empty { IfOk result (λ w. waiting w ≡ []) }
         ensures prompt { IfOk result (λ w. prompt_left w ≡ prompt) }
+        ensures sound { IfOk result (λ w. failure_of w ≡ None) }
         ensures err { IfErr result (λ e. error_kind e ≡ ErrorKind.OutOfMemory) }
     {
         let buffered = BufWriter::with_capacity(alloc, capacity, writer)?;
-        Ok(PromptWriter { buffered, prompt })
+        Ok(PromptWriter {
+            buffered,
+            prompt,
+            failure: None,
+        })
     }
-}
 
-impl<W: Write + Drop> Write for PromptWriter<W> {
-    ghost use Rattle.buffered_io.specs.Waiting.{held, prompt_left, waiting};
+    /// Why a write or a flush failed, if one did.
+    pub fn failure(&self) -> Option<ErrorKind>
+        ensures { result ≡ failure_of self.now }
+    {
+        self.failure
+    }
 
-    ghost contents = { held W.contents };
-
-    fn write(&mut self, bytes: &[u8]) -> io::Result<usize>
+    // Writes, where nothing has failed before.
+    fn pass(&mut self, bytes: &[u8]) -> io::Result<usize>
         ensures bound { WritesAtMost result bytes.now }
         ensures bytes { WriteAppends (held W.contents self.old) (held W.contents self.new)
             result bytes.now }
         ensures at_once { 0 < prompt_left self.old → OnOk result (waiting self.new ≡ []) }
         ensures left { IfOk result (λ n. prompt_left self.new ≡ prompt_left self.old - n) }
+        ensures failure { failure_of self.new ≡ failure_of self.old }
     {
         if self.prompt == 0 {
             return self.buffered.write(bytes);
@@ -56,12 +70,59 @@ impl<W: Write + Drop> Write for PromptWriter<W> {
         self.prompt -= count;
         Ok(count)
     }
+}
+
+impl<W: Write + Drop> Write for PromptWriter<W> {
+    ghost use Rattle.buffered_io.specs.Waiting.{FailsWith, failure_of, held, prompt_left, waiting};
+
+    ghost contents = { held W.contents };
+
+    fn write(&mut self, bytes: &[u8]) -> io::Result<usize>
+        ensures bound { WritesAtMost result bytes.now }
+        ensures bytes { WriteAppends (held W.contents self.old) (held W.contents self.new)
+            result bytes.now }
+        ensures at_once { 0 < prompt_left self.old → OnOk result (waiting self.new ≡ []) }
+        ensures left { IfOk result (λ n. prompt_left self.new ≡ prompt_left self.old - n) }
+        ensures some { IfOk result (λ n. 0 < length bytes.now → 0 < n) }
+        ensures told { MatchResult result (λ _. failure_of self.new ≡ None)
+            (λ e. failure_of self.new ≡ Some (error_kind e)) }
+        ensures last { (kind : ErrorKind) → failure_of self.old ≡ Some kind
+            → FailsWith kind result × (self.new ≡ self.old) }
+    {
+        if let Some(kind) = self.failure {
+            return Err(io::Error::from(kind));
+        }
+        match self.pass(bytes) {
+            Ok(0) if !bytes.is_empty() => {
+                self.failure = Some(ErrorKind::WriteZero);
+                Err(io::Error::from(ErrorKind::WriteZero))
+            }
+            Ok(count) => Ok(count),
+            Err(error) => {
+                self.failure = Some(error.kind());
+                Err(error)
+            }
+        }
+    }
 
     fn flush(&mut self) -> io::Result<()>
         ensures bytes { Keeps (held W.contents self.old) (held W.contents self.new) }
         ensures ok { OnOk result (waiting self.new ≡ []) }
+        ensures told { MatchResult result (λ _. failure_of self.new ≡ None)
+            (λ e. failure_of self.new ≡ Some (error_kind e)) }
+        ensures last { (kind : ErrorKind) → failure_of self.old ≡ Some kind
+            → FailsWith kind result × (self.new ≡ self.old) }
     {
-        self.buffered.flush()
+        if let Some(kind) = self.failure {
+            return Err(io::Error::from(kind));
+        }
+        match self.buffered.flush() {
+            Ok(()) => Ok(()),
+            Err(error) => {
+                self.failure = Some(error.kind());
+                Err(error)
+            }
+        }
     }
 }
 
@@ -70,6 +131,7 @@ impl<W: Write + Drop> Drop for PromptWriter<W> {
         let PromptWriter {
             buffered,
             prompt: _,
+            failure: _,
         } = self;
         let _ = buffered.into_parts();
     }

@@ -1,5 +1,7 @@
 -- What is known beside how a task ended.
-use Rattle.std.proofs.Common.{◌≡◌, ℕ, List, Option, Some, None, String, inl, inr, ◌⊎◌}
+use Rattle.std.proofs.Common.{◌≡◌, ℕ, List, Option, Some, None, String, false, inl, inr, ◌⊎◌}
+use Rattle.buffered_io.specs.declared.PromptWriter.{PromptWriter}
+use Rattle.buffered_io.specs.Waiting.{held}
 use Rattle.std.specs.declared.alloc.Global.{Global}
 use Rattle.isa_model.specs.{Program}
 use Rattle.tasks.specs.Requests.{Request, Trace, Run, Verify, Assemble, Disassemble, NotBuilt}
@@ -7,8 +9,8 @@ use Rattle.serving.specs.declared.outcomes.Outcome.{Outcome}
 use Rattle.serving.specs.declared.endings.Ending.{Ending}
 use Rattle.serving.specs.Known.{Tells}
 use Rattle.serving.specs.Commands.{Serves}
-use Rattle.serving.specs.HandingOn.{HandsOn}
-use Rattle.serving.specs.Statuses.{IsOutputFailure}
+use Rattle.serving.specs.HandingOn.{HandsOn, IsHandedOn, TellsFailure}
+use Rattle.serving.specs.Statuses.{is_silent}
 
 -- nothing, or what is known of some program
 abbrev pub Knows : Outcome → Option (String Global) → Type 0
@@ -25,9 +27,11 @@ served_knows (Disassemble path) old new r h = inl h.1
 served_knows (NotBuilt name) old new r h = inl h.1
 
 -- where standard output failed in the end nothing is known beside that
-knows_then : (ended r : Ending) → Knows ended.outcome ended.why → (r ≡ ended) ⊎ (IsOutputFailure r.outcome × (r.why ≡ None)) → Knows r.outcome r.why
-knows_then ended r k (inl same) = rw same k
-knows_then ended r k (inr failed) = inl failed.1
+knows_then : {W : Type 0} (out : PromptWriter W) (ended r : Ending) → Knows ended.outcome ended.why
+    → ((is_silent ended.outcome ≡ false → IsHandedOn out) × (r ≡ ended)) ⊎ TellsFailure out r → Knows r.outcome r.why
+knows_then out ended r k (inl kept) = rw kept.1 k
+knows_then out ended r k (inr failed) = inl failed.plain
 
-pub whole_knows : (request : Request) (old given new : Option (List ℕ)) (ended r : Ending) → Serves (Some request) old given ended → HandsOn given new ended r → Knows r.outcome r.why
-whole_knows request old given new ended r h on = knows_then ended r (served_knows request old given ended h) on.ends
+pub whole_knows : {W : Type 0} (contents : W → Option (List ℕ)) (request : Request) (old : Option (List ℕ)) (given new : PromptWriter W) (ended r : Ending)
+    → Serves (Some request) old (held contents given) ended → HandsOn contents given new ended r → Knows r.outcome r.why
+whole_knows contents request old given new ended r h on = knows_then new ended r (served_knows request old (held contents given) ended h) on.ends

@@ -1,6 +1,9 @@
 -- What is done where words ask for something, and where they ask for nothing.
-use Rattle.std.proofs.Common.{◌≡◌, ℕ, List, Option, Some, None, Err, subst, sym, refl, inl, inr}
+use Rattle.std.proofs.Common.{◌≡◌, ℕ, List, Option, Some, None, Err, true, subst, sym, refl, inl, inr}
+use Rattle.std.proofs.lemmas.Bool.{both_ways}
 use Rattle.std.specs.String.{string_bytes}
+use Rattle.buffered_io.specs.declared.PromptWriter.{PromptWriter}
+use Rattle.buffered_io.specs.Waiting.{held}
 use Rattle.std.proofs.KnownBytes.{Keeps-refl}
 use Rattle.tasks.specs.declared.WordsError.{WordsError}
 use Rattle.tasks.specs.declared.WordsError.TheVariants.{Wrong, Memory}
@@ -9,20 +12,20 @@ use Rattle.words.specs.Asked.{Reads, asked}
 use Rattle.serving.specs.declared.outcomes.Outcome.{Outcome}
 use Rattle.serving.specs.declared.outcomes.Outcome.TheVariants.{Done, WrongWords, NotBuilt, Refused, Faulted, CannotRead, CannotWrite, CannotReplace, NoMemory}
 use Rattle.serving.specs.declared.endings.Ending.{Ending}
-use Rattle.serving.specs.Statuses.{IsWordsEnd, IsWrong, IsWrongWords}
+use Rattle.serving.specs.Statuses.{IsWordsEnd, IsWrong, IsWrongWords, is_silent}
 use Rattle.serving.specs.Commands.{Serves}
 use Rattle.serving.specs.HandingOn.{HandsOn}
 use Rattle.commands.specs.Executing.{Executes}
 
 -- standard output that was asked for nothing more
-handed : (given : Option (List ℕ)) (r : Ending) → HandsOn given given r r
-handed given r = record { kept = Keeps-refl given; silent = λ _. (refl, refl); ends = inl refl }
+handed : {W : Type 0} (contents : W → Option (List ℕ)) (given : PromptWriter W) (r : Ending) → is_silent r.outcome ≡ true → HandsOn contents given given r r
+handed contents given r silent = record { kept = Keeps-refl (held contents given); silent = λ _. (refl, refl); ends = inl ((λ loud. absurd (both_ways (is_silent r.outcome) loud silent)), refl) }
 
 -- what is asked for is done, and standard output hands it on
-pub asked-served : (words : List (List ℕ)) (request : Request) (old given new : Option (List ℕ)) (ended r : Ending) → asked words ≡ Some request
-    → Serves (Some request) old given ended → HandsOn given new ended r → Executes words old new r
-asked-served words request old given new ended r is h on =
-    inr (record { given = given; ended = ended; serves = subst (λ (x : Option Request). Serves x old given ended) (sym is) h; hands_on = on })
+pub asked-served : {W : Type 0} (contents : W → Option (List ℕ)) (words : List (List ℕ)) (request : Request) (old given new : PromptWriter W) (ended r : Ending) → asked words ≡ Some request
+    → Serves (Some request) (held contents old) (held contents given) ended → HandsOn contents given new ended r → Executes contents words old new r
+asked-served contents words request old given new ended r is h on =
+    inr (record { given = given; ended = ended; serves = subst (λ (x : Option Request). Serves x (held contents old) (held contents given) ended) (sym is) h; hands_on = on })
 
 -- what is told to be wrong for some reason is wrong
 wrong : (text : List ℕ) (o : Outcome) → IsWrong text o → IsWrongWords o
@@ -36,11 +39,27 @@ wrong text (CannotWrite path cause) h = absurd h
 wrong text (CannotReplace path) h = absurd h
 wrong text NoMemory h = absurd h
 
+wrong_silent : (text : List ℕ) (o : Outcome) → IsWrong text o → is_silent o ≡ true
+wrong_silent text (WrongWords said) h = refl
+wrong_silent text Done h = absurd h
+wrong_silent text (NotBuilt name) h = absurd h
+wrong_silent text (Refused rejection) h = absurd h
+wrong_silent text Faulted h = absurd h
+wrong_silent text (CannotRead path kind) h = absurd h
+wrong_silent text (CannotWrite path cause) h = absurd h
+wrong_silent text (CannotReplace path) h = absurd h
+wrong_silent text NoMemory h = absurd h
+
 -- words that ask for nothing
-pub unasked : (words : List (List ℕ)) (error : WordsError) (old now : Option (List ℕ)) (o : Outcome) → Reads words (Err error) → IsWordsEnd error o → now ≡ old
-    → Executes words old now (record { outcome = o; why = None })
-unasked words (Wrong text) old now o none is e =
+pub unasked : {W : Type 0} (contents : W → Option (List ℕ)) (words : List (List ℕ)) (error : WordsError) (out : PromptWriter W) (o : Outcome) → Reads words (Err error) → IsWordsEnd error o
+    → Executes contents words out out (record { outcome = o; why = None })
+unasked contents words (Wrong text) out o none is =
     let ending : Ending = record { outcome = o; why = None } in
-    let serves : Serves None old now ending = ((wrong (string_bytes text) o is, e), refl) in
-    inr (record { given = now; ended = ending; serves = subst (λ (x : Option Request). Serves x old now ending) (sym none) serves; hands_on = handed now ending })
-unasked words Memory old now o none is e = inl ((is, e), refl)
+    let serves : Serves None (held contents out) (held contents out) ending = ((wrong (string_bytes text) o is, refl), refl) in
+    inr (record {
+      given = out;
+      ended = ending;
+      serves = subst (λ (x : Option Request). Serves x (held contents out) (held contents out) ending) (sym none) serves;
+      hands_on = handed contents out ending (wrong_silent (string_bytes text) o is);
+    })
+unasked contents words Memory out o none is = inl ((is, refl), refl)

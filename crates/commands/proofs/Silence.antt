@@ -1,17 +1,22 @@
 -- A task of which standard output has got nothing left it as it was.
-use Rattle.std.proofs.Common.{◌≡◌, ◌∙◌, ℕ, List, Option, Some, None, Result, Ok, Err, true, false, ap, refl, sym, inl, inr, ◌⊎◌}
+use Rattle.std.proofs.Common.{◌≡◌, ◌∙◌, ◌≤◌, ℕ, List, Option, Some, None, Result, Ok, Err, true, false, ap, refl, sym, inl, inr, ◌⊎◌, arith}
 use Rattle.std.proofs.lemmas.Bool.{both_ways, false≢true}
+use Rattle.std.specs.declared.io.ErrorKind.{ErrorKind}
+use Rattle.buffered_io.specs.declared.PromptWriter.{PromptWriter}
+use Rattle.buffered_io.specs.Waiting.{held}
 use Rattle.isa_model.specs.declared.streams.Fault.{Fault}
 use Rattle.isa_model.specs.{Program}
 use Rattle.host.specs.declared.errors.HostError.{HostError}
 use Rattle.host.specs.declared.errors.HostError.TheVariants as failure
 use Rattle.host.specs.declared.tallies.Tally.{Tally}
 use Rattle.tasks.specs.Requests.{Request, RunFiles, Trace, Run, Verify, Assemble, Disassemble, NotBuilt}
+use Rattle.tasks.specs.declared.WordsError.{WordsError}
+use Rattle.tasks.specs.declared.WordsError.TheVariants.{Wrong, Memory}
 use Rattle.serving.specs.declared.outcomes.Outcome.{Outcome}
 use Rattle.serving.specs.declared.outcomes.Outcome.TheVariants as outcome
 use Rattle.serving.specs.declared.endings.Ending.{Ending}
-use Rattle.serving.specs.Statuses.{is_silent, IsOutputFailure, IsWriteFailure}
-use Rattle.serving.specs.HandingOn.{HandsOn}
+use Rattle.serving.specs.Statuses.{is_silent, status_of, IsWordsEnd, IsWriteFailure, IsWriteFailureBy}
+use Rattle.serving.specs.HandingOn.{HandsOn, IsHandedOn, TellsFailure}
 use Rattle.serving.specs.Saying.{Says}
 use Rattle.serving.specs.Judging.{RefusesImage, RefusesProgram, RefusesText, Verifies, Stores}
 use Rattle.serving.specs.Streams.{Ends, EndsBy, FailsBy, outcome_at}
@@ -30,6 +35,17 @@ write_loud name (outcome.CannotWrite path cause) h e = false≢true e
 write_loud name (outcome.CannotReplace path) h e = h
 write_loud name outcome.NoMemory h e = h
 
+pub write_loud_by : (name : List ℕ) (cause : Option ErrorKind) (r : Outcome) → IsWriteFailureBy name cause r → is_silent r ≡ true → ⊥
+write_loud_by name cause outcome.Done h e = h
+write_loud_by name cause (outcome.WrongWords text) h e = h
+write_loud_by name cause (outcome.NotBuilt command) h e = h
+write_loud_by name cause (outcome.Refused rejection) h e = h
+write_loud_by name cause outcome.Faulted h e = h
+write_loud_by name cause (outcome.CannotRead path kind) h e = h
+write_loud_by name cause (outcome.CannotWrite path told) h e = false≢true e
+write_loud_by name cause (outcome.CannotReplace path) h e = h
+write_loud_by name cause outcome.NoMemory h e = h
+
 says_loud : (old new : Option (List ℕ)) (text : List ℕ) (ended r : Outcome) → is_silent ended ≡ false → Says old new text ended r → is_silent r ≡ true → ⊥
 says_loud old new text ended r loud (inl said) e = both_ways (is_silent r) (ap is_silent said.1 ∙ loud) e
 says_loud old new text ended r loud (inr failed) e = write_loud _ r failed.1 e
@@ -39,19 +55,20 @@ at_loud None = refl
 at_loud (Some fault) = refl
 
 -- a run of which standard output has got nothing lacked memory
-ends_silent : (name : List ℕ) (ended : Result Tally HostError) (r : Outcome) → EndsBy name ended r → is_silent r ≡ true → ended ≡ Err failure.Memory
-ends_silent name (Ok tally) r h e = absurd (both_ways (is_silent r) (ap is_silent h ∙ at_loud tally.fault) e)
-ends_silent name (Err failure.Memory) r h e = refl
-ends_silent name (Err failure.Report) r h e = absurd (write_loud _ r h e)
-ends_silent name (Err failure.Frames) r h e = absurd (write_loud name r h e)
+ends_silent : (name : List ℕ) (cause : Option ErrorKind) (ended : Result Tally HostError) (r : Outcome) → EndsBy name cause ended r → is_silent r ≡ true → ended ≡ Err failure.Memory
+ends_silent name cause (Ok tally) r h e = absurd (both_ways (is_silent r) (ap is_silent h ∙ at_loud tally.fault) e)
+ends_silent name cause (Err failure.Memory) r h e = refl
+ends_silent name cause (Err failure.Report) r h e = absurd (write_loud _ r h e)
+ends_silent name cause (Err failure.Frames) r h e = absurd (write_loud_by name cause r h e)
 
-fails_silent : (name : List ℕ) (ended : Result Tally HostError) (r : Outcome) → FailsBy name ended r → is_silent r ≡ true → ended ≡ Err failure.Memory
-fails_silent name (Ok tally) r h e = absurd (write_loud name r h e)
-fails_silent name (Err error) r h e = ends_silent name (Err error) r h e
+fails_silent : (name : List ℕ) (cause : Option ErrorKind) (ended : Result Tally HostError) (r : Outcome) → FailsBy name cause ended r → is_silent r ≡ true → ended ≡ Err failure.Memory
+fails_silent name cause (Ok tally) r h e = absurd (write_loud_by name cause r h e)
+fails_silent name cause (Err error) r h e = ends_silent name cause (Err error) r h e
 
-stops_silent : (name : List ℕ) (ended : Result Tally HostError) (handed got : Option (List ℕ)) (r : Outcome) → Ends name ended handed got r → is_silent r ≡ true → ended ≡ Err failure.Memory
-stops_silent name ended handed got r (inl whole) e = ends_silent name ended r whole.1 e
-stops_silent name ended handed got r (inr part) e = fails_silent name ended r part.1 e
+stops_silent : (name : List ℕ) (cause : Option ErrorKind) (ended : Result Tally HostError) (handed got : Option (List ℕ)) (r : Outcome) → Ends name cause ended handed got r → is_silent r ≡ true
+    → ended ≡ Err failure.Memory
+stops_silent name cause ended handed got r (inl whole) e = ends_silent name cause ended r whole.1 e
+stops_silent name cause ended handed got r (inr part) e = fails_silent name cause ended r part.1 e
 
 -- ---- what is judged
 
@@ -68,8 +85,8 @@ text_silent source old new r (inl lacks) e = lacks.1
 text_silent source old new r (inr (error, is, other, says)) e = absurd (says_loud old new _ _ r refl says e)
 
 verdict_silent : (p : Program) (old new : Option (List ℕ)) (r : Outcome) → Verifies p old new r → is_silent r ≡ true → new ≡ old
-verdict_silent p old new r (inl (v, is, same, inl lacks)) e = lacks.1
-verdict_silent p old new r (inl (v, is, same, inr says)) e = absurd (says_loud old new _ _ r refl says e)
+verdict_silent p old new r (inl (bound, is, inl lacks)) e = lacks.1
+verdict_silent p old new r (inl (bound, is, inr says)) e = absurd (says_loud old new _ _ r refl says e)
 verdict_silent p old new r (inr refuses) e = program_silent p old new r refuses e
 
 stores_silent : (p : Program) (line name : List ℕ) (before after old new : Option (List ℕ)) (r : Outcome) → Stores p line name before after old new r → is_silent r ≡ true → new ≡ old
@@ -89,14 +106,14 @@ opens_silent files old new r (inr makes) = makes.1
 trace_silent : (files : RunFiles) (limit : ℕ) (old new : Option (List ℕ)) (r : Outcome) → TracesFile files limit old new r → is_silent r ≡ true → new ≡ old
 trace_silent files limit old new r (inl loads) e = loads_silent _ old new r loads e
 trace_silent files limit old new r (inr (p, is, inl opens)) e = opens_silent files old new r opens
-trace_silent files limit old new r (inr (p, is, inr some)) e = some.traces.report_untouched (stops_silent _ _ _ _ r some.traces.ends e)
+trace_silent files limit old new r (inr (p, is, inr some)) e = some.traces.report_untouched (stops_silent _ _ _ _ _ r some.traces.ends e)
 
 run_silent : (files : RunFiles) (old new : Option (List ℕ)) (r : Ending) → RunsFile files old new r → is_silent r.outcome ≡ true → new ≡ old
 run_silent files old new r (inl (loads, none)) e = loads_silent _ old new r.outcome loads e
 run_silent files old new r (inr (p, is, (inl refuses, known))) e = program_silent p old new r.outcome refuses e
 run_silent files old new r (inr (p, is, (inr (bound, verified, inl opens), known))) e = opens_silent files old new r.outcome opens
 run_silent files old new r (inr (p, is, (inr (bound, verified, inr some), known))) e =
-    some.runs.report_untouched (stops_silent _ _ _ _ r.outcome some.runs.ends e)
+    some.runs.report_untouched (stops_silent _ _ _ _ _ r.outcome some.runs.ends e)
 
 verify_silent : (path : List ℕ) (old new : Option (List ℕ)) (r : Ending) → VerifiesFile path old new r → is_silent r.outcome ≡ true → new ≡ old
 verify_silent path old new r (inl (loads, none)) e = loads_silent path old new r.outcome loads e
@@ -122,12 +139,61 @@ served_silent (NotBuilt name) old new r h e = h.0.1
 
 -- ---- and then standard output hands on what it was given
 
-silent_then : (ended r : Ending) → (r ≡ ended) ⊎ (IsOutputFailure r.outcome × (r.why ≡ None)) → is_silent r.outcome ≡ true → is_silent ended.outcome ≡ true
-silent_then ended r (inl same) e = ap (λ (x : Ending). is_silent x.outcome) (sym same) ∙ e
-silent_then ended r (inr failed) e = absurd (write_loud _ r.outcome failed.0 e)
+silent_then : {W : Type 0} (out : PromptWriter W) (ended r : Ending) → ((is_silent ended.outcome ≡ false → IsHandedOn out) × (r ≡ ended)) ⊎ TellsFailure out r
+    → is_silent r.outcome ≡ true → is_silent ended.outcome ≡ true
+silent_then out ended r (inl kept) e = ap (λ (x : Ending). is_silent x.outcome) (sym kept.1) ∙ e
+silent_then out ended r (inr failed) e = absurd (write_loud_by _ _ r.outcome failed.told e)
 
-pub whole_silent : (request : Request) (old given new : Option (List ℕ)) (ended r : Ending) → Serves (Some request) old given ended → HandsOn given new ended r
-    → is_silent r.outcome ≡ true → new ≡ old
-whole_silent request old given new ended r h on e =
-    let silent = silent_then ended r on.ends e in
-    (on.silent silent).0 ∙ served_silent request old given ended h silent
+pub whole_silent : {W : Type 0} (contents : W → Option (List ℕ)) (request : Request) (old : Option (List ℕ)) (given new : PromptWriter W) (ended r : Ending)
+    → Serves (Some request) old (held contents given) ended → HandsOn contents given new ended r → is_silent r.outcome ≡ true → held contents new ≡ old
+whole_silent contents request old given new ended r h on e =
+    let silent = silent_then new ended r on.ends e in
+    ap (held contents) (on.silent silent).0 ∙ served_silent request old (held contents given) ended h silent
+
+-- ---- at status 0, 2 and 3
+
+-- what the statuses say of how a task ended
+loud : (o : Outcome) → status_of o ≤ 3 → (status_of o ≡ 1 → ⊥) → is_silent o ≡ false
+loud outcome.Done most apart = refl
+loud (outcome.WrongWords text) most apart = absurd (apart refl)
+loud (outcome.NotBuilt name) most apart = absurd (apart refl)
+loud (outcome.Refused rejection) most apart = refl
+loud outcome.Faulted most apart = refl
+loud (outcome.CannotRead path kind) most apart = absurd (omega arith)
+loud (outcome.CannotWrite path cause) most apart = refl
+loud (outcome.CannotReplace path) most apart = absurd (omega arith)
+loud outcome.NoMemory most apart = absurd (omega arith)
+
+written : (name : List ℕ) (cause : Option ErrorKind) (o : Outcome) → IsWriteFailureBy name cause o → status_of o ≤ 3 → ⊥
+written name cause outcome.Done h most = h
+written name cause (outcome.WrongWords text) h most = h
+written name cause (outcome.NotBuilt command) h most = h
+written name cause (outcome.Refused rejection) h most = h
+written name cause outcome.Faulted h most = h
+written name cause (outcome.CannotRead path kind) h most = h
+written name cause (outcome.CannotWrite path told) h most = omega arith
+written name cause (outcome.CannotReplace path) h most = h
+written name cause outcome.NoMemory h most = h
+
+-- words that ask for nothing end otherwise
+pub unasked_status : (error : WordsError) (o : Outcome) → IsWordsEnd error o → status_of o ≤ 3 → (status_of o ≡ 1 → ⊥) → ⊥
+unasked_status Memory o e most apart = let same : status_of o ≡ 5 = ap status_of e in omega arith
+unasked_status (Wrong text) (outcome.WrongWords said) e most apart = apart refl
+unasked_status (Wrong text) outcome.Done e most apart = e
+unasked_status (Wrong text) (outcome.NotBuilt name) e most apart = e
+unasked_status (Wrong text) (outcome.Refused rejection) e most apart = e
+unasked_status (Wrong text) outcome.Faulted e most apart = e
+unasked_status (Wrong text) (outcome.CannotRead path kind) e most apart = e
+unasked_status (Wrong text) (outcome.CannotWrite path cause) e most apart = e
+unasked_status (Wrong text) (outcome.CannotReplace path) e most apart = e
+unasked_status (Wrong text) outcome.NoMemory e most apart = e
+
+-- where standard output was given something, and did not fail, it handed that on
+loud_then : {W : Type 0} (out : PromptWriter W) (ended r : Ending) → ((is_silent ended.outcome ≡ false → IsHandedOn out) × (r ≡ ended)) ⊎ TellsFailure out r
+    → status_of r.outcome ≤ 3 → (status_of r.outcome ≡ 1 → ⊥) → IsHandedOn out
+loud_then out ended r (inl kept) most apart = kept.0 (ap (λ (x : Ending). is_silent x.outcome) (sym kept.1) ∙ loud r.outcome most apart)
+loud_then out ended r (inr failed) most apart = absurd (written _ _ r.outcome failed.told most)
+
+pub whole_handed_on : {W : Type 0} (contents : W → Option (List ℕ)) (given new : PromptWriter W) (ended r : Ending) → HandsOn contents given new ended r
+    → status_of r.outcome ≤ 3 → (status_of r.outcome ≡ 1 → ⊥) → IsHandedOn new
+whole_handed_on contents given new ended r on most apart = loud_then new ended r on.ends most apart

@@ -1,31 +1,47 @@
 -- What the program does where it is given words.
-use Rattle.std.specs.Prelude.{ℕ, List, ◌++◌, Option, ◌⊎◌}
+use Rattle.std.specs.Prelude.{◌≡◌, ℕ, List, ◌++◌, Option, ◌⊎◌}
+use Rattle.buffered_io.specs.declared.PromptWriter.{PromptWriter}
+use Rattle.buffered_io.specs.Waiting.{held}
 use Rattle.isa_model.specs.declared.instructions.Insn.{Insn}
 use Rattle.isa_model.specs.{Program}
 use Rattle.explorer.specs.declared.refusals.Refusal.{Refusal}
 use Rattle.explanations.specs.Reasons.{IsReason}
+use Rattle.tasks.specs.declared.WordsError.{WordsError}
 use Rattle.tasks.specs.Requests.{Request}
 use Rattle.words.specs.Asked.{asked}
+use Rattle.serving.specs.declared.outcomes.Outcome.{Outcome}
 use Rattle.serving.specs.declared.endings.Ending.{Ending}
 use Rattle.serving.specs.declared.rejections.Rejection.{Rejection}
 use Rattle.serving.specs.declared.rejections.Rejection.TheVariants as rejection
 use Rattle.serving.specs.Messages.{reason_of}
+use Rattle.serving.specs.Statuses.{IsWordsEnd, message_of, status_of}
 use Rattle.serving.specs.Saying.{AppendsPart, LacksMemory}
-use Rattle.serving.specs.Known.{Plainly}
+use Rattle.serving.specs.Known.{Plainly, told_of}
 use Rattle.serving.specs.Commands.{Serves}
 use Rattle.serving.specs.HandingOn.{HandsOn}
 
 -- What is asked for was done, and how that ended; and then standard output was to hand on what it was given. Where it
 -- fails only at that, this is how the program ends.
-pub record ServesWhole (request : Option Request) (old new : Option (List ℕ)) (result : Ending) : Type 0 where
-  pub given : Option (List ℕ)
+pub record ServesWhole {W : Type 0} (contents : W → Option (List ℕ)) (request : Option Request) (old new : PromptWriter W) (result : Ending) : Type 0 where
+  pub given : PromptWriter W
   pub ended : Ending
-  pub serves : Serves request old given ended
-  pub hands_on : HandsOn given new ended result
+  pub serves : Serves request (held contents old) (held contents given) ended
+  pub hands_on : HandsOn contents given new ended result
 
 -- the program does what the words ask for; or memory ran out before that was known
-abbrev pub Executes : List (List ℕ) → Option (List ℕ) → Option (List ℕ) → Ending → Type 0
-Executes words old new result = Plainly (LacksMemory old new) result ⊎ ServesWhole (asked words) old new result
+abbrev pub Executes : {W : Type 0} → (W → Option (List ℕ)) → List (List ℕ) → PromptWriter W → PromptWriter W → Ending → Type 0
+Executes contents words old new result =
+    Plainly (LacksMemory (held contents old) (held contents new)) result ⊎ ServesWhole contents (asked words) old new result
+
+-- the program does what the words ask for, answers how that ended, and says on standard error what there is to say
+abbrev pub Answers : {W : Type 0} → (W → Option (List ℕ)) → List (List ℕ) → PromptWriter W → PromptWriter W → Option (List ℕ) → Option (List ℕ) → ℕ → Type 0
+Answers contents words old new before after status =
+    (e : Ending) × (status ≡ status_of e.outcome) × Executes contents words old new e × AppendsPart before after (told_of e)
+
+-- the words could not be got: standard error is told why, and nothing is done
+abbrev pub AnswersError : {W : Type 0} → WordsError → PromptWriter W → PromptWriter W → Option (List ℕ) → Option (List ℕ) → ℕ → Type 0
+AnswersError error old new before after status =
+    (o : Outcome) × IsWordsEnd error o × (status ≡ status_of o) × (new ≡ old) × AppendsPart before after (message_of o)
 
 -- standard error got why something is refused, or a beginning of it
 abbrev pub TellsReason : Option (List ℕ) → Option (List ℕ) → Type 0

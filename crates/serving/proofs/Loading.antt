@@ -1,10 +1,14 @@
 -- What is done with an image that was read, of which standard output got nothing.
 use Rattle.std.proofs.Common.{◌≡◌, ℕ, List, Option, None, String, Ok, subst, sym, inl, inr, ◌⊎◌, ◌∙◌}
 use Rattle.std.specs.declared.alloc.Global.{Global}
+use Rattle.std.specs.declared.io.ErrorKind.{ErrorKind}
 use Rattle.assembler.specs.Assembling.{assembled}
 use Rattle.isa_model.specs.{Program}
 use Rattle.image.specs.Images.{IsImage}
-use Rattle.explorer.specs.Bounds.{Bounded, IsVerified}
+use Rattle.bounds.specs.Bounds.{Bounded, IsVerified}
+use Rattle.stack_state.specs.Starts.{start}
+use Rattle.explorer.specs.Accepting.{BoundsAll}
+use Rattle.explorer.specs.Counts.{HasNumber}
 use Rattle.serving.specs.declared.rejections.Rejection.TheVariants as rejection
 use Rattle.serving.specs.declared.outcomes.Outcome.{Outcome}
 use Rattle.serving.specs.declared.outcomes.Outcome.TheVariants.{Done, WrongWords, NotBuilt, Refused, Faulted, CannotRead, CannotWrite, CannotReplace, NoMemory}
@@ -12,7 +16,7 @@ use Rattle.serving.specs.declared.endings.Ending.{Ending}
 use Rattle.serving.specs.Known.{IsKnown, Tells, Plainly}
 use Rattle.serving.specs.Statuses.{IsReadFailure, IsMakeFailure}
 use Rattle.serving.specs.Lines.{size_line}
-use Rattle.serving.specs.Judging.{RefusesProgram, Verifies, Stores}
+use Rattle.serving.specs.Judging.{IsBoundOf, RefusesProgram, Verifies, Stores}
 use Rattle.serving.specs.Streams.{RunsAccepted}
 use Rattle.tasks.specs.Requests.{RunFiles}
 use Rattle.serving.specs.Commands.{LoadsNone, VerifiesFile, RunsFile, RunsSome, OpensNone, AssemblesFile, StoresSome}
@@ -52,25 +56,30 @@ image_verified path old mid new p r e h v known =
 
 -- ---- runs of accepted programs
 
+-- what the verifier says of an accepted program, of its own program
+pub bound_of_verified : (p : Program) (v : Bounded) → v.program ≡ p → IsVerified v → HasNumber p start v.bound → BoundsAll p v.bound → IsBoundOf v.program v.bound
+bound_of_verified p v same h number bounds = record { verified = h; number = rw same number; bounds = rw same bounds }
+
 pub image_refused : (files : RunFiles) (old mid new : Option (List ℕ)) (p : Program) (r : Ending) → mid ≡ old → IsImage p → RefusesProgram p mid new r.outcome → IsKnown p r → RunsFile files old new r
 image_refused files old mid new p r e h v known =
     inr (p, h, (inl (subst (λ (o : Option (List ℕ)). RefusesProgram p o new r.outcome) e v), known))
 
-pub image_run : (files : RunFiles) (old mid now new before after source : Option (List ℕ)) (v : Bounded) (o : Outcome) (r : Ending) → mid ≡ old → now ≡ mid → IsVerified v
-    → RunsAccepted v source files.out (record { report = now; frames = before }) (record { report = new; frames = after }) o → r.outcome ≡ o → r.why ≡ None → RunsFile files old new r
-image_run files old mid now new before after source v o r e f h runs same none =
+pub image_run : (files : RunFiles) (old mid now new before after source : Option (List ℕ)) (cause : Option ErrorKind) (v : Bounded) (o : Outcome) (r : Ending) → mid ≡ old → now ≡ mid → IsBoundOf v.program v.bound
+    → RunsAccepted v source files.out cause (record { report = now; frames = before }) (record { report = new; frames = after }) o → r.outcome ≡ o → r.why ≡ None → RunsFile files old new r
+image_run files old mid now new before after source cause v o r e f h runs same none =
     let some : RunsSome v files.out old new r.outcome = record {
       source = source;
       before = before;
       after = after;
-      runs = rw same (subst (λ (x : Option (List ℕ)). RunsAccepted v source files.out (record { report = x; frames = before }) (record { report = new; frames = after }) o) (f ∙ e) runs);
+      cause = cause;
+      runs = rw same (subst (λ (x : Option (List ℕ)). RunsAccepted v source files.out cause (record { report = x; frames = before }) (record { report = new; frames = after }) o) (f ∙ e) runs);
     } in
-    inr (v.program, h.image, (inr (v.bound, h, inr some), tells-none v.program r.outcome r.why none))
+    inr (v.program, h.verified.image, (inr (v.bound, h, inr some), tells-none v.program r.outcome r.why none))
 
-pub run_unopened : (files : RunFiles) (old mid new : Option (List ℕ)) (v : Bounded) (o : Outcome) (r : Ending) → mid ≡ old → new ≡ mid → IsVerified v
+pub run_unopened : (files : RunFiles) (old mid new : Option (List ℕ)) (v : Bounded) (o : Outcome) (r : Ending) → mid ≡ old → new ≡ mid → IsBoundOf v.program v.bound
     → IsReadFailure files.frames o ⊎ IsMakeFailure files.out o → r.outcome ≡ o → r.why ≡ None → RunsFile files old new r
 run_unopened files old mid new v o r e f h failed same none =
-    inr (v.program, h.image, (inr (v.bound, h, inl (rw same (opens-none files old new o (f ∙ e) failed))), tells-none v.program r.outcome r.why none))
+    inr (v.program, h.verified.image, (inr (v.bound, h, inl (rw same (opens-none files old new o (f ∙ e) failed))), tells-none v.program r.outcome r.why none))
 
 -- ---- texts
 

@@ -1,10 +1,11 @@
 -- What each command does to standard output, on files of which no contract can say what they hold.
 use Rattle.std.specs.Prelude.{◌≡◌, ℕ, List, Option, Some, None, Ok, ◌⊎◌}
+use Rattle.std.specs.declared.io.ErrorKind.{ErrorKind}
 use Rattle.isa_model.specs.{Program}
 use Rattle.isa_model.specs.Text.CanonicalText.{canonical_text}
 use Rattle.image.specs.Images.{IsImage}
 use Rattle.assembler.specs.Assembling.{assembled}
-use Rattle.explorer.specs.Bounds.{Bounded, IsVerified}
+use Rattle.bounds.specs.Bounds.{Bounded}
 use Rattle.serving.specs.declared.outcomes.Outcome.{Outcome}
 use Rattle.serving.specs.declared.outcomes.Outcome.TheVariants as outcome
 use Rattle.serving.specs.declared.endings.Ending.{Ending}
@@ -12,7 +13,7 @@ use Rattle.serving.specs.Known.{IsKnown, Plainly}
 use Rattle.serving.specs.Lines.{size_line}
 use Rattle.serving.specs.Statuses.{IsMakeFailure, IsNotBuilt, IsReadFailure, IsWrongWords}
 use Rattle.serving.specs.Saying.{Says}
-use Rattle.serving.specs.Judging.{RefusesImage, RefusesProgram, RefusesText, Stores, Verifies}
+use Rattle.serving.specs.Judging.{IsBoundOf, RefusesImage, RefusesProgram, RefusesText, Stores, Verifies}
 use Rattle.serving.specs.Streams.{RunsAccepted, Traces}
 use Rattle.tasks.specs.Requests.{Request, RunFiles, Trace, Run, Verify, Assemble, Disassemble, NotBuilt}
 
@@ -43,13 +44,15 @@ pub record TracesSome (p : Program) (limit : ℕ) (out : List ℕ) (old new : Op
   pub source : Option (List ℕ)
   pub before : Option (List ℕ)
   pub after : Option (List ℕ)
-  pub traces : Traces p limit source out (record { report = old; frames = before }) (record { report = new; frames = after }) result
+  pub cause : Option ErrorKind
+  pub traces : Traces p limit source out cause (record { report = old; frames = before }) (record { report = new; frames = after }) result
 
 pub record RunsSome (v : Bounded) (out : List ℕ) (old new : Option (List ℕ)) (result : Outcome) : Type 0 where
   pub source : Option (List ℕ)
   pub before : Option (List ℕ)
   pub after : Option (List ℕ)
-  pub runs : RunsAccepted v source out (record { report = old; frames = before }) (record { report = new; frames = after }) result
+  pub cause : Option ErrorKind
+  pub runs : RunsAccepted v source out cause (record { report = old; frames = before }) (record { report = new; frames = after }) result
 
 -- the image of a program was written to the file at the path, and its size was said
 pub record StoresSome (p : Program) (path : List ℕ) (old new : Option (List ℕ)) (result : Outcome) : Type 0 where
@@ -63,10 +66,10 @@ abbrev pub TracesFile : RunFiles → ℕ → Option (List ℕ) → Option (List 
 TracesFile files limit old new result =
     LoadsNone files.image old new result ⊎ Loads (λ p. OpensNone files old new result ⊎ TracesSome p limit files.out old new result)
 
--- a program is accepted, with some bound, and run
+-- a program is accepted, with its bound, and run
 abbrev pub AcceptsAndRuns : RunFiles → Program → Option (List ℕ) → Option (List ℕ) → Outcome → Type 0
 AcceptsAndRuns files p old new result =
-    (bound : ℕ) × IsVerified (record { program = p; bound = bound })
+    (bound : ℕ) × IsBoundOf p bound
     × (OpensNone files old new result ⊎ RunsSome (record { program = p; bound = bound }) files.out old new result)
 
 -- where the program is refused, what is told of that beside is known

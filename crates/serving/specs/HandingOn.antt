@@ -1,12 +1,28 @@
 -- How a task ends where standard output hands on what it was given only then.
-use Rattle.std.specs.Prelude.{◌≡◌, ℕ, true, List, Option, None, ◌⊎◌}
+use Rattle.std.specs.Prelude.{◌≡◌, ℕ, true, false, List, [], Option, Some, None, ◌⊎◌}
 use Rattle.std.specs.Io.KnownBytes.{Keeps}
+use Rattle.std.specs.declared.io.ErrorKind.{ErrorKind}
+use Rattle.buffered_io.specs.declared.PromptWriter.{PromptWriter}
+use Rattle.buffered_io.specs.Waiting.{failure_of, held, waiting}
 use Rattle.serving.specs.declared.endings.Ending.{Ending}
-use Rattle.serving.specs.Statuses.{IsOutputFailure, is_silent}
+use Rattle.serving.specs.Statuses.{IsOutputFailureBy, is_silent}
 
--- A task ended so. Then standard output handed on what it was given, and the task ended as it had; or it failed at that,
--- which is how the task ended. Where it was given nothing it is left as it is.
-pub record HandsOn (old new : Option (List ℕ)) (ended result : Ending) : Type 0 where
-  pub kept : Keeps old new
-  pub silent : is_silent ended.outcome ≡ true → (new ≡ old) × (result ≡ ended)
-  pub ends : (result ≡ ended) ⊎ (IsOutputFailure result.outcome × (result.why ≡ None))
+-- nothing waits any more, and nothing has failed
+pub record IsHandedOn {W : Type 0} (out : PromptWriter W) : Type 0 where
+  pub all : waiting out ≡ []
+  pub sound : failure_of out ≡ None
+
+-- the output has failed, and the reason that it remembers is told; nothing is known beside that
+pub record TellsFailure {W : Type 0} (out : PromptWriter W) (result : Ending) : Type 0 where
+  pub kind : ErrorKind
+  pub failed : failure_of out ≡ Some kind
+  pub told : IsOutputFailureBy kind result.outcome
+  pub plain : result.why ≡ None
+
+-- A task ended so. Then standard output handed on all that it was given, to what stands behind its buffer, and the task
+-- ended as it had; or it failed, at that or before, which is how the task ended. Where it was given nothing it is left as
+-- it is.
+pub record HandsOn {W : Type 0} (contents : W → Option (List ℕ)) (given out : PromptWriter W) (ended result : Ending) : Type 0 where
+  pub kept : Keeps (held contents given) (held contents out)
+  pub silent : is_silent ended.outcome ≡ true → (out ≡ given) × (result ≡ ended)
+  pub ends : ((is_silent ended.outcome ≡ false → IsHandedOn out) × (result ≡ ended)) ⊎ TellsFailure out result

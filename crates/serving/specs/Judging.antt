@@ -8,7 +8,10 @@ use Rattle.image.specs.declared.errors.ImageError.{ImageError}
 use Rattle.image.specs.Images.{image_bytes}
 use Rattle.image.specs.Refusals.{refusal_of}
 use Rattle.explorer.specs.declared.refusals.Refusal.{Refusal}
-use Rattle.explorer.specs.Bounds.{Bounded, IsVerified}
+use Rattle.bounds.specs.Bounds.{Bounded, IsVerified}
+use Rattle.stack_state.specs.Starts.{start}
+use Rattle.explorer.specs.Accepting.{BoundsAll}
+use Rattle.explorer.specs.Counts.{HasNumber}
 use Rattle.explorer.specs.Refused.{IsRefused}
 use Rattle.assembler.specs.declared.errors.AsmErrorKind.TheVariants as text
 use Rattle.assembler.specs.declared.errors.AsmError.{AsmError}
@@ -43,9 +46,16 @@ RefusesProgram p old new result =
 abbrev pub Accepts : Bounded → Option (List ℕ) → Option (List ℕ) → Outcome → Type 0
 Accepts v old new result = LacksMemory old new result ⊎ Says old new (bound_line v.bound) Done result
 
--- a program is accepted with a bound, and this is the bound that is said
+-- the bound of an accepted program: every run exits within it; it is the number of the start state; and it is small
+-- enough, or the very one, where that is known of a program that must be accepted
+pub record IsBoundOf (p : Program) (bound : ℕ) : Type 0 where
+  pub verified : IsVerified (record { program = p; bound = bound })
+  pub number : HasNumber p start bound
+  pub bounds : BoundsAll p bound
+
+-- a program is accepted with its bound, and this is the bound that is said
 abbrev pub AcceptsSome : Program → Option (List ℕ) → Option (List ℕ) → Outcome → Type 0
-AcceptsSome p old new result = (v : Bounded) × IsVerified v × (v.program ≡ p) × Accepts v old new result
+AcceptsSome p old new result = (bound : ℕ) × IsBoundOf p bound × Accepts (record { program = p; bound = bound }) old new result
 
 abbrev pub Verifies : Program → Option (List ℕ) → Option (List ℕ) → Outcome → Type 0
 Verifies p old new result = AcceptsSome p old new result ⊎ RefusesProgram p old new result

@@ -1,5 +1,6 @@
 -- How the program ends, and what the outputs have got by then.
-use Rattle.std.specs.Prelude.{◌≡◌, ℕ, Bool, true, false, List, [], ◌++◌, codes}
+use Rattle.std.specs.Prelude.{◌≡◌, ℕ, Bool, true, false, List, [], ◌++◌, Option, Some, codes}
+use Rattle.std.specs.declared.io.ErrorKind.{ErrorKind}
 use Rattle.std.specs.String.{string_bytes}
 use Rattle.tasks.specs.declared.WordsError.{WordsError}
 use Rattle.tasks.specs.declared.WordsError.TheVariants.{Wrong, Memory}
@@ -82,8 +83,16 @@ abbrev pub IsWriteFailure : List ℕ → Outcome → Type 0
 IsWriteFailure name (CannotWrite path cause) = path.now ≡ name
 IsWriteFailure name outcome = ⊥
 
+-- the same, and this is told as the reason, where one is known
+abbrev pub IsWriteFailureBy : List ℕ → Option ErrorKind → Outcome → Type 0
+IsWriteFailureBy name cause (CannotWrite path told) = (path.now ≡ name) × (told ≡ cause)
+IsWriteFailureBy name cause outcome = ⊥
+
 abbrev pub IsOutputFailure : Outcome → Type 0
 IsOutputFailure outcome = IsWriteFailure (codes "standard output") outcome
+
+abbrev pub IsOutputFailureBy : ErrorKind → Outcome → Type 0
+IsOutputFailureBy kind outcome = IsWriteFailureBy (codes "standard output") (Some kind) outcome
 
 -- the file at the path cannot be read, or memory ran out
 abbrev pub IsReadFailure : List ℕ → Outcome → Type 0

@@ -10,6 +10,7 @@ ghost use Rattle.serving.specs.HandingOn.{HandsOn};
 
 use super::outcomes::{Outcome, STANDARD_OUTPUT};
 use super::rejections::Rejection;
+use buffered_io::PromptWriter;
 use exact_io::write_bytes;
 use explanations::reason;
 use image::Image;
@@ -51,9 +52,10 @@ impl<'a> Ending<'a> {
     }
 
     /// Flushes standard output after a task that ended so. A failed flush is how the task ended
-    /// then. Where standard output was given nothing it is left as it is.
-    pub fn flushed<W: Write>(self, out: &mut W) -> Self
-        ensures { HandsOn (W.contents out.old) (W.contents out.new) self.entry result }
+    /// then: it says why standard output failed, also where it had failed before. Where standard
+    /// output was given nothing it is left as it is.
+    pub fn flushed<W: Write + Drop>(self, out: &mut PromptWriter<W>) -> Self
+        ensures { HandsOn W.contents out.old out.new self.entry result }
     {
         if self.outcome.is_silent() {
             return self;

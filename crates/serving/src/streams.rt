@@ -2,7 +2,7 @@
 
 ghost use Rattle.serving.specs.Judging.{Stores};
 ghost use Rattle.serving.specs.Streams.{Ends, Traces, RunsAccepted};
-ghost use Rattle.buffered_io.specs.Waiting.{behind, held};
+ghost use Rattle.buffered_io.specs.Waiting.{behind, failure_of, held};
 
 use super::outcomes::{Outcome, STANDARD_OUTPUT};
 use super::verdicts::say_line;
@@ -15,13 +15,15 @@ use std::io::{Read, Write};
 use tasks::StepLimit;
 
 // How a task ended whose run over a stream ended so, the frames out going to the file at the path.
-// What waits for the file is handed on to it, unless the file has failed before.
+// What waits for the file is handed on to it, unless the file has failed before. Why standard output
+// failed is told when it is flushed.
 fn outcome_of<'a, W: Write + Drop>(
     path: &'a str,
     ended: Result<Tally, HostError>,
     file: &mut PromptWriter<W>,
 ) -> Outcome<'a>
-    ensures { Ends path.now ended (held W.contents file.old) (W.contents (behind file.new)) result }
+    ensures { Ends path.now (failure_of file.new) ended
+        (held W.contents file.old) (W.contents (behind file.new)) result }
 {
     match ended {
         Ok(tally) => match file.flush() {
@@ -36,7 +38,7 @@ fn outcome_of<'a, W: Write + Drop>(
             let _ = file.flush();
             Outcome::CannotWrite(STANDARD_OUTPUT, None)
         }
-        Err(HostError::Frames) => Outcome::CannotWrite(path, None),
+        Err(HostError::Frames) => Outcome::CannotWrite(path, file.failure()),
     }
 }
 
@@ -51,7 +53,7 @@ pub fn trace_stream<'a, R: Read + Drop, W1: Write, W2: Write + Drop>(
     out: &mut W1,
     file: &mut PromptWriter<W2>,
 ) -> Outcome<'a>
-    ensures { Traces image limit.steps (R.remaining source) path.now
+    ensures { Traces image limit.steps (R.remaining source) path.now (failure_of file.new)
         record { report = W1.contents out.old; frames = held W2.contents file.old }
         record { report = W1.contents out.new; frames = W2.contents (behind file.new) } result }
 {
@@ -69,7 +71,7 @@ pub fn run_stream<'a, R: Read + Drop, W1: Write, W2: Write + Drop>(
     out: &mut W1,
     file: &mut PromptWriter<W2>,
 ) -> Outcome<'a>
-    ensures { RunsAccepted verified (R.remaining source) path.now
+    ensures { RunsAccepted verified (R.remaining source) path.now (failure_of file.new)
         record { report = W1.contents out.old; frames = held W2.contents file.old }
         record { report = W1.contents out.new; frames = W2.contents (behind file.new) } result }
 {

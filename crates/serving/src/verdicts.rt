@@ -5,7 +5,10 @@ ghost use Rattle.std.specs.String.{string_bytes};
 ghost use Rattle.isa_model.specs.{Program};
 ghost use Rattle.isa_model.specs.Text.CanonicalText.{canonical_text};
 ghost use Rattle.image.specs.Images.{IsImage, image_bytes};
-ghost use Rattle.explorer.specs.Bounds.{IsVerified};
+ghost use Rattle.bounds.specs.Bounds.{IsVerified};
+ghost use Rattle.stack_state.specs.Starts.{start};
+ghost use Rattle.explorer.specs.Accepting.{BoundsAll};
+ghost use Rattle.explorer.specs.Counts.{HasNumber};
 ghost use Rattle.assembler.specs.Assembling as spells;
 ghost use Rattle.serving.specs.Statuses.{is_silent};
 ghost use Rattle.serving.specs.Lines.{bound_line, size_line};
@@ -109,6 +112,8 @@ pub fn judge<'a, W: Write>(alloc: Global, image: Image, out: &mut W) -> Result<V
     ensures ok { OnOk result (W.contents out.new ≡ W.contents out.old) }
     ensures program { IfOk result (λ verified. verified.program ≡ image) }
     ensures verified { IfOk result IsVerified }
+    ensures number { IfOk result (λ verified. HasNumber image start verified.bound) }
+    ensures bounds { IfOk result (λ verified. BoundsAll image verified.bound) }
     ensures refused { IfErr result
         (λ ended. RefusesProgram image (W.contents out.old) (W.contents out.new) ended.outcome) }
     ensures known { IfErr result (IsKnown image) }

@@ -94,12 +94,12 @@ limit_of-unread text some digits read =
 -- ---- the command line
 
 -- one wanted argument more
-pub wanted-more : (a : App) (xs : List (Bor (List ℕ))) (i : ℕ) (d : Bor (List ℕ)) → i < length xs
-    → fold with_wanted a (map (λ x. x.now) (take (i + 1) xs)) ≡ with_wanted (fold with_wanted a (map (λ x. x.now) (take i xs))) (get_or xs i d).now
-wanted-more a xs i d lt =
-    fold-map with_wanted (λ (x : Bor (List ℕ)). x.now) a (take (i + 1) xs)
-    ∙ (fold_more (λ b (x : Bor (List ℕ)). with_wanted b x.now) a xs i d lt
-    ∙ ap (λ (b : App). with_wanted b (get_or xs i d).now) (sym (fold-map with_wanted (λ (x : Bor (List ℕ)). x.now) a (take i xs))))
+pub wanted-more : {A : Type 0} (name : A → List ℕ) (a : App) (xs : List A) (i : ℕ) (d : A) → i < length xs
+    → fold with_wanted a (map name (take (i + 1) xs)) ≡ with_wanted (fold with_wanted a (map name (take i xs))) (name (get_or xs i d))
+wanted-more name a xs i d lt =
+    fold-map with_wanted name a (take (i + 1) xs)
+    ∙ (fold_more (λ b x. with_wanted b (name x)) a xs i d lt
+    ∙ ap (λ (b : App). with_wanted b (name (get_or xs i d))) (sym (fold-map with_wanted name a (take i xs))))
 
 -- a setting of a plain command
 local : (a b g r : Bool) → (a && (not b && (not g && r))) ≡ true → g ≡ false

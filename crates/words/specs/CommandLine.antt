@@ -8,9 +8,9 @@ use Rattle.clap.specs.declared.builder.action.ArgAction.TheVariants.{Set}
 abbrev pub wanted : List ℕ → Rule
 wanted name = record (new_rule name) { required = true; action = Some Set }
 
--- --limit, which takes one value and may be left out
+-- --limit, which takes one value, for which help has one name, and may be left out
 abbrev pub limit : Rule
-limit = record (new_rule (codes "limit")) { long = Some (codes "limit"); action = Some Set }
+limit = record (new_rule (codes "limit")) { long = Some (codes "limit"); action = Some Set; value_names = 1 }
 
 -- a command with one wanted argument more
 abbrev pub with_wanted : App → List ℕ → App

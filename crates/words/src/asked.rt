@@ -13,7 +13,7 @@ use super::command_line::program;
 use clap::ArgMatches;
 use clap::error::ErrorKind;
 use isa_model::MAX_STEPS;
-use std::alloc::Global;
+use std::alloc::{AllocError, Global};
 use tasks::{Assembly, Paths, StepLimit, Task, WordsError};
 
 // What is wrong with the words, where clap takes them and a command does not.
@@ -111,13 +111,30 @@ fn wanted_task<'a>(
     }
 }
 
-// Why a command line was refused, as clap says it.
+// A message of clap, without its tip to put two hyphens before a word: no file is meant by a word
+// that looks like an option.
+fn without_tip(alloc: Global, message: String) -> Result<String, AllocError> {
+    if let Some((front, tip)) = message.as_str().split_once("\n\n  tip: to pass '") {
+        if let Some((_, back)) = tip.split_once("\n\nUsage: ") {
+            return format!(in alloc; "{front}\n\nUsage: {back}");
+        }
+    }
+    Ok(message)
+}
+
+// What clap says of a command line that it refused, or of a request for help or the version.
+fn message_of(alloc: Global, error: &clap::Error) -> Result<String, AllocError> {
+    let message = format!(in alloc; "{error}")?;
+    without_tip(alloc, message)
+}
+
+// Why a command line was refused.
 fn refusal_of(alloc: Global, error: &clap::Error) -> WordsError
     ensures { kind_of error.now ≡ ErrorKind.OutOfMemory → result ≡ WordsError.Memory }
 {
     match error.kind() {
         ErrorKind::OutOfMemory => WordsError::Memory,
-        _ => match format!(in alloc; "{error}") {
+        _ => match message_of(alloc, error) {
             Ok(text) => WordsError::Wrong(text),
             Err(_) => WordsError::Memory,
         },

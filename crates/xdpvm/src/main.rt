@@ -1,20 +1,16 @@
 //! xdpvm: runs BPF programs of the XDP kind on streams of packet frames.
 //!
 //! The program calls one function, `execute`, which says what is done by each command and with
-//! which status.
+//! which status. What can be stated of the calls around it stands at `answer` and `buffered`.
 #![tactic(auto)]
 
-use buffered_io::PromptWriter;
-use commands::execute;
+pub use commands::execute;
+use commands::{answer, buffered};
 use serving::Outcome;
 use std::fs;
-use std::io::Write;
 use std::process::ExitCode;
-use std::rt::{Env, Files};
+use std::rt::Files;
 use words::given_words;
-
-// How many bytes of standard output are written at once, where it is a file on a disk.
-const BUFFER: usize = 65536;
 
 // Whether standard output is a file on a disk. Where the system has no such name it is taken for
 // something that is watched.
@@ -25,26 +21,10 @@ fn is_stored<R: Files>(rt: &R) -> bool {
     }
 }
 
-// Does what the program's arguments ask for.
-fn answer<R: Files + Env + AllocGlobal, W1: Write, W2: Write>(
-    rt: &R,
-    out: &mut W1,
-    err: &mut W2,
-) -> u8 {
-    match given_words(rt) {
-        Ok(words) => execute(rt, words.as_slice(), out, err),
-        Err(error) => Outcome::of_words(&error).tell(err),
-    }
-}
-
 fn main(rt: HostRuntime) -> ExitCode {
-    let mut out = rt.stdout();
     let mut err = rt.stderr();
-    if !is_stored(&rt) {
-        return ExitCode::from(answer(&rt, &mut out, &mut err));
-    }
-    ExitCode::from(match PromptWriter::new(rt.alloc(), BUFFER, 0, out) {
-        Ok(mut out) => answer(&rt, &mut out, &mut err),
+    ExitCode::from(match buffered(rt.alloc(), is_stored(&rt), rt.stdout()) {
+        Ok(mut out) => answer(&rt, given_words(&rt), &mut out, &mut err),
         Err(_) => Outcome::NoMemory.tell(&mut err),
     })
 }

@@ -1,5 +1,5 @@
 use Rattle.tasks.specs.Requests.{files_of}
-use Rattle.serving.proofs.Loading.{image_refused, image_run, run_unloaded, run_unopened}
+use Rattle.serving.proofs.Loading.{bound_of_verified, image_refused, image_run, run_unloaded, run_unopened}
 use Rattle.serving.proofs.files.run_verified.Goals as goal
 
 pub returns-in-Err : goal.returns-in-Err
@@ -11,10 +11,12 @@ returns-in-Err-judge g c =
 
 pub returns-in-Ok-open_streams : goal.returns-in-Ok-open_streams
 returns-in-Ok-open_streams g c =
-    image_run (files_of c.args.paths) _ _ _ _ _ _ _ _ _ _ c.in-Ok.ensures.ok c.in-Ok-judge.ensures.ok c.in-Ok-judge.ensures.verified c.run_stream-outcome.ensures
+    image_run (files_of c.args.paths) _ _ _ _ _ _ _ _ _ _ _ c.in-Ok.ensures.ok c.in-Ok-judge.ensures.ok
+    (bound_of_verified _ _ c.in-Ok-judge.ensures.program c.in-Ok-judge.ensures.verified c.in-Ok-judge.ensures.number c.in-Ok-judge.ensures.bounds) c.run_stream-outcome.ensures
     c.plain-in-Ok-open_streams.ensures.outcome c.plain-in-Ok-open_streams.ensures.why
 
 pub returns-in-Err-open_streams : goal.returns-in-Err-open_streams
 returns-in-Err-open_streams g c =
-    run_unopened (files_of c.args.paths) _ _ _ _ _ _ c.in-Ok.ensures.ok c.in-Ok-judge.ensures.ok c.in-Ok-judge.ensures.verified c.in-Err-open_streams.ensures
+    run_unopened (files_of c.args.paths) _ _ _ _ _ _ c.in-Ok.ensures.ok c.in-Ok-judge.ensures.ok
+    (bound_of_verified _ _ c.in-Ok-judge.ensures.program c.in-Ok-judge.ensures.verified c.in-Ok-judge.ensures.number c.in-Ok-judge.ensures.bounds) c.in-Err-open_streams.ensures
     c.plain-in-Err-open_streams.ensures.outcome c.plain-in-Err-open_streams.ensures.why

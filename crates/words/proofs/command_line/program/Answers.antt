@@ -1,7 +1,6 @@
-use Rattle.std.proofs.Common.{◌≡◌, ◌∙◌, true, ap}
+use Rattle.std.proofs.Common.{◌≡◌, ◌∙◌, ap}
 use Rattle.std.proofs.lemmas.Result.{IfOk-weaker}
-use Rattle.clap.specs.Simple.{app_of_fields, on_top}
-use Rattle.clap.specs.Words.{App, app_of}
+use Rattle.clap.specs.Words.{App}
 use Rattle.words.specs.CommandLine as line
 use Rattle.words.specs.CommandLine.{with_command}
 use Rattle.words.proofs.command_line.program.Goals as goal
@@ -11,12 +10,10 @@ unfolding line.program line.asm line.dis line.verify line.run line.trace line.pr
 returns c =
     let more : (a b : App) (command : App) → a ≡ b → with_command a command ≡ with_command b command =
     λ a b command h. ap (λ p. with_command p command) h in
-    let versioned : app_of c.version.result ≡ line.versioned_program = ap app_of_fields c.version.ensures ∙ ap (on_top (λ s. record s { has_version = true })) c.new.ensures.app in
-    let start : app_of c.subcommand_required-empty.result ≡ line.empty_program = ap app_of_fields c.subcommand_required-empty.ensures ∙ ap (on_top (λ s. record s { subcommand_required = true })) versioned in
-    let with-asm = c.in_ok-with_asm.ensures ∙ more _ _ line.asm start in
+    let with-asm = c.in_ok-with_asm.ensures ∙ more _ _ line.asm c.in_ok-empty.ensures in
     let with-dis = c.in_ok-with_dis.ensures ∙ more _ _ line.dis with-asm in
     let with-verify = c.in_ok-with_verify.ensures ∙ more _ _ line.verify with-dis in
     let with-run = c.in_ok-with_run.ensures ∙ more _ _ line.run with-verify in
     let with-trace = c.in_ok-with_trace.ensures ∙ more _ _ line.trace with-run in
     let with-prove = c.in_ok-with_prove.ensures ∙ more _ _ line.prove with-trace in
-    IfOk-weaker c.with_command-6.result _ _ (λ made h. h ∙ more _ _ line.recheck with-prove) c.with_command-6.ensures
+    IfOk-weaker c.with_hidden-2.result _ _ (λ made h. h ∙ more _ _ line.recheck with-prove) c.with_hidden-2.ensures

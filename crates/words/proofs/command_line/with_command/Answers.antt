@@ -1,10 +1,11 @@
 use Rattle.std.proofs.Common.{map, refl}
 use Rattle.std.proofs.lemmas.Result.{IfOk-weaker}
 use Rattle.clap.specs.Words.{new_app}
+use Rattle.words.specs.declared.command_line.Argument.{Argument}
 use Rattle.words.proofs.Words.{command-more, is_plain-wanted}
 use Rattle.words.proofs.command_line.with_command.Goals as goal
 
 pub returns : goal.returns
 returns c =
     IfOk-weaker c.subcommand.result _ _ (λ made h. command-more _ _ made _ _ h refl c.in_ok-made.ensures
-    (is_plain-wanted (new_app c.args.name.now) (map (λ argument. argument.now) c.args.arguments.now))) c.subcommand.ensures
+    (is_plain-wanted (new_app c.args.name.now) (map (λ (x : Argument). x.name.now) c.args.arguments.now))) c.subcommand.ensures

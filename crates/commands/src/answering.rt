@@ -1,0 +1,69 @@
+//! What the program does with its words, and its status.
+
+ghost use Rattle.std.specs.Prelude.{◌≡◌, ◌≢◌, ◌≤◌, map, MatchResult};
+ghost use Rattle.std.specs.String.{string_bytes};
+ghost use Rattle.buffered_io.specs.Waiting.{held};
+ghost use Rattle.serving.specs.HandingOn.{IsHandedOn};
+ghost use Rattle.commands.specs.Executing.{Answers, AnswersError, IsTold};
+
+use buffered_io::PromptWriter;
+use serving::{Outcome, serve};
+use std::io::Write;
+use std::rt::Files;
+use tasks::WordsError;
+use words::read_words;
+
+/// Does what the arguments ask for, and answers the program's status: 0 done, 1 invalid arguments,
+/// 2 refused, 3 the report ended in a fault, 4 a file or an output failed, 5 out of memory.
+///
+/// `asked` says which command the arguments ask for, on which files and with which limit, and
+/// `Executes` what that command writes to standard output: the report of some frames by the program
+/// of some image, the verdict on it, its text, or its size. No contract can say what a file holds.
+///
+/// The first word is the program's name. `out` stands for standard output, behind its buffer, and
+/// `err` for standard error. At status 0, 2 and 3 all that standard output was given stands behind
+/// the buffer. At status 1 and 5 it gets no byte; at 0 and 3 standard error gets none, and at 2 it
+/// gets why something was refused and where, and of a program also what is known there.
+#[tactic(auto, using(crate::proofs::Endings::statuses))]
+pub fn execute<R: Files + AllocGlobal, W1: Write + Drop, W2: Write>(
+    rt: &R,
+    words: &[String],
+    out: &mut PromptWriter<W1>,
+    err: &mut W2,
+) -> u8
+    ensures executes { Answers W1.contents (map string_bytes words.now) out.old out.new
+        (W2.contents err.old) (W2.contents err.new) result }
+    ensures statuses { result ≤ 5 }
+    ensures wrong_words { result ≡ 1 → held W1.contents out.new ≡ held W1.contents out.old }
+    ensures no_memory { result ≡ 5 → held W1.contents out.new ≡ held W1.contents out.old }
+    ensures handed_on { result ≤ 3 → result ≢ 1 → IsHandedOn out.new }
+    ensures done { result ≡ 0 → W2.contents err.new ≡ W2.contents err.old }
+    ensures refused { result ≡ 2 → IsTold (W2.contents err.old) (W2.contents err.new) }
+    ensures faulted { result ≡ 3 → W2.contents err.new ≡ W2.contents err.old }
+{
+    let alloc = rt.alloc();
+    match read_words(alloc, words) {
+        Ok(task) => serve(rt, alloc, task, out).flushed(out).tell(err),
+        Err(error) => Outcome::of_words(&error).tell(err),
+    }
+}
+
+/// Does what the words that the program was given ask for, and answers its status; where they could
+/// not be got, standard error is told why.
+pub fn answer<R: Files + AllocGlobal, W1: Write + Drop, W2: Write>(
+    rt: &R,
+    given: Result<Vec<String>, WordsError>,
+    out: &mut PromptWriter<W1>,
+    err: &mut W2,
+) -> u8
+    ensures { MatchResult given
+        (λ words. Answers W1.contents (map string_bytes words.items) out.old out.new
+        (W2.contents err.old) (W2.contents err.new) result)
+        (λ error. AnswersError error out.old out.new
+        (W2.contents err.old) (W2.contents err.new) result) }
+{
+    match given {
+        Ok(words) => execute(rt, words.as_slice(), out, err),
+        Err(error) => Outcome::of_words(&error).tell(err),
+    }
+}

@@ -1,0 +1,42 @@
+//! The buffer in front of standard output.
+
+ghost use Rattle.std.specs.Prelude.{◌≡◌, [], None, IfOk, if◌then◌else◌};
+ghost use Rattle.buffered_io.specs.Waiting.{behind, failure_of, prompt_left, waiting};
+
+use buffered_io::PromptWriter;
+use std::alloc::Global;
+use std::io;
+use std::io::Write;
+
+// How many bytes of standard output are written at once, where it is a file on a disk.
+const BUFFER: usize = 65536;
+
+// Standard output through which each write goes at once, and before which no memory is taken.
+fn watched<W: Write + Drop>(alloc: Global, out: W) -> io::Result<PromptWriter<W>>
+    ensures behind { IfOk result (λ w. behind w ≡ out) }
+    ensures empty { IfOk result (λ w. waiting w ≡ []) }
+    ensures prompt { IfOk result (λ w. prompt_left w ≡ usize.MAX) }
+    ensures sound { IfOk result (λ w. failure_of w ≡ None) }
+{
+    PromptWriter::new(alloc, 0, usize::MAX, out)
+}
+
+/// Puts the buffer in front of standard output. Where that is a file on a disk, it is written in
+/// parts of 64 KiB, and else each write goes through at once, for whoever watches.
+pub fn buffered<W: Write + Drop>(
+    alloc: Global,
+    is_stored: bool,
+    out: W,
+) -> io::Result<PromptWriter<W>>
+    ensures behind { IfOk result (λ w. behind w ≡ out) }
+    ensures empty { IfOk result (λ w. waiting w ≡ []) }
+    ensures prompt { IfOk result
+        (λ w. prompt_left w ≡ (if is_stored then 0 else usize.MAX)) }
+    ensures sound { IfOk result (λ w. failure_of w ≡ None) }
+{
+    if is_stored {
+        PromptWriter::new(alloc, BUFFER, 0, out)
+    } else {
+        watched(alloc, out)
+    }
+}
