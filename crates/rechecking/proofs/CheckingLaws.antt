@@ -1,0 +1,148 @@
+-- What the tests of an entry and of the start come to.
+use Rattle.std.specs.Prelude.{◌≡◌, ℕ, ◌+◌, ◌≤◌, ◌<◌, List, [], ◌∷◌, Contains, Bool, true, false, IsTrue, Option, Some, None, IsSome, Ok, Err, refl}
+use Rattle.std.proofs.Common.{inl, inr, arith, subst, rules, ap}
+use Rattle.std.specs.Option.{option_and_then}
+use Rattle.std.proofs.lemmas.Bool.{cases_lt}
+use Rattle.std.proofs.lemmas.Option.{slice_get_past}
+use Rattle.isa_model.specs.declared.instructions.Insn.{Insn}
+use Rattle.isa_model.specs.Code.Instructions.{Program, fetch}
+use Rattle.isa_model.specs.Machine.States as Machine
+use Rattle.isa_model.specs.Machine.Steps.{step}
+use Rattle.isa_model.specs.Machine.MachineStates.{IsProgram}
+use Rattle.isa_model.specs.Running.Ends.{After-weaker}
+use Rattle.isa_model.specs.Running.Runs.{start_state}
+use Rattle.stack_state.specs.declared.states.State.{State}
+use Rattle.stack_state.specs.Meaning.{Means, Covers}
+use Rattle.stack_state.specs.Starts.{start, Means-start}
+use Rattle.transfer.specs.declared.Ways.{Ways}
+use Rattle.transfer.specs.declared.Ways.TheVariants as ways
+use Rattle.state_cover.specs.FrameCover.{Encloses}
+use Rattle.transfer.specs.declared.refusals.Refusal.{Refusal}
+use Rattle.transfer.specs.Exact.{Steps}
+use Rattle.transfer.specs.Leading.{LeadsTo, InSome}
+use Rattle.bounds.specs.declared.verified.TheConstants.{MAX_BOUND}
+use Rattle.table_entries.specs.Entries.{Entry}
+use Rattle.table_entries.specs.Tables.{Kept, count_of, entry_at, entry_from}
+use Rattle.rechecking.specs.Tables.{EntryAt, GoesInto, IsFine, MeansStarts}
+use Rattle.rechecking.specs.declared.errors.TableError.TheVariants.{Step, Successor}
+use Rattle.rechecking.specs.Checking.{Enters, EntersClearly, FollowsBy, StartsClearly, HasStart, IsFaultyAt, AllFineBefore}
+
+goes_into : (p : Program) (t : EntryAt) (e : Entry) (index : ℕ) (a : State) (s : Machine.State) → Contains e.successors index → Enters t e.number index a
+    → Means p a s → GoesInto p t e s
+unfolding Covers
+goes_into p t e index a s there h m = record {
+  index = index;
+  named = there;
+  entry = h.entry;
+  there = h.there;
+  smaller = h.smaller;
+  member = h.covers p s m;
+}
+
+into : (p : Program) (t : EntryAt) (number : ℕ) (from : State) (named : List ℕ) (w : Ways) (a b : State) (s : Machine.State) → FollowsBy (Enters t number) named w a b → InSome p w a b s
+    → GoesInto p t (record { number = number; state = from; successors = named }) s
+into p t n from [] ways.None a b s f m = absurd m
+into p t n from (i ∷ []) ways.One a b s f m =
+    goes_into p t (record { number = n; state = from; successors = i ∷ [] }) i a s (0, omega arith, refl) f m
+into p t n from (i ∷ (j ∷ [])) ways.Two a b s f (inl m) =
+    goes_into p t (record { number = n; state = from; successors = i ∷ (j ∷ []) }) i a s (0, omega arith, refl) f.0 m
+into p t n from (i ∷ (j ∷ [])) ways.Two a b s f (inr m) =
+    goes_into p t (record { number = n; state = from; successors = i ∷ (j ∷ []) }) j b s (1, omega arith, refl) f.1 m
+into p t n from named w a b s f m = absurd f
+
+-- an entry that passes the tests is fine
+pub IsFine-follows : (p : Program) (t : EntryAt) (e : Entry) (w : Ways) (a b : State) → 1 ≤ e.number → e.number ≤ MAX_BOUND
+    → LeadsTo p e.state w a b → FollowsBy (Enters t e.number) e.successors w a b → IsFine p t e
+unfolding LeadsTo
+IsFine-follows p t e w a b some most leads follows = record {
+  some = some;
+  most = most;
+  steps = λ clock fits s m. After-weaker (InSome p w a b) (GoesInto p t e) (step p clock s)
+      (λ u k. into p t e.number e.state e.successors w a b u follows k) (leads clock fits s m);
+}
+
+-- what covers the start state means every start
+pub MeansStarts-covers : (p : Program) (a : State) → IsProgram p → Covers p a start → MeansStarts p a
+unfolding Covers
+MeansStarts-covers p a program covers head packet contents given = covers (start_state head packet contents) (Means-start p head packet contents program given)
+
+-- ---- what is surely found
+
+-- a name for what is there
+there_is : {X : Type 0} (o : Option X) → IsSome o → (x : X) × (o ≡ Some x)
+there_is (Some x) h = (x, refl)
+there_is None h = absurd (cc)
+
+same_entry : (o : Option Entry) (d e : Entry) → o ≡ Some d → o ≡ Some e → d ≡ e
+same_entry o d e h k = cc
+
+-- a test that finds what is clear says yes of this entry
+pub clear_of : (t : EntryAt) (number index : ℕ) (a : State) (e : Entry) (answer : Bool) → t index ≡ Some e → ((packet null : ℕ → ℕ) → Encloses packet null e.state a → IsTrue answer)
+    → EntersClearly t number index a → IsTrue answer
+clear_of t number index a e answer there finds h =
+    let is : h.entry ≡ e = same_entry (t index) h.entry e h.there there in
+    finds h.packet h.null (subst (λ (x : Entry). Encloses h.packet h.null x.state a) is h.covers)
+
+pub unclear_start : (t : EntryAt) (e : Entry) (answer : Bool) → t 0 ≡ Some e → ((packet null : ℕ → ℕ) → Encloses packet null e.state start → IsTrue answer)
+    → answer ≡ false → StartsClearly t → ⊥
+unclear_start t e answer there finds refuted h =
+    let is : h.first ≡ e = same_entry (t 0) h.first e h.there there in
+    let yes : answer ≡ true = finds h.packet h.null (subst (λ (x : Entry). Encloses h.packet h.null x.state start) is h.covers) in
+    cc
+
+pub no_start : (t : EntryAt) → t 0 ≡ None → StartsClearly t → ⊥
+no_start t none h = let there = h.there in absurd (cc)
+
+pub refused_step : (p : Program) (t : EntryAt) (k : ℕ) (e : Entry) (r : Refusal) (b c : State) → t k ≡ Some e → IsSome (fetch p e.state.slot)
+    → ((i : Insn) → fetch p e.state.slot ≡ Some i → Steps p e.state i (Err r) b c) → IsFaultyAt p t k (Step k r)
+refused_step p t k e r b c there begins steps =
+    let (insn, fetched) = there_is (fetch p e.state.slot) begins in
+    (refl, record { entry = e; insn = insn; there = there; fetched = fetched; refused = (b, c, steps insn fetched) })
+
+differ : (answer : Bool) → answer ≡ true → answer ≡ false → ⊥
+differ answer shown refuted = cc
+
+pub unnamed_step : (p : Program) (t : EntryAt) (k : ℕ) (e : Entry) (w : Ways) (a b : State) (answer : Bool) → t k ≡ Some e → IsSome (fetch p e.state.slot)
+    → ((i : Insn) → fetch p e.state.slot ≡ Some i → Steps p e.state i (Ok w) a b)
+    → (FollowsBy (EntersClearly t e.number) e.successors w a b → IsTrue answer) → answer ≡ false → IsFaultyAt p t k (Successor k)
+unnamed_step p t k e w a b answer there begins steps finds refuted =
+    let (insn, fetched) = there_is (fetch p e.state.slot) begins in (
+      refl,
+      record {
+        entry = e;
+        insn = insn;
+        there = there;
+        fetched = fetched;
+        went = w;
+        first = a;
+        second = b;
+        made = steps insn fetched;
+        unnamed = λ h. differ answer (finds h) refuted;
+      },
+    )
+
+-- an entry of that index is this one
+pub fine_of : (p : Program) (t : EntryAt) (k : ℕ) (d : Entry) → t k ≡ Some d → IsFine p t d → (e : Entry) → t k ≡ Some e → IsFine p t e
+fine_of p t k d there fine e at = subst (IsFine p t) (same_entry (t k) d e there at) fine
+
+-- an entry 0 that covers the start state, and its number
+pub HasStart-covers : (p : Program) (t : EntryAt) (e : Entry) (n : ℕ) → IsProgram p → t 0 ≡ Some e → Covers p e.state start → Some e.number ≡ Some n → HasStart p t n
+HasStart-covers p t e n program there covers same = record {
+  first = e;
+  there = there;
+  starts = MeansStarts-covers p e.state program covers;
+  number_is = grind rules;
+}
+
+-- past the last entry there is none
+pub no_entry_past : (p : Program) (t : Kept) (k : ℕ) (e : Entry) → count_of t ≤ k → entry_at p t k ≡ Some e → ⊥
+no_entry_past p t k e past there =
+    let none : entry_at p t k ≡ None = ap (option_and_then (entry_from p t.bytes)) (slice_get_past t.places k past) in
+    cc
+
+-- one more entry that is fine
+pub fine_next : (p : Program) (t : EntryAt) (k : ℕ) → AllFineBefore p t k → ((e : Entry) → t k ≡ Some e → IsFine p t e) → AllFineBefore p t (k + 1)
+fine_next p t k before here j e less at = elim (cases_lt j k) [
+  | inl inside ↦ before j e inside at
+  | inr past ↦ let same : j ≡ k = omega arith in here e (subst (λ (i : ℕ). t i ≡ Some e) same at)
+]

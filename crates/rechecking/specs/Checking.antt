@@ -1,0 +1,92 @@
+-- What the tests of an entry show, and what they surely find.
+use Rattle.std.specs.Prelude.{◌≡◌, ℕ, ◌<◌, List, [], ◌∷◌, Some}
+use Rattle.isa_model.specs.declared.instructions.Insn.{Insn}
+use Rattle.isa_model.specs.Code.Instructions.{Program, fetch}
+use Rattle.stack_state.specs.declared.states.State.{State}
+use Rattle.stack_state.specs.Meaning.{Covers}
+use Rattle.stack_state.specs.Starts.{start}
+use Rattle.state_cover.specs.FrameCover.{Encloses}
+use Rattle.transfer.specs.declared.Ways.{Ways}
+use Rattle.transfer.specs.declared.Ways.TheVariants as ways
+use Rattle.transfer.specs.declared.refusals.Refusal.{Refusal}
+use Rattle.transfer.specs.Exact.{Makes, Refuses}
+use Rattle.table_entries.specs.Entries.{Entry}
+use Rattle.rechecking.specs.declared.errors.TableError.{TableError}
+use Rattle.rechecking.specs.declared.errors.TableError.TheVariants.{Step, Successor}
+use Rattle.rechecking.specs.Tables.{EntryAt, IsFine, MeansStarts}
+
+-- ---- successors
+
+-- the entry of that index covers the state, and its number is smaller
+pub record Enters (t : EntryAt) (number index : ℕ) (a : State) : Type 0 where
+  pub entry : Entry
+  pub there : t index ≡ Some entry
+  pub smaller : entry.number < number
+  pub covers : (p : Program) → Covers p entry.state a
+
+-- the same, where registers and slots show it, whatever the identities are called
+pub record EntersClearly (t : EntryAt) (number index : ℕ) (a : State) : Type 0 where
+  pub entry : Entry
+  pub there : t index ≡ Some entry
+  pub smaller : entry.number < number
+  pub packet : ℕ → ℕ
+  pub null : ℕ → ℕ
+  pub covers : Encloses packet null entry.state a
+
+-- as many entries are named as the step has successors, and each has this relation to its one
+abbrev pub FollowsBy : (ℕ → State → Type 0) → List ℕ → Ways → State → State → Type 0
+FollowsBy R [] ways.None a b = Unit {0}
+FollowsBy R (i ∷ []) ways.One a b = R i a
+FollowsBy R (i ∷ (j ∷ [])) ways.Two a b = R i a × R j b
+FollowsBy R named w a b = ⊥
+
+-- ---- the start
+
+-- the first entry means every start, and this is its number
+pub record HasStart (p : Program) (t : EntryAt) (number : ℕ) : Type 0 where
+  pub first : Entry
+  pub there : t 0 ≡ Some first
+  pub starts : MeansStarts p first.state
+  pub number_is : first.number ≡ number
+
+-- the first entry covers the start state, where registers and slots show it
+pub record StartsClearly (t : EntryAt) : Type 0 where
+  pub first : Entry
+  pub there : t 0 ≡ Some first
+  pub packet : ℕ → ℕ
+  pub null : ℕ → ℕ
+  pub covers : Encloses packet null first.state start
+
+-- ---- the first entry that does not pass
+
+abbrev pub AllFineBefore : Program → EntryAt → ℕ → Type 0
+AllFineBefore p t k = (j : ℕ) (e : Entry) → j < k → t j ≡ Some e → IsFine p t e
+
+-- the entry's step is refused
+pub record IsRefusedStep (p : Program) (t : EntryAt) (k : ℕ) (refusal : Refusal) : Type 0 where
+  pub entry : Entry
+  pub insn : Insn
+  pub there : t k ≡ Some entry
+  pub fetched : fetch p entry.state.slot ≡ Some insn
+  pub refused : Refuses p entry.state insn refusal
+
+-- its step is made, and its successors are not clearly those that it names
+pub record IsUnnamed (p : Program) (t : EntryAt) (k : ℕ) : Type 0 where
+  pub entry : Entry
+  pub insn : Insn
+  pub there : t k ≡ Some entry
+  pub fetched : fetch p entry.state.slot ≡ Some insn
+  pub went : Ways
+  pub first : State
+  pub second : State
+  pub made : Makes p entry.state insn went first second
+  pub unnamed : FollowsBy (EntersClearly t entry.number) entry.successors went first second → ⊥
+
+abbrev pub IsFaultyAt : Program → EntryAt → ℕ → TableError → Type 0
+IsFaultyAt p t k (Step index refusal) = (index ≡ k) × IsRefusedStep p t k refusal
+IsFaultyAt p t k (Successor index) = (index ≡ k) × IsUnnamed p t k
+IsFaultyAt p t k error = ⊥
+
+-- all entries before it are fine
+abbrev pub IsFirstFault : Program → EntryAt → TableError → Type 0
+IsFirstFault p t error = (k : ℕ) × AllFineBefore p t k × IsFaultyAt p t k error

@@ -1,0 +1,43 @@
+-- What a table shows, and why it is refused, by tests in their order.
+use Rattle.std.specs.Prelude.{◌≡◌, ℕ, List, slice_get, Ok, Err}
+use Rattle.isa_model.specs.Code.Instructions.{Program}
+use Rattle.control_flow.specs.Flows.{IsFlow, IsRefusal}
+use Rattle.table_entries.specs.declared.faults.TableFault.{TableFault}
+use Rattle.table_entries.specs.declared.faults.TableFault.TheVariants as fault
+use Rattle.table_entries.specs.Entries.{Entry}
+use Rattle.table_entries.specs.Tables.{table_read}
+use Rattle.rechecking.specs.declared.errors.TableError.{TableError}
+use Rattle.rechecking.specs.declared.errors.TableError.TheVariants.{Flow, Fault, Start, Step, Successor}
+use Rattle.rechecking.specs.Tables.{IsClosed}
+use Rattle.rechecking.specs.Checking.{HasStart, StartsClearly, IsFirstFault}
+
+-- the bytes are of the form, and these are their entries
+abbrev pub AreEntries : Program → List ℕ → List Entry → Type 0
+AreEntries p bytes entries = IsFlow p × (table_read p bytes ≡ Ok entries)
+
+-- the bytes are a closed table of the program, and the number is that of its first entry
+pub record Shows (p : Program) (bytes : List ℕ) (number : ℕ) : Type 0 where
+  pub entries : List Entry
+  pub read : table_read p bytes ≡ Ok entries
+  pub closed : IsClosed p (slice_get entries)
+  pub number_is : closed.first.number ≡ number
+
+-- the first entry does not clearly cover the start state
+abbrev pub LacksStart : Program → List ℕ → Type 0
+LacksStart p bytes = (entries : List Entry) × AreEntries p bytes entries × (StartsClearly (slice_get entries) → ⊥)
+
+-- it does, and an entry is the first that does not pass
+abbrev pub HasFault : Program → List ℕ → TableError → Type 0
+HasFault p bytes error = (entries : List Entry) × AreEntries p bytes entries
+    × ((n : ℕ) × HasStart p (slice_get entries) n) × IsFirstFault p (slice_get entries) error
+
+-- the bytes are not of the form, or memory ran out
+abbrev pub IsFault : Program → List ℕ → TableFault → Type 0
+IsFault p bytes fault.Memory = Unit {0}
+IsFault p bytes f = IsFlow p × (table_read p bytes ≡ Err f)
+
+abbrev pub IsRefused : Program → List ℕ → TableError → Type 0
+IsRefused p bytes (Flow e slot) = IsRefusal p e slot
+IsRefused p bytes (Fault f) = IsFault p bytes f
+IsRefused p bytes Start = LacksStart p bytes
+IsRefused p bytes error = HasFault p bytes error

@@ -1,0 +1,136 @@
+-- What is left when something was read: an end of the bytes.
+use Rattle.std.specs.Prelude.{◌≡◌, ℕ, zero, suc, ◌+◌, ◌-◌, ◌≤◌, nat_lt, ◌==◌, ◌||◌, if◌then◌else◌, Bool, true, false, ◌⊎◌, List, [], ◌∷◌, length, drop, Option, Some, Ok, Err, refl}
+use Rattle.std.proofs.Common.{inl, inr, ap, sym, ◌∙◌, subst, arith}
+use Rattle.std.proofs.lemmas.List.{drop-drop, length-drop, drop_all}
+use Rattle.std.specs.Option.{option_map}
+use Rattle.byteorder.specs.Endian.{little_number}
+use Rattle.reg_state.specs.declared.kinds.Kind.TheVariants.{Number}
+use Rattle.table_entries.specs.declared.stops.Stop.TheVariants.{Form}
+use Rattle.isa_model.specs.Code.Instructions.{Program}
+use Rattle.table_entries.specs.Deciding.{decide}
+use Rattle.table_entries.specs.Reading.{Read, sized, then_read, joined, many}
+use Rattle.table_entries.specs.Values.{scalar_in, stack_in, packet_in, map_in, value_in, null_in, fields_in, kind_in, slot_in, marks_in, spilled}
+use Rattle.table_entries.specs.Frames.{frame_in, callers_in}
+use Rattle.table_entries.specs.Entries.{Entry, named_in, rest_in, entry_in}
+
+abbrev pub IsEnd : List ℕ → List ℕ → Type 0
+IsEnd bytes rest = (n : ℕ) × (rest ≡ drop n bytes)
+
+pub IsEnd-more : (bytes rest after : List ℕ) → IsEnd bytes rest → IsEnd rest after → IsEnd bytes after
+IsEnd-more bytes rest after (n, e) (m, f) = (n + m, f ∙ ap (drop m) e ∙ drop-drop m n bytes)
+
+-- where it begins
+pub IsEnd-place : (bytes rest : List ℕ) → IsEnd bytes rest → drop (length bytes - length rest) bytes ≡ rest
+IsEnd-place bytes rest (n, e) = of (decide n (length bytes)) where
+  of : (n ≤ length bytes) ⊎ (n ≤ length bytes → ⊥) → drop (length bytes - length rest) bytes ≡ rest
+  of (inl le) =
+      let size : length rest ≡ length bytes - n = ap length e ∙ length-drop n bytes in
+      let place : length bytes - length rest ≡ n = omega arith in
+      ap (λ (k : ℕ). drop k bytes) place ∙ sym e
+  of (inr past) =
+      let size : length rest ≡ length bytes - n = ap length e ∙ length-drop n bytes in
+      let place : length bytes - length rest ≡ length bytes = grind arith in
+      ap (λ (k : ℕ). drop k bytes) place ∙ drop_all (length bytes) bytes (omega arith) ∙ sym (drop_all n bytes (grind arith)) ∙ sym e
+
+pub IsEnd-length : (bytes rest : List ℕ) → IsEnd bytes rest → length rest ≤ length bytes
+IsEnd-length bytes rest (n, e) = let size : length rest ≡ length bytes - n = ap length e ∙ length-drop n bytes in omega arith
+
+-- the bytes after what is read are an end
+abbrev pub Leaves : {X : Type 0} → List ℕ → Read X → Type 0
+Leaves bytes (Ok x) = IsEnd bytes x.1
+Leaves bytes (Err stop) = Unit {0}
+
+Leaves-more : {X : Type 0} (bytes rest : List ℕ) (r : Read X) → IsEnd bytes rest → Leaves rest r → Leaves bytes r
+Leaves-more bytes rest (Ok x) first second = IsEnd-more bytes rest x.1 first second
+Leaves-more bytes rest (Err stop) first second = tt
+
+Leaves-then : {X Y : Type 0} (bytes : List ℕ) (r : Read X) (next : Option X → List ℕ → Read Y) → Leaves bytes r
+    → ((x : Option X) (rest : List ℕ) → Leaves rest (next x rest)) → Leaves bytes (then_read r next)
+Leaves-then bytes (Ok x) next first second = Leaves-more bytes x.1 (next x.0 x.1) first (second x.0 x.1)
+Leaves-then bytes (Err stop) next first second = tt
+
+Leaves-if : {X : Type 0} (bytes : List ℕ) (b : Bool) (r s : Read X) → Leaves bytes r → Leaves bytes s → Leaves bytes (if b then r else s)
+Leaves-if bytes true r s first second = first
+Leaves-if bytes false r s first second = second
+
+Leaves-sized : {X : Type 0} (n : ℕ) (fields : List ℕ → Option X) (bytes : List ℕ) → Leaves bytes (sized n fields bytes)
+Leaves-sized n fields bytes = Leaves-if bytes (nat_lt (length bytes) n) (Err _) (Ok (fields bytes, drop n bytes)) tt (n, refl)
+
+Leaves-many : {X : Type 0} (one : ℕ → List ℕ → Read X) → ((k : ℕ) (bytes : List ℕ) → Leaves bytes (one k bytes))
+    → (n k : ℕ) (bytes : List ℕ) → Leaves bytes (many one n k bytes)
+unfolding many
+Leaves-many one each zero k bytes = (0, refl)
+Leaves-many one each (suc n) k bytes =
+    Leaves-then bytes (one k bytes) (λ first rest. then_read (many one n (k + 1) rest) (λ others after. Ok (joined first others, after))) (each k bytes)
+    (λ first rest. Leaves-then rest (many one n (k + 1) rest) (λ others after. Ok (joined first others, after)) (Leaves-many one each n (k + 1) rest) (λ others after. (0, refl)))
+
+Leaves-fields : (rows holder kind : ℕ) (bytes : List ℕ) → Leaves bytes (fields_in rows holder kind bytes)
+unfolding fields_in
+Leaves-fields rows holder kind bytes =
+    Leaves-if bytes (kind == 0) _ _ (0, refl)
+    (Leaves-if bytes (kind == 1) _ _ (Leaves-sized 64 (λ b. option_map Number (scalar_in b)) bytes)
+    (Leaves-if bytes (kind == 2) _ _ (0, refl)
+    (Leaves-if bytes (kind == 3) _ _ (Leaves-sized 5 (stack_in holder) bytes)
+    (Leaves-if bytes (kind == 4) _ _ (Leaves-sized 20 packet_in bytes)
+    (Leaves-if bytes (kind == 5) _ _ (0, refl)
+    (Leaves-if bytes (kind == 6) _ _ (Leaves-sized 1 (map_in rows) bytes)
+    (Leaves-if bytes (kind == 7) _ _ (Leaves-sized 9 (value_in rows) bytes)
+    (Leaves-if bytes (kind == 8) _ _ (Leaves-sized 5 (null_in rows) bytes) tt))))))))
+
+Leaves-kind : (rows holder : ℕ) (bytes : List ℕ) → Leaves bytes (kind_in rows holder bytes)
+unfolding kind_in
+Leaves-kind rows holder [] = tt
+Leaves-kind rows holder (kind ∷ bytes) = Leaves-more (kind ∷ bytes) bytes (fields_in rows holder kind bytes) (1, refl) (Leaves-fields rows holder kind bytes)
+
+Leaves-marks : (form : ℕ) (bytes : List ℕ) → Leaves (form ∷ bytes) (marks_in bytes)
+Leaves-marks form [] = tt
+Leaves-marks form (marks ∷ bytes) = (2, refl)
+
+Leaves-slot : (rows holder : ℕ) (bytes : List ℕ) → Leaves bytes (slot_in rows holder bytes)
+unfolding slot_in
+Leaves-slot rows holder [] = tt
+Leaves-slot rows holder (form ∷ bytes) =
+    let value : Leaves bytes (kind_in rows holder bytes) = Leaves-kind rows holder bytes in
+    Leaves-if (form ∷ bytes) (form == 0) _ _ (Leaves-marks form bytes)
+    (Leaves-if (form ∷ bytes) (form == 1) _ _
+    (Leaves-then (form ∷ bytes) (kind_in rows holder bytes) (λ k rest. Ok (spilled k, rest))
+    (Leaves-more (form ∷ bytes) bytes (kind_in rows holder bytes) (1, refl) value) (λ k rest. (0, refl))) tt)
+
+Leaves-frame : (rows holder : ℕ) (outer : Bool) (bytes : List ℕ) → Leaves bytes (frame_in rows holder outer bytes)
+unfolding frame_in
+Leaves-frame rows holder outer bytes =
+    Leaves-if bytes (nat_lt (length bytes) 2) _ _ tt
+    (Leaves-then bytes (many (λ k. kind_in rows holder) 10 0 (drop 2 bytes)) _
+    (Leaves-more bytes (drop 2 bytes) (many (λ k. kind_in rows holder) 10 0 (drop 2 bytes)) (2, refl)
+    (Leaves-many (λ k. kind_in rows holder) (λ k b. Leaves-kind rows holder b) 10 0 (drop 2 bytes)))
+    (λ kinds rest. Leaves-then rest (many (λ k. slot_in rows holder) 64 0 rest) _
+    (Leaves-many (λ k. slot_in rows holder) (λ k b. Leaves-slot rows holder b) 64 0 rest) (λ slots after. (0, refl))))
+
+Leaves-named : (bytes : List ℕ) → Leaves bytes (named_in bytes)
+unfolding named_in
+Leaves-named [] = tt
+Leaves-named (count ∷ bytes) =
+    let one : List ℕ → Option (List ℕ) = λ b. Some (little_number 4 b ∷ []) in
+    let two : List ℕ → Option (List ℕ) = λ b. Some (little_number 4 b ∷ (little_number 4 (drop 4 b) ∷ [])) in
+    Leaves-if (count ∷ bytes) (count == 0) _ _ (1, refl)
+    (Leaves-if (count ∷ bytes) (count == 1) _ _ (Leaves-more (count ∷ bytes) bytes (sized 4 one bytes) (1, refl) (Leaves-sized 4 one bytes))
+    (Leaves-if (count ∷ bytes) (count == 2) _ (Err Form) (Leaves-more (count ∷ bytes) bytes (sized 8 two bytes) (1, refl) (Leaves-sized 8 two bytes)) tt))
+
+Leaves-rest : (p : Program) (number slot outer : ℕ) (bytes : List ℕ) → Leaves bytes (rest_in p number slot outer bytes)
+Leaves-rest p number slot outer bytes =
+    Leaves-then bytes (callers_in (length p.maps) outer bytes) _
+    (Leaves-many (λ k. frame_in (length p.maps) k true) (λ k b. Leaves-frame (length p.maps) k true b) outer 0 bytes)
+    (λ callers rest. Leaves-then rest (frame_in (length p.maps) outer false rest) _ (Leaves-frame (length p.maps) outer false rest)
+    (λ innermost others. Leaves-then others (named_in others) _ (Leaves-named others) (λ successors after. (0, refl))))
+
+Leaves-entry : (p : Program) (bytes : List ℕ) → Leaves bytes (entry_in p bytes)
+unfolding entry_in
+Leaves-entry p bytes =
+    let count = little_number 1 (drop 6 bytes) in
+    Leaves-if bytes (nat_lt (length bytes) 7) _ _ tt
+    (Leaves-if bytes (count == 0 || nat_lt 8 count) _ _ tt
+    (Leaves-more bytes (drop 7 bytes) _ (7, refl) (Leaves-rest p (little_number 4 bytes) (little_number 2 (drop 4 bytes)) (count - 1) (drop 7 bytes))))
+
+-- what stands after an entry is an end
+pub entry_in-end : (p : Program) (bytes : List ℕ) (e : Option Entry) (after : List ℕ) → entry_in p bytes ≡ Ok (e, after) → IsEnd bytes after
+entry_in-end p bytes e after h = subst (Leaves bytes) h (Leaves-entry p bytes)

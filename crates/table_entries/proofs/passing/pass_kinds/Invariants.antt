@@ -1,0 +1,10 @@
+use Rattle.std.proofs.Common.{◌≡◌, ◌-◌}
+use Rattle.table_entries.specs.Values.{kind_in}
+use Rattle.table_entries.specs.Reading.{many, seen}
+use Rattle.table_entries.proofs.Seen.{and_seen}
+use Rattle.table_entries.proofs.passing.pass_kinds.Given as goal
+
+-- what was passed over, and what is left
+abbrev pub invariant-loop-index : goal.invariant-loop-index
+invariant-loop-index l =
+    and_seen l.allowed (seen (many (λ k. kind_in l.rows l.holder) (10 - l.index) l.index l.rest)) ≡ seen (many (λ k. kind_in l.rows l.holder) 10 0 l.bytes)

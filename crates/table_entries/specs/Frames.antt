@@ -1,0 +1,42 @@
+-- Call frames, as the bytes of a table have them. `rows` is how many map rows the program has, `holder` which frame it is, the outermost first.
+use Rattle.std.specs.Prelude.{ℕ, nat_lt, ◌==◌, ◌&&◌, ◌||◌, not, Bool, true, false, if◌then◌else◌, List, length, drop, Option, Some, None, Ok, Err}
+use Rattle.byteorder.specs.Endian.{little_number}
+use Rattle.reg_state.specs.declared.kinds.Kind.{Kind}
+use Rattle.reg_state.specs.declared.kinds.Kind.TheVariants.{Unset}
+use Rattle.stack_state.specs.declared.slots.Slot.{Slot}
+use Rattle.stack_state.specs.declared.states.AbstractFrame.{AbstractFrame}
+use Rattle.stack_state.specs.Meaning.{kind_at}
+use Rattle.table_entries.specs.declared.stops.Stop.TheVariants.{Short}
+use Rattle.table_entries.specs.Reading.{Read, then_read, many}
+use Rattle.table_entries.specs.Values.{kind_in, slot_in}
+
+abbrev pub is_unset : Kind → Bool
+is_unset Unset = true
+is_unset k = false
+
+-- r0 to r5
+abbrev pub are_unset : List Kind → Bool
+are_unset kinds =
+    is_unset (kind_at kinds 0) && (is_unset (kind_at kinds 1) && (is_unset (kind_at kinds 2) && (is_unset (kind_at kinds 3)
+    && (is_unset (kind_at kinds 4) && is_unset (kind_at kinds 5)))))
+
+-- the outermost frame returns to slot 0; of an outer frame, r0 to r5 are unset
+abbrev pub frame_allowed : ℕ → Bool → ℕ → List Kind → Bool
+frame_allowed holder outer slot kinds = (not (holder == 0) || slot == 0) && (not outer || are_unset kinds)
+
+abbrev pub frame_of : ℕ → Bool → ℕ → Option (List Kind) → Option (List Slot) → Option AbstractFrame
+frame_of holder outer slot (Some kinds) (Some slots) =
+    if frame_allowed holder outer slot kinds then Some (record { return_slot = slot; registers = kinds; stack = record { slots = slots } }) else None
+frame_of holder outer slot kinds slots = None
+
+-- u16 return slot, ten values, 64 stack slots
+unfoldable pub frame_in : ℕ → ℕ → Bool → List ℕ → Read AbstractFrame
+frame_in rows holder outer bytes =
+    if nat_lt (length bytes) 2 then Err Short
+    else then_read (many (λ k. kind_in rows holder) 10 0 (drop 2 bytes)) (λ kinds rest.
+    then_read (many (λ k. slot_in rows holder) 64 0 rest) (λ slots after.
+    Ok (frame_of holder outer (little_number 2 bytes) kinds slots, after)))
+
+-- n outer frames
+abbrev pub callers_in : ℕ → ℕ → List ℕ → Read (List AbstractFrame)
+callers_in rows n bytes = many (λ holder. frame_in rows holder true) n 0 bytes

@@ -1,0 +1,7 @@
+pub mod Deciding
+pub mod Reading
+pub mod Values
+pub mod ValueLaws
+pub mod Frames
+pub mod Entries
+pub mod Tables

@@ -1,0 +1,103 @@
+-- What has its ghost facts is what is made of its fields.
+use Rattle.std.specs.Prelude.{◌≡◌, ℕ, ◌^◌, ◌<◌, ◌≤◌, ℤ, ◌≤ℤ◌, ◌⊎◌, Some, None, bit_and, refl}
+use Rattle.std.proofs.Common.{inl, inr, ap, sym, ◌∙◌}
+use Rattle.std.proofs.Props.{props}
+use Rattle.std.proofs.lemmas.Bool.{cases_eq}
+use Rattle.known_bits.specs.declared.bits.Bits.{Bits}
+use Rattle.ranges.specs.declared.wide.Wide.{Wide}
+use Rattle.ranges.specs.declared.low.Low.{Low}
+use Rattle.table_entries.specs.Deciding.{decide, decide_less, decide_z}
+use Rattle.table_entries.specs.Values.{bits_when, bits_of, wide_when, wide_of, low_when, low_of, limits_when, limits_of}
+
+one_proof : (n m : ℕ) (p q : n ≡ m) → p ≡ q
+one_proof n m p q = let prop : IsProp (n ≡ m) = hlevel props in prop p q
+
+one_order : (n m : ℕ) (p q : n ≤ m) → p ≡ q
+one_order n m p q = let prop : IsProp (n ≤ m) = hlevel props in prop p q
+
+one_order_z : (n m : ℤ) (p q : n ≤ℤ m) → p ≡ q
+one_order_z n m p q = let prop : IsProp (n ≤ℤ m) = hlevel props in prop p q
+
+one_less : (n m : ℕ) (p q : n < m) → p ≡ q
+one_less n m p q = let prop : IsProp (n < m) = hlevel props in prop p q
+
+pub bits_of-is : (b : Bits) → bits_of b.value b.mask ≡ Some b
+unfolding bits_of
+bits_of-is b = of (cases_eq (bit_and b.value b.mask) 0) (decide_less b.mask (2 ^ 64)) where
+  of : (d : (bit_and b.value b.mask ≡ 0) ⊎ (bit_and b.value b.mask ≡ 0 → ⊥)) (f : (b.mask < 2 ^ 64) ⊎ (b.mask < 2 ^ 64 → ⊥)) → bits_when b.value b.mask d f ≡ Some b
+  of (inl apart) (inl fits) =
+      ap (λ (h : bit_and b.value b.mask ≡ 0). Some (record { value = b.value; mask = b.mask; apart = h; fits = fits })) (one_proof (bit_and b.value b.mask) 0 apart b.apart)
+      ∙ ap (λ (h : b.mask < 2 ^ 64). Some (record { value = b.value; mask = b.mask; apart = b.apart; fits = h })) (one_less b.mask (2 ^ 64) fits b.fits)
+  of (inr refuted) f = absurd (refuted b.apart)
+  of (inl apart) (inr refuted) = absurd (refuted b.fits)
+
+pub bits_of-none : (v m : ℕ) → (bit_and v m ≡ 0 → ⊥) → bits_of v m ≡ None
+unfolding bits_of
+bits_of-none v m out = of (cases_eq (bit_and v m) 0) (decide_less m (2 ^ 64)) where
+  of : (d : (bit_and v m ≡ 0) ⊎ (bit_and v m ≡ 0 → ⊥)) (f : (m < 2 ^ 64) ⊎ (m < 2 ^ 64 → ⊥)) → bits_when v m d f ≡ None
+  of (inl apart) f = absurd (out apart)
+  of (inr refuted) f = refl
+
+pub wide_of-is : (w : Wide) → wide_of w.least w.greatest w.signed_least w.signed_greatest ≡ Some w
+unfolding wide_of
+wide_of-is w = of (decide w.least w.greatest) (decide_z w.signed_least w.signed_greatest) where
+  of : (a : (w.least ≤ w.greatest) ⊎ (w.least ≤ w.greatest → ⊥)) (b : (w.signed_least ≤ℤ w.signed_greatest) ⊎ (w.signed_least ≤ℤ w.signed_greatest → ⊥))
+      → wide_when w.least w.greatest w.signed_least w.signed_greatest a b ≡ Some w
+  of (inl o) (inl p) =
+      ap (λ (h : w.least ≤ w.greatest). Some (record { least = w.least; greatest = w.greatest; signed_least = w.signed_least; signed_greatest = w.signed_greatest; ordered = h; signed_ordered = p })) (one_order w.least w.greatest o w.ordered)
+      ∙ ap (λ (h : w.signed_least ≤ℤ w.signed_greatest). Some (record { least = w.least; greatest = w.greatest; signed_least = w.signed_least; signed_greatest = w.signed_greatest; ordered = w.ordered; signed_ordered = h })) (one_order_z w.signed_least w.signed_greatest p w.signed_ordered)
+  of (inr out) b = absurd (out w.ordered)
+  of (inl o) (inr out) = absurd (out w.signed_ordered)
+
+pub wide_of-none : (l g : ℕ) (s t : ℤ) → (l ≤ g → s ≤ℤ t → ⊥) → wide_of l g s t ≡ None
+unfolding wide_of
+wide_of-none l g s t out = of (decide l g) (decide_z s t) where
+  of : (a : (l ≤ g) ⊎ (l ≤ g → ⊥)) (b : (s ≤ℤ t) ⊎ (s ≤ℤ t → ⊥)) → wide_when l g s t a b ≡ None
+  of (inl o) (inl p) = absurd (out o p)
+  of (inr refuted) b = refl
+  of (inl o) (inr refuted) = refl
+
+pub low_of-is : (w : Low) → low_of w.least w.greatest w.signed_least w.signed_greatest ≡ Some w
+unfolding low_of
+low_of-is w = of (decide w.least w.greatest) (decide_z w.signed_least w.signed_greatest) where
+  of : (a : (w.least ≤ w.greatest) ⊎ (w.least ≤ w.greatest → ⊥)) (b : (w.signed_least ≤ℤ w.signed_greatest) ⊎ (w.signed_least ≤ℤ w.signed_greatest → ⊥))
+      → low_when w.least w.greatest w.signed_least w.signed_greatest a b ≡ Some w
+  of (inl o) (inl p) =
+      ap (λ (h : w.least ≤ w.greatest). Some (record { least = w.least; greatest = w.greatest; signed_least = w.signed_least; signed_greatest = w.signed_greatest; ordered = h; signed_ordered = p })) (one_order w.least w.greatest o w.ordered)
+      ∙ ap (λ (h : w.signed_least ≤ℤ w.signed_greatest). Some (record { least = w.least; greatest = w.greatest; signed_least = w.signed_least; signed_greatest = w.signed_greatest; ordered = w.ordered; signed_ordered = h })) (one_order_z w.signed_least w.signed_greatest p w.signed_ordered)
+  of (inr out) b = absurd (out w.ordered)
+  of (inl o) (inr out) = absurd (out w.signed_ordered)
+
+pub low_of-none : (l g : ℕ) (s t : ℤ) → (l ≤ g → s ≤ℤ t → ⊥) → low_of l g s t ≡ None
+unfolding low_of
+low_of-none l g s t out = of (decide l g) (decide_z s t) where
+  of : (a : (l ≤ g) ⊎ (l ≤ g → ⊥)) (b : (s ≤ℤ t) ⊎ (s ≤ℤ t → ⊥)) → low_when l g s t a b ≡ None
+  of (inl o) (inl p) = absurd (out o p)
+  of (inr refuted) b = refl
+  of (inl o) (inr refuted) = refl
+
+pub limits_of-some : (l g : ℤ) → l ≤ℤ g → limits_of l g ≡ Some (l, g)
+unfolding limits_of
+limits_of-some l g h = of (decide_z l g) where
+  of : (a : (l ≤ℤ g) ⊎ (l ≤ℤ g → ⊥)) → limits_when l g a ≡ Some (l, g)
+  of (inl o) = refl
+  of (inr refuted) = absurd (refuted h)
+
+pub limits_of-none : (l g : ℤ) → (l ≤ℤ g → ⊥) → limits_of l g ≡ None
+unfolding limits_of
+limits_of-none l g out = of (decide_z l g) where
+  of : (a : (l ≤ℤ g) ⊎ (l ≤ℤ g → ⊥)) → limits_when l g a ≡ None
+  of (inl o) = absurd (out o)
+  of (inr refuted) = refl
+
+pub wide_of-made : (l g : ℕ) (s t s' t' : ℤ) (o : l ≤ g) (p : s' ≤ℤ t') → s' ≡ s → t' ≡ t
+    → Some (record { least = l; greatest = g; signed_least = s'; signed_greatest = t'; ordered = o; signed_ordered = p }) ≡ wide_of l g s t
+wide_of-made l g s t s' t' o p e f =
+    let w : Wide = record { least = l; greatest = g; signed_least = s'; signed_greatest = t'; ordered = o; signed_ordered = p } in
+    sym (wide_of-is w) ∙ ap (λ (z : ℤ). wide_of l g z t') e ∙ ap (wide_of l g s) f
+
+pub low_of-made : (l g : ℕ) (s t s' t' : ℤ) (o : l ≤ g) (p : s' ≤ℤ t') → s' ≡ s → t' ≡ t
+    → Some (record { least = l; greatest = g; signed_least = s'; signed_greatest = t'; ordered = o; signed_ordered = p }) ≡ low_of l g s t
+low_of-made l g s t s' t' o p e f =
+    let w : Low = record { least = l; greatest = g; signed_least = s'; signed_greatest = t'; ordered = o; signed_ordered = p } in
+    sym (low_of-is w) ∙ ap (λ (z : ℤ). low_of l g z t') e ∙ ap (low_of l g s) f

@@ -1,0 +1,121 @@
+//! Entries in the bytes of a table.
+
+ghost use Rattle.std.specs.Prelude.{◌≡◌, ◌≤◌, Some, length};
+ghost use Rattle.std.specs.Option.{option_map};
+ghost use Rattle.table_entries.specs.Entries.{entry_in, entry_of, head_allowed, list_of, named_in};
+ghost use Rattle.table_entries.specs.Entries.{rest_in};
+ghost use Rattle.table_entries.specs.Reading.{Gives, kept};
+
+use crate::frames::{read_callers, read_frame};
+use crate::loops::both;
+use crate::slices::skip;
+use crate::stops::Stop;
+use bounds::MAX_BOUND;
+use byteorder::{ByteOrder, LittleEndian};
+use image::Image;
+use stack_state::State;
+
+/// The entries that an entry names, the fall-through first.
+#[derive(Clone, Copy, PartialEq, Eq, Debug, Drop)]
+pub enum Named {
+    None,
+    One(u32),
+    Two(u32, u32),
+}
+
+/// What an entry says beside its state.
+#[derive(Clone, Copy, PartialEq, Eq, Debug, Drop)]
+pub struct Head {
+    /// How many steps a run makes at most from the state on.
+    pub number: u32,
+    /// The entries to which its step leads.
+    pub named: Named,
+}
+
+/// The entries that are named, and the bytes after them.
+#[tactic(auto, unfolding(crate::specs::Entries::named_in))]
+pub fn named_in(bytes: &[u8]) -> Result<(Named, &[u8]), Stop>
+    ensures { Gives (λ x. (Some (list_of x.0), x.1.now)) result (named_in bytes.now) }
+{
+    match bytes {
+        [] => Err(Stop::Short),
+        [0, rest @ ..] => Ok((Named::None, rest)),
+        [1, rest @ ..] => {
+            if rest.len() < 4 {
+                return Err(Stop::Short);
+            }
+            Ok((Named::One(LittleEndian::read_u32(rest)), skip(rest, 4)))
+        }
+        [2, rest @ ..] => {
+            if rest.len() < 8 {
+                return Err(Stop::Short);
+            }
+            let first = LittleEndian::read_u32(rest);
+            let second = LittleEndian::read_u32(skip(rest, 4));
+            Ok((Named::Two(first, second), skip(rest, 8)))
+        }
+        [_, ..] => Err(Stop::Form),
+    }
+}
+
+pub fn head_allowed(image: &Image, number: u32, slot: usize) -> bool
+    ensures { result ≡ head_allowed image.now number slot }
+{
+    number != 0 && number <= MAX_BOUND && image.at(slot).is_some()
+}
+
+fn head_if(allowed: bool, head: Head) -> Option<Head>
+    ensures { result ≡ kept allowed head }
+{
+    if allowed { Some(head) } else { None }
+}
+
+// The frames, of which all but the last are outer ones, and the entries that are named.
+fn read_rest<'a>(
+    image: &Image,
+    number: u32,
+    outer: usize,
+    bytes: &'a [u8],
+    state: &mut State,
+) -> Result<(Option<Head>, &'a [u8]), Stop>
+    requires { outer ≤ 7 }
+    ensures { Gives (λ x. (option_map (λ head. entry_of head state.new) x.0, x.1.now)) result
+        (rest_in image.now number state.old.slot outer bytes.now) }
+{
+    let rows = image.maps().len();
+    let (callers, rest) = read_callers(
+        rows,
+        outer,
+        bytes,
+        &mut state.callers,
+        &mut state.innermost,
+    )?;
+    let (innermost, rest) = read_frame(rows, outer, false, rest, &mut state.innermost)?;
+    let (named, rest) = named_in(rest)?;
+    let fits = head_allowed(image, number, state.slot);
+    let head = head_if(both(both(callers, innermost), fits), Head { number, named });
+    Ok((head, rest))
+}
+
+/// The entry that the bytes begin with, whose state is put into the room for it, and the bytes
+/// after it. None: it has a field that is not allowed.
+#[tactic(auto, unfolding(crate::specs::Entries::entry_in))]
+pub fn read_entry<'a>(
+    image: &Image,
+    bytes: &'a [u8],
+    state: &mut State,
+) -> Result<(Option<Head>, &'a [u8]), Stop>
+    ensures { Gives (λ x. (option_map (λ head. entry_of head state.new) x.0, x.1.now)) result
+        (entry_in image.now bytes.now) }
+{
+    if bytes.len() < 7 {
+        return Err(Stop::Short);
+    }
+    let frames = usize::from(skip(bytes, 6)[0]);
+    if frames == 0 || frames > 8 {
+        return Err(Stop::Form);
+    }
+    let number = LittleEndian::read_u32(bytes);
+    state.slot = usize::from(LittleEndian::read_u16(skip(bytes, 4)));
+    read_rest(image, number, frames - 1, skip(bytes, 7), state)
+}

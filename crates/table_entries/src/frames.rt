@@ -1,0 +1,85 @@
+//! Call frames in the bytes of a table.
+
+ghost use Rattle.std.specs.Prelude.{◌≡◌, ◌≤◌};
+ghost use Rattle.table_entries.specs.Frames.{is_unset, are_unset, frame_allowed, frame_in};
+ghost use Rattle.table_entries.specs.Frames.{callers_in};
+ghost use Rattle.table_entries.specs.Reading.{Gives, kept};
+
+use crate::loops::{both, read_registers, read_slots};
+use crate::slices::skip;
+use crate::stops::Stop;
+use arrayvec::ArrayVec;
+use byteorder::{ByteOrder, LittleEndian};
+use reg_state::Kind;
+use stack_state::AbstractFrame;
+
+fn is_unset(kind: &Kind) -> bool
+    ensures { result ≡ is_unset kind.now }
+{
+    matches!(kind, Kind::Unset)
+}
+
+// Whether r0 to r5 are unset.
+fn are_unset(registers: &[Kind; 10]) -> bool
+    ensures { result ≡ are_unset registers.now }
+{
+    is_unset(&registers[0])
+        && is_unset(&registers[1])
+        && is_unset(&registers[2])
+        && is_unset(&registers[3])
+        && is_unset(&registers[4])
+        && is_unset(&registers[5])
+}
+
+fn frame_allowed(holder: usize, outer: bool, slot: usize, registers: &[Kind; 10]) -> bool
+    ensures { result ≡ frame_allowed holder outer slot registers.now }
+{
+    (holder != 0 || slot == 0) && (!outer || are_unset(registers))
+}
+
+/// A frame, read into the room for it: whether it is allowed, and the bytes after it.
+#[tactic(auto, unfolding(crate::specs::Frames::frame_in))]
+pub fn read_frame<'a>(
+    rows: usize,
+    holder: usize,
+    outer: bool,
+    bytes: &'a [u8],
+    frame: &mut AbstractFrame,
+) -> Result<(bool, &'a [u8]), Stop>
+    ensures { Gives (λ x. (kept x.0 frame.new, x.1.now)) result
+        (frame_in rows holder outer bytes.now) }
+{
+    if bytes.len() < 2 {
+        return Err(Stop::Short);
+    }
+    frame.return_slot = usize::from(LittleEndian::read_u16(bytes));
+    let (values, rest) = read_registers(rows, holder, skip(bytes, 2), &mut frame.registers)?;
+    let (slots, rest) = read_slots(rows, holder, rest, &mut frame.stack.slots)?;
+    let fits = frame_allowed(holder, outer, frame.return_slot, &frame.registers);
+    Ok((both(both(values, slots), fits), rest))
+}
+
+/// The outer frames, by way of a frame that is free for it: whether all are allowed, and the bytes
+/// after them.
+pub fn read_callers<'a>(
+    rows: usize,
+    count: usize,
+    bytes: &'a [u8],
+    callers: &mut ArrayVec<AbstractFrame, 7>,
+    free: &mut AbstractFrame,
+) -> Result<(bool, &'a [u8]), Stop>
+    requires { count ≤ 7 }
+    ensures { Gives (λ x. (kept x.0 callers.new.items, x.1.now)) result
+        (callers_in rows count bytes.now) }
+{
+    callers.clear();
+    let mut rest = bytes;
+    let mut allowed = true;
+    for holder in 0..count {
+        let (fits, after) = read_frame(rows, holder, true, rest, free)?;
+        callers.push(*free);
+        allowed = both(allowed, fits);
+        rest = after;
+    }
+    Ok((allowed, rest))
+}

@@ -1,0 +1,20 @@
+//! Proof tables as bytes, read entry by entry.
+//!
+//! A table says of each abstract state that the verifier came to how many more steps a run makes
+//! from it at most, and which entries its step leads to. Nothing here judges what a table says:
+//! only that its bytes are of the form, and its fields are allowed.
+#![tactic(auto)]
+
+pub mod entries;
+pub mod faults;
+pub mod frames;
+pub mod loops;
+pub mod passing;
+pub mod slices;
+pub mod stops;
+pub mod tables;
+pub mod values;
+
+pub use entries::{Head, Named};
+pub use faults::TableFault;
+pub use tables::{MAX_ENTRIES, Table};

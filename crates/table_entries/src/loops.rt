@@ -1,0 +1,118 @@
+//! Ten values and 64 slots in the bytes of a table, read into a frame.
+
+ghost use Rattle.std.specs.Prelude.{◌≡◌, ◌&&◌};
+ghost use Rattle.table_entries.specs.Values.{kind_in, slot_in};
+ghost use Rattle.table_entries.specs.Reading.{Gives, kept, many};
+
+use crate::stops::Stop;
+use crate::values::{kind_in, slot_in};
+use reg_state::Kind;
+use stack_state::Slot;
+
+/// Whether both are so.
+pub fn both(first: bool, second: bool) -> bool
+    ensures { result ≡ (first && second) }
+{
+    first && second
+}
+
+/// A value, read into the room for it: whether it is allowed, and the bytes after it.
+#[inline(always)]
+#[tactic(auto, unfolding(crate::specs::Values::kind_in, crate::specs::Values::fields_in))]
+fn read_kind<'a>(
+    rows: usize,
+    holder: usize,
+    bytes: &'a [u8],
+    kind: &mut Kind,
+) -> Result<(bool, &'a [u8]), Stop>
+    ensures { Gives (λ x. (kept x.0 kind.new, x.1.now)) result (kind_in rows holder bytes.now) }
+{
+    match bytes {
+        [0, rest @ ..] => {
+            *kind = Kind::Unset;
+            Ok((true, rest))
+        }
+        _ => {
+            let (found, rest) = kind_in(rows, holder, bytes)?;
+            match found {
+                Some(found) => {
+                    *kind = found;
+                    Ok((true, rest))
+                }
+                None => Ok((false, rest)),
+            }
+        }
+    }
+}
+
+/// A stack slot, read into the room for it: whether it is allowed, and the bytes after it.
+///
+/// Most slots have no value: those are read at once, since this is most of what a table has.
+#[inline(always)]
+#[tactic(auto, unfolding(crate::specs::Values::slot_in))]
+fn read_slot<'a>(
+    rows: usize,
+    holder: usize,
+    bytes: &'a [u8],
+    slot: &mut Slot,
+) -> Result<(bool, &'a [u8]), Stop>
+    ensures { Gives (λ x. (kept x.0 slot.new, x.1.now)) result (slot_in rows holder bytes.now) }
+{
+    match bytes {
+        [0, marks, rest @ ..] => {
+            *slot = Slot::Written(*marks);
+            Ok((true, rest))
+        }
+        _ => {
+            let (found, rest) = slot_in(rows, holder, bytes)?;
+            match found {
+                Some(found) => {
+                    *slot = found;
+                    Ok((true, rest))
+                }
+                None => Ok((false, rest)),
+            }
+        }
+    }
+}
+
+/// Ten values, read into the registers of a frame: whether all are allowed, and the bytes after
+/// them.
+pub fn read_registers<'a>(
+    rows: usize,
+    holder: usize,
+    bytes: &'a [u8],
+    registers: &mut [Kind; 10],
+) -> Result<(bool, &'a [u8]), Stop>
+    ensures { Gives (λ x. (kept x.0 registers.new, x.1.now)) result
+        (many (λ k. kind_in rows holder) 10 0 bytes.now) }
+{
+    let mut rest = bytes;
+    let mut allowed = true;
+    for index in 0..10 {
+        let (fits, after) = read_kind(rows, holder, rest, &mut registers[index])?;
+        allowed = both(allowed, fits);
+        rest = after;
+    }
+    Ok((allowed, rest))
+}
+
+/// 64 stack slots: whether all are allowed, and the bytes after them.
+pub fn read_slots<'a>(
+    rows: usize,
+    holder: usize,
+    bytes: &'a [u8],
+    slots: &mut [Slot; 64],
+) -> Result<(bool, &'a [u8]), Stop>
+    ensures { Gives (λ x. (kept x.0 slots.new, x.1.now)) result
+        (many (λ k. slot_in rows holder) 64 0 bytes.now) }
+{
+    let mut rest = bytes;
+    let mut allowed = true;
+    for index in 0..64 {
+        let (fits, after) = read_slot(rows, holder, rest, &mut slots[index])?;
+        allowed = both(allowed, fits);
+        rest = after;
+    }
+    Ok((allowed, rest))
+}

@@ -1,0 +1,206 @@
+//! Tables: their bytes, and where in them the entries begin.
+
+ghost use Rattle.std.specs.Prelude.{◌≡◌, ◌⊎◌, ◌≤◌, List, Some, None, Ok, Err};
+ghost use Rattle.std.specs.Prelude.{MatchResult, MatchOption, OnOk, IfErr, length, drop, [], ◌∷◌, ◌++◌};
+ghost use Rattle.table_entries.specs.Reading.{seen};
+ghost use Rattle.isa_model.specs.Code.Instructions.{Program};
+ghost use Rattle.table_entries.specs.Entries.{Entry, IsAllowed, entry_in, entry_of};
+ghost use Rattle.table_entries.specs.declared.entries.Head.{Head};
+ghost use Rattle.table_entries.specs.declared.stops.Stop.{Stop};
+ghost use Rattle.table_entries.specs.Tables.{Kept, Holds, table_read, entry_at, count_of};
+ghost use Rattle.table_entries.specs.Tables.{ArePlaced, count_in, body_in, fault_of, earlier};
+
+use crate::entries::{Head, read_entry};
+use crate::faults::TableFault;
+use crate::passing::pass_entry;
+use crate::slices::skip;
+use crate::stops::Stop;
+use byteorder::{ByteOrder, LittleEndian};
+use image::Image;
+use stack_state::State;
+use std::alloc::Global;
+use std::marker::Model;
+
+/// The most entries of a table.
+pub const MAX_ENTRIES: u32 = 1_000_000;
+
+/// A table whose bytes are of the form, and all of whose fields are allowed. It has 8 bytes for each
+/// entry, which says where the entry begins: no entry is kept.
+///
+/// Contracts see the bytes and the places.
+#[derive(Drop)]
+pub struct Table<'a> {
+    bytes: &'a [u8],
+    places: Vec<usize>,
+}
+
+impl<'a> Model for Table<'a> {
+    ghost use Rattle.table_entries.specs.Tables.{Kept};
+
+    ghost Value = { Kept };
+
+    ghost view = { λ t. record { bytes = t.bytes.now; places = t.places.items } };
+}
+
+// What is wrong with the first bytes, or how many entries there are.
+fn count_in(bytes: &[u8]) -> Result<usize, TableFault>
+    ensures { MatchResult result (λ count. count_in bytes.now ≡ Ok count)
+        (λ fault. count_in bytes.now ≡ Err fault) }
+{
+    if bytes.len() < 8 {
+        return Err(TableFault::Short);
+    }
+    if !bytes.starts_with(b"XPT1") {
+        return Err(TableFault::Magic);
+    }
+    let count = LittleEndian::read_u32(skip(bytes, 4));
+    if count == 0 || count > MAX_ENTRIES {
+        return Err(TableFault::Count);
+    }
+    Ok(count as usize)
+}
+
+// Notes a place.
+fn push_place(places: &mut Vec<usize>, place: usize) -> Result<(), TableFault>
+    ensures ok { OnOk result (places.new.items ≡ places.old.items ++ place ∷ []) }
+    ensures err { IfErr result (λ fault. fault ≡ TableFault.Memory) }
+{
+    match places.push(place) {
+        Ok(()) => Ok(()),
+        Err(_) => Err(TableFault::Memory),
+    }
+}
+
+// Whether the entry of that index, with which the bytes begin, is allowed, and the bytes after it.
+fn pass_or_fault<'a>(
+    image: &Image,
+    index: usize,
+    bytes: &'a [u8],
+    room: &mut State,
+) -> Result<(bool, &'a [u8]), TableFault>
+    ensures { MatchResult result (λ x. seen (entry_in image.now bytes.now) ≡ Ok (x.0, x.1.now))
+        (λ fault. (stop : Stop) × (seen (entry_in image.now bytes.now) ≡ Err stop)
+        × (fault ≡ fault_of stop index)) }
+{
+    match pass_entry(image, bytes, room) {
+        Ok(passed) => Ok(passed),
+        Err(stop) => Err(fault_of(stop, index)),
+    }
+}
+
+// Where the entries begin, and the index of the first that has a field that is not allowed.
+fn places_in(
+    alloc: Global,
+    image: &Image,
+    count: usize,
+    bytes: &[u8],
+) -> Result<(Vec<usize>, Option<usize>), TableFault>
+    requires { 8 ≤ length bytes.now }
+    ensures { MatchResult result
+        (λ x. ArePlaced image.now bytes.now count x.0.items x.1)
+        (λ fault. (fault ≡ TableFault.Memory)
+        ⊎ (body_in image.now bytes.now count ≡ Err fault)) }
+{
+    let mut places = Vec::new(alloc);
+    let mut first = None;
+    let mut rest = skip(bytes, 8);
+    let mut room = State::start();
+    for index in 0..count {
+        push_place(&mut places, bytes.len() - rest.len())?;
+        let (allowed, after) = pass_or_fault(image, index, rest, &mut room)?;
+        first = earlier(first, allowed, index);
+        rest = after;
+    }
+    if rest.is_empty() {
+        Ok((places, first))
+    } else {
+        Err(TableFault::Long)
+    }
+}
+
+// The bytes from a place on.
+fn bytes_from(bytes: &[u8], place: usize) -> &[u8]
+    ensures { result.now ≡ drop place bytes.now }
+{
+    if place > bytes.len() {
+        &[]
+    } else {
+        skip(bytes, place)
+    }
+}
+
+// The first index, or this one if there is none yet and its entry is not allowed.
+fn earlier(first: Option<usize>, allowed: bool, index: usize) -> Option<usize>
+    ensures { result ≡ earlier first allowed index }
+{
+    match first {
+        Some(first) => Some(first),
+        None => { if allowed { None } else { Some(index) } }
+    }
+}
+
+fn fault_of(stop: Stop, index: usize) -> TableFault
+    ensures { result ≡ fault_of stop index }
+{
+    match stop {
+        Stop::Short => TableFault::Short,
+        Stop::Form => TableFault::Entry(index),
+    }
+}
+
+impl<'a> Table<'a> {
+    /// The table that the bytes are: P1 to P5 and P9.
+    ///
+    /// A byte that has no meaning ends the reading, with P5 of its entry; a field that is not
+    /// allowed does not, and its P5 comes last.
+    pub fn of(alloc: Global, image: &Image, bytes: &'a [u8]) -> Result<Table<'a>, TableFault>
+        ensures { MatchResult result
+            (λ table. (entries : List Entry) × (table_read image.now bytes.now ≡ Ok entries)
+            × Holds image.now table entries)
+            (λ fault. (fault ≡ TableFault.Memory) ⊎ (table_read image.now bytes.now ≡ Err fault)) }
+    {
+        let count = count_in(bytes)?;
+        let (places, first) = places_in(alloc, image, count, bytes)?;
+        match first {
+            Some(index) => Err(TableFault::Entry(index)),
+            None => Ok(Table { bytes, places }),
+        }
+    }
+
+    /// How many entries there are.
+    pub fn len(&self) -> usize
+        ensures { result ≡ count_of self.now }
+    {
+        self.places.len()
+    }
+
+    /// The number of the entry of that index.
+    pub fn number(&self, index: usize) -> Option<u32>
+        ensures number { (p : Program) (e : Entry) → entry_at p self.now index ≡ Some e
+            → result ≡ Some e.number }
+        ensures none { count_of self.now ≤ index → result ≡ None }
+    {
+        let place = *self.places.get(index)?;
+        let bytes = bytes_from(self.bytes, place);
+        if bytes.len() < 4 {
+            return None;
+        }
+        Some(LittleEndian::read_u32(bytes))
+    }
+
+    /// The entry of that index, whose state is put into the room for it.
+    ///
+    /// The image is the one that the table was made with.
+    pub fn read(&self, image: &Image, index: usize, state: &mut State) -> Option<Head>
+        ensures allowed { (head : Head) → result ≡ Some head
+            → IsAllowed image.now head.number state.new.slot }
+        ensures entry { MatchOption result (entry_at image.now self.now index ≡ None)
+            (λ head. entry_at image.now self.now index ≡ Some (entry_of head state.new)) }
+    {
+        let place = *self.places.get(index)?;
+        match read_entry(image, bytes_from(self.bytes, place), state) {
+            Ok((head, _)) => head,
+            Err(_) => None,
+        }
+    }
+}

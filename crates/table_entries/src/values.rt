@@ -1,0 +1,368 @@
+//! Values of registers and stack slots in the bytes of a table.
+
+ghost use Rattle.std.specs.Prelude.{◌≡◌, ◌≤◌, length, MatchResult, Ok, Err};
+ghost use Rattle.table_entries.specs.Values.{bits_of, wide_of, low_of, scalar_in, packet_in};
+ghost use Rattle.table_entries.specs.Values.{stack_in, map_in, value_in, null_in, fields_in};
+ghost use Rattle.std.specs.Option.{option_map};
+ghost use Rattle.table_entries.specs.Values.{kind_in, slot_in, marks_in, spilled, has_no_part};
+ghost use Rattle.table_entries.specs.Values.{limits_of, limits_in};
+ghost use Rattle.table_entries.specs.Reading.{Gives};
+ghost use Rattle.table_entries.specs.Values.{range_of, scalar_of, packet_of, lacks_identity};
+ghost use Rattle.table_entries.specs.Values.{bits_in, wide_in, low_in};
+
+use crate::slices::skip;
+use crate::stops::Stop;
+use byteorder::{ByteOrder, LittleEndian};
+use known_bits::Bits;
+use ranges::{Low, Range, Wide};
+use reg_state::{Kind, Scalar};
+use stack_state::Slot;
+
+#[tactic(auto, unfolding(crate::specs::Values::bits_of))]
+fn bits_of(value: u64, mask: u64) -> Option<Bits>
+    ensures { result ≡ bits_of value mask }
+{
+    if value & mask == 0 {
+        Some(Bits { value, mask })
+    } else {
+        None
+    }
+}
+
+fn wide_of(least: u64, greatest: u64, signed_least: i64, signed_greatest: i64) -> Option<Wide>
+    ensures { result ≡ wide_of least greatest signed_least signed_greatest }
+{
+    if least > greatest {
+        return None;
+    }
+    if signed_least > signed_greatest {
+        return None;
+    }
+    Some(Wide {
+        least,
+        greatest,
+        signed_least,
+        signed_greatest,
+    })
+}
+
+fn low_of(least: u32, greatest: u32, signed_least: i32, signed_greatest: i32) -> Option<Low>
+    ensures { result ≡ low_of least greatest signed_least signed_greatest }
+{
+    if least > greatest {
+        return None;
+    }
+    if signed_least > signed_greatest {
+        return None;
+    }
+    Some(Low {
+        least,
+        greatest,
+        signed_least,
+        signed_greatest,
+    })
+}
+
+fn range_of(wide: Option<Wide>, low: Option<Low>) -> Option<Range>
+    ensures { result ≡ range_of wide low }
+{
+    match (wide, low) {
+        (Some(wide), Some(low)) => Some(Range { wide, low }),
+        _ => None,
+    }
+}
+
+fn scalar_of(bits: Option<Bits>, range: Option<Range>) -> Option<Scalar>
+    ensures { result ≡ scalar_of bits range }
+{
+    match (bits, range) {
+        (Some(bits), Some(range)) => Some(Scalar { bits, range }),
+        _ => None,
+    }
+}
+
+fn bits_in(bytes: &[u8]) -> Option<Bits>
+    requires { 16 ≤ length bytes.now }
+    ensures { result ≡ bits_in bytes.now }
+{
+    bits_of(
+        LittleEndian::read_u64(bytes),
+        LittleEndian::read_u64(skip(bytes, 8)),
+    )
+}
+
+fn wide_in(bytes: &[u8]) -> Option<Wide>
+    requires { 32 ≤ length bytes.now }
+    ensures { result ≡ wide_in bytes.now }
+{
+    wide_of(
+        LittleEndian::read_u64(bytes),
+        LittleEndian::read_u64(skip(bytes, 8)),
+        LittleEndian::read_u64(skip(bytes, 16)).cast_signed(),
+        LittleEndian::read_u64(skip(bytes, 24)).cast_signed(),
+    )
+}
+
+fn low_in(bytes: &[u8]) -> Option<Low>
+    requires { 16 ≤ length bytes.now }
+    ensures { result ≡ low_in bytes.now }
+{
+    low_of(
+        LittleEndian::read_u32(bytes),
+        LittleEndian::read_u32(skip(bytes, 4)),
+        LittleEndian::read_u32(skip(bytes, 8)).cast_signed(),
+        LittleEndian::read_u32(skip(bytes, 12)).cast_signed(),
+    )
+}
+
+#[tactic(auto, unfolding(crate::specs::Values::scalar_in))]
+fn scalar_in(bytes: &[u8]) -> Option<Scalar>
+    requires { 64 ≤ length bytes.now }
+    ensures { result ≡ scalar_in bytes.now }
+{
+    scalar_of(
+        bits_in(bytes),
+        range_of(wide_in(skip(bytes, 16)), low_in(skip(bytes, 48))),
+    )
+}
+
+#[tactic(auto, unfolding(crate::specs::Values::limits_of))]
+fn limits_of(least: i32, greatest: i32) -> Option<(i32, i32)>
+    ensures { result ≡ limits_of least greatest }
+{
+    if least <= greatest {
+        Some((least, greatest))
+    } else {
+        None
+    }
+}
+
+fn limits_in(bytes: &[u8]) -> Option<(i32, i32)>
+    requires { 8 ≤ length bytes.now }
+    ensures { result ≡ limits_in bytes.now }
+{
+    limits_of(
+        LittleEndian::read_u32(bytes).cast_signed(),
+        LittleEndian::read_u32(skip(bytes, 4)).cast_signed(),
+    )
+}
+
+fn has_no_part(bytes: &[u8]) -> bool
+    requires { 8 ≤ length bytes.now }
+    ensures { result ≡ has_no_part bytes.now }
+{
+    LittleEndian::read_u32(bytes) == 0 && LittleEndian::read_u32(skip(bytes, 4)) == 0
+}
+
+// Whether there is a variable part, and no identity.
+fn lacks_identity(bytes: &[u8]) -> bool
+    requires { 20 ≤ length bytes.now }
+    ensures { result ≡ lacks_identity bytes.now }
+{
+    LittleEndian::read_u32(skip(bytes, 4)) == 0 && !has_no_part(skip(bytes, 8))
+}
+
+fn packet_of(fixed: i32, identity: u32, limits: Option<(i32, i32)>, proved: u32) -> Option<Kind>
+    ensures { result ≡ packet_of fixed identity limits proved }
+{
+    match limits {
+        Some((least, greatest)) => Some(Kind::Packet {
+            fixed,
+            identity,
+            least,
+            greatest,
+            proved,
+        }),
+        None => None,
+    }
+}
+
+#[tactic(auto, unfolding(crate::specs::Values::packet_in))]
+fn packet_in(bytes: &[u8]) -> Option<Kind>
+    requires { 20 ≤ length bytes.now }
+    ensures { result ≡ packet_in bytes.now }
+{
+    if lacks_identity(bytes) {
+        return None;
+    }
+    packet_of(
+        LittleEndian::read_u32(bytes).cast_signed(),
+        LittleEndian::read_u32(skip(bytes, 4)),
+        limits_in(skip(bytes, 8)),
+        LittleEndian::read_u32(skip(bytes, 16)),
+    )
+}
+
+#[tactic(auto, unfolding(crate::specs::Values::stack_in))]
+fn stack_in(holder: usize, bytes: &[u8]) -> Option<Kind>
+    requires { 5 ≤ length bytes.now }
+    ensures { result ≡ stack_in holder bytes.now }
+{
+    let frame = bytes[0];
+    if usize::from(frame) > holder {
+        return None;
+    }
+    Some(Kind::Stack {
+        frame,
+        offset: LittleEndian::read_u32(skip(bytes, 1)).cast_signed(),
+    })
+}
+
+#[tactic(auto, unfolding(crate::specs::Values::map_in))]
+fn map_in(rows: usize, bytes: &[u8]) -> Option<Kind>
+    requires { 1 ≤ length bytes.now }
+    ensures { result ≡ map_in rows bytes.now }
+{
+    let index = bytes[0];
+    if usize::from(index) < rows {
+        Some(Kind::Map { index })
+    } else {
+        None
+    }
+}
+
+#[tactic(auto, unfolding(crate::specs::Values::value_in))]
+fn value_in(rows: usize, bytes: &[u8]) -> Option<Kind>
+    requires { 9 ≤ length bytes.now }
+    ensures { result ≡ value_in rows bytes.now }
+{
+    let index = bytes[0];
+    if usize::from(index) >= rows {
+        return None;
+    }
+    match limits_in(skip(bytes, 1)) {
+        Some((least, greatest)) => Some(Kind::MapValue {
+            index,
+            least,
+            greatest,
+        }),
+        None => None,
+    }
+}
+
+#[tactic(auto, unfolding(crate::specs::Values::null_in))]
+fn null_in(rows: usize, bytes: &[u8]) -> Option<Kind>
+    requires { 5 ≤ length bytes.now }
+    ensures { result ≡ null_in rows bytes.now }
+{
+    let index = bytes[0];
+    if usize::from(index) < rows {
+        Some(Kind::MapValueOrNull {
+            index,
+            identity: LittleEndian::read_u32(skip(bytes, 1)),
+        })
+    } else {
+        None
+    }
+}
+
+fn number_in(bytes: &[u8]) -> Option<Kind>
+    requires { 64 ≤ length bytes.now }
+    ensures { result ≡ option_map Kind.Number (scalar_in bytes.now) }
+{
+    match scalar_in(bytes) {
+        Some(numbers) => Some(Kind::Number(numbers)),
+        None => None,
+    }
+}
+
+/// The fields of a value, by its kind's number.
+#[tactic(auto, unfolding(crate::specs::Values::fields_in))]
+fn fields_in(
+    rows: usize,
+    holder: usize,
+    kind: u8,
+    bytes: &[u8],
+) -> Result<(Option<Kind>, &[u8]), Stop>
+    ensures { Gives (λ x. (x.0, x.1.now)) result (fields_in rows holder kind bytes.now) }
+{
+    match kind {
+        0 => Ok((Some(Kind::Unset), bytes)),
+        1 => {
+            if bytes.len() < 64 {
+                return Err(Stop::Short);
+            }
+            Ok((number_in(bytes), skip(bytes, 64)))
+        }
+        2 => Ok((Some(Kind::Context), bytes)),
+        3 => {
+            if bytes.len() < 5 {
+                return Err(Stop::Short);
+            }
+            Ok((stack_in(holder, bytes), skip(bytes, 5)))
+        }
+        4 => {
+            if bytes.len() < 20 {
+                return Err(Stop::Short);
+            }
+            Ok((packet_in(bytes), skip(bytes, 20)))
+        }
+        5 => Ok((Some(Kind::PacketEnd), bytes)),
+        6 => {
+            if bytes.is_empty() {
+                return Err(Stop::Short);
+            }
+            Ok((map_in(rows, bytes), skip(bytes, 1)))
+        }
+        7 => {
+            if bytes.len() < 9 {
+                return Err(Stop::Short);
+            }
+            Ok((value_in(rows, bytes), skip(bytes, 9)))
+        }
+        8 => {
+            if bytes.len() < 5 {
+                return Err(Stop::Short);
+            }
+            Ok((null_in(rows, bytes), skip(bytes, 5)))
+        }
+        _ => Err(Stop::Form),
+    }
+}
+
+/// A value.
+#[tactic(auto, unfolding(crate::specs::Values::kind_in))]
+pub fn kind_in(rows: usize, holder: usize, bytes: &[u8]) -> Result<(Option<Kind>, &[u8]), Stop>
+    ensures { Gives (λ x. (x.0, x.1.now)) result (kind_in rows holder bytes.now) }
+{
+    match bytes {
+        [] => Err(Stop::Short),
+        [kind, rest @ ..] => fields_in(rows, holder, *kind, rest),
+    }
+}
+
+/// The marks of written bytes.
+fn marks_in(bytes: &[u8]) -> Result<(Option<Slot>, &[u8]), Stop>
+    ensures { Gives (λ x. (x.0, x.1.now)) result (marks_in bytes.now) }
+{
+    match bytes {
+        [] => Err(Stop::Short),
+        [marks, rest @ ..] => Ok((Some(Slot::Written(*marks)), rest)),
+    }
+}
+
+/// A value in a slot, which is set.
+fn spilled(kind: Option<Kind>) -> Option<Slot>
+    ensures { result ≡ spilled kind }
+{
+    match kind {
+        None | Some(Kind::Unset) => None,
+        Some(kind) => Some(Slot::Spilled(kind)),
+    }
+}
+
+/// A stack slot: what is known of its bytes.
+#[tactic(auto, unfolding(crate::specs::Values::slot_in))]
+pub fn slot_in(rows: usize, holder: usize, bytes: &[u8]) -> Result<(Option<Slot>, &[u8]), Stop>
+    ensures { Gives (λ x. (x.0, x.1.now)) result (slot_in rows holder bytes.now) }
+{
+    match bytes {
+        [] => Err(Stop::Short),
+        [0, rest @ ..] => marks_in(rest),
+        [1, rest @ ..] => {
+            let (kind, rest) = kind_in(rows, holder, rest)?;
+            Ok((spilled(kind), rest))
+        }
+        [_, ..] => Err(Stop::Form),
+    }
+}

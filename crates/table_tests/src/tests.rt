@@ -1,0 +1,7 @@
+//! Proof tables of `r0 = 2; exit`.
+
+mod entries;
+mod faults;
+mod rechecks;
+mod tables;
+mod values;
