@@ -1,15 +1,17 @@
 //! The commands on files that the tests write: the words that are given, the lines of the report,
 //! and an output that fails.
 
+mod accepted;
 mod cuts;
 mod files;
 mod map_runs;
+mod outputs;
 mod programs;
 mod texts;
 mod verdicts;
 
 use assembler::assemble;
-use commands::execute;
+use commands::{buffered, execute};
 use std::alloc::Global;
 use std::fs;
 use std::io::ErrorKind;
@@ -70,15 +72,28 @@ fn sink(alloc: Global) -> Writer {
     Writer::new(alloc, 4096, 0, None)
 }
 
-// The status of a command, which writes to standard output and to standard error.
+// The status of a command, which writes to standard output, which may be a file on a disk, and to
+// standard error.
+fn status_with<R: Files + AllocGlobal + Abort>(
+    rt: &R,
+    texts: &[&str],
+    is_stored: bool,
+    out: &mut Writer,
+    err: &mut Writer,
+) -> Result<u8, Fail> {
+    let words = words_of(rt.alloc(), texts)?;
+    let mut buffered = buffered(rt.alloc(), is_stored, &mut *out)?;
+    Ok(execute(rt, words.as_slice(), &mut buffered, err))
+}
+
+// The same where standard output is a pipe.
 fn status_of<R: Files + AllocGlobal + Abort>(
     rt: &R,
     texts: &[&str],
     out: &mut Writer,
     err: &mut Writer,
 ) -> Result<u8, Fail> {
-    let words = words_of(rt.alloc(), texts)?;
-    Ok(execute(rt, words.as_slice(), out, err))
+    status_with(rt, texts, false, out, err)
 }
 
 // A command answers this status, and writes this to standard output and to standard error.
@@ -185,13 +200,44 @@ fn is_wrong<R: Files + AllocGlobal + Abort>(
     Ok(())
 }
 
+// The help, which has a line for each command that is built.
+const HELP: &str = "\
+Verifies BPF programs of the XDP kind and runs them on streams of frames
+
+Usage: xdpvm <COMMAND>
+
+Commands:
+  asm     Makes the image of a program that is written as text
+  dis     Prints the text of an image
+  verify  Verifies a program and prints the most steps that a run takes
+  run     Verifies a program, runs it on each frame, and prints the report
+  trace   Runs a program with every access tested, verified or not
+  help    Print this message or the help of the given subcommand(s)
+";
+
+// The help of a command, which has a line for each argument.
+const TRACE_HELP: &str = "\
+Runs a program with every access tested, verified or not
+
+Usage: xdpvm trace [OPTIONS] <image> <frames> <out>
+
+Arguments:
+  <image>   The image of the program, as `asm` makes it
+  <frames>  The stream of frames
+  <out>     Gets the frames that are sent on; a file that is there is replaced
+
+Options:
+      --limit <N>  The most steps on one frame, from 1 to 1000000 [default: 1000000]
+";
+
 const NO_LIMIT: &str = "error: the value of --limit is not a number from 1 to 1000000\nusage: ";
 
 // Words that ask for nothing, and how the text on standard error begins.
-const WRONG: [(&[&str], &str); 15] = [
+const WRONG: [(&[&str], &str); 17] = [
     (&[], "error: 'xdpvm' requires a subcommand"),
-    (&["--help"], "Usage: xdpvm <COMMAND>\n"),
-    (&["help"], "Usage: xdpvm <COMMAND>\n"),
+    (&["--help"], HELP),
+    (&["help"], HELP),
+    (&["trace", "--help"], TRACE_HELP),
     (&["--version"], "xdpvm 0.1.0\nusage: "),
     (&["-V"], "xdpvm 0.1.0\nusage: "),
     (
@@ -214,11 +260,16 @@ const WRONG: [(&[&str], &str); 15] = [
         &["run", "image", "frames", "sent", "--limit", "5"],
         "error: unexpected argument '--limit' found\n",
     ),
+    // without a tip to put two hyphens before it
+    (
+        &["verify", "--json", "image"],
+        "error: unexpected argument '--json' found\n\nUsage: xdpvm verify <image>\n",
+    ),
     (
         &[
             "trace", "image", "frames", "sent", "--limit", "5", "--limit", "5",
         ],
-        "error: the argument '--limit <limit>' cannot be used multiple times\n",
+        "error: the argument '--limit <N>' cannot be used multiple times\n",
     ),
     (
         &["trace", "image", "frames", "sent", "--limit", "0"],
@@ -299,9 +350,9 @@ fn commands_that_are_not_built(rt: HostRuntime) -> Result<(), Fail> {
 const NO_IMAGES: [(&[u8], &str, &str); 11] = [
     (b"", "refused I2\n", SHORT),
     (
-        b"XBP2\0\0\x02\0\xb7\0\0\0\x02\0\0\0\x95\0\0\0\0\0\0\0",
+        b"XBP3\0\0\x02\0\xb7\0\0\0\x02\0\0\0\x95\0\0\0\0\0\0\0",
         "refused I1\n",
-        "the bytes do not begin with XBP1\n",
+        "the bytes do not begin with XBP1 or XBP2\n",
     ),
     (
         b"XBP1\x11\0\x02\0\xb7\0\0\0\x02\0\0\0\x95\0\0\0\0\0\0\0",

@@ -50,7 +50,7 @@ const RUN_SHORT: &[&str] = &["run", "short", "frames", "sent"];
 
 // A run whose report breaks: its last line comes after the frames out.
 fn run_breaks<R: Files + AllocGlobal + Abort>(rt: &R, room: usize) -> Result<(), Fail> {
-    breaks(rt, RUN, room, PASSED, "cannot write standard output\n")?;
+    breaks(rt, RUN, room, PASSED, CLOSED)?;
     let sent = fs::read(rt, "sent")?;
     assert_eq!(rt; sent.len(), if room < 11 { 4 } else { 24 }, "after {room}");
     Ok(())

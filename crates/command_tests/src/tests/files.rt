@@ -40,13 +40,13 @@ const FAILING: [Answer; 11] = [
         &["trace", "image", "frames", "/dev/full"],
         4,
         "",
-        "cannot write /dev/full\n",
+        "cannot write /dev/full\nno space is left\n",
     ),
     (
         &["run", "image", "frames", "/dev/full"],
         4,
         "",
-        "cannot write /dev/full\n",
+        "cannot write /dev/full\nno space is left\n",
     ),
     (
         &["trace", "short", "lost", "sent"],
@@ -132,7 +132,7 @@ const LARGE: [Answer; 3] = [
         &["verify", "/dev/zero"],
         2,
         "refused I1\n",
-        "the bytes do not begin with XBP1\n",
+        "the bytes do not begin with XBP1 or XBP2\n",
     ),
 ];
 

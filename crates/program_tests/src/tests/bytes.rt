@@ -3,4 +3,5 @@
 mod changes;
 mod images;
 mod spellings;
+mod versions;
 mod wide_loads;

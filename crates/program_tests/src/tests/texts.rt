@@ -5,6 +5,7 @@ mod disassembling;
 mod lexemes;
 mod maps;
 mod refusals;
+mod versions;
 
 use crate::tests::programs::image_of;
 use disassembler::disassemble;

@@ -5,7 +5,7 @@
 //! Where memory runs out the test fails with the refusal's name, V0 or G6, and never with another
 //! verdict.
 
-mod bounds;
+mod actions;
 mod calls;
 mod covered;
 mod explanations;
@@ -17,6 +17,7 @@ mod packet;
 mod precision;
 mod pruning;
 mod stack;
+mod step_bounds;
 mod steps;
 mod values;
 mod verdicts;

@@ -3,6 +3,7 @@
 
 mod accesses;
 mod clocks;
+mod long_packets;
 mod machines;
 mod map_runs;
 mod runs;

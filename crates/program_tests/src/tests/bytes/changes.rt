@@ -70,6 +70,7 @@ fn register_refusal(byte: u8, used: u8) -> Option<CodecError> {
 fn refusal_of_change(place: usize, value: u8) -> Option<ImageError> {
     let unused = Some(CodecError::UnusedField);
     match place {
+        3 if value == b'2' => None,
         0..=3 => Some(Magic),
         4 if value <= 16 => Some(Short),
         4 | 5 => Some(TooManyMaps),

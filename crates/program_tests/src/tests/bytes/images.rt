@@ -7,7 +7,7 @@ use image::ImageError::{
 use image::{Image, ImageError};
 use insn_codec::CodecError;
 use isa_model::Operand::Constant;
-use isa_model::{AluOp, Insn, MapDef, MapKind, Reg, Width};
+use isa_model::{AluOp, Insn, MapDef, MapKind, Reg, Version, Width};
 use std::alloc::Global;
 use std::io::ErrorKind;
 use std::test::Fail;
@@ -37,7 +37,7 @@ pub fn refusal_of(alloc: Global, bytes: &[u8]) -> Option<ImageError> {
 
 /// Why map rows and instructions are no image, if they are none.
 fn refusal_of_parts(alloc: Global, maps: &[MapDef], insns: &[Insn]) -> Option<ImageError> {
-    Image::of(alloc, maps, insns).err()
+    Image::of(alloc, Version::One, maps, insns).err()
 }
 
 fn parsed(alloc: Global, bytes: &[u8]) -> Result<Image, Fail> {
@@ -99,7 +99,7 @@ fn fails_to_write(rt: HostRuntime) -> Result<(), Fail> {
 
 #[test]
 fn makes_of_instructions(rt: HostRuntime) -> Result<(), Fail> {
-    let image = Image::of(rt.alloc(), &[], &[WIDE_NUMBER, Insn::Exit])?;
+    let image = Image::of(rt.alloc(), Version::One, &[], &[WIDE_NUMBER, Insn::Exit])?;
     assert_eq!(rt; image.maps().len(), 0);
     assert_eq!(rt; image.code(), WIDE_CODE.as_slice());
     Ok(())

@@ -136,12 +136,13 @@ fn both_sides_of_a_jump_are_narrowed(rt: HostRuntime) -> Result<(), Fail> {
     Ok(())
 }
 
-const CODES: [(Refusal, &str); 5] = [
+const CODES: [(Refusal, &str); 6] = [
     (Refusal::UnsetRegister, "V1"),
     (Refusal::ReadOnlyRegister, "V2"),
     (Refusal::PointerOperand, "V3"),
     (Refusal::ExitValue, "V17"),
     (Refusal::PacketAtomic, "V20"),
+    (Refusal::NoAction, "V21"),
 ];
 
 fn code_of(refusal: Refusal) -> &'static str {

@@ -4,6 +4,7 @@ use super::are_verdicts;
 use control_flow::FlowError;
 use explorer::Refusal;
 use std::test::Fail;
+use transfer::Refusal as Unsafe;
 
 #[test]
 fn control_flow_is_tested_first(rt: HostRuntime) -> Result<(), Fail> {
@@ -42,14 +43,42 @@ fn steps_are_refused_at_their_slot(rt: HostRuntime) -> Result<(), Fail> {
     )
 }
 
+/// All refusals but want of memory, with their numbers.
+const OTHERS: [(Refusal, &str); 25] = [
+    (Refusal::Flow(FlowError::TargetOutside), "G1"),
+    (Refusal::Flow(FlowError::SecondHalf), "G2"),
+    (Refusal::Flow(FlowError::FallsOff), "G3"),
+    (Refusal::Flow(FlowError::Unreachable), "G4"),
+    (Refusal::Flow(FlowError::OtherFunction), "G5"),
+    (Refusal::Step(Unsafe::UnsetRegister), "V1"),
+    (Refusal::Step(Unsafe::ReadOnlyRegister), "V2"),
+    (Refusal::Step(Unsafe::PointerOperand), "V3"),
+    (Refusal::Step(Unsafe::PointerOffset), "V4"),
+    (Refusal::Step(Unsafe::NotMemory), "V5"),
+    (Refusal::Step(Unsafe::StackPlace), "V6"),
+    (Refusal::Step(Unsafe::StackBytes), "V7"),
+    (Refusal::Step(Unsafe::ContextAccess), "V8"),
+    (Refusal::Step(Unsafe::PacketBytes), "V9"),
+    (Refusal::Step(Unsafe::MapValueBytes), "V10"),
+    (Refusal::Step(Unsafe::NullNotTested), "V11"),
+    (Refusal::Step(Unsafe::PointerStored), "V12"),
+    (Refusal::Step(Unsafe::Comparison), "V13"),
+    (Refusal::Step(Unsafe::HelperArgument), "V14"),
+    (Refusal::Step(Unsafe::HelperBytes), "V15"),
+    (Refusal::Step(Unsafe::TooManyFrames), "V16"),
+    (Refusal::Step(Unsafe::ExitValue), "V17"),
+    (Refusal::Repeats, "V18"),
+    (Refusal::TooLong, "V19"),
+    (Refusal::Step(Unsafe::PacketAtomic), "V20"),
+];
+
+/// Want of memory is V0 or G6, and no other refusal has one of these numbers.
 #[test]
 fn memory_is_no_other_refusal(rt: HostRuntime) {
-    for (refusal, name) in [
-        (Refusal::Memory, "V0"),
-        (Refusal::Flow(FlowError::Memory), "G6"),
-        (Refusal::TooLong, "V19"),
-    ] {
-        assert_eq!(rt; refusal.code(), name);
+    assert_eq!(rt; Refusal::Memory.code(), "V0");
+    assert_eq!(rt; Refusal::Flow(FlowError::Memory).code(), "G6");
+    for (refusal, number) in OTHERS.iter() {
+        assert_eq!(rt; refusal.code(), *number);
     }
 }
 

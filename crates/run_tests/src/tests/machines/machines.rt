@@ -10,7 +10,7 @@ use std::alloc::Global;
 use std::test::Fail;
 
 /// The machine of a program.
-fn machine_of(alloc: Global, text: &str) -> Result<Machine, Fail> {
+pub fn machine_of(alloc: Global, text: &str) -> Result<Machine, Fail> {
     let image = assemble(alloc, text.as_bytes())?;
     match verify(alloc, image) {
         Ok(verified) => {

@@ -30,10 +30,10 @@ const RECORD: [u8; 29] =
 // How many records come before the stop, the stop, and the answer of the call after it.
 fn stop_of<R: Read + Drop>(source: R) -> (u32, Next, Next) {
     let mut reader = FrameReader::new(source);
-    let mut buffer = [0; 4096];
+    let mut buffer = [0; 9216];
     for count in 0..3u32 {
         match reader.next(&mut buffer) {
-            Next::Frame(_, _) => {}
+            Next::Frame(_, _, _) => {}
             stop => return (count, stop, reader.next(&mut buffer)),
         }
     }
@@ -131,7 +131,7 @@ fn broken_bodies(rt: HostRuntime) {
 // What is damaged in the two records, how many come before the stop, and the stop.
 #[rattlefmt::skip]
 const DAMAGED: [(&[(usize, u8)], u32, Next); 8] = [
-    (&[(3, 50)], 0, Next::Fault(Fault::BadMagic, 0)),
+    (&[(3, 51)], 0, Next::Fault(Fault::BadMagic, 0)),
     (&[(20, 20)], 1, Next::End),
     (&[(20, 21)], 0, Next::Fault(Fault::TruncatedBody, 4)),
     (&[(21, 16)], 0, Next::Fault(Fault::TruncatedBody, 4)),
@@ -199,7 +199,7 @@ fn writes_records(rt: HostRuntime) -> Result<(), Fail> {
     Ok(())
 }
 
-fn next_of<R: Read + Drop>(reader: &mut FrameReader<R>, buffer: &mut [u8; 4096]) -> Next {
+fn next_of<R: Read + Drop>(reader: &mut FrameReader<R>, buffer: &mut [u8; 9216]) -> Next {
     reader.next(buffer)
 }
 
@@ -208,11 +208,11 @@ fn reads_records(rt: HostRuntime) -> Result<(), Fail> {
     let body = full_body();
     let bytes = full_and_empty(rt.alloc(), &body)?;
     let mut source = FrameReader::new(reader(&bytes, 7, 0, None));
-    let mut buffer = [0; 4096];
+    let mut buffer = [0; 9216];
     let first = next_of(&mut source, &mut buffer);
-    assert_eq!(rt; first, Next::Frame(HEAD, 4096));
-    assert_eq!(rt; buffer.as_slice(), body.as_slice());
-    for wanted in [Next::Frame(HEAD, 0), Next::End, Next::End] {
+    assert_eq!(rt; first, Next::Frame(HEAD, 4096, 0));
+    assert_eq!(rt; buffer.get(..4096), Some(body.as_slice()));
+    for wanted in [Next::Frame(HEAD, 0, 0), Next::End, Next::End] {
         assert_eq!(rt; next_of(&mut source, &mut buffer), wanted);
     }
     Ok(())
@@ -234,10 +234,10 @@ fn many(alloc: Global) -> Result<Vec<u8>, Fail> {
 fn many_records(rt: HostRuntime) -> Result<(), Fail> {
     let bytes = many(rt.alloc())?;
     let mut source = FrameReader::new(bytes.as_slice());
-    let mut buffer = [0; 4096];
+    let mut buffer = [0; 9216];
     for time in 0..300u64 {
         let head = FrameHead { time, ..HEAD };
-        let wanted = Next::Frame(head, time as usize % 6);
+        let wanted = Next::Frame(head, time as usize % 6, 0);
         assert_eq!(rt; next_of(&mut source, &mut buffer), wanted, "record {time}");
     }
     let stop = Next::Fault(Fault::TruncatedHead, 4 + 300 * 20 + 750);
@@ -280,6 +280,72 @@ fn failing_writes(rt: HostRuntime) {
             for room in 0..26usize {
                 stumbles_in_writing(&rt, step, room, *stumble);
             }
+        }
+    }
+}
+
+const TOLD: &[u8] = b"XPF2\x09\0\0\0\0\0\0\0\x02\0\0\0\x07\0\0\0\x05\0\0\0\x01\x02\x03\x04hello";
+
+const FRAME: Next = Next::Frame(
+    FrameHead {
+        time: 9,
+        interface: 2,
+        queue: 7,
+    },
+    5,
+    0x0403_0201,
+);
+
+type Begun = Result<u8, (Fault, u64)>;
+
+// A stream, what is said of its magic, what stands behind it, and what is said after that.
+const BEGUN: [(&[u8], Begun, Next, Begun); 7] = [
+    (b"XPF1", Ok(1), Next::End, Ok(1)),
+    (b"XPF2", Ok(2), Next::End, Ok(2)),
+    (TOLD, Ok(2), FRAME, Ok(2)),
+    (
+        b"XPF2\0",
+        Ok(2),
+        Next::Fault(Fault::TruncatedHead, 4),
+        Err((Fault::TruncatedHead, 4)),
+    ),
+    (
+        b"XPF1\0",
+        Ok(1),
+        Next::Fault(Fault::TruncatedHead, 4),
+        Err((Fault::TruncatedHead, 4)),
+    ),
+    (
+        b"XPF3",
+        Err((Fault::BadMagic, 0)),
+        Next::Fault(Fault::BadMagic, 0),
+        Err((Fault::BadMagic, 0)),
+    ),
+    (
+        b"XPF",
+        Err((Fault::BadMagic, 0)),
+        Next::Fault(Fault::BadMagic, 0),
+        Err((Fault::BadMagic, 0)),
+    ),
+];
+
+// The magic is read once, whether `begin` or `next` comes first.
+fn begins_so(rt: &impl Abort, row: &(&[u8], Begun, Next, Begun), times: u32) {
+    let (given, begun, next, after) = *row;
+    let mut reader = FrameReader::new(given);
+    let mut buffer = [0; 9216];
+    for _ in 0..times {
+        assert_eq!(rt; reader.begin(), begun);
+    }
+    assert_eq!(rt; reader.next(&mut buffer), next);
+    assert_eq!(rt; (reader.begin(), reader.begin()), (after, after));
+}
+
+#[test]
+fn magic_is_read_once(rt: HostRuntime) {
+    for row in BEGUN.iter() {
+        for times in 0..3u32 {
+            begins_so(&rt, row, times);
         }
     }
 }

@@ -39,7 +39,7 @@ pub(super) fn make_writer(alloc: Global, room: usize, stumble: Option<Stumble>) 
 }
 
 // Gives at most 3 bytes at a call, and an error after the last.
-fn broken(left: &[u8]) -> Reader<'_> {
+pub(super) fn broken(left: &[u8]) -> Reader<'_> {
     Reader {
         left,
         step: 3,
@@ -80,15 +80,15 @@ pub(super) fn checked<R: Read + Drop>(
 // The room and the stumble of either output, what a run answers that passes each frame, and what it
 // has written.
 #[derive(Drop)]
-struct Case<'a> {
-    report: (usize, Option<Stumble>),
-    out: (usize, Option<Stumble>),
-    answer: Result<Tally, HostError>,
-    lines: &'a [u8],
-    sent: &'a [u8],
+pub(super) struct Case<'a> {
+    pub report: (usize, Option<Stumble>),
+    pub out: (usize, Option<Stumble>),
+    pub answer: Result<Tally, HostError>,
+    pub lines: &'a [u8],
+    pub sent: &'a [u8],
 }
 
-fn ends_so<R: Read + Drop>(
+pub(super) fn ends_so<R: Read + Drop>(
     rt: &(impl AllocGlobal + Abort),
     frames: R,
     case: &Case<'_>,
@@ -105,7 +105,7 @@ fn ends_so<R: Read + Drop>(
 
 const LINES: &[u8] = b"0 PASS 0 2\nend 1\n";
 
-const ENDLESS: (usize, Option<Stumble>) = (0, None);
+pub(super) const ENDLESS: (usize, Option<Stumble>) = (0, None);
 
 #[test]
 fn report_fails(rt: HostRuntime) -> Result<(), Fail> {
@@ -149,7 +149,7 @@ const RECORDS: &[u8] =
 const TURNED: &[u8] = b"XPF1\x01\0\0\0\0\0\0\0\x02\0\0\0\x03\0\0\0\x02\0\0\0ba";
 
 // A program, the limit of its steps, the frames, how many they are, the report and the frames out.
-const RUNS: [(&str, u32, &[u8], u32, &[u8], &[u8]); 12] = [
+const RUNS: [(&str, u32, &[u8], u32, &[u8], &[u8]); 14] = [
     (
         "r1 = r0; exit",
         1_000_000,
@@ -233,6 +233,22 @@ const RUNS: [(&str, u32, &[u8], u32, &[u8], &[u8]); 12] = [
         2,
         b"0 PASS 2 11\n1 DROP 3 7\nend 2\n",
         TURNED,
+    ),
+    (
+        "version 2; r0 = 0x700000001 ll; exit",
+        100,
+        &ONE,
+        1,
+        b"0 DROP 0 2\nend 1\n",
+        MAGIC,
+    ),
+    (
+        "version 2; r0 = -1; exit",
+        100,
+        &ONE,
+        1,
+        b"0 TRAP action 0 1\nend 1\n",
+        MAGIC,
     ),
 ];
 
