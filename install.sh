@@ -1,14 +1,26 @@
 #!/bin/bash
-# Proves every crate that xdpvm stands on, builds the program, and puts it into a folder.
-# usage: bash install.sh FOLDER        (such as ~/bin)
+# Proves every crate that xdpvm stands on, builds the program, and puts it into a folder, with the scripts that go with it.
+# usage: bash install.sh FOLDER [PROGRAM]        (such as ~/bin)
 # It needs the toolchain's `rt` on the path, 6 GB of memory, and about half an hour on 4 cores, an hour on 2. Work that
-# is proved is kept, so a second run goes on where one ended.
+# is proved is kept, so a second run goes on where one ended. With PROGRAM, one that `rt` has proved and built, as `rt ci`
+# leaves it in crates/xdpvm/out, it takes that one and proves nothing.
 set -eu
-folder=${1:?usage: bash install.sh FOLDER}
+folder=${1:?usage: bash install.sh FOLDER [PROGRAM]}
 command -v rt > /dev/null || { echo "install.sh: rt, the toolchain's command, is not on the path" >&2; exit 1; }
 mkdir -p "$folder"
 folder=$(cd "$folder" && pwd)
-cd "$(dirname "$0")/crates/xdpvm"
-rt run -- --version
-install out/xdpvm "$folder/xdpvm"
-echo "$folder/xdpvm: $("$folder/xdpvm" --version), proved by $(rt version)"
+program=${2:+$(realpath "$2")}
+top=$(cd "$(dirname "$0")" && pwd)
+cd "$top/crates/xdpvm"
+words=(verify "$top/examples/pass.image")
+if [ -n "$program" ]; then
+    "$program" "${words[@]}"
+else
+    echo "install.sh: proving and building the program" >&2
+    rt run -- "${words[@]}"
+    program=out/xdpvm
+fi
+install "$program" "$folder/xdpvm"
+install "$top/examples/run.sh" "$top/examples/frames.py" "$top/examples/image.py" "$folder"
+echo "$folder/xdpvm is the program, proved by $(rt version)"
+echo "beside it: run.sh runs it on texts, objects and captures, frames.py converts captures, image.py objects (python3)"

@@ -176,4 +176,21 @@ def frames(chance):
     return program([], lines, {"first": first, "second": second})
 
 
-FAMILIES = {"sums": sums, "lengths": lengths, "spills": spills, "freed": freed, "frames": frames}
+def answers(chance):
+    """An answer of version 2 whose low half is at most 4, or a little more, by a mask, a test, a shift or a sum."""
+    lines = [*NUMBERS, f"r0 = {chance.choice(['r2', 'r3'])}"]
+    for _ in range(chance.randrange(1, 4)):
+        target = register(chance, 0)
+        lines += chance.choice([
+            [f"{target} &= {constant(chance, [3, 4, 7])}"], [f"{target} %= {constant(chance, [5])}"],
+            [f"{target} >>= {constant(chance, [30])}"], ["r0 >>= 62"], [f"{target} += {constant(chance, [1, -1])}"],
+            [f"{target} |= {chance.choice([1, 2, 4, 8])}"], ["r0 <<= 32", f"r0 |= {chance.randrange(6)}"],
+            [f"if {target} > {constant(chance, [4, 5])} goto out"], [f"if {target} s> {constant(chance, [4])} goto out"],
+            [f"if {target} >= {constant(chance, [5])} goto out"], [f"if {target} != {constant(chance, [3])} goto out"],
+            [f"if {target} & {constant(chance, [-8, -4])} goto out"], ["w0 = w0"], ["r0 = (s32)r0"], ["r0 = be32 r0"],
+            ["*(u64 *)(r10 - 8) = r0", "r0 = *(u64 *)(r10 - 8)"], ["*(u64 *)(r10 - 8) = r0", "r0 = *(u8 *)(r10 - 8)"],
+        ])
+    return [*lines, "exit", *(["out: r0 = 2", "exit"] if any("goto out" in line for line in lines) else [])]
+
+
+FAMILIES = {"sums": sums, "lengths": lengths, "spills": spills, "freed": freed, "frames": frames, "answers": answers}

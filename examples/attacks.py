@@ -1,6 +1,6 @@
 #!/usr/bin/env python3
 """Attacks the verifier rule by rule: sums that wrap and signs mixed, tests of the packet before and after moves, pointers
-overwritten in part, values that are gone, and pointers into frames that have ended.
+overwritten in part, values that are gone, pointers into frames that have ended, and answers that name no action.
 
 usage: python3 examples/attacks.py [PROGRAM] [--programs N] [--seed S] [--jobs J] [--keep FOLDER] [--family NAME]
 
@@ -15,22 +15,21 @@ import json
 import os
 import random
 import shutil
-import struct
 import subprocess
 import sys
 import tempfile
 
 from attack_programs import CORNERS, EDGES, FAMILIES
-from fuzz import HERE, SECONDS, differs, runner
+from fuzz import HERE, REASONS, SECONDS, built, differs, record, runner
 
 
-def frames(chance):
+def frames(chance, version):
     """Frames of many lengths, whose interface and queue are near the edges, small, or any."""
-    out = b"XPF1"
+    out = b"XPF%d" % version
     for length in [0, 1, 3, 4, 7, 8, 14, 15, 16, 22, 23, 24, 31, 40, 300] * 3:
         some = lambda: [chance.choice(CORNERS), chance.choice(EDGES), chance.randrange(256), chance.randrange(2**32)]
         words = [chance.choice(some()) for _ in range(2)]
-        out += struct.pack("<QIII", chance.randrange(2**64), *words, length) + bytes(length)
+        out += record(version, (chance.randrange(2**64), *words), chance.choice(REASONS), bytes(length))
     return out
 
 
@@ -40,9 +39,10 @@ def tried(program, family, seed, folder):
     paths = [os.path.join(folder, name) for name in ("image", "frames", "sent", "resent")]
     text = os.path.join(folder, "text")
     with open(text, "w") as file:
-        file.write("\n".join(FAMILIES[family](chance)) + "\n")
+        second = family == "answers" or chance.random() < 0.5
+        file.write("\n".join(["version 2"] * second + FAMILIES[family](chance)) + "\n")
     with open(paths[1], "wb") as file:
-        file.write(frames(chance))
+        file.write(frames(chance, chance.choice([1, 2])))
 
     run = runner(program)
     made = run("asm", text, paths[0])
@@ -61,7 +61,7 @@ def worker(asked, family, first, out):
     folder, counts, found = tempfile.mkdtemp(), collections.Counter(), 0
     for seed in range(first, asked.seed + asked.programs, asked.jobs):
         try:
-            wrong, code = tried(os.path.abspath(asked.program), family, seed, folder)
+            wrong, code = tried(asked.program, family, seed, folder)
         except subprocess.TimeoutExpired as late:
             wrong, code = f"no answer in {SECONDS} seconds: {late.cmd[1]}", "no answer"
         counts[code] += 1
@@ -98,7 +98,7 @@ def attacked(asked, family):
 
 def main():
     words = argparse.ArgumentParser(description=__doc__.split("\n")[0])
-    words.add_argument("program", nargs="?", default=os.path.join(HERE, "../crates/xdpvm/out/xdpvm"))
+    words.add_argument("program", nargs="?", type=built, default=os.path.join(HERE, "../crates/xdpvm/out/xdpvm"))
     words.add_argument("--programs", type=int, default=2_000)
     words.add_argument("--seed", type=int, default=1)
     words.add_argument("--jobs", type=int, default=os.cpu_count())

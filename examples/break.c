@@ -23,10 +23,13 @@ static int breaks(const char *kind) {
     return 1;
 }
 
-/* whether an allocation is refused: one of them, or one and all after it */
+/* whether a byte was written, standard error aside */
+static int has_written;
+
+/* whether an allocation is refused: one of them, or one and all after it, "late-allocs" from the first written byte on */
 static int refused(void) {
     static int from_here;
-    from_here |= breaks("allocs");
+    from_here |= breaks("allocs") || (has_written && breaks("late-allocs"));
     return from_here || breaks("alloc");
 }
 
@@ -54,5 +57,6 @@ ssize_t write(int file, const void *bytes, size_t count) {
     if (breaks("no-write")) {
         return 0;
     }
+    has_written |= file != STDERR_FILENO && count;
     return syscall(SYS_write, file, bytes, count > 1 && breaks("short-write") ? 1 : count);
 }

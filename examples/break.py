@@ -8,8 +8,11 @@ import subprocess
 import sys
 from collections import Counter
 
-program, examples, work, *folders = sys.argv[1:]
+arguments = sys.argv[1:]
+few = arguments[0] == "--few"
+program, examples, work, *folders = arguments[few:]
 KINDS = ("alloc", "allocs", "read", "write", "no-write", "short-read", "short-write")
+FEW_KINDS = ("alloc", "read", "write")
 
 
 def image(name):
@@ -32,6 +35,8 @@ RUNS = [
     ["trace", image("limit"), frames("limit"), "made"],
     ["run", image("allow"), frames("allow"), "made"],
     ["run", image("checksum"), frames("checksum"), "made"],
+    ["run", image("reasons"), frames("reasons"), "made"],
+    ["trace", image("reasons"), frames("reasons"), "made"],
     ["verify", image("pass")],
     ["verify", image("guarded")],
     ["verify", image("endless")],
@@ -45,6 +50,9 @@ RUNS = [
     ["verify", "lost"],
     ["walk"],
 ]
+
+# by both machines: packets read behind a test, functions called, a map that grows
+FEW_RUNS = [[by, image(name), frames(name), "made"] for name in ("echo", "checksum", "allow") for by in ("run", "trace")]
 
 
 def runs_of(folder):
@@ -62,9 +70,9 @@ def runs_of(folder):
 
 def records(stream):
     """The records of a frame stream, as they stand."""
-    found, at = [], 4
-    while at + 20 <= len(stream):
-        size = 20 + struct.unpack_from("<I", stream, at + 16)[0]
+    found, at, head = [], 4, 24 if stream[:4] == b"XPF2" else 20
+    while at + head <= len(stream):
+        size = head + struct.unpack_from("<I", stream, at + 16)[0]
         found.append(stream[at:at + size])
         at += size
     return found
@@ -163,6 +171,12 @@ def of_short(words, found, good):
 ALLOWED = dict(zip(KINDS, (of_memory, of_memory, of_read, of_write, of_write, of_short, of_short)))
 
 
+def takes_memory_late(words, good):
+    """Whether a run asks for memory once it has written a byte, or answers otherwise where all of it is refused then."""
+    found = Answer(words, "late-allocs", 1)
+    return found.reached or not found.is_as(good)
+
+
 def comes_at_once():
     """Whether the magic of the frames out and the line of the first frame, in a pipe, come before the second frame."""
     with open(frames("two"), "rb") as it:
@@ -198,10 +212,14 @@ def main():
     if not comes_at_once():
         wrong += 1
         print("WRONG the first line or the magic did not come before the second frame", flush=True)
-    runs = [words for folder in folders for words in runs_of(folder)] or RUNS
+    runs = [words for folder in folders for words in runs_of(folder)] or (FEW_RUNS if few else RUNS)
+    late = [words for words in runs if words[0] in ("run", "trace") and takes_memory_late(words, Answer(words))]
+    for words in late:
+        wrong += 1
+        print("WRONG memory was asked for after the first byte", words, flush=True)
     for words, stored in itertools.product(runs, (False, True)):
         good = Answer(words, stored=stored)
-        for kind in KINDS:
+        for kind in FEW_KINDS if few else KINDS:
             for call in range(1, 100000):
                 found = Answer(words, kind, call, stored)
                 if not found.reached:

@@ -2,11 +2,17 @@
 # Tries to break the program from outside: makes each allocation, each read and each write fail in turn, and each read
 # and write move only one byte in turn, for every command on the examples here. README.md says which answers are allowed;
 # the last line says how many were tried. It takes about a minute.
-# usage: bash examples/break.sh [PROGRAM [FOLDER]]
+# usage: bash examples/break.sh [--few] [PROGRAM [FOLDER]]
 # Without PROGRAM it takes the one that `rt run` keeps, and proves and builds it first if there is none. With FOLDER it
-# takes what is there: NAME.image, with NAME.frames if there are some, and NAME.text.
+# takes what is there: NAME.image, with NAME.frames if there are some, and NAME.text. With --few it takes three programs,
+# and each allocation, read and write in turn; that is a matter of seconds, and the gate does it.
 set -eu
 here=$(cd "$(dirname "$0")" && pwd)
+few=()
+if [ "${1:-}" = --few ]; then
+    few=(--few)
+    shift
+fi
 program=${1:-$here/../crates/xdpvm/out/xdpvm}
 if [ ! -x "$program" ]; then
     echo "proving and building the program first"
@@ -14,8 +20,8 @@ if [ ! -x "$program" ]; then
 fi
 work=$(mktemp -d)
 trap 'rm -rf "$work"' EXIT
-if ! "${CC:-cc}" -O1 -fPIC -shared -o "$work/between.so" "$here/break.c"; then
+if ! "${CC:-$(command -v cc || command -v clang || echo cc)}" -O1 -fPIC -shared -o "$work/between.so" "$here/break.c"; then
     echo "a C compiler is needed: name one in CC" >&2
     exit 2
 fi
-python3 "$here/break.py" "$(realpath "$program")" "$here" "$work" ${2:+"$(realpath "$2")"}
+python3 "$here/break.py" "${few[@]}" "$(realpath "$program")" "$here" "$work" ${2:+"$(realpath "$2")"}

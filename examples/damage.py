@@ -17,7 +17,7 @@ import subprocess
 import sys
 import tempfile
 
-from fuzz import differs
+from fuzz import built, differs
 
 HERE = os.path.dirname(os.path.abspath(__file__))
 
@@ -45,16 +45,16 @@ def read(path):
 
 def last_line(stream, length):
     """How the report of a stream's first bytes ends, and how many frames come before."""
-    at, count = 4, 0
+    at, count, head = 4, 0, 24 if stream[:4] == b"XPF2" else 20
     if length < 4:
         return "fault F1 at 0", 0
     while at < length:
-        if length - at < 20:
+        if length - at < head:
             return f"fault F2 at {at}", count
         size = struct.unpack_from("<I", stream, at + 16)[0]
-        if length - at < 20 + size:
+        if length - at < head + size:
             return f"fault F4 at {at}", count
-        at, count = at + 20 + size, count + 1
+        at, count = at + head + size, count + 1
     return f"end {count}", count
 
 
@@ -97,10 +97,10 @@ def damaged_images(run, folder, every, tally):
 
 def main():
     words = argparse.ArgumentParser(description=__doc__.split("\n")[0])
-    words.add_argument("program", nargs="?", default=os.path.join(HERE, "../crates/xdpvm/out/xdpvm"))
+    words.add_argument("program", nargs="?", type=built, default=os.path.join(HERE, "../crates/xdpvm/out/xdpvm"))
     words.add_argument("--every", type=int, default=1)
     asked = words.parse_args()
-    program, folder, tally = os.path.abspath(asked.program), tempfile.mkdtemp(), Tally()
+    program, folder, tally = asked.program, tempfile.mkdtemp(), Tally()
 
     def run(*of):
         return subprocess.run([program, *of], stdin=subprocess.DEVNULL, stdout=subprocess.PIPE, stderr=subprocess.PIPE)

@@ -1,35 +1,42 @@
 #!/usr/bin/env python3
 """Turns captures into frame streams, and frame streams into captures or text.
 
-usage: python3 examples/frames.py [--interface N] [--queue N] IN OUT
+usage: python3 examples/frames.py [--interface N] [--queue N] [--reasons] IN OUT
        python3 examples/frames.py --show IN
 
 IN is a capture (pcap or pcapng, Ethernet), a frame stream, or a text; its first bytes tell which. What OUT becomes
-follows from IN and from OUT's name:
+follows from its name, and where that says nothing from IN:
 
-    capture or text     a frame stream; a capture if OUT's name ends in .pcap or .pcapng
-    frame stream        a capture, in the form of pcapng if OUT's name ends in .pcapng, and else in that of pcap
+    .pcap, .pcapng      a capture of that form
+    .frames             a frame stream
+    any other           a frame stream of a capture or a text, a pcap of a frame stream
+
+A frame stream is of the first form, XPF1, with frames of up to 4,096 bytes. With --reasons it is of the second one,
+XPF2, with frames of up to 9,216 bytes and a reason for each: why it was dropped, or 0. Longer frames are left out, and
+that is said. A pcapng has a reason as a comment of its packet, `reason 7`, in and out.
 
 Times are kept to the nanosecond. The frames of a pcap come from interface 0 and queue 0, those of a pcapng from the
-interface that the capture names; --interface and --queue give all frames another one. A pcap has neither, and a
-pcapng no queue, so what is lost is said. Frames of more than 4,096 bytes do not fit into a frame stream: they are left
-out, and said too. --show prints IN as text, and a text is read again as it is printed:
+interface that the capture names; --interface and --queue give all frames another one. A pcap has neither, nor
+reasons, and a pcapng no queue, so what is lost is said. --show prints IN as text, and a text is read again as it is
+printed:
 
-    frame 1000 interface 1 queue 0
+    frame 1000 interface 1 queue 0 reason 7
       0000: 02 00 00 00 00 01 02 00 00 00 00 02 08 00 45 00 |..............E.|
 
-The first number is the time in nanoseconds; interface and queue may be left out. A line of bytes is in hexadecimal, in
-any groups; its offset and what follows `|` may be left out, and `#` begins a comment.
+The first number is the time in nanoseconds; interface, queue and reason may be left out. A line of bytes is in
+hexadecimal, in any groups; its offset and what follows `|` may be left out, and `#` begins a comment.
 The exit status is 0, or 1 with a message if a file cannot be read or written or is damaged.
 """
 import argparse
 import collections
+import os
 import re
 import struct
 import sys
 
-Frame = collections.namedtuple("Frame", "time interface queue body")
-MAX_BODY = 4096
+Frame = collections.namedtuple("Frame", "time interface queue body reason", defaults=[0])
+Form = collections.namedtuple("Form", "head most")
+FORMS = {b"XPF1": Form("<QIII", 4096), b"XPF2": Form("<QIIII", 9216)}       # time, interface, queue, length, reason
 ETHERNET = 1
 SECOND = 10**9
 
@@ -58,25 +65,37 @@ def body_of(data, at, length, what):
 # ---- frame streams
 
 def read_stream(data):
-    frames, at = [], 4
+    form, frames, at = FORMS[data[:4]], [], 4
     while at < len(data):
         what = f"frame {len(frames)}"
-        time, interface, queue, length = unpack("<QIII", data, at, what)
-        if length > MAX_BODY:
-            raise Damaged(f"{what} has {length} bytes, more than {MAX_BODY}")
-        frames.append(Frame(time, interface, queue, body_of(data, at + 20, length, what)))
-        at += 20 + length
+        time, interface, queue, length, *reason = unpack(form.head, data, at, what)
+        if length > form.most:
+            raise Damaged(f"{what} has {length} bytes, more than {form.most}")
+        at += struct.calcsize(form.head)
+        frames.append(Frame(time, interface, queue, body_of(data, at, length, what), *reason))
+        at += length
     return frames
 
 
-def write_stream(frames):
-    out = [b"XPF1"]
+def write_stream(frames, magic):
+    form, out = FORMS[magic], [magic]
     for number, frame in enumerate(frames):
-        if len(frame.body) > MAX_BODY:
-            tell(f"frame {number} is left out: it has {len(frame.body)} bytes, more than {MAX_BODY}")
+        if len(frame.body) > form.most:
+            tell(f"frame {number} is left out: it has {len(frame.body)} bytes, more than {form.most}")
         else:
-            out.append(struct.pack("<QIII", frame.time, frame.interface, frame.queue, len(frame.body)) + frame.body)
+            reason = [frame.reason] if magic == b"XPF2" else []
+            out.append(struct.pack(form.head, frame.time, frame.interface, frame.queue, len(frame.body), *reason) + frame.body)
+    if magic == b"XPF1" and any(frame.reason for frame in frames):
+        tell("this form of frame streams has no reasons: they are lost (--reasons keeps them)")
     return b"".join(out)
+
+
+def write_first_form(frames):
+    return write_stream(frames, b"XPF1")
+
+
+def write_second_form(frames):
+    return write_stream(frames, b"XPF2")
 
 
 # ---- pcap
@@ -109,6 +128,8 @@ def write_pcap(frames):
         out.append(struct.pack("<IIII", frame.time // SECOND, frame.time % SECOND, size, size) + frame.body)
     if any(frame.interface or frame.queue for frame in frames):
         tell("a pcap has no interfaces and no queues: they are lost (a pcapng keeps the interfaces)")
+    if any(frame.reason for frame in frames):
+        tell("a pcap has no reasons: they are lost (a pcapng keeps them)")
     return b"".join(out)
 
 
@@ -117,18 +138,35 @@ def write_pcap(frames):
 SECTION, INTERFACE, SIMPLE, ENHANCED = 0x0A0D0D0A, 1, 3, 6
 
 
-def ticks_of(order, options):
-    """How many ticks a second the times of an interface have: 1,000,000 where no option (9) says another number."""
+END, COMMENT, RESOLUTION = 0, 1, 9      # options of blocks
+
+
+def options_of(order, options):
+    """The code and the bytes of each option at the end of a block."""
     at = 0
     while at + 4 <= len(options):
         code, length = struct.unpack_from(order + "HH", options, at)
-        if code == 0:
+        if code == END:
             break
-        if code == 9 and length == 1:
-            value = options[at + 4]
-            return 1 << (value & 127) if value & 128 else 10**value
+        yield code, options[at + 4:at + 4 + length]
         at += 4 + (length + 3) // 4 * 4
+
+
+def ticks_of(order, options):
+    """How many ticks a second the times of an interface have: 1,000,000 where no option says another number."""
+    for code, value in options_of(order, options):
+        if code == RESOLUTION and len(value) == 1:
+            return 1 << (value[0] & 127) if value[0] & 128 else 10**value[0]
     return 10**6
+
+
+def reason_of(order, options):
+    """The reason that a packet's comment tells: `reason 7`."""
+    for code, value in options_of(order, options):
+        told = code == COMMENT and re.fullmatch(rb"reason ([0-9]{1,10})", value)
+        if told and int(told[1]) < 1 << 32:
+            return int(told[1])
+    return 0
 
 
 def read_pcapng(data):
@@ -158,7 +196,9 @@ def read_pcapng(data):
                 length = min(whole, snap or whole, len(block) - start)
             if link != ETHERNET:
                 raise Damaged(f"the link type of interface {number} is {link}, and only Ethernet (1) is read")
-            frames.append(Frame(time * SECOND // ticks, number, 0, body_of(block, start, length, what)))
+            body = body_of(block, start, length, what)
+            reason = reason_of(order, block[start + (length + 3) // 4 * 4:]) if kind == ENHANCED else 0
+            frames.append(Frame(time * SECOND // ticks, number, 0, body, reason))
             cut += length < whole
     return frames, cut
 
@@ -167,15 +207,22 @@ def write_pcapng(frames):
     def block(kind, body):
         return struct.pack("<II", kind, 12 + len(body)) + body + struct.pack("<I", 12 + len(body))
 
+    def padded(data):
+        return data + bytes(-len(data) % 4)
+
+    def comment(text):
+        return struct.pack("<HH", COMMENT, len(text)) + padded(text) + struct.pack("<HH", END, 0)
+
     out = [block(SECTION, struct.pack("<IHHq", 0x1a2b3c4d, 1, 0, -1))]
     described = max((frame.interface for frame in frames), default=0) + 1
     if described > 65536:
         raise Damaged(f"interface {described - 1} is too large for a capture; give another one by --interface")
-    out += [block(INTERFACE, struct.pack("<HHI", ETHERNET, 0, 0) + struct.pack("<HHB3xHH", 9, 1, 9, 0, 0))] * described
+    out += [block(INTERFACE, struct.pack("<HHI", ETHERNET, 0, 0) + struct.pack("<HHB3xHH", RESOLUTION, 1, 9, END, 0))] * described
     for frame in frames:
         size = len(frame.body)
         head = struct.pack("<IIIII", frame.interface, frame.time >> 32, frame.time & 0xffffffff, size, size)
-        out.append(block(ENHANCED, head + frame.body + bytes(-size % 4)))
+        told = comment(b"reason %d" % frame.reason) if frame.reason else b""
+        out.append(block(ENHANCED, head + padded(frame.body) + told))
     if any(frame.queue for frame in frames):
         tell("a pcapng has no queues: they are lost")
     return b"".join(out)
@@ -183,7 +230,7 @@ def write_pcapng(frames):
 
 # ---- text
 
-HEAD = re.compile(r"frame (\d+)(?: interface (\d+))?(?: queue (\d+))?")
+HEAD = re.compile(r"frame (\d+)(?: interface (\d+))?(?: queue (\d+))?(?: reason (\d+))?")
 
 
 def read_text(data):
@@ -192,7 +239,8 @@ def read_text(data):
         words = line.split("#")[0].split("|")[0].strip()
         head = HEAD.fullmatch(words)
         if head:
-            frames.append(Frame(int(head[1]), int(head[2] or 0), int(head[3] or 0), b""))
+            time, interface, queue, reason = (int(number or 0) for number in head.groups())
+            frames.append(Frame(time, interface, queue, b"", reason))
         elif words:
             try:
                 more = bytes.fromhex(re.sub(r"^[0-9a-f]+:", "", words))
@@ -200,7 +248,7 @@ def read_text(data):
             except (ValueError, IndexError):
                 raise Damaged(f"line {number} is neither a frame's first line nor bytes of one: {line.strip()}") from None
     for number, frame in enumerate(frames):
-        if frame.time >> 64 or frame.interface >> 32 or frame.queue >> 32:
+        if frame.time >> 64 or frame.interface >> 32 or frame.queue >> 32 or frame.reason >> 32:
             raise Damaged(f"frame {number} has a number that is too large")
     return frames
 
@@ -208,7 +256,8 @@ def read_text(data):
 def show(frames):
     lines = []
     for frame in frames:
-        lines.append(f"frame {frame.time} interface {frame.interface} queue {frame.queue}")
+        reason = f" reason {frame.reason}" if frame.reason else ""
+        lines.append(f"frame {frame.time} interface {frame.interface} queue {frame.queue}{reason}")
         for at in range(0, len(frame.body), 16):
             row = frame.body[at:at + 16]
             shown = "".join(chr(byte) if 32 <= byte < 127 else "." for byte in row)
@@ -222,7 +271,7 @@ def read(path):
     """The frames of a file of any form, and whether it is a frame stream."""
     with open(path, "rb") as file:
         data = file.read()
-    if data[:4] == b"XPF1":
+    if data[:4] in FORMS:
         return read_stream(data), True
     if data[:4] in PCAP or data[:4] == b"\x0a\x0d\x0d\x0a":
         frames, cut = read_pcap(data) if data[:4] in PCAP else read_pcapng(data)
@@ -235,11 +284,26 @@ def read(path):
         raise Damaged("it is no pcap, no pcapng, no frame stream and no text") from None
 
 
+def number(word):
+    """A number of 32 bits."""
+    if not re.fullmatch("[0-9]{1,10}", word) or int(word) >> 32:
+        raise argparse.ArgumentTypeError("a number from 0 to 4294967295 is wanted")
+    return int(word)
+
+
+def writer_for(out, is_stream, has_reasons):
+    """What writes the file of that name."""
+    write_frames = write_second_form if has_reasons else write_first_form
+    by_name = {".pcap": write_pcap, ".pcapng": write_pcapng, ".frames": write_frames}
+    return by_name.get(os.path.splitext(out)[1], write_pcap if is_stream else write_frames)
+
+
 def main():
     parser = argparse.ArgumentParser(usage=__doc__.split("usage: ")[1].split("\n\n")[0])
     parser.add_argument("--show", action="store_true")
-    parser.add_argument("--interface", type=int)
-    parser.add_argument("--queue", type=int)
+    parser.add_argument("--interface", type=number)
+    parser.add_argument("--queue", type=number)
+    parser.add_argument("--reasons", action="store_true")
     parser.add_argument("files", nargs="+")
     words = parser.parse_args()
     if len(words.files) != (1 if words.show else 2):
@@ -255,8 +319,7 @@ def main():
             sys.stdout.write(show(frames))
             return
         out = words.files[1]
-        form = write_pcapng if out.endswith(".pcapng") else write_pcap if is_stream or out.endswith(".pcap") else write_stream
-        made, path = form(frames), out
+        made, path = writer_for(out, is_stream, words.reasons)(frames), out
         with open(out, "wb") as file:
             file.write(made)
     except OSError as error:

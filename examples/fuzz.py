@@ -4,8 +4,9 @@ maps, helpers and functions, and runs those that are accepted on random frames.
 
 usage: python3 examples/fuzz.py [PROGRAM] [--programs N] [--seed S] [--jobs J] [--keep FOLDER] [--ways]
 
-Reported is each accepted program that `trace` ends with a trap or after more steps than the bound, or that `run` and
-`trace` run differently; each refusal whose way (the jumps on standard error) is none of the program; and each command
+Programs and frame streams are of both versions. Reported is each accepted program that `trace` ends with a trap or
+after more steps than the bound, that `run` and `trace` run differently, whose frames out have other reasons than the
+report says, or that answers no action though it is of version 2; each refusal whose way (the jumps on standard error) is none of the program; and each command
 that takes more than a minute. The program and its frames are kept in FOLDER. Most programs are right by construction up to one or two changes, such as a limit that
 is off by one, so that about half are accepted. The last line counts. The exit status is 1 if anything was reported.
 """
@@ -26,15 +27,52 @@ HERE = os.path.dirname(os.path.abspath(__file__))
 SECONDS = 60
 
 
-def frames(chance):
-    """Frames of many lengths, whose bytes are extreme, small or any."""
-    out = b"XPF1"
+REASONS = [0, 0, 0, 0, 1, 7, 2**31, 2**32 - 1]
+
+
+def record(version, numbers, reason, body):
+    """A record of a frame stream; one of version 1 has no reason."""
+    return struct.pack("<QIII", *numbers, len(body)) + (struct.pack("<I", reason) if version == 2 else b"") + body
+
+
+def frames(chance, version):
+    """Frames of many lengths, whose bytes are extreme, small or any; some have a reason, and are skipped."""
+    out = b"XPF%d" % version
     for _ in range(6):
-        length = chance.choice([0, 1, 2, 7, 8, 13, 14, 15, 19, 20, 33, 34, 60, 64, 255, 256, 300, 4096])
+        length = chance.choice([0, 1, 2, 7, 8, 13, 14, 15, 19, 20, 33, 34, 60, 64, 255, 256, 300, 4096] + [4097, 9215, 9216] * (version - 1))
         bytes_of = chance.choice([lambda: 0, lambda: 255, lambda: chance.choice([0, 1, 127, 128, 255]), lambda: chance.randrange(256)])
         words = [chance.choice([0, 1, 2, 7, 8, 15, 2**31 - 1, 2**31, 2**32 - 1, chance.randrange(2**32)]) for _ in range(2)]
-        out += struct.pack("<QIII", chance.randrange(2**64), *words, length) + bytes(bytes_of() for _ in range(length))
+        body = bytes(bytes_of() for _ in range(length))
+        out += record(version, (chance.randrange(2**64), *words), chance.choice(REASONS), body)
     return out
+
+
+def read(path):
+    with open(path, "rb") as file:
+        return file.read()
+
+
+def reasons_of(stream):
+    """The reason of each record of a stream of version 2."""
+    at = 4
+    while at < len(stream):
+        length, reason = struct.unpack_from("<II", stream, at + 16)
+        yield reason
+        at += 24 + length
+
+
+def misreported(image, rows, sent):
+    """What is wrong with the reasons and actions of a report and its frames out: None, or a text."""
+    exits = [row for row in rows if row[0].isdigit() and row[1] not in ("TRAP", "LIMIT", "SKIP")]
+    if image[:4] == b"XBP2" and any(row[1] == "INVALID" for row in exits):
+        return "a program of version 2 answers no action"
+    if sent[:4] == b"XPF1":
+        return None if all(len(row) == 4 for row in exits) else "a stream of version 1 has reasons"
+    for _, action, _, _, reason in exits:
+        if (reason == "0") != (action in ("PASS", "TX")) or image[:4] == b"XBP1" and reason not in ("0", "1"):
+            return f"{action} for the reason {reason}"
+    told = [row[4] for row in rows if row[0].isdigit() and row[1] not in ("TRAP", "LIMIT")]
+    return None if told == [str(reason) for reason in reasons_of(sent)] else "the frames out have other reasons than the report"
 
 
 def leaves(opcode, _, source, offset, imm):
@@ -82,16 +120,21 @@ def misled(code, verdict, ways):
 def differs(paths, bound, run):
     """What is wrong with the runs of an accepted program: None, or a text."""
     traced, ran = run("trace", paths[0], paths[1], paths[2]), run("run", paths[0], paths[1], paths[3])
-    for line in traced.stdout.decode().splitlines():
-        row = line.split()
-        if row[0].isdigit() and (row[1] in ("TRAP", "LIMIT") or int(row[-1]) > bound):
-            return f"accepted with bound {bound}: {line}"
-    sent = []
-    for path in paths[2:]:
-        with open(path, "rb") as file:
-            sent.append(file.read())
-    same = (traced.returncode, traced.stdout, sent[0]) == (ran.returncode, ran.stdout, sent[1])
-    return None if same and traced.returncode == 0 else f"run and trace differ: {ran.stdout} {traced.stdout}"
+    rows = [line.split() for line in traced.stdout.decode().splitlines()]
+    for row in rows:
+        if row[0].isdigit() and (row[1] in ("TRAP", "LIMIT") or int(row[3]) > bound):
+            return f"accepted with bound {bound}: {' '.join(row)}"
+    sent = [read(path) for path in paths[2:]]
+    if (traced.returncode, traced.stdout, sent[0]) != (ran.returncode, ran.stdout, sent[1]) or traced.returncode != 0:
+        return f"run and trace differ: {ran.stdout} {traced.stdout}"
+    return misreported(read(paths[0]), rows, sent[0])
+
+
+def built(path):
+    """The program at a path, for a command line."""
+    if not os.access(path, os.X_OK):
+        raise argparse.ArgumentTypeError(f"there is no program {path}: give one, or build it as README.md says")
+    return os.path.abspath(path)
 
 
 def runner(program):
@@ -104,7 +147,9 @@ def tried(program, seed, folder, ways):
     """What is wrong with the answers for one seed (None: nothing), and the verdict's code."""
     maker = Maker(seed)
     paths = [os.path.join(folder, name) for name in ("image", "frames", "sent", "resent")]
-    for path, data in zip(paths, (maker.program(), frames(maker.random))):
+    image = maker.program()
+    versions = [maker.random.choice([1, 2]) for _ in range(2)]
+    for path, data in zip(paths, (b"XBP%d" % versions[0] + image[4:], frames(maker.random, versions[1]))):
         with open(path, "wb") as file:
             file.write(data)
 
@@ -139,7 +184,7 @@ def worker(program, seeds, keep, ways, out):
 
 def main():
     words = argparse.ArgumentParser(description=__doc__.split("\n")[0])
-    words.add_argument("program", nargs="?", default=os.path.join(HERE, "../crates/xdpvm/out/xdpvm"))
+    words.add_argument("program", nargs="?", type=built, default=os.path.join(HERE, "../crates/xdpvm/out/xdpvm"))
     words.add_argument("--programs", type=int, default=20_000)
     words.add_argument("--seed", type=int, default=1)
     words.add_argument("--jobs", type=int, default=os.cpu_count())
@@ -151,7 +196,7 @@ def main():
         back, out = os.pipe()
         if os.fork() == 0:
             os.close(back)
-            worker(os.path.abspath(asked.program), range(asked.seed + job, asked.seed + asked.programs, asked.jobs), asked.keep, asked.ways, out)
+            worker(asked.program, range(asked.seed + job, asked.seed + asked.programs, asked.jobs), asked.keep, asked.ways, out)
             os._exit(0)
         os.close(out)
         children.append(back)

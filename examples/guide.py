@@ -17,8 +17,10 @@ The first word after the backquotes of a code block says how the block is tried:
 The last four begin with a comment: the line of standard output, and after it what standard error gets. A refusal of
 `asm` counts as the answer. In hexadecimal `#` begins a comment. Blocks with any other word, or with none, are not
 tried. Each examples/NAME.text has to make NAME.image, each NAME.bpf.c too where clang 14 is installed, and each
-NAME.report is what `run` prints for NAME.image and NAME.frames. The last row reads in crates.txt what `run` stands on.
-Each NAME.frames is what frames.py makes of NAME.pcapng, where there is one.
+NAME.report is what `run` prints for NAME.image and NAME.frames, into a pipe and into a file. The last rows read crates.txt and the crates: what `run`
+stands on, that the clauses which pages name are there, and that each crate has its row on the pages.
+Each NAME.frames is what frames.py makes of NAME.pcapng, where there is one; frame streams of both forms become texts
+and captures, and those the same streams again.
 The exit status is 0 if every answer is the one wanted, else 1.
 """
 import glob
@@ -119,17 +121,75 @@ def compiled():
 def captured():
     """Each stored frame stream is made of the capture beside it."""
     for capture in sorted(glob.glob("examples/*.pcapng")):
-        shell(f"python3 examples/frames.py {capture} example.frames")
-        with open("example.frames", "rb") as made, open(capture.removesuffix(".pcapng") + ".frames", "rb") as kept:
-            yield capture, kept.read().hex() + "\n", made.read().hex() + "\n"
+        with open(capture.removesuffix(".pcapng") + ".frames", "rb") as kept:
+            kept = kept.read()
+        flags = "--reasons" if kept[:4] == b"XPF2" else ""
+        yield capture, kept.hex() + "\n", converted(flags, capture, "example.frames")
+
+
+FRAMES = """\
+frame 1000 interface 1 queue 0 reason 7
+  0000: ca fe                                           |..|
+frame 18446744073709551615 interface 2 queue 0
+frame 2000 interface 0 queue 0 reason 4294967295
+  0000: 61                                              |a|
+"""
+RECORDS = (
+    "58504632"                                                                      # XPF2
+    "e803000000000000" "01000000" "00000000" "02000000" "07000000" "cafe"           # time, interface, queue, length, reason
+    "ffffffffffffffff" "02000000" "00000000" "00000000" "00000000"
+    "d007000000000000" "00000000" "00000000" "01000000" "ffffffff" "61"
+)
+
+CAPTURE = (
+    "0a0d0d0a 1c000000 4d3c2b1a 01000000 ffffffff ffffffff 1c000000"                # a pcapng: its section,
+    "01000000 14000000 01000000 00000000 14000000"                                  # Ethernet, times in microseconds,
+    "06000000 34000000 00000000 00000000 01000000 02000000 02000000 cafe0000"       # a packet of two bytes,
+    "01000800 726561736f6e2037 00000000 34000000"                                   # and its comment `reason 7`
+)
+CAPTURED = "58504632" "e803000000000000" "00000000" "00000000" "02000000" "07000000" "cafe"
+
+
+def converted(flags, given, *names):
+    """The bytes of the last file, each of them made by frames.py of the one before."""
+    for name in names:
+        shell(f"python3 examples/frames.py {flags} {given} {name}")
+        given = name
+    with open(given, "rb") as file:
+        return file.read().hex() + "\n"
+
+
+def returned():
+    """Frame streams go through texts and captures unchanged, with their reasons; frames that are too long are left out."""
+    write("example.text", FRAMES)
+    yield "a text with reasons", RECORDS + "\n", converted("--reasons", "example.text", "example.frames")
+    yield "a capture with reasons", RECORDS + "\n", converted("--reasons", "example.frames", "example.pcapng", "again.frames")
+    yield "a stream with reasons as a text", FRAMES, shell("python3 examples/frames.py --show again.frames")
+    write_hex("other.pcapng", CAPTURE)
+    yield "a capture of another tool", CAPTURED + "\n", converted("--reasons", "other.pcapng", "example.frames")
+    for flags, most in ("", 4096), ("--reasons", 9216):
+        write("example.text", "".join(f"frame {size}\n{bytes(size).hex()}\n" for size in (most, most + 1)))
+        converted(flags, "example.text", "example.frames")
+        shown = shell("python3 examples/frames.py --show example.frames | grep frame")
+        yield f"frames of {most} bytes {flags}", f"frame {most} interface 0 queue 0\n", shown
+    for stream in sorted(set(glob.glob("examples/*.frames")) - {"examples/cut.frames"}):
+        with open(stream, "rb") as kept:
+            kept = kept.read().hex() + "\n"
+        write("example.text", shell(f"python3 examples/frames.py --show {stream}"))
+        flags = "--reasons" if kept[:8] == b"XPF2".hex() else ""
+        yield f"{stream} as a text", kept, converted(flags, "example.text", "example.frames")
 
 
 def reported():
-    """Each stored report is what `run` prints for the program and the frames beside it."""
+    """Each stored report is what `run` prints for the program and the frames beside it, into a pipe and into a file."""
     for report in sorted(glob.glob("examples/*.report")):
         name = report.removesuffix(".report")
         with open(report) as kept:
-            yield report, kept.read(), run("run", name + ".image", name + ".frames", "sent")[1]
+            kept = kept.read()
+        yield report, kept, run("run", name + ".image", name + ".frames", "sent")[1]
+        shell(f"xdpvm run {name}.image {name}.frames sent > report")
+        with open("report") as made:
+            yield f"{report} into a file", kept, made.read()
 
 
 def stands():
@@ -144,7 +204,40 @@ def stands():
     yield "crates below machine", "flatmem: True, checked_vm: False\n", f"flatmem: {'flatmem' in found}, checked_vm: {'checked_vm' in found}\n"
 
 
+def named_clauses():
+    """Each clause that PROOFS.md and README.md name stands at a function of that name; they write `function: clause`, or
+    for several functions or clauses `function`: `clause`."""
+    heads = {}
+    for path in glob.glob(os.path.join(TOP, "crates/*/src/**/*.rt"), recursive=True):
+        with open(path) as file:
+            for name, head in re.findall(r"\bfn (\w+)(.*?)(?=\n\s*\{\n|\bfn |\Z)", file.read(), re.S):
+                heads[name] = heads.get(name, "") + head
+    missing = []
+    for page in ("docs/PROOFS.md", "README.md"):
+        with open(os.path.join(TOP, page)) as file:
+            text = file.read()
+        named = [it for it in re.findall(r"`([\w:]+): ([\w, ]+)`", text) if it != ("function", "clause")]
+        named += [it for it in re.findall(r"`([\w:]+)`: ((?:`\w+`(?:, )?)+)", text) if it[0].split("::")[-1] in heads]
+        for function, clauses in named:
+            head = heads.get(function.split("::")[-1], "")
+            missing += [f"{page} {function}: {clause}" for clause in re.findall(r"\w+", clauses) if not re.search(rf"\b{clause}\b", head)]
+    yield "clauses that pages name and no function has", "[]\n", f"{missing}\n"
+
+
+def crates_on_pages():
+    """Each crate of crates.txt has a row in the README and in ARCHITECTURE.md, and no other one has."""
+    with open(os.path.join(TOP, "crates.txt")) as rows:
+        crates = {row.split(":")[0].split()[0] for row in rows if row.strip() and row[0] != "#"}
+    for page in ("README.md", "docs/ARCHITECTURE.md"):
+        with open(os.path.join(TOP, page)) as file:
+            table = file.read().split("\n## Crates\n")[1].split("\n## ")[0]
+        named = {name for row in re.findall(r"^\| (`[^|]*) \|", table, re.M) for name in re.findall(r"`(\w+)`", row)}
+        yield f"crates that differ in {page}", "[]\n", f"{sorted(crates ^ named)}\n"
+
+
 def main():
+    if not os.access(PROGRAM, os.X_OK):
+        sys.exit(f"there is no program {PROGRAM}: give one, or build it as README.md says")
     pages = [os.path.join(TOP, "README.md"), *sorted(glob.glob(os.path.join(TOP, "docs/*.md")))]
     runs = failures = 0
 
@@ -169,8 +262,11 @@ def main():
         count("examples", stored())
         count("examples", compiled())
         count("examples", captured())
+        count("frames.py", returned())
         count("examples", reported())
         count("crates.txt", stands())
+        count("crates", named_clauses())
+        count("crates.txt", crates_on_pages())
         os.chdir("/")
     print(f"{runs} examples, {failures} differ")
     sys.exit(1 if failures else 0)

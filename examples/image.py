@@ -9,12 +9,16 @@ variables that begin as zeros (.bss) become one array of one entry, after the ma
 a map begins as zeros. The exit status is 0, or 1 with a message.
 """
 import argparse
+import collections
 import struct
 import sys
 
 HASH, ARRAY = 1, 2
 MAP, VALUE, FUNCTION = 5, 6, 1      # src_reg of a wide load of a map, of one of a value, of a local call
 RELOCATIONS, SYMBOLS = 9, 2         # types of sections
+NAMED_FUNCTION = 2                  # a type of symbols
+
+Symbol = collections.namedtuple("Symbol", "name section value kind")
 
 
 class Refused(Exception):
@@ -43,8 +47,8 @@ class Object:
         for i, row in enumerate(rows):
             if row[1] == SYMBOLS:
                 texts = self.bodies[row[6]]
-                for name, _, _, section, value, _ in struct.iter_unpack("<IBBHQQ", self.bodies[i]):
-                    self.symbols.append((text_at(texts, name), section, value))
+                for name, info, _, section, value, _ in struct.iter_unpack("<IBBHQQ", self.bodies[i]):
+                    self.symbols.append(Symbol(text_at(texts, name), section, value, info & 15))
 
     def section(self, name):
         return self.names.index(name) if name in self.names else None
@@ -133,7 +137,7 @@ def map_rows(it):
     if it.section(".BTF") is None:
         raise Refused("the object has maps, and no type information: compile with -g")
     rows = dict(Types(it.bodies[it.section(".BTF")]).maps())
-    places = sorted((value, name) for name, where, value in it.symbols if where == section and name in rows)
+    places = sorted((symbol.value, symbol.name) for symbol in it.symbols if symbol.section == section and symbol.name in rows)
     return [rows[name] for _, name in places], {value: i for i, (value, _) in enumerate(places)}
 
 
@@ -143,18 +147,19 @@ def linked(it, name):
     if main is None:
         raise Refused(f"there is no section {name}")
     begins, slots = {main: 0}, bytearray(it.bodies[main])
-    called = any(section == functions for _, (_, section, _) in it.relocations(main))
+    called = any(symbol.section == functions for _, symbol in it.relocations(main))
     if functions is not None and called:
         begins[functions] = len(slots)
         slots += it.bodies[functions]
     rows, numbers = map_rows(it)
     variables, number = it.section(".bss"), None
     for section, begin in begins.items():
-        for at, (symbol, where, value) in it.relocations(section):
+        for at, (symbol, where, value, kind) in it.relocations(section):
             place = begin + at
             opcode, registers, _, imm = struct.unpack_from("<BBhi", slots, place)
             if opcode == 0x85 and where in begins:
-                target = (begins[where] + value) // 8 + imm + 1
+                # a section's symbol leaves the place of the function in imm, a function's own symbol has it
+                target = (begins[where] + value) // 8 + (0 if kind == NAMED_FUNCTION else imm + 1)
                 slots[place + 1] = registers & 15 | FUNCTION << 4
                 struct.pack_into("<i", slots, place + 4, target - place // 8 - 1)
             elif opcode == 0x18 and where == it.section(".maps") is not None:
