@@ -18,7 +18,7 @@ HERE = os.path.dirname(os.path.abspath(__file__))
 TOP = os.path.dirname(HERE)
 CALLS = 65_536 * 200
 TIMES = 3
-BELOW = ["isa_model", "exact_io", "insn_codec", "image", "maps"]
+BELOW = ["isa_model", "exact_io", "insn_codec", "image", "map_indexes", "maps"]
 
 
 def built(folder):
