@@ -1,51 +1,59 @@
 -- The graph of slots that is made of the code.
 use Rattle.std.proofs.Common.{◌≡◌, ℕ, zero, suc, ◌+◌, ◌<◌, List, [], ◌∷◌, ◌++◌, length, Option, Some, None, refl, sym, ap, ◌∙◌, subst, arith, inl, inr}
-use Rattle.std.specs.Prelude.{◌↔◌, ◌⊎◌, slice_get}
+use Rattle.std.specs.Prelude.{◌↔◌, ◌⊎◌, Bool, IsTrue, slice_get}
 use Rattle.std.specs.Option.{option_and_then}
 use Rattle.std.proofs.lemmas.Option.{same_Some, slice_get_within, slice_get_cases}
-use Rattle.isa_model.specs.declared.registers.Reg.{Reg}
 use Rattle.isa_model.specs.declared.instructions.Insn.{Insn}
 use Rattle.isa_model.specs.Code.Instructions.{Program, fetch}
-use Rattle.isa_model.specs.MustAccept.Paths.{IsOneOf}
 use Rattle.control_flow.specs.declared.nodes.Node.{Node}
 use Rattle.control_flow.specs.Graph.{fall_to, jump_to}
 use Rattle.control_flow.specs.FlowLaws.{fall_to-behind}
 use Rattle.control_flow.specs.Flows.{Fails}
 use Rattle.control_flow.specs.declared.errors.FlowError.TheVariants.{TargetOutside}
-use Rattle.control_flow.specs.Masks.{Has, no_registers}
-use Rattle.control_flow.specs.Liveness.{read_registers, written_registers}
+use Rattle.control_flow.specs.Masks.{HasHome, no_homes}
+use Rattle.control_flow.specs.StackUse.{IsHandedOn}
+use Rattle.control_flow.specs.Liveness.{Home, InRegister, InSlot, IsReadBy, IsWrittenBy}
 use Rattle.control_flow.specs.Nodes.{IsNode, AreNodes, fall_from, jump_from, FallsNear}
-use Rattle.control_flow.proofs.MaskLemmas.{none_has}
+use Rattle.control_flow.proofs.MaskLemmas.{no_home}
 use Rattle.control_flow.proofs.TargetTests.{jump-inside}
 use Rattle.control_flow.proofs.Whole.{slots_of-cases}
 
 -- ---- making nodes
 
-pub node_some : (p : Program) (slot : ℕ) (i : Insn) (node : Node) → fetch p slot ≡ Some i
-    → ((r : Reg) → Has node.reads r ↔ IsOneOf (read_registers i) r) → ((r : Reg) → Has node.writes r ↔ IsOneOf (written_registers i) r)
+-- what is read where the one holds is read where the other does
+read_more : (A B : Type 0) (i : Insn) (h : Home) → (A → B) → IsReadBy A i h → IsReadBy B i h
+read_more A B i (InRegister r) more reads = reads
+read_more A B i (InSlot j) more (inl reads) = inl reads
+read_more A B i (InSlot j) more (inr (inside, any)) = inr (inside, more any)
+
+pub node_some : (p : Program) (slot : ℕ) (i : Insn) (node : Node) (handed_on : Bool)
+    → fetch p slot ≡ Some i → IsTrue handed_on ↔ IsHandedOn p
+    → ((h : Home) → HasHome node.reads h ↔ IsReadBy (IsTrue handed_on) i h)
+    → ((h : Home) → HasHome node.writes h ↔ IsWrittenBy i h)
     → node.falls_to ≡ fall_to p slot → node.jumps_to ≡ jump_to p slot → IsNode p slot node
-node_some p slot i node here reads writes falls jumps = record {
+node_some p slot i node handed_on here lent reads writes falls jumps = record {
   reads = λ r. (
-    λ h. (i, here, (reads r).0 h),
-    λ (j, there, among). (reads r).1 (subst (λ (x : Insn). IsOneOf (read_registers x) r) (same_Some j i (sym there ∙ here)) among),
+    λ h. (i, here, read_more (IsTrue handed_on) (IsHandedOn p) i r lent.0 ((reads r).0 h)),
+    λ (j, there, by). (reads r).1 (read_more (IsHandedOn p) (IsTrue handed_on) i r lent.1 (subst (λ (x : Insn). IsReadBy (IsHandedOn p) x r) (same_Some j i (sym there ∙ here)) by)),
   );
   writes = λ r. (
     λ h. (i, here, (writes r).0 h),
-    λ (j, there, among). (writes r).1 (subst (λ (x : Insn). IsOneOf (written_registers x) r) (same_Some j i (sym there ∙ here)) among),
+    λ (j, there, by). (writes r).1 (subst (λ (x : Insn). IsWrittenBy x r) (same_Some j i (sym there ∙ here)) by),
   );
   falls = falls;
   jumps = jumps;
 }
 
-pub node_none : (p : Program) (slot : ℕ) (node : Node) → fetch p slot ≡ None → node.reads ≡ no_registers → node.writes ≡ no_registers
+pub node_none : (p : Program) (slot : ℕ) (node : Node) → fetch p slot ≡ None → node.reads ≡ no_homes
+    → node.writes ≡ no_homes
     → node.falls_to ≡ fall_to p slot → node.jumps_to ≡ jump_to p slot → IsNode p slot node
 node_none p slot node empty reads writes falls jumps = record {
   reads = λ r. (
-    λ h. absurd (none_has r (subst (λ x. Has x r) reads h)),
+    λ h. absurd (no_home r (subst (λ x. HasHome x r) reads h)),
     λ (j, there, among). absurd cc,
   );
   writes = λ r. (
-    λ h. absurd (none_has r (subst (λ x. Has x r) writes h)),
+    λ h. absurd (no_home r (subst (λ x. HasHome x r) writes h)),
     λ (j, there, among). absurd cc,
   );
   falls = falls;

@@ -5,6 +5,9 @@ mod Search
 mod Whole
 mod Reading
 mod MaskLemmas
+mod StackPlaces
+mod StackUses
+mod LiveMasks
 mod Graphs
 mod Chains
 mod Working

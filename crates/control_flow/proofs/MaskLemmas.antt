@@ -1,15 +1,18 @@
--- Masks: what each of their functions does, register by register.
-use Rattle.std.proofs.Common.{◌≡◌, ℕ, ◌+◌, ◌*◌, ◌^◌, ◌%◌, ◌<◌, replicate, sym, ap, ◌∙◌, arith, inl, inr, bit_or, bit_and, bit_xor, w16}
+-- Masks: what each of their functions does, register by register and slot by slot.
+use Rattle.std.proofs.Common.{◌≡◌, ℕ, Option, Some, ◌+◌, ◌*◌, ◌^◌, ◌%◌, ◌<◌, replicate, sym, ap, ◌∙◌, arith, inl, inr, bit_or, bit_and, bit_xor, w16, w64}
 use Rattle.std.specs.Prelude.{◌↔◌, ◌⊎◌, max, min}
 use Rattle.std.specs.Int.{bit_at}
 use Rattle.std.proofs.lemmas.Bool.{cases_lt, cases_eq}
-use Rattle.std.proofs.lemmas.Nat.Bits.{bit_at-zero, bit_at-lt, bit_at_or, bit_at_and, bit_at_xor, bit_at_set_same, bit_at_set_other}
+use Rattle.std.proofs.lemmas.Nat.Bits.{bit_at-zero, bit_at_ones, bit_at_ones_above, bit_at-lt, bit_at_or, bit_at_and, bit_at_xor, bit_at_set_same, bit_at_set_other}
+use Rattle.std.proofs.lemmas.Option.{same_Some}
 use Rattle.std.proofs.lemmas.List.{length-replicate, get_or-replicate, get_or_past}
 use Rattle.isa_model.specs.declared.registers.Reg.{Reg}
 use Rattle.isa_model.specs.Code.Registers.{reg_number}
 use Rattle.control_flow.specs.declared.masks.RegisterMask.{RegisterMask}
 use Rattle.control_flow.specs.RegisterLaws.{number_below, same_number}
-use Rattle.control_flow.specs.Masks.{no_registers, Has, mask_at}
+use Rattle.control_flow.specs.declared.homes.HomeMask.{HomeMask}
+use Rattle.control_flow.specs.Liveness.{Home, InRegister, InSlot}
+use Rattle.control_flow.specs.Masks.{no_registers, Has, no_slots, HasSlot, no_homes, HasHome, mask_at}
 
 -- ---- one register more
 
@@ -62,8 +65,56 @@ without_has a b i =
 pub none_has : (r : Reg) → Has no_registers r → ⊥
 none_has r h = let no_bit = bit_at-zero (reg_number r) in absurd cc
 
-pub mask_at-none : (n slot : ℕ) → mask_at (replicate n no_registers) slot ≡ no_registers
+pub no_slot : (j : ℕ) → HasSlot no_slots j → ⊥
+no_slot j h = let no_bit = bit_at-zero j in absurd cc
+
+pub no_home : (h : Home) → HasHome no_homes h → ⊥
+no_home (InRegister r) h = none_has r h
+no_home (InSlot j) h = no_slot j h
+
+pub mask_at-none : (n slot : ℕ) → mask_at (replicate n no_homes) slot ≡ no_homes
 mask_at-none n slot = elim (cases_lt slot n) [
-  | inl inside ↦ get_or-replicate n slot no_registers no_registers inside
-  | inr past ↦ get_or_past (replicate n no_registers) slot no_registers (omega (arith, length-replicate n no_registers))
+  | inl inside ↦ get_or-replicate n slot no_homes no_homes inside
+  | inr past ↦ get_or_past (replicate n no_homes) slot no_homes (omega (arith, length-replicate n no_homes))
 ]
+
+-- ---- slots
+
+-- all of them
+pub all_has : (j : ℕ) → (bit_at 0xffff_ffff_ffff_ffff j ≡ 1) ↔ (j < 64)
+all_has j = elim (cases_lt j 64) [
+  | inl below ↦ (λ h. below, λ h. bit_at_ones 64 j below)
+  | inr past ↦ (λ h. let none = bit_at_ones_above 64 j past in absurd cc, λ h. absurd (omega arith))
+]
+
+-- one of them
+pub one_has : (n j : ℕ) → n < 64 → (bit_at (1 * 2 ^ n % 2 ^ 64) j ≡ 1) ↔ (j ≡ n)
+one_has n j within = elim (cases_eq j n) [
+  | inl e ↦ (λ h. e, λ h. ap (λ (i : ℕ). bit_at (1 * 2 ^ n % 2 ^ 64) i) e ∙ bit_at_set_same w64 0 n within)
+  | inr other ↦ (
+    λ h. let none : bit_at (1 * 2 ^ n % 2 ^ 64) j ≡ 0 = bit_at_set_other w64 0 n within j other ∙ bit_at-zero j in absurd cc,
+    λ e. absurd (other e),
+  )
+]
+
+pub some_has : (o : Option ℕ) (n : ℕ) → o ≡ Some n → n < 64 → (j : ℕ)
+    → (bit_at (1 * 2 ^ n % 2 ^ 64) j ≡ 1) ↔ (o ≡ Some j)
+some_has o n is within j =
+    let one = one_has n j within in
+    (λ h. is ∙ ap (λ (k : ℕ). let some : Option ℕ = Some k in some) (sym (one.0 h)), λ e. one.1 (sym (same_Some n j (sym is ∙ e))))
+
+-- ---- registers and slots
+
+pub both_or : (a b m : HomeMask)
+    → ((r : Reg) → Has m.registers r ↔ (Has a.registers r ⊎ Has b.registers r))
+    → ((j : ℕ) → HasSlot m.slots j ↔ (HasSlot a.slots j ⊎ HasSlot b.slots j)) → (h : Home)
+    → HasHome m h ↔ (HasHome a h ⊎ HasHome b h)
+both_or a b m rs js (InRegister r) = rs r
+both_or a b m rs js (InSlot j) = js j
+
+pub both_without : (a b m : HomeMask)
+    → ((r : Reg) → Has m.registers r ↔ (Has a.registers r × (Has b.registers r → ⊥)))
+    → ((j : ℕ) → HasSlot m.slots j ↔ (HasSlot a.slots j × (HasSlot b.slots j → ⊥))) → (h : Home)
+    → HasHome m h ↔ (HasHome a h × (HasHome b h → ⊥))
+both_without a b m rs js (InRegister r) = rs r
+both_without a b m rs js (InSlot j) = js j

@@ -8,7 +8,7 @@ use Rattle.isa_model.specs.declared.instructions.Insn.{Insn}
 use Rattle.isa_model.specs.declared.instructions.Insn.TheVariants.{CallHelper, CallLocal, Exit}
 use Rattle.isa_model.specs.Code.Instructions.{reads, writes}
 use Rattle.isa_model.specs.MustAccept.Paths.{IsOneOf}
-use Rattle.control_flow.specs.Liveness.{read_registers, written_registers}
+use Rattle.control_flow.specs.Accesses.{read_registers, written_registers}
 
 -- ---- registers among registers
 

@@ -1,39 +1,38 @@
 -- The work list: what one slot that is taken from it adds, what the list keeps, and what is live when it is empty.
-use Rattle.std.proofs.Common.{◌≡◌, ◌≢◌, ℕ, zero, suc, ◌+◌, ◌*◌, ◌-◌, ◌^◌, ◌<◌, ◌≤◌, Bool, true, false, not, cond, eqb, List, [], ◌∷◌, ◌++◌, length, take, drop, replicate, get_or, set, sum_by, Option, Some, None, refl, sym, ap, ◌∙◌, subst, arith, inl, inr}
-use Rattle.std.specs.Prelude.{◌↔◌, ◌⊎◌, slice_get, count_by, Contains}
-use Rattle.std.specs.Int.{bit_at}
+use Rattle.std.proofs.Common.{◌≡◌, ◌≢◌, ℕ, zero, suc, ◌+◌, ◌*◌, ◌^◌, ◌<◌, ◌≤◌, Bool, true, false, not, cond, eqb, eq-eqb, List, [], ◌∷◌, ◌++◌, length, take, drop, replicate, get_or, set, sum_by, Option, Some, None, refl, sym, ap, ◌∙◌, subst, arith, inl, inr}
+use Rattle.std.specs.Prelude.{◌↔◌, ◌⊎◌, ◌&&◌, slice_get, count_by, Contains}
 use Rattle.std.proofs.Math.Nat.{mul-le-mul_left}
-use Rattle.std.proofs.lemmas.Bool.{cases_eq, eqb-true, eqb-false}
+use Rattle.std.proofs.lemmas.Bool.{cases_eq}
 use Rattle.std.proofs.lemmas.Option.{same_Some, slice_get_within}
 use Rattle.std.proofs.lemmas.List.{get_or-set_same, get_or-set_other, length-set, length-append, length-replicate, append-nil, take_all}
 use Rattle.std.proofs.Math.ListN.{drop_of_length-le}
 use Rattle.std.proofs.lemmas.List.Sums.{sum_by-set, count_by-le-length}
 use Rattle.std.proofs.lemmas.List.Elements.{Contains-append_left, Contains-append_cases}
-use Rattle.isa_model.specs.declared.registers.Reg.{Reg}
-use Rattle.isa_model.specs.Code.Registers.{reg_number}
 use Rattle.isa_model.specs.Code.Instructions.{Program}
-use Rattle.control_flow.specs.declared.masks.RegisterMask.{RegisterMask}
+use Rattle.control_flow.specs.declared.homes.HomeMask.{HomeMask}
 use Rattle.control_flow.specs.declared.nodes.Node.{Node}
 use Rattle.control_flow.specs.Graph.{Falls, Jumps}
 use Rattle.control_flow.specs.FlowLaws.{BeginsInsn-inside, fetch-BeginsInsn, Leads-inside}
 use Rattle.control_flow.specs.Flows.{IsMarked, MarksLive}
-use Rattle.control_flow.specs.Masks.{Has, no_registers, mask_at}
-use Rattle.control_flow.specs.Liveness.{IsReadAfter, IsLive}
-use Rattle.control_flow.specs.Nodes.{IsNode, AreNodes, ComesFrom, HasBehind, IsLiveBefore, AreSound, IsClosedAt, room_left, AddsAt, HasAll}
+use Rattle.control_flow.specs.Masks.{HasHome, no_homes, mask_at}
+use Rattle.control_flow.specs.Liveness.{Home, IsReadAfter, IsHomeLive}
+use Rattle.control_flow.specs.Nodes.{IsNode, AreNodes, ComesFrom, HasBehind, IsLiveBefore, AreSound, IsClosedAt, room_in, room_left, AddsAt, HasAll}
 use Rattle.control_flow.specs.Searches.{Extends}
 use Rattle.control_flow.proofs.MarkLemmas.{IsMarked-inside, new-IsMarked}
-use Rattle.control_flow.proofs.MaskLemmas.{none_has, mask_at-none}
+use Rattle.control_flow.proofs.MaskLemmas.{no_home, mask_at-none}
 use Rattle.control_flow.proofs.Search.{Extends-none, Extends-next, Extends-same, Extends-new_search, Contains-one, no-Contains, on_top}
 use Rattle.control_flow.proofs.Graphs.{node_at, node-fall_from, node-jump_from}
 
 -- ---- one slot
 
 -- what is live behind an instruction is live behind it by one of its ways
-behind_to : (p : Program) (masks : List RegisterMask) (o : Option ℕ) (r : Reg) → AreSound p masks → HasBehind masks o r → (to : ℕ) × (o ≡ Some to) × IsLive p r to
+behind_to : (p : Program) (masks : List HomeMask) (o : Option ℕ) (r : Home) → AreSound p masks
+    → HasBehind masks o r → (to : ℕ) × (o ≡ Some to) × IsHomeLive p r to
 behind_to p masks None r sound h = absurd h
 behind_to p masks (Some to) r sound h = (to, refl, sound r to h)
 
-before_live : (p : Program) (masks : List RegisterMask) (slot : ℕ) (node : Node) (r : Reg) → IsNode p slot node → AreSound p masks → IsLiveBefore masks node r → IsLive p r slot
+before_live : (p : Program) (masks : List HomeMask) (slot : ℕ) (node : Node) (r : Home)
+    → IsNode p slot node → AreSound p masks → IsLiveBefore masks node r → IsHomeLive p r slot
 before_live p masks slot node r is sound (inl reads) = (zero, (is.reads r).0 reads)
 before_live p masks slot node r is sound (inr (inl falls, keeps)) =
     let way = behind_to p masks node.falls_to r sound falls in
@@ -44,53 +43,82 @@ before_live p masks slot node r is sound (inr (inr jumps, keeps)) =
 
 -- ---- what the code finds at a slot
 
-abbrev IsStep : List Node → ℕ → Node → List RegisterMask → RegisterMask → RegisterMask → Type 0
+abbrev IsStep : List Node → ℕ → Node → List HomeMask → HomeMask → HomeMask → Type 0
 IsStep nodes n node masks before mask =
-    (slice_get nodes n ≡ Some node) × ((r : Reg) → Has before r ↔ IsLiveBefore masks node r) × ((r : Reg) → Has mask r ↔ (Has (mask_at masks n) r ⊎ Has before r))
+    (slice_get nodes n ≡ Some node) × ((r : Home) → HasHome before r ↔ IsLiveBefore masks node r) × ((r : Home) → HasHome mask r ↔ (HasHome (mask_at masks n) r ⊎ HasHome before r))
 
 -- the mask of the slot stays
-pub step_same : (nodes : List Node) (n : ℕ) (node : Node) (masks : List RegisterMask) (before mask : RegisterMask) → IsStep nodes n node masks before mask
-    → eqb mask.bits (mask_at masks n).bits ≡ true → AddsAt nodes n masks masks false
+pub step_same : (nodes : List Node) (n : ℕ) (node : Node) (masks : List HomeMask) (before mask : HomeMask) → IsStep nodes n node masks before mask
+    → mask ≡ mask_at masks n → AddsAt nodes n masks masks false
 step_same nodes n node masks before mask (here, adds, both) stays =
-    let same : mask.bits ≡ (mask_at masks n).bits = eqb-true mask.bits (mask_at masks n).bits stays in record {
+    record {
       same = refl;
       sound = λ p are sound. sound;
       kept = λ r h. h;
       added = λ x there r live.
           let one : x ≡ node = same_Some x node (sym there ∙ here) in
-          let has : Has mask r = (both r).1 (inr ((adds r).1 (subst (λ (y : Node). IsLiveBefore masks y r) one live))) in
-          ap (λ (b : ℕ). bit_at b (reg_number r)) (sym same) ∙ has;
+          let has : HasHome mask r = (both r).1 (inr ((adds r).1 (subst (λ (y : Node). IsLiveBefore masks y r) one live))) in
+          subst (λ x. HasHome x r) stays has;
       others = λ k apart. refl;
       still = λ e. refl;
       less = λ e. absurd cc;
     }
 
+-- masks that a test tells apart
+pub masks_apart : (a b : HomeMask)
+    → (eqb a.registers.bits b.registers.bits && eqb a.slots.bits b.slots.bits) ≡ false → a ≡ b → ⊥
+masks_apart a b apart same =
+    let registers = eq-eqb a.registers.bits b.registers.bits (ap (λ (m : HomeMask). m.registers.bits) same) in
+    let slots = eq-eqb a.slots.bits b.slots.bits (ap (λ (m : HomeMask). m.slots.bits) same) in
+    absurd cc
+
+-- a mask that grew has less room
+abbrev made : ℕ → ℕ → HomeMask
+made registers slots = record { registers = record { bits = registers }; slots = record { bits = slots } }
+
+same_mask : (a b : HomeMask) → a.registers.bits ≡ b.registers.bits → a.slots.bits ≡ b.slots.bits
+    → b ≡ a
+same_mask a b rs js = ap (λ (x : ℕ). made x b.slots.bits) (sym rs) ∙ ap (λ (y : ℕ). made a.registers.bits y) (sym js)
+
+less_room : (a b : HomeMask) → b.registers.bits < 2 ^ 16 → b.slots.bits < 2 ^ 64
+    → a.registers.bits ≤ b.registers.bits → a.slots.bits ≤ b.slots.bits
+    → (b ≡ a → ⊥) → room_in b < room_in a
+less_room a b fits wide up more other = elim (cases_eq a.registers.bits b.registers.bits) [
+  | inl rs ↦ elim (cases_eq a.slots.bits b.slots.bits) [
+    | inl js ↦ absurd (other (same_mask a b rs js))
+    | inr apart ↦ omega arith
+  ]
+  | inr apart ↦ omega arith
+]
+
 -- the mask of the slot grows
-pub step_more : (nodes : List Node) (n : ℕ) (node : Node) (masks : List RegisterMask) (before mask : RegisterMask) → IsStep nodes n node masks before mask
-    → n < length masks → mask.bits < 2 ^ 16 → (mask_at masks n).bits ≤ mask.bits → eqb mask.bits (mask_at masks n).bits ≡ false
+pub step_more : (nodes : List Node) (n : ℕ) (node : Node) (masks : List HomeMask) (before mask : HomeMask) → IsStep nodes n node masks before mask
+    → n < length masks → mask.registers.bits < 2 ^ 16 → mask.slots.bits < 2 ^ 64
+    → (mask_at masks n).registers.bits ≤ mask.registers.bits
+    → (mask_at masks n).slots.bits ≤ mask.slots.bits → (mask ≡ mask_at masks n → ⊥)
     → AddsAt nodes n masks (set masks n mask) true
-step_more nodes n node masks before mask (here, adds, both) inside fits up other =
-    let apart = eqb-false mask.bits (mask_at masks n).bits other in
-    let is : mask_at (set masks n mask) n ≡ mask = get_or-set_same masks n mask no_registers inside in record {
+step_more nodes n node masks before mask (here, adds, both) inside fits wide up more other =
+    let is : mask_at (set masks n mask) n ≡ mask = get_or-set_same masks n mask no_homes inside in record {
       same = length-set masks n mask;
       sound = λ p are sound r slot h. elim (cases_eq slot n) [
         | inl e ↦
-            let has : Has mask r = subst (λ x. Has x r) (ap (mask_at (set masks n mask)) e ∙ is) h in
-            subst (λ (k : ℕ). IsLive p r k) (sym e) (elim ((both r).0 has) [
+            let has : HasHome mask r = subst (λ x. HasHome x r) (ap (mask_at (set masks n mask)) e ∙ is) h in
+            subst (λ (k : ℕ). IsHomeLive p r k) (sym e) (elim ((both r).0 has) [
               | inl had ↦ sound r n had
               | inr live ↦ before_live p masks n node r (are.each n node here) sound ((adds r).0 live)
             ])
-        | inr elsewhere ↦ sound r slot (subst (λ x. Has x r) (get_or-set_other masks n slot mask no_registers elsewhere) h)
+        | inr elsewhere ↦ sound r slot (subst (λ x. HasHome x r) (get_or-set_other masks n slot mask no_homes elsewhere) h)
       ];
-      kept = λ r h. subst (λ x. Has x r) (sym is) ((both r).1 (inl h));
+      kept = λ r h. subst (λ x. HasHome x r) (sym is) ((both r).1 (inl h));
       added = λ x there r live.
           let one : x ≡ node = same_Some x node (sym there ∙ here) in
-          subst (λ y. Has y r) (sym is) ((both r).1 (inr ((adds r).1 (subst (λ (y : Node). IsLiveBefore masks y r) one live))));
-      others = λ k elsewhere. get_or-set_other masks n k mask no_registers elsewhere;
+          subst (λ y. HasHome y r) (sym is) ((both r).1 (inr ((adds r).1 (subst (λ (y : Node). IsLiveBefore masks y r) one live))));
+      others = λ k elsewhere. get_or-set_other masks n k mask no_homes elsewhere;
       still = λ e. absurd cc;
       less = λ e.
-          let moved = sum_by-set (λ (x : RegisterMask). 2 ^ 16 - x.bits) masks n mask no_registers inside in
-          omega (arith, moved, up, apart, fits);
+          let moved = sum_by-set room_in masks n mask no_homes inside in
+          let less = less_room (mask_at masks n) mask fits wide up more other in
+          omega (arith, moved, less);
     }
 
 -- ---- the slots that were found first
@@ -118,7 +146,7 @@ all_more n f s g t h u x y =
 -- ---- the loop
 
 -- the masks have nothing that is not live, and all that is live before each instruction whose slot is not on the list
-pub record IsWorking (p : Program) (nodes : List Node) (masks : List RegisterMask) (found : List Bool) (frontier : List ℕ) : Type 0 where
+pub record IsWorking (p : Program) (nodes : List Node) (masks : List HomeMask) (found : List Bool) (frontier : List ℕ) : Type 0 where
   pub same : length masks ≡ length nodes
   pub same_found : length found ≡ length nodes
   pub sound : AreSound p masks
@@ -128,12 +156,12 @@ pub record IsWorking (p : Program) (nodes : List Node) (masks : List RegisterMas
   pub room : count_by not found + length frontier ≤ length nodes
 
 pub working_start : (p : Program) (nodes : List Node) (n size : ℕ) (found : List Bool) (frontier : List ℕ) → n ≡ length nodes → size ≡ length nodes → HasAll size found frontier
-    → IsWorking p nodes (replicate n no_registers) found frontier
+    → IsWorking p nodes (replicate n no_homes) found frontier
 working_start p nodes n size found frontier all all_found x =
     let same : length found ≡ size = x.same ∙ length-replicate size false in record {
-      same = length-replicate n no_registers ∙ all;
+      same = length-replicate n no_homes ∙ all;
       same_found = same ∙ all_found;
-      sound = λ r slot h. absurd (none_has r (subst (λ x. Has x r) (mask_at-none n slot) h));
+      sound = λ r slot h. absurd (no_home r (subst (λ x. HasHome x r) (mask_at-none n slot) h));
       inside = λ k c. elim (x.adds k c) [
         | inl old ↦ absurd (no-Contains k old)
         | inr m ↦ let low = IsMarked-inside found k m in omega (arith, low, same, all_found)
@@ -144,16 +172,18 @@ working_start p nodes n size found frontier all all_found x =
     }
 
 -- the slot on top is inside the code
-pub working_inside : (p : Program) (nodes : List Node) (masks : List RegisterMask) (found : List Bool) (frontier rest : List ℕ) (slot : ℕ)
+pub working_inside : (p : Program) (nodes : List Node) (masks : List HomeMask) (found : List Bool) (frontier rest : List ℕ) (slot : ℕ)
     → frontier ≡ rest ++ slot ∷ [] → IsWorking p nodes masks found frontier → slot < length nodes
 working_inside p nodes masks found frontier rest slot popped m = m.inside slot (on_top slot frontier rest popped)
 
 -- what is live behind by masks that are the same there
-behind_same : (old new : List RegisterMask) (o : Option ℕ) (r : Reg) → ((to : ℕ) → o ≡ Some to → mask_at new to ≡ mask_at old to) → HasBehind new o r → HasBehind old o r
+behind_same : (old new : List HomeMask) (o : Option ℕ) (r : Home)
+    → ((to : ℕ) → o ≡ Some to → mask_at new to ≡ mask_at old to) → HasBehind new o r
+    → HasBehind old o r
 behind_same old new None r same h = h
-behind_same old new (Some to) r same h = subst (λ x. Has x r) (same to refl) h
+behind_same old new (Some to) r same h = subst (λ x. HasHome x r) (same to refl) h
 
-before_same : (old new : List RegisterMask) (node : Node) (r : Reg)
+before_same : (old new : List HomeMask) (node : Node) (r : Home)
     → ((to : ℕ) → (node.falls_to ≡ Some to) ⊎ (node.jumps_to ≡ Some to) → mask_at new to ≡ mask_at old to) → IsLiveBefore new node r → IsLiveBefore old node r
 before_same old new node r same (inl reads) = inl reads
 before_same old new node r same (inr (inl falls, keeps)) = inr (inl (behind_same old new node.falls_to r (λ to e. same to (inl e)) falls), keeps)
@@ -181,15 +211,16 @@ comes_from nodes k slot node here (inl falls) = inl (node-fall_from nodes k node
 comes_from nodes k slot node here (inr jumps) = inr (node-jump_from nodes k node here ∙ jumps)
 
 -- a slot that was not on the list, or was on its top, has what is live before it by the masks of before
-closed_old : (nodes : List Node) (slot k : ℕ) (node : Node) (old new : List RegisterMask) (grown : Bool) (r : Reg) → slice_get nodes k ≡ Some node
-    → AddsAt nodes slot old new grown → (k ≡ slot) ⊎ IsClosedAt old k node → IsLiveBefore old node r → Has (mask_at new k) r
+closed_old : (nodes : List Node) (slot k : ℕ) (node : Node) (old new : List HomeMask) (grown : Bool) (r : Home) → slice_get nodes k ≡ Some node
+    → AddsAt nodes slot old new grown → (k ≡ slot) ⊎ IsClosedAt old k node → IsLiveBefore old node r
+    → HasHome (mask_at new k) r
 closed_old nodes slot k node old new grown r here x closed live = elim (cases_eq k slot) [
   | inl e ↦
       let there : slice_get nodes slot ≡ Some node = subst (λ (i : ℕ). slice_get nodes i ≡ Some node) e here in
-      subst (λ (i : ℕ). Has (mask_at new i) r) (sym e) (x.added node there r live)
+      subst (λ (i : ℕ). HasHome (mask_at new i) r) (sym e) (x.added node there r live)
   | inr apart ↦ elim closed [
     | inl e ↦ absurd (apart e)
-    | inr was ↦ subst (λ y. Has y r) (sym (x.others k apart)) (was r live)
+    | inr was ↦ subst (λ y. HasHome y r) (sym (x.others k apart)) (was r live)
   ]
 ]
 
@@ -211,7 +242,7 @@ count-unset found slot inside =
     omega (arith, moved)
 
 -- a slot is taken from the list; if its mask grows, the slots from which control comes there go on it
-pub working_next : (p : Program) (nodes : List Node) (W : ℕ → Type 0) (slot : ℕ) (old new : List RegisterMask) (grown : Bool) (f : List Bool) (s rest : List ℕ) (g : List Bool) (t : List ℕ)
+pub working_next : (p : Program) (nodes : List Node) (W : ℕ → Type 0) (slot : ℕ) (old new : List HomeMask) (grown : Bool) (f : List Bool) (s rest : List ℕ) (g : List Bool) (t : List ℕ)
     → AreNodes p nodes → s ≡ rest ++ slot ∷ [] → AddsAt nodes slot old new grown → Extends W (set f slot false) rest g t
     → (grown ≡ false) ⊎ ((k : ℕ) → ComesFrom nodes slot k → W k)
     → IsWorking p nodes old f s → IsWorking p nodes new g t
@@ -238,7 +269,7 @@ working_next p nodes W slot old new grown f s rest g t are popped x y wants m =
         | inl marked ↦ inl (y.kept k marked)
         | inr was ↦ elim wants [
           | inl still ↦ inr (λ r live. closed_old nodes slot k node old new grown r here x was
-              (before_same old new node r (λ to way. ap (λ (l : List RegisterMask). mask_at l to) (x.still still)) live))
+              (before_same old new node r (λ to way. ap (λ (l : List HomeMask). mask_at l to) (x.still still)) live))
           | inr all ↦ elim (node_there node slot) [
             | inl way ↦ inl (y.all k (all k (comes_from nodes k slot node here way)))
             | inr other ↦ inr (λ r live. closed_old nodes slot k node old new grown r here x was
@@ -260,11 +291,11 @@ working_next p nodes W slot old new grown f s rest g t are popped x y wants m =
 -- ---- it comes to an end
 
 -- what may still be added, and for each of that the whole list
-abbrev pub work_left : List Node → List RegisterMask → List ℕ → ℕ
+abbrev pub work_left : List Node → List HomeMask → List ℕ → ℕ
 work_left nodes masks frontier = (length nodes + 1) * room_left masks + length frontier
 
 -- a mask has grown
-pub work_less : (p : Program) (nodes : List Node) (old new : List RegisterMask) (g : List Bool) (s t : List ℕ) → room_left new < room_left old
+pub work_less : (p : Program) (nodes : List Node) (old new : List HomeMask) (g : List Bool) (s t : List ℕ) → room_left new < room_left old
     → IsWorking p nodes new g t → work_left nodes new t < work_left nodes old s
 work_less p nodes old new g s t less m =
     let product = mul-le-mul_left {m = room_left new + 1} {n = room_left old} (length nodes + 1) (omega arith) in
@@ -272,10 +303,13 @@ work_less p nodes old new g s t less m =
 
 -- ---- the list is empty
 
-behind : (masks : List RegisterMask) (o : Option ℕ) (to : ℕ) (r : Reg) → o ≡ Some to → Has (mask_at masks to) r → HasBehind masks o r
+behind : (masks : List HomeMask) (o : Option ℕ) (to : ℕ) (r : Home) → o ≡ Some to
+    → HasHome (mask_at masks to) r → HasBehind masks o r
 behind masks o to r e h = subst (λ (x : Option ℕ). HasBehind masks x r) (sym e) h
 
-live_has : (p : Program) (nodes : List Node) (masks : List RegisterMask) → AreNodes p nodes → ((k : ℕ) (node : Node) → slice_get nodes k ≡ Some node → IsClosedAt masks k node) → (r : Reg) (n slot : ℕ) → IsReadAfter p r n slot → Has (mask_at masks slot) r
+live_has : (p : Program) (nodes : List Node) (masks : List HomeMask) → AreNodes p nodes
+    → ((k : ℕ) (node : Node) → slice_get nodes k ≡ Some node → IsClosedAt masks k node)
+    → (r : Home) (n slot : ℕ) → IsReadAfter p r n slot → HasHome (mask_at masks slot) r
 live_has p nodes masks are closed r zero slot reads =
     let inside : slot < length p.insns = BeginsInsn-inside p slot (fetch-BeginsInsn p slot reads.0 reads.1) in
     let found = node_at p nodes slot are inside in
@@ -291,7 +325,7 @@ live_has p nodes masks are closed r (suc n) slot (next, inr jumps, keeps, path) 
     let has = live_has p nodes masks are closed r n next path in
     closed slot found.0 found.1 r (inr (inr (behind masks found.0.jumps_to next r (is.jumps ∙ jumps) has), λ w. keeps ((is.writes r).0 w)))
 
-pub working_end : (p : Program) (nodes : List Node) (masks : List RegisterMask) (found : List Bool) (frontier : List ℕ) → length frontier ≡ 0 → AreNodes p nodes
+pub working_end : (p : Program) (nodes : List Node) (masks : List HomeMask) (found : List Bool) (frontier : List ℕ) → length frontier ≡ 0 → AreNodes p nodes
     → IsWorking p nodes masks found frontier → MarksLive p masks
 working_end p nodes masks found [] over are m r slot = (
   λ h. m.sound r slot h,
@@ -303,7 +337,8 @@ working_end p nodes masks found [] over are m r slot = (
 working_end p nodes masks found (x ∷ xs) over are m r slot = absurd (omega (arith, over))
 
 -- a slice of all masks is written back
-pub written_back : (n : ℕ) (new old : List RegisterMask) → n ≡ length old → length new ≡ length old → take n (new ++ drop (length new) old) ≡ new
+pub written_back : (n : ℕ) (new old : List HomeMask) → n ≡ length old → length new ≡ length old
+    → take n (new ++ drop (length new) old) ≡ new
 written_back n new old all same =
     let none : drop (length new) old ≡ [] = drop_of_length-le old (omega arith) in
-    ap (λ (l : List RegisterMask). take n (new ++ l)) none ∙ ap (take n) (append-nil new) ∙ take_all n new (omega arith)
+    ap (λ (l : List HomeMask). take n (new ++ l)) none ∙ ap (take n) (append-nil new) ∙ take_all n new (omega arith)

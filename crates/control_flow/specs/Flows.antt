@@ -1,14 +1,13 @@
 -- Programs whose control flow is good, and the tests that find out.
 use Rattle.std.specs.Prelude.{◌≡◌, ℕ, ◌<◌, ◌≤◌, ◌⊎◌, Option, Some, None, List, length, Bool, IsTrue, ◌↔◌, slice_index_or, false}
-use Rattle.isa_model.specs.declared.registers.Reg.{Reg}
 use Rattle.isa_model.specs.Code.Instructions.{Program}
-use Rattle.control_flow.specs.declared.masks.RegisterMask.{RegisterMask}
+use Rattle.control_flow.specs.declared.homes.HomeMask.{HomeMask}
 use Rattle.control_flow.specs.declared.errors.FlowError.{FlowError}
 use Rattle.control_flow.specs.declared.errors.FlowError.TheVariants.{TargetOutside, SecondHalf, OtherFunction, FallsOff, Unreachable, Memory}
 use Rattle.control_flow.specs.Graph.{BeginsInsn, IsSecondHalf, jump_to, call_to, fall_to, Reached}
 use Rattle.control_flow.specs.Functions.{SameFunction, EndsFunction}
-use Rattle.control_flow.specs.Masks.{Has, mask_at}
-use Rattle.control_flow.specs.Liveness.{IsLive}
+use Rattle.control_flow.specs.Masks.{HasHome, mask_at}
+use Rattle.control_flow.specs.Liveness.{Home, IsHomeLive}
 
 -- ---- good programs
 
@@ -78,11 +77,11 @@ MarksJoins p marks = (slot : ℕ) → IsMarked marks slot ↔ IsJoin p slot
 
 -- ---- what a `Flow` knows
 
--- for each slot the registers that are live there
-abbrev pub MarksLive : Program → List RegisterMask → Type 0
-MarksLive p masks = (r : Reg) (slot : ℕ) → Has (mask_at masks slot) r ↔ IsLive p r slot
+-- for each slot what is live there
+abbrev pub MarksLive : Program → List HomeMask → Type 0
+MarksLive p masks = (h : Home) (slot : ℕ) → HasHome (mask_at masks slot) h ↔ IsHomeLive p h slot
 
-pub record IsKnown (p : Program) (joins : List Bool) (masks : List RegisterMask) : Type 0 where
+pub record IsKnown (p : Program) (joins : List Bool) (masks : List HomeMask) : Type 0 where
   pub flow : IsFlow p
   pub marked : MarksJoins p joins
   pub live : MarksLive p masks

@@ -4,8 +4,10 @@ pub mod Searches
 pub mod Nodes
 pub mod Sources
 pub mod RegisterLaws
-pub mod Masks
+pub mod Accesses
+pub mod StackUse
 pub mod Liveness
+pub mod Masks
 pub mod Flows
 pub mod FlowLaws
 pub mod LivenessLaws

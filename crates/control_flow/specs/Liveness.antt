@@ -1,36 +1,36 @@
--- Registers that are live: a path reads them before anything on it writes them.
-use Rattle.std.specs.Prelude.{◌≡◌, ◌⊎◌, ℕ, zero, suc, Some, List, [], ◌∷◌}
-use Rattle.std.specs.Option.{option_to_list}
+-- What is live: a path reads it before anything on it writes it.
+use Rattle.std.specs.Prelude.{◌≡◌, ◌⊎◌, ℕ, zero, suc, ◌<◌, Some}
 use Rattle.isa_model.specs.declared.registers.Reg.{Reg}
-use Rattle.isa_model.specs.declared.registers.Reg.TheVariants.{R0, R1, R2, R3, R4, R5}
 use Rattle.isa_model.specs.declared.instructions.Insn.{Insn}
-use Rattle.isa_model.specs.declared.instructions.Insn.TheVariants.{CallHelper, CallLocal}
-use Rattle.isa_model.specs.Code.Instructions.{Program, fetch, writes}
-use Rattle.isa_model.specs.MustAccept.Paths.{IsOneOf, needs}
+use Rattle.isa_model.specs.Code.Instructions.{Program, fetch}
+use Rattle.isa_model.specs.MustAccept.Paths.{IsOneOf}
 use Rattle.control_flow.specs.Graph.{fall_to, jump_to}
+use Rattle.control_flow.specs.Accesses.{read_registers, written_registers}
+use Rattle.control_flow.specs.StackUse.{ReadsSlot, WritesSlot, IsHandedOn}
 
--- ---- instructions
+-- ---- what a frame keeps values in
 
--- the registers that an instruction reads: an exit reads r0, and a local call hands r1 to r5 over
-abbrev pub read_registers : Insn → List Reg
-read_registers (CallLocal by) = R1 ∷ R2 ∷ R3 ∷ R4 ∷ R5 ∷ []
-read_registers i = needs i
+-- a register, or 8 bytes of the frame's stack
+pub data Home : Type 0 where
+  InRegister : Reg → Home
+  InSlot : ℕ → Home
 
--- the registers that have another value after an instruction; a call writes r0 and leaves r1 to r5 unset
-abbrev pub written_registers : Insn → List Reg
-written_registers (CallLocal by) = R0 ∷ R1 ∷ R2 ∷ R3 ∷ R4 ∷ R5 ∷ []
-written_registers (CallHelper number) = R0 ∷ R1 ∷ R2 ∷ R3 ∷ R4 ∷ R5 ∷ []
-written_registers i = option_to_list (writes i)
+-- the instruction reads it. Where a frame's address is handed on, any instruction may read any slot
+abbrev pub IsReadBy : Type 0 → Insn → Home → Type 0
+IsReadBy handed_on i (InRegister r) = IsOneOf (read_registers i) r
+IsReadBy handed_on i (InSlot j) = ReadsSlot i j ⊎ ((j < 64) × handed_on)
 
--- ---- slots
+-- it writes all of it
+abbrev pub IsWrittenBy : Insn → Home → Type 0
+IsWrittenBy i (InRegister r) = IsOneOf (written_registers i) r
+IsWrittenBy i (InSlot j) = WritesSlot i j
 
--- the instruction at a slot reads the register
-abbrev pub Reads : Program → Reg → ℕ → Type 0
-Reads p r slot = (i : Insn) × (fetch p slot ≡ Some i) × IsOneOf (read_registers i) r
+-- the instruction at a slot of the code does
+abbrev pub Reads : Program → Home → ℕ → Type 0
+Reads p h slot = (i : Insn) × (fetch p slot ≡ Some i) × IsReadBy (IsHandedOn p) i h
 
--- the instruction at a slot writes it
-abbrev pub Writes : Program → Reg → ℕ → Type 0
-Writes p r slot = (i : Insn) × (fetch p slot ≡ Some i) × IsOneOf (written_registers i) r
+abbrev pub Writes : Program → Home → ℕ → Type 0
+Writes p h slot = (i : Insn) × (fetch p slot ≡ Some i) × IsWrittenBy i h
 
 -- ---- paths
 
@@ -38,15 +38,19 @@ Writes p r slot = (i : Insn) × (fetch p slot ≡ Some i) × IsOneOf (written_re
 abbrev pub GoesTo : Program → ℕ → ℕ → Type 0
 GoesTo p slot to = (fall_to p slot ≡ Some to) ⊎ (jump_to p slot ≡ Some to)
 
--- a path of n steps leads from a slot to one that reads the register, and nothing before writes it
-abbrev pub IsReadAfter : Program → Reg → ℕ → ℕ → Type 0
-IsReadAfter p r zero slot = Reads p r slot
-IsReadAfter p r (suc n) slot = (next : ℕ) × GoesTo p slot next × (¬ Writes p r slot) × IsReadAfter p r n next
+-- a path of n steps leads from a slot to one that reads it, and nothing before writes it
+abbrev pub IsReadAfter : Program → Home → ℕ → ℕ → Type 0
+IsReadAfter p h zero slot = Reads p h slot
+IsReadAfter p h (suc n) slot = (next : ℕ) × GoesTo p slot next × (¬ Writes p h slot) × IsReadAfter p h n next
 
--- some path from the slot reads the register before it writes it
+-- some path from the slot reads it before it writes it
+abbrev pub IsHomeLive : Program → Home → ℕ → Type 0
+IsHomeLive p h slot = (n : ℕ) × IsReadAfter p h n slot
+
+-- the register is live at a slot of the code
 abbrev pub IsLive : Program → Reg → ℕ → Type 0
-IsLive p r slot = (n : ℕ) × IsReadAfter p r n slot
+IsLive p r slot = IsHomeLive p (InRegister r) slot
 
--- what is live at a slot is live at each one that goes there and does not write it
-abbrev pub GoesBack : Program → Reg → ℕ → ℕ → Type 0
-GoesBack p r to slot = GoesTo p slot to × (¬ Writes p r slot)
+-- slot j of the frame's stack is live there
+abbrev pub IsSlotLive : Program → ℕ → ℕ → Type 0
+IsSlotLive p j slot = IsHomeLive p (InSlot j) slot

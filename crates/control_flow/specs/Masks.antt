@@ -1,9 +1,12 @@
--- Sets of registers.
-use Rattle.std.specs.Prelude.{◌≡◌, ◌≢◌, ◌↔◌, ◌⊎◌, ℕ, Bool, false, IsTrue, List, length, slice_index_or}
+-- Sets of registers and of slots of the stack.
+use Rattle.std.specs.Prelude.{◌≡◌, ℕ, List, slice_index_or}
 use Rattle.std.specs.Int.{bit_at}
 use Rattle.isa_model.specs.declared.registers.Reg.{Reg}
 use Rattle.isa_model.specs.Code.Registers.{reg_number}
 use Rattle.control_flow.specs.declared.masks.RegisterMask.{RegisterMask}
+use Rattle.control_flow.specs.declared.slot_masks.SlotMask.{SlotMask}
+use Rattle.control_flow.specs.declared.homes.HomeMask.{HomeMask}
+use Rattle.control_flow.specs.Liveness.{Home, InRegister, InSlot}
 
 abbrev pub no_registers : RegisterMask
 no_registers = record { bits = 0 }
@@ -12,12 +15,20 @@ no_registers = record { bits = 0 }
 abbrev pub Has : RegisterMask → Reg → Type 0
 Has mask r = bit_at mask.bits (reg_number r) ≡ 1
 
--- the mask of a slot
-abbrev pub mask_at : List RegisterMask → ℕ → RegisterMask
-mask_at masks slot = slice_index_or masks slot no_registers
+abbrev pub no_slots : SlotMask
+no_slots = record { bits = 0 }
 
--- the masks of the slots that are marked have the register too, and nothing else is added
-pub record AddsWhere (marks : List Bool) (register : Reg) (old new : List RegisterMask) : Type 0 where
-  pub same : length new ≡ length old
-  pub added : (slot : ℕ) → Has (mask_at new slot) register ↔ (Has (mask_at old slot) register ⊎ IsTrue (slice_index_or marks slot false))
-  pub others : (r : Reg) (slot : ℕ) → r ≢ register → Has (mask_at new slot) r ↔ Has (mask_at old slot) r
+-- the slot of the stack is one of the set
+abbrev pub HasSlot : SlotMask → ℕ → Type 0
+HasSlot mask j = bit_at mask.bits j ≡ 1
+
+abbrev pub no_homes : HomeMask
+no_homes = record { registers = no_registers; slots = no_slots }
+
+abbrev pub HasHome : HomeMask → Home → Type 0
+HasHome mask (InRegister r) = Has mask.registers r
+HasHome mask (InSlot j) = HasSlot mask.slots j
+
+-- the mask of a slot of the code
+abbrev pub mask_at : List HomeMask → ℕ → HomeMask
+mask_at masks slot = slice_index_or masks slot no_homes

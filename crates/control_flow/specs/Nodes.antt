@@ -1,21 +1,20 @@
--- The code as a graph of slots, and what is added to the registers that are live there.
+-- The code as a graph of slots, and what is added to what is live there.
 use Rattle.std.specs.Prelude.{◌≡◌, ◌≢◌, ◌↔◌, ◌⊎◌, ℕ, ◌+◌, ◌<◌, ◌-◌, ◌^◌, Bool, true, false, List, [], replicate, length, sum_by, Option, Some, None, slice_get}
 use Rattle.std.specs.Option.{option_and_then}
-use Rattle.isa_model.specs.declared.registers.Reg.{Reg}
 use Rattle.isa_model.specs.Code.Instructions.{Program}
-use Rattle.control_flow.specs.declared.masks.RegisterMask.{RegisterMask}
+use Rattle.control_flow.specs.declared.homes.HomeMask.{HomeMask}
 use Rattle.control_flow.specs.declared.nodes.Node.{Node}
 use Rattle.control_flow.specs.Graph.{fall_to, jump_to}
-use Rattle.control_flow.specs.Masks.{Has, mask_at}
+use Rattle.control_flow.specs.Masks.{HasHome, mask_at}
 use Rattle.control_flow.specs.Searches.{Extends}
-use Rattle.control_flow.specs.Liveness.{Reads, Writes, IsLive}
+use Rattle.control_flow.specs.Liveness.{Home, Reads, Writes, IsHomeLive}
 
 -- ---- nodes
 
 -- what the instruction at a slot reads and writes, and where control goes from it
 pub record IsNode (p : Program) (slot : ℕ) (node : Node) : Type 0 where
-  pub reads : (r : Reg) → Has node.reads r ↔ Reads p r slot
-  pub writes : (r : Reg) → Has node.writes r ↔ Writes p r slot
+  pub reads : (r : Home) → HasHome node.reads r ↔ Reads p r slot
+  pub writes : (r : Home) → HasHome node.writes r ↔ Writes p r slot
   pub falls : node.falls_to ≡ fall_to p slot
   pub jumps : node.jumps_to ≡ jump_to p slot
 
@@ -43,35 +42,39 @@ FallsNear nodes = (slot to : ℕ) → fall_from nodes slot ≡ Some to → (slot
 
 -- ---- what is live before an instruction
 
--- the slot to which control goes has the register
-abbrev pub HasBehind : List RegisterMask → Option ℕ → Reg → Type 0
+-- the slot to which control goes has it
+abbrev pub HasBehind : List HomeMask → Option ℕ → Home → Type 0
 HasBehind masks None r = ⊥
-HasBehind masks (Some to) r = Has (mask_at masks to) r
+HasBehind masks (Some to) r = HasHome (mask_at masks to) r
 
--- the instruction reads the register, or leaves it to one behind it that has it
-abbrev pub IsLiveBefore : List RegisterMask → Node → Reg → Type 0
-IsLiveBefore masks node r = Has node.reads r ⊎ ((HasBehind masks node.falls_to r ⊎ HasBehind masks node.jumps_to r) × (¬ Has node.writes r))
+-- the instruction reads it, or leaves it to one behind it that has it
+abbrev pub IsLiveBefore : List HomeMask → Node → Home → Type 0
+IsLiveBefore masks node r = HasHome node.reads r ⊎ ((HasBehind masks node.falls_to r ⊎ HasBehind masks node.jumps_to r) × (¬ HasHome node.writes r))
 
 -- ---- what is added
 
--- the masks have no register that is not live
-abbrev pub AreSound : Program → List RegisterMask → Type 0
-AreSound p masks = (r : Reg) (slot : ℕ) → Has (mask_at masks slot) r → IsLive p r slot
+-- the masks have nothing that is not live
+abbrev pub AreSound : Program → List HomeMask → Type 0
+AreSound p masks = (r : Home) (slot : ℕ) → HasHome (mask_at masks slot) r → IsHomeLive p r slot
 
 -- the mask of a slot has what is live before its instruction by what the masks have behind it
-abbrev pub IsClosedAt : List RegisterMask → ℕ → Node → Type 0
-IsClosedAt masks slot node = (r : Reg) → IsLiveBefore masks node r → Has (mask_at masks slot) r
+abbrev pub IsClosedAt : List HomeMask → ℕ → Node → Type 0
+IsClosedAt masks slot node = (r : Home) → IsLiveBefore masks node r → HasHome (mask_at masks slot) r
 
 -- what may still be added
-abbrev pub room_left : List RegisterMask → ℕ
-room_left masks = sum_by (λ (mask : RegisterMask). 2 ^ 16 - mask.bits) masks
+abbrev pub room_in : HomeMask → ℕ
+room_in mask = (2 ^ 16 - mask.registers.bits) + (2 ^ 64 - mask.slots.bits)
+
+abbrev pub room_left : List HomeMask → ℕ
+room_left masks = sum_by room_in masks
 
 -- the mask of a slot gets what is live before its instruction, and nothing that is not live
-pub record AddsAt (nodes : List Node) (slot : ℕ) (old new : List RegisterMask) (grown : Bool) : Type 0 where
+pub record AddsAt (nodes : List Node) (slot : ℕ) (old new : List HomeMask) (grown : Bool) : Type 0 where
   pub same : length new ≡ length old
   pub sound : (p : Program) → AreNodes p nodes → AreSound p old → AreSound p new
-  pub kept : (r : Reg) → Has (mask_at old slot) r → Has (mask_at new slot) r
-  pub added : (node : Node) → slice_get nodes slot ≡ Some node → (r : Reg) → IsLiveBefore old node r → Has (mask_at new slot) r
+  pub kept : (r : Home) → HasHome (mask_at old slot) r → HasHome (mask_at new slot) r
+  pub added : (node : Node) → slice_get nodes slot ≡ Some node → (r : Home)
+      → IsLiveBefore old node r → HasHome (mask_at new slot) r
   pub others : (k : ℕ) → k ≢ slot → mask_at new k ≡ mask_at old k
   pub still : grown ≡ false → new ≡ old
   pub less : grown ≡ true → room_left new < room_left old

@@ -4,7 +4,7 @@ ghost use Rattle.std.specs.Prelude.{◌≡◌, ◌↔◌, ◌⊎◌, ◌∷◌, 
 ghost use Rattle.isa_model.specs.declared.registers.Reg.{Reg as TheReg};
 ghost use Rattle.isa_model.specs.declared.registers.Reg.TheVariants.{R1, R2, R3, R4, R5};
 ghost use Rattle.isa_model.specs.MustAccept.Paths.{IsOneOf};
-ghost use Rattle.control_flow.specs.Liveness.{read_registers, written_registers};
+ghost use Rattle.control_flow.specs.Accesses.{read_registers, written_registers};
 ghost use Rattle.control_flow.specs.Masks.{Has};
 
 use crate::masks::RegisterMask;

@@ -3,15 +3,17 @@
 ghost use Rattle.std.specs.Prelude.{◌≡◌, ◌↔◌, ℕ, IsTrue, IfOk, IfErr};
 ghost use Rattle.isa_model.specs.declared.registers.Reg.{Reg as TheReg};
 ghost use Rattle.control_flow.specs.Flows.{IsFlow, IsJoin, IsRefusal};
-ghost use Rattle.control_flow.specs.Liveness.{IsLive};
-ghost use Rattle.control_flow.specs.Masks.{Has};
+ghost use Rattle.control_flow.specs.Liveness.{IsLive, IsSlotLive};
+ghost use Rattle.control_flow.specs.Masks.{Has, HasSlot};
 
 use crate::errors::FlowError;
 use crate::functions::{first_falling_off, first_leaving, functions_of};
-use crate::liveness::live_registers;
+use crate::homes::{HomeMask, mask_of};
+use crate::liveness::live_homes;
 use crate::marks::is_marked;
-use crate::masks::{RegisterMask, mask_of};
+use crate::masks::RegisterMask;
 use crate::reachability::{first_unreached, reached};
+use crate::slot_masks::SlotMask;
 use crate::targets::{first_into_half, first_outside, joins_of};
 use image::Image;
 use std::alloc::Global;
@@ -25,7 +27,7 @@ use std::marker::Model;
 pub struct Flow<'a> {
     image: &'a Image,
     joins: Vec<bool>,
-    live: Vec<RegisterMask>,
+    live: Vec<HomeMask>,
 }
 
 impl<'a> Model for Flow<'a> {
@@ -85,7 +87,7 @@ impl<'a> Flow<'a> {
         let Ok(joins) = joins_of(alloc, image) else {
             return Err((FlowError::Memory, 0));
         };
-        let Ok(live) = live_registers(alloc, image) else {
+        let Ok(live) = live_homes(alloc, image) else {
             return Err((FlowError::Memory, 0));
         };
         Ok(Flow { image, joins, live })
@@ -104,6 +106,15 @@ impl<'a> Flow<'a> {
     pub fn live(&self, slot: usize) -> RegisterMask
         ensures { (r : TheReg) → Has result r ↔ IsLive self.now r slot }
     {
-        mask_of(&self.live, slot)
+        mask_of(&self.live, slot).registers
+    }
+
+    /// The slots of its frame's stack that may still be read from this slot of the code on: some
+    /// path of jumps and fall-throughs reads them before it writes them wholly. Where an
+    /// instruction hands r10 on, these are all. A verifier may forget the other ones.
+    pub fn live_slots(&self, slot: usize) -> SlotMask
+        ensures { (j : ℕ) → HasSlot result j ↔ IsSlotLive self.now j slot }
+    {
+        mask_of(&self.live, slot).slots
     }
 }

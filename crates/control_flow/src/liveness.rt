@@ -1,35 +1,35 @@
-//! Which registers are live at which slots.
+//! Which registers and which slots of the stack are live at which slots of the code.
 
 ghost use Rattle.std.specs.Prelude.{◌≡◌, ◌+◌, ◌<◌, ◌↔◌, ◌⊎◌, ℕ, Some, length, IfOk, OnOk};
-ghost use Rattle.isa_model.specs.declared.registers.Reg.{Reg as TheReg};
+ghost use Rattle.control_flow.specs.Liveness.{Home};
 ghost use Rattle.control_flow.specs.Flows.{Fails, MarksLive};
-ghost use Rattle.control_flow.specs.Masks.{Has};
+ghost use Rattle.control_flow.specs.Masks.{HasHome};
 ghost use Rattle.control_flow.specs.Nodes.{HasBehind, IsLiveBefore, AddsAt, fall_from, FallsNear};
 ghost use Rattle.control_flow.specs.Nodes.{ComesFrom, HasAll};
 ghost use Rattle.control_flow.specs.Searches.{Extends};
 ghost use Rattle.control_flow.specs.Sources.{AreSources};
 
 use crate::errors::FlowError;
-use crate::masks::{RegisterMask, mask_of};
+use crate::homes::{HomeMask, mask_of};
 use crate::nodes::{Node, nodes_of};
 use crate::searches::Search;
 use crate::sources::{Sources, sources_of};
 use image::Image;
 use std::alloc::{AllocError, Global};
 
-/// The registers of the slot to which control goes, if it does.
-fn mask_behind(masks: &[RegisterMask], to: Option<usize>) -> RegisterMask
-    ensures { (r : TheReg) → Has result r ↔ HasBehind masks.now to r }
+/// What the slot has to which control goes, if it does.
+fn mask_behind(masks: &[HomeMask], to: Option<usize>) -> HomeMask
+    ensures { (h : Home) → HasHome result h ↔ HasBehind masks.now to h }
 {
     match to {
         Some(slot) => mask_of(masks, slot),
-        None => RegisterMask::none(),
+        None => HomeMask::none(),
     }
 }
 
-/// The registers that are live before an instruction, by those that are live behind it.
-fn live_before(node: &Node, masks: &[RegisterMask]) -> RegisterMask
-    ensures { (r : TheReg) → Has result r ↔ IsLiveBefore masks.now node.now r }
+/// What is live before an instruction, by what is live behind it.
+fn live_before(node: &Node, masks: &[HomeMask]) -> HomeMask
+    ensures { (h : Home) → HasHome result h ↔ IsLiveBefore masks.now node.now h }
 {
     let fallen = mask_behind(masks, node.falls_to);
     let jumped = mask_behind(masks, node.jumps_to);
@@ -37,7 +37,7 @@ fn live_before(node: &Node, masks: &[RegisterMask]) -> RegisterMask
 }
 
 /// Adds what is live before the instruction at a slot. Says whether there was something to add.
-fn add_live(nodes: &[Node], masks: &mut [RegisterMask], slot: usize) -> bool
+fn add_live(nodes: &[Node], masks: &mut [HomeMask], slot: usize) -> bool
     requires inside { slot < length nodes.now }
     requires same { length masks.old ≡ length nodes.now }
     ensures { AddsAt nodes.now slot masks.old masks.new result }
@@ -106,13 +106,13 @@ fn all_slots(alloc: Global, slots: usize) -> Result<Search, AllocError>
 /// The work that is left is a list of slots, at first all of them, the last one on top. Where a
 /// mask grows, the slots from which control comes there go on the list again. A mask grows at most
 /// once for each register, so the time is linear in slots times registers.
-pub fn live_registers(alloc: Global, image: &Image) -> Result<Vec<RegisterMask>, AllocError>
+pub fn live_homes(alloc: Global, image: &Image) -> Result<Vec<HomeMask>, AllocError>
     requires { (slot : ℕ) → ¬ Fails image.now FlowError.TargetOutside slot }
     ensures { IfOk result (λ masks. MarksLive image.now masks.items) }
 {
     let nodes = nodes_of(alloc, image)?;
     let sources = sources_of(alloc, &nodes)?;
-    let mut masks = vec![in alloc; RegisterMask::none(); nodes.len()]?;
+    let mut masks = vec![in alloc; HomeMask::none(); nodes.len()]?;
     let mut work = all_slots(alloc, nodes.len())?;
     while let Some(slot) = work.frontier.pop() {
         work.found[slot] = false;

@@ -2,7 +2,6 @@
 
 ghost use Rattle.std.specs.Prelude.{◌≡◌, ◌≤◌, ◌↔◌, ◌⊎◌, IsTrue};
 ghost use Rattle.isa_model.specs.declared.registers.Reg.{Reg as TheReg};
-ghost use Rattle.control_flow.specs.Masks.{mask_at};
 
 use isa_model::Reg;
 
@@ -56,11 +55,4 @@ impl RegisterMask {
             bits: self.bits & (self.bits ^ other.bits),
         }
     }
-}
-
-/// The mask of a slot. Outside the list it has no register.
-pub fn mask_of(masks: &[RegisterMask], slot: usize) -> RegisterMask
-    ensures { result ≡ mask_at masks.now slot }
-{
-    masks.get(slot).copied().unwrap_or(RegisterMask::none())
 }

@@ -13,5 +13,5 @@ returns-in_err-test_all-clause-only c = λ flow.
 pub joins_of-requires : goal.joins_of-requires
 joins_of-requires c = λ slot h. IsFlow-Fails c.args.image.now TargetOutside slot c.in_ok-test_all.ensures.good h
 
-pub live_registers-requires : goal.live_registers-requires
-live_registers-requires c = λ slot h. IsFlow-Fails c.args.image.now TargetOutside slot c.in_ok-test_all.ensures.good h
+pub live_homes-requires : goal.live_homes-requires
+live_homes-requires c = λ slot h. IsFlow-Fails c.args.image.now TargetOutside slot c.in_ok-test_all.ensures.good h

@@ -1,12 +1,12 @@
 use Rattle.std.proofs.Common.{◌≡◌, ◌<◌, false, List, length, set, replicate, sym, subst, arith, inl, inr}
-use Rattle.control_flow.specs.declared.masks.RegisterMask.{RegisterMask}
+use Rattle.control_flow.specs.declared.homes.HomeMask.{HomeMask}
 use Rattle.control_flow.specs.Nodes.{AddsAt, ComesFrom}
 use Rattle.control_flow.specs.Searches.{Extends}
 use Rattle.control_flow.proofs.Search.{Extends-none}
 use Rattle.control_flow.proofs.Graphs.{jump_from-stays, nodes_near}
 use Rattle.control_flow.proofs.Working.{IsWorking, working_start, working_inside, working_next, working_end, written_back}
-use Rattle.control_flow.proofs.liveness.live_registers.Goals as goal
-use Rattle.control_flow.proofs.liveness.live_registers.Goals.{In-Some}
+use Rattle.control_flow.proofs.liveness.live_homes.Goals as goal
+use Rattle.control_flow.proofs.liveness.live_homes.Goals.{In-Some}
 
 pub sources_of-requires : goal.sources_of-requires
 sources_of-requires c =
@@ -55,7 +55,7 @@ loop-slot-preserved c =
     let nothing = Extends-none (λ k. ⊥) (set found slot false) rest (λ k h. absurd h) in
     let more = working_next p nodes (λ k. ⊥) slot old new c.add_live.result found c.loop-slot.work.frontier.items rest (set found slot false) rest
     c.in_ok-nodes.ensures c.in-Some.ensures.items adds nothing (inl c.if-add_live.false) c.loop-slot.invariant in
-    subst (λ (masks : List RegisterMask). IsWorking p nodes masks (set found slot false) rest)
+    subst (λ (masks : List HomeMask). IsWorking p nodes masks (set found slot false) rest)
     (sym (written_back c.loop-slot.masks.len new old (omega (arith, c.loop-slot.masks.ok)) adds.same)) more
 
 -- it grew
@@ -72,7 +72,7 @@ loop-slot-preserved-in-Continue-branch-5 c =
     let finds : Extends (ComesFrom nodes slot) (set found slot false) rest c.go_back.new.work.found.items c.go_back.new.work.frontier.items = rw c.deref-then-add_live.ensures.value at c.in_ok-go_back.ensures in
     let more = working_next p nodes (ComesFrom nodes slot) slot old new c.add_live.result found c.loop-slot.work.frontier.items rest c.go_back.new.work.found.items c.go_back.new.work.frontier.items
     c.in_ok-nodes.ensures c.in-Some.ensures.items adds finds (inr (λ k h. h)) c.loop-slot.invariant in
-    subst (λ (masks : List RegisterMask). IsWorking p nodes masks c.go_back.new.work.found.items c.go_back.new.work.frontier.items)
+    subst (λ (masks : List HomeMask). IsWorking p nodes masks c.go_back.new.work.found.items c.go_back.new.work.frontier.items)
     (sym (written_back c.loop-slot.masks.len new old (omega (arith, c.loop-slot.masks.ok)) adds.same)) more
 
 pub returns : goal.returns

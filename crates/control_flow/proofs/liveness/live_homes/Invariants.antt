@@ -1,5 +1,5 @@
 use Rattle.control_flow.proofs.Working.{IsWorking, work_left}
-use Rattle.control_flow.proofs.liveness.live_registers.Given as goal
+use Rattle.control_flow.proofs.liveness.live_homes.Given as goal
 
 abbrev pub invariant-loop-slot : goal.invariant-loop-slot
 invariant-loop-slot l = IsWorking l.image l.nodes.items l.masks.items l.work.found.items l.work.frontier.items

@@ -1,0 +1,79 @@
+-- The byte and the slot of a frame at a place, by what the code finds of it.
+use Rattle.std.proofs.Common.{◌≡◌, ℕ, ◌*◌, ◌/◌, ◌%◌, ◌<◌, Option, Some, None, sym, ap, ◌∙◌, arith}
+use Rattle.std.specs.Prelude.{◌↔◌, ◌≢◌, ℤ, pos, ◌-ℤ◌}
+use Rattle.std.proofs.lemmas.Option.{same_Some}
+use Rattle.isa_model.specs.declared.registers.Reg.{Reg}
+use Rattle.isa_model.specs.declared.registers.Reg.TheVariants.{R10}
+use Rattle.isa_model.specs.declared.instructions.Place.{Place}
+use Rattle.isa_model.specs.MustAccept.Determined.{slot_offset}
+use Rattle.control_flow.specs.StackUse.{IsByte, IsWithinSlot, IsWholeSlot}
+
+abbrev some_number : ℕ → Option ℕ
+some_number n = Some n
+
+-- the byte is this one, and no other
+abbrev OnlyByte : Place → Option ℕ → Type 0
+OnlyByte place o = (n : ℕ) → (o ≡ Some n) ↔ IsByte place n
+
+pub byte_below : (place : Place) (o : Option ℕ) (byte : ℕ) → o ≡ Some byte → OnlyByte place o
+    → byte < 512
+byte_below place o byte is only = ((only byte).0 is).0
+
+pub within_some : (place : Place) (o : Option ℕ) (byte : ℕ) → o ≡ Some byte → OnlyByte place o
+    → (j : ℕ) → (some_number (byte / 8) ≡ Some j) ↔ IsWithinSlot place j
+within_some place o byte is only j = (
+  λ e. let same : byte / 8 ≡ j = same_Some (byte / 8) j e in (byte, (only byte).0 is, omega (arith, same), omega (arith, same)),
+  λ (n, there, low, high).
+      let same : byte ≡ n = same_Some byte n (sym is ∙ (only n).1 there) in
+      let at : byte / 8 ≡ j = omega (arith, same, low, high) in
+      ap some_number at,
+)
+
+pub within_none : (place : Place) (o : Option ℕ) → o ≡ None → OnlyByte place o → (j : ℕ)
+    → (o ≡ Some j) ↔ IsWithinSlot place j
+within_none place o is only j = (
+  λ e. absurd cc,
+  λ (n, there, low, high). let some : o ≡ Some n = (only n).1 there in absurd cc,
+)
+
+-- ---- whole slots
+
+abbrev made : Reg → ℤ → Place
+made base offset = record { base = base; offset = offset }
+
+place_is : (place : Place) (base : Reg) (offset : ℤ) → place.base ≡ base → place.offset ≡ offset
+    → place ≡ made base offset
+place_is place base offset b o = ap (λ (r : Reg). made r place.offset) b ∙ ap (λ (z : ℤ). made base z) o
+
+whole_byte : (place : Place) (o : Option ℕ) (j : ℕ) → OnlyByte place o → IsWholeSlot place j
+    → o ≡ Some (8 * j)
+whole_byte place o j only (below, is) = (only (8 * j)).1 (omega (arith, below), ap (λ (q : Place). q.base) is, ap (λ (q : Place). q.offset) is)
+
+pub whole_some : (place : Place) (o : Option ℕ) (byte : ℕ) → o ≡ Some byte → OnlyByte place o
+    → byte % 8 ≡ 0 → (j : ℕ) → (some_number (byte / 8) ≡ Some j) ↔ IsWholeSlot place j
+whole_some place o byte is only even j = (
+  λ e.
+      let same : byte / 8 ≡ j = same_Some (byte / 8) j e in
+      let (below, base, offset) = (only byte).0 is in
+      let at : byte ≡ 8 * j = omega (arith, same, even) in
+      (omega (arith, at, below), place_is place R10 (slot_offset j) base (offset ∙ ap (λ (n : ℕ). pos n -ℤ pos 512) at)),
+  λ whole.
+      let same : byte ≡ 8 * j = same_Some byte (8 * j) (sym is ∙ whole_byte place o j only whole) in
+      let at : byte / 8 ≡ j = omega (arith, same) in
+      ap some_number at,
+)
+
+pub whole_other : (place : Place) (o : Option ℕ) (byte : ℕ) → o ≡ Some byte → OnlyByte place o → byte % 8 ≢ 0 → (j : ℕ) → (let none : Option ℕ = None in none ≡ Some j) ↔ IsWholeSlot place j
+whole_other place o byte is only odd j = (
+  λ e. absurd cc,
+  λ whole.
+      let same : byte ≡ 8 * j = same_Some byte (8 * j) (sym is ∙ whole_byte place o j only whole) in
+      absurd (odd (omega (arith, same))),
+)
+
+pub whole_none : (place : Place) (o : Option ℕ) → o ≡ None → OnlyByte place o → (j : ℕ)
+    → (o ≡ Some j) ↔ IsWholeSlot place j
+whole_none place o is only j = (
+  λ e. absurd cc,
+  λ whole. let some = whole_byte place o j only whole in absurd cc,
+)

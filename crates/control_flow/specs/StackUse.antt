@@ -1,0 +1,55 @@
+-- What instructions do with the stack of their frame: through r10 as the base of loads and stores,
+-- and with r10 itself.
+use Rattle.std.specs.Prelude.{◌≡◌, ℕ, ◌+◌, ◌*◌, ◌<◌, ◌≤◌, pos, ◌-ℤ◌, Some}
+use Rattle.isa_model.specs.declared.sizes.Size.TheVariants.{U64}
+use Rattle.isa_model.specs.declared.registers.Reg.TheVariants.{R10}
+use Rattle.isa_model.specs.declared.instructions.Place.{Place}
+use Rattle.isa_model.specs.declared.instructions.Insn.{Insn}
+use Rattle.isa_model.specs.declared.instructions.Insn.TheVariants.{Load, LoadSx, Store, StoreConstant}
+use Rattle.isa_model.specs.Code.Instructions.{Program, fetch}
+use Rattle.isa_model.specs.MustAccept.Paths.{IsOneOf}
+use Rattle.isa_model.specs.MustAccept.Determined.{slot_place}
+use Rattle.control_flow.specs.Accesses.{read_registers}
+
+-- ---- slots of 8 bytes, counted from the lowest address on
+
+-- the place is byte n of the frame, from r10
+abbrev pub IsByte : Place → ℕ → Type 0
+IsByte place n = (n < 512) × (place.base ≡ R10) × (place.offset ≡ pos n -ℤ pos 512)
+
+-- it is one of slot j
+abbrev pub IsWithinSlot : Place → ℕ → Type 0
+IsWithinSlot place j = (n : ℕ) × IsByte place n × (8 * j ≤ n) × (n < 8 * j + 8)
+
+-- it is the first one of slot j
+abbrev pub IsWholeSlot : Place → ℕ → Type 0
+IsWholeSlot place j = (j < 64) × (place ≡ slot_place j)
+
+-- the instruction reads bytes of the slot
+abbrev pub ReadsSlot : Insn → ℕ → Type 0
+ReadsSlot (Load size d place) j = IsWithinSlot place j
+ReadsSlot (LoadSx size d place) j = IsWithinSlot place j
+ReadsSlot i j = ⊥
+
+-- it writes all of them
+abbrev pub WritesSlot : Insn → ℕ → Type 0
+WritesSlot (Store U64 place r) j = IsWholeSlot place j
+WritesSlot (StoreConstant U64 place k) j = IsWholeSlot place j
+WritesSlot i j = ⊥
+
+-- ---- r10 itself
+
+-- the instruction takes r10 for more than the base of a load or a store: another register may point
+-- into the frame then
+abbrev pub HandsOn : Insn → Type 0
+HandsOn (Load size d place) = ⊥
+HandsOn (LoadSx size d place) = ⊥
+HandsOn (StoreConstant size place k) = ⊥
+HandsOn (Store size place r) = r ≡ R10
+HandsOn i = IsOneOf (read_registers i) R10
+
+abbrev pub HandsOnAt : Program → ℕ → Type 0
+HandsOnAt p slot = (i : Insn) × (fetch p slot ≡ Some i) × HandsOn i
+
+abbrev pub IsHandedOn : Program → Type 0
+IsHandedOn p = (slot : ℕ) × HandsOnAt p slot

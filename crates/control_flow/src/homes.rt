@@ -1,0 +1,58 @@
+//! Sets of what a frame keeps values in: registers, and slots of its stack.
+
+ghost use Rattle.std.specs.Prelude.{◌≡◌, ◌≤◌, ◌↔◌, ◌⊎◌, IsTrue};
+ghost use Rattle.control_flow.specs.Liveness.{Home};
+ghost use Rattle.control_flow.specs.Masks.{mask_at};
+
+use crate::masks::RegisterMask;
+use crate::slot_masks::SlotMask;
+
+/// A set of registers and of slots of the stack.
+#[derive(Clone, Copy, PartialEq, Eq, Debug)]
+pub struct HomeMask {
+    pub registers: RegisterMask,
+    pub slots: SlotMask,
+}
+
+impl HomeMask {
+    ghost use Rattle.control_flow.specs.Masks.{HasHome, no_homes};
+
+    /// Nothing.
+    pub fn none() -> Self
+        ensures { result ≡ no_homes }
+    {
+        HomeMask {
+            registers: RegisterMask::none(),
+            slots: SlotMask::none(),
+        }
+    }
+
+    /// These and the others.
+    pub fn or(self, other: Self) -> Self
+        ensures all { (h : Home) → HasHome result h ↔ (HasHome self h ⊎ HasHome other h) }
+        ensures registers { self.registers.bits ≤ result.registers.bits }
+        ensures slots { self.slots.bits ≤ result.slots.bits }
+    {
+        HomeMask {
+            registers: self.registers.or(other.registers),
+            slots: self.slots.or(other.slots),
+        }
+    }
+
+    /// These without the others.
+    pub fn without(self, other: Self) -> Self
+        ensures { (h : Home) → HasHome result h ↔ (HasHome self h × (¬ HasHome other h)) }
+    {
+        HomeMask {
+            registers: self.registers.without(other.registers),
+            slots: self.slots.without(other.slots),
+        }
+    }
+}
+
+/// The mask of a slot of the code. Outside the list it has nothing.
+pub fn mask_of(masks: &[HomeMask], slot: usize) -> HomeMask
+    ensures { result ≡ mask_at masks.now slot }
+{
+    masks.get(slot).copied().unwrap_or(HomeMask::none())
+}

@@ -1,0 +1,65 @@
+//! Sets of slots of a call frame's stack.
+
+ghost use Rattle.std.specs.Prelude.{◌≡◌, ℕ, ◌<◌, ◌≤◌, ◌↔◌, ◌⊎◌, IsTrue, Some};
+
+/// A set of slots of 8 bytes, the one at offset -512 from the frame's end in the lowest bit.
+#[derive(Clone, Copy, PartialEq, Eq, Debug)]
+pub struct SlotMask {
+    bits: u64,
+}
+
+impl SlotMask {
+    ghost use Rattle.control_flow.specs.Masks.{HasSlot, no_slots};
+
+    /// No slot.
+    pub(crate) fn none() -> Self
+        ensures { result ≡ no_slots }
+    {
+        SlotMask { bits: 0 }
+    }
+
+    /// All 64.
+    pub(crate) fn all() -> Self
+        ensures { (j : ℕ) → HasSlot result j ↔ (j < 64) }
+    {
+        SlotMask { bits: u64::MAX }
+    }
+
+    /// The slot, if there is one.
+    pub(crate) fn of(slot: Option<u8>) -> Self
+        requires { (j : ℕ) → slot ≡ Some j → j < 64 }
+        ensures { (j : ℕ) → HasSlot result j ↔ (slot ≡ Some j) }
+    {
+        match slot {
+            Some(number) => SlotMask { bits: 1 << number },
+            None => SlotMask::none(),
+        }
+    }
+
+    /// Whether a slot is one of them.
+    pub fn has(self, slot: u8) -> bool
+        requires { slot < 64 }
+        ensures { IsTrue result ↔ HasSlot self slot }
+    {
+        (self.bits >> slot) & 1 == 1
+    }
+
+    /// These and the others.
+    pub(crate) fn or(self, other: Self) -> Self
+        ensures all { (j : ℕ) → HasSlot result j ↔ (HasSlot self j ⊎ HasSlot other j) }
+        ensures grown { self.bits ≤ result.bits }
+    {
+        SlotMask {
+            bits: self.bits | other.bits,
+        }
+    }
+
+    /// These without the others.
+    pub(crate) fn without(self, other: Self) -> Self
+        ensures { (j : ℕ) → HasSlot result j ↔ (HasSlot self j × (¬ HasSlot other j)) }
+    {
+        SlotMask {
+            bits: self.bits & (self.bits ^ other.bits),
+        }
+    }
+}

@@ -1,0 +1,139 @@
+//! Which slots of its frame's stack an instruction reads and writes through r10, and which
+//! instructions hand r10 itself on.
+
+ghost use Rattle.std.specs.Prelude.{◌≡◌, ℕ, ◌<◌, ◌^◌, ◌↔◌, ◌⊎◌, IsTrue, Some};
+ghost use Rattle.control_flow.specs.StackUse.{IsByte, IsWithinSlot, IsWholeSlot, ReadsSlot, WritesSlot};
+ghost use Rattle.control_flow.specs.StackUse.{HandsOn, HandsOnAt};
+ghost use Rattle.control_flow.specs.Liveness.{Home, IsReadBy, IsWrittenBy};
+ghost use Rattle.control_flow.specs.Masks.{HasSlot, HasHome};
+ghost use Rattle.control_flow.specs.Flows.{IsLowest};
+
+use crate::accesses::{registers_read, registers_written};
+use crate::homes::HomeMask;
+use crate::slot_masks::SlotMask;
+use image::Image;
+use isa_model::{Insn, Place, Reg, Size};
+
+/// The byte of the frame, from its lowest address on, at a place that r10 is the base of.
+fn byte_of(place: Place) -> Option<usize>
+    ensures { (n : ℕ) → (result ≡ Some n) ↔ IsByte place n }
+{
+    let at = i32::from(place.offset) + 512;
+    if place.base == Reg::R10 && at >= 0 && at < 512 {
+        Some(at as usize)
+    } else {
+        None
+    }
+}
+
+/// The slot in which a place lies that r10 is the base of.
+fn slot_of(place: Place) -> Option<u8>
+    ensures { (j : ℕ) → (result ≡ Some j) ↔ IsWithinSlot place j }
+{
+    match byte_of(place) {
+        Some(byte) => Some((byte / 8) as u8),
+        None => None,
+    }
+}
+
+/// The slot that begins at a place that r10 is the base of.
+fn slot_at(place: Place) -> Option<u8>
+    ensures { (j : ℕ) → (result ≡ Some j) ↔ IsWholeSlot place j }
+{
+    match byte_of(place) {
+        Some(byte) => {
+            if byte % 8 == 0 {
+                Some((byte / 8) as u8)
+            } else {
+                None
+            }
+        }
+        None => None,
+    }
+}
+
+/// The slot that an instruction reads through r10.
+fn slot_read(insn: &Insn) -> Option<u8>
+    ensures { (j : ℕ) → (result ≡ Some j) ↔ ReadsSlot insn.now j }
+{
+    match *insn {
+        Insn::Load(_, _, place) => slot_of(place),
+        Insn::LoadSx(_, _, place) => slot_of(place),
+        _ => None,
+    }
+}
+
+/// The slot that an instruction writes wholly through r10.
+fn slot_written(insn: &Insn) -> Option<u8>
+    ensures { (j : ℕ) → (result ≡ Some j) ↔ WritesSlot insn.now j }
+{
+    match *insn {
+        Insn::Store(Size::U64, place, _) => slot_at(place),
+        Insn::StoreConstant(Size::U64, place, _) => slot_at(place),
+        _ => None,
+    }
+}
+
+/// Whether an instruction takes r10 for more than the base of a load or a store.
+fn hands_on(insn: &Insn) -> bool
+    ensures { IsTrue result ↔ HandsOn insn.now }
+{
+    match insn {
+        Insn::Load(_, _, _) | Insn::LoadSx(_, _, _) | Insn::StoreConstant(_, _, _) => false,
+        Insn::Store(_, _, source) => *source == Reg::R10,
+        insn => registers_read(insn).has(Reg::R10),
+    }
+}
+
+fn hands_on_at(image: &Image, slot: usize) -> bool
+    ensures { IsTrue result ↔ HandsOnAt image.now slot }
+{
+    match image.at(slot) {
+        Some(insn) => hands_on(insn),
+        None => false,
+    }
+}
+
+/// The lowest slot of the code at which r10 is handed on.
+pub fn first_handing_on(image: &Image) -> Option<usize>
+    ensures { IsLowest (HandsOnAt image.now) result }
+{
+    for slot in 0..image.slots() {
+        if hands_on_at(image, slot) {
+            return Some(slot);
+        }
+    }
+    None
+}
+
+/// The slots that an instruction reads: any one, where a frame's address is handed on.
+fn slots_read(insn: &Insn, handed_on: bool) -> SlotMask
+    ensures { (j : ℕ) → HasSlot result j
+        ↔ (ReadsSlot insn.now j ⊎ ((j < 64) × IsTrue handed_on)) }
+{
+    if handed_on {
+        SlotMask::all()
+    } else {
+        SlotMask::of(slot_read(insn))
+    }
+}
+
+/// The registers and slots that an instruction reads.
+pub fn homes_read(insn: &Insn, handed_on: bool) -> HomeMask
+    ensures { (h : Home) → HasHome result h ↔ IsReadBy (IsTrue handed_on) insn.now h }
+{
+    HomeMask {
+        registers: registers_read(insn),
+        slots: slots_read(insn, handed_on),
+    }
+}
+
+/// The registers that have another value after an instruction, and the slots that it writes.
+pub fn homes_written(insn: &Insn) -> HomeMask
+    ensures { (h : Home) → HasHome result h ↔ IsWrittenBy insn.now h }
+{
+    HomeMask {
+        registers: registers_written(insn),
+        slots: SlotMask::of(slot_written(insn)),
+    }
+}
