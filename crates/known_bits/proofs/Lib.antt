@@ -13,3 +13,4 @@ pub mod Signs
 pub mod Overlaps
 pub mod Copies
 pub mod Frame
+pub mod Reversed

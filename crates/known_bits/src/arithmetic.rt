@@ -68,29 +68,17 @@ impl Bits {
         }
     }
 
-    /// The low bytes of the numbers, in an order. What they are reversed is left open.
+    /// The low bytes of the numbers, in an order.
     pub fn reorder(order: ByteOrder, span: Span, a: Self) -> Self
         ensures contains { (x : ℕ) → Has a x → Has result (reordered order span x) }
+        ensures sharp { IsSharp a a (λ x y. reordered order span x) result.mask }
         ensures exact { (u : ℕ) → IsConstant a u → IsConstant result (reordered order span u) }
         ensures fits { (x : ℕ) → Has result x → x < 2 ^ span_bits span }
         ensures little { order ≡ ByteOrder.Little → result.mask ≡ a.mask % 2 ^ span_bits span }
     {
-        if a.mask == 0 {
-            return Bits::constant(numbers::reorder(order, span, a.value));
+        Bits {
+            value: numbers::reorder(order, span, a.value),
+            mask: numbers::reorder(order, span, a.mask),
         }
-        match order {
-            ByteOrder::Little => a.low(span_size(span)),
-            _ => Bits::any(Width::Full64).low(span_size(span)),
-        }
-    }
-}
-
-fn span_size(span: Span) -> u32
-    ensures { result ≡ span_bits span }
-{
-    match span {
-        Span::B16 => 16,
-        Span::B32 => 32,
-        Span::B64 => 64,
     }
 }

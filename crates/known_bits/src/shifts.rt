@@ -26,6 +26,18 @@ impl Bits {
         }
     }
 
+    /// The numbers that some bits of these make, from one bit on.
+    pub fn part(self, from: u64, count: u32) -> Self
+        requires from { from < 64 }
+        requires count { count ≤ 64 }
+        ensures contains { (x : ℕ) → Has self x → Has result (x / 2 ^ from % 2 ^ count) }
+        ensures value { result.value ≡ self.value / 2 ^ from % 2 ^ count }
+        ensures mask { result.mask ≡ self.mask / 2 ^ from % 2 ^ count }
+        ensures fits { (x : ℕ) → Has result x → x < 2 ^ count }
+    {
+        self.shift_right(from).low(count)
+    }
+
     pub(crate) fn truncate(self, width: Width) -> Self
         ensures value { result.value ≡ self.value % 2 ^ width_bits width }
         ensures mask { result.mask ≡ self.mask % 2 ^ width_bits width }
@@ -49,6 +61,7 @@ impl Bits {
     fn shift_right(self, by: u64) -> Self
         requires { by < 64 }
         ensures contains { (x : ℕ) → Has self x → Has result (x / 2 ^ by) }
+        ensures value { result.value ≡ self.value / 2 ^ by }
         ensures mask { result.mask ≡ self.mask / 2 ^ by }
     {
         Bits {

@@ -6,6 +6,7 @@ mod covers;
 mod kinds;
 mod limits;
 mod low_halves;
+mod narrower;
 mod numbers;
 mod operations;
 mod pointers;

@@ -1,6 +1,6 @@
 -- What limits an operation's result keeps: those of what two numbers give.
-use Rattle.std.proofs.Common.{◌≡◌, ℕ, ℤ, ◌+◌, ◌-◌, ◌*◌, ◌%◌, ◌^◌, ◌<◌, ◌≤◌, arith, w64}
-use Rattle.std.specs.Prelude.{◌+ℤ◌, ◌-ℤ◌, ◌≤ℤ◌, FitsSigned}
+use Rattle.std.proofs.Common.{◌≡◌, ℕ, ℤ, ◌+◌, ◌-◌, ◌*◌, ◌%◌, ◌^◌, ◌<◌, ◌≤◌, pos, negsuc, zero, suc, refl, sym, ap, ◌∙◌, subst, arith, w64}
+use Rattle.std.specs.Prelude.{◌+ℤ◌, ◌-ℤ◌, ◌≤ℤ◌, FitsSigned, int_div, int_rem, unsigned_abs}
 use Rattle.std.specs.Int.{w32, cast_signed, int_shr}
 use Rattle.std.proofs.lemmas.Int.{ints, to_z-of_z}
 use Rattle.std.proofs.lemmas.Nat.{mul-le, and_le_l, and_le_r}
@@ -13,9 +13,10 @@ use Rattle.isa_model.specs.declared.instructions.AluOp.{AluOp}
 use Rattle.isa_model.specs.declared.instructions.AluOp.TheVariants.{Add, Sub, Mul, Div, SignedDiv, Or, And, Lsh, Rsh, Mod, SignedMod, Xor, Mov, Arsh}
 use Rattle.isa_model.specs.Code.Sizes.{width_bits}
 use Rattle.isa_model.specs.Code.Numbers.{result_of, shift, signed, unsigned}
-use Rattle.ranges.specs.Keeps.{Keeps, KeepsSigned, signed_of}
+use Rattle.ranges.specs.Keeps.{Keeps, KeepsSigned, KeepsSignedQuotient, KeepsSignedRemainder, signed_of}
 use Rattle.ranges.proofs.Limits.{sum_from, sum_to, difference_from, difference_to, difference_low, div_mono, shl_mono, zero_or_div, self_or_mod, mod_apart, div_apart, shr_mono, shr_fits, cast_fits}
 use Rattle.ranges.proofs.LowLaws.{low_signed_equation}
+use Rattle.ranges.proofs.QuotientLaws.{quotient_up, quotient_down, quotient_fits, quotient_fits_down, remainder_fits, remainder_within, remainder_near, remainder_by_zero, quotient_is, remainder_is, plain_quotient, plain_remainder}
 
 -- ---- what two numbers within the limits give
 
@@ -38,6 +39,14 @@ keeps_member Div w al ag bl bg x y h1 h2 h3 h4 x_in y_in =
 keeps_member Mod w al ag bl bg x y h1 h2 h3 h4 x_in y_in =
     let z = self_or_mod x y in
     ((omega arith, omega arith), λ some. let d = mod_apart x y (omega arith) in (omega arith, omega arith))
+keeps_member SignedDiv w al ag bl bg x y h1 h2 h3 h4 x_in y_in = λ plain.
+    let z = zero_or_div x y in
+    rw (plain_quotient w x y (omega (arith, plain.0)) (omega (arith, plain.1)))
+    ((omega arith, omega arith), λ some. div_apart x y al ag bl bg some h1 h2 h3 h4)
+keeps_member SignedMod w al ag bl bg x y h1 h2 h3 h4 x_in y_in = λ plain.
+    let z = self_or_mod x y in
+    rw (plain_remainder w x y (omega (arith, plain.0)) (omega (arith, plain.1)))
+    ((omega arith, omega arith), λ some. let d = mod_apart x y (omega arith) in (omega arith, omega arith))
 keeps_member And w al ag bl bg x y h1 h2 h3 h4 x_in y_in =
     let l = and_le_l x y in
     let r = and_le_r x y in
@@ -54,8 +63,6 @@ keeps_member Rsh w al ag bl bg x y h1 h2 h3 h4 x_in y_in =
 keeps_member Mov w al ag bl bg x y h1 h2 h3 h4 x_in y_in = (h3, h4)
 keeps_member Or w al ag bl bg x y h1 h2 h3 h4 x_in y_in = tt
 keeps_member Xor w al ag bl bg x y h1 h2 h3 h4 x_in y_in = tt
-keeps_member SignedDiv w al ag bl bg x y h1 h2 h3 h4 x_in y_in = tt
-keeps_member SignedMod w al ag bl bg x y h1 h2 h3 h4 x_in y_in = tt
 keeps_member Arsh w al ag bl bg x y h1 h2 h3 h4 x_in y_in = tt
 
 sum_within : (w : Width) (x y : ℕ) (a b c d : ℤ) → x < 2 ^ width_bits w → y < 2 ^ width_bits w
@@ -89,6 +96,49 @@ shifted_back Low32 x k h =
     let f : FitsSigned w32 (cast_signed w32 x) = sfits_to_z (record { fits = h }) in
     to_z-of_z w32 (int_shr (cast_signed w32 x) k) (record { sfits = let l = mag_shr (cast_signed w32 x) (2 ^ k) in let s = f.sfits in omega arith })
 
+abbrev signed_at : Width → ℕ → ℤ
+signed_at w b = cast_signed (signed_of w) b
+
+signed_is : (w : Width) (b : ℕ) → signed w b ≡ signed_at w b
+signed_is Low32 b = refl
+signed_is Full64 b = refl
+
+signed_fits : (w : Width) (x : ℕ) → x < 2 ^ width_bits w → FitsSigned (signed_of w) (signed w x)
+signed_fits Low32 x h = sfits_to_z (record { fits = h })
+signed_fits Full64 x h = cast_fits x h
+
+-- a signed number that fits is what it stands for
+signed_back : (w : Width) (z : ℤ) → FitsSigned (signed_of w) z → signed w (unsigned w z) ≡ z
+signed_back Low32 z f = to_z-of_z w32 z f
+signed_back Full64 z f = to_z-of_z w64 z f
+
+quotient_between : (w : Width) (al ag a by : ℤ) → al ≤ℤ a → a ≤ℤ ag → FitsSigned (signed_of w) a
+    → KeepsSignedQuotient (signed_of w) al ag by (λ l g. (l ≤ℤ signed w (unsigned w (int_div a by))) × (signed w (unsigned w (int_div a by)) ≤ℤ g))
+quotient_between w al ag a (pos by) h1 h2 f =
+    rw (signed_back w (int_div a (pos by)) (quotient_fits (signed_of w) a by f)) (quotient_up al a by h1, quotient_up a ag by h2)
+quotient_between w al ag a (negsuc by) h1 h2 f = λ fits.
+    rw (signed_back w (int_div a (negsuc by)) (quotient_fits_down (signed_of w) al a by h1 f fits)) (quotient_down a ag by h2, quotient_down al a by h1)
+
+quotient_within : (w : Width) (al ag : ℤ) (x y : ℕ) → x < 2 ^ width_bits w → y < 2 ^ width_bits w → al ≤ℤ signed w x → signed w x ≤ℤ ag
+    → KeepsSignedQuotient (signed_of w) al ag (signed_at w y) (λ l g. (l ≤ℤ signed w (result_of SignedDiv w x y)) × (signed w (result_of SignedDiv w x y) ≤ℤ g))
+quotient_within w al ag x y x_in y_in h1 h2 =
+    subst (λ r. KeepsSignedQuotient (signed_of w) al ag (signed_at w y) (λ l g. (l ≤ℤ signed w r) × (signed w r ≤ℤ g))) (sym (quotient_is w x y))
+    (rw (signed_is w y) (quotient_between w al ag (signed w x) (signed_at w y) h1 h2 (signed_fits w x x_in)))
+
+remainder_between : (al ag a d : ℤ) (by : ℕ) → unsigned_abs d ≡ by → al ≤ℤ a → a ≤ℤ ag
+    → KeepsSignedRemainder al ag by (λ l g. (l ≤ℤ int_rem a d) × (int_rem a d ≤ℤ g))
+remainder_between al ag a d zero is h1 h2 = rw (remainder_by_zero a d is) (h1, h2)
+remainder_between al ag a d (suc most) is h1 h2 = (remainder_near a d most is, remainder_within a al ag d h1 h2)
+
+remainder_kept : (w : Width) (al ag : ℤ) (x y : ℕ) → x < 2 ^ width_bits w → al ≤ℤ signed w x → signed w x ≤ℤ ag
+    → KeepsSignedRemainder al ag (unsigned_abs (signed_at w y)) (λ l g. (l ≤ℤ signed w (result_of SignedMod w x y)) × (signed w (result_of SignedMod w x y) ≤ℤ g))
+remainder_kept w al ag x y x_in h1 h2 =
+    let value : signed w (result_of SignedMod w x y) ≡ int_rem (signed w x) (signed_at w y) =
+    ap (signed w) (remainder_is w x y x_in) ∙ signed_back w (int_rem (signed w x) (signed w y)) (remainder_fits (signed_of w) (signed w x) (signed w y) (signed_fits w x x_in))
+    ∙ ap (int_rem (signed w x)) (signed_is w y) in
+    subst (λ r. KeepsSignedRemainder al ag (unsigned_abs (signed_at w y)) (λ l g. (l ≤ℤ r) × (r ≤ℤ g))) (sym value)
+    (remainder_between al ag (signed w x) (signed_at w y) (unsigned_abs (signed_at w y)) refl h1 h2)
+
 pub keeps_signed_member : (op : AluOp) (w : Width) (al ag bl bg : ℤ) (d e x y : ℕ) → x < 2 ^ width_bits w → y < 2 ^ width_bits w
     → al ≤ℤ signed w x → signed w x ≤ℤ ag → bl ≤ℤ signed w y → signed w y ≤ℤ bg → d ≤ y → y ≤ e
     → KeepsSigned op w al ag bl bg d e (λ l g. (l ≤ℤ signed w (result_of op w x y)) × (signed w (result_of op w x y) ≤ℤ g))
@@ -100,6 +150,14 @@ keeps_signed_member Arsh w al ag bl bg d e x y x_in y_in h1 h2 h3 h4 h5 h6 = λ 
       shr_mono al (signed w x) (2 ^ shift w d) h1,
       shr_mono (signed w x) ag (2 ^ shift w d) h2,
     )
+keeps_signed_member SignedDiv w al ag bl bg d e x y x_in y_in h1 h2 h3 h4 h5 h6 = λ one.
+    let is : y ≡ d = omega arith in
+    subst (λ b. KeepsSignedQuotient (signed_of w) al ag (signed_at w b) (λ l g. (l ≤ℤ signed w (result_of SignedDiv w x y)) × (signed w (result_of SignedDiv w x y) ≤ℤ g)))
+    is (quotient_within w al ag x y x_in y_in h1 h2)
+keeps_signed_member SignedMod w al ag bl bg d e x y x_in y_in h1 h2 h3 h4 h5 h6 = λ one.
+    let is : y ≡ d = omega arith in
+    subst (λ b. KeepsSignedRemainder al ag (unsigned_abs (signed_at w b)) (λ l g. (l ≤ℤ signed w (result_of SignedMod w x y)) × (signed w (result_of SignedMod w x y) ≤ℤ g)))
+    is (remainder_kept w al ag x y x_in h1 h2)
 keeps_signed_member Mov w al ag bl bg d e x y x_in y_in h1 h2 h3 h4 h5 h6 = (h3, h4)
 keeps_signed_member Mul w al ag bl bg d e x y x_in y_in h1 h2 h3 h4 h5 h6 = tt
 keeps_signed_member Div w al ag bl bg d e x y x_in y_in h1 h2 h3 h4 h5 h6 = tt
@@ -109,5 +167,3 @@ keeps_signed_member Lsh w al ag bl bg d e x y x_in y_in h1 h2 h3 h4 h5 h6 = tt
 keeps_signed_member Rsh w al ag bl bg d e x y x_in y_in h1 h2 h3 h4 h5 h6 = tt
 keeps_signed_member Or w al ag bl bg d e x y x_in y_in h1 h2 h3 h4 h5 h6 = tt
 keeps_signed_member Xor w al ag bl bg d e x y x_in y_in h1 h2 h3 h4 h5 h6 = tt
-keeps_signed_member SignedDiv w al ag bl bg d e x y x_in y_in h1 h2 h3 h4 h5 h6 = tt
-keeps_signed_member SignedMod w al ag bl bg d e x y x_in y_in h1 h2 h3 h4 h5 h6 = tt

@@ -70,7 +70,7 @@ div_apart x y a b c d p h1 h2 h3 h4 =
       le-div (x / y) b c p (let l = div-mul-le_self x y in let m = mul-le (x / y) c (x / y) y (omega arith) h3 in omega arith),
     )
 
-div_le : (a b m : ℕ) → a ≤ b → a / m ≤ b / m
+pub div_le : (a b m : ℕ) → a ≤ b → a / m ≤ b / m
 div_le a b m h = elim (cases_lt 0 m) [
   | inl p ↦ le-div (a / m) b m p (let l = div-mul-le_self a m in omega arith)
   | inr z ↦ let e : m ≡ 0 = omega arith in rw e (rw (div-zero a, div-zero b) (omega arith))

@@ -1,9 +1,10 @@
 -- What limits an operation's result keeps, said otherwise.
-use Rattle.std.specs.Prelude.{ℕ, ℤ}
+use Rattle.std.specs.Prelude.{ℕ, zero, suc, ℤ, pos, negsuc, unsigned_abs}
+use Rattle.std.specs.Int.{Width as IntWidth, cast_signed}
 use Rattle.isa_model.specs.declared.sizes.Width.{Width}
 use Rattle.isa_model.specs.declared.instructions.AluOp.{AluOp}
 use Rattle.isa_model.specs.declared.instructions.AluOp.TheVariants.{Add, Sub, Mul, Div, SignedDiv, Or, And, Lsh, Rsh, Mod, SignedMod, Xor, Mov, Arsh}
-use Rattle.ranges.specs.Keeps.{Keeps, KeepsSigned}
+use Rattle.ranges.specs.Keeps.{Keeps, KeepsSigned, KeepsSignedQuotient, KeepsSignedRemainder, signed_of}
 
 -- the unsigned limits
 pub keeps_map : (op : AluOp) (w : Width) (al ag bl bg : ℕ) (P Q : ℕ → ℕ → Type 0) → ((l g : ℕ) → P l g → Q l g)
@@ -13,22 +14,37 @@ keeps_map Sub w al ag bl bg P Q f h = λ le. f _ _ (h le)
 keeps_map Mul w al ag bl bg P Q f h = λ fits. f _ _ (h fits)
 keeps_map Div w al ag bl bg P Q f h = (f _ _ h.0, λ some. f _ _ (h.1 some))
 keeps_map Mod w al ag bl bg P Q f h = (f _ _ h.0, λ some. f _ _ (h.1 some))
+keeps_map SignedDiv w al ag bl bg P Q f h = λ plain. (f _ _ ((h plain).0), λ some. f _ _ ((h plain).1 some))
+keeps_map SignedMod w al ag bl bg P Q f h = λ plain. (f _ _ ((h plain).0), λ some. f _ _ ((h plain).1 some))
 keeps_map And w al ag bl bg P Q f h = (f _ _ h.0, f _ _ h.1)
 keeps_map Lsh w al ag bl bg P Q f h = λ one fits. f _ _ (h one fits)
 keeps_map Rsh w al ag bl bg P Q f h = (f _ _ h.0, λ one. f _ _ (h.1 one))
 keeps_map Mov w al ag bl bg P Q f h = f _ _ h
 keeps_map Or w al ag bl bg P Q f h = tt
 keeps_map Xor w al ag bl bg P Q f h = tt
-keeps_map SignedDiv w al ag bl bg P Q f h = tt
-keeps_map SignedMod w al ag bl bg P Q f h = tt
 keeps_map Arsh w al ag bl bg P Q f h = tt
 
--- and the signed ones
+-- the signed ones of a division by a number that is known
+signed_quotient_map : (w : IntWidth) (al ag by : ℤ) (P Q : ℤ → ℤ → Type 0) → ((l g : ℤ) → P l g → Q l g)
+    → KeepsSignedQuotient w al ag by P → KeepsSignedQuotient w al ag by Q
+signed_quotient_map w al ag (pos by) P Q f h = f _ _ h
+signed_quotient_map w al ag (negsuc by) P Q f h = λ fits. f _ _ (h fits)
+
+signed_remainder_map : (al ag : ℤ) (by : ℕ) (P Q : ℤ → ℤ → Type 0) → ((l g : ℤ) → P l g → Q l g)
+    → KeepsSignedRemainder al ag by P → KeepsSignedRemainder al ag by Q
+signed_remainder_map al ag zero P Q f h = f _ _ h
+signed_remainder_map al ag (suc most) P Q f h = (f _ _ h.0, f _ _ h.1)
+
+-- and all signed ones
 pub keeps_signed_map : (op : AluOp) (w : Width) (al ag bl bg : ℤ) (d e : ℕ) (P Q : ℤ → ℤ → Type 0) → ((l g : ℤ) → P l g → Q l g)
     → KeepsSigned op w al ag bl bg d e P → KeepsSigned op w al ag bl bg d e Q
 keeps_signed_map Add w al ag bl bg d e P Q f h = λ fl fg. f _ _ (h fl fg)
 keeps_signed_map Sub w al ag bl bg d e P Q f h = λ fl fg. f _ _ (h fl fg)
 keeps_signed_map Arsh w al ag bl bg d e P Q f h = λ one. f _ _ (h one)
+keeps_signed_map SignedDiv w al ag bl bg d e P Q f h = λ one.
+    signed_quotient_map (signed_of w) al ag (cast_signed (signed_of w) d) P Q f (h one)
+keeps_signed_map SignedMod w al ag bl bg d e P Q f h = λ one.
+    signed_remainder_map al ag (unsigned_abs (cast_signed (signed_of w) d)) P Q f (h one)
 keeps_signed_map Mov w al ag bl bg d e P Q f h = f _ _ h
 keeps_signed_map Mul w al ag bl bg d e P Q f h = tt
 keeps_signed_map Div w al ag bl bg d e P Q f h = tt
@@ -38,5 +54,3 @@ keeps_signed_map Lsh w al ag bl bg d e P Q f h = tt
 keeps_signed_map Rsh w al ag bl bg d e P Q f h = tt
 keeps_signed_map Or w al ag bl bg d e P Q f h = tt
 keeps_signed_map Xor w al ag bl bg d e P Q f h = tt
-keeps_signed_map SignedDiv w al ag bl bg d e P Q f h = tt
-keeps_signed_map SignedMod w al ag bl bg d e P Q f h = tt

@@ -1,6 +1,6 @@
 //! What the arithmetic instructions give.
 
-ghost use Rattle.std.specs.Prelude.{◌≡◌, ℕ, ◌+◌, ◌*◌, ◌*ℤ◌, ◌%◌, ◌^◌, ◌<◌, ◌≤◌, ◌-ℤ◌, pos};
+ghost use Rattle.std.specs.Prelude.{◌≡◌, ℕ, ◌+◌, ◌*◌, ◌*ℤ◌, ◌/◌, ◌%◌, ◌^◌, ◌<◌, ◌≤◌, ◌-ℤ◌, pos};
 ghost use Rattle.std.specs.Prelude.{FitsSigned, IsTrue, ◌↔◌};
 ghost use Rattle.std.specs.Int.{w32, w64};
 ghost use Rattle.isa_model.specs.Code.Sizes.{width_bits, span_bits};
@@ -123,6 +123,30 @@ impl Range {
             Low::alu(op, a.low, b.low)
         } else {
             Low::any()
+        }
+    }
+
+    /// The numbers that some bits of these make, from one bit on.
+    pub fn part(self, from: u64, count: u32) -> Self
+        requires from { from < 64 }
+        requires some { 0 < count }
+        requires count { count ≤ 64 }
+        ensures contains { (x : ℕ) → Has self x → Has result (x / 2 ^ from % 2 ^ count) }
+        ensures fits { result.wide.greatest < 2 ^ count }
+        ensures limits { self.wide.greatest / 2 ^ from < 2 ^ count
+            → W.IsBetween result.wide (self.wide.least / 2 ^ from) (self.wide.greatest / 2 ^ from) }
+        ensures low { from ≡ 0 → count ≡ 32 → 2 ^ 32 ≤ self.wide.greatest
+            → W.IsBetween result.wide self.low.least self.low.greatest }
+        ensures tight { IsTight result }
+    {
+        let most = u64::MAX >> (64 - count);
+        let greatest = self.wide.greatest >> from;
+        if greatest <= most {
+            Range::between(self.wide.least >> from, greatest)
+        } else if from == 0 && count == 32 {
+            Range::between(u64::from(self.low.least), u64::from(self.low.greatest))
+        } else {
+            Range::between(0, most)
         }
     }
 

@@ -52,6 +52,8 @@ impl Low {
             AluOp::Add => Low::unsigned_alu(op, a, b).with(a.signed_sum(b)),
             AluOp::Sub => Low::unsigned_alu(op, a, b).with(a.signed_difference(b)),
             AluOp::Arsh => Low::unsigned_alu(op, a, b).with(a.shift_signed(b)),
+            AluOp::SignedDiv => Low::unsigned_alu(op, a, b).with(a.signed_quotient(b)),
+            AluOp::SignedMod => Low::unsigned_alu(op, a, b).with(a.signed_remainder(b)),
             _ => Low::unsigned_alu(op, a, b),
         }
     }
@@ -99,6 +101,33 @@ impl Low {
         }
         let by = distance(Width::Low32, u64::from(other.least));
         self.sign_extended().shift_signed(by).low_limits()
+    }
+
+    // Quotients and remainders of halves read with a sign, where the divisor is known.
+    fn signed_quotient(self, other: Self) -> Self
+        ensures contains { (e f : ℕ) → Has self e → Has other f
+            → Has result (alu AluOp.SignedDiv Width.Low32 e f) }
+        ensures signed { (e f : ℕ) → Has self e → Has other f
+            → KeepsSignedLimits AluOp.SignedDiv self other (IsSignedBetween result) }
+    {
+        if other.least != other.greatest {
+            return Low::any();
+        }
+        let by = i64::from(other.least.cast_signed());
+        self.sign_extended().signed_quotient(by).low_limits()
+    }
+
+    fn signed_remainder(self, other: Self) -> Self
+        ensures contains { (e f : ℕ) → Has self e → Has other f
+            → Has result (alu AluOp.SignedMod Width.Low32 e f) }
+        ensures signed { (e f : ℕ) → Has self e → Has other f
+            → KeepsSignedLimits AluOp.SignedMod self other (IsSignedBetween result) }
+    {
+        if other.least != other.greatest {
+            return Low::any();
+        }
+        let by = i64::from(other.least.cast_signed());
+        self.sign_extended().signed_remainder(by).low_limits()
     }
 
     // The low halves moved into upper ones and further up: all of a number that a shift to the left

@@ -33,8 +33,10 @@ impl Wide {
             AluOp::Rsh => x.shift_right_at(width, y),
             AluOp::Arsh => x.shift_signed_at(width, y),
             AluOp::Mov => y,
-            // Limits say nothing of single bits; signed quotients and remainders are left open.
-            AluOp::Or | AluOp::Xor | AluOp::SignedDiv | AluOp::SignedMod => Wide::any(width),
+            AluOp::SignedDiv => x.signed_divide_at(width, y),
+            AluOp::SignedMod => x.signed_remainder_at(width, y),
+            // Limits say nothing of single bits.
+            AluOp::Or | AluOp::Xor => Wide::any(width),
         }
     }
 }

@@ -1,5 +1,5 @@
 -- What arithmetic on Scalars gives: all that their contracts promise, a relation for each operation.
-use Rattle.std.specs.Prelude.{◌≡◌, ℕ, ◌+◌, ◌*◌, ◌*ℤ◌, ◌%◌, ◌^◌, ◌<◌, ◌≤◌, ℤ, pos, ◌-ℤ◌, ◌≤ℤ◌, FitsSigned}
+use Rattle.std.specs.Prelude.{◌≡◌, ℕ, ◌+◌, ◌*◌, ◌*ℤ◌, ◌/◌, ◌%◌, ◌^◌, ◌<◌, ◌≤◌, ℤ, pos, ◌-ℤ◌, ◌≤ℤ◌, FitsSigned}
 use Rattle.std.specs.Int.{w32, w64, cast_signed, bit_at}
 use Rattle.isa_model.specs.declared.sizes.Width.{Width}
 use Rattle.isa_model.specs.declared.sizes.Width.TheVariants.{Full64}
@@ -97,3 +97,15 @@ pub record IsReordered (order : ByteOrder) (span : Span) (a c : Scalar) : Type 0
       → IsLowFromTo c a.range.low.least a.range.low.greatest
   pub bits : order ≡ Little → (i x y : ℕ) → i < 64 → Has c x → Has c y → bit_at x i ≡ 0 → bit_at y i ≡ 1
       → bit_at (a.bits.mask % 2 ^ span_bits span) i ≡ 1
+  pub sharp : IsSharp a a (λ x y. reordered order span x) c
+
+-- the numbers that so many bits make, from one bit on: the limits of the numbers are kept where the bits hold them, and of
+-- the lower half else those of low halves; only a bit that is unknown is so there
+pub record IsPart (from count : ℕ) (a c : Scalar) : Type 0 where
+  pub contains : (x : ℕ) → Has a x → Has c (x / 2 ^ from % 2 ^ count)
+  pub fits : (x : ℕ) → Has c x → x < 2 ^ count
+  pub limits : a.range.wide.greatest / 2 ^ from < 2 ^ count
+      → IsFromTo c (a.range.wide.least / 2 ^ from) (a.range.wide.greatest / 2 ^ from)
+  pub low : from ≡ 0 → count ≡ 32 → 2 ^ 32 ≤ a.range.wide.greatest → IsFromTo c a.range.low.least a.range.low.greatest
+  pub bits : (i x y : ℕ) → i < 64 → Has c x → Has c y → bit_at x i ≡ 0 → bit_at y i ≡ 1
+      → bit_at (a.bits.mask / 2 ^ from % 2 ^ count) i ≡ 1

@@ -22,6 +22,21 @@ impl Scalar {
     ghost use Rattle.known_bits.specs.Bits as B;
     ghost use Rattle.ranges.specs.Ranges as R;
     ghost use Rattle.reg_state.specs.Scalars.{Has, IsConstant};
+    ghost use Rattle.reg_state.specs.Arithmetic.{IsPart};
+
+    /// The numbers that some bits of these make, from one bit on.
+    pub fn part(self, from: u64, count: u32) -> Scalar
+        requires from { from < 64 }
+        requires some { 0 < count }
+        requires count { count ≤ 64 }
+        ensures { IsPart from count self result }
+    {
+        let both = Scalar {
+            bits: self.bits.part(from, count),
+            range: self.range.part(from, count),
+        };
+        both.settled()
+    }
 
     // Each part takes up what the other shows; a single number left is written as a constant.
     fn tightened(self) -> Option<Scalar>
@@ -273,6 +288,7 @@ impl Domain for Scalar {
             → IsLowFromTo result a.range.low.least a.range.low.greatest }
         ensures bits { order ≡ ByteOrder.Little → (i x y : ℕ) → i < 64 → Has result x → Has result y
             → bit_at x i ≡ 0 → bit_at y i ≡ 1 → bit_at (a.bits.mask % 2 ^ span_bits span) i ≡ 1 }
+        ensures sharp { IsSharp a a (λ x y. reordered order span x) result }
     {
         let both = Scalar {
             bits: Bits::reorder(order, span, a.bits),

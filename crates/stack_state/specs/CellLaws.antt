@@ -1,11 +1,12 @@
 -- Cells of a slot: bytes that are marked, and values that were stored.
-use Rattle.std.specs.Prelude.{◌≡◌, ◌≢◌, ℕ, zero, suc, ◌+◌, ◌-◌, ◌*◌, ◌/◌, ◌%◌, ◌^◌, ◌<◌, ◌≤◌, ℤ, pos, negsuc, true, false, List, [], ◌∷◌, map, length, slice_index_or, Option, Some, None, Ok, ◌⊎◌, bit_or, refl}
-use Rattle.std.specs.Int.{bit_at}
+use Rattle.std.specs.Prelude.{◌≡◌, ◌≢◌, ℕ, zero, suc, ◌+◌, ◌-◌, ◌*◌, ◌/◌, ◌%◌, ◌^◌, ◌<◌, ◌≤◌, ℤ, pos, negsuc, true, false, List, [], ◌∷◌, map, take, drop, length, slice_index_or, Option, Some, None, Ok, ◌⊎◌, bit_or, refl}
+use Rattle.std.specs.Int.{bit_at, byte_at, bytes_low_first}
 use Rattle.std.specs.List.{list_any, list_all}
 use Rattle.std.proofs.Common.{sym, ap, ◌∙◌, subst, inl, inr, arith}
 use Rattle.std.proofs.lemmas.Bool.{cases_lt}
 use Rattle.std.proofs.lemmas.Bool.Decides.{nat_tests}
-use Rattle.std.proofs.lemmas.Nat.{from_le_bytes-to_le_bytes_8}
+use Rattle.std.proofs.lemmas.Nat.{from_le_bytes-to_le_bytes_8, pow-add}
+use Rattle.std.proofs.Math.Nat.{div-div-eq-div-mul, div-le_self, mod-eq_of_lt, pow-succ'}
 use Rattle.std.proofs.lemmas.Nat.Bits.{bit_at_or, bit_at-lt, bit_at_mask_above, bit_at_mask_below}
 use Rattle.std.proofs.lemmas.List.{length-map, get_or_past}
 use Rattle.isa_model.specs.declared.sizes.Size.{Size}
@@ -20,7 +21,7 @@ use Rattle.isa_model.specs.declared.values.Cell.TheVariants.{Unwritten, Byte, Pi
 use Rattle.isa_model.specs.Code.Sizes.{size_bytes}
 use Rattle.isa_model.specs.Code.Numbers.{bytes_of, number_from}
 use Rattle.isa_model.specs.Machine.Memory.{is_unwritten, is_byte, number_of, number_in, pieces, value_in, same_region, same_int}
-use Rattle.isa_model.specs.Machine.ByteCells.{map-byte_in-Byte, value_in-Byte}
+use Rattle.isa_model.specs.Machine.ByteCells.{map-byte_in-Byte, value_in-Byte, take-drop-Byte}
 use Rattle.isa_model.specs.Code.LittleEndian.{EachByte}
 use Rattle.reg_state.specs.declared.kinds.Kind.{Kind}
 use Rattle.reg_state.specs.declared.kinds.Kind.TheVariants.{Unset, Number, Context, Stack, Packet, PacketEnd, Map, MapValue, MapValueOrNull}
@@ -28,7 +29,7 @@ use Rattle.reg_state.specs.Kinds.{Assigned, Allows, AllowsOrNull}
 use Rattle.stack_state.specs.declared.slots.Slot.{Slot}
 use Rattle.stack_state.specs.declared.slots.Slot.TheVariants.{Written, Spilled}
 use Rattle.stack_state.specs.Slots.{marks_of, mask_of}
-use Rattle.stack_state.specs.StackMeaning.{chunk_of, written, stored, Marked, SlotMeans}
+use Rattle.stack_state.specs.StackMeaning.{part_of, chunk_of, written, stored, Marked, SlotMeans}
 use Rattle.stack_state.specs.SpliceLaws.{chunk_kept, chunk_written}
 
 -- ---- bytes
@@ -163,6 +164,51 @@ marked_slot e (Spilled k) cs h = no_marks cs
 
 pub number_of-stored : (n : ℕ) → n < 2 ^ 64 → number_of (stored (Num n)) ≡ n
 number_of-stored n h = ap number_from (map-byte_in-Byte (bytes_of U64 n)) ∙ from_le_bytes-to_le_bytes_8 n h
+
+-- the bytes of a number from the next one on are those of the rest
+bytes_next : (i k n : ℕ) → bytes_low_first (suc i) k n ≡ bytes_low_first i k (n / 256)
+bytes_next i zero n = refl
+bytes_next zero (suc k) n = ap (λ bytes. n / 256 % 256 ∷ bytes) (bytes_next 1 k n)
+bytes_next (suc i) (suc k) n =
+    let rest : n / 256 ^ suc (suc i) ≡ n / 256 / 256 ^ suc i = ap (λ m. n / m) (pow-succ' 256 (suc i)) ∙ sym (div-div-eq-div-mul n 256 (256 ^ suc i)) in
+    rw (rest, bytes_next (suc (suc i)) k n) refl
+
+bytes_from : (i m n : ℕ) → i ≤ m → drop i (bytes_low_first 0 m n) ≡ bytes_low_first 0 (m - i) (n / 2 ^ (8 * i))
+bytes_from zero m n inside = ap (λ j. bytes_low_first 0 m j) (let e : n ≡ n / 2 ^ (8 * 0) = omega arith in e) ∙ ap (λ k. bytes_low_first 0 k (n / 2 ^ (8 * 0))) (let e : m ≡ m - 0 = omega arith in e)
+bytes_from (suc i) zero n inside = absurd (omega arith)
+bytes_from (suc i) (suc m) n inside =
+    let power : 256 * 2 ^ (8 * i) ≡ 2 ^ (8 * suc i) = sym (pow-add 2 8 (8 * i)) ∙ ap (λ e. 2 ^ e) (let e : 8 + 8 * i ≡ 8 * suc i = omega arith in e) in
+    ap (drop i) (bytes_next 0 m n) ∙ bytes_from i m (n / 256) (omega arith)
+    ∙ ap (λ q. bytes_low_first 0 (m - i) q) (div-div-eq-div-mul n 256 (2 ^ (8 * i)) ∙ ap (λ p. n / p) power)
+    ∙ ap (λ k. bytes_low_first 0 k (n / 2 ^ (8 * suc i))) (let e : m - i ≡ suc m - suc i = omega arith in e)
+
+bytes_taken : (k m i n : ℕ) → k ≤ m → take k (bytes_low_first i m n) ≡ bytes_low_first i k n
+bytes_taken zero m i n inside = refl
+bytes_taken (suc k) zero i n inside = absurd (omega arith)
+bytes_taken (suc k) (suc m) i n inside = ap (λ bytes. byte_at i n ∷ bytes) (bytes_taken k m (suc i) n (omega arith))
+
+-- what the lowest bytes of a number spell
+low_bytes : (size : Size) (n : ℕ) → n < 2 ^ 64 → number_from (bytes_low_first 0 (size_bytes size) n) ≡ n % 2 ^ (8 * size_bytes size)
+low_bytes U8 n fits = omega arith
+low_bytes U16 n fits = let next = div-div-eq-div-mul n 256 256 in omega arith
+low_bytes U32 n fits =
+    let first = div-div-eq-div-mul n 256 256 in
+    let second = div-div-eq-div-mul n 65536 256 in
+    let third = div-div-eq-div-mul n 16777216 256 in
+    omega arith
+low_bytes U64 n fits = from_le_bytes-to_le_bytes_8 n fits ∙ sym (mod-eq_of_lt fits)
+
+-- what some of its bytes spell
+pub number_of-part : (n from : ℕ) (size : Size) → n < 2 ^ 64 → from + size_bytes size ≤ 8
+    → number_of (part_of (stored (Num n)) from (size_bytes size)) ≡ n / 2 ^ (8 * from) % 2 ^ (8 * size_bytes size)
+number_of-part n from size fits inside =
+    let count = size_bytes size in
+    let rest = n / 2 ^ (8 * from) in
+    let small : rest < 2 ^ 64 = (let l = div-le_self n (2 ^ (8 * from)) in omega arith) in
+    let bytes : take count (drop from (bytes_of U64 n)) ≡ bytes_low_first 0 count rest =
+    ap (take count) (bytes_from from 8 n (omega arith)) ∙ bytes_taken count (8 - from) 0 rest (omega arith) in
+    ap number_of (take-drop-Byte (bytes_of U64 n) from count) ∙ ap number_from (map-byte_in-Byte (take count (drop from (bytes_of U64 n))) ∙ bytes)
+    ∙ low_bytes size rest small
 
 value_in-number : (n : ℕ) → n < 2 ^ 64 → value_in (stored (Num n)) ≡ Ok (Num n)
 value_in-number n h = value_in-Byte (bytes_of U64 n) ∙ ap (λ (m : ℕ). Ok (Num m)) (from_le_bytes-to_le_bytes_8 n h)

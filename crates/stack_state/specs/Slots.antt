@@ -8,6 +8,7 @@ use Rattle.reg_state.specs.declared.scalars.Scalar.{Scalar}
 use Rattle.reg_state.specs.declared.kinds.Kind.{Kind}
 use Rattle.reg_state.specs.declared.kinds.Kind.TheVariants.{Unset, Number, MapValue, MapValueOrNull}
 use Rattle.reg_state.specs.Scalars.{Has}
+use Rattle.reg_state.specs.Arithmetic.{IsPart}
 use Rattle.stack_state.specs.declared.slots.Slot.{Slot}
 use Rattle.stack_state.specs.declared.slots.Slot.TheVariants.{Written, Spilled}
 
@@ -61,25 +62,25 @@ IsAnyNumber k = ⊥
 abbrev pub AreAll : Size → Scalar → Type 0
 AreAll size answer = (x : ℕ) → (Has answer x ↔ (x < 2 ^ (8 * size_bytes size)))
 
--- of a whole spilled number its own
-abbrev pub ArePart : Scalar → Size → Scalar → Type 0
-ArePart numbers U64 answer = answer ≡ numbers
-ArePart numbers size answer = AreAll size answer
+-- those that the bytes of a spilled number from one on may spell: of all its bytes its own
+abbrev pub ArePart : Scalar → ℕ → Size → Scalar → Type 0
+ArePart numbers from U64 answer = answer ≡ numbers
+ArePart numbers from size answer = IsPart (8 * from) (8 * size_bytes size) numbers answer
 
-abbrev pub AreSpilled : Kind → Size → Scalar → Type 0
-AreSpilled (Number numbers) size answer = ArePart numbers size answer
-AreSpilled k size answer = AreAll size answer
+abbrev pub AreSpilled : Kind → ℕ → Size → Scalar → Type 0
+AreSpilled (Number numbers) from size answer = ArePart numbers from size answer
+AreSpilled k from size answer = AreAll size answer
 
--- the numbers that marked bytes of a slot may spell
-abbrev pub AreNumbers : Slot → Size → Scalar → Type 0
-AreNumbers (Written marks) size answer = AreAll size answer
-AreNumbers (Spilled k) size answer = AreSpilled k size answer
+-- the numbers that marked bytes of a slot, from one on, may spell
+abbrev pub AreNumbers : Slot → ℕ → Size → Scalar → Type 0
+AreNumbers (Written marks) from size answer = AreAll size answer
+AreNumbers (Spilled k) from size answer = AreSpilled k from size answer
 
 -- the bytes are loaded where all of them are marked
 abbrev pub IsLoad : List Slot → ℕ → Size → Option Scalar → Type 0
 IsLoad slots at size None = ¬ AreMarked slots at (at + size_bytes size)
 IsLoad slots at size (Some answer) =
-    AreMarked slots at (at + size_bytes size) × AreNumbers (slot_at slots (at / 8)) size answer
+    AreMarked slots at (at + size_bytes size) × AreNumbers (slot_at slots (at / 8)) (at % 8) size answer
 
 -- ---- whole values
 

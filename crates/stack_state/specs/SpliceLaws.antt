@@ -1,9 +1,9 @@
 -- A list after a write at a place of it: inside what was written, before it and after it; and its parts of eight.
-use Rattle.std.specs.Prelude.{◌≡◌, ℕ, ◌+◌, ◌-◌, ◌*◌, ◌<◌, ◌≤◌, List, ◌++◌, length, take, drop, slice_index_or, ◌⊎◌, refl}
+use Rattle.std.specs.Prelude.{◌≡◌, ℕ, ◌+◌, ◌-◌, ◌*◌, ◌/◌, ◌%◌, ◌<◌, ◌≤◌, List, ◌++◌, length, take, drop, slice_index_or, ◌⊎◌, refl}
 use Rattle.std.proofs.Common.{sym, ap, ◌∙◌, inl, inr, arith}
-use Rattle.std.proofs.lemmas.List.{length-drop, length-take-le, get_or-take, get_or-drop, get_or-append_right, get_or_append_left, same_lists}
+use Rattle.std.proofs.lemmas.List.{length-drop, length-take-le, get_or-take, get_or-drop, get_or-append_right, get_or_append_left, same_lists, drop-take, drop-drop, take-take}
 use Rattle.isa_model.specs.Machine.ValueLaws.{length-splice}
-use Rattle.stack_state.specs.StackMeaning.{chunk_of, written}
+use Rattle.stack_state.specs.StackMeaning.{part_of, chunk_of, written}
 
 pub length-written : {X : Type 0} (xs ys : List X) (at : ℕ) → at + length ys ≤ length xs → length (written xs at ys) ≡ length xs
 length-written xs ys at fits = length-splice xs ys at fits
@@ -75,3 +75,14 @@ chunk_whole xs ys k eight inside =
     same_lists _ _ (length-chunk k (written xs (8 * k) ys) (omega arith) ∙ sym eight)
     (λ i d h. let short = length-chunk k (written xs (8 * k) ys) (omega arith) in
     chunk_written xs ys (8 * k) k i d (omega arith) (omega arith) (omega arith) (omega arith) ∙ ap (λ q. slice_index_or ys q d) (same i))
+
+-- some of the elements inside a chunk
+pub part_of-chunk : {X : Type 0} (xs : List X) (at n : ℕ) → at % 8 + n ≤ 8 → part_of xs at n ≡ part_of (chunk_of (at / 8) xs) (at % 8) n
+part_of-chunk xs at n inside =
+    let k = at / 8 in
+    let r = at % 8 in
+    let ys = drop (8 * k) xs in
+    let eight : r + (8 - r) ≡ 8 = omega arith in
+    let place : 8 * k + r ≡ at = omega arith in
+    let short = ap (λ m. drop r (take m ys)) (sym eight) ∙ drop-take r (8 - r) ys in
+    sym (ap (take n) short ∙ take-take n (8 - r) (drop r ys) (omega arith) ∙ ap (take n) (drop-drop r (8 * k) xs ∙ ap (λ m. drop m xs) place))

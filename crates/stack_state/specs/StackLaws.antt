@@ -9,6 +9,7 @@ use Rattle.std.proofs.lemmas.List.Elements.{All-take, All-drop}
 use Rattle.isa_model.specs.declared.sizes.Size.{Size}
 use Rattle.isa_model.specs.declared.sizes.Size.TheVariants.{U8, U16, U32, U64}
 use Rattle.isa_model.specs.declared.values.Value.{Value}
+use Rattle.isa_model.specs.declared.values.Value.TheVariants.{Num}
 use Rattle.isa_model.specs.declared.values.Cell.{Cell}
 use Rattle.isa_model.specs.declared.values.Cell.TheVariants.{Unwritten, Byte}
 use Rattle.isa_model.specs.Code.Sizes.{size_bytes}
@@ -20,13 +21,14 @@ use Rattle.reg_state.specs.declared.scalars.Scalar.{Scalar}
 use Rattle.reg_state.specs.declared.kinds.Kind.{Kind}
 use Rattle.reg_state.specs.declared.kinds.Kind.TheVariants.{Unset, Number}
 use Rattle.reg_state.specs.Scalars.{Has}
+use Rattle.reg_state.specs.Arithmetic.{IsPart}
 use Rattle.reg_state.specs.Kinds.{Assigned, Allows}
 use Rattle.stack_state.specs.declared.slots.Slot.{Slot}
 use Rattle.stack_state.specs.declared.slots.Slot.TheVariants.{Written, Spilled}
 use Rattle.stack_state.specs.Slots.{slot_at, marks_of, mask_of, AreMarked, after_store, AreNumbers, IsLoad, IsNumberSpill, IsSpill}
 use Rattle.stack_state.specs.StackMeaning.{part_of, chunk_of, written, stored, Marked, SlotMeans, StackMeans, Stores, Spills, Loads, AreBytes}
-use Rattle.stack_state.specs.SpliceLaws.{length-written, get_or-chunk, chunk_other, chunk_whole}
-use Rattle.stack_state.specs.CellLaws.{all_bytes, number_in-bytes, length-bytes_of, number_from_below, no_marks, marked_after, marked_number, marked_slot, number_of-stored, length-stored}
+use Rattle.stack_state.specs.SpliceLaws.{length-written, get_or-chunk, chunk_other, chunk_whole, part_of-chunk}
+use Rattle.stack_state.specs.CellLaws.{all_bytes, number_in-bytes, length-bytes_of, number_from_below, no_marks, marked_after, marked_number, marked_slot, number_of-stored, number_of-part, length-stored}
 
 -- ---- one slot changed
 
@@ -196,14 +198,25 @@ whole_part e numbers answer cells at inside same h =
     subst (λ (s : Scalar). Has s (number_of (part_of cells at 8))) (sym same)
     (subst (λ (cs : List Cell). Has numbers (number_of cs)) (sym (part_is_chunk cells at inside)) (whole_number e numbers _ h))
 
+-- of some of its bytes, the number that they are
+spelled_part : (e : Assigned) (numbers answer : Scalar) (cells : List Cell) (at : ℕ) (size : Size) → at % 8 + size_bytes size ≤ 8
+    → IsPart (8 * (at % 8)) (8 * size_bytes size) numbers answer → SlotMeans e (Spilled (Number numbers)) (chunk_of (at / 8) cells)
+    → Has answer (number_of (part_of cells at (size_bytes size)))
+spelled_part e numbers answer cells at size inside are h =
+    let bytes : List Cell = chunk_of (at / 8) cells in
+    let here : part_of cells at (size_bytes size) ≡ part_of bytes (at % 8) (size_bytes size) = part_of-chunk cells at (size_bytes size) inside in
+    let stays : bytes ≡ stored (Num h.1.0) = h.2 ∙ ap stored h.1.1 in
+    let spelled = ap (λ (cs : List Cell). number_of (part_of cs (at % 8) (size_bytes size))) stays ∙ number_of-part h.1.0 (at % 8) size h.1.2.0.below inside in
+    subst (Has answer) (sym (ap number_of here ∙ spelled)) (are.contains h.1.0 h.1.2)
+
 part_number : (e : Assigned) (s : Slot) (cells : List Cell) (at : ℕ) (size : Size) (answer : Scalar) → at % 8 + size_bytes size ≤ 8
-    → AreNumbers s size answer → SlotMeans e s (chunk_of (at / 8) cells)
+    → AreNumbers s (at % 8) size answer → SlotMeans e s (chunk_of (at / 8) cells)
     → number_of (part_of cells at (size_bytes size)) < 2 ^ (8 * size_bytes size)
     → Has answer (number_of (part_of cells at (size_bytes size)))
 part_number e (Written marks) cells at size answer inside are h below = (are _).1 below
-part_number e (Spilled (Number numbers)) cells at U8 answer inside are h below = (are _).1 below
-part_number e (Spilled (Number numbers)) cells at U16 answer inside are h below = (are _).1 below
-part_number e (Spilled (Number numbers)) cells at U32 answer inside are h below = (are _).1 below
+part_number e (Spilled (Number numbers)) cells at U8 answer inside are h below = spelled_part e numbers answer cells at U8 inside are h
+part_number e (Spilled (Number numbers)) cells at U16 answer inside are h below = spelled_part e numbers answer cells at U16 inside are h
+part_number e (Spilled (Number numbers)) cells at U32 answer inside are h below = spelled_part e numbers answer cells at U32 inside are h
 part_number e (Spilled (Number numbers)) cells at U64 answer inside are h below = whole_part e numbers answer cells at inside are h
 part_number e (Spilled k) cells at size answer inside are h below = (are _).1 below
 

@@ -69,8 +69,8 @@ fn mark_frame(names: Names, named: &mut Named, frame: &AbstractFrame)
 }
 
 fn mark_frames(names: Names, named: &mut Named, frames: &[AbstractFrame])
-    ensures { Marks (AreFree (IsFreshAt names frames.now) (length frames.now)) (74 * length frames.now)
-        named.old named.new }
+    ensures { Marks (AreFree (IsFreshAt names frames.now) (length frames.now))
+        (74 * length frames.now) named.old named.new }
 {
     for index in 0..frames.len() {
         mark_frame(names, named, &frames[index]);

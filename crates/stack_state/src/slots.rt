@@ -68,33 +68,39 @@ fn all(size: Size) -> Scalar
     Scalar::between(0, greatest(size))
 }
 
-/// What a part of a spilled number may be.
-fn part(numbers: Scalar, size: Size) -> Scalar
-    ensures { ArePart numbers size result }
+/// What the bytes of a spilled number from one on may spell.
+fn part(numbers: Scalar, from: usize, size: Size) -> Scalar
+    requires { from + size_bytes size ≤ 8 }
+    ensures { ArePart numbers from size result }
 {
+    let from = 8 * from as u64;
     match size {
+        Size::U8 => numbers.part(from, 8),
+        Size::U16 => numbers.part(from, 16),
+        Size::U32 => numbers.part(from, 32),
         Size::U64 => numbers,
-        _ => all(size),
     }
 }
 
 /// The numbers that bytes of a spilled value may spell.
-fn spilled_numbers(kind: Kind, size: Size) -> Scalar
-    ensures { AreSpilled kind size result }
+fn spilled_numbers(kind: Kind, from: usize, size: Size) -> Scalar
+    requires { from + size_bytes size ≤ 8 }
+    ensures { AreSpilled kind from size result }
 {
     match kind {
-        Kind::Number(numbers) => part(numbers, size),
+        Kind::Number(numbers) => part(numbers, from, size),
         _ => all(size),
     }
 }
 
 /// The numbers that marked bytes of the slot may spell.
-pub(crate) fn numbers(slot: Slot, size: Size) -> Scalar
-    ensures { AreNumbers slot size result }
+pub(crate) fn numbers(slot: Slot, from: usize, size: Size) -> Scalar
+    requires { from + size_bytes size ≤ 8 }
+    ensures { AreNumbers slot from size result }
 {
     match slot {
         Slot::Written(_) => all(size),
-        Slot::Spilled(kind) => spilled_numbers(kind, size),
+        Slot::Spilled(kind) => spilled_numbers(kind, from, size),
     }
 }
 

@@ -70,7 +70,7 @@ impl StackState {
         ensures meant { Loads self.now.slots at size result }
     {
         if self.is_bytes(at, size.bytes()) {
-            Some(numbers(self.slots[at / 8], size))
+            Some(numbers(self.slots[at / 8], at % 8, size))
         } else {
             None
         }

@@ -1,5 +1,5 @@
 -- Through the context and packet pointers: what the machine loads, stores and moves is allowed by what is given for it.
-use Rattle.std.specs.Prelude.{◌≡◌, ℕ, ◌+◌, ◌-◌, ◌*◌, ◌%◌, ◌^◌, ◌<◌, ◌≤◌, ℤ, pos, negsuc, ◌+ℤ◌, ◌≤ℤ◌, FitsSigned, unsigned_abs, nat_le, Bool, true, false, List, map, take, drop, length, Some, Ok, refl}
+use Rattle.std.specs.Prelude.{◌≡◌, ℕ, ◌+◌, ◌-◌, ◌*◌, ◌%◌, ◌^◌, ◌<◌, ◌≤◌, ℤ, pos, negsuc, ◌+ℤ◌, ◌-ℤ◌, ◌≤ℤ◌, FitsSigned, unsigned_abs, nat_le, Bool, true, false, List, map, take, drop, length, Some, Ok, refl}
 use Rattle.std.specs.List.{splice}
 use Rattle.std.specs.Int.{w8, w16, w32, w64, cast_signed, cast_unsigned}
 use Rattle.std.proofs.Common.{inl, inr, sym, ap, ◌∙◌, subst, arith}
@@ -47,7 +47,7 @@ use Rattle.stack_state.specs.PacketEffects.{MeansBy-packet}
 use Rattle.transfer.specs.Results.{IsWord}
 use Rattle.transfer.specs.ResultLaws.{Yields, YieldsUnder, pointer_at_within}
 use Rattle.transfer.specs.ContextLoads.{packet_start, IsField, IsFieldKind, ContextLoads}
-use Rattle.transfer.specs.Packets.{AreInPacket, IsOfSize, IsOfSignedSize, IsNumberOf, PacketLoads, PacketLoadsSigned, PacketStores, moved_by, lowest, highest, AreOffsets, IsFreshPointer, IsMovedFixed, IsMovedBy, PacketMoves}
+use Rattle.transfer.specs.Packets.{AreInPacket, IsOfSize, IsOfSignedSize, IsNumberOf, PacketLoads, PacketLoadsSigned, PacketStores, moved_by, lowest, highest, AreOffsets, StaysProved, IsFreshPointer, least_part, greatest_part, IsMovedVariable, IsMovedBetween, IsMovedFixed, IsMovedBy, PacketMoves}
 use Rattle.transfer.specs.declared.packets.PacketPointer.{PacketPointer}
 
 -- ---- the context
@@ -221,31 +221,43 @@ fixed_moved : (back : Bool) (fixed off by : ℤ) → moved_by back (fixed +ℤ o
 fixed_moved true fixed off by = omega (arith, ints)
 fixed_moved false fixed off by = omega (arith, ints)
 
--- a fresh identity stands for the whole offset
+-- a fresh identity stands for the variable part
 offset_same : (e : Assigned) (i : ℕ) (z : ℤ) → (with_offset e i z).offset i ≡ z
 offset_same e i z = grind (arith, nat_tests)
 
-nothing_before : (z : ℤ) → z ≡ pos 0 +ℤ z
-nothing_before z = omega (arith, ints)
+-- so many bytes after it are in the packet
+abbrev AreInside : Assigned → ℤ → ℕ → Type 0
+AreInside e part proved = 0 < proved → (part +ℤ pos proved) ≤ℤ pos e.packet_length
 
-fresh_allows : (e : Assigned) (i : ℕ) (from to z : ℤ) → from ≤ℤ z → z ≤ℤ to
-    → Allows (with_offset e i z) (Packet (pos 0) i from to 0) (Ptr region.Packet z)
-fresh_allows e i from to z low high =
-    let same : (with_offset e i z).offset i ≡ z = offset_same e i z in
+fresh_allows : (e : Assigned) (i proved : ℕ) (fixed least greatest part : ℤ) → least ≤ℤ part → part ≤ℤ greatest → AreInside e part proved
+    → Allows (with_offset e i part) (Packet fixed i least greatest proved) (Ptr region.Packet (fixed +ℤ part))
+fresh_allows e i proved fixed least greatest part low high inside =
+    let same : (with_offset e i part).offset i ≡ part = offset_same e i part in
     record {
-      points = ap (Ptr region.Packet) (nothing_before z ∙ ap (λ y. pos 0 +ℤ y) (sym same));
-      from = subst (λ y. from ≤ℤ y) (sym same) low;
-      to = subst (λ y. y ≤ℤ to) (sym same) high;
-      inside = λ some. absurd (omega arith);
+      points = ap (λ y. Ptr region.Packet (fixed +ℤ y)) (sym same);
+      from = subst (λ y. least ≤ℤ y) (sym same) low;
+      to = subst (λ y. y ≤ℤ greatest) (sym same) high;
+      inside = subst (λ y. AreInside e y proved) (sym same) inside;
     }
 
-fresh_yields : (p : Program) (e : Assigned) (a : State) (s : Machine.State) (from to z : ℤ) (k : Kind) → IsFreshPointer a from to k
-    → AreOffsets from to → from ≤ℤ z → z ≤ℤ to → MeansBy p e a s → YieldsUnder p a s k (moved_to region.Packet z)
-fresh_yields p e a s from to z k h within low high m =
+apart : (fixed z : ℤ) → z ≡ fixed +ℤ (z -ℤ fixed)
+apart fixed z = omega (arith, ints)
+
+fresh_yields : (p : Program) (e : Assigned) (a : State) (s : Machine.State) (fixed least greatest z : ℤ) (proved : ℕ) (k : Kind)
+    → IsFreshPointer a fixed least greatest proved k → unsigned_abs z ≤ offset_limit
+    → least ≤ℤ (z -ℤ fixed) → (z -ℤ fixed) ≤ℤ greatest → AreInside e (z -ℤ fixed) proved → MeansBy p e a s
+    → YieldsUnder p a s k (moved_to region.Packet z)
+fresh_yields p e a s fixed least greatest z proved k h within low high inside m =
     let i : ℕ = h.identity in
     let some = h.fresh.some in
-    let there = pointer_at_within region.Packet z (offset_between from to z within low high) in
-    (with_offset e i z, MeansBy-fresh p e a s i z (omega arith) h.fresh.fresh m, rw (there, h.pointer) (fresh_allows e i from to z low high))
+    let there = pointer_at_within region.Packet z within in
+    let part : ℤ = z -ℤ fixed in (
+      with_offset e i part,
+      MeansBy-fresh p e a s i part (omega arith) h.fresh.fresh m,
+      rw (there, h.pointer)
+          (subst (λ y. Allows (with_offset e i part) (Packet fixed i least greatest proved) (Ptr region.Packet y)) (sym (apart fixed z))
+          (fresh_allows e i proved fixed least greatest part low high inside)),
+    )
 
 fixed_yields : (p : Program) (e : Assigned) (a : State) (s : Machine.State) (back : Bool) (q : PacketPointer) (by : ℤ) (k : Kind) (v : Value)
     → IsMovedFixed back q by k → AllowsPacket e q.fixed q.identity q.least q.greatest q.proved v
@@ -264,14 +276,53 @@ fixed_yields p e a s back q by k v h allowed within m =
           },
     )
 
-between_yields : (p : Program) (e : Assigned) (a : State) (s : Machine.State) (back : Bool) (q : PacketPointer) (near far by : ℤ) (k : Kind)
-    (v : Value) → AreOffsets (lowest back q near far) (highest back q near far)
-    → IsFreshPointer a (lowest back q near far) (highest back q near far) k
+-- nothing is proved of the whole offset
+whole_yields : (p : Program) (e : Assigned) (a : State) (s : Machine.State) (from to z : ℤ) (k : Kind) → IsFreshPointer a (pos 0) from to 0 k
+    → AreOffsets from to → from ≤ℤ z → z ≤ℤ to → MeansBy p e a s → YieldsUnder p a s k (moved_to region.Packet z)
+whole_yields p e a s from to z k h within low high m =
+    fresh_yields p e a s (pos 0) from to z 0 k h (offset_between from to z within low high)
+    (omega (arith, ints)) (omega (arith, ints)) (λ some. absurd (omega arith)) m
+
+-- the variable part grows by no more than its greatest
+grows_within : (back : Bool) (q : PacketPointer) (off near far by : ℤ) → near ≤ℤ by → by ≤ℤ far
+    → (moved_by back (q.fixed +ℤ off) by -ℤ q.fixed) ≤ℤ (off +ℤ (greatest_part back q near far -ℤ q.greatest))
+grows_within true q off near far by low high = omega (arith, ints)
+grows_within false q off near far by low high = omega (arith, ints)
+
+-- so the last of the bytes that stay proved is no further than the last was
+still_inside : (e : Assigned) (off part growth : ℤ) (proved left : ℕ) → StaysProved proved growth left → part ≤ℤ (off +ℤ growth)
+    → AreInside e off proved → AreInside e part left
+still_inside e off part growth proved left stays within inside some =
+    let rest = stays.some some in
+    let there : (off +ℤ pos proved) ≤ℤ pos e.packet_length = inside rest.0 in
+    let is = rest.1 in
+    omega (arith, ints)
+
+variable_yields : (p : Program) (e : Assigned) (a : State) (s : Machine.State) (back : Bool) (q : PacketPointer) (near far by : ℤ) (k : Kind)
+    (v : Value) → AreOffsets (lowest back q near far) (highest back q near far) → IsMovedVariable a back q near far k
     → near ≤ℤ by → by ≤ℤ far → AllowsPacket e q.fixed q.identity q.least q.greatest q.proved v → MeansBy p e a s
     → YieldsUnder p a s k (moved_to region.Packet (moved_by back (q.fixed +ℤ e.offset q.identity) by))
-between_yields p e a s back q near far by k v within h low high allowed m =
+variable_yields p e a s back q near far by k v within h low high allowed m =
+    let off : ℤ = e.offset q.identity in
+    let z : ℤ = moved_by back (q.fixed +ℤ off) by in
+    let (from, to) = moved_between back q off near far by allowed.from allowed.to low high in
+    fresh_yields p e a s q.fixed (least_part back q near far) (greatest_part back q near far) z h.proved k h.pointer
+    (offset_between (lowest back q near far) (highest back q near far) z within from to)
+    (omega (arith, ints)) (omega (arith, ints))
+    (still_inside e off (z -ℤ q.fixed) (greatest_part back q near far -ℤ q.greatest) q.proved h.proved h.stays
+    (grows_within back q off near far by low high) allowed.inside) m
+
+between_yields : (p : Program) (e : Assigned) (a : State) (s : Machine.State) (back : Bool) (q : PacketPointer) (near far by : ℤ) (k : Kind)
+    (v : Value) → IsMovedBetween a back q near far k → near ≤ℤ by → by ≤ℤ far
+    → AllowsPacket e q.fixed q.identity q.least q.greatest q.proved v → MeansBy p e a s
+    → YieldsUnder p a s k (moved_to region.Packet (moved_by back (q.fixed +ℤ e.offset q.identity) by))
+between_yields p e a s back q near far by k v h low high allowed m =
     let (from, to) = moved_between back q (e.offset q.identity) near far by allowed.from allowed.to low high in
-    fresh_yields p e a s (lowest back q near far) (highest back q near far) (moved_by back (q.fixed +ℤ e.offset q.identity) by) k h within from to m
+    elim h.pointer [
+      | inl variable ↦ variable_yields p e a s back q near far by k v h.within variable low high allowed m
+      | inr (none, fresh) ↦ whole_yields p e a s (lowest back q near far) (highest back q near far)
+          (moved_by back (q.fixed +ℤ e.offset q.identity) by) k fresh h.within from to m
+    ]
 
 by_one_yields : (p : Program) (e : Assigned) (a : State) (s : Machine.State) (back : Bool) (q : PacketPointer) (by : ℤ) (k : Kind) (v : Value)
     → IsMovedBy a back q by k → AllowsPacket e q.fixed q.identity q.least q.greatest q.proved v → MeansBy p e a s
@@ -282,7 +333,8 @@ by_one_yields p e a s back q by k v h allowed m =
     elim h.pointer [
       | inl kept ↦ fixed_yields p e a s back q by k v kept allowed
           (offset_between (lowest back q by by) (highest back q by by) (moved_by back (q.fixed +ℤ e.offset q.identity) by) h.within from to) m
-      | inr (none, fresh) ↦ between_yields p e a s back q by by by k v h.within fresh here here allowed m
+      | inr (none, fresh) ↦ whole_yields p e a s (lowest back q by by) (highest back q by by)
+          (moved_by back (q.fixed +ℤ e.offset q.identity) by) k fresh h.within from to m
     ]
 
 -- the pointer that a member of the number moves
@@ -293,7 +345,7 @@ moved_yields p e a s back q by k x v (inl h) has allowed m =
     subst (λ n. YieldsUnder p a s k (moved_to region.Packet (moved_by back (q.fixed +ℤ e.offset q.identity) (signed Full64 n)))) (sym (IsNumber-only by h.number x h.alone has))
     (by_one_yields p e a s back q (signed Full64 h.number) k v h.moves allowed m)
 moved_yields p e a s back q by k x v (inr h) has allowed m =
-    between_yields p e a s back q by.range.wide.signed_least by.range.wide.signed_greatest (signed Full64 x) k v h.moves.within h.moves.pointer
+    between_yields p e a s back q by.range.wide.signed_least by.range.wide.signed_greatest (signed Full64 x) k v h.moves
     has.1.0.signed_from has.1.0.signed_to allowed m
 
 -- packet pointer and number

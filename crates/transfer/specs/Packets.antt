@@ -109,20 +109,50 @@ abbrev pub AreLimited : ℤ → ℤ → Result (ℤ × ℤ) Refusal → Type 0
 AreLimited from to (Ok limits) = (limits.0 ≡ from) × (limits.1 ≡ to) × AreOffsets from to
 AreLimited from to (Err e) = (e ≡ PointerOffset) × ¬ AreOffsets from to
 
-abbrev pub IsFixedPart : ℤ → Option ℤ → Type 0
-IsFixedPart z (Some fixed) = (fixed ≡ z) × FitsSigned w32 z
-IsFixedPart z None = ¬ FitsSigned w32 z
+-- a part of an offset is a number of 32 bits with a sign
+abbrev pub IsPart : ℤ → Option ℤ → Type 0
+IsPart z (Some part) = (part ≡ z) × FitsSigned w32 z
+IsPart z None = ¬ FitsSigned w32 z
 
--- a new identity's variable part is the whole offset, of which only the limits are known
-pub record IsFreshPointer (a : State) (from to : ℤ) (k : Kind) : Type 0 where
+abbrev pub HaveRoom : ℤ → ℤ → Type 0
+HaveRoom least greatest = FitsSigned w32 least × FitsSigned w32 greatest
+
+abbrev pub AreParts : ℤ → ℤ → Option (ℤ × ℤ) → Type 0
+AreParts least greatest (Some parts) = (parts.0 ≡ least) × (parts.1 ≡ greatest) × HaveRoom least greatest
+AreParts least greatest None = ¬ HaveRoom least greatest
+
+-- what is proved after the variable part, less what its greatest grows, where that is a length of 32 bits; else nothing
+pub record StaysProved (proved : ℕ) (growth : ℤ) (left : ℕ) : Type 0 where
+  pub some : 0 < left → (0 < proved) × (pos left ≡ (pos proved -ℤ growth))
+  pub none : left ≡ 0 → 0 < proved
+      → ((pos proved -ℤ growth) ≤ℤ pos 0) ⊎ (pos (2 ^ 32) ≤ℤ (pos proved -ℤ growth))
+
+-- a pointer with the least new identity
+pub record IsFreshPointer (a : State) (fixed least greatest : ℤ) (proved : ℕ) (k : Kind) : Type 0 where
   pub identity : ℕ
   pub fresh : IsLeastFreshPacket a identity
-  pub pointer : k ≡ Packet (pos 0) identity from to 0
+  pub pointer : k ≡ Packet fixed identity least greatest proved
 
--- a move by something between two distances
+-- the limits of the variable part after a move by something between two distances: the fixed part stays
+abbrev pub least_part : Bool → PacketPointer → ℤ → ℤ → ℤ
+least_part back p near far = lowest back p near far -ℤ p.fixed
+
+abbrev pub greatest_part : Bool → PacketPointer → ℤ → ℤ → ℤ
+greatest_part back p near far = highest back p near far -ℤ p.fixed
+
+-- the move is one of the variable part, where that has room for it
+pub record IsMovedVariable (a : State) (back : Bool) (p : PacketPointer) (near far : ℤ) (k : Kind) : Type 0 where
+  pub room : HaveRoom (least_part back p near far) (greatest_part back p near far)
+  pub proved : ℕ
+  pub stays : StaysProved p.proved (greatest_part back p near far -ℤ p.greatest) proved
+  pub pointer : IsFreshPointer a p.fixed (least_part back p near far) (greatest_part back p near far) proved k
+
+-- where it has none, the variable part is the whole offset, and nothing is proved
 pub record IsMovedBetween (a : State) (back : Bool) (p : PacketPointer) (near far : ℤ) (k : Kind) : Type 0 where
   pub within : AreOffsets (lowest back p near far) (highest back p near far)
-  pub pointer : IsFreshPointer a (lowest back p near far) (highest back p near far) k
+  pub pointer : IsMovedVariable a back p near far k
+      ⊎ ((¬ HaveRoom (least_part back p near far) (greatest_part back p near far))
+      × IsFreshPointer a (pos 0) (lowest back p near far) (highest back p near far) 0 k)
 
 -- a move by one distance is one of the fixed part
 pub record IsMovedFixed (back : Bool) (p : PacketPointer) (by : ℤ) (k : Kind) : Type 0 where
@@ -133,7 +163,8 @@ pub record IsMovedFixed (back : Bool) (p : PacketPointer) (by : ℤ) (k : Kind) 
 pub record IsMovedBy (a : State) (back : Bool) (p : PacketPointer) (by : ℤ) (k : Kind) : Type 0 where
   pub within : AreOffsets (lowest back p by by) (highest back p by by)
   pub pointer : IsMovedFixed back p by k
-      ⊎ ((¬ FitsSigned w32 (moved_by back p.fixed by)) × IsFreshPointer a (lowest back p by by) (highest back p by by) k)
+      ⊎ ((¬ FitsSigned w32 (moved_by back p.fixed by))
+      × IsFreshPointer a (pos 0) (lowest back p by by) (highest back p by by) 0 k)
 
 abbrev pub MovesBetween : State → Bool → PacketPointer → ℤ → ℤ → Result Kind Refusal → Type 0
 MovesBetween a back p near far (Ok k) = IsMovedBetween a back p near far k

@@ -4,7 +4,8 @@ ghost use Rattle.std.specs.Prelude.{false, ◌≡◌, ◌+ℤ◌};
 ghost use Rattle.isa_model.specs.Code.Instructions.{is_frame_pointer};
 ghost use Rattle.isa_model.specs.Code.Sizes.{size_bytes};
 ghost use Rattle.transfer.specs.Values.{AreInValue};
-ghost use Rattle.transfer.specs.Atomics.{with_old, StackSwaps, ValueSwaps, IsPacketRefusal, SwapsAt, Swaps};
+ghost use Rattle.transfer.specs.Atomics.{with_old, StackSwaps, ValueSwaps, IsPacketRefusal};
+ghost use Rattle.transfer.specs.Atomics.{SwapsAt, Swaps};
 ghost use Rattle.transfer.specs.Atomics.{Compares};
 
 use crate::packets::{are_in_packet, of_size};
@@ -61,8 +62,8 @@ fn value_swap(
     register: Option<Reg>,
 ) -> Result<(), Refusal>
     requires { is_frame_pointer register ≡ false }
-    ensures { ValueSwaps (AreInValue room least greatest by (size_bytes size)) state.old size register
-        state.new result }
+    ensures { ValueSwaps (AreInValue room least greatest by (size_bytes size)) state.old size
+        register state.new result }
 {
     if !are_in_value(room, least, greatest, by, size) {
         return Err(Refusal::MapValueBytes);

@@ -1,12 +1,13 @@
 //! Loads, stores and moves through packet pointers.
 
-ghost use Rattle.std.specs.Prelude.{◌≡◌, ◌+◌, ◌*◌, ◌^◌, ◌↔◌, ℤ, ◌+ℤ◌, ◌≤ℤ◌, FitsSigned, IsTrue};
+ghost use Rattle.std.specs.Prelude.{◌≡◌, ◌+◌, ◌*◌, ◌^◌, ◌↔◌, ℤ, pos, ◌+ℤ◌, ◌-ℤ◌, ◌≤ℤ◌, FitsSigned};
+ghost use Rattle.std.specs.Prelude.{IsTrue};
 ghost use Rattle.isa_model.specs.Code.Sizes.{size_bytes, narrow_size, narrow_extension};
 ghost use Rattle.ranges.specs.Keeps.{extension_signed};
 ghost use Rattle.transfer.specs.Packets.{AreInPacket, IsOfSize, IsOfSignedSize};
 ghost use Rattle.transfer.specs.Packets.{PacketLoads, PacketLoadsSigned, IsStored, PacketStores};
 ghost use Rattle.transfer.specs.Packets.{lowest, highest, AreLimited};
-ghost use Rattle.transfer.specs.Packets.{IsFixedPart};
+ghost use Rattle.transfer.specs.Packets.{IsPart, AreParts, StaysProved};
 ghost use Rattle.transfer.specs.Packets.{IsFreshPointer, MovesBetween, MovesBy, PacketMoves};
 
 use crate::offsets::{limits, moved_by, sum};
@@ -189,9 +190,9 @@ fn both(back: bool, pointer: PacketPointer, near: i64, far: i64) -> Result<(i32,
     )
 }
 
-/// The fixed part of a pointer, if it has room there.
-fn fixed_part(offset: i128) -> Option<i32>
-    ensures { IsFixedPart offset result }
+/// A part of an offset, if it has room for the number.
+fn part(offset: i128) -> Option<i32>
+    ensures { IsPart offset result }
 {
     if i128::from(i32::MIN) <= offset && offset <= i128::from(i32::MAX) {
         Some(offset as i32)
@@ -200,20 +201,41 @@ fn fixed_part(offset: i128) -> Option<i32>
     }
 }
 
-/// A pointer of which only the limits are known.
-fn fresh_pointer(state: &State, from: i32, to: i32) -> Kind
-    ensures { IsFreshPointer state.now from to result }
+/// The limits of the variable part, where the whole offset is from one to another.
+fn variable_part(fixed: i32, from: i32, to: i32) -> Option<(i32, i32)>
+    ensures { AreParts (from -ℤ fixed) (to -ℤ fixed) result }
+{
+    let least = part(moved_by(true, i64::from(from), i64::from(fixed)))?;
+    let greatest = part(moved_by(true, i64::from(to), i64::from(fixed)))?;
+    Some((least, greatest))
+}
+
+/// How many bytes after the variable part are still in the packet, when its greatest has moved.
+fn still_proved(proved: u32, greatest: i32, moved: i32) -> u32
+    ensures { StaysProved proved (moved -ℤ greatest) result }
+{
+    let left = i64::from(proved) + i64::from(greatest) - i64::from(moved);
+    if proved == 0 || left < 0 || left > i64::from(u32::MAX) {
+        return 0;
+    }
+    left as u32
+}
+
+/// A pointer with a new identity.
+fn fresh_pointer(state: &State, fixed: i32, least: i32, greatest: i32, proved: u32) -> Kind
+    ensures { IsFreshPointer state.now fixed least greatest proved result }
 {
     Kind::Packet {
-        fixed: 0,
+        fixed,
         identity: state.fresh_packet_identity(),
-        least: from,
-        greatest: to,
-        proved: 0,
+        least,
+        greatest,
+        proved,
     }
 }
 
-/// A move by something between two distances.
+/// A move by something between two distances. The fixed part stays, if the variable one has room
+/// for the move; else the variable part takes it in, and nothing is proved.
 fn moved_between(
     state: &State,
     back: bool,
@@ -226,18 +248,24 @@ fn moved_between(
     let Ok((from, to)) = both(back, pointer, near, far) else {
         return Err(Refusal::PointerOffset);
     };
-    Ok(fresh_pointer(state, from, to))
+    match variable_part(pointer.fixed, from, to) {
+        Some((least, greatest)) => {
+            let proved = still_proved(pointer.proved, pointer.greatest, greatest);
+            Ok(fresh_pointer(state, pointer.fixed, least, greatest, proved))
+        }
+        None => Ok(fresh_pointer(state, 0, from, to, 0)),
+    }
 }
 
-/// A move by one distance. Only a state that no run comes to can have a fixed part so far off that
-/// it has no room for the move; the variable part then takes it in.
+/// A move by one distance. The fixed part moves, if it has room for that; else the variable part
+/// takes it in, and nothing is proved.
 fn moved(state: &State, back: bool, pointer: PacketPointer, distance: i64) -> Result<Kind, Refusal>
     ensures { MovesBy state.now back pointer distance result }
 {
     let Ok((from, to)) = both(back, pointer, distance, distance) else {
         return Err(Refusal::PointerOffset);
     };
-    match fixed_part(moved_by(back, i64::from(pointer.fixed), distance)) {
+    match part(moved_by(back, i64::from(pointer.fixed), distance)) {
         Some(fixed) => Ok(Kind::Packet {
             fixed,
             identity: pointer.identity,
@@ -245,7 +273,7 @@ fn moved(state: &State, back: bool, pointer: PacketPointer, distance: i64) -> Re
             greatest: pointer.greatest,
             proved: pointer.proved,
         }),
-        None => Ok(fresh_pointer(state, from, to)),
+        None => Ok(fresh_pointer(state, 0, from, to, 0)),
     }
 }
 

@@ -119,7 +119,8 @@ fn a_number_is_read_in_part(rt: HostRuntime) {
         &[
             Look::Fill(3, Some(number)),
             Look::Load(24, Size::U64, Some(seven)),
-            Look::Load(26, Size::U16, Some(Scalar::between(0, 0xffff))),
+            Look::Load(24, Size::U8, Some(seven)),
+            Look::Load(26, Size::U16, Some(Scalar::constant(0))),
             // across two slots, the second a pointer
             Look::IsBytes(28, 8, false),
         ],

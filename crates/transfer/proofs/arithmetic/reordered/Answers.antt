@@ -9,4 +9,5 @@ returns-in-Number c =
       limits = c.reorder.ensures.limits;
       low_limits = c.reorder.ensures.low_limits;
       bits = c.reorder.ensures.bits;
+      sharp = c.reorder.ensures.sharp;
     }

@@ -1,32 +1,36 @@
-use Rattle.std.proofs.Math.Nat.{mod-eq_of_lt}
+use Rattle.std.proofs.Common.{arith, ap, ◌∙◌}
 use Rattle.isa_model.specs.Code.Numbers.{reordered}
-use Rattle.isa_model.specs.Code.NumberLemmas.{reordered_below, reordered_fits}
-use Rattle.std.proofs.Common.{arith}
+use Rattle.known_bits.proofs.Members.{known}
+use Rattle.known_bits.proofs.Copies.{copied_known, copied_contains, copied_fits, copied_sharp}
+use Rattle.known_bits.proofs.Reversed.{reorder_copies, reordered_zero}
 use Rattle.known_bits.proofs.bits.Bits.reorder.Goals as goal
 
-pub returns-in-Little-clause-contains : goal.returns-in-Little-clause-contains
-unfolding reordered
-returns-in-Little-clause-contains c = λ x hx. rw c.in-Little.is (rw c.span_size.ensures at (c.low.ensures.contains x hx))
+pub returns-clause-contains : goal.returns-clause-contains
+returns-clause-contains c = λ x hx.
+    let ka = known c.args.a (omega arith) (omega arith) in
+    rw (c.reorder.ensures, c.reorder-2.ensures) (copied_contains (reorder_copies c.args.order c.args.span) ka x hx)
 
-pub returns-in_default-clause-contains : goal.returns-in_default-clause-contains
-returns-in_default-clause-contains c = λ x hx.
+pub returns-clause-sharp : goal.returns-clause-sharp
+returns-clause-sharp c = λ i h.
+    let ka = known c.args.a (omega arith) (omega arith) in
+    copied_sharp (reorder_copies c.args.order c.args.span) ka ka i (rw c.reorder-2.ensures at h)
+
+pub returns-clause-fits : goal.returns-clause-fits
+returns-clause-fits c = λ x h.
+    let ka = known c.args.a (omega arith) (omega arith) in
+    copied_fits (reorder_copies c.args.order c.args.span) ka (rw (c.reorder.ensures, c.reorder-2.ensures) at h)
+
+pub invariant_of-result : goal.invariant_of-result
+invariant_of-result c =
+    let ka = known c.args.a (omega arith) (omega arith) in
+    record { apart = rw (c.reorder.ensures, c.reorder-2.ensures) ((copied_known (reorder_copies c.args.order c.args.span) ka).apart); fits = omega arith }
+
+pub returns-clause-exact : goal.returns-clause-exact
+returns-clause-exact c = λ u h.
     let order = c.args.order in
     let span = c.args.span in
-    let all = (c.any.ensures (reordered order span x)).1 (reordered_fits order span x) in
-    rw (c.span_size-in_default.ensures, mod-eq_of_lt (reordered_below order span x)) at (c.low-in_default.ensures.contains _ all)
+    (c.reorder.ensures ∙ ap (reordered order span) h.0, c.reorder-2.ensures ∙ ap (reordered order span) h.1 ∙ reordered_zero order span)
 
-pub returns-in-Little-clause-fits : goal.returns-in-Little-clause-fits
-returns-in-Little-clause-fits c = λ x hx. rw c.span_size.ensures at (c.low.ensures.fits x hx)
-
-pub returns-in-Little-clause-little : goal.returns-in-Little-clause-little
-returns-in-Little-clause-little c = λ is. rw c.span_size.ensures at c.low.ensures.mask
-
-pub returns-in_default-clause-fits : goal.returns-in_default-clause-fits
-returns-in_default-clause-fits c = λ x hx. rw c.span_size-in_default.ensures at (c.low-in_default.ensures.fits x hx)
-
-pub returns-then-a-eq0-clause-fits : goal.returns-then-a-eq0-clause-fits
-returns-then-a-eq0-clause-fits c = λ x h.
-    let same = c.constant.ensures.only x h in
-    let is = c.reorder.ensures in
-    let b = reordered_below c.args.order c.args.span c.args.a.value in
-    omega arith
+pub returns-clause-little : goal.returns-clause-little
+unfolding reordered
+returns-clause-little c = λ is. c.reorder-2.ensures ∙ ap (λ o. reordered o c.args.span c.args.a.mask) is

@@ -94,3 +94,37 @@ pub returns-in-Mov-clause-signed : goal.returns-in-Mov-clause-signed
 returns-in-Mov-clause-signed c = λ x y hx hy full.
     let fb : c.args.b.greatest < 2 ^ width_bits c.args.width = rw full (omega arith) in
     rw (c.in-Mov.is, c.truncate-y.ensures.same fb) (omega (arith, ints), omega (arith, ints))
+
+pub returns-in-SignedDiv-clause-contains : goal.returns-in-SignedDiv-clause-contains
+unfolding alu
+returns-in-SignedDiv-clause-contains c = λ x y hx hy.
+    let w = c.args.width in
+    rw c.in-SignedDiv.is (c.signed_divide_at.ensures.contains _ _ (low_below w x) (low_below w y) (c.truncate-x.ensures.contains x hx) (c.truncate-y.ensures.contains y hy))
+
+pub returns-in-SignedDiv-clause-limits : goal.returns-in-SignedDiv-clause-limits
+returns-in-SignedDiv-clause-limits c = λ fa fb.
+    rw c.in-SignedDiv.is (rw (c.truncate-x.ensures.same fa, c.truncate-y.ensures.same fb) at c.signed_divide_at.ensures.limits)
+
+pub returns-in-SignedDiv-clause-signed : goal.returns-in-SignedDiv-clause-signed
+returns-in-SignedDiv-clause-signed c = λ x y hx hy full.
+    let fa : c.args.a.greatest < 2 ^ width_bits c.args.width = rw full (omega arith) in
+    let fb : c.args.b.greatest < 2 ^ width_bits c.args.width = rw full (omega arith) in
+    rw c.in-SignedDiv.is (rw (c.truncate-x.ensures.same fa, c.truncate-y.ensures.same fb)
+    at (c.signed_divide_at.ensures.signed _ _ (c.truncate-x.ensures.contains x hx) (c.truncate-y.ensures.contains y hy) full))
+
+pub returns-in-SignedMod-clause-contains : goal.returns-in-SignedMod-clause-contains
+unfolding alu
+returns-in-SignedMod-clause-contains c = λ x y hx hy.
+    let w = c.args.width in
+    rw c.in-SignedMod.is (c.signed_remainder_at.ensures.contains _ _ (low_below w x) (low_below w y) (c.truncate-x.ensures.contains x hx) (c.truncate-y.ensures.contains y hy))
+
+pub returns-in-SignedMod-clause-limits : goal.returns-in-SignedMod-clause-limits
+returns-in-SignedMod-clause-limits c = λ fa fb.
+    rw c.in-SignedMod.is (rw (c.truncate-x.ensures.same fa, c.truncate-y.ensures.same fb) at c.signed_remainder_at.ensures.limits)
+
+pub returns-in-SignedMod-clause-signed : goal.returns-in-SignedMod-clause-signed
+returns-in-SignedMod-clause-signed c = λ x y hx hy full.
+    let fa : c.args.a.greatest < 2 ^ width_bits c.args.width = rw full (omega arith) in
+    let fb : c.args.b.greatest < 2 ^ width_bits c.args.width = rw full (omega arith) in
+    rw c.in-SignedMod.is (rw (c.truncate-x.ensures.same fa, c.truncate-y.ensures.same fb)
+    at (c.signed_remainder_at.ensures.signed _ _ (c.truncate-x.ensures.contains x hx) (c.truncate-y.ensures.contains y hy) full))

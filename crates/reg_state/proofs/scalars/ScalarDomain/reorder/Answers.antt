@@ -33,3 +33,9 @@ returns-clause-bits c = λ little i x y inside hx hy zero one.
     let fits : c.reorder.result.mask < 2 ^ 64 = omega arith in
     ap (λ m. bit_at m i) (sym (c.reorder.ensures.little little)) ∙ bit_at-differing c.reorder.result.value c.reorder.result.mask x y i fits
     (c.settled.ensures.narrower x hx).0 (c.settled.ensures.narrower y hy).0 inside zero one
+
+pub returns-clause-sharp : goal.returns-clause-sharp
+returns-clause-sharp c = λ i x y inside hx hy zero one.
+    let fits : c.reorder.result.mask < 2 ^ 64 = omega arith in
+    c.reorder.ensures.sharp i (bit_at-differing c.reorder.result.value c.reorder.result.mask x y i fits
+    (c.settled.ensures.narrower x hx).0 (c.settled.ensures.narrower y hy).0 inside zero one)

@@ -1,0 +1,322 @@
+//! Reversed bytes, parts of numbers, and signed quotients and remainders: worked out by hand at the
+//! ends, and from all members of small sets.
+
+use isa_model::{AluOp, ByteOrder, Span, Width, numbers};
+use ranges::Range;
+use reg_state::{Domain, Scalar};
+use std::process::Abort;
+use std::test::Fail;
+
+const FULL: Width = Width::Full64;
+
+const LOW: Width = Width::Low32;
+
+/// What is asked of a number, and of a set of numbers.
+#[derive(Clone, Copy, Debug)]
+enum Operation {
+    Reorder(ByteOrder, Span),
+    /// Some bits, from one bit on.
+    Part(u64, u32),
+}
+
+fn of_number(operation: Operation, number: u64) -> u64 {
+    match operation {
+        Operation::Reorder(order, span) => numbers::reorder(order, span, number),
+        Operation::Part(from, 8) => number >> (from % 64) & 0xff,
+        Operation::Part(from, 16) => number >> (from % 64) & 0xffff,
+        Operation::Part(from, 32) => number >> (from % 64) & 0xffff_ffff,
+        Operation::Part(from, _) => number >> (from % 64),
+    }
+}
+
+fn of_set(operation: Operation, set: Scalar) -> Scalar {
+    match operation {
+        Operation::Reorder(order, span) => Scalar::reorder(order, span, set),
+        Operation::Part(from, count) => {
+            if from < 64 && 0 < count && count <= 64 {
+                set.part(from, count)
+            } else {
+                Scalar::any(FULL)
+            }
+        }
+    }
+}
+
+const OPERATIONS: [Operation; 14] = [
+    Operation::Reorder(ByteOrder::Big, Span::B16),
+    Operation::Reorder(ByteOrder::Big, Span::B32),
+    Operation::Reorder(ByteOrder::Big, Span::B64),
+    Operation::Reorder(ByteOrder::Swap, Span::B32),
+    Operation::Reorder(ByteOrder::Swap, Span::B64),
+    Operation::Reorder(ByteOrder::Little, Span::B16),
+    Operation::Part(0, 8),
+    Operation::Part(8, 8),
+    Operation::Part(56, 8),
+    Operation::Part(16, 16),
+    Operation::Part(48, 16),
+    Operation::Part(0, 32),
+    Operation::Part(32, 32),
+    Operation::Part(0, 64),
+];
+
+/// Known bits, and the unknown ones.
+const BITS: [(u64, u64); 7] = [
+    (0, 0x1f00),
+    (0, 0x8001_0000_0000_0180),
+    (0x1200, 0x80),
+    (0xff00_0000_0000_00f0, 0x0081_0000_8100_0001),
+    (0x0102_0304_0506_0708, 0x8000_0000_0000_0000),
+    (0xffff_ffff_ffff_ffff, 0),
+    (0, 0xf0f0),
+];
+
+/// The numbers that have these bits, and of the others any.
+fn with_bits(value: u64, mask: u64) -> Scalar {
+    let any = Scalar::alu(AluOp::And, FULL, Scalar::any(FULL), Scalar::constant(mask));
+    Scalar::alu(AluOp::Or, FULL, any, Scalar::constant(value))
+}
+
+/// The bits that are 1 in the answers for all of the numbers, and those that are in some.
+fn bits_of_answers(operation: Operation, value: u64, mask: u64) -> (u64, u64) {
+    let mut part = 0;
+    let mut all = u64::MAX;
+    let mut some = 0;
+    for _ in 0..0x400 {
+        let answer = of_number(operation, value | part);
+        all &= answer;
+        some |= answer;
+        // The next smaller or equal choice of unknown bits; after 0 comes the mask again.
+        part = part.wrapping_sub(1) & mask;
+    }
+    (all, some)
+}
+
+/// As many bits are known as of all answers together.
+#[test]
+fn bits_are_those_of_all_members(rt: HostRuntime) -> Result<(), Fail> {
+    for operation in OPERATIONS.iter() {
+        for (value, mask) in BITS.iter() {
+            let bits = of_set(*operation, with_bits(*value, *mask)).bits;
+            let (all, some) = bits_of_answers(*operation, *value, *mask);
+            assert_eq!(rt;
+                (bits.value, bits.value | bits.mask),
+                (all, some),
+                "{operation:?}"
+            );
+        }
+    }
+    Ok(())
+}
+
+/// From one number to another; where a part begins, and how long it is; its least and greatest.
+const LIMITS: [((u64, u64), (u64, u32), (u64, u64)); 8] = [
+    ((5, 20), (0, 8), (5, 20)),
+    ((5, 255), (0, 8), (5, 255)),
+    ((5, 256), (0, 8), (0, 255)),
+    ((0x0500, 0x14ff), (8, 8), (5, 20)),
+    ((0x0500, 0x0001_0000), (8, 8), (0, 255)),
+    ((20, 1500), (0, 16), (20, 1500)),
+    ((0x0014_0000_0000, 0x003c_ffff_ffff), (32, 8), (20, 60)),
+    ((7, u64::MAX), (0, 64), (7, u64::MAX)),
+];
+
+fn between(limits: (u64, u64)) -> Scalar {
+    if limits.0 <= limits.1 {
+        Scalar::between(limits.0, limits.1)
+    } else {
+        Scalar::any(FULL)
+    }
+}
+
+#[test]
+fn limits_of_parts(rt: HostRuntime) -> Result<(), Fail> {
+    for (limits, (from, count), wanted) in LIMITS.iter() {
+        let wide = of_set(Operation::Part(*from, *count), between(*limits))
+            .range
+            .wide;
+        assert_eq!(rt;
+            (wide.least, wide.greatest),
+            *wanted,
+            "{limits:?} from {from}"
+        );
+    }
+    Ok(())
+}
+
+/// The dividend's signed limits, the divisor, and the signed limits of quotient and remainder.
+type Row = (i64, i64, i64, (i64, i64), (i64, i64));
+
+const DIVIDED: [Row; 14] = [
+    (-7, 7, 2, (-3, 3), (-1, 1)),
+    (-8, 7, -2, (-3, 4), (-1, 1)),
+    (-8, 7, 1, (-8, 7), (0, 0)),
+    (-8, 7, -1, (-7, 8), (0, 0)),
+    (-8, 7, 0, (0, 0), (-8, 7)),
+    (3, 100, 8, (0, 12), (0, 7)),
+    (-100, -3, 8, (-12, 0), (-7, 0)),
+    (-3, 5, 8, (0, 0), (-3, 5)),
+    (-100, 5, -8, (0, 12), (-7, 5)),
+    (-16, -16, 8, (-2, -2), (0, 0)),
+    (-128, 127, 16, (-8, 7), (-15, 15)),
+    (-60000, 60000, 65536, (0, 0), (-60000, 60000)),
+    (0, 0, -5, (0, 0), (0, 0)),
+    (-1, 0, 100, (0, 0), (-1, 0)),
+];
+
+/// The ends of 64 bits. The least number by -1 is itself.
+const DIVIDED_AT_THE_ENDS: [Row; 6] = [
+    (i64::MIN, i64::MAX, -1, (i64::MIN, i64::MAX), (0, 0)),
+    (-i64::MAX, i64::MAX, -1, (-i64::MAX, i64::MAX), (0, 0)),
+    (
+        i64::MIN,
+        i64::MAX,
+        2,
+        (-0x4000_0000_0000_0000, 0x3fff_ffff_ffff_ffff),
+        (-1, 1),
+    ),
+    (i64::MIN, i64::MAX, i64::MIN, (0, 1), (-i64::MAX, i64::MAX)),
+    (
+        i64::MIN,
+        i64::MAX,
+        i64::MAX,
+        (-1, 1),
+        (1 - i64::MAX, i64::MAX - 1),
+    ),
+    (
+        i64::MIN,
+        i64::MIN,
+        3,
+        (-0x2aaa_aaaa_aaaa_aaaa, -0x2aaa_aaaa_aaaa_aaaa),
+        (-2, -2),
+    ),
+];
+
+/// And those of 32 bits.
+const DIVIDED_AT_THE_ENDS_OF_WORDS: [Row; 3] = [
+    (
+        -0x8000_0000,
+        0x7fff_ffff,
+        -1,
+        (-0x8000_0000, 0x7fff_ffff),
+        (0, 0),
+    ),
+    (
+        -0x7fff_ffff,
+        0x7fff_ffff,
+        -1,
+        (-0x7fff_ffff, 0x7fff_ffff),
+        (0, 0),
+    ),
+    (
+        -0x8000_0000,
+        0x7fff_ffff,
+        -0x8000_0000,
+        (0, 1),
+        (-0x7fff_ffff, 0x7fff_ffff),
+    ),
+];
+
+/// The numbers between signed limits.
+fn signed_between(least: i64, greatest: i64) -> Scalar {
+    let any = Scalar::any(FULL);
+    if least <= greatest {
+        let limits = Scalar {
+            bits: any.bits,
+            range: Range::signed_between(least, greatest),
+        };
+        limits.meet(any).unwrap_or(any)
+    } else {
+        any
+    }
+}
+
+/// The signed limits of what the operation gives, at 32 bits those of low halves.
+fn divided(op: AluOp, width: Width, limits: (i64, i64), by: i64) -> (i64, i64) {
+    let divisor = Scalar::constant(by.cast_unsigned());
+    let range = Scalar::alu(op, width, signed_between(limits.0, limits.1), divisor).range;
+    match width {
+        Width::Full64 => (range.wide.signed_least, range.wide.signed_greatest),
+        Width::Low32 => (
+            i64::from(range.low.signed_least),
+            i64::from(range.low.signed_greatest),
+        ),
+    }
+}
+
+fn are_divided(rt: &impl Abort, width: Width, rows: &[Row]) {
+    for (least, greatest, by, quotients, remainders) in rows {
+        let limits = (*least, *greatest);
+        let found = divided(AluOp::SignedDiv, width, limits, *by);
+        assert_eq!(rt; found, *quotients, "{limits:?} by {by}");
+        let found = divided(AluOp::SignedMod, width, limits, *by);
+        assert_eq!(rt; found, *remainders, "{limits:?} by {by}");
+    }
+}
+
+#[test]
+fn signed_quotients_and_remainders(rt: HostRuntime) -> Result<(), Fail> {
+    are_divided(&rt, FULL, &DIVIDED);
+    are_divided(&rt, LOW, &DIVIDED);
+    are_divided(&rt, FULL, &DIVIDED_AT_THE_ENDS);
+    are_divided(&rt, LOW, &DIVIDED_AT_THE_ENDS_OF_WORDS);
+    Ok(())
+}
+
+/// Whether what the operation gives for each number from one to another is in the answer.
+fn contains_all(op: AluOp, width: Width, limits: (i64, i64), by: i64) -> bool {
+    let divisor = Scalar::constant(by.cast_unsigned());
+    let answer = Scalar::alu(op, width, signed_between(limits.0, limits.1), divisor);
+    for number in limits.0..=limits.1 {
+        let exact = numbers::compute(op, width, number.cast_unsigned(), by.cast_unsigned());
+        if !answer.covers(Scalar::constant(exact)) {
+            return false;
+        }
+    }
+    true
+}
+
+/// Of each small dividend, by each small divisor.
+#[test]
+fn no_result_is_lost(rt: HostRuntime) -> Result<(), Fail> {
+    for op in [AluOp::SignedDiv, AluOp::SignedMod] {
+        for width in [FULL, LOW] {
+            for least in -9..10 {
+                for by in -5..6 {
+                    assert!(rt;
+                        contains_all(op, width, (least, 9), by),
+                        "{op:?} {least} {by}"
+                    );
+                    assert!(rt;
+                        contains_all(op, width, (-9, least), by),
+                        "{op:?} {least} {by}"
+                    );
+                }
+            }
+        }
+    }
+    Ok(())
+}
+
+/// Of numbers without a sign bit they are the unsigned ones, by divisors that are not known too.
+#[test]
+fn numbers_without_a_sign(rt: HostRuntime) -> Result<(), Fail> {
+    for width in [FULL, LOW] {
+        let quotients = Scalar::alu(
+            AluOp::SignedDiv,
+            width,
+            Scalar::between(40, 100),
+            Scalar::between(4, 20),
+        );
+        let wide = quotients.range.wide;
+        assert_eq!(rt; (wide.least, wide.greatest), (2, 25));
+        let remainders = Scalar::alu(
+            AluOp::SignedMod,
+            width,
+            Scalar::between(40, 100),
+            Scalar::between(4, 20),
+        );
+        let wide = remainders.range.wide;
+        assert_eq!(rt; (wide.least, wide.greatest), (0, 19));
+    }
+    Ok(())
+}

@@ -1,0 +1,23 @@
+use Rattle.std.proofs.Common.{◌≡◌, w64, ap, sym, subst, ◌∙◌, rules, arith}
+use Rattle.std.specs.Prelude.{FitsSigned, int_div}
+use Rattle.std.specs.Int.{cast_signed, cast_unsigned}
+use Rattle.std.proofs.lemmas.Int.{to_z-of_z}
+use Rattle.isa_model.specs.declared.sizes.Width.TheVariants.{Full64}
+use Rattle.isa_model.specs.declared.instructions.AluOp.TheVariants.{SignedDiv}
+use Rattle.ranges.specs.Wides.{Has}
+use Rattle.ranges.proofs.QuotientLaws.{quotient_is, result_below}
+use Rattle.ranges.proofs.wide.Wide.full_quotient.Goals as goal
+
+pub returns-then-other-clause-contains : goal.returns-then-other-clause-contains
+returns-then-other-clause-contains c = λ x y hx hy.
+    let from = hy.from in
+    let to = hy.to in
+    let one : y ≡ c.args.other.least = omega arith in
+    let f : FitsSigned w64 c.cast_signed.result = search rules in
+    let by : c.cast_signed.result ≡ cast_signed w64 y = c.cast_signed.ensures ∙ ap (cast_signed w64) (sym one) in
+    subst (Has c.signed_quotient.result) (sym (quotient_is Full64 x y))
+    (subst (λ z. Has c.signed_quotient.result (cast_unsigned w64 (int_div (cast_signed w64 x) z))) by
+    (simp to_z-of_z at (c.signed_quotient.ensures.contains x hx)))
+
+pub returns-else-other-clause-contains : goal.returns-else-other-clause-contains
+returns-else-other-clause-contains c = λ x y hx hy. (c.any.ensures.members _).1 (result_below SignedDiv Full64 x y hx.below hy.below)

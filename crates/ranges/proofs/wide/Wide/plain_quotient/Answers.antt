@@ -1,0 +1,18 @@
+use Rattle.std.proofs.Common.{◌+◌, ◌^◌, ◌<◌, arith, sym, subst}
+use Rattle.isa_model.specs.declared.instructions.AluOp.TheVariants.{SignedDiv}
+use Rattle.isa_model.specs.Code.Sizes.{width_bits}
+use Rattle.ranges.specs.Wides.{Has}
+use Rattle.ranges.proofs.QuotientLaws.{plain_quotient, result_below}
+use Rattle.ranges.proofs.wide.Wide.plain_quotient.Goals as goal
+
+pub returns-then-have_no_sign-clause-contains : goal.returns-then-have_no_sign-clause-contains
+returns-then-have_no_sign-clause-contains c = λ x y x_in y_in hx hy.
+    let w = c.args.width in
+    let plain = c.have_no_sign.ensures.0 c.if-have_no_sign.true in
+    let first : x + x < 2 ^ width_bits w = let to = hx.to in omega (arith, plain.0) in
+    let second : y + y < 2 ^ width_bits w = let to = hy.to in omega (arith, plain.1) in
+    subst (Has c.divide.result) (sym (plain_quotient w x y first second)) (c.divide.ensures.contains x y hx hy)
+
+pub returns-else-have_no_sign-clause-contains : goal.returns-else-have_no_sign-clause-contains
+returns-else-have_no_sign-clause-contains c = λ x y x_in y_in hx hy.
+    (c.any.ensures.members _).1 (result_below SignedDiv c.args.width x y x_in y_in)
