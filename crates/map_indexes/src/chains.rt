@@ -4,7 +4,8 @@ ghost use Rattle.std.specs.Prelude.{◌≡◌, ◌≢◌, ◌+◌, ◌<◌, ℕ,
 ghost use Rattle.slab.specs.Slab.{get, slab_len, ContainsKey, HasRoomFor};
 ghost use Rattle.map_indexes.specs.LastBelow.{last_below};
 ghost use Rattle.map_indexes.specs.declared.chains.Link.{Link};
-ghost use Rattle.map_indexes.specs.Chains.{in_chain, spot, IsChained, StandsBehind, heads_led, link_led};
+ghost use Rattle.map_indexes.specs.Chains.{in_chain, spot, IsChained, StandsBehind, heads_led};
+ghost use Rattle.map_indexes.specs.Chains.{link_led};
 
 use crate::rooms::exact;
 use slab::Slab;

@@ -1,10 +1,13 @@
 -- The stores of all maps, and the maps that contracts see.
-use Rattle.std.proofs.Common.{◌≡◌, ℕ, ◌<◌, List, length, map, Option, Some, sym, ap, subst, ◌∙◌, arith}
-use Rattle.std.proofs.lemmas.List.{map-set, get_or-map, get_or-set_same, length-map}
-use Rattle.std.specs.Prelude.{slice_index_or, slice_set}
+use Rattle.std.proofs.Common.{◌≡◌, ℕ, ◌<◌, List, [], ◌∷◌, length, map, Option, Some, refl, sym, ap, subst, ◌∙◌, arith}
+use Rattle.std.proofs.Math.Seq.{map-set_same}
+use Rattle.std.proofs.lemmas.List.{map-set, get_or-map, get_or-set_same, length-map, length-set}
+use Rattle.std.proofs.lemmas.List.Elements.{All-set}
+use Rattle.std.specs.Prelude.{◌≤◌, slice_index_or, slice_set}
 use Rattle.std.specs.List.{slice_get}
 use Rattle.std.specs.Option.{option_map}
-use Rattle.isa_model.specs.declared.map_defs.MapKind.TheVariants.{Array}
+use Rattle.isa_model.specs.declared.map_defs.MapKind.TheVariants.{Array, Hash}
+use Rattle.isa_model.specs.declared.map_defs.MapDef.{MapDef}
 use Rattle.maps.specs.declared.either.EitherIndex.{EitherIndex}
 use Rattle.maps.specs.declared.either.EitherIndex.TheVariants as either
 use Rattle.maps.specs.contracts.either.EitherIndexIndex.TheImpl as indexes
@@ -15,11 +18,11 @@ use Rattle.map_indexes.specs.Slots.{IsKey}
 use Rattle.map_indexes.specs.ArrayPlaces.{array_places}
 use Rattle.maps.specs.Either.{places_of, kind_of, room_of, either_in_range, either_apart, either_few, either_keys}
 use Rattle.isa_model.specs.Code.MapRows.{IsRow}
-use Rattle.maps.specs.Maps.{MapState, IsMap, map_at, with_block, ordered_in}
+use Rattle.maps.specs.Maps.{MapState, IsMap, map_at, with_block, ordered_in, rows_of}
 use Rattle.maps.specs.ReportOrder.{listed_of, with_key_of, listed-place, entry-value, entry-key}
 use Rattle.map_indexes.specs.Rows.{row_at}
 use Rattle.map_indexes.specs.RowLaws.{below-same, at_most-same}
-use Rattle.maps.specs.StoreStates.{state_by}
+use Rattle.maps.specs.StoreStates.{state_by, IsListed, IsLeastHashRoom, HaveRoom}
 
 abbrev pub EitherStore : Type 0
 EitherStore = Store EitherIndex indexes.ghosts
@@ -46,7 +49,7 @@ IsMap-state s is bytes = record {
 }
 
 module _ (maps : List MapState) (stores : List EitherStore) (view : map state stores ≡ maps) (i : ℕ) (low : i < length maps) where
-  inside : i < length stores
+  pub inside : i < length stores
   inside = let e = ap length view in let f = length-map stores state in omega arith
 
   -- a map is that of the store with its index
@@ -69,6 +72,27 @@ module _ (maps : List MapState) (stores : List EitherStore) (view : map state st
       let was : map_at maps i ≡ state x = map_at-state x e in
       let is : state t ≡ record (state x) { block = change (state x).block } = λ k. record { row = row k; places = places_of (index k); block = block k } in
       map-set state stores i t ∙ (λ k. slice_set (view k) i (is k)) ∙ ap (λ (m : MapState). slice_set maps i (record m { block = change m.block })) (sym was)
+
+-- the rows of stores are those of the maps
+pub rows-stores : (stores : List EitherStore) → map (λ (s : EitherStore). s.row) stores ≡ rows_of (map state stores)
+rows-stores [] = refl
+rows-stores (s ∷ stores) = ap (λ (rs : List MapDef). s.row ∷ rs) (rows-stores stores)
+
+-- a store that is written keeps its row, so the lists keep their room
+pub HaveRoom-set : (places all : ℕ) (stores : List EitherStore) (i : ℕ) (x t : EitherStore) → i < length stores → x ≡ slice_index_or stores i x → t.row ≡ x.row
+    → HaveRoom places all stores → HaveRoom places all (slice_set stores i t)
+HaveRoom-set places all stores i x t inside is same room =
+    let was : IsListed places x = subst (IsListed places) (sym is) (room.listed i x inside) in
+    record {
+      listed = All-set (IsListed places) stores i t
+          (record {
+            is_row = subst IsRow (sym same) was.is_row;
+            listed = subst (λ (r : MapDef). r.kind ≡ Hash → r.entries ≤ places) (sym same) was.listed;
+          })
+          room.listed;
+      least = subst (IsLeastHashRoom places) (sym (map-set_same (λ (s : EitherStore). s.row) stores i t x (same ∙ ap (λ (s : EitherStore). s.row) is))) room.least;
+      exact = room.exact ∙ sym (length-set stores i t);
+    }
 
 -- ---- entries in the order of the report, by an index that is the store's
 

@@ -1,5 +1,6 @@
 -- A store, as contracts of all maps see it.
-use Rattle.std.specs.Prelude.{◌≡◌, ℕ, ◌≤◌}
+use Rattle.std.specs.Prelude.{◌≡◌, ℕ, ◌≤◌, All, List, length, map}
+use Rattle.isa_model.specs.declared.map_defs.MapDef.{MapDef}
 use Rattle.isa_model.specs.declared.map_defs.MapKind.TheVariants.{Hash}
 use Rattle.map_indexes.specs.declared.index.Index.{Ghosts}
 use Rattle.maps.specs.declared.store.Store.{Store}
@@ -15,3 +16,13 @@ state_by places s = record { row = s.row; places = places s.index; block = s.val
 pub record IsListed {I : Type 0} {g : Ghosts I} (room : ℕ) (s : Store I g) : Type 0 where
   pub is_row : IsRow s.row
   pub listed : s.row.kind ≡ Hash → s.row.entries ≤ room
+
+-- less room would not do for the places of each hash map of these rows
+abbrev pub IsLeastHashRoom : ℕ → List MapDef → Type 0
+IsLeastHashRoom room rows = (n : ℕ) → All (λ row. row.kind ≡ Hash → row.entries ≤ n) rows → room ≤ n
+
+-- the list of places and that of these stores have room for what they need, and for no more
+pub record HaveRoom {I : Type 0} {g : Ghosts I} (places all : ℕ) (stores : List (Store I g)) : Type 0 where
+  pub listed : All (IsListed places) stores
+  pub least : IsLeastHashRoom places (map (λ s. s.row) stores)
+  pub exact : all ≡ length stores

@@ -1,6 +1,7 @@
 //! All maps of an image.
 
-ghost use Rattle.std.specs.Prelude.{◌≡◌, ◌<◌, ◌≤◌, length, map, All, IfOk, slice_set, option_copied};
+ghost use Rattle.std.specs.Prelude.{◌≡◌, ◌<◌, ◌≤◌, length, map, All, IfOk, slice_set};
+ghost use Rattle.std.specs.Prelude.{option_copied};
 ghost use Rattle.std.specs.Prelude.{◌+◌, ℕ, vec_capacity};
 ghost use Rattle.std.specs.Borrow.{sem};
 ghost use Rattle.std.specs.FinMap as finmap;
@@ -57,11 +58,11 @@ pub struct Maps {
 }
 
 impl Model for Maps {
-    ghost use Rattle.std.specs.Prelude.{List, map, All, vec_capacity};
+    ghost use Rattle.std.specs.Prelude.{List, map, vec_capacity};
     ghost use Rattle.std.specs.Coded.{coded_list};
     ghost use Rattle.maps.specs.Either.{places_of};
     ghost use Rattle.maps.specs.Maps.{MapState, map_code};
-    ghost use Rattle.maps.specs.StoreStates.{state_by, IsListed};
+    ghost use Rattle.maps.specs.StoreStates.{state_by, HaveRoom};
 
     ghost Value = { List MapState };
 
@@ -69,7 +70,8 @@ impl Model for Maps {
 
     ghost view = { λ maps. map (state_by places_of) maps.stores.all.items };
 
-    ghost invariant = { λ maps. All (IsListed (vec_capacity maps.stores.list)) maps.stores.all.items };
+    ghost invariant = { λ maps. HaveRoom (vec_capacity maps.stores.list)
+        (vec_capacity maps.stores.all) maps.stores.all.items };
 }
 
 impl Maps {

@@ -33,7 +33,8 @@ impl<'a> Ordered<'a> {
         Ordered { store, list }
     }
 
-    /// The value of the k-th entry, from 0, if there is one; its key is put into the front of `key`.
+    /// The value of the k-th entry, from 0, if there is one; its key is put into the front of
+    /// `key`.
     pub fn entry(&self, k: usize, key: &mut [u8; 64]) -> Option<&'a [u8]>
         ensures value { option_copied result
             ≡ option_map (λ e. e.1) (slice_get (listed_entries self.now) k) }

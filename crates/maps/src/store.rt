@@ -112,7 +112,8 @@ pub trait MapStore {
     // What is written into a value changes its row of the block, and nothing else.
     ghost written_row: { (s : Self) (p : ℕ) (v : List ℕ) → row_of (with_value s p v) ≡ row_of s };
 
-    ghost written_places: { (s : Self) (p : ℕ) (v : List ℕ) → places (with_value s p v) ≡ places s };
+    ghost written_places: { (s : Self) (p : ℕ) (v : List ℕ)
+        → places (with_value s p v) ≡ places s };
 
     ghost written: { (s : Self) (p : ℕ) (v : List ℕ) → p < (row_of s).entries
         → length v ≡ (row_of s).value_size

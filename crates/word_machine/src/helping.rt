@@ -1,15 +1,17 @@
 //! Calls of helpers.
 
-ghost use Rattle.std.specs.Prelude.{◌≡◌, ◌≢◌, ◌+◌, ◌-◌, ◌/◌, ◌≤◌, ℕ, [], length, slice_index, take, vec_capacity};
+ghost use Rattle.std.specs.Prelude.{◌≡◌, ◌≢◌, ◌+◌, ◌-◌, ◌/◌, ◌≤◌, ℕ, [], length, slice_index, take};
+ghost use Rattle.std.specs.Prelude.{vec_capacity};
 ghost use Rattle.std.specs.FinMap as finmap;
 ghost use Rattle.helpers.specs.declared.calls.Answer.TheVariants.{Number, Value};
 ghost use Rattle.isa_model.specs.Code.Helpers.{helper_numbered};
-ghost use Rattle.word_machine.specs.Helping.{CallFits, Calls, asks, NamesKey, HasPlaces, NamesValue, Updates, Deletes};
+ghost use Rattle.word_machine.specs.Helping.{CallFits, Calls, asks, NamesKey, HasPlaces};
+ghost use Rattle.word_machine.specs.Helping.{NamesValue, Updates, Deletes};
 ghost use Rattle.word_machine.specs.Helping.{found_at, key_named, named};
 ghost use Rattle.word_machine.specs.Machine.{words_of, Rests};
 ghost use Rattle.word_machine.specs.Ops.{constant_of, HasConstant};
 
-use crate::memory::{Memory, bytes, bytes_or_kept, keep_of_maps};
+use crate::memory::{Memory, bytes, bytes_apart};
 use crate::ops::Op;
 use helpers::{Answer, Request, call};
 use isa_model::{Clock, Helper};
@@ -51,9 +53,14 @@ fn lookup<C: Clock>(regs: &[u64; 11], memory: &mut Memory, packet: &[u8], clock:
     let row = memory.maps.row(map);
     let size = usize::from(row.key_size);
     let frames = memory.frames.as_slice();
-    let room = &mut memory.room;
-    keep_of_maps(room, frames, &memory.maps, packet, regs[2], size);
-    let key = bytes_or_kept(frames, packet, room.front(size), regs[2], size);
+    let key = bytes_apart(
+        frames,
+        &memory.maps,
+        packet,
+        &mut memory.room,
+        regs[2],
+        size,
+    );
     let request = Request {
         helper: Helper::MapLookupElem,
         map,

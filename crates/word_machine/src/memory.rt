@@ -1,17 +1,17 @@
 //! The machine's memory: the block of frames, the blocks of maps, and what callers left.
 
-ghost use Rattle.std.specs.Prelude.{◌≡◌, ◌+◌, ◌-◌, ◌*◌, ◌/◌, ◌%◌, ◌<◌, ◌≤◌, ℕ, List, [], length, take, vec_capacity, IfOk};
-ghost use Rattle.std.specs.Prelude.{if◌then◌else◌, true, false};
+ghost use Rattle.std.specs.Prelude.{◌≡◌, ◌+◌, ◌-◌, ◌*◌, ◌/◌, ◌%◌, ◌<◌, ◌≤◌, ℕ, List, [], length};
+ghost use Rattle.std.specs.Prelude.{vec_capacity, IfOk};
 ghost use Rattle.isa_model.specs.{max_packet};
 ghost use Rattle.isa_model.specs.Code.Numbers.{bytes_of, number_from};
 ghost use Rattle.isa_model.specs.Code.Sizes.{size_bytes};
 ghost use Rattle.isa_model.specs.declared.sizes.Size.TheVariants.{U8, U16, U32, U64};
-ghost use Rattle.word_machine.specs.Words.{IsInside, Loads, spot_of, is_in_maps, get, word_from, number_at};
+ghost use Rattle.word_machine.specs.Words.{IsInside, Loads, spot_of, get, word_from, number_at};
 ghost use Rattle.word_machine.specs.Words.{packet_after, frames_after, maps_after};
 ghost use Rattle.word_machine.specs.Words.{context_word, first_frame, frame_index};
 ghost use Rattle.word_machine.specs.Machine.{words_of, seen, Rests};
 
-use crate::room::Room;
+use crate::room::{Room, zeros};
 use isa_model::Size;
 use maps::Maps;
 use std::alloc::{AllocError, Global};
@@ -42,9 +42,10 @@ impl Memory {
         ensures frames { IfOk result (λ memory. length memory.frames.items ≡ 4096) }
         ensures saved { IfOk result (λ memory. memory.saved.items ≡ []) }
         ensures room { IfOk result (λ memory. vec_capacity memory.saved ≡ 8) }
+        ensures exact { IfOk result (λ memory. vec_capacity memory.frames ≡ 4096) }
         ensures maps { IfOk result (λ memory. memory.maps ≡ maps) }
     {
-        let frames = vec![in alloc; 0; 4096]?;
+        let frames = zeros(alloc)?;
         let saved = Vec::with_capacity(alloc, 8)?;
         let room = Room::new(alloc)?;
         Ok(Memory {
@@ -69,14 +70,6 @@ fn frame_place(address: u64) -> usize
 {
     let past = address - FIRST_FRAME;
     (past / 0x80_0000 + past % 512) as usize
-}
-
-/// Whether an address leads to the values of a map.
-#[inline(always)]
-fn is_in_maps(address: u64) -> bool
-    ensures { result ≡ is_in_maps (spot_of address) }
-{
-    address < FIRST_FRAME && address / 0x1_0000_0000 != 2
 }
 
 /// The byte at an address.
@@ -171,52 +164,34 @@ pub fn bytes<'a>(
     }
 }
 
-/// Keeps the bytes at an address that leads to the values of a map.
+/// The bytes at an address, apart from the maps: those that stand in a map are kept in the room.
 #[inline(always)]
-pub fn keep_of_maps(
-    room: &mut Room,
-    frames: &[u8],
-    maps: &Maps,
-    packet: &[u8],
-    address: u64,
-    count: usize,
-)
-    requires some { 0 < count }
-    requires most { count ≤ 4096 }
-    requires inside { IsInside (seen frames.now maps.now packet.now) (spot_of address) count }
-    ensures { is_in_maps (spot_of address) ≡ true → take count room.new.bytes.items
-        ≡ get (seen frames.now maps.now packet.now) (spot_of address) count }
-{
-    if is_in_maps(address) {
-        room.keep(bytes(frames, maps, packet, address, count));
-    }
-}
-
-/// The bytes at an address, or those that are kept where it leads to the values of a map.
-#[inline(always)]
-pub fn bytes_or_kept<'a>(
+pub fn bytes_apart<'a>(
     frames: &'a [u8],
+    maps: &Maps,
     packet: &'a [u8],
-    kept: &'a [u8],
+    room: &'a mut Room,
     address: u64,
     count: usize,
 ) -> &'a [u8]
     requires some { 0 < count }
-    requires inside { is_in_maps (spot_of address) ≡ false
-        → IsInside (seen frames.now [] packet.now) (spot_of address) count }
-    requires kept { length kept.now ≡ count }
-    ensures bytes { result.now ≡ (if is_in_maps (spot_of address) then kept.now
-        else get (seen frames.now [] packet.now) (spot_of address) count) }
+    requires most { count ≤ 4096 }
+    requires inside { IsInside (seen frames.now maps.now packet.now) (spot_of address) count }
+    ensures bytes { result.now
+        ≡ get (seen frames.now maps.now packet.now) (spot_of address) count }
     ensures size { length result.now ≡ count }
 {
-    if is_in_maps(address) {
-        kept
-    } else if address / 0x1_0000_0000 == 2 {
+    if address / 0x1_0000_0000 == 2 {
         let at = (address % 0x1_0000) as usize;
         &packet[at..at + count]
-    } else {
+    } else if address >= FIRST_FRAME {
         let at = frame_place(address);
         &frames[at..at + count]
+    } else {
+        let block = maps.block((address / 0x1_0000_0000 - 32) as usize);
+        let at = (address % 0x8000_0000) as usize;
+        room.keep(&block[at..at + count]);
+        room.front(count)
     }
 }
 
@@ -337,10 +312,11 @@ pub fn put64(memory: &mut Memory, packet: &mut [u8], address: u64, number: u64)
     }
 }
 
-/// The number in so many bytes at an address.
+/// The number of this size at an address.
 #[inline(always)]
 pub fn get(size: Size, memory: &Memory, packet: &[u8], address: u64) -> u64
-    requires { IsInside (words_of 0 [] memory.now packet.now 0) (spot_of address) (size_bytes size) }
+    requires { IsInside (words_of 0 [] memory.now packet.now 0) (spot_of address)
+        (size_bytes size) }
     ensures { result ≡ number_at (words_of 0 [] memory.now packet.now 0) size address }
 {
     match size {
@@ -351,10 +327,11 @@ pub fn get(size: Size, memory: &Memory, packet: &[u8], address: u64) -> u64
     }
 }
 
-/// Writes a number into so many bytes at an address.
+/// Writes a number of this size at an address.
 #[inline(always)]
 pub fn put(size: Size, memory: &mut Memory, packet: &mut [u8], address: u64, number: u64)
-    requires { IsInside (words_of 0 [] memory.old packet.old 0) (spot_of address) (size_bytes size) }
+    requires { IsInside (words_of 0 [] memory.old packet.old 0) (spot_of address)
+        (size_bytes size) }
     ensures packet { packet.new ≡ packet_after (spot_of address) (bytes_of size number) packet.old }
     ensures frames { memory.new.frames.items
         ≡ frames_after (spot_of address) (bytes_of size number) memory.old.frames.items }

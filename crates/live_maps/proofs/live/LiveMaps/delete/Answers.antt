@@ -5,10 +5,15 @@ use Rattle.isa_model.specs.declared.map_defs.MapDef.{MapDef}
 use Rattle.isa_model.specs.Machine.MapContents.{delete_answer}
 use Rattle.maps.specs.Maps.{IsMap, Deleted, map_at, rows_of}
 use Rattle.live_maps.specs.Live.{Live, Serials, AreLive, IsLeastRoom, content_at, without}
-use Rattle.live_maps.specs.ContentLaws.{rows_of-known, rows_of-some, live_of, length-changed_maps, All-rows-set, rows_of-set}
+use Rattle.live_maps.specs.ContentLaws.{live_of, All-rows-set, rows_of-set}
 use Rattle.live_maps.specs.LiveLaws.{live-removed, deleted_there, delete_answer-live}
 use Rattle.live_maps.specs.SearchLaws.{lookup-present}
+use Rattle.live_maps.proofs.OneChanged.{one_changed, row_told}
 use Rattle.live_maps.proofs.live.LiveMaps.delete.Goals as goal
+
+-- the key has its size
+abbrev Size : List ℕ → MapDef → Type 0
+Size key row = length key ≡ row.key_size
 
 pub take_away-requires-clause-index : goal.take_away-requires-clause-index
 take_away-requires-clause-index c =
@@ -18,13 +23,9 @@ take_away-requires-clause-index c =
     let m = c.args.map in
     let key = c.args.key.now in
     let h = c.self.invariant.2 in
-    let P : MapDef → Type 0 = λ row. length key ≡ row.key_size in
-    let known = rows_of-known P maps m (subst (λ (l : Live). IsSomeAnd (slice_get l.rows m) P) (sym c.self.view_is) c.requires) in
-    let inside = known.0 in
     let new = c.delete-answer.new.maps in
     let others = c.delete-answer.ensures.others in
-    let count = length-changed_maps maps new m (map_at new m) others in
-    let is : IsMap (map_at new m) = c.count-count.ensures.maps m _ (omega arith) in
+    let d = one_changed (Size key) i.next maps all c.args.self.now c.self.view_is m c.requires new others c.count-count.ensures.maps in
     let long = h.long in
     let items = i.serials.ok.0 in
     omega arith
@@ -37,15 +38,11 @@ take_away-requires-clause-place c =
     let m = c.args.map in
     let key = c.args.key.now in
     let h = c.self.invariant.2 in
-    let P : MapDef → Type 0 = λ row. length key ≡ row.key_size in
-    let known = rows_of-known P maps m (subst (λ (l : Live). IsSomeAnd (slice_get l.rows m) P) (sym c.self.view_is) c.requires) in
-    let inside = known.0 in
     let new = c.delete-answer.new.maps in
     let others = c.delete-answer.ensures.others in
-    let count = length-changed_maps maps new m (map_at new m) others in
-    let is : IsMap (map_at new m) = c.count-count.ensures.maps m _ (omega arith) in
+    let d = one_changed (Size key) i.next maps all c.args.self.now c.self.view_is m c.requires new others c.count-count.ensures.maps in
     let there : get (map_at maps m).places key ≡ Some c.in-Some.place = sym c.find-found.ensures ∙ c.in-Some.is in
-    (lookup-present i.next maps all m h inside key c.in-Some.place there).0
+    (lookup-present i.next maps all m h d.inside key c.in-Some.place there).0
 
 pub invariant_of-self : goal.invariant_of-self
 invariant_of-self c =
@@ -55,23 +52,19 @@ invariant_of-self c =
     let m = c.args.map in
     let key = c.args.key.now in
     let h = c.self.invariant.2 in
-    let P : MapDef → Type 0 = λ row. length key ≡ row.key_size in
-    let known = rows_of-known P maps m (subst (λ (l : Live). IsSomeAnd (slice_get l.rows m) P) (sym c.self.view_is) c.requires) in
-    let inside = known.0 in
     let new = c.delete-answer.new.maps in
     let others = c.delete-answer.ensures.others in
-    let count = length-changed_maps maps new m (map_at new m) others in
-    let is : IsMap (map_at new m) = c.count-count.ensures.maps m _ (omega arith) in
+    let d = one_changed (Size key) i.next maps all c.args.self.now c.self.view_is m c.requires new others c.count-count.ensures.maps in
     let zero : c.delete-answer.result ≡ 0 = c.if-answer-eq0.true in
-    let d : Deleted key 0 (map_at maps m) (map_at new m) = subst (λ (a : ℕ). Deleted key a (map_at maps m) (map_at new m)) zero c.delete-answer.ensures.deleted in
+    let del : Deleted key 0 (map_at maps m) (map_at new m) = subst (λ (a : ℕ). Deleted key a (map_at maps m) (map_at new m)) zero c.delete-answer.ensures.deleted in
     let p = c.in-Some.place in
     let there : get (map_at maps m).places key ≡ Some p = sym c.find-found.ensures ∙ c.in-Some.is in
-    let live = live-removed i.next maps all m new inside h others key p is d there in
+    let live = live-removed i.next maps all m new d.inside h others key p d.is del there in
     let few = c.self.invariant.0 in
-    let rooms = All-rows-set (λ (row : MapDef). row.entries ≤ vec_capacity i.list) maps new m (map_at new m) others d.row inside c.self.invariant.1 in
+    let rooms = All-rows-set (λ (row : MapDef). row.entries ≤ vec_capacity i.list) maps new m (map_at new m) others del.row d.inside c.self.invariant.1 in
     let mine = subst (λ (a : List Serials). AreLive i.next new a) (sym c.take_away.ensures.taken) live.0 in
-    let least = subst (IsLeastRoom (vec_capacity i.list)) (sym (ap rows_of others ∙ rows_of-set maps m (map_at new m) d.row)) c.self.invariant.5 in
-    (omega arith, rooms, mine, tt, c.take_away.ensures.room ∙ c.self.invariant.4 ∙ sym count, least)
+    let least = subst (IsLeastRoom (vec_capacity i.list)) (sym (ap rows_of others ∙ rows_of-set maps m (map_at new m) del.row)) c.self.invariant.5 in
+    (omega arith, rooms, mine, tt, c.take_away.ensures.room ∙ c.self.invariant.4 ∙ sym d.count, least)
 
 pub invariant_of-self-in_default : goal.invariant_of-self-in_default
 invariant_of-self-in_default c =
@@ -81,13 +74,9 @@ invariant_of-self-in_default c =
     let m = c.args.map in
     let key = c.args.key.now in
     let h = c.self.invariant.2 in
-    let P : MapDef → Type 0 = λ row. length key ≡ row.key_size in
-    let known = rows_of-known P maps m (subst (λ (l : Live). IsSomeAnd (slice_get l.rows m) P) (sym c.self.view_is) c.requires) in
-    let inside = known.0 in
     let new = c.delete-answer.new.maps in
     let others = c.delete-answer.ensures.others in
-    let count = length-changed_maps maps new m (map_at new m) others in
-    let is : IsMap (map_at new m) = c.count-count.ensures.maps m _ (omega arith) in
+    let d = one_changed (Size key) i.next maps all c.args.self.now c.self.view_is m c.requires new others c.count-count.ensures.maps in
     let zero : c.delete-answer.result ≡ 0 = c.if-answer-eq0.true in
     let absent : get (map_at maps m).places key ≡ None = sym c.find-found.ensures ∙ c.in_default.is in
     absurd (deleted_there (map_at maps m) key (sym zero ∙ c.delete-answer.ensures.deleted.answer) absent)
@@ -100,16 +89,11 @@ returns-in-Some-clause-answer c =
     let m = c.args.map in
     let key = c.args.key.now in
     let h = c.self.invariant.2 in
-    let P : MapDef → Type 0 = λ row. length key ≡ row.key_size in
-    let known = rows_of-known P maps m (subst (λ (l : Live). IsSomeAnd (slice_get l.rows m) P) (sym c.self.view_is) c.requires) in
-    let inside = known.0 in
     let new = c.delete-answer.new.maps in
     let others = c.delete-answer.ensures.others in
-    let count = length-changed_maps maps new m (map_at new m) others in
-    let is : IsMap (map_at new m) = c.count-count.ensures.maps m _ (omega arith) in
-    subst (λ (l : Live). IsSomeAnd (slice_get l.rows m) (λ row. c.delete-answer.result ≡ delete_answer row (content_at l m) key)) c.self.view_is
-    (rows_of-some (λ (row : MapDef). c.delete-answer.result ≡ delete_answer row (content_at (live_of maps all i.next) m) key) maps m inside
-    (c.delete-answer.ensures.deleted.answer ∙ delete_answer-live i.next maps all m new inside h others key))
+    let d = one_changed (Size key) i.next maps all c.args.self.now c.self.view_is m c.requires new others c.count-count.ensures.maps in
+    row_told (λ l row. c.delete-answer.result ≡ delete_answer row (content_at l m) key) i.next maps all c.args.self.now c.self.view_is m d.inside
+    (c.delete-answer.ensures.deleted.answer ∙ delete_answer-live i.next maps all m new d.inside h others key)
 
 pub returns-in_default-clause-answer : goal.returns-in_default-clause-answer
 returns-in_default-clause-answer c =
@@ -119,16 +103,11 @@ returns-in_default-clause-answer c =
     let m = c.args.map in
     let key = c.args.key.now in
     let h = c.self.invariant.2 in
-    let P : MapDef → Type 0 = λ row. length key ≡ row.key_size in
-    let known = rows_of-known P maps m (subst (λ (l : Live). IsSomeAnd (slice_get l.rows m) P) (sym c.self.view_is) c.requires) in
-    let inside = known.0 in
     let new = c.delete-answer.new.maps in
     let others = c.delete-answer.ensures.others in
-    let count = length-changed_maps maps new m (map_at new m) others in
-    let is : IsMap (map_at new m) = c.count-count.ensures.maps m _ (omega arith) in
-    subst (λ (l : Live). IsSomeAnd (slice_get l.rows m) (λ row. c.delete-answer.result ≡ delete_answer row (content_at l m) key)) c.self.view_is
-    (rows_of-some (λ (row : MapDef). c.delete-answer.result ≡ delete_answer row (content_at (live_of maps all i.next) m) key) maps m inside
-    (c.delete-answer.ensures.deleted.answer ∙ delete_answer-live i.next maps all m new inside h others key))
+    let d = one_changed (Size key) i.next maps all c.args.self.now c.self.view_is m c.requires new others c.count-count.ensures.maps in
+    row_told (λ l row. c.delete-answer.result ≡ delete_answer row (content_at l m) key) i.next maps all c.args.self.now c.self.view_is m d.inside
+    (c.delete-answer.ensures.deleted.answer ∙ delete_answer-live i.next maps all m new d.inside h others key)
 
 pub returns-else-answer-eq0-clause-answer : goal.returns-else-answer-eq0-clause-answer
 returns-else-answer-eq0-clause-answer c =
@@ -138,16 +117,11 @@ returns-else-answer-eq0-clause-answer c =
     let m = c.args.map in
     let key = c.args.key.now in
     let h = c.self.invariant.2 in
-    let P : MapDef → Type 0 = λ row. length key ≡ row.key_size in
-    let known = rows_of-known P maps m (subst (λ (l : Live). IsSomeAnd (slice_get l.rows m) P) (sym c.self.view_is) c.requires) in
-    let inside = known.0 in
     let new = c.delete-answer.new.maps in
     let others = c.delete-answer.ensures.others in
-    let count = length-changed_maps maps new m (map_at new m) others in
-    let is : IsMap (map_at new m) = c.count-count.ensures.maps m _ (omega arith) in
-    subst (λ (l : Live). IsSomeAnd (slice_get l.rows m) (λ row. c.delete-answer.result ≡ delete_answer row (content_at l m) key)) c.self.view_is
-    (rows_of-some (λ (row : MapDef). c.delete-answer.result ≡ delete_answer row (content_at (live_of maps all i.next) m) key) maps m inside
-    (c.delete-answer.ensures.deleted.answer ∙ delete_answer-live i.next maps all m new inside h others key))
+    let d = one_changed (Size key) i.next maps all c.args.self.now c.self.view_is m c.requires new others c.count-count.ensures.maps in
+    row_told (λ l row. c.delete-answer.result ≡ delete_answer row (content_at l m) key) i.next maps all c.args.self.now c.self.view_is m d.inside
+    (c.delete-answer.ensures.deleted.answer ∙ delete_answer-live i.next maps all m new d.inside h others key)
 
 pub returns-in-Some-clause-deleted : goal.returns-in-Some-clause-deleted
 returns-in-Some-clause-deleted c =
@@ -157,18 +131,14 @@ returns-in-Some-clause-deleted c =
     let m = c.args.map in
     let key = c.args.key.now in
     let h = c.self.invariant.2 in
-    let P : MapDef → Type 0 = λ row. length key ≡ row.key_size in
-    let known = rows_of-known P maps m (subst (λ (l : Live). IsSomeAnd (slice_get l.rows m) P) (sym c.self.view_is) c.requires) in
-    let inside = known.0 in
     let new = c.delete-answer.new.maps in
     let others = c.delete-answer.ensures.others in
-    let count = length-changed_maps maps new m (map_at new m) others in
-    let is : IsMap (map_at new m) = c.count-count.ensures.maps m _ (omega arith) in
+    let d = one_changed (Size key) i.next maps all c.args.self.now c.self.view_is m c.requires new others c.count-count.ensures.maps in
     let zero : c.delete-answer.result ≡ 0 = c.if-answer-eq0.true in
-    let d : Deleted key 0 (map_at maps m) (map_at new m) = subst (λ (a : ℕ). Deleted key a (map_at maps m) (map_at new m)) zero c.delete-answer.ensures.deleted in
+    let del : Deleted key 0 (map_at maps m) (map_at new m) = subst (λ (a : ℕ). Deleted key a (map_at maps m) (map_at new m)) zero c.delete-answer.ensures.deleted in
     let p = c.in-Some.place in
     let there : get (map_at maps m).places key ≡ Some p = sym c.find-found.ensures ∙ c.in-Some.is in
-    let live = live-removed i.next maps all m new inside h others key p is d there in
+    let live = live-removed i.next maps all m new d.inside h others key p d.is del there in
     let done = ap (λ (a : List Serials). live_of new a i.next) c.take_away.ensures.taken ∙ live.1 ∙ ap (λ (l : Live). without l m key) c.self.view_is in
     done ∙ ap (λ (a : ℕ). if a == 0 then without c.args.self.now m key else c.args.self.now) (sym zero)
 
@@ -180,13 +150,9 @@ returns-in_default-clause-deleted c =
     let m = c.args.map in
     let key = c.args.key.now in
     let h = c.self.invariant.2 in
-    let P : MapDef → Type 0 = λ row. length key ≡ row.key_size in
-    let known = rows_of-known P maps m (subst (λ (l : Live). IsSomeAnd (slice_get l.rows m) P) (sym c.self.view_is) c.requires) in
-    let inside = known.0 in
     let new = c.delete-answer.new.maps in
     let others = c.delete-answer.ensures.others in
-    let count = length-changed_maps maps new m (map_at new m) others in
-    let is : IsMap (map_at new m) = c.count-count.ensures.maps m _ (omega arith) in
+    let d = one_changed (Size key) i.next maps all c.args.self.now c.self.view_is m c.requires new others c.count-count.ensures.maps in
     let zero : c.delete-answer.result ≡ 0 = c.if-answer-eq0.true in
     let absent : get (map_at maps m).places key ≡ None = sym c.find-found.ensures ∙ c.in_default.is in
     absurd (deleted_there (map_at maps m) key (sym zero ∙ c.delete-answer.ensures.deleted.answer) absent)

@@ -5,10 +5,15 @@ use Rattle.isa_model.specs.declared.map_defs.MapDef.{MapDef}
 use Rattle.isa_model.specs.Machine.MapContents.{update_answer}
 use Rattle.maps.specs.Maps.{MapState, IsMap, Updated, map_at, rows_of}
 use Rattle.live_maps.specs.Live.{Live, Serials, AreLive, IsLeastRoom, place_if_new, content_at, serials_at, with_bytes}
-use Rattle.live_maps.specs.ContentLaws.{rows_of-known, rows_of-some, live_of, length-changed_maps, All-rows-set, rows_of-set}
+use Rattle.live_maps.specs.ContentLaws.{live_of, All-rows-set, rows_of-set}
 use Rattle.live_maps.specs.LiveLaws.{live-updated, live-added, live-same, not_zero, updated_there, place_if_new-Some, place_if_new-None, update_answer-live}
 use Rattle.live_maps.specs.Numbering.{IsNumbered, IsNumbered-set, IfSome-more}
+use Rattle.live_maps.proofs.OneChanged.{one_changed, row_told}
 use Rattle.live_maps.proofs.live.LiveMaps.update.Goals as goal
+
+-- the key and the value have their sizes
+abbrev Sizes : List ℕ → List ℕ → MapDef → Type 0
+Sizes key value row = (length key ≡ row.key_size) × (length value ≡ row.value_size)
 
 pub give_serial-requires-clause-index : goal.give_serial-requires-clause-index
 give_serial-requires-clause-index c =
@@ -19,13 +24,9 @@ give_serial-requires-clause-index c =
     let key = c.args.key.now in
     let h = c.self.invariant.2 in
     let value = c.args.value.now in
-    let P : MapDef → Type 0 = λ row. (length key ≡ row.key_size) × (length value ≡ row.value_size) in
-    let known = rows_of-known P maps m (subst (λ (l : Live). IsSomeAnd (slice_get l.rows m) P) (sym c.self.view_is) c.requires.sizes) in
-    let inside = known.0 in
     let new = c.update-answer.new.maps in
     let others = c.update-answer.ensures.others in
-    let count = length-changed_maps maps new m (map_at new m) others in
-    let is : IsMap (map_at new m) = c.count-count.ensures.maps m _ (omega arith) in
+    let d = one_changed (Sizes key value) i.next maps all c.args.self.now c.self.view_is m c.requires.sizes new others c.count-count.ensures.maps in
     let long = h.long in
     let items = i.serials.ok.0 in
     omega arith
@@ -39,22 +40,18 @@ give_serial-requires-clause-place c =
     let key = c.args.key.now in
     let h = c.self.invariant.2 in
     let value = c.args.value.now in
-    let P : MapDef → Type 0 = λ row. (length key ≡ row.key_size) × (length value ≡ row.value_size) in
-    let known = rows_of-known P maps m (subst (λ (l : Live). IsSomeAnd (slice_get l.rows m) P) (sym c.self.view_is) c.requires.sizes) in
-    let inside = known.0 in
     let new = c.update-answer.new.maps in
     let others = c.update-answer.ensures.others in
-    let count = length-changed_maps maps new m (map_at new m) others in
-    let is : IsMap (map_at new m) = c.count-count.ensures.maps m _ (omega arith) in
+    let d = one_changed (Sizes key value) i.next maps all c.args.self.now c.self.view_is m c.requires.sizes new others c.count-count.ensures.maps in
     let zero : c.update-answer.result ≡ 0 = c.if-answer-eq0.true in
     let u : Updated key value c.args.flags 0 (map_at maps m) (map_at new m) = subst (λ (a : ℕ). Updated key value c.args.flags a (map_at maps m) (map_at new m)) zero c.update-answer.ensures.updated in
     let place : place_if_new (get (map_at maps m).places key) (get (map_at new m).places key) ≡ Some c.in-Some.place =
     ap (λ (o : Option ℕ). place_if_new o (get (map_at new m).places key)) (sym c.find-found.ensures) ∙ sym c.new_place.ensures ∙ c.in-Some.is in
     let p = c.in-Some.place in
     let two = place_if_new-Some (get (map_at maps m).places key) (get (map_at new m).places key) p place in
-    let live = live-added i.next maps all m new inside h others key value c.args.flags p is known.1.1 u two.0 two.1 in
-    let within = is.in_range key p two.1 in
-    let mine = h.each m inside in
+    let live = live-added i.next maps all m new d.inside h others key value c.args.flags p d.is d.row.1 u two.0 two.1 in
+    let within = d.is.in_range key p two.1 in
+    let mine = h.each m d.inside in
     let long = mine.long in
     let same : (map_at new m).row.entries ≡ (map_at maps m).row.entries = ap (λ (r : MapDef). r.entries) u.row in
     omega arith
@@ -68,27 +65,23 @@ invariant_of-self c =
     let key = c.args.key.now in
     let h = c.self.invariant.2 in
     let value = c.args.value.now in
-    let P : MapDef → Type 0 = λ row. (length key ≡ row.key_size) × (length value ≡ row.value_size) in
-    let known = rows_of-known P maps m (subst (λ (l : Live). IsSomeAnd (slice_get l.rows m) P) (sym c.self.view_is) c.requires.sizes) in
-    let inside = known.0 in
     let new = c.update-answer.new.maps in
     let others = c.update-answer.ensures.others in
-    let count = length-changed_maps maps new m (map_at new m) others in
-    let is : IsMap (map_at new m) = c.count-count.ensures.maps m _ (omega arith) in
+    let d = one_changed (Sizes key value) i.next maps all c.args.self.now c.self.view_is m c.requires.sizes new others c.count-count.ensures.maps in
     let zero : c.update-answer.result ≡ 0 = c.if-answer-eq0.true in
     let u : Updated key value c.args.flags 0 (map_at maps m) (map_at new m) = subst (λ (a : ℕ). Updated key value c.args.flags a (map_at maps m) (map_at new m)) zero c.update-answer.ensures.updated in
     let place : place_if_new (get (map_at maps m).places key) (get (map_at new m).places key) ≡ Some c.in-Some.place =
     ap (λ (o : Option ℕ). place_if_new o (get (map_at new m).places key)) (sym c.find-found.ensures) ∙ sym c.new_place.ensures ∙ c.in-Some.is in
     let p = c.in-Some.place in
     let two = place_if_new-Some (get (map_at maps m).places key) (get (map_at new m).places key) p place in
-    let live = live-added i.next maps all m new inside h others key value c.args.flags p is known.1.1 u two.0 two.1 in
+    let live = live-added i.next maps all m new d.inside h others key value c.args.flags p d.is d.row.1 u two.0 two.1 in
     let few = c.self.invariant.0 in
-    let rooms = All-rows-set (λ (row : MapDef). row.entries ≤ vec_capacity i.list) maps new m (map_at new m) others u.row inside c.self.invariant.1 in
+    let rooms = All-rows-set (λ (row : MapDef). row.entries ≤ vec_capacity i.list) maps new m (map_at new m) others u.row d.inside c.self.invariant.1 in
     let s : suc i.next ≡ i.next + 1 = omega arith in
     let after : List Serials = slice_set all m (slice_set (serials_at all m) p (Some i.next)) in
     let mine = subst (λ (a : List Serials). AreLive (i.next + 1) new a) (sym c.give_serial.ensures.given) (subst (λ (n : ℕ). AreLive n new after) s live.0) in
     let least = subst (IsLeastRoom (vec_capacity i.list)) (sym (ap rows_of others ∙ rows_of-set maps m (map_at new m) u.row)) c.self.invariant.5 in
-    (omega arith, rooms, mine, tt, c.give_serial.ensures.room ∙ c.self.invariant.4 ∙ sym count, least)
+    (omega arith, rooms, mine, tt, c.give_serial.ensures.room ∙ c.self.invariant.4 ∙ sym d.count, least)
 
 pub invariant_of-self-in_default : goal.invariant_of-self-in_default
 invariant_of-self-in_default c =
@@ -99,26 +92,22 @@ invariant_of-self-in_default c =
     let key = c.args.key.now in
     let h = c.self.invariant.2 in
     let value = c.args.value.now in
-    let P : MapDef → Type 0 = λ row. (length key ≡ row.key_size) × (length value ≡ row.value_size) in
-    let known = rows_of-known P maps m (subst (λ (l : Live). IsSomeAnd (slice_get l.rows m) P) (sym c.self.view_is) c.requires.sizes) in
-    let inside = known.0 in
     let new = c.update-answer.new.maps in
     let others = c.update-answer.ensures.others in
-    let count = length-changed_maps maps new m (map_at new m) others in
-    let is : IsMap (map_at new m) = c.count-count.ensures.maps m _ (omega arith) in
+    let d = one_changed (Sizes key value) i.next maps all c.args.self.now c.self.view_is m c.requires.sizes new others c.count-count.ensures.maps in
     let zero : c.update-answer.result ≡ 0 = c.if-answer-eq0.true in
     let u : Updated key value c.args.flags 0 (map_at maps m) (map_at new m) = subst (λ (a : ℕ). Updated key value c.args.flags a (map_at maps m) (map_at new m)) zero c.update-answer.ensures.updated in
     let none : place_if_new (get (map_at maps m).places key) (get (map_at new m).places key) ≡ None =
     ap (λ (o : Option ℕ). place_if_new o (get (map_at new m).places key)) (sym c.find-found.ensures) ∙ sym c.new_place.ensures ∙ c.in_default.is in
     let had = place_if_new-None (get (map_at maps m).places key) (get (map_at new m).places key) none (updated_there (map_at maps m) (map_at new m) key value c.args.flags u) in
-    let live = live-updated i.next maps all m new inside h others key value c.args.flags had.0 is known.1.1 u had.1 in
+    let live = live-updated i.next maps all m new d.inside h others key value c.args.flags had.0 d.is d.row.1 u had.1 in
     let few = c.self.invariant.0 in
-    let rooms = All-rows-set (λ (row : MapDef). row.entries ≤ vec_capacity i.list) maps new m (map_at new m) others u.row inside c.self.invariant.1 in
+    let rooms = All-rows-set (λ (row : MapDef). row.entries ≤ vec_capacity i.list) maps new m (map_at new m) others u.row d.inside c.self.invariant.1 in
     let w = u.updates.writes refl in
     let numbered = IfSome-more (λ (n : ℕ). IsNumbered n maps all) (λ (n : ℕ). IsNumbered n new all) i.numbered
-    (λ n. IsNumbered-set maps m (map_at new m) inside u.row (w.kept had.0 had.1) new others all n) c.self.invariant.3 in
+    (λ n. IsNumbered-set maps m (map_at new m) d.inside u.row (w.kept had.0 had.1) new others all n) c.self.invariant.3 in
     let least = subst (IsLeastRoom (vec_capacity i.list)) (sym (ap rows_of others ∙ rows_of-set maps m (map_at new m) u.row)) c.self.invariant.5 in
-    (omega arith, rooms, live.0, numbered, c.self.invariant.4 ∙ sym count, least)
+    (omega arith, rooms, live.0, numbered, c.self.invariant.4 ∙ sym d.count, least)
 
 pub returns-in-Some-clause-answer : goal.returns-in-Some-clause-answer
 returns-in-Some-clause-answer c =
@@ -129,16 +118,11 @@ returns-in-Some-clause-answer c =
     let key = c.args.key.now in
     let h = c.self.invariant.2 in
     let value = c.args.value.now in
-    let P : MapDef → Type 0 = λ row. (length key ≡ row.key_size) × (length value ≡ row.value_size) in
-    let known = rows_of-known P maps m (subst (λ (l : Live). IsSomeAnd (slice_get l.rows m) P) (sym c.self.view_is) c.requires.sizes) in
-    let inside = known.0 in
     let new = c.update-answer.new.maps in
     let others = c.update-answer.ensures.others in
-    let count = length-changed_maps maps new m (map_at new m) others in
-    let is : IsMap (map_at new m) = c.count-count.ensures.maps m _ (omega arith) in
-    subst (λ (l : Live). IsSomeAnd (slice_get l.rows m) (λ row. c.update-answer.result ≡ update_answer row (content_at l m) key c.args.flags)) c.self.view_is
-    (rows_of-some (λ (row : MapDef). c.update-answer.result ≡ update_answer row (content_at (live_of maps all i.next) m) key c.args.flags) maps m inside
-    (c.update-answer.ensures.updated.answer ∙ update_answer-live i.next maps all m new inside h others key c.args.flags))
+    let d = one_changed (Sizes key value) i.next maps all c.args.self.now c.self.view_is m c.requires.sizes new others c.count-count.ensures.maps in
+    row_told (λ l row. c.update-answer.result ≡ update_answer row (content_at l m) key c.args.flags) i.next maps all c.args.self.now c.self.view_is m d.inside
+    (c.update-answer.ensures.updated.answer ∙ update_answer-live i.next maps all m new d.inside h others key c.args.flags)
 
 pub returns-in_default-clause-answer : goal.returns-in_default-clause-answer
 returns-in_default-clause-answer c =
@@ -149,16 +133,11 @@ returns-in_default-clause-answer c =
     let key = c.args.key.now in
     let h = c.self.invariant.2 in
     let value = c.args.value.now in
-    let P : MapDef → Type 0 = λ row. (length key ≡ row.key_size) × (length value ≡ row.value_size) in
-    let known = rows_of-known P maps m (subst (λ (l : Live). IsSomeAnd (slice_get l.rows m) P) (sym c.self.view_is) c.requires.sizes) in
-    let inside = known.0 in
     let new = c.update-answer.new.maps in
     let others = c.update-answer.ensures.others in
-    let count = length-changed_maps maps new m (map_at new m) others in
-    let is : IsMap (map_at new m) = c.count-count.ensures.maps m _ (omega arith) in
-    subst (λ (l : Live). IsSomeAnd (slice_get l.rows m) (λ row. c.update-answer.result ≡ update_answer row (content_at l m) key c.args.flags)) c.self.view_is
-    (rows_of-some (λ (row : MapDef). c.update-answer.result ≡ update_answer row (content_at (live_of maps all i.next) m) key c.args.flags) maps m inside
-    (c.update-answer.ensures.updated.answer ∙ update_answer-live i.next maps all m new inside h others key c.args.flags))
+    let d = one_changed (Sizes key value) i.next maps all c.args.self.now c.self.view_is m c.requires.sizes new others c.count-count.ensures.maps in
+    row_told (λ l row. c.update-answer.result ≡ update_answer row (content_at l m) key c.args.flags) i.next maps all c.args.self.now c.self.view_is m d.inside
+    (c.update-answer.ensures.updated.answer ∙ update_answer-live i.next maps all m new d.inside h others key c.args.flags)
 
 pub returns-else-answer-eq0-clause-answer : goal.returns-else-answer-eq0-clause-answer
 returns-else-answer-eq0-clause-answer c =
@@ -169,16 +148,11 @@ returns-else-answer-eq0-clause-answer c =
     let key = c.args.key.now in
     let h = c.self.invariant.2 in
     let value = c.args.value.now in
-    let P : MapDef → Type 0 = λ row. (length key ≡ row.key_size) × (length value ≡ row.value_size) in
-    let known = rows_of-known P maps m (subst (λ (l : Live). IsSomeAnd (slice_get l.rows m) P) (sym c.self.view_is) c.requires.sizes) in
-    let inside = known.0 in
     let new = c.update-answer.new.maps in
     let others = c.update-answer.ensures.others in
-    let count = length-changed_maps maps new m (map_at new m) others in
-    let is : IsMap (map_at new m) = c.count-count.ensures.maps m _ (omega arith) in
-    subst (λ (l : Live). IsSomeAnd (slice_get l.rows m) (λ row. c.update-answer.result ≡ update_answer row (content_at l m) key c.args.flags)) c.self.view_is
-    (rows_of-some (λ (row : MapDef). c.update-answer.result ≡ update_answer row (content_at (live_of maps all i.next) m) key c.args.flags) maps m inside
-    (c.update-answer.ensures.updated.answer ∙ update_answer-live i.next maps all m new inside h others key c.args.flags))
+    let d = one_changed (Sizes key value) i.next maps all c.args.self.now c.self.view_is m c.requires.sizes new others c.count-count.ensures.maps in
+    row_told (λ l row. c.update-answer.result ≡ update_answer row (content_at l m) key c.args.flags) i.next maps all c.args.self.now c.self.view_is m d.inside
+    (c.update-answer.ensures.updated.answer ∙ update_answer-live i.next maps all m new d.inside h others key c.args.flags)
 
 pub returns-in-Some-clause-updated : goal.returns-in-Some-clause-updated
 returns-in-Some-clause-updated c =
@@ -189,20 +163,16 @@ returns-in-Some-clause-updated c =
     let key = c.args.key.now in
     let h = c.self.invariant.2 in
     let value = c.args.value.now in
-    let P : MapDef → Type 0 = λ row. (length key ≡ row.key_size) × (length value ≡ row.value_size) in
-    let known = rows_of-known P maps m (subst (λ (l : Live). IsSomeAnd (slice_get l.rows m) P) (sym c.self.view_is) c.requires.sizes) in
-    let inside = known.0 in
     let new = c.update-answer.new.maps in
     let others = c.update-answer.ensures.others in
-    let count = length-changed_maps maps new m (map_at new m) others in
-    let is : IsMap (map_at new m) = c.count-count.ensures.maps m _ (omega arith) in
+    let d = one_changed (Sizes key value) i.next maps all c.args.self.now c.self.view_is m c.requires.sizes new others c.count-count.ensures.maps in
     let zero : c.update-answer.result ≡ 0 = c.if-answer-eq0.true in
     let u : Updated key value c.args.flags 0 (map_at maps m) (map_at new m) = subst (λ (a : ℕ). Updated key value c.args.flags a (map_at maps m) (map_at new m)) zero c.update-answer.ensures.updated in
     let place : place_if_new (get (map_at maps m).places key) (get (map_at new m).places key) ≡ Some c.in-Some.place =
     ap (λ (o : Option ℕ). place_if_new o (get (map_at new m).places key)) (sym c.find-found.ensures) ∙ sym c.new_place.ensures ∙ c.in-Some.is in
     let p = c.in-Some.place in
     let two = place_if_new-Some (get (map_at maps m).places key) (get (map_at new m).places key) p place in
-    let live = live-added i.next maps all m new inside h others key value c.args.flags p is known.1.1 u two.0 two.1 in
+    let live = live-added i.next maps all m new d.inside h others key value c.args.flags p d.is d.row.1 u two.0 two.1 in
     let s : i.next + 1 ≡ suc i.next = omega arith in
     let done = (λ j. live_of new (c.give_serial.ensures.given j) (s j)) ∙ live.1 ∙ ap (λ (l : Live). with_bytes l m key value) c.self.view_is in
     done ∙ ap (λ (a : ℕ). if a == 0 then with_bytes c.args.self.now m key value else c.args.self.now) (sym zero)
@@ -216,19 +186,15 @@ returns-in_default-clause-updated c =
     let key = c.args.key.now in
     let h = c.self.invariant.2 in
     let value = c.args.value.now in
-    let P : MapDef → Type 0 = λ row. (length key ≡ row.key_size) × (length value ≡ row.value_size) in
-    let known = rows_of-known P maps m (subst (λ (l : Live). IsSomeAnd (slice_get l.rows m) P) (sym c.self.view_is) c.requires.sizes) in
-    let inside = known.0 in
     let new = c.update-answer.new.maps in
     let others = c.update-answer.ensures.others in
-    let count = length-changed_maps maps new m (map_at new m) others in
-    let is : IsMap (map_at new m) = c.count-count.ensures.maps m _ (omega arith) in
+    let d = one_changed (Sizes key value) i.next maps all c.args.self.now c.self.view_is m c.requires.sizes new others c.count-count.ensures.maps in
     let zero : c.update-answer.result ≡ 0 = c.if-answer-eq0.true in
     let u : Updated key value c.args.flags 0 (map_at maps m) (map_at new m) = subst (λ (a : ℕ). Updated key value c.args.flags a (map_at maps m) (map_at new m)) zero c.update-answer.ensures.updated in
     let none : place_if_new (get (map_at maps m).places key) (get (map_at new m).places key) ≡ None =
     ap (λ (o : Option ℕ). place_if_new o (get (map_at new m).places key)) (sym c.find-found.ensures) ∙ sym c.new_place.ensures ∙ c.in_default.is in
     let had = place_if_new-None (get (map_at maps m).places key) (get (map_at new m).places key) none (updated_there (map_at maps m) (map_at new m) key value c.args.flags u) in
-    let live = live-updated i.next maps all m new inside h others key value c.args.flags had.0 is known.1.1 u had.1 in
+    let live = live-updated i.next maps all m new d.inside h others key value c.args.flags had.0 d.is d.row.1 u had.1 in
     let done = live.1 ∙ ap (λ (l : Live). with_bytes l m key value) c.self.view_is in
     done ∙ ap (λ (a : ℕ). if a == 0 then with_bytes c.args.self.now m key value else c.args.self.now) (sym zero)
 
@@ -241,15 +207,11 @@ returns-else-answer-eq0-clause-updated c =
     let key = c.args.key.now in
     let h = c.self.invariant.2 in
     let value = c.args.value.now in
-    let P : MapDef → Type 0 = λ row. (length key ≡ row.key_size) × (length value ≡ row.value_size) in
-    let known = rows_of-known P maps m (subst (λ (l : Live). IsSomeAnd (slice_get l.rows m) P) (sym c.self.view_is) c.requires.sizes) in
-    let inside = known.0 in
     let new = c.update-answer.new.maps in
     let others = c.update-answer.ensures.others in
-    let count = length-changed_maps maps new m (map_at new m) others in
-    let is : IsMap (map_at new m) = c.count-count.ensures.maps m _ (omega arith) in
+    let d = one_changed (Sizes key value) i.next maps all c.args.self.now c.self.view_is m c.requires.sizes new others c.count-count.ensures.maps in
     let stays = c.update-answer.ensures.updated.updates.stays c.if-answer-eq0.false in
-    let same : new ≡ maps = live-same i.next maps all m new inside h others c.update-answer.ensures.updated.row stays.0 stays.1 in
+    let same : new ≡ maps = live-same i.next maps all m new d.inside h others c.update-answer.ensures.updated.row stays.0 stays.1 in
     let test : (c.update-answer.result == 0) ≡ false = not_zero c.update-answer.result c.if-answer-eq0.false in
     ap (λ (l : List MapState). live_of l all i.next) same ∙ c.self.view_is
     ∙ ap (λ b. if b then with_bytes c.args.self.now m key value else c.args.self.now) (sym test)

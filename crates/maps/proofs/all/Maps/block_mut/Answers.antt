@@ -2,7 +2,8 @@ use Rattle.std.proofs.Common.{ℕ, List, length, refl, ap, sym, ◌∙◌}
 use Rattle.std.specs.List.{refill}
 use Rattle.maps.specs.Maps.{MapState}
 use Rattle.maps.specs.Lending.{with_values}
-use Rattle.maps.proofs.AllMaps.{block-set, map_at-state}
+use Rattle.std.specs.Prelude.{vec_capacity}
+use Rattle.maps.proofs.AllMaps.{block-set, map_at-state, HaveRoom-set, inside}
 use Rattle.maps.proofs.all.Maps.block_mut.Goals as goal
 
 pub returns : goal.returns
@@ -14,3 +15,10 @@ returns c =
     block-set c.args.self.now stores c.self.view_is c.args.map c.requires x (with_values x w) c.index_mut-store.ensures.value refl refl
     (λ b. refill (length b) b w) (ap (λ (n : ℕ). refill n x.values.items w) x.values.ok.0) in
     ((refl, after), record { lends = tt; value = c.block_mut.ensures.value ∙ sym (ap (λ (m : MapState). m.block) here) })
+
+pub invariant_of-self-lent : goal.invariant_of-self-lent
+invariant_of-self-lent c w =
+    let i = c.self.inside.stores in
+    let x = c.index_mut-store.result.now in
+    let low = inside c.args.self.now i.all.items c.self.view_is c.args.map c.requires in
+    HaveRoom-set (vec_capacity i.list) (vec_capacity i.all) i.all.items c.args.map x (with_values x w) low c.index_mut-store.ensures.value refl c.self.invariant

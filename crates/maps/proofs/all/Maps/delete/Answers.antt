@@ -1,9 +1,9 @@
 use Rattle.std.proofs.Common.{map, sym, ap, subst, ◌∙◌}
-use Rattle.std.specs.Prelude.{slice_set}
+use Rattle.std.specs.Prelude.{slice_set, vec_capacity}
 use Rattle.isa_model.specs.declared.map_defs.MapDef.{MapDef}
 use Rattle.maps.specs.Contents.{content}
 use Rattle.maps.specs.Maps.{MapState, Deleted, map_at}
-use Rattle.maps.proofs.AllMaps.{state, map_at-state, map_at-set, others-set}
+use Rattle.maps.proofs.AllMaps.{state, map_at-state, map_at-set, others-set, HaveRoom-set, inside}
 use Rattle.maps.proofs.all.Maps.delete.Goals as goal
 
 pub returns-clause-deleted : goal.returns-clause-deleted
@@ -25,3 +25,9 @@ returns-clause-deleted c =
 
 pub returns-clause-others : goal.returns-clause-others
 returns-clause-others c = others-set c.args.self.now c.self.inside.stores.all.items c.self.view_is c.args.map c.requires.map c.delete.new.store
+
+pub invariant_of-self : goal.invariant_of-self
+invariant_of-self c =
+    let i = c.self.inside.stores in
+    let low = inside c.args.self.now i.all.items c.self.view_is c.args.map c.requires.map in
+    HaveRoom-set (vec_capacity i.list) (vec_capacity i.all) i.all.items c.args.map c.index_mut.result.now c.delete.new.store low c.index_mut.ensures.value c.delete.ensures.row c.self.invariant

@@ -1,14 +1,15 @@
-use Rattle.std.proofs.Common.{◌≡◌, ℕ, ◌≤◌, ◌+◌, ◌++◌, ◌∷◌, [], length, map, sym, ap, subst, ◌∙◌, arith}
+use Rattle.std.proofs.Common.{◌≡◌, ℕ, ◌≤◌, ◌+◌, ◌++◌, ◌∷◌, [], length, map, take, sym, ap, subst, ◌∙◌, arith}
 use Rattle.std.specs.Prelude.{slice_index_or, vec_capacity, All}
-use Rattle.std.proofs.lemmas.List.{map-append, map_more, length-append}
+use Rattle.std.proofs.lemmas.List.{map-append, map_more, length-append, take_all}
 use Rattle.std.proofs.lemmas.List.Elements.{All-push}
 use Rattle.isa_model.specs.declared.map_defs.MapKind.TheVariants.{Hash}
 use Rattle.isa_model.specs.declared.map_defs.MapDef.{MapDef}
 use Rattle.maps.specs.Either.{places_of}
 use Rattle.isa_model.specs.Code.MapRows.{IsRow}
-use Rattle.maps.specs.Maps.{KeyFits-index, starting_map}
+use Rattle.maps.specs.Maps.{KeyFits-index, rows_of, starting_map}
+use Rattle.maps.specs.MapLaws.{rows_of-starting}
 use Rattle.maps.specs.StoreStates.{IsListed}
-use Rattle.maps.proofs.AllMaps.{state}
+use Rattle.maps.proofs.AllMaps.{state, rows-stores}
 use Rattle.maps.proofs.all.Maps.of_rows.Goals as goal
 
 pub new-requires : goal.new-requires
@@ -39,4 +40,17 @@ loop-i-preserved c =
       count = ap length pushed.items ∙ length-append c.loop-i.stores.items (x ∷ []) ∙ ap (λ (n : ℕ). n + 1) inv.count;
       room = let r = inv.room in let p = pushed.capacity in omega arith;
       listed = subst (All (IsListed cap)) (sym pushed.items) (All-push (IsListed cap) c.loop-i.stores.items x inv.listed listed);
+    }
+
+pub invariant_of-result : goal.invariant_of-result
+invariant_of-result c =
+    let rows = c.args.rows.now in
+    let inv = c.loop-i.invariant in
+    let all = take_all c.loop-i.i rows (omega arith) in
+    let are = rows-stores c.loop-i.stores.items ∙ ap rows_of inv.made ∙ rows_of-starting (take c.loop-i.i rows) ∙ all in
+    let room = c.in_ok-list.ensures.exact in
+    record {
+      listed = inv.listed;
+      least = λ n few. let m = c.most_entries.ensures.least n (subst (All (λ (row : MapDef). row.kind ≡ Hash → row.entries ≤ n)) are few) in omega arith;
+      exact = let r = inv.room in let n = inv.count in let end = c.loop-i-test.false in let within = c.loop-i.auto.i-end in omega arith;
     }

@@ -9,6 +9,6 @@ abbrev pub invariant-loop-i : goal.invariant-loop-i
 invariant-loop-i l = record {
   made : map (state_by places_of) l.stores.items ≡ map starting_map (take l.i l.rows);
   count : length l.stores.items ≡ l.i;
-  room : length l.rows ≤ vec_capacity l.stores;
+  room : vec_capacity l.stores ≡ length l.rows;
   listed : All (IsListed (vec_capacity l.list)) l.stores.items;
 }

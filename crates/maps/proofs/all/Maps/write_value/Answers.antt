@@ -1,7 +1,7 @@
 use Rattle.std.proofs.Common.{map, refl, sym, subst}
-use Rattle.std.specs.Prelude.{slice_set}
+use Rattle.std.specs.Prelude.{slice_set, vec_capacity}
 use Rattle.maps.specs.Maps.{MapState, WritesValue, map_at}
-use Rattle.maps.proofs.AllMaps.{state, map_at-state, map_at-set, others-set}
+use Rattle.maps.proofs.AllMaps.{state, map_at-state, map_at-set, others-set, HaveRoom-set, inside}
 use Rattle.maps.proofs.all.Maps.write_value.Goals as goal
 
 pub returns-clause-written : goal.returns-clause-written
@@ -18,3 +18,9 @@ returns-clause-written c =
 
 pub returns-clause-others : goal.returns-clause-others
 returns-clause-others c = others-set c.args.self.now c.self.inside.stores.all.items c.self.view_is c.args.map c.requires.map c.write_value.new.self
+
+pub invariant_of-self : goal.invariant_of-self
+invariant_of-self c =
+    let i = c.self.inside.stores in
+    let low = inside c.args.self.now i.all.items c.self.view_is c.args.map c.requires.map in
+    HaveRoom-set (vec_capacity i.list) (vec_capacity i.all) i.all.items c.args.map c.index_mut.result.now c.write_value.new.self low c.index_mut.ensures.value c.write_value.ensures.row c.self.invariant
