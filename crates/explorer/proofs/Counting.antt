@@ -4,7 +4,7 @@ use Rattle.isa_model.specs.Code.Instructions.{Program}
 use Rattle.stack_state.specs.declared.states.State.{State}
 use Rattle.transfer.specs.declared.Ways.TheVariants as ways
 use Rattle.explorer.specs.declared.trail.Visit.{Visit}
-use Rattle.explorer.specs.Counts.{StepsInto, Takes, Nothing, OneMore, BothMore}
+use Rattle.walks.specs.Counts.{StepsInto, Takes, Nothing, OneMore, BothMore}
 use Rattle.explorer.specs.Search.{TakesBoth, Spends, CountsTo, HasSpent}
 
 Takes-same : (p : Program) (s : State) (m n : ℕ) → m ≡ n → Takes p s m → Takes p s n

@@ -9,13 +9,13 @@ use Rattle.transfer.specs.declared.Ways.TheVariants as ways
 use Rattle.transfer.specs.Leading.{LeadsTo}
 use Rattle.explorer.specs.declared.table.Stored.{Stored}
 use Rattle.explorer.specs.declared.trail.Visit.{Visit}
-use Rattle.explorer.specs.Counts.{StepsInto, HasNumber, LeadsToOne, LeadsToTwo}
+use Rattle.walks.specs.Counts.{StepsInto, HasNumber, LeadsToOne, LeadsToTwo}
 use Rattle.explorer.specs.Search.{MeantBy, Waits, AwaitsBoth, Awaits, Waiting, Path}
 use Rattle.explorer.proofs.Stores.{Keeps, Keeps-at}
 
 -- ---- paths
 
-pub Waiting-more : (p : Program) (m n : ℕ) (old new : List Stored) (visit : Visit) (s child : State) → m ≤ n → Keeps old new → Waiting p m old visit s child → Waiting p n new visit s child
+Waiting-more : (p : Program) (m n : ℕ) (old new : List Stored) (visit : Visit) (s child : State) → m ≤ n → Keeps old new → Waiting p m old visit s child → Waiting p n new visit s child
 Waiting-more p m n old new visit s child le kept h =
     record { waits = h.waits; awaits = h.awaits; steps = h.steps; steps_aside = h.steps_aside; best = omega (arith, h.best); stored = Keeps-at old new visit.stored s kept h.stored; ready = h.ready }
 
@@ -66,21 +66,6 @@ Waits-ends p visit s child n best waits none within is = rw add-one (λ clock fi
     ])
     (waits clock fits w means))
 
--- the pending state ends within a number too
-pub Waits-both : (p : Program) (visit : Visit) (s child other : State) (n k best : ℕ) → Waits p visit s child → visit.pending ≡ Some other → Within p child n → Within p other k
-    → best ≡ max (max visit.best n) k → Within p s (best + 1)
-unfolding Waits Within Ends
-Waits-both p visit s child other n k best waits some within known is = rw add-one (λ clock fits w means.
-    After-weaker (λ v. Means p child v ⊎ (MeantBy p visit.pending v ⊎ Ends p clock v visit.best)) (λ v. Ends p clock v best) (step p clock w)
-    (λ v h. elim h [
-      | inl a ↦ Ends-more p clock v n best (omega arith) (within clock fits v a)
-      | inr b ↦ elim b [
-        | inl q ↦ Ends-more p clock v k best (omega arith) (known clock fits v (subst (λ o. MeantBy p o v) some q))
-        | inr e ↦ Ends-more p clock v visit.best best (omega arith) e
-      ]
-    ])
-    (waits clock fits w means))
-
 -- the pending state is explored next
 pub Waits-next : (p : Program) (visit : Visit) (s child other : State) (n : ℕ) → Waits p visit s child → visit.pending ≡ Some other → Within p child n
     → Waits p (record { pending = None; best = max visit.best n; stored = visit.stored }) s other
@@ -100,13 +85,6 @@ unfolding Awaits
 Awaits-ends p visit s child n best awaits none number is =
     let own : HasNumber p s (max visit.best n + 1) = subst (λ o. AwaitsBoth p o s (max visit.best n)) none (awaits n number) in
     subst (λ b. HasNumber p s (b + 1)) (sym is) own
-
-pub Awaits-both : (p : Program) (visit : Visit) (s child other : State) (n k best : ℕ) → Awaits p visit s child → visit.pending ≡ Some other → HasNumber p child n → HasNumber p other k
-    → best ≡ max (max visit.best n) k → HasNumber p s (best + 1)
-unfolding Awaits
-Awaits-both p visit s child other n k best awaits some number known is =
-    let both : (k : ℕ) → HasNumber p other k → HasNumber p s (max (max visit.best n) k + 1) = subst (λ o. AwaitsBoth p o s (max visit.best n)) some (awaits n number) in
-    subst (λ b. HasNumber p s (b + 1)) (sym is) (both k known)
 
 pub Awaits-next : (p : Program) (visit : Visit) (s child other : State) (n : ℕ) → Awaits p visit s child → visit.pending ≡ Some other → HasNumber p child n
     → Awaits p (record { pending = None; best = max visit.best n; stored = visit.stored }) s other

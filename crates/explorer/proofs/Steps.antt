@@ -1,5 +1,5 @@
 -- What a search keeps, step by step.
-use Rattle.std.proofs.Common.{◌≡◌, ◌≤◌, ◌+◌, ◌∷◌, ◌++◌, [], ℕ, Some, None, Option, List, length, max, arith, refl, sym, ap, ◌∙◌, subst, inl, inr, ◌⊎◌}
+use Rattle.std.proofs.Common.{◌≡◌, ◌≤◌, ◌+◌, ◌∷◌, ◌++◌, [], ℕ, Some, None, Option, List, length, length-append, max, arith, refl, sym, ap, ◌∙◌, subst, inl, inr, ◌⊎◌}
 use Rattle.std.specs.Prelude.{IsSome}
 use Rattle.std.specs.List.{All}
 use Rattle.std.proofs.lemmas.List.Elements.{All-nil, All-cons, All-push, All-pop}
@@ -25,48 +25,66 @@ use Rattle.transfer.specs.Exact.{Makes}
 use Rattle.explorer.specs.declared.table.Stored.{Stored}
 use Rattle.explorer.specs.declared.trail.Visit.{Visit}
 use Rattle.explorer.specs.declared.search.Search.{Search}
-use Rattle.explorer.specs.declared.search.Arrival.{Arrival}
-use Rattle.explorer.specs.declared.search.Arrival.TheVariants.{Known, New}
+use Rattle.explorer.specs.Trail.{Visits}
+use Rattle.explorer.specs.declared.table.Table.{Table}
+use Rattle.explorer.specs.declared.moves.Move.{Move}
+use Rattle.explorer.specs.declared.moves.Move.TheVariants.{New, Covered, Finished}
 use Rattle.explorer.specs.Table.{StoredAt, IsNumbered}
-use Rattle.explorer.specs.Search.{Settles, Spends, Arrives, EndsAlone, EndsCovered, GoesOn, AllFine, IsReady, IfReady, IfStepsTo, Waiting, Path, OnPath, Explores, HasEntered}
-use Rattle.explorer.specs.Forgetting.{Forgets}
-use Rattle.explorer.proofs.Forgotten.{Forgets-slot, Forgets-returns, LeadsTo-forgets, GoesOnTo-forgets}
+use Rattle.explorer.specs.Search.{Settles, Spends, CountsTo, Arrives, AllFine, IsReady, IfReady, IfStepsTo, Waiting, Path, OnPath, HasEnded, Explores, Comes, Moves}
+use Rattle.walks.specs.Forgetting.{Forgets}
+use Rattle.walks.proofs.Forgotten.{Forgets-slot, Forgets-returns, LeadsTo-forgets, GoesOnTo-forgets}
 use Rattle.explorer.proofs.Walking.{steps_by, into_by, Path-walks}
-use Rattle.explorer.proofs.Counting.{Spends-one, Spends-two}
-use Rattle.explorer.specs.Counts.{StepsInto, LeadsNowhere}
-use Rattle.explorer.proofs.Stores.{Keeps, Keeps-at, Keeps-same, AllFine-more, IsCovered-known, Arrives-keeps, Arrives-fine, Arrives-stored, IsNumbered-fine, IsNumbered-keeps}
-use Rattle.explorer.proofs.Unfinished.{OnPath-same, OnPath-push, OnPath-arrives, OnPath-finish}
-use Rattle.explorer.proofs.Paths.{Last, Waiting-more, Path-more, Path-push, Waits-ends, Waits-both, Waits-next, LeadsTo-ends, Waits-one, Waits-two, Awaits-ends, Awaits-both, Awaits-next, Awaits-one, Awaits-two}
+use Rattle.explorer.proofs.Counting.{Spends-one, Spends-two, spent_here, spent_into, spent_on}
+use Rattle.walks.specs.Counts.{StepsInto, LeadsNowhere, Nothing}
+use Rattle.explorer.proofs.Stores.{AllFine-more, IsCovered-known, Arrives-keeps, Arrives-fine, Arrives-stored, IsNumbered-fine, IsNumbered-keeps}
+use Rattle.explorer.proofs.Unfinished.{OnPath-same, OnPath-push, OnPath-pop, OnPath-arrives, OnPath-finish}
+use Rattle.explorer.proofs.Paths.{Last, Path-more, Path-push, Path-pop, Waits-ends, Waits-next, LeadsTo-ends, Waits-one, Waits-two, Awaits-ends, Awaits-next, Awaits-one, Awaits-two}
+
+-- ---- an arrival
+
+pub comes_to : (p : Program) (old : Search) (table : Table) (scratch : State) (made : Move) → Comes p old → Arrives p old.table.entries.items old.current made table.entries.items
+    → Moves p (record old { table = table; scratch = scratch }) made
+comes_to p old table scratch (New stored) h arrives =
+    let before = old.table.entries.items in
+    let after = table.entries.items in
+    let path = old.path.items in
+    let kept = Arrives-keeps p before old.current (New stored) after arrives in
+    record {
+      at = record {
+        fine = Arrives-fine p old.finished before old.current (New stored) after arrives h.at.fine;
+        first = h.at.first;
+        begins = h.at.begins;
+        path = Path-more p old.finished old.finished before after (omega arith) kept path h.at.first old.current h.at.path;
+      };
+      on_path = OnPath-arrives p before after path old.current stored arrives h.on_path;
+      stored_at = Arrives-stored p before old.current stored after arrives;
+      spent = h.spent;
+      ready = h.ready;
+    }
+comes_to p old table scratch (Covered k n) h arrives =
+    let before = old.table.entries.items in
+    let after = table.entries.items in
+    let path = old.path.items in
+    let total = old.finished + length path in
+    let kept = Arrives-keeps p before old.current (Covered k n) after arrives in
+    let known = IsCovered-known p old.finished before k old.current n h.at.fine arrives.1 in
+    record {
+      state = old.current;
+      at = record {
+        fine = Arrives-fine p old.finished before old.current (Covered k n) after arrives h.at.fine;
+        first = h.at.first;
+        begins = h.at.begins;
+        path = Path-more p old.finished old.finished before after (omega arith) kept path h.at.first old.current h.at.path;
+      };
+      on_path = OnPath-same before after path None arrives.2 h.on_path;
+      within = known.0;
+      spent = spent_here p h.at.first path old.current total 0 total h.spent (Nothing old.current 0 refl) (omega arith);
+      some = arrives.1.finished;
+      most = known.1;
+    }
+comes_to p old table scratch (Finished n) h arrives = absurd arrives
 
 -- ---- a visit that ends
-
--- what is known when a visit has its number
-pub record GetsNumber (p : Program) (m : ℕ) (old new : List Stored) (s : State) (best : ℕ) : Type 0 where
-  pub within : Settles p s (best + 1)
-  pub most : best ≤ m
-  pub keeps : Keeps old new
-  pub fine : AllFine p m new
-
-pub visit_ends : (p : Program) (m : ℕ) (old new : List Stored) (visit : Visit) (s child : State) (n best : ℕ) → AllFine p m old → Waiting p m old visit s child → Settles p child n → n ≤ m
-    → EndsAlone old visit n best new ⊎ EndsCovered p old visit n best new → GetsNumber p m old new s best
-visit_ends p m old new visit s child n best fine waiting within le (inl h) =
-    record {
-      within = record { within = Waits-ends p visit s child n best waiting.waits h.nothing within.within h.best_is; number = Awaits-ends p visit s child n best waiting.awaits h.nothing within.number h.best_is };
-      most = omega (arith, waiting.best, h.best_is);
-      keeps = Keeps-same old new h.same;
-      fine = subst (λ x. AllFine p m x) (sym h.same) fine;
-    }
-visit_ends p m old new visit s child n best fine waiting within le (inr h) =
-    let known = IsCovered-known p m old h.other h.known fine h.arrives.1 in
-    record {
-      within = record {
-        within = Waits-both p visit s child h.other n h.known best waiting.waits h.is_pending within.within known.0.within h.best_is;
-        number = Awaits-both p visit s child h.other n h.known best waiting.awaits h.is_pending within.number known.0.number h.best_is;
-      };
-      most = omega (arith, waiting.best, h.best_is, known.1);
-      keeps = Arrives-keeps p old h.other (Known h.known) new h.arrives;
-      fine = Arrives-fine p m old h.other (Known h.known) new h.arrives fine;
-    }
 
 -- the number is written, and the search is at the state before
 pub record IsBack (p : Program) (m : ℕ) (table : List Stored) (a : State) (path : List Visit) (number : ℕ) : Type 0 where
@@ -77,39 +95,32 @@ pub record IsBack (p : Program) (m : ℕ) (table : List Stored) (a : State) (pat
   pub within : Settles p state number
   pub most : number ≤ m
 
-ends_same : (p : Program) (old new : List Stored) (visit : Visit) (n best : ℕ) → EndsAlone old visit n best new ⊎ EndsCovered p old visit n best new → new ≡ old
-ends_same p old new visit n best (inl h) = h.same
-ends_same p old new visit n best (inr h) = h.arrives.2
-
-pub step_back : (p : Program) (m : ℕ) (old mid new : List Stored) (a : State) (path : List Visit) (visit : Visit) (child : State) (n best : ℕ)
-    → Forgets p start a → AllFine p m old → Last p m old a path visit child → OnPath old path visit.stored → Settles p child n → n ≤ m → EndsAlone old visit n best mid ⊎ EndsCovered p old visit n best mid
-    → IsNumbered mid visit.stored (best + 1) new → IsBack p (m + 1) new a path (best + 1)
-step_back p m old mid new a path visit child n best root fine last on_path within le ends numbered =
+pub step_back : (p : Program) (m : ℕ) (old new : List Stored) (a : State) (path : List Visit) (visit : Visit) (child : State) (n best : ℕ)
+    → Forgets p start a → AllFine p m old → Last p m old a path visit child → OnPath old path visit.stored → Settles p child n → n ≤ m → visit.pending ≡ None → best ≡ max visit.best n
+    → IsNumbered old visit.stored (best + 1) new → IsBack p (m + 1) new a path (best + 1)
+step_back p m old new a path visit child n best root fine last on_path within le nothing is numbered =
     let s = last.state in
-    let h = visit_ends p m old mid visit s child n best fine last.waiting within le ends in
-    let at : StoredAt mid visit.stored s = Keeps-at old mid visit.stored s h.keeps last.waiting.stored in
-    let kept = IsNumbered-keeps mid visit.stored s (best + 1) new numbered at in
+    let waiting = last.waiting in
+    let own : Settles p s (best + 1) = record {
+      within = Waits-ends p visit s child n best waiting.waits nothing within.within is;
+      number = Awaits-ends p visit s child n best waiting.awaits nothing within.number is;
+    } in
+    let most : best ≤ m = omega (arith, waiting.best, le, is) in
+    let kept = IsNumbered-keeps old visit.stored s (best + 1) new numbered waiting.stored in
     record {
       state = s;
-      fine = IsNumbered-fine p (m + 1) mid visit.stored s (best + 1) new numbered at h.within (omega (arith, h.most))
-          (length path, Path-walks p m old path a s root last.before) (AllFine-more p m (m + 1) mid (omega arith) h.fine);
-      before = Path-more p (m + 1) (m + 1) mid new (omega arith) kept path a s (Path-more p m (m + 1) old mid (omega arith) h.keeps path a s last.before);
-      on_path = OnPath-finish mid new path visit.stored s (best + 1) numbered at (omega arith) (OnPath-same old mid path visit.stored (ends_same p old mid visit n best ends) on_path);
-      within = h.within;
-      most = omega (arith, h.most);
+      fine = IsNumbered-fine p (m + 1) old visit.stored s (best + 1) new numbered waiting.stored own (omega (arith, most))
+          (length path, Path-walks p m old path a s root last.before) (AllFine-more p m (m + 1) old (omega arith) fine);
+      before = Path-more p m (m + 1) old new (omega arith) kept path a s last.before;
+      on_path = OnPath-finish old new path visit.stored s (best + 1) numbered waiting.stored (omega arith) on_path;
+      within = own;
+      most = omega (arith, most);
     }
 
 -- ---- a visit that goes on
 
-pub record IsOn (p : Program) (m : ℕ) (table : List Stored) (a : State) (path : List Visit) (at : Option ℕ) (current : State) : Type 0 where
-  pub fine : AllFine p m table
-  pub before : Path p m table a path current
-  pub on_path : OnPath table path at
-  pub stored : StoredAt table at current
-  pub ready : IsReady p current
-
 -- the path to the pending state, once the child has its number
-pub step_aside : (p : Program) (m : ℕ) (table : List Stored) (a : State) (path : List Visit) (visit : Visit) (child : State) (n : ℕ) (current : State)
+step_aside : (p : Program) (m : ℕ) (table : List Stored) (a : State) (path : List Visit) (visit : Visit) (child : State) (n : ℕ) (current : State)
     → Last p m table a path visit child → Settles p child n → n ≤ m → visit.pending ≡ Some current
     → Path p m table a (path ++ record { pending = None; best = max visit.best n; stored = visit.stored } ∷ []) current
 step_aside p m table a path visit child n current last within le is =
@@ -121,26 +132,31 @@ step_aside p m table a path visit child n current last within le is =
       awaits = Awaits-next p visit s child current n last.waiting.awaits is within.number;
       steps = subst (IfStepsTo p s) is last.waiting.steps_aside;
       steps_aside = tt;
-      best = omega (arith, last.waiting.best);
+      best = omega (arith, last.waiting.best, le);
       stored = last.waiting.stored;
       ready = tt;
     } in
     Path-push p m table path next a s current last.before waiting
 
-pub step_on : (p : Program) (m : ℕ) (old new : List Stored) (a : State) (path : List Visit) (visit : Visit) (child : State) (n : ℕ) (rest : Visit) (at : Option ℕ) (current : State) (whole : List Visit)
-    → AllFine p m old → Last p m old a path visit child → OnPath old path visit.stored → Settles p child n → n ≤ m → GoesOn p old visit n rest at new current → whole ≡ path ++ rest ∷ []
-    → IsOn p m new a whole at current
-step_on p m old new a path visit child n rest at current whole fine last on_path within le on e =
-    let kept = Arrives-keeps p old current (New at) new on.arrives in
+-- the last visit of the path goes on with what was pending
+pub comes_aside : (p : Program) (old : Search) (path : List Visit) (visit rest : Visit) (whole : Visits) (n : ℕ) (current : State) → HasEnded p old n
+    → old.path.items ≡ path ++ visit ∷ [] → visit.pending ≡ Some current → rest ≡ record { pending = None; best = max visit.best n; stored = visit.stored } → whole.items ≡ path ++ rest ∷ []
+    → Comes p (record old { path = whole; current = current })
+comes_aside p old path visit rest whole n current h was is rest_is pushed =
+    let table = old.table.entries.items in
+    let a = h.at.first in
     let next : Visit = record { pending = None; best = max visit.best n; stored = visit.stored } in
-    let is : whole ≡ path ++ next ∷ [] = e ∙ ap (λ v. path ++ v ∷ []) on.rest_is in
-    let aside = step_aside p m old a path visit child n current last within le on.is_pending in
+    let last = Path-pop p old.finished table path visit a h.state (subst (λ (x : List Visit). Path p old.finished table a x h.state) was h.at.path) in
+    let again : whole.items ≡ path ++ next ∷ [] = pushed ∙ ap (λ (v : Visit). path ++ v ∷ []) rest_is in
+    let same : length old.path.items ≡ length whole.items =
+    ap (λ (xs : List Visit). length xs) was ∙ (length-append path (visit ∷ []) ∙ (sym (length-append path (next ∷ [])) ∙ ap (λ (xs : List Visit). length xs) (sym again))) in
+    let aside = step_aside p old.finished table a path visit h.state n current last h.within h.most is in
     record {
-      fine = Arrives-fine p m old current (New at) new on.arrives fine;
-      before = subst (λ x. Path p m new a x current) (sym is) (Path-more p m m old new (omega arith) kept (path ++ next ∷ []) a current aside);
-      on_path = OnPath-arrives p old new whole current at on.arrives (OnPath-push old path whole next is on_path);
-      stored = Arrives-stored p old current at new on.arrives;
-      ready = subst (IfReady p) on.is_pending last.waiting.ready;
+      at = record { fine = h.at.fine; first = a; begins = h.at.begins; path = subst (λ (x : List Visit). Path p old.finished table a x current) (sym again) aside };
+      on_path = OnPath-push table path whole.items next again (OnPath-pop table path old.path.items visit was h.on_path);
+      spent = subst (λ k. CountsTo p a whole.items current (old.finished + k)) same
+          (spent_on p a path old.path.items whole.items visit next current (old.finished + length old.path.items) was again is refl h.spent);
+      ready = subst (IfReady p) is last.waiting.ready;
     }
 
 -- ---- a visit that begins
@@ -169,20 +185,20 @@ pub fetched : (p : Program) (s : State) → IsReady p s → (i : Insn) × (fetch
 fetched p s ready = some_there (fetch p s.slot) ready.begins
 
 -- the instruction's state waits for the state after it
-pub record Begins (p : Program) (m : ℕ) (table : List Stored) (visit : Visit) (s next : State) : Type 0 where
+pub record Entered (p : Program) (m : ℕ) (table : List Stored) (visit : Visit) (s next : State) : Type 0 where
   pub waiting : Waiting p m table visit s next
   pub ready : IsReady p next
   pub spends : Spends p visit s next 1
 
 pub one_way : (p q : Program) (m : ℕ) (table : List Stored) (stored : Option ℕ) (s a b first : State) (w : Ways) (pending : Option State) → p ≡ q → IsFlow p → IsReady p s → StoredAt table stored s
     → LeadsTo q s w a b → ((i : Insn) → fetch q s.slot ≡ Some i → Makes q s i w a b) → EachWay w a b (GoesOnTo q s) → Forgets p a first → w ≡ ways.One → pending ≡ None
-    → Begins p m table (record { pending = pending; best = 0; stored = stored }) s first
+    → Entered p m table (record { pending = pending; best = 0; stored = stored }) s first
 one_way p q m table stored s a b first w pending same flow ready at leads makes follows forgets is none =
     let (i, here) = fetched p s ready in
     let leads' = LeadsTo-forgets p s ways.One a b first b forgets (subst (λ x. LeadsTo x s ways.One a b) (sym same) (subst (λ x. LeadsTo q s x a b) is leads)) in
     let follows' : GoesOnTo p s a = subst (λ x. GoesOnTo x s a) (sym same) (subst (λ x. EachWay x a b (GoesOnTo q s)) is follows) in
     let into = into_by p q s a b first b w ways.One same makes i here is forgets in
-    subst (λ x. Begins p m table (record { pending = x; best = 0; stored = stored }) s first) (sym none) (record {
+    subst (λ x. Entered p m table (record { pending = x; best = 0; stored = stored }) s first) (sym none) (record {
       waiting = record { waits = Waits-one p s first b stored leads'; awaits = Awaits-one p s first b stored into; steps = steps_by p q s a b a first w ways.One same makes i here is refl forgets; steps_aside = tt; best = omega arith; stored = at; ready = tt };
       ready = IsReady-next p s first flow ready (GoesOnTo-forgets p s a first forgets follows');
       spends = Spends-one p s first b stored into;
@@ -190,14 +206,14 @@ one_way p q m table stored s a b first w pending same flow ready at leads makes 
 
 pub two_ways : (p q : Program) (m : ℕ) (table : List Stored) (stored : Option ℕ) (s a b first other : State) (w : Ways) (pending : Option State) → p ≡ q → IsFlow p → IsReady p s → StoredAt table stored s
     → LeadsTo q s w a b → ((i : Insn) → fetch q s.slot ≡ Some i → Makes q s i w a b) → EachWay w a b (GoesOnTo q s) → Forgets p a first → Forgets p b other → w ≡ ways.Two → pending ≡ Some other
-    → Begins p m table (record { pending = pending; best = 0; stored = stored }) s first
+    → Entered p m table (record { pending = pending; best = 0; stored = stored }) s first
 two_ways p q m table stored s a b first other w pending same flow ready at leads makes follows forgets aside is some =
     let (i, here) = fetched p s ready in
     let leads' = LeadsTo-forgets p s ways.Two a b first other (forgets, aside) (subst (λ x. LeadsTo x s ways.Two a b) (sym same) (subst (λ x. LeadsTo q s x a b) is leads)) in
     let follows' : GoesOnTo p s a × GoesOnTo p s b =
     subst (λ x. GoesOnTo x s a × GoesOnTo x s b) (sym same) (subst (λ x. EachWay x a b (GoesOnTo q s)) is follows) in
     let into = into_by p q s a b first other w ways.Two same makes i here is (forgets, aside) in
-    subst (λ x. Begins p m table (record { pending = x; best = 0; stored = stored }) s first) (sym some) (record {
+    subst (λ x. Entered p m table (record { pending = x; best = 0; stored = stored }) s first) (sym some) (record {
       waiting = record {
         waits = Waits-two p s first other stored leads';
         awaits = Awaits-two p s first other stored into;
@@ -211,28 +227,28 @@ two_ways p q m table stored s a b first other w pending same flow ready at leads
       spends = Spends-two p s first other stored into;
     })
 
--- the search waits at the state, and goes on from the first of those that are left to explore
-pub enters : (p : Program) (old x : Search) (stored : Option ℕ) (pending : Option State) (a o first : State) → x ≡ record old { current = a; scratch = o } → Explores p old stored
-    → Begins p old.finished old.table.entries.items (record { pending = pending; best = 0; stored = stored }) old.current first → HasEntered p (record x { current = first }) stored pending
-enters p old x stored pending a o first is at begins =
-    subst (λ (y : Search). HasEntered p (record y { current = first }) stored pending) (sym is) (record {
-      state = old.current;
-      at = record { fine = at.at.fine; first = at.at.first; begins = at.at.begins; path = at.at.path };
-      on_path = at.on_path;
-      waiting = begins.waiting;
-      spent = at.spent;
-      spends = begins.spends;
-      ready = begins.ready;
+-- the path goes on from the state to the first of those that are left to explore
+pub comes_into : (p : Program) (old x : Search) (stored : Option ℕ) (pending : Option State) (whole : Visits) (a o first : State) → x ≡ record old { current = a; scratch = o } → Explores p old stored
+    → Entered p old.finished old.table.entries.items (record { pending = pending; best = 0; stored = stored }) old.current first
+    → whole.items ≡ x.path.items ++ record { pending = pending; best = 0; stored = stored } ∷ [] → Comes p (record x { current = first; path = whole })
+comes_into p old x stored pending whole a o first is at entered pushed =
+    let visit : Visit = record { pending = pending; best = 0; stored = stored } in
+    let table = old.table.entries.items in
+    let path = old.path.items in
+    let root = at.at.first in
+    let again : whole.items ≡ path ++ visit ∷ [] = pushed ∙ ap (λ (y : Search). y.path.items ++ visit ∷ []) is in
+    let more : length whole.items ≡ length path + 1 = ap (λ (xs : List Visit). length xs) again ∙ length-append path (visit ∷ []) in
+    subst (λ (y : Search). Comes p (record y { current = first; path = whole })) (sym is) (record {
+      at = record {
+        fine = at.at.fine;
+        first = root;
+        begins = at.at.begins;
+        path = subst (λ (y : List Visit). Path p old.finished table root y first) (sym again) (Path-push p old.finished table path visit root old.current first at.at.path entered.waiting);
+      };
+      on_path = OnPath-push table path whole.items visit again at.on_path;
+      spent = spent_into p root path whole.items visit old.current first (old.finished + length path) (old.finished + length whole.items) again at.spent entered.spends (omega (arith, more));
+      ready = entered.ready;
     })
-
--- the search is at the state after it
-pub step_into : (p : Program) (m : ℕ) (old new : List Stored) (a : State) (path : List Visit) (visit : Visit) (s child : State) (arrival : Arrival) (whole : List Visit)
-    → AllFine p m old → Path p m old a path s → Waiting p m old visit s child → Arrives p old child arrival new → whole ≡ path ++ visit ∷ [] → AllFine p m new × Path p m new a whole child
-step_into p m old new a path visit s child arrival whole fine before waiting arrives e =
-    let kept = Arrives-keeps p old child arrival new arrives in (
-      Arrives-fine p m old child arrival new arrives fine,
-      subst (λ x. Path p m new a x child) (sym e) (Path-push p m new path visit a s child (Path-more p m m old new (omega arith) kept path a s before) (Waiting-more p m m old new visit s child (omega arith) kept waiting)),
-    )
 
 -- nothing goes on, and the number 1 is written
 pub step_ends : (p q : Program) (m : ℕ) (old new : List Stored) (a : State) (path : List Visit) (stored : Option ℕ) (s x y : State) (w : Ways) → Forgets p start a → p ≡ q → AllFine p m old → Path p m old a path s → StoredAt old stored s

@@ -6,16 +6,16 @@ use Rattle.isa_model.specs.Code.Instructions.{Program}
 use Rattle.stack_state.specs.declared.states.State.{State}
 use Rattle.stack_state.specs.Meaning.{Within, Covers}
 use Rattle.explorer.specs.declared.table.Stored.{Stored}
-use Rattle.explorer.specs.declared.search.Arrival.{Arrival}
-use Rattle.explorer.specs.declared.search.Arrival.TheVariants.{Known, New}
+use Rattle.explorer.specs.declared.moves.Move.{Move}
+use Rattle.explorer.specs.declared.moves.Move.TheVariants.{New, Covered, Finished}
 use Rattle.explorer.specs.Table.{IsCovered, StoredAt, IsNumbered}
 use Rattle.stack_state.specs.Starts.{start}
-use Rattle.explorer.specs.Forgetting.{Forgets}
-use Rattle.explorer.specs.Walks.{WalksTo}
-use Rattle.explorer.specs.Counts.{IsCoveredBy}
-use Rattle.explorer.proofs.Forgotten.{Forgets-slot, Forgets-covers}
+use Rattle.walks.specs.Forgetting.{Forgets}
+use Rattle.walks.specs.Walks.{WalksTo}
+use Rattle.walks.specs.Counts.{IsCoveredBy}
+use Rattle.walks.proofs.Forgotten.{Forgets-slot, Forgets-covers}
 use Rattle.explorer.proofs.Walking.{WalksTo-start}
-use Rattle.explorer.specs.Search.{stored_too, Arrives, Settles, IsFine, AllFine}
+use Rattle.explorer.specs.Search.{stored_too, Arrives, IsArrival, Settles, IsFine, AllFine}
 
 -- ---- numbers
 
@@ -40,12 +40,12 @@ unfolding AllFine
 AllFine-set p m table k s n h within le walk = All-set (IsFine p m) table k _ (λ above. (within, le, walk)) h
 
 -- a state that a finished entry covers ends within the entry's number
-pub IsCovered-known : (p : Program) (m : ℕ) (table : List Stored) (s : State) (n : ℕ) → AllFine p m table → IsCovered table s n → Settles p s n × (n ≤ m)
+pub IsCovered-known : (p : Program) (m : ℕ) (table : List Stored) (k : ℕ) (s : State) (n : ℕ) → AllFine p m table → IsCovered table k s n → Settles p s n × (n ≤ m)
 unfolding AllFine
-IsCovered-known p m table s n fine h =
+IsCovered-known p m table k s n fine h =
     let e : Stored = record { state = h.entry; number = n } in
-    let same = get_or_from_slice_get table h.index e e h.stored in
-    let here : IsFine p m e = subst (IsFine p m) same (fine h.index e (slice_get_within table h.index e h.stored)) in
+    let same = get_or_from_slice_get table k e e h.stored in
+    let here : IsFine p m e = subst (IsFine p m) same (fine k e (slice_get_within table k e h.stored)) in
     let known = here h.finished in
     let walk = known.2 in (
       record {
@@ -64,12 +64,12 @@ Settles-start p first n begins h = record {
 
 -- ---- places
 
-slice_get-push : {X : Type 0} (xs : List X) (y : X) (k : ℕ) (x : X) → slice_get xs k ≡ Some x → slice_get (xs ++ y ∷ []) k ≡ Some x
+pub slice_get-push : {X : Type 0} (xs : List X) (y : X) (k : ℕ) (x : X) → slice_get xs k ≡ Some x → slice_get (xs ++ y ∷ []) k ≡ Some x
 slice_get-push [] y k x e = absurd (cc)
 slice_get-push (z ∷ xs) y zero x e = e
 slice_get-push (z ∷ xs) y (suc k) x e = slice_get-push xs y k x e
 
-slice_get-seam : {X : Type 0} (xs : List X) (y : X) → slice_get (xs ++ y ∷ []) (length xs) ≡ Some y
+pub slice_get-seam : {X : Type 0} (xs : List X) (y : X) → slice_get (xs ++ y ∷ []) (length xs) ≡ Some y
 slice_get-seam [] y = refl
 slice_get-seam (x ∷ xs) y = slice_get-seam xs y
 
@@ -110,15 +110,17 @@ Keeps-set table i s m n e = λ k t. elim k as (λ k. StoredAt table k t → Stor
 
 -- ---- an arrival
 
-pub Arrives-keeps : (p : Program) (old : List Stored) (s : State) (a : Arrival) (new : List Stored) → Arrives p old s a new → Keeps old new
-Arrives-keeps p old s (Known n) new h = Keeps-same old new h.2
+pub Arrives-keeps : (p : Program) (old : List Stored) (s : State) (made : Move) (new : List Stored) → Arrives p old s made new → Keeps old new
+Arrives-keeps p old s (Covered k n) new h = Keeps-same old new h.2
 Arrives-keeps p old s (New None) new h = Keeps-same old new h.1
 Arrives-keeps p old s (New (Some k)) new h = subst (λ x. Keeps old x) (sym h.2) (Keeps-push old _)
+Arrives-keeps p old s (Finished n) new h = absurd h
 
-pub Arrives-fine : (p : Program) (m : ℕ) (old : List Stored) (s : State) (a : Arrival) (new : List Stored) → Arrives p old s a new → AllFine p m old → AllFine p m new
-Arrives-fine p m old s (Known n) new h fine = subst (λ x. AllFine p m x) (sym h.2) fine
+pub Arrives-fine : (p : Program) (m : ℕ) (old : List Stored) (s : State) (made : Move) (new : List Stored) → Arrives p old s made new → AllFine p m old → AllFine p m new
+Arrives-fine p m old s (Covered k n) new h fine = subst (λ x. AllFine p m x) (sym h.2) fine
 Arrives-fine p m old s (New None) new h fine = subst (λ x. AllFine p m x) (sym h.1) fine
 Arrives-fine p m old s (New (Some k)) new h fine = subst (λ x. AllFine p m x) (sym h.2) (AllFine-push p m old s fine)
+Arrives-fine p m old s (Finished n) new h fine = absurd h
 
 pub Arrives-stored : (p : Program) (old : List Stored) (s : State) (k : Option ℕ) (new : List Stored) → Arrives p old s (New k) new → StoredAt new k s
 Arrives-stored p old s None new h = tt
@@ -127,6 +129,11 @@ Arrives-stored p old s (Some k) new h = (
   subst (λ x. slice_get x k ≡ Some (record { state = s; number = 0 })) (sym h.2)
       (subst (λ i. slice_get (stored_too old s) i ≡ Some (record { state = s; number = 0 })) (sym h.1) (slice_get-seam old _)),
 )
+
+pub Arrives-arrival : (p : Program) (old : List Stored) (s : State) (made : Move) (new : List Stored) → Arrives p old s made new → IsArrival made
+Arrives-arrival p old s (Covered k n) new h = tt
+Arrives-arrival p old s (New stored) new h = tt
+Arrives-arrival p old s (Finished n) new h = absurd h
 
 -- ---- a number
 

@@ -6,7 +6,7 @@ use Rattle.isa_model.specs.Code.Instructions.{Program}
 use Rattle.stack_state.specs.declared.states.State.{State}
 use Rattle.explorer.specs.declared.table.Stored.{Stored}
 use Rattle.explorer.specs.declared.trail.Visit.{Visit}
-use Rattle.explorer.specs.declared.search.Arrival.TheVariants.{New}
+use Rattle.explorer.specs.declared.moves.Move.TheVariants.{New}
 use Rattle.explorer.specs.Table.{StoredAt, IsNumbered}
 use Rattle.explorer.specs.Search.{Arrives, zeros_from, unfinished, with_first, with_last, places_of, OnPath}
 

@@ -9,14 +9,15 @@ use Rattle.stack_state.specs.Starts.{start}
 use Rattle.control_flow.specs.Flows.{IsJoin}
 use Rattle.transfer.specs.declared.Ways.{Ways}
 use Rattle.transfer.specs.Exact.{Makes}
-use Rattle.explorer.specs.declared.refusals.Refusal.{Refusal}
-use Rattle.explorer.specs.declared.refusals.Refusal.TheVariants.{Flow, Step, Repeats, TooLong, Memory}
+use Rattle.walks.specs.declared.refusals.Refusal.{Refusal}
+use Rattle.walks.specs.declared.refusals.Refusal.TheVariants.{Flow, Step, Repeats, TooLong, Memory}
 use Rattle.explorer.specs.declared.table.Stored.{Stored}
 use Rattle.explorer.specs.declared.trail.Visit.{Visit}
-use Rattle.explorer.specs.Walks.{IsAmong, StepsTo, Leads, WalksTo}
-use Rattle.explorer.specs.Forgetting.{Forgets}
-use Rattle.explorer.specs.Counts.{AreForgotten, StepsInto}
-use Rattle.explorer.specs.Refused.{StopsAt}
+use Rattle.walks.specs.Walks.{IsAmong, StepsTo, Leads, WalksTo}
+use Rattle.walks.specs.Forgetting.{Forgets}
+use Rattle.walks.specs.Counts.{AreForgotten, StepsInto}
+use Rattle.explorer.specs.Listening.{ComesBackAt}
+use Rattle.walks.specs.Refused.{StopsAt}
 use Rattle.explorer.specs.Table.{StoredAt}
 use Rattle.explorer.specs.Search.{Path, TurnsBack, zeros_from, with_first, places_of, OnPath}
 
@@ -145,3 +146,10 @@ turned_back p m table path a b Repeats slot begins h on back =
     }
 turned_back p m table path a b TooLong slot begins h on back = absurd back
 turned_back p m table path a b Memory slot begins h on back = back
+
+pub TurnsBack-at : (p : Program) (table : List Stored) (s : State) (e : Refusal) (slot : ℕ) → TurnsBack p table s e slot → ComesBackAt s e slot
+TurnsBack-at p table s (Flow e) slot h = absurd h
+TurnsBack-at p table s (Step e) slot h = absurd h
+TurnsBack-at p table s Repeats slot h = sym h.2
+TurnsBack-at p table s TooLong slot h = absurd h
+TurnsBack-at p table s Memory slot h = tt

@@ -5,11 +5,12 @@ use Rattle.isa_model.specs.Code.Instructions.{Program, fetch, slots_of}
 use Rattle.stack_state.specs.declared.states.State.{State}
 use Rattle.stack_state.specs.Starts.{start}
 use Rattle.transfer.specs.Exact.{Refuses}
-use Rattle.explorer.specs.Forgetting.{Forgets}
-use Rattle.explorer.specs.Refused.{StopsAt}
-use Rattle.explorer.specs.Walks.{StepsTo}
-use Rattle.explorer.specs.declared.refusals.Refusal.{Refusal}
-use Rattle.explorer.specs.declared.refusals.Refusal.TheVariants.{Flow, Step, Repeats, TooLong, Memory}
+use Rattle.walks.specs.Forgetting.{Forgets}
+use Rattle.explorer.specs.Listening.{StopsIn}
+use Rattle.walks.specs.Refused.{StopsAt}
+use Rattle.walks.specs.Walks.{StepsTo}
+use Rattle.walks.specs.declared.refusals.Refusal.{Refusal}
+use Rattle.walks.specs.declared.refusals.Refusal.TheVariants.{Flow, Step, Repeats, TooLong, Memory}
 use Rattle.explorer.specs.declared.explanations.Jump.{Jump}
 use Rattle.explorer.specs.declared.explanations.Explanation.{Explanation}
 use Rattle.explorer.specs.declared.explanations.TheConstants.{MOST_JUMPS}
@@ -33,14 +34,6 @@ pub record IsLed (p : Program) (s : State) (way : List Jump) : Type 0 where
   pub jumps : List Jump
   pub comes : ComesBy p s jumps
   pub last_are : way ≡ last MOST_JUMPS jumps
-
--- why the search stops in the state: its step is refused so, or the search has been in it, or has explored enough
-abbrev pub StopsIn : Program → State → Refusal → Type 0
-StopsIn p s (Flow e) = ⊥
-StopsIn p s (Step e) = (i : Insn) × (fetch p s.slot ≡ Some i) × Refuses p s i e
-StopsIn p s Repeats = Unit {0}
-StopsIn p s TooLong = Unit {0}
-StopsIn p s Memory = ⊥
 
 -- the program is refused so, at the slot; the state in which it is, and the last jumps on a way there
 pub record Explains (p : Program) (e : Refusal) (slot : ℕ) (x : Explanation) : Type 0 where

@@ -12,21 +12,19 @@ use Rattle.stack_state.specs.Starts.{start}
 use Rattle.control_flow.specs.Graph.{BeginsInsn}
 use Rattle.control_flow.specs.Flows.{IsJoin}
 use Rattle.transfer.specs.Following.{returns_of}
-use Rattle.explorer.specs.declared.verified.TheConstants.{MAX_EXPLORED}
-use Rattle.explorer.specs.declared.refusals.Refusal.{Refusal}
-use Rattle.explorer.specs.declared.refusals.Refusal.TheVariants.{Repeats, Memory}
+use Rattle.walks.specs.declared.refusals.TheConstants.{MAX_EXPLORED}
+use Rattle.walks.specs.declared.refusals.Refusal.{Refusal}
+use Rattle.walks.specs.declared.refusals.Refusal.TheVariants.{Repeats, Memory}
 use Rattle.explorer.specs.declared.table.Stored.{Stored}
 use Rattle.explorer.specs.declared.trail.Visit.{Visit}
 use Rattle.explorer.specs.declared.search.Search.{Search}
-use Rattle.explorer.specs.declared.search.Arrival.{Arrival}
-use Rattle.explorer.specs.declared.search.Arrival.TheVariants.{Known, New}
-use Rattle.explorer.specs.declared.search.Turn.{Turn}
-use Rattle.explorer.specs.declared.search.Turn.TheVariants.{Explore, Done}
-use Rattle.explorer.specs.declared.search.Resumed.{Resumed}
-use Rattle.explorer.specs.declared.search.Resumed.TheVariants.{Next, Ended}
-use Rattle.explorer.specs.Forgetting.{Forgets}
-use Rattle.explorer.specs.Walks.{StepsTo, WalksTo}
-use Rattle.explorer.specs.Counts.{HasNumber, Takes}
+use Rattle.explorer.specs.declared.moves.Move.{Move}
+use Rattle.explorer.specs.declared.moves.Move.TheVariants.{New, Covered, Finished}
+use Rattle.explorer.specs.declared.moves.Turn.{Turn}
+use Rattle.explorer.specs.declared.moves.Turn.TheVariants.{Explore, Done}
+use Rattle.walks.specs.Forgetting.{Forgets}
+use Rattle.walks.specs.Walks.{StepsTo, WalksTo}
+use Rattle.walks.specs.Counts.{HasNumber, Takes}
 use Rattle.explorer.specs.Table.{IsCovered, IsRepeated, StoredAt}
 
 -- ---- arriving at a state
@@ -35,43 +33,23 @@ abbrev pub stored_too : List Stored → State → List Stored
 stored_too table s = table ++ record { state = s; number = 0 } ∷ []
 
 -- a state at a join has the number of one that covers it, or is stored; at other slots it is new
-abbrev pub Arrives : Program → List Stored → State → Arrival → List Stored → Type 0
-Arrives p old s (Known n) new = IsJoin p s.slot × IsCovered old s n × (new ≡ old)
+abbrev pub Arrives : Program → List Stored → State → Move → List Stored → Type 0
+Arrives p old s (Covered k n) new = IsJoin p s.slot × IsCovered old k s n × (new ≡ old)
 Arrives p old s (New None) new = (¬ IsJoin p s.slot) × (new ≡ old)
 Arrives p old s (New (Some k)) new = IsJoin p s.slot × (k ≡ length old) × (new ≡ stored_too old s)
+Arrives p old s (Finished n) new = ⊥
+
+-- the path has come to a state
+abbrev pub IsArrival : Move → Type 0
+IsArrival (New stored) = Unit {0}
+IsArrival (Covered k n) = Unit {0}
+IsArrival (Finished n) = ⊥
 
 -- why a path is turned back at a state, and at which slot
 abbrev pub TurnsBack : Program → List Stored → State → Refusal → ℕ → Type 0
 TurnsBack p table s Repeats slot = IsJoin p s.slot × IsRepeated table s × (slot ≡ s.slot)
 TurnsBack p table s Memory slot = slot ≡ 0
 TurnsBack p table s e slot = ⊥
-
--- ---- going on where a path waits
-
--- nothing is pending
-pub record EndsAlone (old : List Stored) (visit : Visit) (number best : ℕ) (new : List Stored) : Type 0 where
-  pub nothing : visit.pending ≡ None
-  pub best_is : best ≡ max visit.best number
-  pub same : new ≡ old
-
--- the pending state has a number at once
-pub record EndsCovered (p : Program) (old : List Stored) (visit : Visit) (number best : ℕ) (new : List Stored) : Type 0 where
-  pub other : State
-  pub known : ℕ
-  pub is_pending : visit.pending ≡ Some other
-  pub arrives : Arrives p old other (Known known) new
-  pub best_is : best ≡ max (max visit.best number) known
-
--- the pending state is to be explored
-pub record GoesOn (p : Program) (old : List Stored) (visit : Visit) (number : ℕ) (rest : Visit) (at : Option ℕ) (new : List Stored) (current : State) : Type 0 where
-  pub is_pending : visit.pending ≡ Some current
-  pub arrives : Arrives p old current (New at) new
-  pub rest_is : rest ≡ record { pending = None; best = max visit.best number; stored = visit.stored }
-
--- what becomes of a visit when the state that it waited for has its number
-abbrev pub IsResumed : Program → List Stored → Visit → ℕ → Resumed → List Stored → State → Type 0
-IsResumed p old visit number (Next rest at) new current = GoesOn p old visit number rest at new current
-IsResumed p old visit number (Ended best) new current = EndsAlone old visit number best new ⊎ EndsCovered p old visit number best new
 
 -- ---- what is known of the stored states and of the path
 
@@ -225,15 +203,18 @@ pub record Explores (p : Program) (search : Search) (stored : Option ℕ) : Type
   pub spent : CountsTo p at.first search.path.items search.current (search.finished + length search.path.items)
   pub ready : IsReady p search.current
 
--- the state that the path leads to is stored there, and waits for the current one and for what is pending
-pub record HasEntered (p : Program) (search : Search) (stored : Option ℕ) (pending : Option State) : Type 0 where
-  pub state : State
-  pub at : IsAt p search state
-  pub on_path : OnPath search.table.entries.items search.path.items stored
-  pub waiting : Waiting p search.finished search.table.entries.items (record { pending = pending; best = 0; stored = stored }) state search.current
-  pub spent : CountsTo p at.first search.path.items state (search.finished + length search.path.items)
-  pub spends : Spends p (record { pending = pending; best = 0; stored = stored }) state search.current 1
+-- the path comes to the current state, of which nothing is known yet
+pub record Comes (p : Program) (search : Search) : Type 0 where
+  pub at : IsAt p search search.current
+  pub on_path : OnPath search.table.entries.items search.path.items None
+  pub spent : CountsTo p at.first search.path.items search.current (search.finished + length search.path.items)
   pub ready : IsReady p search.current
+
+-- after a move the current state is to be explored, or the path has come to a state with a number
+abbrev pub Moves : Program → Search → Move → Type 0
+Moves p search (New stored) = Explores p search stored
+Moves p search (Covered k n) = HasEnded p search n
+Moves p search (Finished n) = HasEnded p search n
 
 -- as many instructions were explored as may be, and the next one is at this slot
 pub record IsFull (search : Search) (slot : ℕ) : Type 0 where
@@ -243,3 +224,8 @@ pub record IsFull (search : Search) (slot : ℕ) : Type 0 where
 abbrev pub Goes : Program → Search → Turn → Type 0
 Goes p search (Explore stored) = Explores p search stored
 Goes p search (Done n) = Settles p start n × (0 < n) × (n ≤ search.finished)
+
+-- where the path is empty, the state that it has come to is the first, and all is explored
+abbrev pub MovesOrEnds : Program → Search → ℕ → Option Move → Type 0
+MovesOrEnds p search n None = Goes p search (Done n)
+MovesOrEnds p search n (Some made) = Moves p search made

@@ -9,9 +9,8 @@ use Rattle.explorer.specs.declared.table.Stored.{Stored}
 abbrev pub IsStored : List Stored → ℕ → State → ℕ → Type 0
 IsStored table index s n = slice_get table index ≡ Some (record { state = s; number = n })
 
--- a finished entry with this number covers the state
-pub record IsCovered (table : List Stored) (s : State) (n : ℕ) : Type 0 where
-  pub index : ℕ
+-- the entry at this place is finished, has this number, and covers the state
+pub record IsCovered (table : List Stored) (index : ℕ) (s : State) (n : ℕ) : Type 0 where
   pub entry : State
   pub stored : slice_get table index ≡ Some (record { state = entry; number = n })
   pub finished : 0 < n

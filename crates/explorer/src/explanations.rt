@@ -1,24 +1,22 @@
 //! What is known where a program is refused, and the way there.
 
-ghost use Rattle.std.specs.Prelude.{◌≡◌, ◌<◌, [], ◌∷◌, ◌++◌, drop, length, Some, IfSome};
-ghost use Rattle.std.specs.Prelude.{IsTrue};
-ghost use Rattle.isa_model.specs.declared.instructions.Insn.{Insn};
-ghost use Rattle.isa_model.specs.Code.Instructions.{Program, fetch};
-ghost use Rattle.transfer.specs.Exact.{Refuses};
-ghost use Rattle.explorer.specs.Walks.{StepsTo, IsAmong};
+ghost use Rattle.std.specs.Prelude.{◌≡◌, ◌<◌, [], ◌∷◌, ◌++◌, drop, length, List, IfSome, IsTrue};
+ghost use Rattle.isa_model.specs.Code.Instructions.{Program};
+ghost use Rattle.stack_state.specs.declared.states.State.{State as TheState};
+ghost use Rattle.walks.specs.Walks.{StepsTo};
 ghost use Rattle.explorer.specs.Explained.{IsLed, Explains};
-ghost use Rattle.explorer.specs.Refused.{StopsAt};
+ghost use Rattle.explorer.specs.Followed.{HasFollowed};
 
-use crate::forgetting::forget_dead;
-use crate::refusals::Refusal;
+use crate::listening::Listener;
+use crate::moves::Halt;
 use crate::search::Search;
-use crate::trail::Trail;
 use arrayvec::ArrayVec;
 use control_flow::Flow;
 use image::Image;
 use stack_state::State;
-use std::alloc::Global;
-use transfer::{Ways, step_in_place};
+use std::alloc::{AllocError, Global};
+use transfer::Ways;
+use walks::Refusal;
 
 /// The most jumps of a way that are kept, the last ones.
 pub const MOST_JUMPS: usize = 8;
@@ -53,97 +51,108 @@ fn note(way: &mut ArrayVec<Jump, 8>, jump: Jump)
     way.push(jump);
 }
 
-/// Where a step goes: where it goes two ways, to its fall-through if it `stays`. False: nowhere.
-fn choose(ways: Ways, state: &mut State, other: &State, stays: bool) -> bool
-    ensures { IsTrue result → IsAmong ways state.old other.now state.new }
+/// A way goes on from one slot to another. None: it does not.
+fn go_on(image: &Image, way: &mut ArrayVec<Jump, 8>, from: usize, to: usize) -> Option<()>
+    ensures { IfSome result (λ _. (a s : TheState) → a.slot ≡ from → s.slot ≡ to
+        → StepsTo image.now a s → IsLed image.now a way.old.items
+        → IsLed image.now s way.new.items) }
 {
-    match ways {
-        Ways::None => false,
-        Ways::One => true,
-        Ways::Two => {
-            if !stays {
-                state.copy_from(other);
-            }
-            true
-        }
+    let insn = image.at(from)?;
+    let next = from.checked_add(insn.slots())?;
+    if to != next {
+        note(way, Jump { from, to });
     }
-}
-
-/// Takes the step of a state: where it goes two ways, to its fall-through if it `stays`. None: it
-/// goes nowhere.
-fn take_step(
-    image: &Image,
-    flow: &Flow<'_>,
-    state: &mut State,
-    other: &mut State,
-    stays: bool,
-) -> Option<()>
-    requires image { flow.now ≡ image.now }
-    requires here { (i : Insn) × (fetch image.now state.old.slot ≡ Some i) }
-    ensures { IfSome result (λ _. StepsTo image.now state.old state.new) }
-{
-    let Ok(ways) = step_in_place(image, state, other) else {
-        return None;
-    };
-    if !choose(ways, state, other, stays) {
-        return None;
-    }
-    forget_dead(flow, state);
     Some(())
 }
 
-impl Explanation {
-    /// The start, and no way.
-    fn start(image: &Image, flow: &Flow<'_>) -> Self
-        requires { flow.now ≡ image.now }
-        ensures { IsLed image.now result.state result.way.items }
+/// Follows the path of a search to a slot.
+#[derive(Drop)]
+struct Follower<'a> {
+    image: &'a Image,
+    /// The slots of the path's states.
+    slots: Vec<usize>,
+    /// The slot that is asked for.
+    slot: usize,
+    /// The state that arrived there last.
+    state: State,
+}
+
+impl<'a> Follower<'a> {
+    /// Has followed nothing yet.
+    fn new(alloc: Global, image: &'a Image, slot: usize) -> Self
+        ensures slot { result.slot ≡ slot }
+        ensures image { result.image.now ≡ image.now }
+        ensures nothing { (s : TheState) × HasFollowed result.image.now result.slots.items
+            result.slot result.state image.now [] s }
     {
-        let mut state = State::start();
-        forget_dead(flow, &mut state);
-        Explanation {
-            state,
-            way: ArrayVec::new(),
+        Follower {
+            image,
+            slots: Vec::new(alloc),
+            slot,
+            state: State::start(),
         }
     }
 
-    /// Goes on by a step: where it goes two ways, to its fall-through if it `stays`. None: it does
-    /// not go on.
-    fn follow(
-        &mut self,
-        image: &Image,
-        flow: &Flow<'_>,
-        other: &mut State,
-        stays: bool,
-    ) -> Option<()>
-        requires { flow.now ≡ image.now }
-        ensures { IsLed image.now self.old.state self.old.way.items
-            → IfSome result (λ _. IsLed image.now self.new.state self.new.way.items) }
+    /// What is known at the end of the path, which is at this slot. None: another one was asked
+    /// for.
+    fn into_explanation(self, slot: usize) -> Option<Explanation>
+        ensures { IfSome result (λ x. (p : Program) (before : List TheState) (s : TheState)
+            → HasFollowed self.entry.image.now self.entry.slots.items self.entry.slot
+            self.entry.state p (s ∷ before) s
+            → s.slot ≡ slot → (x.state ≡ s) × IsLed p s x.way.items) }
     {
-        let from = self.state.slot;
-        let insn = image.at(from)?;
-        let next = from.checked_add(insn.slots())?;
-        take_step(image, flow, &mut self.state, other, stays)?;
-        let to = self.state.slot;
-        if to != next {
-            note(&mut self.way, Jump { from, to });
+        if slot != self.slot {
+            return None;
         }
-        Some(())
+        let mut way = ArrayVec::new();
+        for index in 1..self.slots.len() {
+            go_on(
+                self.image,
+                &mut way,
+                self.slots[index - 1],
+                self.slots[index],
+            )?;
+        }
+        Some(Explanation {
+            state: self.state,
+            way,
+        })
     }
 }
 
-/// Whether the step of a state is refused so.
-fn is_stuck(image: &Image, state: &State, other: &mut State, refusal: transfer::Refusal) -> bool
-    ensures { IsTrue result → (i : Insn) × (fetch image.now state.now.slot ≡ Some i)
-        × Refuses image.now state.now i refusal }
-{
-    let Some(_insn) = image.at(state.slot) else {
-        return false;
-    };
-    let mut tried = state.copy();
-    match step_in_place(image, &mut tried, other) {
-        Ok(_) => false,
-        Err(found) => found == refusal,
+impl Listener for Follower<'_> {
+    type Stop = AllocError;
+
+    ghost follows = { λ f p path last. HasFollowed f.image.now f.slots.items f.slot f.state
+        p path last };
+
+    fn arrives(&mut self, state: &State) -> Result<(), AllocError> {
+        if state.slot == self.slot {
+            self.state.copy_from(state);
+        }
+        self.slots.push(state.slot)?;
+        Ok(())
     }
+
+    fn covered(&mut self, _place: usize, _number: u32) -> Result<(), AllocError> {
+        let _slot = self.slots.pop();
+        Ok(())
+    }
+
+    fn explores(&mut self, _state: &State, _stored: Option<usize>) -> Result<(), AllocError> {
+        Ok(())
+    }
+
+    fn stepped(&mut self, _ways: Ways) -> Result<(), AllocError> {
+        Ok(())
+    }
+
+    fn finished(&mut self, _number: u32) -> Result<(), AllocError> {
+        let _slot = self.slots.pop();
+        Ok(())
+    }
+
+    fn refused(&mut self, _refusal: Refusal, _slot: usize) {}
 }
 
 /// Whether two refusals are the same. The derived `==` has no clause that says so.
@@ -160,35 +169,6 @@ fn are_one(one: Refusal, other: Refusal) -> bool
     }
 }
 
-/// What is known at the end of a path, if it is refused there so.
-fn at_end(
-    image: &Image,
-    flow: &Flow<'_>,
-    path: &Trail,
-    refusal: Refusal,
-    slot: usize,
-) -> Option<Explanation>
-    requires image { flow.now ≡ image.now }
-    requires refused { StopsAt image.now refusal slot }
-    ensures { IfSome result (Explains image.now refusal slot) }
-{
-    let mut found = Explanation::start(image, flow);
-    let mut other = State::start();
-    for index in 0..path.len() {
-        found.follow(image, flow, &mut other, path.waits(index))?;
-    }
-    let stops = match refusal {
-        Refusal::Flow(_) | Refusal::Memory => false,
-        Refusal::Step(refusal) => is_stuck(image, &found.state, &mut other, refusal),
-        Refusal::Repeats | Refusal::TooLong => true,
-    };
-    if stops && found.state.slot == slot {
-        Some(found)
-    } else {
-        None
-    }
-}
-
 /// What is known where a program is refused so, at this slot: a second search looks for it.
 ///
 /// None: the refusal is one of control flow, memory ran out, or this is not what the program is
@@ -196,15 +176,19 @@ fn at_end(
 pub fn explain(alloc: Global, image: &Image, refusal: Refusal, slot: usize) -> Option<Explanation>
     ensures { IfSome result (Explains image.now refusal slot) }
 {
+    if let Refusal::Flow(_) | Refusal::Memory = refusal {
+        return None;
+    }
     let slots = image.slots();
     let Ok(flow) = Flow::of(alloc, image) else {
         return None;
     };
     let mut search = Search::new(alloc, slots).ok()?;
     let mut room = Vec::new(alloc);
-    match search.explore(alloc, image, &flow, &mut room) {
-        Err((found, at)) if are_one(found, refusal) && at == slot => {
-            at_end(image, &flow, &search.path, refusal, slot)
+    let mut follower = Follower::new(alloc, image, slot);
+    match search.explore(alloc, image, &flow, &mut room, &mut follower) {
+        Err(Halt::Refused(found, at)) if are_one(found, refusal) && at == slot => {
+            follower.into_explanation(slot)
         }
         _ => None,
     }

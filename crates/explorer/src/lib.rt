@@ -6,24 +6,19 @@
 #![tactic(auto)]
 
 pub mod explanations;
-mod forgetting;
-mod groves;
-mod index;
 mod kept;
-mod limits;
-mod lists;
-mod orders;
-mod parts;
-pub mod refusals;
+mod listening;
+mod listing;
+mod moves;
+mod pieces;
 mod search;
-mod shapes;
-mod sketches;
 mod table;
 mod trail;
-mod trees;
 pub mod verified;
 
 pub use bounds::Verified;
 pub use explanations::{Explanation, Jump, explain};
-pub use refusals::Refusal;
-pub use verified::{MAX_EXPLORED, verify};
+pub use kept::Kept;
+pub use listing::{Entry, Explored, explore};
+pub use verified::verify;
+pub use walks::{MAX_EXPLORED, Refusal};

@@ -1,58 +1,33 @@
 //! The search through abstract states, depth first.
 
-ghost use Rattle.std.specs.Prelude.{◌≡◌, ◌≢◌, ◌≤◌, ◌+◌, ◌<◌, Some, length, vec_len};
+ghost use Rattle.std.specs.Prelude.{◌≡◌, ◌≢◌, ◌≤◌, ◌+◌, ◌<◌, [], length};
 ghost use Rattle.std.specs.Prelude.{IfOk, IfErr, IfSome, OnOk, OnErr};
 ghost use Rattle.stack_state.specs.Starts.{start};
 ghost use Rattle.stack_state.specs.Meaning.{Within};
-ghost use Rattle.explorer.specs.Counts.{HasNumber};
+ghost use Rattle.stack_state.specs.declared.states.State.{State as TheState};
+ghost use Rattle.state_index.specs.Rooms.{HasRoom};
+ghost use Rattle.walks.specs.Counts.{HasNumber};
 ghost use Rattle.image.specs.Images.{IsImage};
 ghost use Rattle.control_flow.specs.Flows.{IsFlow};
-ghost use Rattle.explorer.specs.Refused.{StopsAt};
-ghost use Rattle.explorer.specs.Search.{Arrives, TurnsBack, IsResumed, IsNew};
-ghost use Rattle.explorer.specs.Search.{HasEnded, HasEntered, Goes, IsFull};
+ghost use Rattle.walks.specs.Refused.{StopsAt};
+ghost use Rattle.explorer.specs.Search.{Arrives, IsArrival, TurnsBack, IsNew, Comes, HasEnded};
+ghost use Rattle.explorer.specs.Search.{Moves, MovesOrEnds, Goes, IsFull};
+ghost use Rattle.explorer.specs.Listening.{Begins, BeginFails, Steps, StepFails, ComesBackAt};
+ghost use Rattle.explorer.specs.Listening.{IfReturns, ReturnFails, IfRefused};
+ghost use Rattle.explorer.specs.Listening.{IsToTell, FollowsTo, FollowsTurn, EndsIn};
 
-use crate::forgetting::forget_dead;
 use crate::kept::Kept;
-use crate::parts::Part;
-use crate::refusals::Refusal;
+use crate::listening::{Listener, halt, tell};
+use crate::moves::{Halt, Move, NO_MEMORY, Refused, Turn};
 use crate::table::Table;
 use crate::trail::{Trail, Visit};
-use crate::verified::MAX_EXPLORED;
 use control_flow::Flow;
 use image::Image;
 use stack_state::State;
+use state_index::Part;
 use std::alloc::{AllocError, Global};
 use transfer::{Ways, step_in_place};
-
-/// A refusal, and the slot at which it is given.
-pub type Refused = (Refusal, usize);
-
-/// The refusal where memory runs out.
-const NO_MEMORY: Refused = (Refusal::Memory, 0);
-
-/// What is known of a state on arrival: its number, or that it is to be explored and where it is
-/// stored.
-#[derive(Clone, Copy, Drop)]
-pub enum Arrival {
-    Known(u32),
-    New(Option<usize>),
-}
-
-/// What comes next: the current state is to be explored, or the start has its number.
-#[derive(Clone, Copy, Drop)]
-pub enum Turn {
-    Explore(Option<usize>),
-    Done(u32),
-}
-
-/// What becomes of a visit when the state that it waited for has its number.
-#[derive(Drop)]
-pub enum Resumed {
-    /// The pending state is to be explored.
-    Next(Visit, Option<usize>),
-    /// All is explored, and this is the greatest number after it.
-    Ended(u32),
-}
+use walks::{MAX_EXPLORED, Refusal, forget_dead};
 
 /// A search: the path from the start to the current state, and the states that were stored.
 #[derive(Drop)]
@@ -67,77 +42,35 @@ pub struct Search {
 }
 
 /// A path comes to a state, which may have been kept already.
-pub fn arrive(
+fn arrive(
     alloc: Global,
     flow: &Flow<'_>,
     table: &mut Table,
     state: &State,
     kept: Option<Kept>,
     scratch: &mut State,
-) -> Result<Arrival, Refused>
+) -> Result<Move, Refused>
     requires { IfSome kept (λ s. s ≡ state.now) }
-    ensures arrives { IfOk result (λ a. Arrives flow.now table.old.entries.items
-        state.now a table.new.entries.items) }
+    ensures arrives { IfOk result (λ made. Arrives flow.now table.old.entries.items
+        state.now made table.new.entries.items) }
     ensures refused { IfErr result (λ r. TurnsBack flow.now table.old.entries.items
         state.now r.0 r.1) }
-    ensures not_long { IfErr result (λ r. r.0 ≢ Refusal.TooLong) }
-    ensures err { OnErr result (table.new.entries.items ≡ table.old.entries.items) }
 {
     if !flow.is_join(state.slot) {
-        return Ok(Arrival::New(None));
+        return Ok(Move::New(None));
     }
     let Ok(()) = table.turn_to(alloc, state, &kept) else {
         return Err(NO_MEMORY);
     };
-    if let Some(number) = table.number_of(state, scratch) {
-        return Ok(Arrival::Known(number));
+    if let Some((place, number)) = table.cover_of(state, scratch) {
+        return Ok(Move::Covered(place, number));
     }
     if table.repeats(state, scratch) {
         return Err((Refusal::Repeats, state.slot));
     }
     match table.store(alloc, state, kept) {
-        Ok(index) => Ok(Arrival::New(Some(index))),
+        Ok(place) => Ok(Move::New(Some(place))),
         Err(_) => Err(NO_MEMORY),
-    }
-}
-
-/// The state that a visit waited for has this number.
-fn resume(
-    alloc: Global,
-    flow: &Flow<'_>,
-    table: &mut Table,
-    current: &mut State,
-    scratch: &mut State,
-    visit: Visit,
-    number: u32,
-) -> Result<Resumed, Refused>
-    ensures resumed { IfOk result (λ r. IsResumed flow.now table.old.entries.items
-        visit number r table.new.entries.items current.new) }
-    ensures pending { OnErr result (visit.pending ≡ Some current.new) }
-    ensures refused { IfErr result (λ r. TurnsBack flow.now table.old.entries.items
-        current.new r.0 r.1) }
-    ensures not_long { IfErr result (λ r. r.0 ≢ Refusal.TooLong) }
-{
-    let Visit {
-        pending,
-        best,
-        stored,
-    } = visit;
-    let best = best.max(number);
-    let Some(other) = pending else {
-        return Ok(Resumed::Ended(best));
-    };
-    other.restore(current);
-    match arrive(alloc, flow, table, current, Some(other), scratch)? {
-        Arrival::Known(known) => Ok(Resumed::Ended(best.max(known))),
-        Arrival::New(at) => {
-            let rest = Visit {
-                pending: None,
-                best,
-                stored,
-            };
-            Ok(Resumed::Next(rest, at))
-        }
     }
 }
 
@@ -145,7 +78,7 @@ impl Search {
     /// A search at the start of code with that many slots.
     pub fn new(alloc: Global, slots: usize) -> Result<Self, AllocError>
         ensures new { IfOk result (λ search. IsNew search) }
-        ensures room { IfOk result (λ search. vec_len search.table.index.first_shapes ≡ slots) }
+        ensures room { IfOk result (λ search. HasRoom search.table.index slots) }
     {
         let table = Table::new(alloc, slots)?;
         Ok(Search {
@@ -157,79 +90,63 @@ impl Search {
         })
     }
 
-    /// A path is turned back at what a visit waited for: the visit stays on the path, for those who
-    /// follow it there. Without memory for it they do not come there.
-    fn keep_way(&mut self, stored: Option<usize>) {
-        let turned_back = Visit {
-            pending: None,
-            best: 0,
-            stored,
-        };
-        let _ = self.path.push(turned_back);
+    /// The path comes to the current state, which may have been kept already.
+    fn come(&mut self, alloc: Global, flow: &Flow<'_>, kept: Option<Kept>) -> Result<Move, Refused>
+        requires comes { Comes flow.now self.old }
+        requires kept { IfSome kept (λ s. s ≡ self.old.current) }
+        ensures moves { IfOk result (λ made. Moves flow.now self.new made) }
+        ensures arrival { IfOk result IsArrival }
+        ensures stops { IfErr result (λ r. StopsAt flow.now r.0 r.1) }
+        ensures fails { IfErr result (λ r. ComesBackAt self.old.current r.0 r.1) }
+        ensures path { self.new.path ≡ self.old.path }
+        ensures current { self.new.current ≡ self.old.current }
+        ensures finished { self.new.finished ≡ self.old.finished }
+    {
+        arrive(
+            alloc,
+            flow,
+            &mut self.table,
+            &self.current,
+            kept,
+            &mut self.scratch,
+        )
     }
 
-    /// The search is at a state with this number: goes back along the path to what comes next.
-    fn unwind(&mut self, alloc: Global, flow: &Flow<'_>, ended: u32) -> Result<Turn, Refused>
-        requires at { HasEnded flow.now self.old ended }
-        requires room { self.old.finished + length self.old.path.items ≤ MAX_EXPLORED }
-        ensures goes { IfOk result (λ turn. Goes flow.now self.new turn) }
+    /// The path comes to the start.
+    fn begin(&mut self, alloc: Global, flow: &Flow<'_>) -> Result<Move, Refused>
+        requires whole { IsImage flow.now }
+        requires new { IsNew self.old }
+        ensures moves { IfOk result (λ made. Moves flow.now self.new made) }
+        ensures begins { IfOk result (λ made. Begins flow.now made self.new.path.items
+            self.new.current) }
         ensures stops { IfErr result (λ r. StopsAt flow.now r.0 r.1) }
-        ensures not_long { IfErr result (λ r. r.0 ≢ Refusal.TooLong) }
-        ensures explored { OnOk result (self.new.finished + length self.new.path.items
-            ≡ self.old.finished + length self.old.path.items) }
+        ensures fails { IfErr result (λ r. BeginFails flow.now self.new.current r.0 r.1) }
+        ensures explored { self.new.finished + length self.new.path.items ≡ 0 }
     {
-        let mut number = ended;
-        while let Some(visit) = self.path.pop() {
-            let stored = visit.stored;
-            let resumed = match resume(
-                alloc,
-                flow,
-                &mut self.table,
-                &mut self.current,
-                &mut self.scratch,
-                visit,
-                number,
-            ) {
-                Ok(resumed) => resumed,
-                Err(refused) => {
-                    self.keep_way(stored);
-                    return Err(refused);
-                }
-            };
-            match resumed {
-                Resumed::Ended(best) => {
-                    number = best + 1;
-                    self.finished += 1;
-                    self.table.finish(stored, number);
-                }
-                Resumed::Next(rest, at) => {
-                    let Ok(()) = self.path.push(rest) else {
-                        return Err(NO_MEMORY);
-                    };
-                    return Ok(Turn::Explore(at));
-                }
-            }
-        }
-        Ok(Turn::Done(number))
+        forget_dead(flow, &mut self.current);
+        self.come(alloc, flow, None)
     }
 
     /// Explores the instruction at the current state, which is stored there. What is dead where it
     /// leads is forgotten, and what is then pending is kept by way of the room for its parts.
-    fn advance(
+    fn step(
         &mut self,
         alloc: Global,
         image: &Image,
         flow: &Flow<'_>,
         stored: Option<usize>,
         room: &mut Vec<Part>,
-    ) -> Result<Turn, Refused>
+    ) -> Result<(Ways, Move), Refused>
         requires image { flow.now ≡ image.now }
         requires good { IsFlow flow.now }
         requires at { Goes flow.now self.old (Turn.Explore stored) }
         requires room { self.old.finished + length self.old.path.items < MAX_EXPLORED }
-        ensures goes { IfOk result (λ turn. Goes flow.now self.new turn) }
+        ensures moves { IfOk result (λ made. Moves flow.now self.new made.1) }
+        ensures steps { IfOk result (λ made. Steps flow.now self.old.current
+            self.old.path.items made.1 self.new.path.items self.new.current) }
         ensures stops { IfErr result (λ r. StopsAt flow.now r.0 r.1) }
-        ensures not_long { IfErr result (λ r. r.0 ≢ Refusal.TooLong) }
+        ensures fails { IfErr result (λ r. StepFails flow.now self.old.current
+            self.new.current r.0 r.1) }
         ensures explored { OnOk result (self.new.finished + length self.new.path.items
             ≡ self.old.finished + length self.old.path.items + 1) }
     {
@@ -242,38 +159,18 @@ impl Search {
             Ways::None => {
                 self.finished += 1;
                 self.table.finish(stored, 1);
-                return self.unwind(alloc, flow, 1);
+                return Ok((ways, Move::Finished(1)));
             }
             Ways::One => None,
             Ways::Two => {
                 forget_dead(flow, &mut self.scratch);
-                match Kept::of(alloc, &self.scratch, room) {
+                match Kept::of(alloc, &self.scratch, room, self.table.last()) {
                     Ok(other) => Some(other),
                     Err(_) => return Err(NO_MEMORY),
                 }
             }
         };
         forget_dead(flow, &mut self.current);
-        self.descend(alloc, flow, stored, pending)
-    }
-
-    /// Puts a visit after the path, whose state is stored there and leads to the current state and
-    /// to what is pending.
-    fn descend(
-        &mut self,
-        alloc: Global,
-        flow: &Flow<'_>,
-        stored: Option<usize>,
-        pending: Option<Kept>,
-    ) -> Result<Turn, Refused>
-        requires entered { HasEntered flow.now self.old stored pending }
-        requires room { self.old.finished + length self.old.path.items < MAX_EXPLORED }
-        ensures goes { IfOk result (λ turn. Goes flow.now self.new turn) }
-        ensures stops { IfErr result (λ r. StopsAt flow.now r.0 r.1) }
-        ensures not_long { IfErr result (λ r. r.0 ≢ Refusal.TooLong) }
-        ensures explored { OnOk result (self.new.finished + length self.new.path.items
-            ≡ self.old.finished + length self.old.path.items + 1) }
-    {
         let visit = Visit {
             pending,
             best: 0,
@@ -282,60 +179,202 @@ impl Search {
         let Ok(()) = self.path.push(visit) else {
             return Err(NO_MEMORY);
         };
-        match arrive(
-            alloc,
-            flow,
-            &mut self.table,
-            &self.current,
-            None,
-            &mut self.scratch,
-        )? {
-            Arrival::Known(number) => self.unwind(alloc, flow, number),
-            Arrival::New(at) => Ok(Turn::Explore(at)),
+        let made = self.come(alloc, flow, None)?;
+        Ok((ways, made))
+    }
+
+    /// The path has come to a state with this number: its last visit ends, or goes on with what
+    /// was pending. None: there is no visit, and this is the number of the start.
+    fn back(&mut self, alloc: Global, flow: &Flow<'_>, ended: u32) -> Result<Option<Move>, Refused>
+        requires at { HasEnded flow.now self.old ended }
+        requires room { self.old.finished + length self.old.path.items ≤ MAX_EXPLORED }
+        ensures moves { IfOk result (λ made. MovesOrEnds flow.now self.new ended made) }
+        ensures returns { IfOk result (λ made. IfReturns self.old.path.items made
+            self.new.path.items self.new.current) }
+        ensures stops { IfErr result (λ r. StopsAt flow.now r.0 r.1) }
+        ensures fails { IfErr result (λ r. ReturnFails self.old.path.items
+            self.new.current r.0 r.1) }
+        ensures explored { OnOk result (self.new.finished + length self.new.path.items
+            ≡ self.old.finished + length self.old.path.items) }
+    {
+        let Some(visit) = self.path.pop() else {
+            return Ok(None);
+        };
+        let Visit {
+            pending,
+            best,
+            stored,
+        } = visit;
+        let best = best.max(ended);
+        let Some(other) = pending else {
+            let number = best + 1;
+            self.finished += 1;
+            self.table.finish(stored, number);
+            return Ok(Some(Move::Finished(number)));
+        };
+        other.restore(&mut self.current);
+        let rest = Visit {
+            pending: None,
+            best,
+            stored,
+        };
+        let Ok(()) = self.path.push(rest) else {
+            return Err(NO_MEMORY);
+        };
+        let made = self.come(alloc, flow, Some(other))?;
+        Ok(Some(made))
+    }
+
+    /// Tells of a move, and goes back along the path to what comes next.
+    fn settle<L: Listener>(
+        &mut self,
+        alloc: Global,
+        flow: &Flow<'_>,
+        first: Move,
+        listener: &mut L,
+    ) -> Result<Turn, Halt<L::Stop>>
+        requires moves { Moves flow.now self.old first }
+        requires room { self.old.finished + length self.old.path.items ≤ MAX_EXPLORED }
+        requires untold { IsToTell flow.now (L.follows listener.old flow.now)
+            self.old.path.items self.old.current first }
+        ensures goes { IfOk result (λ turn. Goes flow.now self.new turn) }
+        ensures told { IfOk result (λ turn. FollowsTurn flow.now (L.follows listener.new flow.now)
+            self.new.path.items self.new.current turn) }
+        ensures stops { IfErr result (λ h. IfRefused h (StopsAt flow.now)) }
+        ensures not_long { IfErr result (λ h. IfRefused h (λ e _. e ≢ Refusal.TooLong)) }
+        ensures ends { IfErr result (λ h. IfRefused h
+            (EndsIn flow.now (L.follows listener.new flow.now))) }
+        ensures explored { OnOk result (self.new.finished + length self.new.path.items
+            ≡ self.old.finished + length self.old.path.items) }
+    {
+        let mut made = first;
+        'moves: loop {
+            if let Err(stop) = tell(listener, &self.current, made) {
+                return Err(Halt::Stopped(stop));
+            }
+            let ended = match made {
+                Move::New(stored) => return Ok(Turn::Explore(stored)),
+                Move::Covered(_, number) | Move::Finished(number) => number,
+            };
+            match self.back(alloc, flow, ended) {
+                Ok(Some(next)) => made = next,
+                Ok(None) => return Ok(Turn::Done(ended)),
+                Err(refused) => return Err(halt(listener, &self.current, refused)),
+            }
         }
     }
 
-    /// Explores all that the start leads to, and answers its number. States are kept by way of the
-    /// room for their parts.
-    pub fn explore(
+    /// Explores the instruction at the current state, and goes on to what comes next.
+    fn advance<L: Listener>(
+        &mut self,
+        alloc: Global,
+        image: &Image,
+        flow: &Flow<'_>,
+        stored: Option<usize>,
+        room: &mut Vec<Part>,
+        listener: &mut L,
+    ) -> Result<Turn, Halt<L::Stop>>
+        requires image { flow.now ≡ image.now }
+        requires good { IsFlow flow.now }
+        requires at { Goes flow.now self.old (Turn.Explore stored) }
+        requires room { self.old.finished + length self.old.path.items < MAX_EXPLORED }
+        requires told { FollowsTo flow.now (L.follows listener.old flow.now)
+            self.old.path.items self.old.current }
+        ensures goes { IfOk result (λ turn. Goes flow.now self.new turn) }
+        ensures told { IfOk result (λ turn. FollowsTurn flow.now (L.follows listener.new flow.now)
+            self.new.path.items self.new.current turn) }
+        ensures stops { IfErr result (λ h. IfRefused h (StopsAt flow.now)) }
+        ensures not_long { IfErr result (λ h. IfRefused h (λ e _. e ≢ Refusal.TooLong)) }
+        ensures ends { IfErr result (λ h. IfRefused h
+            (EndsIn flow.now (L.follows listener.new flow.now))) }
+        ensures explored { OnOk result (self.new.finished + length self.new.path.items
+            ≡ self.old.finished + length self.old.path.items + 1) }
+    {
+        let (ways, made) = match self.step(alloc, image, flow, stored, room) {
+            Ok(stepped) => stepped,
+            Err(refused) => return Err(halt(listener, &self.current, refused)),
+        };
+        if let Err(stop) = listener.stepped(ways) {
+            return Err(Halt::Stopped(stop));
+        }
+        self.settle(alloc, flow, made, listener)
+    }
+
+    /// Explores all that the start leads to.
+    fn run<L: Listener>(
         &mut self,
         alloc: Global,
         image: &Image,
         flow: &Flow<'_>,
         room: &mut Vec<Part>,
-    ) -> Result<u32, Refused>
+        listener: &mut L,
+    ) -> Result<u32, Halt<L::Stop>>
         requires image { flow.now ≡ image.now }
         requires whole { IsImage image.now }
         requires good { IsFlow flow.now }
         requires new { IsNew self.old }
-        ensures within { IfOk result (λ n. Within flow.now start n) }
-        ensures number { IfOk result (λ n. HasNumber flow.now start n) }
-        ensures some { IfOk result (λ n. 0 < n) }
+        requires untold { (last : TheState) × L.follows listener.old flow.now [] last }
+        ensures settles { IfOk result (λ n. Goes flow.now self.new (Turn.Done n)) }
         ensures most { IfOk result (λ n. n ≤ MAX_EXPLORED) }
-        ensures stops { IfErr result (λ r. StopsAt flow.now r.0 r.1) }
-        ensures too_long { IfErr result (λ r. r.0 ≡ Refusal.TooLong → IsFull self.new r.1) }
+        ensures stops { IfErr result (λ h. IfRefused h (StopsAt flow.now)) }
+        ensures too_long { IfErr result (λ h. IfRefused h
+            (λ e slot. e ≡ Refusal.TooLong → IsFull self.new slot)) }
+        ensures ends { IfErr result (λ h. IfRefused h
+            (EndsIn flow.now (L.follows listener.new flow.now))) }
     {
-        forget_dead(flow, &mut self.current);
-        let mut turn = match arrive(
-            alloc,
-            flow,
-            &mut self.table,
-            &self.current,
-            None,
-            &mut self.scratch,
-        )? {
-            Arrival::Known(number) => Turn::Done(number),
-            Arrival::New(stored) => Turn::Explore(stored),
+        let made = match self.begin(alloc, flow) {
+            Ok(made) => made,
+            Err(refused) => return Err(halt(listener, &self.current, refused)),
         };
+        let mut turn = self.settle(alloc, flow, made, listener)?;
         for _explored in 0..MAX_EXPLORED {
             match turn {
                 Turn::Done(number) => return Ok(number),
-                Turn::Explore(stored) => turn = self.advance(alloc, image, flow, stored, room)?,
+                Turn::Explore(stored) => {
+                    turn = self.advance(alloc, image, flow, stored, room, listener)?;
+                }
             }
         }
         match turn {
             Turn::Done(number) => Ok(number),
-            Turn::Explore(_) => Err((Refusal::TooLong, self.current.slot)),
+            Turn::Explore(_) => Err(Halt::Refused(Refusal::TooLong, self.current.slot)),
+        }
+    }
+
+    /// Explores all that the start leads to, and answers its number. States are kept by way of the
+    /// room for their parts.
+    pub fn explore<L: Listener>(
+        &mut self,
+        alloc: Global,
+        image: &Image,
+        flow: &Flow<'_>,
+        room: &mut Vec<Part>,
+        listener: &mut L,
+    ) -> Result<u32, Halt<L::Stop>>
+        requires image { flow.now ≡ image.now }
+        requires whole { IsImage image.now }
+        requires good { IsFlow flow.now }
+        requires new { IsNew self.old }
+        requires untold { (last : TheState) × L.follows listener.old flow.now [] last }
+        ensures within { IfOk result (λ n. Within flow.now start n) }
+        ensures number { IfOk result (λ n. HasNumber flow.now start n) }
+        ensures some { IfOk result (λ n. 0 < n) }
+        ensures most { IfOk result (λ n. n ≤ MAX_EXPLORED) }
+        ensures stops { IfErr result (λ h. IfRefused h (StopsAt flow.now)) }
+        ensures too_long { IfErr result (λ h. IfRefused h
+            (λ e slot. e ≡ Refusal.TooLong → IsFull self.new slot)) }
+
+        // A listener has followed the path to the state in which the program is refused.
+        ensures ends { IfErr result (λ h. IfRefused h
+            (EndsIn flow.now (L.follows listener.new flow.now))) }
+    {
+        match self.run(alloc, image, flow, room, listener) {
+            Ok(number) => Ok(number),
+            Err(Halt::Refused(refusal, slot)) => {
+                listener.refused(refusal, slot);
+                Err(Halt::Refused(refusal, slot))
+            }
+            Err(stopped) => Err(stopped),
         }
     }
 }

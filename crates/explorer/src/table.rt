@@ -1,18 +1,16 @@
 //! The states that were met at joins.
 
-ghost use Rattle.std.specs.Prelude.{◌≡◌, ℕ, ◌<◌, ◌++◌, ◌∷◌, [], Some, None, length, vec_len};
+ghost use Rattle.std.specs.Prelude.{◌≡◌, ℕ, ◌<◌, ◌++◌, ◌∷◌, [], Some, None, length};
 ghost use Rattle.std.specs.Prelude.{IsTrue, IfSome, IfOk, OnOk, OnErr};
 ghost use Rattle.stack_state.specs.declared.states.State.{State as TheState};
-ghost use Rattle.explorer.specs.Keeping.{AreParts};
+ghost use Rattle.state_index.specs.Parts.{AreParts};
+ghost use Rattle.state_index.specs.Rooms.{HasRoom};
 ghost use Rattle.explorer.specs.Table.{IsStored, IsCovered, IsRepeated, StoredAt, IsNumbered};
 
-use crate::groves::LONG_WALK;
-use crate::index::Index;
-use crate::kept::Kept;
-use crate::sketches::Sketch;
-use crate::trees::{Items, Tree};
+use crate::kept::{Kept, PLACES};
 use stack_state::State;
 use state_cover::covers;
+use state_index::{Effort, Index, Key, LONG_SCAN, Rows, Spread, Tree};
 use std::alloc::{AllocError, Global};
 
 /// A state that was met at a join, with its number: 0 until it is finished.
@@ -22,9 +20,9 @@ pub struct Stored {
     pub number: u32,
 }
 
-/// How many finished states were looked at of which this is known in their shape.
+/// How many finished states with these known bits were scanned.
 #[derive(Clone, Copy, Drop)]
-struct Walked {
+struct Scan {
     known: u64,
     count: usize,
 }
@@ -35,41 +33,72 @@ pub struct Table {
     pub entries: Vec<Stored>,
     index: Index,
     /// Of the state that is looked for.
-    sketch: Sketch,
-    /// The longest walk when a state was looked for last.
-    longest: Walked,
+    key: Key,
+    /// The longest scan when a state was looked for last.
+    longest: Scan,
+    /// What looking up has cost.
+    effort: Effort,
+}
+
+/// The state that was stored last.
+fn last_of(entries: &[Stored]) -> Option<&Kept> {
+    let entry = entries.last()?;
+    Some(&entry.state)
 }
 
 impl Table {
     /// A table with no states, of code with that many slots.
     pub fn new(alloc: Global, slots: usize) -> Result<Self, AllocError>
         ensures empty { IfOk result (λ table. table.entries.items ≡ []) }
-        ensures room { IfOk result (λ table. vec_len table.index.first_shapes ≡ slots) }
+        ensures room { IfOk result (λ table. HasRoom table.index slots) }
     {
         let index = Index::new(alloc, slots)?;
-        let sketch = Sketch::new(alloc)?;
+        let key = Key::new(alloc)?;
         Ok(Table {
             entries: Vec::new(alloc),
             index,
-            sketch,
-            longest: Walked { known: 0, count: 0 },
+            key,
+            longest: Scan { known: 0, count: 0 },
+            effort: Effort::new(),
         })
     }
 
-    /// Makes a tree of the finished states of which this is known in their shape.
-    fn plant(&mut self, alloc: Global, known: u64) -> Result<(), AllocError>
+    /// The state that was stored last.
+    pub fn last(&self) -> Option<&Kept> {
+        last_of(self.entries.as_slice())
+    }
+
+    /// Makes a tree of the finished states with these known bits.
+    fn add_tree(&mut self, alloc: Global, known: u64) -> Result<(), AllocError>
         ensures { self.new.entries.items ≡ self.old.entries.items }
     {
-        let (places, left) = self.index.seeds(alloc, known)?;
-        let mut items = Items::new(alloc);
-        for place in &places {
+        let (places, left) = self.index.tree_candidates(alloc, known, &mut self.effort)?;
+        self.effort.spend_tree(places.len(), self.key.limits.len());
+        if self.effort.is_over() {
+            return Ok(());
+        }
+        let rows = self.rows_of(alloc, &places)?;
+        self.index.add_tree(known, left, Tree::of(alloc, rows)?)
+    }
+
+    /// The rows of entries for a tree.
+    fn rows_of(&self, alloc: Global, places: &[u32]) -> Result<Rows, AllocError> {
+        let mut limits = Vec::new(alloc);
+        let mut spread = Spread::new(alloc);
+        for place in places {
             if let Some(entry) = self.entries.get(*place as usize) {
-                entry.state.take_limits(items.room())?;
-                items.add(*place)?;
+                entry.state.take_limits(&mut limits)?;
+                spread.add(&limits)?;
             }
         }
-        let tree = Tree::of(alloc, &items)?;
-        self.index.plant(known, left, tree)
+        let mut rows = Rows::of(alloc, &spread)?;
+        for place in places {
+            if let Some(entry) = self.entries.get(*place as usize) {
+                entry.state.take_limits(&mut limits)?;
+                rows.add(*place, &limits)?;
+            }
+        }
+        Ok(rows)
     }
 
     /// Turns to a state, which is then looked for and stored. It may have been kept already.
@@ -81,22 +110,31 @@ impl Table {
     ) -> Result<(), AllocError>
         ensures same { self.new.entries.items ≡ self.old.entries.items }
         ensures drawn { OnOk result (kept.now ≡ None
-            → AreParts self.new.sketch.parts.items state.now.innermost) }
+            → AreParts self.new.key.parts.items state.now.innermost) }
     {
-        let Walked { known, count } = self.longest;
-        if count >= LONG_WALK && self.index.wears(alloc, known, count)? {
-            self.plant(alloc, known)?;
+        let Scan { known, count } = self.longest;
+        if count >= LONG_SCAN && self.index.note_scan(alloc, known, count)? {
+            self.add_tree(alloc, known)?;
         }
-        self.sketch.has_limits = self.index.has_groves();
+        self.key.is_sought = !self.effort.is_over();
+        self.effort
+            .spend(state.callers.as_slice().len().saturating_mul(PLACES));
+        self.key.has_limits = self.index.has_trees();
         match kept {
-            None => self.sketch.draw(state),
-            Some(kept) => kept.draw(&mut self.sketch),
+            None => self.key.take(state),
+            Some(kept) => kept.put_key(&mut self.key),
         }
     }
 
-    /// The number of an entry that is finished and covers the state.
-    fn covering(&self, index: usize, state: &State, scratch: &mut State) -> Option<u32>
-        ensures covered { IfSome result (λ n. IsCovered self.now.entries.items state.now n) }
+    /// The number of an entry, if it is finished and covers the state.
+    fn covering(
+        &self,
+        index: usize,
+        state: &State,
+        scratch: &mut State,
+        effort: &mut Effort,
+    ) -> Option<u32>
+        ensures covered { IfSome result (λ n. IsCovered self.now.entries.items index state.now n) }
         ensures equal { (n : ℕ) → IsStored self.now.entries.items index state.now n → 0 < n
             → result ≡ Some n }
     {
@@ -104,6 +142,7 @@ impl Table {
         if entry.number == 0 || !entry.state.may_cover(state) {
             return None;
         }
+        effort.spend(entry.state.places());
         entry.state.restore(scratch);
         if !covers(scratch, state) {
             return None;
@@ -111,29 +150,34 @@ impl Table {
         Some(entry.number)
     }
 
-    /// The first finished state that covers this one, of those of which this is known in their
-    /// shape, if it was stored before another one: its place and its number. And how many were
-    /// looked at.
+    /// The first finished state that covers this one, of those with these known bits, if it was
+    /// stored before another one: its place and its number. And how many were scanned.
     fn first_known(
         &self,
         known: u64,
         other: Option<(usize, u32)>,
         state: &State,
         scratch: &mut State,
+        effort: &mut Effort,
     ) -> (Option<(usize, u32)>, usize)
-        ensures { IfSome result.0 (λ r. IsCovered self.now.entries.items state.now r.1) }
+        ensures { IfSome result.0 (λ r. IsCovered self.now.entries.items r.0 state.now r.1) }
     {
         let mut found = None;
         let mut before = match other {
             Some((place, _)) => place,
             None => usize::MAX,
         };
-        let mut walk = self.index.finished_like(known, &self.sketch.limits);
-        for walked in 0..self.entries.len() {
-            let Some(index) = walk.next_before(before) else {
-                return (found, walked);
+        effort.spend_test();
+        let mut candidates = self.index.finished_candidates(known, &self.key.limits);
+        for scanned in 0..self.entries.len() {
+            let next = match effort.is_over() {
+                true => None,
+                false => candidates.next_before(before, effort),
             };
-            if let Some(number) = self.covering(index, state, scratch) {
+            let Some(index) = next else {
+                return (found, scanned);
+            };
+            if let Some(number) = self.covering(index, state, scratch, effort) {
                 found = Some((index, number));
                 before = index;
             }
@@ -141,40 +185,56 @@ impl Table {
         (found, self.entries.len())
     }
 
-    /// The first finished state that covers this one, and the longest walk on the way to it.
-    fn first_covering(&self, state: &State, scratch: &mut State) -> (Option<(usize, u32)>, Walked)
-        ensures { IfSome result.0 (λ r. IsCovered self.now.entries.items state.now r.1) }
+    /// The first finished state that covers this one, and the longest scan on the way to it.
+    fn first_covering(
+        &self,
+        state: &State,
+        scratch: &mut State,
+        effort: &mut Effort,
+    ) -> (Option<(usize, u32)>, Scan)
+        ensures { IfSome result.0 (λ r. IsCovered self.now.entries.items r.0 state.now r.1) }
     {
         let mut first = None;
-        let mut longest = Walked { known: 0, count: 0 };
+        let mut longest = Scan { known: 0, count: 0 };
         for shape in self.index.shapes_at(state.slot) {
-            if let Some(known) = self.index.known_in(shape, &self.sketch) {
-                let (found, count) = self.first_known(known, first, state, scratch);
+            if let Some(known) = self.index.known_in(shape, &self.key, effort) {
+                let (found, count) = self.first_known(known, first, state, scratch, effort);
                 if let Some(found) = found {
                     first = Some(found);
                 }
                 if count > longest.count {
-                    longest = Walked { known, count };
+                    longest = Scan { known, count };
                 }
             }
         }
         (first, longest)
     }
 
-    /// The number of the first finished state that covers this one.
-    pub fn number_of(&mut self, state: &State, scratch: &mut State) -> Option<u32>
-        ensures covered { IfSome result (λ n. IsCovered self.old.entries.items state.now n) }
+    /// The first finished state that covers this one: its place and its number.
+    pub fn cover_of(&mut self, state: &State, scratch: &mut State) -> Option<(usize, u32)>
+        ensures covered { IfSome result
+            (λ r. IsCovered self.old.entries.items r.0 state.now r.1) }
         ensures same { self.new.entries.items ≡ self.old.entries.items }
-        ensures drawn { self.new.sketch ≡ self.old.sketch }
+        ensures drawn { self.new.key ≡ self.old.key }
     {
-        let (first, longest) = self.first_covering(state, scratch);
+        let mut effort = self.effort;
+        if effort.is_over() {
+            return None;
+        }
+        let (first, longest) = self.first_covering(state, scratch, &mut effort);
         self.longest = longest;
-        let (_, number) = first?;
-        Some(number)
+        self.effort = effort;
+        first
     }
 
     /// Whether an entry is unfinished and equal to the state.
-    fn is_equal(&self, index: usize, state: &State, scratch: &mut State) -> bool
+    fn is_equal(
+        &self,
+        index: usize,
+        state: &State,
+        scratch: &mut State,
+        effort: &mut Effort,
+    ) -> bool
         ensures repeated { IsTrue result → IsRepeated self.now.entries.items state.now }
         ensures equal { IsStored self.now.entries.items index state.now 0 → IsTrue result }
     {
@@ -184,6 +244,7 @@ impl Table {
         if entry.number != 0 {
             return false;
         }
+        effort.spend(entry.state.places());
         entry.state.restore(scratch);
         if !covers(scratch, state) {
             return false;
@@ -192,12 +253,30 @@ impl Table {
     }
 
     /// Whether an unfinished state is equal to this one: each covers the other.
-    pub fn repeats(&self, state: &State, scratch: &mut State) -> bool
+    pub fn repeats(&mut self, state: &State, scratch: &mut State) -> bool
+        ensures repeated { IsTrue result → IsRepeated self.old.entries.items state.now }
+        ensures same { self.new.entries.items ≡ self.old.entries.items }
+        ensures drawn { self.new.key ≡ self.old.key }
+    {
+        let mut effort = self.effort;
+        let repeats = self.is_repeated(state, scratch, &mut effort);
+        self.effort = effort;
+        repeats
+    }
+
+    /// The same, if looking up may cost more.
+    fn is_repeated(&self, state: &State, scratch: &mut State, effort: &mut Effort) -> bool
         ensures { IsTrue result → IsRepeated self.now.entries.items state.now }
     {
-        let fingerprint = self.sketch.prints.fingerprint;
-        for index in self.index.unfinished_like(fingerprint) {
-            if self.index.is_like(index, fingerprint) && self.is_equal(index, state, scratch) {
+        let fingerprint = self.key.fingerprints.whole;
+        for index in self.index.unfinished_candidates(fingerprint) {
+            if effort.is_over() {
+                return false;
+            }
+            effort.spend_test();
+            if self.index.has_fingerprint(index, fingerprint)
+                && self.is_equal(index, state, scratch, effort)
+            {
                 return true;
             }
         }
@@ -211,7 +290,7 @@ impl Table {
         state: &State,
         kept: Option<Kept>,
     ) -> Result<usize, AllocError>
-        requires drawn { kept ≡ None → AreParts self.old.sketch.parts.items state.now.innermost }
+        requires drawn { kept ≡ None → AreParts self.old.key.parts.items state.now.innermost }
         requires kept { IfSome kept (λ s. s ≡ state.now) }
         ensures place { IfOk result (λ k. k ≡ length self.old.entries.items) }
         ensures stored { IfOk result (λ _. self.new.entries.items
@@ -219,10 +298,16 @@ impl Table {
         ensures err { OnErr result (self.new.entries.items ≡ self.old.entries.items) }
     {
         let index = self.entries.len();
-        self.index.add(alloc, state.slot, &self.sketch)?;
+        if self.key.is_sought {
+            self.index
+                .add(alloc, state.slot, &self.key, &mut self.effort)?;
+        }
         let state = match kept {
             Some(kept) => kept,
-            None => Kept::of_parts(alloc, state, &mut self.sketch.parts)?,
+            None => {
+                let last = last_of(&self.entries);
+                Kept::of_parts(alloc, state, &mut self.key.parts, last)?
+            }
         };
         self.entries.push(Stored { state, number: 0 })?;
         Ok(index)

@@ -101,19 +101,6 @@ impl Trail {
         }
     }
 
-    /// How many visits there are.
-    pub fn len(&self) -> usize {
-        self.steps.len()
-    }
-
-    /// Whether a visit has a pending state.
-    pub fn waits(&self, index: usize) -> bool {
-        match self.steps.get(index) {
-            Some(step) => step.waits,
-            None => false,
-        }
-    }
-
     /// Puts a visit after the others.
     pub fn push(&mut self, visit: Visit) -> Result<(), AllocError>
         ensures items { OnOk result (self.new.items ≡ self.old.items ++ visit ∷ []) }

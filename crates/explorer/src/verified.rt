@@ -3,20 +3,19 @@
 ghost use Rattle.std.specs.Prelude.{◌≡◌, ◌≤◌, IfOk, IfErr};
 ghost use Rattle.isa_model.specs.Running.Outcomes.{StartsEnd};
 ghost use Rattle.bounds.specs.Bounds.{IsVerified};
-ghost use Rattle.explorer.specs.Refused.{IsRefused};
-ghost use Rattle.explorer.specs.Accepting.{AcceptsAll, BoundsAll};
-ghost use Rattle.explorer.specs.Counts.{HasNumber};
+ghost use Rattle.walks.specs.Refused.{IsRefused};
+ghost use Rattle.walks.specs.Accepting.{AcceptsAll, BoundsAll};
+ghost use Rattle.walks.specs.Counts.{HasNumber};
 ghost use Rattle.stack_state.specs.Starts.{start};
 
-use crate::refusals::Refusal;
+use crate::listening::Nobody;
+use crate::moves::Halt;
 use crate::search::Search;
 use bounds::Verified;
 use control_flow::Flow;
 use image::Image;
 use std::alloc::Global;
-
-/// The most instructions that are explored.
-pub const MAX_EXPLORED: u32 = 1_000_000;
+use walks::{MAX_EXPLORED, Refusal};
 
 /// The bound of a program's runs.
 fn bound_of(alloc: Global, image: &Image) -> Result<u32, (Refusal, usize)>
@@ -35,8 +34,11 @@ fn bound_of(alloc: Global, image: &Image) -> Result<u32, (Refusal, usize)>
         return Err((Refusal::Memory, 0));
     };
     let mut room = Vec::new(alloc);
-    let bound = search.explore(alloc, image, &flow, &mut room)?;
-    Ok(bound)
+    match search.explore(alloc, image, &flow, &mut room, &mut Nobody) {
+        Ok(bound) => Ok(bound),
+        Err(Halt::Refused(refusal, slot)) => Err((refusal, slot)),
+        Err(Halt::Stopped(never)) => match never {},
+    }
 }
 
 /// Looks for a bound on the steps of each run, or refuses, with the slot at which it does.

@@ -4,12 +4,12 @@ use Rattle.isa_model.specs.Code.Instructions.{Program}
 use Rattle.image.specs.Images.{IsImage}
 use Rattle.bounds.specs.Bounds.{Bounded}
 use Rattle.stack_state.specs.Starts.{start}
-use Rattle.explorer.specs.Accepting.{BoundsAll}
-use Rattle.explorer.specs.Counts.{HasNumber}
+use Rattle.walks.specs.Accepting.{BoundsAll}
+use Rattle.walks.specs.Counts.{HasNumber}
 use Rattle.image.specs.Programs.{IsProgram-IsImage}
-use Rattle.explorer.proofs.Plain.{IsPlain-refused, IsPlain-bound}
-use Rattle.explorer.proofs.Determined.{IsDetermined-refused, IsDetermined-bound}
-use Rattle.explorer.proofs.Guarded.{IsGuarded-refused, IsGuarded-bound}
+use Rattle.walks.proofs.Plain.{IsPlain-refused, IsPlain-bound}
+use Rattle.walks.proofs.Determined.{IsDetermined-refused, IsDetermined-bound}
+use Rattle.walks.proofs.Guarded.{IsGuarded-refused, IsGuarded-bound}
 use Rattle.explorer.proofs.verified.verify.Goals as goal
 
 pub returns-in_err-bound-clause-accepts : goal.returns-in_err-bound-clause-accepts

@@ -43,7 +43,7 @@ fn steps_are_refused_at_their_slot(rt: HostRuntime) -> Result<(), Fail> {
     )
 }
 
-/// All refusals but want of memory, with their numbers.
+/// All refusals but out of memory, with their numbers.
 const OTHERS: [(Refusal, &str); 25] = [
     (Refusal::Flow(FlowError::TargetOutside), "G1"),
     (Refusal::Flow(FlowError::SecondHalf), "G2"),

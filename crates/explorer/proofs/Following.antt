@@ -1,0 +1,105 @@
+-- What a listener keeps of a path that it follows, move by move.
+use Rattle.std.proofs.Common.{◌≡◌, ◌∙◌, ℕ, zero, suc, ◌+◌, ◌-◌, ◌≤◌, List, [], ◌∷◌, ◌++◌, Option, Some, None, arith, refl, sym, ap, subst, length, append_assoc, length-append}
+use Rattle.std.specs.Prelude.{slice_get}
+use Rattle.isa_model.specs.Code.Instructions.{Program}
+use Rattle.stack_state.specs.declared.states.State.{State}
+use Rattle.explorer.specs.declared.explanations.Jump.{Jump}
+use Rattle.explorer.specs.declared.explanations.Explanation.{Explanation}
+use Rattle.walks.specs.declared.refusals.Refusal.{Refusal}
+use Rattle.walks.specs.declared.refusals.Refusal.TheVariants.{Flow, Step, Repeats, TooLong, Memory}
+use Rattle.walks.specs.Walks.{StepsTo}
+use Rattle.walks.specs.Refused.{StopsAt}
+use Rattle.explorer.specs.Explained.{IsLed, Explains}
+use Rattle.explorer.specs.Listening.{StopsIn, IsToStop, EndsIn}
+use Rattle.explorer.specs.Followed.{IsWalk, slots_along, HasFollowed}
+use Rattle.explorer.proofs.Stores.{slice_get-push, slice_get-seam}
+use Rattle.explorer.proofs.Ways.{led_start}
+
+-- ---- the way along the path
+
+walk_from : (p : Program) (rest before : List State) (s : State) → IsWalk p (rest ++ s ∷ before) → IsWalk p (s ∷ before)
+walk_from p [] before s h = h
+walk_from p (c ∷ rest) before s h = walk_from p rest before s h.1
+
+length-slots : (path : List State) → length (slots_along path) ≡ length path
+length-slots [] = refl
+length-slots (s ∷ path) = length-append (slots_along path) (s.slot ∷ []) ∙ omega (arith, length-slots path)
+
+pub slots_some : (slots : List ℕ) (s : State) (before : List State) → slots ≡ slots_along (s ∷ before) → 1 ≤ length slots
+slots_some slots s before are = omega (arith, ap (λ (xs : List ℕ). length xs) are, length-slots (s ∷ before))
+
+slot_here : (before : List State) (s : State) → slice_get (slots_along before ++ s.slot ∷ []) (length before) ≡ Some s.slot
+slot_here before s = subst (λ k. slice_get (slots_along before ++ s.slot ∷ []) k ≡ Some s.slot) (length-slots before) (slice_get-seam (slots_along before) s.slot)
+
+slot_in : (rest before : List State) (s : State) → slice_get (slots_along (rest ++ s ∷ before)) (length before) ≡ Some s.slot
+slot_in [] before s = slot_here before s
+slot_in (c ∷ rest) before s = slice_get-push (slots_along (rest ++ s ∷ before)) c.slot (length before) s.slot (slot_in rest before s)
+
+-- the way leads to the state behind which so many are
+pub record LedAt (p : Program) (path : List State) (count : ℕ) (way : List Jump) : Type 0 where
+  pub led : (rest before : List State) (s : State) → path ≡ rest ++ s ∷ before → length before + 1 ≡ count → IsLed p s way
+
+led_first : (p : Program) (path : List State) (way : List Jump) → IsWalk p path → way ≡ [] → (rest before : List State) (s : State) → path ≡ rest ++ s ∷ before → length before + 1 ≡ 1 → IsLed p s way
+led_first p path way walk none rest [] s is count = led_start p s way (walk_from p rest [] s (subst (IsWalk p) is walk)).0 none
+led_first p path way walk none rest (b ∷ before) s is count = absurd (omega (arith, count))
+
+pub LedAt-first : (p : Program) (path : List State) (way : List Jump) → IsWalk p path → way ≡ [] → LedAt p path 1 way
+LedAt-first p path way walk none = record { led = led_first p path way walk none }
+
+-- the next state on the path
+led_next : (p : Program) (path : List State) (slots : List ℕ) (k from to : ℕ) (way new : List Jump) → IsWalk p path → slots ≡ slots_along path → 1 ≤ k
+    → slice_get slots (k - 1) ≡ Some from → slice_get slots k ≡ Some to
+    → ((a s : State) → a.slot ≡ from → s.slot ≡ to → StepsTo p a s → IsLed p a way → IsLed p s new) → LedAt p path k way
+    → (rest before : List State) (s : State) → path ≡ rest ++ s ∷ before → length before + 1 ≡ k + 1 → IsLed p s new
+led_next p path slots k from to way new walk are some at next goes h rest [] s is count = absurd (omega (arith, some, count))
+led_next p path slots k from to way new walk are some at next goes h rest (a ∷ before) s is count =
+    let here = slot_in rest (a ∷ before) s in
+    let again : path ≡ (rest ++ s ∷ []) ++ a ∷ before = is ∙ sym (append_assoc rest (s ∷ []) (a ∷ before)) in
+    let there = slot_in (rest ++ s ∷ []) before a in
+    let length_a : length before ≡ k - 1 = omega (arith, count) in
+    let length_s : length (a ∷ before) ≡ k = omega (arith, count) in
+    let from_is : Some from ≡ Some a.slot = sym at ∙ (ap (λ (xs : List ℕ). slice_get xs (k - 1)) (are ∙ ap slots_along again) ∙ (ap (λ n. slice_get (slots_along ((rest ++ s ∷ []) ++ a ∷ before)) n) (sym length_a) ∙ there)) in
+    let to_is : Some to ≡ Some s.slot = sym next ∙ (ap (λ (xs : List ℕ). slice_get xs k) (are ∙ ap slots_along is) ∙ (ap (λ n. slice_get (slots_along (rest ++ s ∷ a ∷ before)) n) (sym length_s) ∙ here)) in
+    let steps = (walk_from p rest (a ∷ before) s (subst (IsWalk p) is walk)).0 in
+    goes a s (cc) (cc) steps (h.led (rest ++ s ∷ []) before a again (omega (arith, count)))
+
+pub LedAt-next : (p : Program) (path : List State) (slots : List ℕ) (k from to : ℕ) (way new : List Jump) → IsWalk p path → slots ≡ slots_along path → 1 ≤ k
+    → slice_get slots (k - 1) ≡ Some from → slice_get slots k ≡ Some to
+    → ((a s : State) → a.slot ≡ from → s.slot ≡ to → StepsTo p a s → IsLed p a way → IsLed p s new) → LedAt p path k way → LedAt p path (k + 1) new
+LedAt-next p path slots k from to way new walk are some at next goes h = record { led = led_next p path slots k from to way new walk are some at next goes h }
+
+-- the end of the path
+pub LedAt-last : (p : Program) (path : List State) (slots : List ℕ) (s : State) (k : ℕ) (way : List Jump) → slots ≡ slots_along (s ∷ path) → k ≡ length slots → LedAt p (s ∷ path) k way → IsLed p s way
+LedAt-last p path slots s k way are count h =
+    let same : length slots ≡ length (s ∷ path) = ap (λ (xs : List ℕ). length xs) are ∙ length-slots (s ∷ path) in
+    h.led [] path s refl (omega (arith, count, same))
+
+-- ---- what is known in the end
+
+stops_in : (p : Program) (tale : List State → State → Type 0) (e : Refusal) (slot : ℕ) → EndsIn p tale e slot → (e ≡ Memory → ⊥) → IsToStop p tale e slot
+stops_in p tale (Flow e) slot h known = h
+stops_in p tale (Step e) slot h known = h
+stops_in p tale Repeats slot h known = h
+stops_in p tale TooLong slot h known = h
+stops_in p tale Memory slot h known = absurd (known refl)
+
+explains : (p : Program) (tale : List State → State → Type 0) (e : Refusal) (slot : ℕ) (x : Explanation) → StopsAt p e slot → IsToStop p tale e slot
+    → ((before : List State) (s : State) → tale (s ∷ before) s → s.slot ≡ slot → (x.state ≡ s) × IsLed p s x.way.items) → Explains p e slot x
+explains p tale e slot x refused h shown =
+    let known = shown h.before h.state h.told h.slot_is in
+    let same = sym known.0 in
+    record {
+      refused = refused;
+      led = subst (λ (s : State). IsLed p s x.way.items) same known.1;
+      at = ap (λ (s : State). s.slot) known.0 ∙ h.slot_is;
+      stops = subst (λ (s : State). StopsIn p s e) same h.stops;
+    }
+
+-- the search found the refusal, at the slot
+pub explains_by : (p q : Program) (tale : Program → List State → State → Type 0) (found e : Refusal) (at slot : ℕ) (x : Explanation) → p ≡ q → found ≡ e → at ≡ slot → (e ≡ Memory → ⊥)
+    → StopsAt p found at → EndsIn p (tale p) found at
+    → ((r : Program) (before : List State) (s : State) → tale r (s ∷ before) s → s.slot ≡ slot → (x.state ≡ s) × IsLed r s x.way.items) → Explains q e slot x
+explains_by p q tale found e at slot x same is here known stops ends shown =
+    let refused = subst (λ k. StopsAt p e k) here (subst (λ r. StopsAt p r at) is stops) in
+    let stopped = subst (λ k. EndsIn p (tale p) e k) here (subst (λ r. EndsIn p (tale p) r at) is ends) in
+    subst (λ r. Explains r e slot x) same (explains p (tale p) e slot x refused (stops_in p (tale p) e slot stopped known) (shown p))

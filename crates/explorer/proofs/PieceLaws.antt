@@ -1,0 +1,59 @@
+-- Parts in pieces, piece by piece.
+use Rattle.std.proofs.Common.{◌≡◌, ℕ, zero, suc, ◌+◌, ◌<◌, List, [], ◌∷◌, ◌++◌, length, get_or, take, drop, drop-cons, add-one, append_assoc, refl, sym, ap, ◌∙◌, arith}
+use Rattle.std.specs.List.{All}
+use Rattle.std.proofs.Common.{subst}
+use Rattle.std.proofs.Math.Seq.{take-append_seam, drop-append_seam}
+use Rattle.std.proofs.lemmas.List.{append-nil, take-append-drop, get_or_default}
+use Rattle.std.proofs.lemmas.List.Elements.{All-take, All-drop}
+use Rattle.stack_state.specs.declared.states.AbstractFrame.{AbstractFrame}
+use Rattle.state_index.specs.declared.parts.Part.{Part}
+use Rattle.state_index.specs.Parts.{parts_of, IsPartOf, all_written}
+use Rattle.state_index.proofs.PartLaws.{all_written-append, part_at}
+use Rattle.explorer.specs.Pieces.{whole}
+
+pub whole-more : (ps : List (List Part)) (p : List Part) → whole (ps ++ p ∷ []) ≡ whole ps ++ p
+whole-more [] p = append-nil p
+whole-more (q ∷ qs) p = ap (λ l. q ++ l) (whole-more qs p) ∙ sym (append_assoc q (whole qs) p)
+
+pub cut_is : (xs first others : List Part) (n : ℕ) → first ≡ take n xs → others ≡ drop n xs → xs ≡ first ++ others
+cut_is xs first others n a b =
+    sym (take-append-drop n xs) ∙ ap (λ l. l ++ drop n xs) (sym a) ∙ ap (λ l. first ++ l) (sym b)
+
+pub whole_done : (ps : List (List Part)) (rest parts : List Part) → length rest ≡ 0 → whole ps ++ rest ≡ parts → whole ps ≡ parts
+whole_done ps [] parts none h = sym (append-nil (whole ps)) ∙ h
+whole_done ps (p ∷ rest) parts none h = absurd (omega arith)
+
+-- what is whole after one more piece
+pub whole_cut : (old new first rest more parts : List Part) → new ≡ old ++ first → rest ≡ first ++ more → old ++ rest ≡ parts → new ++ more ≡ parts
+whole_cut old new first rest more parts pushed cut before =
+    ap (λ l. l ++ more) pushed ∙ append_assoc old first more ∙ ap (λ l. old ++ l) (sym cut) ∙ before
+
+pub whole-next : (ps : List (List Part)) (p rest more parts : List Part) → rest ≡ p ++ more → whole ps ++ rest ≡ parts
+    → whole (ps ++ p ∷ []) ++ more ≡ parts
+whole-next ps p rest more parts cut before =
+    ap (λ l. l ++ more) (whole-more ps p) ∙ append_assoc (whole ps) p more ∙ ap (λ l. whole ps ++ l) (sym cut) ∙ before
+
+-- the pieces from one on, written after the ones before it
+pub written-next : (f : AbstractFrame) (ps : List (List Part)) (i : ℕ) (p : List Part) → i < length ps → p ≡ get_or ps i p
+    → all_written f (whole (drop i ps)) ≡ all_written (all_written f p) (whole (drop (i + 1) ps))
+written-next f ps i p inside at =
+    let there : drop i ps ≡ p ∷ drop (suc i) ps = drop-cons ps i p inside ∙ ap (λ q. q ∷ drop (suc i) ps) (sym at) in
+    ap (λ l. all_written f (whole l)) there
+    ∙ all_written-append f p (whole (drop (suc i) ps))
+    ∙ ap (λ n. all_written (all_written f p) (whole (drop n ps))) (sym (add-one i))
+
+-- ---- what holds of all parts
+
+All-first : {X : Type 0} (P : X → Type 0) (xs ys : List X) → All P (xs ++ ys) → All P xs
+All-first P xs ys h = subst (All P) (take-append_seam xs ys) (All-take P (length xs) (xs ++ ys) h)
+
+All-others : {X : Type 0} (P : X → Type 0) (xs ys : List X) → All P (xs ++ ys) → All P ys
+All-others P xs ys h = subst (All P) (drop-append_seam xs ys) (All-drop P (length xs) (xs ++ ys) h)
+
+pub piece_all : (P : Part → Type 0) (ps : List (List Part)) (i : ℕ) (d : List Part) → i < length ps → All P (whole ps) → All P (get_or ps i d)
+piece_all P [] i d inside h = absurd (omega arith)
+piece_all P (p ∷ ps) zero d inside h = All-first P p (whole ps) h
+piece_all P (p ∷ ps) (suc i) d inside h = piece_all P ps i d (omega arith) (All-others P p (whole ps) h)
+
+pub parts_all : (f : AbstractFrame) (ps : List Part) → ps ≡ parts_of f → All (IsPartOf f) ps
+parts_all f ps is = λ i d inside. part_at f ps i (get_or ps i d) is inside (get_or_default ps i d (get_or ps i d) inside)

@@ -1,8 +1,0 @@
-use Rattle.std.proofs.Common.{◌≡◌, ◌++◌, drop}
-use Rattle.explorer.specs.Keeping.{slot_parts}
-use Rattle.explorer.proofs.parts.push_slots.Given as goal
-
--- the parts of the slots from here on are still missing
-abbrev pub invariant-loop-index : goal.invariant-loop-index
-invariant-loop-index l =
-    l.parts.items ++ slot_parts l.index (drop l.index l.slots) ≡ l.initial.parts.items ++ slot_parts 0 l.slots

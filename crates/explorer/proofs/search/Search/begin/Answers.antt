@@ -1,0 +1,24 @@
+use Rattle.std.proofs.Common.{◌+◌, List, arith, refl, length, ap, subst}
+use Rattle.explorer.specs.declared.trail.Visit.{Visit}
+use Rattle.walks.specs.Forgetting.{Forgets}
+use Rattle.explorer.proofs.Counting.{CountsTo-here}
+use Rattle.explorer.proofs.Paths.{Path-here}
+use Rattle.explorer.proofs.Unfinished.{OnPath-start}
+use Rattle.explorer.proofs.Steps.{empty_fine, starts_ready}
+use Rattle.explorer.proofs.search.Search.begin.Goals as goal
+
+pub come-requires-clause-comes : goal.come-requires-clause-comes
+come-requires-clause-comes c =
+    let p = c.args.flow.now in
+    let search = c.args.self.now in
+    let table = search.table.entries.items in
+    let path = search.path.items in
+    let s = c.forget_dead.new.state in
+    let new = c.requires.new in
+    let begins = subst (λ x. Forgets p x s) new.current c.forget_dead.ensures in
+    record {
+      at = record { fine = empty_fine p search.finished table new.table; first = s; begins = begins; path = Path-here p search.finished table path s s new.path refl };
+      on_path = OnPath-start table path new.table new.path;
+      spent = CountsTo-here p path s s (search.finished + length path) new.path refl (omega (arith, new.finished, ap (λ (x : List Visit). length x) new.path));
+      ready = starts_ready p p s refl c.requires.whole begins;
+    }

@@ -1,0 +1,22 @@
+use Rattle.std.proofs.lemmas.Result.{IfOk-weaker, IfErr-weaker}
+use Rattle.walks.specs.Refused.{StopsAt}
+use Rattle.explorer.specs.Search.{Arrives, TurnsBack, Moves}
+use Rattle.explorer.proofs.Steps.{comes_to}
+use Rattle.explorer.proofs.Walking.{turned_back}
+use Rattle.explorer.proofs.search.Search.come.Goals as goal
+
+pub returns-clause-moves : goal.returns-clause-moves
+returns-clause-moves c =
+    let p = c.args.flow.now in
+    let old = c.args.self.now in
+    IfOk-weaker c.arrive.result (λ made. Arrives p old.table.entries.items old.current made c.arrive.new.table.entries.items)
+    (λ made. Moves p (record old { table = c.arrive.new.table; scratch = c.arrive.new.scratch }) made)
+    (λ made arrives. comes_to p old c.arrive.new.table c.arrive.new.scratch made c.requires.comes arrives) c.arrive.ensures.arrives
+
+pub returns-clause-stops : goal.returns-clause-stops
+returns-clause-stops c =
+    let p = c.args.flow.now in
+    let old = c.args.self.now in
+    let at = c.requires.comes.at in
+    IfErr-weaker c.arrive.result (λ r. TurnsBack p old.table.entries.items old.current r.0 r.1) (λ r. StopsAt p r.0 r.1)
+    (λ r back. turned_back p old.finished old.table.entries.items old.path.items at.first old.current r.0 r.1 at.begins at.path c.requires.comes.on_path back) c.arrive.ensures.refused

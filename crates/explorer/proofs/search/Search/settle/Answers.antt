@@ -1,0 +1,60 @@
+use Rattle.std.proofs.Common.{arith, subst}
+use Rattle.explorer.specs.Search.{MovesOrEnds}
+use Rattle.explorer.specs.Listening.{IfReturns, Follows, IsTold}
+use Rattle.explorer.proofs.Telling.{returns_less, has_ended, follows_end, told_back, refused_back}
+use Rattle.explorer.proofs.search.Search.settle.Goals as goal
+use Rattle.explorer.proofs.search.Search.settle.Goals.{in-Covered, in-Covered-2}
+
+pub returns-in-New-clause-told : goal.returns-in-New-clause-told
+returns-in-New-clause-told g c =
+    let p = c.args.flow.now in
+    let path = c.moves.self.path.items in
+    let told : IsTold p (g.L.Listener.follows c.tell.new.listener p) path c.moves.self.current c.moves.made = c.in_default.ensures p path c.moves.invariant.untold in
+    subst (IsTold p (g.L.Listener.follows c.tell.new.listener p) path c.moves.self.current) c.in-New.is told
+
+pub back-requires-clause-at : goal.back-requires-clause-at
+back-requires-clause-at g c = elim c.match-made.branch [
+  | in-Covered w ↦ has_ended c.args.flow.now c.moves.self c.moves.made w.in-Covered.number c.match-made.ended w.in-Covered.is w.ended-is c.moves.invariant.moves
+  | in-Covered-2 w ↦ has_ended c.args.flow.now c.moves.self c.moves.made w.in-Covered.number c.match-made.ended w.in-Covered.is w.ended-is c.moves.invariant.moves
+]
+
+pub moves-smaller : goal.moves-smaller
+moves-smaller g c =
+    let old = c.moves.self.path.items in
+    let new = c.back.new.self.path.items in
+    let now = c.back.new.self.current in
+    let returns : IfReturns old c.in-Ok-Some.field-0 new now = c.in-Ok-Some.ensures.returns in
+    returns_less old new now c.in-Ok-Some.next (subst (λ o. IfReturns old o new now) c.in-Ok-Some.field-0-is returns)
+
+pub moves-preserved : goal.moves-preserved
+moves-preserved g c =
+    let p = c.args.flow.now in
+    let tale = g.L.Listener.follows c.tell.new.listener p in
+    let old = c.moves.self.path.items in
+    let new = c.back.new.self.path.items in
+    let now = c.back.new.self.current in
+    let next = c.in-Ok-Some.next in
+    let moves : MovesOrEnds p c.back.new.self c.match-made.ended c.in-Ok-Some.field-0 = c.in-Ok-Some.ensures.moves in
+    let returns : IfReturns old c.in-Ok-Some.field-0 new now = c.in-Ok-Some.ensures.returns in
+    let told : IsTold p tale old c.moves.self.current c.moves.made = c.in_default.ensures p old c.moves.invariant.untold in
+    let follows : Follows p tale old = elim c.match-made.branch [
+      | in-Covered w ↦ follows_end p tale old c.moves.self.current c.moves.made w.in-Covered.number w.in-Covered.is told
+      | in-Covered-2 w ↦ follows_end p tale old c.moves.self.current c.moves.made w.in-Covered.number w.in-Covered.is told
+    ] in
+    record {
+      moves = subst (λ o. MovesOrEnds p c.back.new.self c.match-made.ended o) c.in-Ok-Some.field-0-is moves;
+      untold = told_back p tale old new now next follows (subst (λ o. IfReturns old o new now) c.in-Ok-Some.field-0-is returns);
+      explored = omega (arith, c.in-Ok-Some.ensures.explored, c.moves.invariant.explored);
+    }
+
+pub returns-in-Err-back-clause-ends : goal.returns-in-Err-back-clause-ends
+returns-in-Err-back-clause-ends g c =
+    let p = c.args.flow.now in
+    let tale = g.L.Listener.follows c.tell.new.listener p in
+    let old = c.moves.self.path.items in
+    let told : IsTold p tale old c.moves.self.current c.moves.made = c.in_default.ensures p old c.moves.invariant.untold in
+    let follows : Follows p tale old = elim c.match-made.branch [
+      | in-Covered w ↦ follows_end p tale old c.moves.self.current c.moves.made w.in-Covered.number w.in-Covered.is told
+      | in-Covered-2 w ↦ follows_end p tale old c.moves.self.current c.moves.made w.in-Covered.number w.in-Covered.is told
+    ] in
+    c.halt.ensures.ends p (refused_back p tale old c.back.new.self.current c.in-Err-back.refused.0 c.in-Err-back.refused.1 follows c.in-Err-back.ensures.fails)

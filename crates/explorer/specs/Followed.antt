@@ -1,0 +1,22 @@
+-- What a listener keeps of a path that it follows to a slot.
+use Rattle.std.specs.Prelude.{◌≡◌, ℕ, List, [], ◌∷◌, ◌++◌}
+use Rattle.isa_model.specs.Code.Instructions.{Program}
+use Rattle.stack_state.specs.declared.states.State.{State}
+use Rattle.explorer.specs.Listening.{ComesTo}
+
+-- the states of a path, the last one first, each of which leads to the one after it
+abbrev pub IsWalk : Program → List State → Type 0
+IsWalk p [] = Unit {0}
+IsWalk p (s ∷ before) = ComesTo p before s × IsWalk p before
+
+-- their slots, the first one first
+abbrev pub slots_along : List State → List ℕ
+slots_along [] = []
+slots_along (s ∷ before) = slots_along before ++ s.slot ∷ []
+
+-- the slots are those of the path, and the state is the one that arrived last, if that one is at the slot
+pub record HasFollowed (image : Program) (slots : List ℕ) (slot : ℕ) (state : State) (p : Program) (path : List State) (last : State) : Type 0 where
+  pub program : image ≡ p
+  pub walk : IsWalk p path
+  pub slots_are : slots ≡ slots_along path
+  pub found : last.slot ≡ slot → state ≡ last

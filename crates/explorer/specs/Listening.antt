@@ -1,0 +1,193 @@
+-- What a search tells a listener, and what a listener knows of it.
+use Rattle.std.specs.Prelude.{◌≡◌, ℕ, ◌+◌, List, [], ◌∷◌, ◌++◌, reverse, Option, Some, None, option_to_list, length}
+use Rattle.isa_model.specs.declared.instructions.Insn.{Insn}
+use Rattle.isa_model.specs.Code.Instructions.{Program, fetch}
+use Rattle.stack_state.specs.declared.states.State.{State}
+use Rattle.stack_state.specs.Starts.{start}
+use Rattle.transfer.specs.Exact.{Refuses}
+use Rattle.walks.specs.Forgetting.{Forgets}
+use Rattle.walks.specs.Walks.{StepsTo}
+use Rattle.explorer.specs.Search.{IfStepsTo}
+use Rattle.walks.specs.declared.refusals.Refusal.{Refusal}
+use Rattle.walks.specs.declared.refusals.Refusal.TheVariants.{Flow, Step, Repeats, TooLong, Memory}
+use Rattle.explorer.specs.declared.trail.Visit.{Visit}
+use Rattle.explorer.specs.declared.moves.Halt.{Halt}
+use Rattle.explorer.specs.declared.moves.Halt.TheVariants.{Refused, Stopped}
+use Rattle.explorer.specs.declared.moves.Move.{Move}
+use Rattle.explorer.specs.declared.moves.Move.TheVariants.{New, Covered, Finished}
+use Rattle.explorer.specs.declared.moves.Turn.{Turn}
+use Rattle.explorer.specs.declared.moves.Turn.TheVariants.{Explore, Done}
+
+-- a fact of the refusal, if the search came to one
+abbrev pub IfRefused : {S : Type 0} → Halt S → (Refusal → ℕ → Type 0) → Type 0
+IfRefused (Refused e slot) fact = fact e slot
+IfRefused (Stopped stop) fact = Unit {0}
+
+-- ---- what a search does, as its path and its current state show it
+
+-- a path with these states, the last one first, goes on to the state
+abbrev pub ComesTo : Program → List State → State → Type 0
+ComesTo p [] s = Forgets p start s
+ComesTo p (a ∷ before) s = StepsTo p a s
+
+-- the path begins at the current state
+abbrev pub Begins : Program → Move → List Visit → State → Type 0
+Begins p (New stored) path current = (path ≡ []) × ComesTo p [] current
+Begins p (Covered k n) path current = (path ≡ []) × ComesTo p [] current
+Begins p (Finished n) path current = ⊥
+
+-- a visit was put after the path: that of a state which leads to the current one, and to what is pending
+pub record GoesInto (p : Program) (s : State) (old new : List Visit) (current : State) : Type 0 where
+  pub visit : Visit
+  pub pushed : new ≡ old ++ visit ∷ []
+  pub steps : StepsTo p s current
+  pub aside : IfStepsTo p s visit.pending
+
+-- the step of a state leads nowhere, or to the current one
+abbrev pub Steps : Program → State → List Visit → Move → List Visit → State → Type 0
+Steps p s old (Finished n) new current = new ≡ old
+Steps p s old (New stored) new current = GoesInto p s old new current
+Steps p s old (Covered k n) new current = GoesInto p s old new current
+
+-- the last visit waited for the current state, and waits for nothing more
+pub record GoesAside (old new : List Visit) (current : State) : Type 0 where
+  pub path : List Visit
+  pub visit : Visit
+  pub rest : Visit
+  pub was : old ≡ path ++ visit ∷ []
+  pub pushed : new ≡ path ++ rest ∷ []
+  pub is_pending : visit.pending ≡ Some current
+  pub nothing : rest.pending ≡ None
+
+-- the last visit ends, or goes on with what was pending
+abbrev pub Returns : List Visit → Move → List Visit → State → Type 0
+Returns old (Finished n) new current = (visit : Visit) × (old ≡ new ++ visit ∷ [])
+Returns old (New stored) new current = GoesAside old new current
+Returns old (Covered k n) new current = GoesAside old new current
+
+abbrev pub IfReturns : List Visit → Option Move → List Visit → State → Type 0
+IfReturns old None new current = Unit {0}
+IfReturns old (Some made) new current = Returns old made new current
+
+-- ---- why a search stops
+
+-- why it stops in a state: its step is refused so, or the search has been in it, or has explored enough
+abbrev pub StopsIn : Program → State → Refusal → Type 0
+StopsIn p s (Flow e) = ⊥
+StopsIn p s (Step e) = (i : Insn) × (fetch p s.slot ≡ Some i) × Refuses p s i e
+StopsIn p s Repeats = Unit {0}
+StopsIn p s TooLong = Unit {0}
+StopsIn p s Memory = ⊥
+
+-- the path comes back to the state, or memory ran out
+abbrev pub ComesBackAt : State → Refusal → ℕ → Type 0
+ComesBackAt current Repeats slot = current.slot ≡ slot
+ComesBackAt current Memory slot = Unit {0}
+ComesBackAt current e slot = ⊥
+
+-- the same at the start
+abbrev pub BeginFails : Program → State → Refusal → ℕ → Type 0
+BeginFails p current Repeats slot = (current.slot ≡ slot) × ComesTo p [] current
+BeginFails p current Memory slot = Unit {0}
+BeginFails p current e slot = ⊥
+
+-- the step of a state is refused, or leads to the current one, to which the path comes back
+abbrev pub StepFails : Program → State → State → Refusal → ℕ → Type 0
+StepFails p s current (Step e) slot = (s.slot ≡ slot) × StopsIn p s (Step e)
+StepFails p s current Repeats slot = (current.slot ≡ slot) × StepsTo p s current
+StepFails p s current Memory slot = Unit {0}
+StepFails p s current e slot = ⊥
+
+-- the path comes back to the current state, for which the last visit waited
+pub record BackAside (old : List Visit) (current : State) (slot : ℕ) : Type 0 where
+  pub path : List Visit
+  pub visit : Visit
+  pub was : old ≡ path ++ visit ∷ []
+  pub is_pending : visit.pending ≡ Some current
+  pub slot_is : current.slot ≡ slot
+
+abbrev pub ReturnFails : List Visit → State → Refusal → ℕ → Type 0
+ReturnFails old current Repeats slot = BackAside old current slot
+ReturnFails old current Memory slot = Unit {0}
+ReturnFails old current e slot = ⊥
+
+-- ---- what a listener knows
+--
+-- `tale`: what it was told leads along a path with these states, the last one first, and this state arrived last
+
+-- the states are those of the visits, the last one's first, and lead to what is pending there
+abbrev pub AreVisited : Program → List Visit → List State → Type 0
+AreVisited p [] [] = Unit {0}
+AreVisited p [] (s ∷ states) = ⊥
+AreVisited p (visit ∷ visits) [] = ⊥
+AreVisited p (visit ∷ visits) (s ∷ states) = IfStepsTo p s visit.pending × AreVisited p visits states
+
+-- it was told of all visits of the path
+pub record Follows (p : Program) (tale : List State → State → Type 0) (path : List Visit) : Type 0 where
+  pub states : List State
+  pub last : State
+  pub visited : AreVisited p (reverse path) states
+  pub told : tale states last
+
+-- and then of the current state
+pub record FollowsTo (p : Program) (tale : List State → State → Type 0) (path : List Visit) (current : State) : Type 0 where
+  pub states : List State
+  pub visited : AreVisited p (reverse path) states
+  pub told : tale (current ∷ states) current
+
+-- it is still to be told that the path comes to the current state
+pub record IsToArrive (p : Program) (tale : List State → State → Type 0) (path : List Visit) (current : State) : Type 0 where
+  pub states : List State
+  pub last : State
+  pub visited : AreVisited p (reverse path) states
+  pub comes : ComesTo p states current
+  pub told : tale states last
+
+-- it is still to be told that a state after the path has its number
+pub record IsToFinish (p : Program) (tale : List State → State → Type 0) (path : List Visit) : Type 0 where
+  pub state : State
+  pub states : List State
+  pub last : State
+  pub visited : AreVisited p (reverse path) states
+  pub told : tale (state ∷ states) last
+
+-- what it knows before it is told of a move, and after
+abbrev pub IsToTell : Program → (List State → State → Type 0) → List Visit → State → Move → Type 0
+IsToTell p tale path current (New stored) = IsToArrive p tale path current
+IsToTell p tale path current (Covered k n) = IsToArrive p tale path current
+IsToTell p tale path current (Finished n) = IsToFinish p tale path
+
+abbrev pub IsTold : Program → (List State → State → Type 0) → List Visit → State → Move → Type 0
+IsTold p tale path current (New stored) = FollowsTo p tale path current
+IsTold p tale path current (Covered k n) = Follows p tale path
+IsTold p tale path current (Finished n) = Follows p tale path
+
+-- and where a state is to be explored
+abbrev pub FollowsTurn : Program → (List State → State → Type 0) → List Visit → State → Turn → Type 0
+FollowsTurn p tale path current (Explore stored) = FollowsTo p tale path current
+FollowsTurn p tale path current (Done n) = Unit {0}
+
+-- before it is told of a refusal
+pub record IsToStop (p : Program) (tale : List State → State → Type 0) (e : Refusal) (slot : ℕ) : Type 0 where
+  pub state : State
+  pub before : List State
+  pub slot_is : state.slot ≡ slot
+  pub stops : StopsIn p state e
+  pub told : tale (state ∷ before) state
+
+pub record IsToComeBack (p : Program) (tale : List State → State → Type 0) (current : State) (slot : ℕ) : Type 0 where
+  pub states : List State
+  pub last : State
+  pub slot_is : current.slot ≡ slot
+  pub comes : ComesTo p states current
+  pub told : tale states last
+
+abbrev pub IsToRefuse : Program → (List State → State → Type 0) → State → Refusal → ℕ → Type 0
+IsToRefuse p tale current Memory slot = Unit {0}
+IsToRefuse p tale current Repeats slot = IsToComeBack p tale current slot
+IsToRefuse p tale current e slot = IsToStop p tale e slot
+
+-- in the end: but for memory, the last state of the path is that in which the program is refused
+abbrev pub EndsIn : Program → (List State → State → Type 0) → Refusal → ℕ → Type 0
+EndsIn p tale Memory slot = Unit {0}
+EndsIn p tale e slot = IsToStop p tale e slot

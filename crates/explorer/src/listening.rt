@@ -1,0 +1,126 @@
+//! What a search tells, and who listens.
+
+ghost use Rattle.std.specs.Prelude.{◌≡◌, ◌∷◌, List, OnOk};
+ghost use Rattle.isa_model.specs.Code.Instructions.{Program};
+ghost use Rattle.stack_state.specs.declared.states.State.{State as TheState};
+ghost use Rattle.explorer.specs.declared.trail.Visit.{Visit as TheVisit};
+ghost use Rattle.explorer.specs.Listening.{ComesTo, IfRefused, IsToTell, IsTold};
+ghost use Rattle.explorer.specs.Listening.{IsToRefuse, EndsIn};
+
+use crate::moves::{Halt, Move, Refused};
+use stack_state::State;
+use std::convert::Infallible;
+use transfer::Ways;
+use walks::Refusal;
+
+/// Listens to a search, which tells of all that it does, in its order.
+///
+/// The states of the path are those that arrived, but for those that are covered or have a number.
+pub trait Listener {
+    /// Why it stops a search.
+    type Stop: Drop;
+
+    // What it was told leads along a path with these states, the last one first, and of all states
+    // that arrived, this one came last.
+    ghost follows: { Self → Program → List TheState → TheState → Type 0 };
+
+    /// The path comes to a state.
+    fn arrives(&mut self, state: &State) -> Result<(), Self::Stop>
+        ensures { (p : Program) (path : List TheState) (last : TheState) → ComesTo p path state.now
+            → follows self.old p path last
+            → OnOk result (follows self.new p (state.now ∷ path) state.now) };
+
+    /// The last state of the path is covered by the stored state at this place, and so has its
+    /// number.
+    fn covered(&mut self, place: usize, number: u32) -> Result<(), Self::Stop>
+        ensures { (p : Program) (s : TheState) (path : List TheState) (last : TheState)
+            → follows self.old p (s ∷ path) last → OnOk result (follows self.new p path last) };
+
+    /// The last state of the path, which is this one, is to be explored. At a join it is stored at
+    /// this place.
+    fn explores(&mut self, state: &State, stored: Option<usize>) -> Result<(), Self::Stop>
+        ensures { (p : Program) (path : List TheState) (last : TheState)
+            → follows self.old p path last → OnOk result (follows self.new p path last) };
+
+    /// The step of the last state of the path goes these ways.
+    fn stepped(&mut self, ways: Ways) -> Result<(), Self::Stop>
+        ensures { (p : Program) (path : List TheState) (last : TheState)
+            → follows self.old p path last → OnOk result (follows self.new p path last) };
+
+    /// The last state of the path is explored, and this is its number.
+    fn finished(&mut self, number: u32) -> Result<(), Self::Stop>
+        ensures { (p : Program) (s : TheState) (path : List TheState) (last : TheState)
+            → follows self.old p (s ∷ path) last → OnOk result (follows self.new p path last) };
+
+    /// The program is refused so, at the last state of the path; or memory ran out.
+    fn refused(&mut self, refusal: Refusal, slot: usize)
+        ensures { (p : Program) (path : List TheState) (last : TheState)
+            → follows self.old p path last → follows self.new p path last };
+}
+
+/// Tells of a move that leads to this state.
+pub fn tell<L: Listener>(listener: &mut L, state: &State, made: Move) -> Result<(), L::Stop>
+    ensures { (p : Program) (path : List TheVisit)
+        → IsToTell p (L.follows listener.old p) path state.now made
+        → OnOk result (IsTold p (L.follows listener.new p) path state.now made) }
+{
+    match made {
+        Move::New(stored) => {
+            listener.arrives(state)?;
+            listener.explores(state, stored)
+        }
+        Move::Covered(place, number) => {
+            listener.arrives(state)?;
+            listener.covered(place, number)
+        }
+        Move::Finished(number) => listener.finished(number),
+    }
+}
+
+/// Why a search stops with a refusal at this state: it is told first of a state to which the path
+/// comes back.
+pub fn halt<L: Listener>(listener: &mut L, state: &State, refused: Refused) -> Halt<L::Stop>
+    ensures same { IfRefused result (λ e slot. (e ≡ refused.0) × (slot ≡ refused.1)) }
+    ensures ends { (p : Program) → IsToRefuse p (L.follows listener.old p) state.now refused.0 refused.1
+        → IfRefused result (EndsIn p (L.follows listener.new p)) }
+{
+    let (refusal, slot) = refused;
+    if let Refusal::Repeats = refusal {
+        if let Err(stop) = listener.arrives(state) {
+            return Halt::Stopped(stop);
+        }
+    }
+    Halt::Refused(refusal, slot)
+}
+
+/// Nobody listens.
+#[derive(Clone, Copy, Drop)]
+pub struct Nobody;
+
+impl Listener for Nobody {
+    type Stop = Infallible;
+
+    ghost follows = { λ _ _ _ _. Unit {0} };
+
+    fn arrives(&mut self, _state: &State) -> Result<(), Infallible> {
+        Ok(())
+    }
+
+    fn covered(&mut self, _place: usize, _number: u32) -> Result<(), Infallible> {
+        Ok(())
+    }
+
+    fn explores(&mut self, _state: &State, _stored: Option<usize>) -> Result<(), Infallible> {
+        Ok(())
+    }
+
+    fn stepped(&mut self, _ways: Ways) -> Result<(), Infallible> {
+        Ok(())
+    }
+
+    fn finished(&mut self, _number: u32) -> Result<(), Infallible> {
+        Ok(())
+    }
+
+    fn refused(&mut self, _refusal: Refusal, _slot: usize) {}
+}

@@ -1,0 +1,185 @@
+//! All instructions that a search explores.
+
+ghost use Rattle.std.specs.Prelude.{◌≡◌, IfErr, length, slice_get};
+ghost use Rattle.std.specs.Option.{option_copied};
+ghost use Rattle.walks.specs.Refused.{IsRefused};
+
+use crate::kept::Kept;
+use crate::listening::Listener;
+use crate::moves::Halt;
+use crate::search::Search;
+use arrayvec::ArrayVec;
+use control_flow::Flow;
+use image::Image;
+use stack_state::State;
+use state_index::Part;
+use std::alloc::{AllocError, Global};
+use std::marker::Model;
+use transfer::Ways;
+use walks::Refusal;
+
+/// One explored instruction.
+#[derive(Drop)]
+pub struct Entry {
+    /// The number of its state: 1 more than the greatest of its successors.
+    pub number: u32,
+    /// The state in which it is explored.
+    pub state: Kept,
+    /// The places of the entries to which its step leads, the fall-through's first. Where a state
+    /// that was stored covers the one that it leads to, the place is that of the stored one.
+    pub successors: ArrayVec<u32, 2>,
+}
+
+/// The explored instructions of a program, in the order in which they were explored. The start's
+/// is the first.
+///
+/// Contracts see the entries.
+#[derive(Drop)]
+pub struct Explored {
+    entries: Vec<Entry>,
+}
+
+impl Model for Explored {
+    ghost use Rattle.std.specs.Prelude.{List};
+    ghost use Rattle.explorer.specs.declared.listing.Entry.{Entry};
+
+    ghost Value = { List Entry };
+
+    ghost view = { λ explored. explored.entries.items };
+}
+
+impl Explored {
+    /// How many there are.
+    pub fn len(&self) -> usize
+        ensures { result ≡ length self.now }
+    {
+        self.entries.len()
+    }
+
+    /// The one at a place.
+    pub fn entry(&self, place: usize) -> Option<&Entry>
+        ensures { option_copied result ≡ slice_get self.now place }
+    {
+        self.entries.get(place)
+    }
+}
+
+/// Makes an entry of each explored instruction.
+#[derive(Drop)]
+struct Lister {
+    alloc: Global,
+    entries: Vec<Entry>,
+    /// The entries of the stored states.
+    stored: Vec<u32>,
+    /// The entries of the path's states.
+    path: Vec<u32>,
+    /// For the parts of a frame.
+    room: Vec<Part>,
+}
+
+impl Lister {
+    fn new(alloc: Global) -> Self {
+        Lister {
+            alloc,
+            entries: Vec::new(alloc),
+            stored: Vec::new(alloc),
+            path: Vec::new(alloc),
+            room: Vec::new(alloc),
+        }
+    }
+
+    /// The last state of the path leads to an entry.
+    fn lead_to(&mut self, place: u32) {
+        let Some(last) = self.path.last() else {
+            return;
+        };
+        let last = *last as usize;
+        if last >= self.entries.len() {
+            return;
+        }
+        let successors = &mut self.entries[last].successors;
+        if !successors.is_full() {
+            successors.push(place);
+        }
+    }
+
+    /// A state is to be explored.
+    fn add(&mut self, state: &State, stored: Option<usize>) -> Result<(), AllocError> {
+        let Ok(place) = u32::try_from(self.entries.len()) else {
+            return Err(AllocError);
+        };
+        self.lead_to(place);
+        let state = Kept::of(self.alloc, state, &mut self.room, None)?;
+        self.entries.push(Entry {
+            number: 0,
+            state,
+            successors: ArrayVec::new(),
+        })?;
+        if stored.is_some() {
+            self.stored.push(place)?;
+        }
+        self.path.push(place)?;
+        Ok(())
+    }
+}
+
+impl Listener for Lister {
+    type Stop = AllocError;
+
+    ghost follows = { λ _ _ _ _. Unit {0} };
+
+    fn arrives(&mut self, _state: &State) -> Result<(), AllocError> {
+        Ok(())
+    }
+
+    fn covered(&mut self, place: usize, _number: u32) -> Result<(), AllocError> {
+        if let Some(entry) = self.stored.get(place).copied() {
+            self.lead_to(entry);
+        }
+        Ok(())
+    }
+
+    fn explores(&mut self, state: &State, stored: Option<usize>) -> Result<(), AllocError> {
+        self.add(state, stored)
+    }
+
+    fn stepped(&mut self, _ways: Ways) -> Result<(), AllocError> {
+        Ok(())
+    }
+
+    fn finished(&mut self, number: u32) -> Result<(), AllocError> {
+        if let Some(last) = self.path.pop() {
+            let last = last as usize;
+            if last < self.entries.len() {
+                self.entries[last].number = number;
+            }
+        }
+        Ok(())
+    }
+
+    fn refused(&mut self, _refusal: Refusal, _slot: usize) {}
+}
+
+/// Explores a program as `verify` does, and answers all that was explored, or why the program is
+/// refused, and at which slot.
+pub fn explore(alloc: Global, image: &Image) -> Result<Explored, (Refusal, usize)>
+    ensures { IfErr result (λ r. IsRefused image.now r.0 r.1) }
+{
+    let slots = image.slots();
+    let flow = match Flow::of(alloc, image) {
+        Ok(flow) => flow,
+        Err((error, slot)) => return Err((Refusal::Flow(error), slot)),
+    };
+    let Ok(mut search) = Search::new(alloc, slots) else {
+        return Err((Refusal::Memory, 0));
+    };
+    let mut room = Vec::new(alloc);
+    let mut lister = Lister::new(alloc);
+    match search.explore(alloc, image, &flow, &mut room, &mut lister) {
+        Ok(_) => Ok(Explored {
+            entries: lister.entries,
+        }),
+        Err(Halt::Refused(refusal, slot)) => Err((refusal, slot)),
+        Err(Halt::Stopped(_)) => Err((Refusal::Memory, 0)),
+    }
+}

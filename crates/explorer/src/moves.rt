@@ -1,0 +1,38 @@
+//! What a search does next to the other, and why it stops.
+
+use walks::Refusal;
+
+/// A refusal, and the slot at which it is given.
+pub type Refused = (Refusal, usize);
+
+/// The refusal where memory runs out.
+pub const NO_MEMORY: Refused = (Refusal::Memory, 0);
+
+/// What a search does next to the other.
+#[derive(Clone, Copy, Drop)]
+pub enum Move {
+    /// The path comes to the current state, which is to be explored. At a join it is stored, at
+    /// this place.
+    New(Option<usize>),
+    /// The path comes to the current state, which the stored state at this place covers: it has
+    /// that one's number.
+    Covered(usize, u32),
+    /// The last state of the path is explored, and this is its number.
+    Finished(u32),
+}
+
+/// What comes next: the current state is to be explored, or the start has its number.
+#[derive(Clone, Copy, Drop)]
+pub enum Turn {
+    Explore(Option<usize>),
+    Done(u32),
+}
+
+/// Why a search comes to no number.
+#[derive(Clone, Copy, Drop)]
+pub enum Halt<S> {
+    /// The program is refused so, at this slot.
+    Refused(Refusal, usize),
+    /// The listener stopped it.
+    Stopped(S),
+}

@@ -1,0 +1,64 @@
+//! Buckets of stored states, which link their entries' places.
+
+/// Where a stored state is found.
+#[derive(Clone, Copy, PartialEq, Eq, Drop)]
+pub enum Stage {
+    /// In a bucket of unfinished ones.
+    Unfinished,
+    /// In a bucket of finished ones.
+    Finished,
+    /// In a tree, or waiting for one.
+    InTree,
+}
+
+/// An entry, which is in one bucket at a time.
+#[derive(Clone, Copy, Drop)]
+pub struct Link {
+    /// A fingerprint of all that is known.
+    pub fingerprint: u64,
+    /// A fingerprint of the state's shape, and of what is known in it.
+    pub known: u64,
+    /// The one after it in its bucket.
+    pub next: Option<u32>,
+    /// The last finished entry of its bucket when it was stored; none if the bucket could not
+    /// contain one with the same fingerprint (its mark bit was clear).
+    pub before: Option<u32>,
+    pub stage: Stage,
+}
+
+/// A bucket of finished entries: those of one fingerprint in the order in which they were stored.
+#[derive(Clone, Copy, Drop)]
+pub struct FinishedBucket {
+    pub first: Option<u32>,
+    pub last: Option<u32>,
+    pub marks: u32,
+}
+
+/// A bucket of unfinished entries, the newest first.
+#[derive(Clone, Copy, Drop)]
+pub struct UnfinishedBucket {
+    pub first: Option<u32>,
+    pub marks: u32,
+}
+
+pub const NO_FINISHED: FinishedBucket = FinishedBucket {
+    first: None,
+    last: None,
+    marks: 0,
+};
+
+pub const NO_UNFINISHED: UnfinishedBucket = UnfinishedBucket {
+    first: None,
+    marks: 0,
+};
+
+/// The bucket of a fingerprint, among that many.
+pub fn bucket_of(fingerprint: u64, buckets: usize) -> usize {
+    (fingerprint >> 16) as usize & buckets.wrapping_sub(1)
+}
+
+/// The mark that an entry with the fingerprint leaves on its bucket. A bucket without it has no
+/// such entry.
+pub fn mark_of(fingerprint: u64) -> u32 {
+    1 << (fingerprint >> 59)
+}

@@ -1,0 +1,53 @@
+//! How much looking up stored states may cost.
+
+/// How many places may be compared in one verification. Past that nothing is looked up any more.
+const MOST: u64 = 250_000_000;
+
+/// How many comparisons of places a test of a row or of a link takes, however many it
+/// has.
+const TEST: usize = 8;
+
+/// How many it takes to put an entry into a tree, and how many for each of its places.
+const TREE: usize = 256;
+
+const TREE_PLACE: usize = 16;
+
+/// What looking up has cost, as a count of comparisons of places. It does not depend on time, so
+/// that the same program is always answered in the same way.
+#[derive(Clone, Copy, Drop)]
+pub struct Effort {
+    spent: u64,
+}
+
+impl Effort {
+    /// Nothing was compared.
+    pub fn new() -> Self {
+        Effort { spent: 0 }
+    }
+
+    /// Whether nothing is to be compared any more.
+    pub fn is_over(&self) -> bool {
+        self.spent >= MOST
+    }
+
+    /// Notes that many comparisons.
+    pub fn spend(&mut self, places: usize) {
+        self.spent = self.spent.saturating_add(places as u64);
+    }
+
+    /// Notes a test that most often ends at once.
+    pub fn spend_test(&mut self) {
+        self.spend(TEST);
+    }
+
+    /// Notes that so many places are compared, after what it takes to find them.
+    pub fn spend_search(&mut self, places: usize) {
+        self.spend(places.saturating_add(TEST));
+    }
+
+    /// Notes that a tree is made of entries with so many places each.
+    pub fn spend_tree(&mut self, entries: usize, places: usize) {
+        let each = places.saturating_mul(TREE_PLACE).saturating_add(TREE);
+        self.spend(entries.saturating_mul(each));
+    }
+}

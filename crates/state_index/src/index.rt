@@ -1,0 +1,362 @@
+//! The index of the stored states.
+
+ghost use Rattle.std.specs.Prelude.{IfOk};
+ghost use Rattle.state_index.specs.Rooms.{HasRoom};
+
+use crate::buckets::{
+    FinishedBucket, Link, NO_FINISHED, NO_UNFINISHED, Stage, UnfinishedBucket, bucket_of, mark_of,
+};
+use crate::candidates::{FinishedCandidates, ShapesAt, UnfinishedCandidates};
+use crate::efforts::Effort;
+use crate::fingerprints::mixed;
+use crate::keys::Key;
+use crate::limits::Limits;
+use crate::shapes::{Shape, ShapeLink};
+use crate::tree_sets::TreeSets;
+use crate::trees::Tree;
+use std::alloc::{AllocError, Global};
+use std::mem;
+
+/// How many buckets there are at first, for the finished entries and for the unfinished ones:
+/// always a power of two, and at least half as many as the entries in them.
+const BUCKETS: usize = 64;
+
+/// How many shapes a slot has at most, but for the last one, which knows nothing.
+const SHAPES: usize = 256;
+
+/// An index of entries, which are known by their places: 0, 1, .. in the order in which they were
+/// added.
+#[derive(Drop)]
+pub struct Index {
+    links: Vec<Link>,
+    shapes: Vec<ShapeLink>,
+    /// By slot, the first of its shapes.
+    first_shapes: Vec<Option<u32>>,
+    /// By shape and what is known in it.
+    finished: Vec<FinishedBucket>,
+    finished_count: usize,
+    /// By fingerprint.
+    unfinished: Vec<UnfinishedBucket>,
+    unfinished_count: usize,
+    tree_sets: TreeSets,
+}
+
+impl Index {
+    /// The index of no entries, of code with that many slots.
+    pub fn new(alloc: Global, slots: usize) -> Result<Self, AllocError>
+        ensures room { IfOk result (λ index. HasRoom index slots) }
+    {
+        Ok(Index {
+            links: Vec::new(alloc),
+            shapes: Vec::new(alloc),
+            first_shapes: vec![in alloc; None; slots]?,
+            finished: vec![in alloc; NO_FINISHED; BUCKETS]?,
+            finished_count: 0,
+            unfinished: vec![in alloc; NO_UNFINISHED; BUCKETS]?,
+            unfinished_count: 0,
+            tree_sets: TreeSets::new(alloc),
+        })
+    }
+
+    /// The shapes that the stored states of a slot have.
+    pub fn shapes_at(&self, slot: usize) -> ShapesAt<'_> {
+        ShapesAt {
+            shapes: &self.shapes,
+            next: self.first_shapes.get(slot).copied().flatten(),
+            left: self.shapes.len(),
+        }
+    }
+
+    /// What is known of a state in a shape, if it is all that the shape knows.
+    pub fn known_in(&self, shape: usize, key: &Key, effort: &mut Effort) -> Option<u64> {
+        effort.spend_search(key.parts.len());
+        let known = self.shapes.get(shape)?.shape.known_of(key)?;
+        Some(mixed(known, shape as u64))
+    }
+
+    /// The first entry of the bucket of the finished entries of which this is known, if they have
+    /// no trees.
+    fn first_finished(&self, known: u64) -> Option<u32> {
+        let bucket = bucket_of(known, self.finished.len());
+        match self.finished.get(bucket) {
+            Some(bucket) if bucket.marks & mark_of(known) != 0 => bucket.first,
+            _ => None,
+        }
+    }
+
+    /// The finished entries of which this is known that may cover a state with such limits.
+    pub fn finished_candidates<'a>(
+        &'a self,
+        known: u64,
+        limits: &'a [Limits],
+    ) -> FinishedCandidates<'a> {
+        let (trees, unplaced) = self.tree_sets.trees(known);
+        let is_ordered = trees.is_empty();
+        let next = match is_ordered {
+            true => self.first_finished(known),
+            false => unplaced,
+        };
+        FinishedCandidates {
+            links: &self.links,
+            known,
+            limits,
+            trees,
+            number: 0,
+            sought: None,
+            next,
+            is_ordered,
+        }
+    }
+
+    /// Whether there are entries that are found by their limits.
+    pub fn has_trees(&self) -> bool {
+        !self.tree_sets.is_empty()
+    }
+
+    /// Notes that entries of which this is known were scanned, and returns whether a tree of them
+    /// is to be made.
+    pub fn note_scan(
+        &mut self,
+        alloc: Global,
+        known: u64,
+        count: usize,
+    ) -> Result<bool, AllocError> {
+        self.tree_sets.note_scan(alloc, known, count)
+    }
+
+    /// The entries that are to come into a tree, and how many trees of the same set stay.
+    pub fn tree_candidates(
+        &self,
+        alloc: Global,
+        known: u64,
+        effort: &mut Effort,
+    ) -> Result<(Vec<u32>, usize), AllocError> {
+        let mut places = Vec::new(alloc);
+        let mut candidates = self.finished_candidates(known, &[]);
+        candidates.trees = &[];
+        for _entry in 0..self.links.len() {
+            let Some(place) = candidates.next_before(usize::MAX, effort) else {
+                break;
+            };
+            if let Ok(place) = u32::try_from(place) {
+                places.push(place)?;
+            }
+        }
+        let left = self.tree_sets.gather(known, &mut places)?;
+        Ok((places, left))
+    }
+
+    /// Adds a tree to a set after the first `left` others, in place of its entries' links.
+    pub fn add_tree(&mut self, known: u64, left: usize, tree: Tree) -> Result<(), AllocError> {
+        for place in tree.places() {
+            if let Some(link) = self.links.get_mut(*place as usize) {
+                link.stage = Stage::InTree;
+            }
+        }
+        self.tree_sets.add_tree(known, left, tree)
+    }
+
+    /// Unfinished entries, all of the fingerprint among them.
+    pub fn unfinished_candidates(&self, fingerprint: u64) -> UnfinishedCandidates<'_> {
+        let bucket = bucket_of(fingerprint, self.unfinished.len());
+        let next = match self.unfinished.get(bucket) {
+            Some(bucket) if bucket.marks & mark_of(fingerprint) != 0 => bucket.first,
+            _ => None,
+        };
+        UnfinishedCandidates {
+            links: &self.links,
+            next,
+            left: self.links.len(),
+        }
+    }
+
+    /// Whether an entry has the fingerprint.
+    pub fn has_fingerprint(&self, index: usize, fingerprint: u64) -> bool {
+        match self.links.get(index) {
+            Some(link) => link.fingerprint == fingerprint,
+            None => false,
+        }
+    }
+
+    /// The number of a state's shape, which is a new one where no stored state of its slot has it.
+    fn shape_of(
+        &mut self,
+        alloc: Global,
+        slot: usize,
+        key: &Key,
+        effort: &mut Effort,
+    ) -> Result<usize, AllocError> {
+        let mut shapes = 0usize;
+        for number in self.shapes_at(slot) {
+            effort.spend_search(key.parts.len());
+            if self.has_shape(number, key) {
+                return Ok(number);
+            }
+            shapes = shapes.wrapping_add(1);
+        }
+        if shapes > SHAPES {
+            // the newest one, which knows nothing
+            return Ok(self.shapes_at(slot).next().unwrap_or(0));
+        }
+        let number = self.shapes.len();
+        let mut next = None;
+        if let Some(first) = self.first_shapes.get_mut(slot) {
+            next = mem::replace(first, u32::try_from(number).ok());
+        }
+        let shape = match shapes < SHAPES {
+            true => Shape::of(alloc, key)?,
+            false => Shape::blank(alloc),
+        };
+        self.shapes.push(ShapeLink { shape, next })?;
+        Ok(number)
+    }
+
+    fn has_shape(&self, number: usize, key: &Key) -> bool {
+        match self.shapes.get(number) {
+            Some(link) => link.shape.is_of(key),
+            None => false,
+        }
+    }
+
+    /// Adds an entry that is unfinished.
+    pub fn add(
+        &mut self,
+        alloc: Global,
+        slot: usize,
+        key: &Key,
+        effort: &mut Effort,
+    ) -> Result<(), AllocError> {
+        self.spread_finished(alloc)?;
+        self.spread_unfinished(alloc)?;
+        let shape = self.shape_of(alloc, slot, key, effort)?;
+        let known = self.known_in(shape, key, effort).unwrap_or(0);
+        let index = self.links.len();
+        self.links.push(Link {
+            fingerprint: key.fingerprints.whole,
+            known,
+            next: None,
+            before: None,
+            stage: Stage::Unfinished,
+        })?;
+        self.unfinished_count = self.unfinished_count.wrapping_add(1);
+        self.file_by_known(index);
+        self.file_by_fingerprint(index);
+        Ok(())
+    }
+
+    /// Spreads the finished entries over more buckets, if there are too many for these.
+    fn spread_finished(&mut self, alloc: Global) -> Result<(), AllocError> {
+        let buckets = self.finished.len().saturating_mul(2);
+        if self.finished_count < buckets {
+            return Ok(());
+        }
+        let buckets = buckets.max(self.unfinished.len());
+        self.finished = vec![in alloc; NO_FINISHED; buckets]?;
+        for index in 0..self.links.len() {
+            self.file_by_known(index);
+        }
+        Ok(())
+    }
+
+    /// The same, of the unfinished ones.
+    fn spread_unfinished(&mut self, alloc: Global) -> Result<(), AllocError> {
+        let buckets = self.unfinished.len().saturating_mul(2);
+        if self.unfinished_count < buckets {
+            return Ok(());
+        }
+        self.unfinished = vec![in alloc; NO_UNFINISHED; buckets]?;
+        for index in 0..self.links.len() {
+            self.file_by_fingerprint(index);
+        }
+        Ok(())
+    }
+
+    /// Puts an entry into its bucket of finished ones, if it belongs there, and else notes its place
+    /// there; all that were stored before it were put there, and those after it were not.
+    fn file_by_known(&mut self, index: usize) {
+        let Some(link) = self.links.get_mut(index) else {
+            return;
+        };
+        let bucket = bucket_of(link.known, self.finished.len());
+        link.before = match self.finished.get(bucket) {
+            Some(bucket) if bucket.marks & mark_of(link.known) != 0 => bucket.last,
+            _ => None,
+        };
+        let link = *link;
+        if link.stage == Stage::Finished {
+            self.put_after(link.known, link.before, u32::try_from(index).ok());
+        }
+    }
+
+    /// Puts an entry into its bucket of unfinished ones, if it is unfinished; all such ones that
+    /// were stored before it were put there, and those after it were not.
+    fn file_by_fingerprint(&mut self, index: usize) {
+        let Some(link) = self.links.get_mut(index) else {
+            return;
+        };
+        if link.stage != Stage::Unfinished {
+            return;
+        }
+        let bucket = bucket_of(link.fingerprint, self.unfinished.len());
+        if let Some(bucket) = self.unfinished.get_mut(bucket) {
+            link.next = mem::replace(&mut bucket.first, u32::try_from(index).ok());
+            bucket.marks |= mark_of(link.fingerprint);
+        }
+    }
+
+    /// Moves an entry to the finished ones of its bucket; all that were stored after it are finished.
+    pub fn finish(&mut self, index: usize) {
+        let Some(link) = self.links.get_mut(index) else {
+            return;
+        };
+        let link = *link;
+        let bucket = bucket_of(link.fingerprint, self.unfinished.len());
+        if let Some(bucket) = self.unfinished.get_mut(bucket) {
+            bucket.first = link.next;
+            if bucket.first.is_none() {
+                bucket.marks = 0;
+            }
+        }
+        self.unfinished_count = self.unfinished_count.wrapping_sub(1);
+        self.finished_count = self.finished_count.wrapping_add(1);
+        match self.tree_sets.add_unplaced(link.known, index) {
+            Some(next) => self.move_to(index, Stage::InTree, next),
+            None => {
+                self.move_to(index, Stage::Finished, None);
+                self.put_after(link.known, link.before, u32::try_from(index).ok());
+            }
+        }
+    }
+
+    fn move_to(&mut self, index: usize, stage: Stage, next: Option<u32>) {
+        if let Some(link) = self.links.get_mut(index) {
+            link.stage = stage;
+            link.next = next;
+        }
+    }
+
+    /// Makes the entry the one after another finished one of its bucket, or the first.
+    fn put_after(&mut self, known: u64, before: Option<u32>, place: Option<u32>) {
+        let bucket = bucket_of(known, self.finished.len());
+        let Some(bucket) = self.finished.get_mut(bucket) else {
+            return;
+        };
+        bucket.marks |= mark_of(known);
+        if bucket.last == before {
+            bucket.last = place;
+        }
+        let next = match before {
+            None => mem::replace(&mut bucket.first, place),
+            Some(before) => match self.links.get_mut(before as usize) {
+                Some(link) => mem::replace(&mut link.next, place),
+                None => None,
+            },
+        };
+        let Some(place) = place else {
+            return;
+        };
+        if let Some(link) = self.links.get_mut(place as usize) {
+            link.next = next;
+        }
+    }
+}

@@ -1,0 +1,88 @@
+//! What a state is looked up by.
+
+ghost use Rattle.std.specs.Prelude.{◌≡◌, OnOk};
+ghost use Rattle.state_index.specs.Parts.{AreParts};
+
+use crate::fingerprints::Fingerprints;
+use crate::limits::{Limits, add_limits};
+use crate::parts::{Part, take_parts};
+use stack_state::State;
+use std::alloc::{AllocError, Global};
+
+/// How many places a frame has: its registers and its slots.
+const PLACES: usize = 74;
+
+/// The parts of a state's innermost frame, fingerprints of all its frames, and their limits if
+/// these are wanted.
+#[derive(Drop)]
+pub struct Key {
+    pub parts: Vec<Part>,
+    pub fingerprints: Fingerprints,
+    pub limits: Vec<Limits>,
+    /// Whether the limits are wanted.
+    pub has_limits: bool,
+    /// Whether more than the parts is wanted.
+    pub is_sought: bool,
+}
+
+impl Key {
+    /// A key of nothing, with room for all parts of a frame.
+    pub fn new(alloc: Global) -> Result<Self, AllocError> {
+        Ok(Key {
+            parts: Vec::with_capacity(alloc, PLACES)?,
+            fingerprints: Fingerprints::of(0),
+            limits: Vec::new(alloc),
+            has_limits: false,
+            is_sought: true,
+        })
+    }
+
+    /// Becomes the key of the state.
+    pub fn take(&mut self, state: &State) -> Result<(), AllocError>
+        ensures { OnOk result (AreParts self.new.parts.items state.now.innermost) }
+    {
+        if self.is_sought {
+            self.take_callers(state)?;
+        }
+        take_parts(&mut self.parts, &state.innermost)?;
+        if self.is_sought {
+            self.add_innermost(state)?;
+        }
+        Ok(())
+    }
+
+    /// Takes fingerprints, and limits if these are wanted, of all frames but the innermost.
+    fn take_callers(&mut self, state: &State) -> Result<(), AllocError> {
+        let mut fingerprints = Fingerprints::of(state.slot);
+        let mut level = 0;
+        self.limits.clear();
+        for frame in state.callers.as_slice() {
+            fingerprints = fingerprints
+                .with_frame(frame.return_slot)
+                .with_parts_of(frame);
+            if self.has_limits {
+                take_parts(&mut self.parts, frame)?;
+                add_limits(&mut self.limits, level, &self.parts)?;
+            }
+            level = u32::wrapping_add(level, 1);
+        }
+        self.fingerprints = fingerprints;
+        Ok(())
+    }
+
+    /// Adds those of the innermost frame, whose parts were taken.
+    fn add_innermost(&mut self, state: &State) -> Result<(), AllocError>
+        ensures { self.new.parts.items ≡ self.old.parts.items }
+    {
+        if self.has_limits {
+            let level = u32::try_from(state.callers.as_slice().len()).unwrap_or(0);
+            add_limits(&mut self.limits, level, &self.parts)?;
+        }
+        let return_slot = state.innermost.return_slot;
+        self.fingerprints = self
+            .fingerprints
+            .with_frame(return_slot)
+            .with_parts(&self.parts);
+        Ok(())
+    }
+}

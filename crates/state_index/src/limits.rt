@@ -1,0 +1,273 @@
+//! Limits of what is known of places: what a search for a state that covers another one goes by.
+//!
+//! No contract rests on them: they propose states, and `covers` decides.
+
+use crate::parts::Part;
+use ranges::{Low, Wide};
+use reg_state::{Kind, Scalar};
+use stack_state::Slot;
+use std::alloc::AllocError;
+
+/// How many measures a place has.
+pub const MEASURES: usize = 9;
+
+/// What a place holds.
+#[derive(Clone, Copy, PartialEq, Eq, Drop)]
+enum Sort {
+    Number,
+    Context,
+    Stack,
+    Packet,
+    PacketEnd,
+    Map,
+    MapValue,
+    MapValueOrNull,
+    Written,
+}
+
+/// How wide what is known of a place is, by measures each of which is at least as great in a state
+/// that covers another one as it is in that one.
+#[derive(Clone, Copy, Drop)]
+pub struct Limits {
+    /// Frames come one after another, and in each of them registers before slots.
+    pub place: u32,
+    sort: Sort,
+    measures: [u64; MEASURES],
+}
+
+/// A measure of a place.
+#[derive(Clone, Copy, Drop)]
+pub struct Measure {
+    pub place: u32,
+    pub index: usize,
+}
+
+/// How wide what is known of a place is in some states: limits that enclose those of each, and
+/// beside them the least of each measure.
+#[derive(Clone, Copy, Drop)]
+pub struct Span {
+    pub limits: Limits,
+    least: [u64; MEASURES],
+}
+
+/// A number for a signed one: the greater of two has the greater number.
+fn rising(number: i64) -> u64 {
+    number.cast_unsigned() ^ 0x8000_0000_0000_0000
+}
+
+/// The measures of what may be as little as one number and as great as another.
+fn between(least: i32, greatest: i32) -> [u64; 2] {
+    [!rising(i64::from(least)), rising(i64::from(greatest))]
+}
+
+/// The measures of what must be equal.
+fn same(number: i32) -> [u64; 2] {
+    between(number, number)
+}
+
+fn of_two(first: [u64; 2], second: [u64; 2]) -> [u64; MEASURES] {
+    [first[0], first[1], second[0], second[1], 0, 0, 0, 0, 0]
+}
+
+fn of_number(numbers: &Scalar) -> [u64; MEASURES] {
+    let wide: &Wide = &numbers.range.wide;
+    let low: &Low = &numbers.range.low;
+    let halves = between(low.signed_least, low.signed_greatest);
+    [
+        !wide.least,
+        wide.greatest,
+        !rising(wide.signed_least),
+        rising(wide.signed_greatest),
+        !u64::from(low.least),
+        u64::from(low.greatest),
+        halves[0],
+        halves[1],
+        // which bits may be any: of two such sets the one that has the other is no less in either
+        // order of the bits, and the limits go by the order from the top
+        numbers.bits.mask.reverse_bits(),
+    ]
+}
+
+fn of_kind(kind: &Kind) -> Option<(Sort, [u64; MEASURES])> {
+    let found = match kind {
+        Kind::Unset => return None,
+        Kind::Number(numbers) => (Sort::Number, of_number(numbers)),
+        Kind::Context => (Sort::Context, [0; MEASURES]),
+        Kind::Stack { frame, offset } => {
+            (Sort::Stack, of_two(same(i32::from(*frame)), same(*offset)))
+        }
+        Kind::Packet {
+            fixed,
+            least,
+            greatest,
+            proved,
+            ..
+        } => {
+            let mut measures = of_two(same(*fixed), between(*least, *greatest));
+            measures[4] = !u64::from(*proved);
+            (Sort::Packet, measures)
+        }
+        Kind::PacketEnd => (Sort::PacketEnd, [0; MEASURES]),
+        Kind::Map { index } => (Sort::Map, of_two(same(i32::from(*index)), [0; 2])),
+        Kind::MapValue {
+            index,
+            least,
+            greatest,
+        } => {
+            let map = same(i32::from(*index));
+            (Sort::MapValue, of_two(map, between(*least, *greatest)))
+        }
+        Kind::MapValueOrNull { index, .. } => {
+            let map = same(i32::from(*index));
+            (Sort::MapValueOrNull, of_two(map, [0; 2]))
+        }
+    };
+    Some(found)
+}
+
+/// A measure for each byte: 1 where it need not be written.
+fn of_marks(marks: u8) -> [u64; MEASURES] {
+    let free = u64::from(!marks);
+    [
+        free & 1,
+        free >> 1 & 1,
+        free >> 2 & 1,
+        free >> 3 & 1,
+        free >> 4 & 1,
+        free >> 5 & 1,
+        free >> 6 & 1,
+        free >> 7 & 1,
+        1,
+    ]
+}
+
+impl Limits {
+    /// Of a part of a frame, the outermost one being at level 0. There are none where all is
+    /// allowed.
+    fn of(level: u32, part: &Part) -> Option<Self> {
+        let (place, (sort, measures)) = match part {
+            Part::InRegister(place, kind) => (u32::from(*place), of_kind(kind)?),
+            Part::InSlot(place, Slot::Written(marks)) => {
+                (16 + u32::from(*place), (Sort::Written, of_marks(*marks)))
+            }
+            Part::InSlot(place, Slot::Spilled(kind)) => (16 + u32::from(*place), of_kind(kind)?),
+        };
+        Some(Limits {
+            place: level.wrapping_mul(512).wrapping_add(place),
+            sort,
+            measures,
+        })
+    }
+
+    /// Whether all that is measured here may be in a state that covers one where the other limits
+    /// are: a no says that it is not.
+    fn may_enclose(&self, other: &Limits) -> bool {
+        if self.sort != other.sort {
+            return self.sort == Sort::Written;
+        }
+        for index in 0..MEASURES {
+            if self.measures[index] < other.measures[index] {
+                return false;
+            }
+        }
+        true
+    }
+}
+
+impl Span {
+    /// Of one state.
+    pub fn of(limits: &Limits) -> Self {
+        Span {
+            limits: *limits,
+            least: limits.measures,
+        }
+    }
+
+    /// Takes in the limits of one more state, and says whether those of all still say anything.
+    fn widen(&mut self, other: &Limits) -> bool {
+        let sort = self.limits.sort;
+        if sort != other.sort {
+            return false;
+        }
+        for index in 0..MEASURES {
+            let measure = other.measures[index];
+            self.least[index] = self.least[index].min(measure);
+            self.limits.measures[index] = self.limits.measures[index].max(measure);
+        }
+        sort != Sort::Written || self.limits.measures != [1; MEASURES]
+    }
+
+    /// Whether the states differ in a measure.
+    pub fn differs(&self, index: usize) -> bool {
+        self.least.get(index) != self.limits.measures.get(index)
+    }
+}
+
+/// Puts the limits of a frame's parts after those of the frames around it.
+pub fn add_limits(limits: &mut Vec<Limits>, level: u32, parts: &[Part]) -> Result<(), AllocError> {
+    for part in parts {
+        if let Some(found) = Limits::of(level, part) {
+            limits.push(found)?;
+        }
+    }
+    Ok(())
+}
+
+/// The limits from a place on; they stand in the order of their places.
+pub fn from_place(limits: &[Limits], place: u32) -> &[Limits] {
+    let mut rest = limits;
+    for _skipped in 0..limits.len() {
+        match rest {
+            [first, others @ ..] if first.place < place => rest = others,
+            _ => return rest,
+        }
+    }
+    rest
+}
+
+/// Whether a state with these limits may cover one with others: a no says that it does not.
+pub fn may_enclose(limits: &[Limits], others: &[Limits]) -> bool {
+    let mut rest = others;
+    for own in limits {
+        rest = from_place(rest, own.place);
+        match rest.first() {
+            Some(other) if other.place == own.place && own.may_enclose(other) => {}
+            _ => return false,
+        }
+    }
+    true
+}
+
+/// A measure of a place, from which on these are the limits; the greatest number where nothing is
+/// known of it.
+pub fn measured(limits: &[Limits], measure: Measure) -> u64 {
+    match limits.first() {
+        Some(own) if own.place == measure.place => {
+            own.measures.get(measure.index).copied().unwrap_or(0)
+        }
+        _ => u64::MAX,
+    }
+}
+
+/// Widens spans by the limits of one more state, and leaves out places where they say nothing.
+pub fn widen(spans: &mut Vec<Span>, others: &[Limits]) {
+    let mut rest = others;
+    let mut kept = 0;
+    for index in 0..spans.len() {
+        let Some(own) = spans.get(index) else {
+            break;
+        };
+        let mut wider = *own;
+        let place = wider.limits.place;
+        rest = from_place(rest, place);
+        if let Some(other) = rest.first() {
+            if other.place == place && wider.widen(other) {
+                if let Some(room) = spans.get_mut(kept) {
+                    *room = wider;
+                }
+                kept = kept.saturating_add(1);
+            }
+        }
+    }
+    spans.truncate(kept);
+}

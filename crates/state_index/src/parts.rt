@@ -1,0 +1,162 @@
+//! What is known of a frame, place by place.
+
+ghost use Rattle.std.specs.Prelude.{◌≡◌, ◌++◌, OnOk, IsTrue, length, slice_set, option_to_list};
+ghost use Rattle.state_index.specs.Parts.{register_part, slot_part, register_parts, slot_parts};
+ghost use Rattle.state_index.specs.Parts.{AreParts, written, IsPartOf};
+
+use reg_state::{Domain, Kind};
+use stack_state::{AbstractFrame, Slot};
+use std::alloc::AllocError;
+
+/// What is known of one place of a frame.
+#[derive(Clone, Copy, Drop)]
+pub enum Part {
+    /// Of a register, by its number.
+    InRegister(u8, Kind),
+    /// Of a slot of the stack, by its place.
+    InSlot(u8, Slot),
+}
+
+// ---- from a frame
+
+fn push_register(parts: &mut Vec<Part>, place: u8, kind: &Kind) -> Result<(), AllocError>
+    ensures { OnOk result (parts.new.items
+        ≡ parts.old.items ++ option_to_list (register_part place kind.now)) }
+{
+    match kind {
+        Kind::Unset => {}
+        kind => parts.push(Part::InRegister(place, *kind))?,
+    }
+    Ok(())
+}
+
+fn push_slot(parts: &mut Vec<Part>, place: u8, slot: &Slot) -> Result<(), AllocError>
+    ensures { OnOk result (parts.new.items
+        ≡ parts.old.items ++ option_to_list (slot_part place slot.now)) }
+{
+    match slot {
+        Slot::Written(marks) => {
+            if *marks != 0 {
+                parts.push(Part::InSlot(place, *slot))?;
+            }
+        }
+        Slot::Spilled(_) => parts.push(Part::InSlot(place, *slot))?,
+    }
+    Ok(())
+}
+
+/// Puts the registers that are set after the parts.
+fn push_registers(parts: &mut Vec<Part>, registers: &[Kind; 10]) -> Result<(), AllocError>
+    ensures pushed { OnOk result (parts.new.items
+        ≡ parts.old.items ++ register_parts 0 registers.now) }
+    ensures ten { length registers.now ≡ 10 }
+{
+    for index in 0..10 {
+        push_register(parts, index as u8, &registers[index])?;
+    }
+    Ok(())
+}
+
+/// Puts the slots of which something is known after the parts.
+fn push_slots(parts: &mut Vec<Part>, slots: &[Slot; 64]) -> Result<(), AllocError>
+    ensures pushed { OnOk result (parts.new.items ≡ parts.old.items ++ slot_parts 0 slots.now) }
+    ensures wide { length slots.now ≡ 64 }
+{
+    for index in 0..64 {
+        push_slot(parts, index as u8, &slots[index])?;
+    }
+    Ok(())
+}
+
+/// Becomes the parts of the frame.
+pub fn take_parts(parts: &mut Vec<Part>, frame: &AbstractFrame) -> Result<(), AllocError>
+    ensures { OnOk result (AreParts parts.new.items frame.now) }
+{
+    parts.clear();
+    push_registers(parts, &frame.registers)?;
+    push_slots(parts, &frame.stack.slots)?;
+    Ok(())
+}
+
+// ---- into a frame
+
+fn set_register(registers: &mut [Kind; 10], place: u8, kind: Kind)
+    ensures { registers.new ≡ slice_set registers.old place kind }
+{
+    let place = usize::from(place);
+    if place >= 10 {
+        return;
+    }
+    registers[place] = kind;
+}
+
+fn set_slot(slots: &mut [Slot; 64], place: u8, slot: Slot)
+    ensures { slots.new ≡ slice_set slots.old place slot }
+{
+    let place = usize::from(place);
+    if place >= 64 {
+        return;
+    }
+    slots[place] = slot;
+}
+
+/// Writes a part where it belongs.
+pub fn write(frame: &mut AbstractFrame, part: &Part)
+    ensures { frame.new ≡ written frame.old part.now }
+{
+    match *part {
+        Part::InRegister(place, kind) => set_register(&mut frame.registers, place, kind),
+        Part::InSlot(place, slot) => set_slot(&mut frame.stack.slots, place, slot),
+    }
+}
+
+// ---- a quick test
+
+/// Whether a kind may allow all that the other one does: a no says that it does not.
+fn may_allow(kind: &Kind, other: &Kind) -> bool
+    ensures { kind.now ≡ other.now → IsTrue result }
+{
+    match kind {
+        Kind::Unset => true,
+        Kind::Number(numbers) => match other {
+            Kind::Number(others) => numbers.range.covers(others.range),
+            _ => false,
+        },
+        _ => !matches!(other, Kind::Unset | Kind::Number(_)),
+    }
+}
+
+/// The same of a slot and what may be there.
+fn may_hold(slot: &Slot, other: &Slot) -> bool
+    ensures { slot.now ≡ other.now → IsTrue result }
+{
+    match slot {
+        Slot::Written(_) => true,
+        Slot::Spilled(kind) => match other {
+            Slot::Spilled(known) => may_allow(kind, known),
+            Slot::Written(_) => false,
+        },
+    }
+}
+
+/// Whether what is known of a place may cover what a frame knows of it: a no says that it does not.
+pub fn may_cover_place(part: &Part, frame: &AbstractFrame) -> bool
+    ensures { IsPartOf frame.now part.now → IsTrue result }
+{
+    match *part {
+        Part::InRegister(place, kind) => {
+            let place = usize::from(place);
+            if place >= 10 {
+                return true;
+            }
+            may_allow(&kind, &frame.registers[place])
+        }
+        Part::InSlot(place, slot) => {
+            let place = usize::from(place);
+            if place >= 64 {
+                return true;
+            }
+            may_hold(&slot, &frame.stack.slots[place])
+        }
+    }
+}

@@ -1,0 +1,105 @@
+//! Shapes of states: which bits of the numbers in their registers and slots are known.
+//!
+//! A state covers another one only where the other knows each bit that it knows itself, and with
+//! the same value, and where the exits of both lead to the same slots. So stored states are told
+//! apart by their shape, and by the bits that are known in it and those slots.
+
+use crate::fingerprints::mixed;
+use crate::keys::Key;
+use crate::parts::Part;
+use reg_state::{Kind, Scalar};
+use stack_state::Slot;
+use std::alloc::{AllocError, Global};
+
+/// A register or a slot that is known to hold a number.
+#[derive(Clone, Copy, Drop)]
+struct Known {
+    /// Registers come first, then slots.
+    place: u64,
+    /// The bits that are not known.
+    unknown: u64,
+}
+
+/// The numbers in the innermost frame of a state, in the order of their places.
+#[derive(Drop)]
+pub struct Shape {
+    numbers: Vec<Known>,
+}
+
+/// The place and the number of a part, if it is known to be one.
+fn number_in(part: &Part) -> Option<(u64, &Scalar)> {
+    match part {
+        Part::InRegister(place, Kind::Number(numbers)) => Some((u64::from(*place), numbers)),
+        Part::InSlot(place, Slot::Spilled(Kind::Number(numbers))) => {
+            Some((16 + u64::from(*place), numbers))
+        }
+        _ => None,
+    }
+}
+
+/// A shape that stored states have, and the next one of its slot.
+#[derive(Drop)]
+pub struct ShapeLink {
+    pub shape: Shape,
+    pub next: Option<u32>,
+}
+
+impl Shape {
+    /// The shape of a state.
+    pub fn of(alloc: Global, key: &Key) -> Result<Self, AllocError> {
+        let mut known = Vec::new(alloc);
+        for part in &key.parts {
+            if let Some((place, numbers)) = number_in(part) {
+                let unknown = numbers.bits.mask;
+                known.push(Known { place, unknown })?;
+            }
+        }
+        Ok(Shape { numbers: known })
+    }
+
+    /// The shape in which nothing is known, which every state has.
+    pub fn blank(alloc: Global) -> Self {
+        Shape {
+            numbers: Vec::new(alloc),
+        }
+    }
+
+    /// Whether it is the shape of a state.
+    pub fn is_of(&self, key: &Key) -> bool {
+        let mut rest = self.numbers.as_slice();
+        for part in &key.parts {
+            if let Some((place, numbers)) = number_in(part) {
+                let [first, others @ ..] = rest else {
+                    return false;
+                };
+                if first.place != place || first.unknown != numbers.bits.mask {
+                    return false;
+                }
+                rest = others;
+            }
+        }
+        rest.is_empty()
+    }
+
+    /// A fingerprint of the bits that are known in the shape, as they are in a state, and of the
+    /// slots to which its frames' exits lead. There is none where the state does not know them all.
+    pub fn known_of(&self, key: &Key) -> Option<u64> {
+        let mut rest = self.numbers.as_slice();
+        let mut print = key.fingerprints.returns;
+        for part in &key.parts {
+            let [first, others @ ..] = rest else {
+                return Some(print);
+            };
+            if let Some((place, numbers)) = number_in(part) {
+                if first.place == place {
+                    if numbers.bits.mask & !first.unknown != 0 {
+                        return None;
+                    }
+                    print = mixed(print, numbers.bits.value & !first.unknown);
+                    rest = others;
+                }
+            }
+        }
+        if rest.is_empty() { Some(print) } else { None }
+    }
+}

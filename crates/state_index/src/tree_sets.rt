@@ -1,0 +1,191 @@
+//! Sets of trees: each has the trees of the finished entries of one shape in which the same is known.
+//!
+//! A set is made where many entries were scanned in vain.
+
+use crate::buckets::bucket_of;
+use crate::trees::Tree;
+use std::alloc::{AllocError, Global};
+use std::mem;
+
+/// Entries scanned one by one before they are put into a tree.
+pub const LONG_SCAN: usize = 32;
+
+/// How often the entries without a tree are scanned before they are put into one.
+const SCANS: usize = 16;
+
+/// How many buckets of sets there are at first.
+const BUCKETS: usize = 16;
+
+/// The trees of the finished entries of a shape in which the same is known.
+#[derive(Drop)]
+struct TreeSet {
+    known: u64,
+    /// The next one of its bucket.
+    next: Option<u32>,
+    /// The larger ones first. While there is none, its entries are in a bucket of the index.
+    trees: Vec<Tree>,
+    /// The entries that are in no tree yet, once there is one, and how many they are.
+    unplaced: Option<u32>,
+    unplaced_count: usize,
+    /// How many entries were scanned since the last tree was made.
+    scanned: usize,
+}
+
+/// All sets of trees.
+#[derive(Drop)]
+pub struct TreeSets {
+    sets: Vec<TreeSet>,
+    /// By what is known: a power of two.
+    buckets: Vec<Option<u32>>,
+}
+
+impl TreeSets {
+    pub fn new(alloc: Global) -> Self {
+        TreeSets {
+            sets: Vec::new(alloc),
+            buckets: Vec::new(alloc),
+        }
+    }
+
+    pub fn is_empty(&self) -> bool {
+        self.sets.is_empty()
+    }
+
+    fn find(&self, known: u64) -> Option<usize> {
+        let mut next = self.buckets.get(bucket_of(known, self.buckets.len()))?;
+        for _tried in 0..self.sets.len() {
+            let place = (*next)? as usize;
+            let set = self.sets.get(place)?;
+            if set.known == known {
+                return Some(place);
+            }
+            next = &set.next;
+        }
+        None
+    }
+
+    /// The trees of what is known, and the entries that are in none of them.
+    pub fn trees(&self, known: u64) -> (&[Tree], Option<u32>) {
+        if self.sets.is_empty() {
+            return (&[], None);
+        }
+        match self.find(known) {
+            Some(place) => match self.sets.get(place) {
+                Some(set) => (&set.trees, set.unplaced),
+                None => (&[], None),
+            },
+            None => (&[], None),
+        }
+    }
+
+    /// Adds a finished entry of which this is known to its set, if that has trees: returns the
+    /// unplaced one after it.
+    pub fn add_unplaced(&mut self, known: u64, place: usize) -> Option<Option<u32>> {
+        if self.sets.is_empty() {
+            return None;
+        }
+        let number = self.find(known)?;
+        let set = self.sets.get_mut(number)?;
+        if set.trees.is_empty() {
+            return None;
+        }
+        set.unplaced_count = set.unplaced_count.saturating_add(1);
+        Some(mem::replace(&mut set.unplaced, u32::try_from(place).ok()))
+    }
+
+    /// Notes that entries were scanned, and returns whether a tree is to be made.
+    pub fn note_scan(
+        &mut self,
+        alloc: Global,
+        known: u64,
+        count: usize,
+    ) -> Result<bool, AllocError> {
+        let number = match self.find(known) {
+            Some(number) => number,
+            None => self.add(alloc, known)?,
+        };
+        let Some(set) = self.sets.get_mut(number) else {
+            return Ok(false);
+        };
+        set.scanned = set.scanned.saturating_add(count);
+        let unplaced = match set.trees.is_empty() {
+            true => count,
+            false => set.unplaced_count,
+        };
+        Ok(unplaced >= LONG_SCAN && set.scanned / SCANS >= unplaced)
+    }
+
+    fn add(&mut self, alloc: Global, known: u64) -> Result<usize, AllocError> {
+        self.spread(alloc)?;
+        let number = self.sets.len();
+        let bucket = bucket_of(known, self.buckets.len());
+        let next = match self.buckets.get_mut(bucket) {
+            Some(first) => mem::replace(first, u32::try_from(number).ok()),
+            None => None,
+        };
+        self.sets.push(TreeSet {
+            known,
+            next,
+            trees: Vec::new(alloc),
+            unplaced: None,
+            unplaced_count: 0,
+            scanned: 0,
+        })?;
+        Ok(number)
+    }
+
+    /// Spreads the sets over more buckets, if there are too many for these.
+    fn spread(&mut self, alloc: Global) -> Result<(), AllocError> {
+        if self.sets.len() < self.buckets.len() {
+            return Ok(());
+        }
+        let buckets = self.buckets.len().saturating_mul(2).max(BUCKETS);
+        self.buckets = vec![in alloc; None; buckets]?;
+        for number in 0..self.sets.len() {
+            if let Some(set) = self.sets.get_mut(number) {
+                if let Some(first) = self.buckets.get_mut(bucket_of(set.known, buckets)) {
+                    set.next = mem::replace(first, u32::try_from(number).ok());
+                }
+            }
+        }
+        Ok(())
+    }
+
+    /// Adds those of the smallest trees to entries of which this is known, three trees at a time,
+    /// while these are not much larger; returns how many trees are left.
+    pub fn gather(&self, known: u64, places: &mut Vec<u32>) -> Result<usize, AllocError> {
+        let (trees, _) = self.trees(known);
+        let mut left = trees.len();
+        for _group in 0..trees.len() {
+            let Some(start) = left.checked_sub(3) else {
+                break;
+            };
+            let group = trees.get(start..left).unwrap_or(&[]);
+            match group.first() {
+                Some(tree) if tree.places().len() / 2 <= places.len() => {}
+                _ => break,
+            }
+            for tree in group {
+                places.extend_from_slice(tree.places())?;
+            }
+            left = start;
+        }
+        Ok(left)
+    }
+
+    /// Puts a tree after the first `left` of the others: no entry is without one then.
+    pub fn add_tree(&mut self, known: u64, left: usize, tree: Tree) -> Result<(), AllocError> {
+        let Some(number) = self.find(known) else {
+            return Ok(());
+        };
+        let Some(set) = self.sets.get_mut(number) else {
+            return Ok(());
+        };
+        set.trees.truncate(left);
+        set.trees.push(tree)?;
+        set.unplaced = None;
+        set.unplaced_count = 0;
+        set.scanned = 0;
+        Ok(())
+    }
+}

@@ -1,0 +1,167 @@
+//! Trees of stored states by their limits: which of them may cover a state.
+//!
+//! No contract rests on them: they propose states, and `covers` decides.
+
+use crate::efforts::Effort;
+use crate::limits::{Limits, Measure, may_enclose};
+use crate::orders::Order;
+use crate::rows::{Rows, WIDTH, put_measured};
+use std::alloc::{AllocError, Global};
+
+/// How many rows of a level a row of the next one stands for: 2 to the power `FAN_BITS`.
+pub const FAN: usize = 4;
+
+const FAN_BITS: u32 = 2;
+
+/// The words that the rows of entries which cover a state reach.
+pub type Sought = [u64; WIDTH];
+
+/// Entries, those with like limits beside one another.
+///
+/// A row has a word for the place of an entry, which is greater where it was stored earlier, and
+/// one for each measure in which entries differ. It may cover a state only where each of its words
+/// is at least as great as the state's.
+#[derive(Drop)]
+pub struct Tree {
+    /// Limits that enclose those of all entries.
+    common: Vec<Limits>,
+    measures: Vec<Measure>,
+    places: Vec<u32>,
+    /// The lowest level has a row for each entry. A row of a further one has the greatest words of
+    /// the rows that it stands for.
+    levels: Vec<Vec<u64>>,
+}
+
+/// How many words a row has.
+fn width(measures: &[Measure]) -> usize {
+    measures.len().saturating_add(1)
+}
+
+/// A row of a level.
+fn row(level: &[u64], width: usize, number: usize) -> Option<&[u64]> {
+    let rest = level.get(number.saturating_mul(width)..)?;
+    rest.get(..width)
+}
+
+/// Whether each word of a row is at least as great as the one that is sought.
+fn reaches(row: &[u64], sought: &[u64]) -> bool {
+    for (word, least) in row.iter().zip(sought) {
+        if word < least {
+            return false;
+        }
+    }
+    true
+}
+
+/// The greatest words of up to `FAN` rows each.
+fn level_above(alloc: Global, level: &[u64], width: usize) -> Result<Vec<u64>, AllocError> {
+    let mut above = Vec::new(alloc);
+    let rows = level.len().checked_div(width).unwrap_or(0);
+    for group in 0..rows.saturating_add(FAN - 1) / FAN {
+        let first = group.saturating_mul(FAN);
+        for column in 0..width {
+            let mut greatest: u64 = 0;
+            for number in first..first.saturating_add(FAN) {
+                if let Some(word) = level.get(number.saturating_mul(width).saturating_add(column)) {
+                    greatest = greatest.max(*word);
+                }
+            }
+            above.push(greatest)?;
+        }
+    }
+    Ok(above)
+}
+
+/// The rows of entries, and the levels above them.
+fn levels_over(alloc: Global, rows: Vec<u64>, width: usize) -> Result<Vec<Vec<u64>>, AllocError> {
+    let mut nodes = rows;
+    let mut levels = Vec::new(alloc);
+    for _level in 0..32 {
+        let above = level_above(alloc, &nodes, width)?;
+        levels.push(nodes)?;
+        nodes = above;
+        if nodes.len() <= FAN.saturating_mul(width) {
+            break;
+        }
+    }
+    levels.push(nodes)?;
+    Ok(levels)
+}
+
+impl Tree {
+    /// A tree of the entries that have these rows.
+    pub fn of(alloc: Global, rows: Rows) -> Result<Self, AllocError> {
+        let width = width(&rows.measures);
+        let count = rows.places.len();
+        let mut order = Order::of(alloc, count)?;
+        order.arrange(&rows.words, width);
+        let mut places = Vec::with_capacity(alloc, count)?;
+        let mut nodes = Vec::with_capacity(alloc, rows.words.len())?;
+        for place in 0..count {
+            let number = order.number(place).unwrap_or(0);
+            if let Some(place) = rows.places.get(number) {
+                places.push(*place)?;
+                nodes.extend_from_slice(row(&rows.words, width, number).unwrap_or(&[]))?;
+            }
+        }
+        let levels = levels_over(alloc, nodes, width)?;
+        Ok(Tree {
+            common: rows.common,
+            measures: rows.measures,
+            places,
+            levels,
+        })
+    }
+
+    /// The places of its entries.
+    pub fn places(&self) -> &[u32] {
+        &self.places
+    }
+
+    /// The words that are sought for a state with these limits, if an entry may cover it.
+    pub fn sought(&self, limits: &[Limits]) -> Option<Sought> {
+        if !may_enclose(&self.common, limits) {
+            return None;
+        }
+        let mut sought = [0; WIDTH];
+        put_measured(&mut sought, &self.measures, limits);
+        Some(sought)
+    }
+
+    /// The place of an entry.
+    pub fn place(&self, number: usize) -> Option<usize> {
+        let place = *self.places.get(number)?;
+        Some(place as usize)
+    }
+
+    /// The first entry from one on that may cover a state, by the words of its row.
+    pub fn next_from(&self, number: usize, sought: &Sought, effort: &mut Effort) -> Option<usize> {
+        let mut number = number;
+        for _tried in 0..self.places.len() {
+            if number >= self.places.len() {
+                return None;
+            }
+            match self.barred_from(number, sought, effort) {
+                Some(next) => number = next,
+                None => return Some(number),
+            }
+        }
+        None
+    }
+
+    /// Where a row that begins at the entry does not reach the words, the entry after it.
+    fn barred_from(&self, number: usize, sought: &Sought, effort: &mut Effort) -> Option<usize> {
+        for level in (0..self.levels.len()).rev() {
+            let shift = FAN_BITS.wrapping_mul(u32::try_from(level).unwrap_or(0));
+            let group = number.wrapping_shr(shift);
+            if group.wrapping_shl(shift) == number {
+                let row = row(self.levels.get(level)?, width(&self.measures), group)?;
+                effort.spend_test();
+                if !reaches(row, sought) {
+                    return Some(group.wrapping_add(1).wrapping_shl(shift));
+                }
+            }
+        }
+        None
+    }
+}

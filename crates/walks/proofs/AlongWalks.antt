@@ -1,0 +1,126 @@
+-- A walk goes along a run.
+use Rattle.std.proofs.Common.{◌≡◌, ◌+◌, ℕ, zero, suc, arith, refl, sym, ◌∙◌, subst, inl, inr, ◌⊎◌}
+use Rattle.std.specs.Prelude.{◌≢◌}
+use Rattle.stack_state.specs.declared.slots.Slot.TheVariants.{Written}
+use Rattle.std.proofs.lemmas.List.{length-replicate}
+use Rattle.isa_model.specs.declared.registers.Reg.{Reg}
+use Rattle.isa_model.specs.declared.registers.Reg.TheVariants.{R1, R10}
+use Rattle.isa_model.specs.Code.Registers.{reg_number}
+use Rattle.isa_model.specs.Code.Instructions.{Program}
+use Rattle.isa_model.specs.Machine.States as Machine
+use Rattle.isa_model.specs.Machine.States.{reg, set_reg, value_at, new_frame}
+use Rattle.isa_model.specs.Machine.Steps.{step}
+use Rattle.isa_model.specs.Running.Runs.{start_state, start_regs, count_values}
+use Rattle.isa_model.specs.Running.RunLaws.{progress-zero}
+use Rattle.isa_model.specs.MustAccept.Determined.{IsDetermined}
+use Rattle.isa_model.specs.MustAccept.SlotLaws.{Slots, Slots-start}
+use Rattle.stack_state.specs.declared.states.State.{State}
+use Rattle.stack_state.specs.Places.{kind_of}
+use Rattle.stack_state.specs.Starts.{start}
+use Rattle.stack_state.specs.Slots.{kind_in}
+use Rattle.branch_refine.specs.Refining.{IsJust}
+use Rattle.transfer.specs.declared.Ways.{Ways}
+use Rattle.transfer.specs.declared.Ways.TheVariants as ways
+use Rattle.walks.specs.Walks.{IsAmong, StepsTo, Leads}
+use Rattle.control_flow.specs.Liveness.{IsLive, IsSlotLive, IsHomeLive}
+use Rattle.walks.specs.Forgetting.{Forgets}
+use Rattle.walks.specs.Counts.{AreForgotten, StepsInto}
+use Rattle.walks.proofs.Forgotten.{Forgets-slot, Forgets-depth, Forgets-live, Forgets-slot_live}
+use Rattle.walks.proofs.Beside.{HoldsIf, Mirrored, IsNoPointer, first, Along}
+use Rattle.walks.proofs.Along.{NextAlong, step_along}
+
+-- slots that are live are known as before
+kept_slots : (p : Program) (a b : State) (t : Machine.State) → Forgets p a b
+    → Slots (HoldsIf (λ h. IsHomeLive p h a.slot) a) t
+    → Slots (HoldsIf (λ h. IsHomeLive p h b.slot) b) t
+kept_slots p a b t f h = record {
+  frame = h.frame;
+  only = h.only;
+  pointer = h.pointer;
+  wide = h.wide;
+  each = λ j below. elim (h.each j below) [
+    | inl unset ↦ inl unset
+    | inr known ↦ inr (
+      known.0,
+      known.1,
+      known.2,
+      λ live.
+          let before : IsSlotLive p j a.slot = subst (λ n. IsSlotLive p j n) (Forgets-slot p a b f) live in
+          subst (λ x. IsJust (kind_in x) known.0) (sym (Forgets-slot_live p a b j f below before)) (known.3 before),
+    )
+  ];
+}
+
+-- what is forgotten is dead, so the state stays beside the run's
+pub Along-forgets : (p : Program) (steps : ℕ) (d : IsDetermined p steps) (k : ℕ) (a b : State) (t : Machine.State) → Forgets p a b
+    → Along p steps d k a t → Along p steps d k b t
+Along-forgets p steps d k a b t f along =
+    let m = along.mirrors in
+    record {
+      reached = along.reached;
+      mirrors = record {
+        slot = m.slot ∙ sym (Forgets-slot p a b f);
+        one = Forgets-depth p a b f ∙ m.one;
+        room = f.registers.ten;
+        wide = m.wide;
+        regs = λ r own live.
+            let before : IsLive p r a.slot = subst (λ n. IsLive p r n) (Forgets-slot p a b f) live in
+            subst (Mirrored (reg t r)) (sym (Forgets-live p a b r f own before)) (m.regs r own before);
+        cells = f.slots.all;
+        stack = kept_slots p a b t f m.stack;
+      };
+      numbers = along.numbers;
+    }
+
+pub into_along : (p : Program) (steps : ℕ) (d : IsDetermined p steps) (k : ℕ) (s : State) (t : Machine.State) (w : Ways) (a b : State)
+    → Along p steps d k s t → StepsInto p s w a b → NextAlong p steps d k w a
+into_along p steps d k s t w a b along step =
+    of w a b step.next step.aside step.forgets (step_along p steps d k s t step.insn w step.next step.aside along step.here step.makes) where
+      of : (w : Ways) (a b x y : State) → AreForgotten p w x y a b → NextAlong p steps d k w x → NextAlong p steps d k w a
+      of ways.None a b x y f next = tt
+      of ways.One a b x y f next = (next.0, Along-forgets p steps d (suc k) x a next.0 f next.1)
+      of ways.Two a b x y f next = absurd next
+
+-- a walk goes along the run
+pub to_along : (p : Program) (steps : ℕ) (d : IsDetermined p steps) (k : ℕ) (s c : State) (t : Machine.State)
+    → Along p steps d k s t → StepsTo p s c → (u : Machine.State) × Along p steps d (suc k) c u
+to_along p steps d k s c t along step =
+    of step.taken step.first step.other (step_along p steps d k s t step.insn step.taken step.first step.other along step.here step.makes) step.among where
+      of : (w : Ways) (a b : State) → NextAlong p steps d k w a → IsAmong w a b step.next
+          → (u : Machine.State) × Along p steps d (suc k) c u
+      of ways.None a b next among = absurd among
+      of ways.One a b next among =
+          (next.0, Along-forgets p steps d (suc k) step.next c next.0 step.forgets (subst (λ x. Along p steps d (suc k) x next.0) (sym among) next.1))
+      of ways.Two a b next among = absurd next
+
+pub walk_along : (p : Program) (steps : ℕ) (d : IsDetermined p steps) (n k : ℕ) (a b : State) (t : Machine.State)
+    → Along p steps d k a t → Leads p n a b → (u : Machine.State) × Along p steps d (k + n) b u
+unfolding Leads
+walk_along p steps d zero k a b t along h = (t, subst (λ j. Along p steps d j b t) (omega arith) (subst (λ x. Along p steps d k x t) (sym h) along))
+walk_along p steps d (suc n) k a b t along h =
+    let (u, next) = to_along p steps d k a h.0 t along h.1 in
+    let (v, there) = walk_along p steps d n (suc k) h.0 b u next h.2 in
+    (v, subst (λ j. Along p steps d j b v) (omega arith) there)
+
+start_mirrored : (serial : ℕ) (r : Reg) → r ≢ R10
+    → Mirrored (value_at (start_regs serial) (reg_number r)) (kind_of start r)
+start_mirrored serial R10 own = absurd (own refl)
+start_mirrored serial r own = tt
+
+start_number : (serial : ℕ) (r : Reg) → r ≢ R10 → IsNoPointer (value_at (start_regs serial) (reg_number r)) ⊎ (r ≡ R1)
+start_number serial R10 own = absurd (own refl)
+start_number serial R1 own = inr refl
+start_number serial r own = inl tt
+
+pub start_along : (p : Program) (steps : ℕ) (d : IsDetermined p steps) → Along p steps d 0 start (first p steps d)
+unfolding start start_state new_frame
+start_along p steps d =
+    let serial = count_values d.run.contents in
+    record {
+      reached = progress-zero p d.run.clock (first p steps d);
+      mirrors = record { slot = refl; one = refl; room = refl; wide = refl; regs = λ r own live. start_mirrored serial r own; cells = length-replicate 64 (Written 0); stack = Slots-start (HoldsIf (λ h. IsHomeLive p h start.slot) start) d.run.head d.run.packet d.run.contents };
+      numbers = λ r own. elim (start_number serial r own) [
+        | inl plain ↦ inl plain
+        | inr argument ↦ inr (argument, λ w. let before = w.before in absurd (omega (arith, before)))
+      ];
+    }

@@ -1,0 +1,281 @@
+-- What forgetting dead registers and slots of the stack does to a state: it means more, and all
+-- else stays.
+use Rattle.std.proofs.Common.{◌≡◌, ◌≢◌, ◌<◌, ◌≤◌, ◌+◌, ◌∷◌, ◌++◌, [], ℕ, List, length, get_or, set, refl, sym, ap, ◌∙◌, subst, arith, inl, inr}
+use Rattle.std.proofs.lemmas.Bool.{cases_lt, cases_eq}
+use Rattle.std.proofs.lemmas.Nat.Bits.{bit_at-zero}
+use Rattle.std.proofs.lemmas.List.{map-append, length-set, get_or-set_same, get_or-set_other, get_or_past}
+use Rattle.isa_model.specs.declared.registers.Reg.{Reg}
+use Rattle.isa_model.specs.declared.registers.Reg.TheVariants.{R10}
+use Rattle.isa_model.specs.declared.values.Value.{Value}
+use Rattle.isa_model.specs.declared.values.Cell.{Cell}
+use Rattle.isa_model.specs.Code.Registers.{reg_number}
+use Rattle.isa_model.specs.Code.Instructions.{Program}
+use Rattle.isa_model.specs.Machine.States as Machine
+use Rattle.isa_model.specs.Machine.Steps.{step}
+use Rattle.isa_model.specs.Machine.Successors.{Follows}
+use Rattle.isa_model.specs.Running.Ends.{After-weaker}
+use Rattle.reg_state.specs.declared.kinds.Kind.{Kind}
+use Rattle.reg_state.specs.declared.kinds.Kind.TheVariants.{Unset}
+use Rattle.reg_state.specs.Kinds.{Assigned, Allows}
+use Rattle.stack_state.specs.declared.slots.Slot.{Slot}
+use Rattle.stack_state.specs.declared.slots.Slot.TheVariants.{Written}
+use Rattle.stack_state.specs.Slots.{slot_at}
+use Rattle.stack_state.specs.StackMeaning.{SlotMeans}
+use Rattle.stack_state.specs.declared.states.State.{State}
+use Rattle.stack_state.specs.Meaning.{frame_of, depth, registers_of, kind_at, no_frame, Means, Covers}
+use Rattle.stack_state.specs.MeaningLaws.{frame_of-caller, frame_of-innermost, FrameKeeps, MeansBy-change}
+use Rattle.stack_state.specs.Places.{kind_of}
+use Rattle.stack_state.specs.PlaceLaws.{kind_of-registers, same_number}
+use Rattle.control_flow.specs.Flows.{IsJoin}
+use Rattle.control_flow.specs.Liveness.{IsLive, IsSlotLive}
+use Rattle.control_flow.specs.RegisterLaws.{numbered}
+use Rattle.transfer.specs.declared.Ways.{Ways}
+use Rattle.transfer.specs.declared.Ways.TheVariants as ways
+use Rattle.transfer.specs.Leading.{LeadsTo, InSome}
+use Rattle.transfer.specs.Following.{returns_of, GoesOnTo}
+use Rattle.walks.specs.Forgetting.{IsKept, AreKept, IsSlotKept, AreSlotsKept, slots_in, Forgets}
+use Rattle.walks.specs.Counts.{AreForgotten}
+use Rattle.walks.proofs.OnNumbers.{below_ten}
+
+-- ---- what stays
+
+-- the state with other registers, and another stack of its innermost frame
+abbrev with_kept : State → List Kind → List Slot → State
+with_kept a ks slots = record a { innermost = record a.innermost { registers = ks; stack = record { slots = slots } } }
+
+pub Forgets-slot : (p : Program) (a b : State) → Forgets p a b → b.slot ≡ a.slot
+Forgets-slot p a b f = ap (λ (x : State). x.slot) f.rest
+
+pub Forgets-callers : (p : Program) (a b : State) → Forgets p a b → length b.callers.items ≡ length a.callers.items
+Forgets-callers p a b f = ap (λ (x : State). length x.callers.items) f.rest
+
+pub Forgets-depth : (p : Program) (a b : State) → Forgets p a b → depth b ≡ depth a
+Forgets-depth p a b f = ap (λ (n : ℕ). n + 1) (Forgets-callers p a b f)
+
+returns_with : (a : State) (ks : List Kind) (slots : List Slot)
+    → returns_of (with_kept a ks slots) ≡ returns_of a
+returns_with a ks slots =
+    map-append (λ f. f.return_slot) a.callers.items ((with_kept a ks slots).innermost ∷ [])
+    ∙ sym (map-append (λ f. f.return_slot) a.callers.items (a.innermost ∷ []))
+
+pub Forgets-returns : (p : Program) (a b : State) → Forgets p a b → returns_of b ≡ returns_of a
+Forgets-returns p a b f = ap returns_of f.rest ∙ returns_with a (registers_of b) (slots_in b)
+
+-- ---- what is known of registers
+
+pub Forgets-each : (p : Program) (a b : State) (r : Reg) → Forgets p a b → r ≢ R10 → IsKept p a.slot r (kind_of a r) (kind_of b r)
+Forgets-each p a b r f own =
+    subst (λ k. IsKept p a.slot r k (kind_of b r)) (sym (kind_of-registers a r own))
+    (subst (λ k. IsKept p a.slot r (kind_at (registers_of a) (reg_number r)) k) (sym (kind_of-registers b r own)) (f.registers.each r own))
+
+-- a register that is live is known as before
+pub Forgets-live : (p : Program) (a b : State) (r : Reg) → Forgets p a b → r ≢ R10 → IsLive p r a.slot → kind_of b r ≡ kind_of a r
+Forgets-live p a b r f own live = elim (Forgets-each p a b r f own) [
+  | inl same ↦ same.1
+  | inr gone ↦ absurd (gone.0.1 live)
+]
+
+-- where no paths meet each one is
+pub Forgets-alone : (p : Program) (a b : State) (r : Reg) → Forgets p a b → r ≢ R10 → (IsJoin p a.slot → ⊥) → kind_of b r ≡ kind_of a r
+Forgets-alone p a b r f own alone = elim (Forgets-each p a b r f own) [
+  | inl same ↦ same.1
+  | inr gone ↦ absurd (alone gone.0.0)
+]
+
+-- ---- what is known of slots of the stack
+
+-- one that is live is known as before
+pub Forgets-slot_live : (p : Program) (a b : State) (j : ℕ) → Forgets p a b → j < 64
+    → IsSlotLive p j a.slot → slot_at (slots_in b) j ≡ slot_at (slots_in a) j
+Forgets-slot_live p a b j f below live = elim (f.slots.each j below) [
+  | inl same ↦ same.1
+  | inr gone ↦ absurd (gone.0.1 live)
+]
+
+-- ---- meanings
+
+slot_kept_means : (p : Program) (slot j : ℕ) (e : Assigned) (before after : Slot) (cs : List Cell)
+    → IsSlotKept p slot j before after → SlotMeans e before cs → SlotMeans e after cs
+slot_kept_means p slot j e before after cs (inl same) h = subst (λ s. SlotMeans e s cs) (sym same.1) h
+slot_kept_means p slot j e before after cs (inr gone) h =
+    let nothing : SlotMeans e (Written 0) cs = λ i below marked. let none = bit_at-zero i in absurd cc in
+    subst (λ s. SlotMeans e s cs) (sym gone.1) nothing
+
+kept_allows : (p : Program) (slot : ℕ) (r : Reg) (e : Assigned) (before after : Kind) (v : Value) → IsKept p slot r before after → Allows e before v → Allows e after v
+kept_allows p slot r e before after v (inl same) h = subst (λ k. Allows e k v) (sym same.1) h
+kept_allows p slot r e before after v (inr gone) h = subst (λ k. Allows e k v) (sym gone.1) tt
+
+not_last : (r : Reg) (k : ℕ) → reg_number r ≡ k → k < 10 → r ≢ R10
+not_last r k is below same = let ten : reg_number r ≡ 10 = ap reg_number same in absurd (omega arith)
+
+registers_allow : (p : Program) (a b : State) (e : Assigned) (k : ℕ) (v : Value) → Forgets p a b → Allows e (kind_at (registers_of a) k) v → Allows e (kind_at (registers_of b) k) v
+registers_allow p a b e k v f h = elim (cases_lt k 10) [
+  | inl below ↦
+      let (r, named, is) = numbered k (omega arith) in
+      let own = not_last r k is below in
+      subst (λ n. Allows e (kind_at (registers_of b) n) v) is
+      (kept_allows p a.slot r e (kind_at (registers_of a) (reg_number r)) (kind_at (registers_of b) (reg_number r)) v (f.registers.each r own)
+      (subst (λ n. Allows e (kind_at (registers_of a) n) v) (sym is) h))
+  | inr past ↦
+      let none : kind_at (registers_of b) k ≡ Unset = get_or_past (registers_of b) k Unset (let ten = f.registers.ten in omega arith) in
+      subst (λ x. Allows e x v) (sym none) tt
+]
+
+frames_keep : (p : Program) (a b : State) (e : Assigned) (j : ℕ) → Forgets p a b → j < depth a → FrameKeeps e e (frame_of a j) (frame_of b j)
+frames_keep p a b e j f below = elim (cases_eq j (length a.callers.items)) [
+  | inl last ↦
+      let here : frame_of a j ≡ a.innermost = ap (frame_of a) last ∙ frame_of-innermost a in
+      let there : frame_of b j ≡ b.innermost = ap (frame_of b) (last ∙ sym (Forgets-callers p a b f)) ∙ frame_of-innermost b in
+      let own : FrameKeeps e e a.innermost b.innermost = record {
+        registers = λ k v h. registers_allow p a b e k v f h;
+        slots = λ k cs within h. slot_kept_means p a.slot k e (slot_at (slots_in a) k) (slot_at (slots_in b) k) cs (f.slots.each k within) h;
+      } in
+      subst (λ x. FrameKeeps e e x (frame_of b j)) (sym here) (subst (λ x. FrameKeeps e e a.innermost x) (sym there) own)
+  | inr apart ↦
+      let callers = Forgets-callers p a b f in
+      let here : frame_of a j ≡ get_or a.callers.items j no_frame = frame_of-caller a j (omega arith) in
+      let there : frame_of b j ≡ get_or b.callers.items j no_frame = frame_of-caller b j (omega arith) in
+      let same : frame_of b j ≡ frame_of a j = there ∙ ap (λ (x : State). get_or x.callers.items j no_frame) f.rest ∙ sym here in
+      subst (λ x. FrameKeeps e e (frame_of a j) x) (sym same) (record { registers = λ k v h. h; slots = λ k cs within h. h })
+]
+
+-- whatever the state means, it means once dead registers are forgotten
+pub Means-forgets : (p : Program) (a b : State) (w : Machine.State) → Forgets p a b → Means p a w → Means p b w
+unfolding Means
+Means-forgets p a b w f (e, m) =
+    (e, MeansBy-change p e e a b w m.assigned (Forgets-slot p a b f) (Forgets-returns p a b f) (λ j below. frames_keep p a b e j f below) m)
+
+pub Forgets-covers : (p : Program) (a b : State) → Forgets p a b → Covers p b a
+unfolding Covers
+Forgets-covers p a b f = λ w means. Means-forgets p a b w f means
+
+-- ---- ways
+
+some_forgotten : (p : Program) (w : Ways) (a b first other : State) (v : Machine.State) → AreForgotten p w a b first other → InSome p w a b v → InSome p w first other v
+some_forgotten p ways.None a b first other v f h = h
+some_forgotten p ways.One a b first other v f h = Means-forgets p a first v f h
+some_forgotten p ways.Two a b first other v f (inl h) = inl (Means-forgets p a first v f.0 h)
+some_forgotten p ways.Two a b first other v f (inr h) = inr (Means-forgets p b other v f.1 h)
+
+pub LeadsTo-forgets : (p : Program) (s : State) (w : Ways) (a b first other : State) → AreForgotten p w a b first other → LeadsTo p s w a b → LeadsTo p s w first other
+unfolding LeadsTo
+LeadsTo-forgets p s w a b first other f leads = λ clock fits v means.
+    After-weaker (InSome p w a b) (InSome p w first other) (step p clock v) (λ x h. some_forgotten p w a b first other x f h) (leads clock fits v means)
+
+pub GoesOnTo-forgets : (p : Program) (s a b : State) → Forgets p a b → GoesOnTo p s a → GoesOnTo p s b
+GoesOnTo-forgets p s a b f (inl h) = inl (record {
+  follows = subst (λ n. Follows p s.slot n) (sym (Forgets-slot p a b f)) h.follows;
+  returns = Forgets-returns p a b f ∙ h.returns;
+})
+GoesOnTo-forgets p s a b f (inr (inl h)) = inr (inl (record {
+  by = h.by;
+  here = h.here;
+  target = Forgets-slot p a b f ∙ h.target;
+  returns = Forgets-returns p a b f ∙ h.returns;
+}))
+GoesOnTo-forgets p s a b f (inr (inr h)) = inr (inr (record {
+  here = h.here;
+  returns = h.returns ∙ ap (λ (rs : List ℕ). rs ++ a.slot ∷ []) (sym (Forgets-returns p a b f)) ∙ ap (λ (n : ℕ). returns_of b ++ n ∷ []) (sym (Forgets-slot p a b f));
+}))
+
+-- ---- the loop
+
+-- the registers with numbers below n are as a path comes to the slot, and the rest as before
+pub record KeptBelow (p : Program) (slot n : ℕ) (old new : List Kind) : Type 0 where
+  pub ten : length new ≡ 10
+  pub below : (r : Reg) → r ≢ R10 → reg_number r < n → IsKept p slot r (kind_at old (reg_number r)) (kind_at new (reg_number r))
+  pub above : (k : ℕ) → n ≤ k → kind_at new k ≡ kind_at old k
+
+pub kept_none : (p : Program) (slot : ℕ) (old : List Kind) → length old ≡ 10 → KeptBelow p slot 0 old old
+kept_none p slot old ten = record { ten = ten; below = λ r own low. absurd (omega arith); above = λ k high. refl }
+
+-- the next register is live
+pub kept_more_live : (p : Program) (slot n : ℕ) (r : Reg) (old new : List Kind) → reg_number r ≡ n → IsLive p r slot → KeptBelow p slot n old new
+    → KeptBelow p slot (n + 1) old new
+kept_more_live p slot n r old new is live m = record {
+  ten = m.ten;
+  below = λ q own low. elim (cases_eq (reg_number q) n) [
+    | inl e ↦
+        let same : q ≡ r = same_number q r (e ∙ sym is) in
+        inl (λ dead. dead.1 (subst (λ (x : Reg). IsLive p x slot) (sym same) live), m.above (reg_number q) (omega arith))
+    | inr apart ↦ m.below q own (omega arith)
+  ];
+  above = λ k high. m.above k (omega arith);
+}
+
+-- the next register is dead
+pub kept_more_dead : (p : Program) (slot n : ℕ) (r : Reg) (old new : List Kind) → reg_number r ≡ n → n < 10 → IsJoin p slot → (IsLive p r slot → ⊥)
+    → KeptBelow p slot n old new → KeptBelow p slot (n + 1) old (set new n Unset)
+kept_more_dead p slot n r old new is within join dead m =
+    let inside : n < length new = let ten = m.ten in omega arith in record {
+      ten = length-set new n Unset ∙ m.ten;
+      below = λ q own low. elim (cases_eq (reg_number q) n) [
+        | inl e ↦
+            let same : q ≡ r = same_number q r (e ∙ sym is) in
+            let gone : kind_at (set new n Unset) (reg_number q) ≡ Unset =
+            ap (kind_at (set new n Unset)) e ∙ get_or-set_same new n Unset Unset inside in
+            inr ((join, λ live. dead (subst (λ (x : Reg). IsLive p x slot) same live)), gone)
+        | inr apart ↦
+            subst (IsKept p slot q (kind_at old (reg_number q))) (sym (get_or-set_other new n (reg_number q) Unset Unset apart)) (m.below q own (omega arith))
+      ];
+      above = λ k high. get_or-set_other new n k Unset Unset (λ e. absurd (omega arith)) ∙ m.above k (omega arith);
+    }
+
+pub AreKept-below : (p : Program) (slot n : ℕ) (old new : List Kind) → 10 ≤ n → KeptBelow p slot n old new → AreKept p slot old new
+AreKept-below p slot n old new all m = record { ten = m.ten; each = λ r own. m.below r own (let low = below_ten r own in omega arith) }
+
+-- away from joins nothing is forgotten
+pub kept_alone : (p : Program) (slot : ℕ) (old : List Kind) → length old ≡ 10 → (IsJoin p slot → ⊥) → AreKept p slot old old
+kept_alone p slot old ten alone = record { ten = ten; each = λ r own. inl (λ dead. alone dead.0, refl) }
+
+-- ---- the loop through slots of the stack
+
+-- the slots below n are as a path comes to the slot of the code, and the rest as before
+pub record SlotsKeptBelow (p : Program) (slot n : ℕ) (old new : List Slot) : Type 0 where
+  pub all : length new ≡ 64
+  pub below : (j : ℕ) → j < n → IsSlotKept p slot j (slot_at old j) (slot_at new j)
+  pub above : (k : ℕ) → n ≤ k → slot_at new k ≡ slot_at old k
+
+pub slots_kept_none : (p : Program) (slot : ℕ) (old : List Slot) → length old ≡ 64
+    → SlotsKeptBelow p slot 0 old old
+slots_kept_none p slot old all = record { all = all; below = λ j low. absurd (omega arith); above = λ k high. refl }
+
+-- the next slot is live
+pub slots_kept_live : (p : Program) (slot n : ℕ) (old new : List Slot) → IsSlotLive p n slot
+    → SlotsKeptBelow p slot n old new
+    → SlotsKeptBelow p slot (n + 1) old new
+slots_kept_live p slot n old new live m = record {
+  all = m.all;
+  below = λ j low. elim (cases_eq j n) [
+    | inl e ↦ inl (λ dead. dead.1 (subst (λ (k : ℕ). IsSlotLive p k slot) (sym e) live), m.above j (omega arith))
+    | inr apart ↦ m.below j (omega arith)
+  ];
+  above = λ k high. m.above k (omega arith);
+}
+
+-- the next slot is dead
+pub slots_kept_dead : (p : Program) (slot n : ℕ) (old new : List Slot) → n < 64 → IsJoin p slot
+    → (IsSlotLive p n slot → ⊥)
+    → SlotsKeptBelow p slot n old new → SlotsKeptBelow p slot (n + 1) old (set new n (Written 0))
+slots_kept_dead p slot n old new within join dead m =
+    let inside : n < length new = let all = m.all in omega arith in record {
+      all = length-set new n (Written 0) ∙ m.all;
+      below = λ j low. elim (cases_eq j n) [
+        | inl e ↦
+            let gone : slot_at (set new n (Written 0)) j ≡ Written 0 =
+            ap (slot_at (set new n (Written 0))) e ∙ get_or-set_same new n (Written 0) (Written 0) inside in
+            inr ((join, λ live. dead (subst (λ (k : ℕ). IsSlotLive p k slot) e live)), gone)
+        | inr apart ↦
+            subst (IsSlotKept p slot j (slot_at old j)) (sym (get_or-set_other new n j (Written 0) (Written 0) apart)) (m.below j (omega arith))
+      ];
+      above = λ k high. get_or-set_other new n k (Written 0) (Written 0) (λ e. absurd (omega arith)) ∙ m.above k (omega arith);
+    }
+
+pub AreSlotsKept-below : (p : Program) (slot n : ℕ) (old new : List Slot) → 64 ≤ n
+    → SlotsKeptBelow p slot n old new → AreSlotsKept p slot old new
+AreSlotsKept-below p slot n old new every m = record { all = m.all; each = λ j below. m.below j (omega arith) }
+
+-- away from joins nothing is forgotten
+pub slots_kept_alone : (p : Program) (slot : ℕ) (old : List Slot) → length old ≡ 64
+    → (IsJoin p slot → ⊥) → AreSlotsKept p slot old old
+slots_kept_alone p slot old all alone = record { all = all; each = λ j below. inl (λ dead. alone dead.0, refl) }

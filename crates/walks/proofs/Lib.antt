@@ -1,0 +1,17 @@
+pub mod Accepted
+pub mod Forgotten
+pub mod Living
+pub mod Exits
+pub mod OnNumbers
+pub mod Forward
+pub mod Plain
+pub mod StackSlots
+pub mod Beside
+pub mod Along
+pub mod AlongWalks
+pub mod Determined
+pub mod OnPackets
+pub mod GuardedParts
+pub mod Guards
+pub mod GuardedWalks
+pub mod Guarded

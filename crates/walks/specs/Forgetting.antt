@@ -1,0 +1,53 @@
+-- What is forgotten of a state when a path comes to it: at joins, registers and slots of the
+-- innermost frame's stack that
+-- no path reads before it writes them.
+use Rattle.std.specs.Prelude.{◌≡◌, ◌≢◌, ◌⊎◌, ℕ, ◌<◌, List, length}
+use Rattle.isa_model.specs.declared.registers.Reg.{Reg}
+use Rattle.isa_model.specs.declared.registers.Reg.TheVariants.{R10}
+use Rattle.isa_model.specs.Code.Registers.{reg_number}
+use Rattle.isa_model.specs.Code.Instructions.{Program}
+use Rattle.reg_state.specs.declared.kinds.Kind.{Kind}
+use Rattle.reg_state.specs.declared.kinds.Kind.TheVariants.{Unset}
+use Rattle.stack_state.specs.declared.slots.Slot.{Slot}
+use Rattle.stack_state.specs.declared.slots.Slot.TheVariants.{Written}
+use Rattle.stack_state.specs.declared.states.State.{State}
+use Rattle.stack_state.specs.Slots.{slot_at}
+use Rattle.stack_state.specs.Meaning.{registers_of, kind_at}
+use Rattle.control_flow.specs.Flows.{IsJoin}
+use Rattle.control_flow.specs.Liveness.{IsLive, IsSlotLive}
+
+-- the slot is a join at which the register is dead
+abbrev pub IsDeadAt : Program → ℕ → Reg → Type 0
+IsDeadAt p slot r = IsJoin p slot × (¬ IsLive p r slot)
+
+-- what is known of a register stays known, or the register is dead and unset
+abbrev pub IsKept : Program → ℕ → Reg → Kind → Kind → Type 0
+IsKept p slot r before after = ((¬ IsDeadAt p slot r) × (after ≡ before)) ⊎ (IsDeadAt p slot r × (after ≡ Unset))
+
+-- the registers of a frame, as a path comes to the slot
+pub record AreKept (p : Program) (slot : ℕ) (old new : List Kind) : Type 0 where
+  pub ten : length new ≡ 10
+  pub each : (r : Reg) → r ≢ R10 → IsKept p slot r (kind_at old (reg_number r)) (kind_at new (reg_number r))
+
+-- the slot of the code is a join at which slot j of the stack is dead
+abbrev pub IsSlotDeadAt : Program → ℕ → ℕ → Type 0
+IsSlotDeadAt p slot j = IsJoin p slot × (¬ IsSlotLive p j slot)
+
+-- what is known of a slot of the stack stays known, or the slot is dead and nothing is
+abbrev pub IsSlotKept : Program → ℕ → ℕ → Slot → Slot → Type 0
+IsSlotKept p slot j before after = ((¬ IsSlotDeadAt p slot j) × (after ≡ before)) ⊎ (IsSlotDeadAt p slot j × (after ≡ Written 0))
+
+-- the slots of a frame's stack, as a path comes to the slot of the code
+pub record AreSlotsKept (p : Program) (slot : ℕ) (old new : List Slot) : Type 0 where
+  pub all : length new ≡ 64
+  pub each : (j : ℕ) → j < 64 → IsSlotKept p slot j (slot_at old j) (slot_at new j)
+
+abbrev pub slots_in : State → List Slot
+slots_in s = s.innermost.stack.slots
+
+-- b is a as a path comes to it: without what is known of dead registers and of dead slots of the
+-- stack
+pub record Forgets (p : Program) (a b : State) : Type 0 where
+  pub rest : b ≡ record a { innermost = record a.innermost { registers = registers_of b; stack = record { slots = slots_in b } } }
+  pub registers : AreKept p a.slot (registers_of a) (registers_of b)
+  pub slots : AreSlotsKept p a.slot (slots_in a) (slots_in b)

@@ -1,0 +1,6 @@
+pub mod Accepting
+pub mod Counts
+pub mod Forgetting
+pub mod Messages
+pub mod Refused
+pub mod Walks

@@ -1,0 +1,30 @@
+-- What a refusal says of a program.
+use Rattle.std.specs.Prelude.{◌≡◌, ℕ, ◌+◌}
+use Rattle.isa_model.specs.Code.Instructions.{Program}
+use Rattle.stack_state.specs.Starts.{start}
+use Rattle.control_flow.specs.Flows.{IsFlow}
+use Rattle.control_flow.specs.Flows as flow
+use Rattle.stack_state.specs.declared.states.State.{State}
+use Rattle.walks.specs.Forgetting.{Forgets}
+use Rattle.walks.specs.Walks.{IsReached, IsStuck, ComesBack}
+use Rattle.walks.specs.Counts.{Takes}
+use Rattle.walks.specs.declared.refusals.TheConstants.{MAX_EXPLORED}
+use Rattle.walks.specs.declared.refusals.Refusal.{Refusal}
+use Rattle.walks.specs.declared.refusals.Refusal.TheVariants.{Flow, Step, Repeats, TooLong, Memory}
+
+-- from the state in which a path begins so many instructions, or more, are explored
+abbrev pub StartTakes : Program → ℕ → Type 0
+StartTakes p n = (first : State) × Forgets p start first × Takes p first n
+
+-- where the search stops with a refusal; after the most instructions that are explored comes one more
+abbrev pub StopsAt : Program → Refusal → ℕ → Type 0
+StopsAt p (Flow e) slot = ⊥
+StopsAt p (Step e) slot = IsStuck p e slot
+StopsAt p Repeats slot = ComesBack p slot
+StopsAt p TooLong slot = IsReached p slot × StartTakes p (MAX_EXPLORED + 1)
+StopsAt p Memory slot = slot ≡ 0
+
+-- control flow comes first, and all other refusals are of programs whose control flow is good
+abbrev pub IsRefused : Program → Refusal → ℕ → Type 0
+IsRefused p (Flow e) slot = flow.IsRefusal p e slot
+IsRefused p e slot = IsFlow p × StopsAt p e slot

@@ -1,0 +1,77 @@
+-- Walks through abstract states, an instruction at a time.
+use Rattle.std.specs.Prelude.{◌≡◌, ℕ, zero, suc, ◌⊎◌, Some}
+use Rattle.isa_model.specs.declared.instructions.Insn.{Insn}
+use Rattle.isa_model.specs.Code.Instructions.{Program, fetch}
+use Rattle.stack_state.specs.declared.states.State.{State}
+use Rattle.stack_state.specs.Meaning.{Covers}
+use Rattle.stack_state.specs.Starts.{start}
+use Rattle.control_flow.specs.Graph.{BeginsInsn}
+use Rattle.control_flow.specs.Flows.{IsJoin}
+use Rattle.transfer.specs.declared.Ways.{Ways}
+use Rattle.transfer.specs.declared.Ways.TheVariants as ways
+use Rattle.transfer.specs.declared.refusals.Refusal.{Refusal}
+use Rattle.transfer.specs.Exact.{Makes, Refuses}
+use Rattle.walks.specs.Forgetting.{Forgets}
+
+abbrev pub IsAmong : Ways → State → State → State → Type 0
+IsAmong ways.None a b s = ⊥
+IsAmong ways.One a b s = s ≡ a
+IsAmong ways.Two a b s = (s ≡ a) ⊎ (s ≡ b)
+
+-- b is one of the states that the instruction at a's slot makes of a, as a path comes to it
+pub record StepsTo (p : Program) (a b : State) : Type 0 where
+  pub insn : Insn
+  pub here : fetch p a.slot ≡ Some insn
+  pub taken : Ways
+  pub first : State
+  pub other : State
+  pub makes : Makes p a insn taken first other
+  pub next : State
+  pub among : IsAmong taken first other next
+  pub forgets : Forgets p next b
+
+-- that many steps lead from a to b
+unfoldable pub Leads : Program → ℕ → State → State → Type 0
+Leads p zero a b = b ≡ a
+Leads p (suc n) a b = (c : State) × StepsTo p a c × Leads p n c b
+
+-- a walk of that many steps from the start comes to a state
+pub record WalksTo (p : Program) (n : ℕ) (s : State) : Type 0 where
+  pub first : State
+  pub begins : Forgets p start first
+  pub leads : Leads p n first s
+
+-- ---- where walks stop
+
+-- some walk from the start comes to a state at this slot, at which an instruction begins
+pub record IsReached (p : Program) (slot : ℕ) : Type 0 where
+  pub state : State
+  pub steps : ℕ
+  pub walk : WalksTo p steps state
+  pub slot_is : slot ≡ state.slot
+  pub begins : BeginsInsn p slot
+
+-- some walk from the start comes to a state at this slot, and its step is refused so
+pub record IsStuck (p : Program) (e : Refusal) (slot : ℕ) : Type 0 where
+  pub state : State
+  pub steps : ℕ
+  pub walk : WalksTo p steps state
+  pub slot_is : slot ≡ state.slot
+  pub begins : BeginsInsn p slot
+  pub insn : Insn
+  pub here : fetch p state.slot ≡ Some insn
+  pub refused : Refuses p state insn e
+
+-- some walk from the start comes twice to this join, in two states that cover one another
+pub record ComesBack (p : Program) (slot : ℕ) : Type 0 where
+  pub join : IsJoin p slot
+  pub first : State
+  pub again : State
+  pub before : ℕ
+  pub between : ℕ
+  pub walk : WalksTo p before first
+  pub leads_back : Leads p (suc between) first again
+  pub first_slot : first.slot ≡ slot
+  pub again_slot : again.slot ≡ slot
+  pub covers : Covers p first again
+  pub covered : Covers p again first

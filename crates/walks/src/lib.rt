@@ -1,0 +1,13 @@
+//! Walks through abstract states, and why a program is refused.
+//!
+//! `specs/Walks.antt` defines walks, `Counts` the numbers of states and how many instructions are
+//! explored, and `Refused` what each refusal says of a program. The laws in `proofs/` hold for any
+//! search that refuses so: plain, determined and guarded programs are refused only when memory runs
+//! out, or where an exit of version 2 is not shown to answer with an action.
+#![tactic(auto)]
+
+pub mod forgetting;
+pub mod refusals;
+
+pub use forgetting::forget_dead;
+pub use refusals::{MAX_EXPLORED, Refusal};
