@@ -21,11 +21,13 @@ use Rattle.transfer.specs.declared.refusals.Refusal.{Refusal}
 use Rattle.transfer.specs.Exact.{Steps}
 use Rattle.transfer.specs.Leading.{LeadsTo, InSome}
 use Rattle.bounds.specs.declared.verified.TheConstants.{MAX_BOUND}
-use Rattle.table_entries.specs.Entries.{Entry}
+use Rattle.table_entries.specs.declared.entries.Head.{Head}
+use Rattle.table_entries.specs.Entries.{Entry, entry_of}
 use Rattle.table_entries.specs.Tables.{Kept, count_of, entry_at, entry_from}
 use Rattle.rechecking.specs.Tables.{EntryAt, GoesInto, IsFine, MeansStarts}
 use Rattle.rechecking.specs.declared.errors.TableError.TheVariants.{Step, Successor}
-use Rattle.rechecking.specs.Checking.{Enters, EntersClearly, FollowsBy, StartsClearly, HasStart, IsFaultyAt, AllFineBefore}
+use Rattle.rechecking.specs.Standing.{StandsAt}
+use Rattle.rechecking.specs.Checking.{Covering, CoversClearly, Enters, EntersClearly, FollowsBy, StartsClearly, HasStart, IsFaultyAt, AllFineBefore}
 
 goes_into : (p : Program) (t : EntryAt) (e : Entry) (index : ℕ) (a : State) (s : Machine.State) → Contains e.successors index → Enters t e.number index a
     → Means p a s → GoesInto p t e s
@@ -76,12 +78,43 @@ there_is None h = absurd (cc)
 same_entry : (o : Option Entry) (d e : Entry) → o ≡ Some d → o ≡ Some e → d ≡ e
 same_entry o d e h k = cc
 
--- a test that finds what is clear says yes of this entry
-pub clear_of : (t : EntryAt) (number index : ℕ) (a : State) (e : Entry) (answer : Bool) → t index ≡ Some e → ((packet null : ℕ → ℕ) → Encloses packet null e.state a → IsTrue answer)
-    → EntersClearly t number index a → IsTrue answer
-clear_of t number index a e answer there finds h =
+-- ---- an entry that covers a state, or not
+
+-- a state covers itself
+pub Enters-same : (p : Program) (t : EntryAt) (number index : ℕ) (a : State) (head : Head) → StandsAt p t index head a
+    → ((e : Entry) → t index ≡ Some e → e.number < number) → Enters t number index a
+unfolding Covers
+Enters-same p t number index a head stands smaller = record {
+  entry = entry_of head a;
+  there = stands.there;
+  smaller = smaller (entry_of head a) stands.there;
+  covers = λ q s m. m;
+}
+
+pub Enters-covering : (t : EntryAt) (number index : ℕ) (a : State) → Covering t index a → ((e : Entry) → t index ≡ Some e → e.number < number) → Enters t number index a
+Enters-covering t number index a h smaller =
+    record { entry = h.entry; there = h.there; smaller = smaller h.entry h.there; covers = h.covers }
+
+-- an entry that does not clearly cover the state is not clearly entered
+pub unclear_covers : (t : EntryAt) (number index : ℕ) (a : State) → (CoversClearly t index a → ⊥) → EntersClearly t number index a → ⊥
+unclear_covers t number index a refuted h =
+    refuted (record { entry = h.entry; there = h.there; packet = h.packet; null = h.null; covers = h.covers })
+
+-- nor is one whose number is not smaller
+pub unclear_number : (t : EntryAt) (number index : ℕ) (a : State) (answer : Bool) → ((e : Entry) → t index ≡ Some e → e.number < number → IsTrue answer) → answer ≡ false
+    → EntersClearly t number index a → ⊥
+unclear_number t number index a answer finds refuted h = let yes : answer ≡ true = finds h.entry h.there h.smaller in cc
+
+-- a test that finds what is clear, and says no of this entry
+pub unclear_entry : (t : EntryAt) (index : ℕ) (a : State) (e : Entry) (answer : Bool) → t index ≡ Some e → ((packet null : ℕ → ℕ) → Encloses packet null e.state a → IsTrue answer)
+    → answer ≡ false → CoversClearly t index a → ⊥
+unclear_entry t index a e answer there finds refuted h =
     let is : h.entry ≡ e = same_entry (t index) h.entry e h.there there in
-    finds h.packet h.null (subst (λ (x : Entry). Encloses h.packet h.null x.state a) is h.covers)
+    let yes : answer ≡ true = finds h.packet h.null (subst (λ (x : Entry). Encloses h.packet h.null x.state a) is h.covers) in
+    cc
+
+pub no_entry : (t : EntryAt) (index : ℕ) (a : State) → t index ≡ None → CoversClearly t index a → ⊥
+no_entry t index a none h = let there = h.there in absurd (cc)
 
 pub unclear_start : (t : EntryAt) (e : Entry) (answer : Bool) → t 0 ≡ Some e → ((packet null : ℕ → ℕ) → Encloses packet null e.state start → IsTrue answer)
     → answer ≡ false → StartsClearly t → ⊥
@@ -99,13 +132,10 @@ refused_step p t k e r b c there begins steps =
     let (insn, fetched) = there_is (fetch p e.state.slot) begins in
     (refl, record { entry = e; insn = insn; there = there; fetched = fetched; refused = (b, c, steps insn fetched) })
 
-differ : (answer : Bool) → answer ≡ true → answer ≡ false → ⊥
-differ answer shown refuted = cc
-
-pub unnamed_step : (p : Program) (t : EntryAt) (k : ℕ) (e : Entry) (w : Ways) (a b : State) (answer : Bool) → t k ≡ Some e → IsSome (fetch p e.state.slot)
+pub unnamed_step : (p : Program) (t : EntryAt) (k : ℕ) (e : Entry) (w : Ways) (a b : State) → t k ≡ Some e → IsSome (fetch p e.state.slot)
     → ((i : Insn) → fetch p e.state.slot ≡ Some i → Steps p e.state i (Ok w) a b)
-    → (FollowsBy (EntersClearly t e.number) e.successors w a b → IsTrue answer) → answer ≡ false → IsFaultyAt p t k (Successor k)
-unnamed_step p t k e w a b answer there begins steps finds refuted =
+    → (FollowsBy (EntersClearly t e.number) e.successors w a b → ⊥) → IsFaultyAt p t k (Successor k)
+unnamed_step p t k e w a b there begins steps unnamed =
     let (insn, fetched) = there_is (fetch p e.state.slot) begins in (
       refl,
       record {
@@ -117,7 +147,7 @@ unnamed_step p t k e w a b answer there begins steps finds refuted =
         first = a;
         second = b;
         made = steps insn fetched;
-        unnamed = λ h. differ answer (finds h) refuted;
+        unnamed = unnamed;
       },
     )
 

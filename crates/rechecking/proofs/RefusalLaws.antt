@@ -1,6 +1,6 @@
 -- What a table that was read shows, and why it is refused, by the entries that its bytes are.
-use Rattle.std.specs.Prelude.{◌≡◌, ℕ, ◌<◌, List, length, slice_get, Option, Some, None, IsSome, Ok, Err, ◌⊎◌, refl}
-use Rattle.std.proofs.Common.{inl, inr, arith, rules, subst, sym}
+use Rattle.std.specs.Prelude.{◌≡◌, ℕ, ◌<◌, List, length, slice_get, Option, Some, IsSome, Ok, Err, ◌⊎◌, refl}
+use Rattle.std.proofs.Common.{inl, inr, arith, subst, sym}
 use Rattle.std.proofs.lemmas.Option.{slice_get_cases}
 use Rattle.isa_model.specs.Code.Instructions.{Program}
 use Rattle.control_flow.specs.Flows.{IsFlow}
@@ -10,7 +10,7 @@ use Rattle.table_entries.specs.Entries.{Entry}
 use Rattle.table_entries.specs.Tables.{Kept, Holds, count_of, entry_at, table_read}
 use Rattle.rechecking.specs.declared.errors.TableError.{TableError}
 use Rattle.rechecking.specs.declared.errors.TableError.TheVariants.{Flow, Fault, Start, Step, Successor}
-use Rattle.rechecking.specs.Tables.{EntryAt, IsFine, IsClosed}
+use Rattle.rechecking.specs.Tables.{EntryAt, IsFine}
 use Rattle.rechecking.specs.Checking.{HasStart, StartsClearly, IsFirstFault}
 use Rattle.rechecking.specs.Refusing.{Shows, IsFault, IsRefused}
 

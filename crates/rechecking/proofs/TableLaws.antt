@@ -1,5 +1,5 @@
 -- Every run of a program with a closed table exits within the number of the table's first entry.
-use Rattle.std.specs.Prelude.{◌≡◌, ℕ, zero, suc, ◌<◌, ◌≤◌, Some}
+use Rattle.std.specs.Prelude.{◌≡◌, ℕ, zero, suc, ◌≤◌, Some}
 use Rattle.std.proofs.Common.{arith}
 use Rattle.isa_model.specs.Code.Instructions.{Program}
 use Rattle.isa_model.specs.Machine.Steps.{step}

@@ -33,6 +33,20 @@ pub record EntersClearly (t : EntryAt) (number index : ℕ) (a : State) : Type 0
   pub null : ℕ → ℕ
   pub covers : Encloses packet null entry.state a
 
+-- the entry of that index covers the state
+pub record Covering (t : EntryAt) (index : ℕ) (a : State) : Type 0 where
+  pub entry : Entry
+  pub there : t index ≡ Some entry
+  pub covers : (p : Program) → Covers p entry.state a
+
+-- the same, where registers and slots show it
+pub record CoversClearly (t : EntryAt) (index : ℕ) (a : State) : Type 0 where
+  pub entry : Entry
+  pub there : t index ≡ Some entry
+  pub packet : ℕ → ℕ
+  pub null : ℕ → ℕ
+  pub covers : Encloses packet null entry.state a
+
 -- as many entries are named as the step has successors, and each has this relation to its one
 abbrev pub FollowsBy : (ℕ → State → Type 0) → List ℕ → Ways → State → State → Type 0
 FollowsBy R [] ways.None a b = Unit {0}

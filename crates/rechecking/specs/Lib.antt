@@ -1,3 +1,5 @@
 pub mod Tables
+pub mod Standing
 pub mod Checking
 pub mod Refusing
+pub mod Messages

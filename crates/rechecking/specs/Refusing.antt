@@ -7,7 +7,7 @@ use Rattle.table_entries.specs.declared.faults.TableFault.TheVariants as fault
 use Rattle.table_entries.specs.Entries.{Entry}
 use Rattle.table_entries.specs.Tables.{table_read}
 use Rattle.rechecking.specs.declared.errors.TableError.{TableError}
-use Rattle.rechecking.specs.declared.errors.TableError.TheVariants.{Flow, Fault, Start, Step, Successor}
+use Rattle.rechecking.specs.declared.errors.TableError.TheVariants.{Flow, Fault, Start}
 use Rattle.rechecking.specs.Tables.{IsClosed}
 use Rattle.rechecking.specs.Checking.{HasStart, StartsClearly, IsFirstFault}
 

@@ -1,11 +1,15 @@
 //! Entries tested, one by one.
 
-ghost use Rattle.std.specs.Prelude.{◌≡◌, ◌<◌, ℕ, Some, IsSome, IsTrue, IfOk, IfErr};
+ghost use Rattle.std.specs.Prelude.{◌≡◌, ◌<◌, ℕ, Some, None, IsSome, IsTrue, IfOk, IfErr, IfSome};
+ghost use Rattle.std.specs.Prelude.{false};
+ghost use Rattle.isa_model.specs.Code.Instructions.{Program};
+ghost use Rattle.stack_state.specs.declared.states.State.{State};
 ghost use Rattle.table_entries.specs.Entries.{Entry, list_of};
 ghost use Rattle.table_entries.specs.Tables.{entry_at, count_of};
-ghost use Rattle.rechecking.specs.Tables.{IsFine};
-ghost use Rattle.rechecking.specs.Checking.{Enters, EntersClearly, FollowsBy};
-ghost use Rattle.rechecking.specs.Checking.{IsFaultyAt, IsFirstFault};
+ghost use Rattle.rechecking.specs.Tables.{EntryAt, IsFine};
+ghost use Rattle.rechecking.specs.Checking.{Enters, EntersClearly, FollowsBy, Covering};
+ghost use Rattle.rechecking.specs.Checking.{CoversClearly, IsFaultyAt, IsFirstFault};
+ghost use Rattle.rechecking.specs.Standing.{StandsAt, IsKnown};
 
 use crate::errors::TableError;
 use image::Image;
@@ -14,27 +18,91 @@ use state_cover::covers;
 use table_entries::{Head, Named, Table};
 use transfer::{Ways, step_in_place};
 
-/// Whether the entry of that index covers a state, and its number is smaller. Its state is read
-/// into the room for it.
+/// An entry whose state stands in one of two rooms, by its index: it is not read again.
+#[derive(Clone, Copy, PartialEq, Eq, Debug, Drop)]
+pub enum Known {
+    None,
+    First(usize, Head),
+    Second(usize, Head),
+}
+
+/// The same, where the rooms have changed places.
+fn turned(known: Known) -> Known
+    ensures { (p : Program) (t : EntryAt) (a b : State) → IsKnown p t a b known
+        → IsKnown p t b a result }
+{
+    match known {
+        Known::None => Known::None,
+        Known::First(index, head) => Known::Second(index, head),
+        Known::Second(index, head) => Known::First(index, head),
+    }
+}
+
+/// Whether the number of the entry of that index is smaller. Its state is not read.
+fn is_smaller(table: &Table, index: usize, number: u32) -> bool
+    ensures yes { IsTrue result → (p : Program) (e : Entry) → entry_at p table.now index ≡ Some e
+        → e.number < number }
+    ensures no { (p : Program) (e : Entry) → entry_at p table.now index ≡ Some e
+        → e.number < number → IsTrue result }
+{
+    match table.number(index) {
+        None => false,
+        Some(there) => there < number,
+    }
+}
+
+/// Reads the entry of that index into the room for it, if it covers a state.
+fn read_covering(
+    image: &Image,
+    table: &Table,
+    index: usize,
+    state: &State,
+    room: &mut State,
+) -> Option<Head>
+    ensures stands { IfSome result
+        (λ head. StandsAt image.now (entry_at image.now table.now) index head room.new) }
+    ensures covers { IfSome result
+        (λ _. Covering (entry_at image.now table.now) index state.now) }
+    ensures none { result ≡ None
+        → CoversClearly (entry_at image.now table.now) index state.now → ⊥ }
+{
+    let head = table.read(image, index, room)?;
+    if covers(room, state) {
+        Some(head)
+    } else {
+        None
+    }
+}
+
+/// Whether the entry of that index covers a state, and its number is smaller, tested first.
+/// Its own state is read into the room for it only where its bytes do not spell this one.
 fn enters(
     image: &Image,
     table: &Table,
     number: u32,
-    index: u32,
+    index: usize,
     state: &State,
     room: &mut State,
-) -> bool
-    ensures yes { IsTrue result → Enters (entry_at image.now table.now) number index state.now }
-    ensures clear { EntersClearly (entry_at image.now table.now) number index state.now
-        → IsTrue result }
+) -> Option<Known>
+    ensures yes { IfSome result
+        (λ _. Enters (entry_at image.now table.now) number index state.now) }
+    ensures known { IfSome result
+        (IsKnown image.now (entry_at image.now table.now) state.now room.new) }
+    ensures none { result ≡ None
+        → EntersClearly (entry_at image.now table.now) number index state.now → ⊥ }
 {
-    match table.read(image, index as usize, room) {
-        None => false,
-        Some(head) => head.number < number && covers(room, state),
+    if !is_smaller(table, index, number) {
+        return None;
     }
+    if let Some(head) = table.head_of(image, index, state) {
+        return Some(Known::First(index, head));
+    }
+    let head = read_covering(image, table, index, state, room)?;
+    Some(Known::Second(index, head))
 }
 
 /// Whether an entry names as many entries as its step has successors, and each covers its one.
+/// The first successor's entry is what is known then.
 fn follows(
     image: &Image,
     table: &Table,
@@ -43,49 +111,92 @@ fn follows(
     state: &State,
     other: &State,
     room: &mut State,
-) -> bool
-    ensures yes { IsTrue result → FollowsBy (Enters (entry_at image.now table.now) head.number)
-        (list_of head.named) ways state.now other.now }
-    ensures clear { FollowsBy (EntersClearly (entry_at image.now table.now) head.number)
-        (list_of head.named) ways state.now other.now → IsTrue result }
+) -> Option<Known>
+    ensures yes { IfSome result
+        (λ _. FollowsBy (Enters (entry_at image.now table.now) head.number)
+        (list_of head.named) ways state.now other.now) }
+    ensures known { IfSome result
+        (IsKnown image.now (entry_at image.now table.now) state.now room.new) }
+    ensures none { result ≡ None
+        → FollowsBy (EntersClearly (entry_at image.now table.now) head.number)
+        (list_of head.named) ways state.now other.now → ⊥ }
 {
     match (head.named, ways) {
-        (Named::None, Ways::None) => true,
-        (Named::One(first), Ways::One) => enters(image, table, head.number, first, state, room),
-        (Named::Two(first, second), Ways::Two) => {
-            enters(image, table, head.number, first, state, room)
-                && enters(image, table, head.number, second, other, room)
+        (Named::None, Ways::None) => Some(Known::None),
+        (Named::One(first), Ways::One) => {
+            enters(image, table, head.number, first as usize, state, room)
         }
-        _ => false,
+        (Named::Two(first, second), Ways::Two) => {
+            enters(image, table, head.number, second as usize, other, room)?;
+            enters(image, table, head.number, first as usize, state, room)
+        }
+        _ => None,
     }
 }
 
-/// Tests an entry: P7 and P8.
-fn test_entry(
+/// Tests an entry whose state stands in its room: P7 and P8.
+fn test_standing(
     image: &Image,
     table: &Table,
     index: usize,
+    head: Head,
     state: &mut State,
     other: &mut State,
     room: &mut State,
-) -> Result<(), TableError>
-    requires { IsSome (entry_at image.now table.now index) }
+) -> Result<Known, TableError>
+    requires { StandsAt image.now (entry_at image.now table.now) index head state.old }
     ensures fine { IfOk result (λ _. (e : Entry) → entry_at image.now table.now index ≡ Some e
         → IsFine image.now (entry_at image.now table.now) e) }
+    ensures known { IfOk result
+        (IsKnown image.now (entry_at image.now table.now) state.new room.new) }
     ensures faulty { IfErr result
         (IsFaultyAt image.now (entry_at image.now table.now) index) }
 {
-    let Some(head) = table.read(image, index, state) else {
-        unreachable!()
-    };
     let ways = match step_in_place(image, state, other) {
         Ok(ways) => ways,
         Err(refusal) => return Err(TableError::Step(index, refusal)),
     };
-    if follows(image, table, head, ways, state, other, room) {
-        Ok(())
-    } else {
-        Err(TableError::Successor(index))
+    match follows(image, table, head, ways, state, other, room) {
+        Some(known) => Ok(known),
+        None => Err(TableError::Successor(index)),
+    }
+}
+
+/// Tests an entry, which is read unless it is known: P7 and P8. What is known after it is told.
+fn test_entry(
+    image: &Image,
+    table: &Table,
+    index: usize,
+    known: Known,
+    state: &mut State,
+    other: &mut State,
+    room: &mut State,
+) -> Result<Known, TableError>
+    requires there { IsSome (entry_at image.now table.now index) }
+    requires known { IsKnown image.now (entry_at image.now table.now) state.old room.old known }
+    ensures fine { IfOk result (λ _. (e : Entry) → entry_at image.now table.now index ≡ Some e
+        → IsFine image.now (entry_at image.now table.now) e) }
+    ensures known { IfOk result
+        (IsKnown image.now (entry_at image.now table.now) state.new room.new) }
+    ensures faulty { IfErr result
+        (IsFaultyAt image.now (entry_at image.now table.now) index) }
+{
+    match known {
+        Known::First(there, head) if there == index => {
+            test_standing(image, table, index, head, state, other, room)
+        }
+        Known::Second(there, head) if there == index => {
+            match test_standing(image, table, index, head, room, other, state) {
+                Ok(known) => Ok(turned(known)),
+                Err(error) => Err(error),
+            }
+        }
+        _ => {
+            let Some(head) = table.read(image, index, state) else {
+                unreachable!()
+            };
+            test_standing(image, table, index, head, state, other, room)
+        }
     }
 }
 
@@ -99,8 +210,11 @@ pub fn test_all(image: &Image, table: &Table) -> Result<(), TableError>
     let mut state = State::start();
     let mut other = State::start();
     let mut room = State::start();
+    let mut known = Known::None;
     for index in 0..table.len() {
-        test_entry(image, table, index, &mut state, &mut other, &mut room)?;
+        known = test_entry(
+            image, table, index, known, &mut state, &mut other, &mut room,
+        )?;
     }
     Ok(())
 }

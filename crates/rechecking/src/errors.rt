@@ -1,6 +1,11 @@
 //! Why a table is refused.
 
+ghost use Rattle.std.specs.Prelude.{◌≡◌, Some};
+ghost use Rattle.rechecking.specs.Messages.{fault_code, fault_sentence, code_of, sentence_of};
+
 use control_flow::FlowError;
+use std::error::Error;
+use std::fmt;
 use table_entries::TableFault;
 use transfer::Refusal;
 
@@ -18,3 +23,69 @@ pub enum TableError {
     /// P8: the successors of an entry are not those that it names.
     Successor(usize),
 }
+
+fn fault_code(fault: TableFault) -> &'static str
+    ensures { result.now ≡ fault_code fault }
+{
+    match fault {
+        TableFault::Magic => "P1",
+        TableFault::Short => "P2",
+        TableFault::Long => "P3",
+        TableFault::Count => "P4",
+        TableFault::Entry(_) => "P5",
+        TableFault::Memory => "P9",
+    }
+}
+
+fn fault_sentence(fault: TableFault) -> &'static str
+    ensures { result.now ≡ fault_sentence fault }
+{
+    match fault {
+        TableFault::Magic => "the bytes do not begin with XPT1",
+        TableFault::Short => "the table is shorter than its head, or than its entries",
+        TableFault::Long => "the table is longer than its entries",
+        TableFault::Count => "the table has no entries, or more than 1000000",
+        TableFault::Entry(_) => "a field of the entry has a value that is not allowed",
+        TableFault::Memory => "out of memory",
+    }
+}
+
+impl TableError {
+    /// Its number in the documents, such as `P7`.
+    pub fn code(self) -> &'static str
+        ensures { result.now ≡ code_of self }
+    {
+        match self {
+            TableError::Flow(error, _) => error.code(),
+            TableError::Fault(fault) => fault_code(fault),
+            TableError::Start => "P6",
+            TableError::Step(_, _) => "P7",
+            TableError::Successor(_) => "P8",
+        }
+    }
+
+    /// What is wrong, in a sentence.
+    pub fn sentence(self) -> &'static str
+        ensures { result.now ≡ sentence_of self }
+    {
+        match self {
+            TableError::Flow(error, _) => error.sentence(),
+            TableError::Fault(fault) => fault_sentence(fault),
+            TableError::Start => "the first entry does not cover the start of a run",
+            TableError::Step(_, _) => "the step of the entry is refused",
+            TableError::Successor(_) =>
+                "the named entries do not cover its successors, or their numbers are not smaller",
+        }
+    }
+}
+
+/// Writes the sentence.
+impl fmt::Display for TableError {
+    ghost output = { λ error. Some (sentence_of error) };
+
+    fn fmt<W: fmt::Write>(&self, f: &mut fmt::Formatter<W>) -> fmt::Result {
+        f.write_str(self.sentence())
+    }
+}
+
+impl Error for TableError {}

@@ -1,6 +1,10 @@
+pub mod Words
 pub mod Many
 pub mod Parts
 pub mod Ends
 pub mod Rows
 pub mod Numbers
+pub mod Spelled
 pub mod Seen
+pub mod BlankSlots
+pub mod NumberSlots

@@ -1,7 +1,7 @@
 -- What is read one after the other, as a loop does.
 use Rattle.std.specs.Prelude.{◌≡◌, ℕ, suc, ◌+◌, ◌-◌, ◌<◌, ◌≤◌, ◌&&◌, Bool, true, false, List, [], ◌∷◌, ◌++◌, length, take, slice_set, Option, Some, None, Ok, Err, refl}
-use Rattle.std.proofs.Common.{sym, ap, ◌∙◌, append_assoc, arith}
-use Rattle.std.proofs.lemmas.List.{append-nil, take_more_set}
+use Rattle.std.proofs.Common.{sym, ap, ◌∙◌, append_assoc, arith, subst, get_or, take_all}
+use Rattle.std.proofs.lemmas.List.{append-nil, take_more, take_more_set}
 use Rattle.table_entries.specs.declared.stops.Stop.{Stop}
 use Rattle.table_entries.specs.Reading.{Read, kept, then_read, joined, many, one_more}
 
@@ -66,6 +66,15 @@ begins (Err stop) = refl
 pub many-begins : {X : Type 0} (one : ℕ → List ℕ → Read X) (n : ℕ) (bytes : List ℕ) → with_front (Some []) (many one (n - 0) 0 bytes) ≡ many one n 0 bytes
 many-begins one n bytes = let all : n - 0 ≡ n = omega arith in rw all (begins (many one n 0 bytes))
 
+-- one more is spelled
+pub spelled-goes_on : {X : Type 0} (one : ℕ → List ℕ → Read X) (xs : List X) (n i : ℕ) (bytes : List ℕ) (d : X) (after : List ℕ) (total : Read (List X))
+    → i < n → i < length xs → one i bytes ≡ Ok (Some (get_or xs i d), after)
+    → with_front (Some (take i xs)) (many one (n - i) i bytes) ≡ total
+    → with_front (Some (take (i + 1) xs)) (many one (n - (i + 1)) (i + 1) after) ≡ total
+spelled-goes_on one xs n i bytes d after total lt inside h so_far =
+    subst (λ (ys : List _). with_front (Some ys) (many one (n - (i + 1)) (i + 1) after) ≡ total) (sym (take_more xs i d inside))
+    (many-goes_on one (Some (take i xs)) n i bytes (Some (get_or xs i d)) after total lt h so_far)
+
 -- one more is put in its place
 pub kept-set : {X : Type 0} (whole fits : Bool) (xs : List X) (i : ℕ) (x : X) → i < length xs
     → kept (whole && fits) (take (i + 1) (slice_set xs i x)) ≡ one_more (kept whole (take i xs)) (kept fits x)
@@ -77,3 +86,17 @@ pub kept-both : {X : Type 0} (whole fits : Bool) (xs : List X) (x : X) → kept 
 kept-both true true xs x = refl
 kept-both true false xs x = refl
 kept-both false fits xs x = refl
+
+-- a loop that puts what it reads into its places, one step on
+pub places-goes_on : {X : Type 0} (one : ℕ → List ℕ → Read X) (whole fits : Bool) (xs : List X) (n i : ℕ) (bytes : List ℕ) (x : X) (after : List ℕ)
+    (total : Read (List X)) → i < n → i < length xs → one i bytes ≡ Ok (kept fits x, after)
+    → with_front (kept whole (take i xs)) (many one (n - i) i bytes) ≡ total
+    → with_front (kept (whole && fits) (take (i + 1) (slice_set xs i x))) (many one (n - (i + 1)) (i + 1) after) ≡ total
+places-goes_on one whole fits xs n i bytes x after total lt inside h so_far =
+    rw (kept-set whole fits xs i x inside) (many-goes_on one (kept whole (take i xs)) n i bytes (kept fits x) after total lt h so_far)
+
+-- and at its end
+pub places-done : {X : Type 0} (one : ℕ → List ℕ → Read X) (whole : Bool) (xs : List X) (n i : ℕ) (bytes : List ℕ) (total : Read (List X))
+    → n ≤ i → length xs ≤ i → with_front (kept whole (take i xs)) (many one (n - i) i bytes) ≡ total → total ≡ Ok (kept whole xs, bytes)
+places-done one whole xs n i bytes total le long so_far =
+    many-done one (kept whole (take i xs)) n i bytes total le so_far ∙ ap (λ (ys : List _). Ok (kept whole ys, bytes)) (take_all i xs long)

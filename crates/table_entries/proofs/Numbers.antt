@@ -2,7 +2,7 @@
 use Rattle.std.specs.Prelude.{◌≡◌, ℕ, ◌-◌, ◌<◌, nat_lt, ◌==◌, ◌||◌, ◌&&◌, not, if◌then◌else◌, Bool, true, false, List, length, drop, slice_get, Option, Some, None, Ok, Err, refl}
 use Rattle.std.proofs.Common.{sym, ap, ◌∙◌, subst, arith, get_or}
 use Rattle.std.proofs.lemmas.Option.{slice_get-get_or}
-use Rattle.std.specs.Prelude.{MatchOption}
+use Rattle.std.specs.Prelude.{MatchOption, IfSome}
 use Rattle.std.specs.Option.{is_some, option_map}
 use Rattle.stack_state.specs.declared.states.State.{State}
 use Rattle.table_entries.specs.declared.entries.Head.{Head}
@@ -127,3 +127,7 @@ read-at p t k place (Some h) a after there read = rw (there, read)
 pub stop-at : (p : Program) (t : Kept) (k place : ℕ) (stop : Stop) → slice_get t.places k ≡ Some place → entry_in p (drop place t.bytes) ≡ Err stop
     → entry_at p t k ≡ None
 stop-at p t k place stop there read = rw (there, read)
+
+pub if_some-weaker : {X : Type 0} (P Q : X → Type 0) (o : Option X) → ((x : X) → P x → Q x) → IfSome o P → IfSome o Q
+if_some-weaker P Q (Some x) h given = h x given
+if_some-weaker P Q None h given = tt

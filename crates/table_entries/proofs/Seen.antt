@@ -114,6 +114,32 @@ seen-frame rows holder bytes long =
     (λ slots after. Ok ((is_some kinds && slots) && (not (holder == 0) || little_number 2 bytes == 0), after))
     (λ slots after. ap (λ (b : Bool). Ok (b, after)) (some-frame holder (little_number 2 bytes) kinds slots))))
 
+some-kept : (holder slot : ℕ) (outer values : Bool) (kinds : List Kind) (slots : Option (List Slot))
+    → is_some (frame_of holder outer slot (kept values kinds) slots) ≡ ((values && is_some slots) && frame_allowed holder outer slot kinds)
+some-kept holder slot outer true kinds (Some slots) =
+    some-if (frame_allowed holder outer slot kinds) (record { return_slot = slot; registers = kinds; stack = record { slots = slots } })
+some-kept holder slot outer true kinds None = refl
+some-kept holder slot outer false kinds slots = refl
+
+-- a frame whose values were read
+pub seen-caller : (rows holder : ℕ) (outer : Bool) (bytes : List ℕ) (values : Bool) (kinds : List Kind) (rest : List ℕ) → 2 ≤ length bytes
+    → many (λ k. kind_in rows holder) 10 0 (drop 2 bytes) ≡ Ok (kept values kinds, rest)
+    → seen (frame_in rows holder outer bytes)
+    ≡ then_seen (seen (many (λ k. slot_in rows holder) 64 0 rest)) (λ slots after.
+    Ok ((values && slots) && frame_allowed holder outer (little_number 2 bytes) kinds, after))
+unfolding frame_in
+seen-caller rows holder outer bytes values kinds rest long read =
+    rw (le-ltb (length bytes) 2 long, read)
+    (seen-then (many (λ k. slot_in rows holder) 64 0 rest) _
+    (λ slots after. Ok ((values && slots) && frame_allowed holder outer (little_number 2 bytes) kinds, after))
+    (λ slots after. ap (λ (b : Bool). Ok (b, after)) (some-kept holder (little_number 2 bytes) outer values kinds slots)))
+
+-- one whose values could not be read
+pub stop-caller : (rows holder : ℕ) (outer : Bool) (bytes : List ℕ) (stop : Stop) → 2 ≤ length bytes
+    → many (λ k. kind_in rows holder) 10 0 (drop 2 bytes) ≡ Err stop → frame_in rows holder outer bytes ≡ Err stop
+unfolding frame_in
+stop-caller rows holder outer bytes stop long read = rw (le-ltb (length bytes) 2 long, read) refl
+
 some-entry : (p : Program) (number slot : ℕ) (callers : Option (List AbstractFrame)) (innermost : Option AbstractFrame) (successors : Option (List ℕ))
     → is_some (entry_with p number slot callers innermost successors) ≡ (((is_some callers && is_some innermost) && head_allowed p number slot) && is_some successors)
 some-entry p number slot (Some callers) (Some innermost) (Some successors) =

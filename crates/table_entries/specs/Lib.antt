@@ -1,5 +1,6 @@
 pub mod Deciding
 pub mod Reading
+pub mod Blanks
 pub mod Values
 pub mod ValueLaws
 pub mod Frames

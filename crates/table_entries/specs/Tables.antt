@@ -44,7 +44,7 @@ count_in bytes =
     else let count = little_number 4 (drop 4 bytes) in
     if count == 0 || nat_lt MAX_ENTRIES count then Err fault.Count else Ok count
 
--- so many entries after the first 8 bytes, and nothing more
+-- this number of entries after the first 8 bytes, and nothing more
 abbrev pub body_in : Program → List ℕ → ℕ → Result (List (Option Entry)) TableFault
 body_in p bytes count = to_the_end (entries_in p count 0 (drop 8 bytes))
 
@@ -103,7 +103,7 @@ pub record Holds (p : Program) (t : Kept) (entries : List Entry) : Type 0 where
   pub count : count_of t ≡ length entries
   pub each : (k : ℕ) → entry_at p t k ≡ slice_get entries k
 
--- so many entries begin at the places, and that is the first that is not allowed
+-- this number of entries begin at the places, and that is the first that is not allowed
 pub record ArePlaced (p : Program) (bytes : List ℕ) (count : ℕ) (places : List ℕ) (first : Option ℕ) : Type 0 where
   pub body : body_in p bytes count ≡ Ok (map (entry_from p bytes) places)
   pub first_is : first ≡ first_none 0 (map (entry_from p bytes) places)

@@ -8,10 +8,9 @@ ghost use Rattle.table_entries.specs.Reading.{Gives, kept};
 
 use crate::frames::{read_callers, read_frame};
 use crate::loops::both;
-use crate::slices::skip;
+use crate::slices::{skip, u16_at, u32_at};
 use crate::stops::Stop;
 use bounds::MAX_BOUND;
-use byteorder::{ByteOrder, LittleEndian};
 use image::Image;
 use stack_state::State;
 
@@ -44,15 +43,13 @@ pub fn named_in(bytes: &[u8]) -> Result<(Named, &[u8]), Stop>
             if rest.len() < 4 {
                 return Err(Stop::Short);
             }
-            Ok((Named::One(LittleEndian::read_u32(rest)), skip(rest, 4)))
+            Ok((Named::One(u32_at(rest, 0)), skip(rest, 4)))
         }
         [2, rest @ ..] => {
             if rest.len() < 8 {
                 return Err(Stop::Short);
             }
-            let first = LittleEndian::read_u32(rest);
-            let second = LittleEndian::read_u32(skip(rest, 4));
-            Ok((Named::Two(first, second), skip(rest, 8)))
+            Ok((Named::Two(u32_at(rest, 0), u32_at(rest, 4)), skip(rest, 8)))
         }
         [_, ..] => Err(Stop::Form),
     }
@@ -111,11 +108,11 @@ pub fn read_entry<'a>(
     if bytes.len() < 7 {
         return Err(Stop::Short);
     }
-    let frames = usize::from(skip(bytes, 6)[0]);
+    let frames = usize::from(bytes[6]);
     if frames == 0 || frames > 8 {
         return Err(Stop::Form);
     }
-    let number = LittleEndian::read_u32(bytes);
-    state.slot = usize::from(LittleEndian::read_u16(skip(bytes, 4)));
+    let number = u32_at(bytes, 0);
+    state.slot = usize::from(u16_at(bytes, 4));
     read_rest(image, number, frames - 1, skip(bytes, 7), state)
 }

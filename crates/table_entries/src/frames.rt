@@ -6,10 +6,9 @@ ghost use Rattle.table_entries.specs.Frames.{callers_in};
 ghost use Rattle.table_entries.specs.Reading.{Gives, kept};
 
 use crate::loops::{both, read_registers, read_slots};
-use crate::slices::skip;
+use crate::slices::{skip, u16_at};
 use crate::stops::Stop;
 use arrayvec::ArrayVec;
-use byteorder::{ByteOrder, LittleEndian};
 use reg_state::Kind;
 use stack_state::AbstractFrame;
 
@@ -31,7 +30,7 @@ fn are_unset(registers: &[Kind; 10]) -> bool
         && is_unset(&registers[5])
 }
 
-fn frame_allowed(holder: usize, outer: bool, slot: usize, registers: &[Kind; 10]) -> bool
+pub fn frame_allowed(holder: usize, outer: bool, slot: usize, registers: &[Kind; 10]) -> bool
     ensures { result ≡ frame_allowed holder outer slot registers.now }
 {
     (holder != 0 || slot == 0) && (!outer || are_unset(registers))
@@ -52,7 +51,7 @@ pub fn read_frame<'a>(
     if bytes.len() < 2 {
         return Err(Stop::Short);
     }
-    frame.return_slot = usize::from(LittleEndian::read_u16(bytes));
+    frame.return_slot = usize::from(u16_at(bytes, 0));
     let (values, rest) = read_registers(rows, holder, skip(bytes, 2), &mut frame.registers)?;
     let (slots, rest) = read_slots(rows, holder, rest, &mut frame.stack.slots)?;
     let fits = frame_allowed(holder, outer, frame.return_slot, &frame.registers);

@@ -5,12 +5,14 @@
 //! only that its bytes are of the form, and its fields are allowed.
 #![tactic(auto)]
 
+pub mod blanks;
 pub mod entries;
 pub mod faults;
 pub mod frames;
 pub mod loops;
 pub mod passing;
 pub mod slices;
+pub mod spelling;
 pub mod stops;
 pub mod tables;
 pub mod values;

@@ -45,6 +45,17 @@ fn read_kind<'a>(
     }
 }
 
+// Marks the written bytes of a slot; a whole slot is written only where one was spilled.
+#[inline(always)]
+fn mark(slot: &mut Slot, marks: u8)
+    ensures { slot.new ≡ Slot.Written marks }
+{
+    match slot {
+        Slot::Written(old) => *old = marks,
+        Slot::Spilled(_) => *slot = Slot::Written(marks),
+    }
+}
+
 /// A stack slot, read into the room for it: whether it is allowed, and the bytes after it.
 ///
 /// Most slots have no value: those are read at once, since this is most of what a table has.
@@ -60,7 +71,7 @@ fn read_slot<'a>(
 {
     match bytes {
         [0, marks, rest @ ..] => {
-            *slot = Slot::Written(*marks);
+            mark(slot, *marks);
             Ok((true, rest))
         }
         _ => {

@@ -1,47 +1,80 @@
-//! Entries passed over: whether they are allowed, and where they end. Nothing is kept of them but
-//! their outer frames.
+//! Entries passed over: whether they are allowed, and where they end.
 
-ghost use Rattle.std.specs.Prelude.{◌≡◌, ◌≤◌, ◌==◌, ◌||◌, not, false};
+ghost use Rattle.std.specs.Prelude.{◌≡◌, ◌==◌, ◌||◌, not, false, true};
 ghost use Rattle.table_entries.specs.Values.{kind_in, slot_in};
-ghost use Rattle.table_entries.specs.Frames.{frame_in};
+ghost use Rattle.table_entries.specs.Frames.{frame_in, callers_in};
 ghost use Rattle.table_entries.specs.Entries.{rest_in, entry_in};
 ghost use Rattle.table_entries.specs.Reading.{Gives, seen, many};
 
+use crate::blanks::blank_slots;
 use crate::entries::{head_allowed, named_in};
-use crate::frames::read_callers;
-use crate::loops::both;
-use crate::slices::skip;
+use crate::frames::frame_allowed;
+use crate::loops::{both, read_registers};
+use crate::slices::{skip, u16_at, u32_at};
 use crate::stops::Stop;
-use crate::values::{kind_in, slot_in};
-use byteorder::{ByteOrder, LittleEndian};
+use crate::values::{kind_in, packet_in, scalar_in, slot_in};
 use image::Image;
-use stack_state::State;
+use reg_state::Kind;
+
+// A value of a kind that is rare, or not allowed, or of no kind.
+#[inline(never)]
+fn pass_other(rows: usize, holder: usize, bytes: &[u8]) -> Result<(bool, &[u8]), Stop>
+    ensures { Gives (λ x. (x.0, x.1.now)) result (seen (kind_in rows holder bytes.now)) }
+{
+    let (kind, rest) = kind_in(rows, holder, bytes)?;
+    Ok((kind.is_some(), rest))
+}
 
 #[inline(always)]
-#[tactic(auto, unfolding(crate::specs::Values::kind_in, crate::specs::Values::fields_in))]
+#[tactic(auto, using(crate::proofs::NumberSlots::number_there), unfolding(crate::specs::Values::kind_in, crate::specs::Values::fields_in))]
 fn pass_kind(rows: usize, holder: usize, bytes: &[u8]) -> Result<(bool, &[u8]), Stop>
     ensures { Gives (λ x. (x.0, x.1.now)) result (seen (kind_in rows holder bytes.now)) }
 {
     match bytes {
         [0, rest @ ..] => Ok((true, rest)),
-        _ => {
-            let (kind, rest) = kind_in(rows, holder, bytes)?;
-            Ok((kind.is_some(), rest))
+        [1, rest @ ..] => {
+            if rest.len() < 64 {
+                return Err(Stop::Short);
+            }
+            Ok((scalar_in(rest).is_some(), skip(rest, 64)))
         }
+        [2, rest @ ..] => Ok((true, rest)),
+        [4, rest @ ..] => {
+            if rest.len() < 20 {
+                return Err(Stop::Short);
+            }
+            Ok((packet_in(rest).is_some(), skip(rest, 20)))
+        }
+        [5, rest @ ..] => Ok((true, rest)),
+        _ => pass_other(rows, holder, bytes),
     }
 }
 
+// A slot that is spilled, or of no form.
+#[inline(never)]
+fn pass_spilled(rows: usize, holder: usize, bytes: &[u8]) -> Result<(bool, &[u8]), Stop>
+    ensures { Gives (λ x. (x.0, x.1.now)) result (seen (slot_in rows holder bytes.now)) }
+{
+    let (slot, rest) = slot_in(rows, holder, bytes)?;
+    Ok((slot.is_some(), rest))
+}
+
 #[inline(always)]
-#[tactic(auto, unfolding(crate::specs::Values::slot_in))]
+#[tactic(auto, using(crate::proofs::NumberSlots::spilled_number), unfolding(crate::specs::Values::slot_in, crate::specs::Values::kind_in, crate::specs::Values::fields_in))]
 fn pass_slot(rows: usize, holder: usize, bytes: &[u8]) -> Result<(bool, &[u8]), Stop>
     ensures { Gives (λ x. (x.0, x.1.now)) result (seen (slot_in rows holder bytes.now)) }
 {
     match bytes {
         [0, _, rest @ ..] => Ok((true, rest)),
-        _ => {
-            let (slot, rest) = slot_in(rows, holder, bytes)?;
-            Ok((slot.is_some(), rest))
+        [1, 1, rest @ ..] => {
+            if rest.len() < 64 {
+                return Err(Stop::Short);
+            }
+            Ok((scalar_in(rest).is_some(), skip(rest, 64)))
         }
+        [1, 2, rest @ ..] => Ok((true, rest)),
+        [1, 5, rest @ ..] => Ok((true, rest)),
+        _ => pass_spilled(rows, holder, bytes),
     }
 }
 
@@ -63,9 +96,10 @@ fn pass_slots(rows: usize, holder: usize, bytes: &[u8]) -> Result<(bool, &[u8]),
     ensures { Gives (λ x. (x.0, x.1.now)) result
         (seen (many (λ k. slot_in rows holder) 64 0 bytes.now)) }
 {
-    let mut rest = bytes;
+    let blank = blank_slots(bytes);
+    let mut rest = skip(bytes, 2 * blank);
     let mut allowed = true;
-    for index in 0..64usize {
+    for index in blank..64 {
         let (fits, after) = pass_slot(rows, holder, rest)?;
         allowed = both(allowed, fits);
         rest = after;
@@ -86,10 +120,47 @@ fn pass_frame(rows: usize, holder: usize, bytes: &[u8]) -> Result<(bool, &[u8]),
     if bytes.len() < 2 {
         return Err(Stop::Short);
     }
-    let fits = returns_right(holder, LittleEndian::read_u16(bytes));
+    let fits = returns_right(holder, u16_at(bytes, 0));
     let (values, rest) = pass_kinds(rows, holder, skip(bytes, 2))?;
     let (slots, rest) = pass_slots(rows, holder, rest)?;
     Ok((both(both(values, slots), fits), rest))
+}
+
+/// An outer frame, by way of room for its registers.
+fn pass_caller<'a>(
+    rows: usize,
+    holder: usize,
+    bytes: &'a [u8],
+    room: &mut [Kind; 10],
+) -> Result<(bool, &'a [u8]), Stop>
+    ensures { Gives (λ x. (x.0, x.1.now)) result (seen (frame_in rows holder true bytes.now)) }
+{
+    if bytes.len() < 2 {
+        return Err(Stop::Short);
+    }
+    let (values, rest) = read_registers(rows, holder, skip(bytes, 2), room)?;
+    let (slots, rest) = pass_slots(rows, holder, rest)?;
+    let fits = frame_allowed(holder, true, usize::from(u16_at(bytes, 0)), room);
+    Ok((both(both(values, slots), fits), rest))
+}
+
+/// The outer frames.
+fn pass_callers<'a>(
+    rows: usize,
+    count: usize,
+    bytes: &'a [u8],
+    room: &mut [Kind; 10],
+) -> Result<(bool, &'a [u8]), Stop>
+    ensures { Gives (λ x. (x.0, x.1.now)) result (seen (callers_in rows count bytes.now)) }
+{
+    let mut rest = bytes;
+    let mut allowed = true;
+    for holder in 0..count {
+        let (fits, after) = pass_caller(rows, holder, rest, room)?;
+        allowed = both(allowed, fits);
+        rest = after;
+    }
+    Ok((allowed, rest))
 }
 
 // The frames, of which all but the last are outer ones, and the entries that are named.
@@ -99,14 +170,13 @@ fn pass_rest<'a>(
     slot: usize,
     outer: usize,
     bytes: &'a [u8],
-    room: &mut State,
+    room: &mut [Kind; 10],
 ) -> Result<(bool, &'a [u8]), Stop>
-    requires { outer ≤ 7 }
     ensures { Gives (λ x. (x.0, x.1.now)) result
         (seen (rest_in image.now number slot outer bytes.now)) }
 {
     let rows = image.maps().len();
-    let (callers, rest) = read_callers(rows, outer, bytes, &mut room.callers, &mut room.innermost)?;
+    let (callers, rest) = pass_callers(rows, outer, bytes, room)?;
     let (innermost, rest) = pass_frame(rows, outer, rest)?;
     let (_, rest) = named_in(rest)?;
     let fits = head_allowed(image, number, slot);
@@ -114,23 +184,23 @@ fn pass_rest<'a>(
 }
 
 /// Whether the entry that the bytes begin with has only fields that are allowed, and the bytes
-/// after it. The room is for its outer frames.
+/// after it. The room is for the registers of its outer frames.
 #[tactic(auto, unfolding(crate::specs::Entries::entry_in))]
 pub fn pass_entry<'a>(
     image: &Image,
     bytes: &'a [u8],
-    room: &mut State,
+    room: &mut [Kind; 10],
 ) -> Result<(bool, &'a [u8]), Stop>
     ensures { Gives (λ x. (x.0, x.1.now)) result (seen (entry_in image.now bytes.now)) }
 {
     if bytes.len() < 7 {
         return Err(Stop::Short);
     }
-    let frames = usize::from(skip(bytes, 6)[0]);
+    let frames = usize::from(bytes[6]);
     if frames == 0 || frames > 8 {
         return Err(Stop::Form);
     }
-    let number = LittleEndian::read_u32(bytes);
-    let slot = usize::from(LittleEndian::read_u16(skip(bytes, 4)));
+    let number = u32_at(bytes, 0);
+    let slot = usize::from(u16_at(bytes, 4));
     pass_rest(image, number, slot, frames - 1, skip(bytes, 7), room)
 }

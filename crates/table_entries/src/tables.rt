@@ -1,7 +1,8 @@
 //! Tables: their bytes, and where in them the entries begin.
 
 ghost use Rattle.std.specs.Prelude.{◌≡◌, ◌⊎◌, ◌≤◌, List, Some, None, Ok, Err};
-ghost use Rattle.std.specs.Prelude.{MatchResult, MatchOption, OnOk, IfErr, length, drop, [], ◌∷◌, ◌++◌};
+ghost use Rattle.std.specs.Prelude.{MatchResult, MatchOption, OnOk, IfErr, IfSome};
+ghost use Rattle.std.specs.Prelude.{length, drop, [], ◌∷◌, ◌++◌};
 ghost use Rattle.table_entries.specs.Reading.{seen};
 ghost use Rattle.isa_model.specs.Code.Instructions.{Program};
 ghost use Rattle.table_entries.specs.Entries.{Entry, IsAllowed, entry_in, entry_of};
@@ -13,10 +14,11 @@ ghost use Rattle.table_entries.specs.Tables.{ArePlaced, count_in, body_in, fault
 use crate::entries::{Head, read_entry};
 use crate::faults::TableFault;
 use crate::passing::pass_entry;
-use crate::slices::skip;
+use crate::slices::{skip, u32_at};
+use crate::spelling::head_of;
 use crate::stops::Stop;
-use byteorder::{ByteOrder, LittleEndian};
 use image::Image;
+use reg_state::Kind;
 use stack_state::State;
 use std::alloc::Global;
 use std::marker::Model;
@@ -24,8 +26,8 @@ use std::marker::Model;
 /// The most entries of a table.
 pub const MAX_ENTRIES: u32 = 1_000_000;
 
-/// A table whose bytes are of the form, and all of whose fields are allowed. It has 8 bytes for each
-/// entry, which says where the entry begins: no entry is kept.
+/// A table whose bytes are of the form, with every field allowed. It has 8 bytes for each entry, which
+/// say where the entry begins: no entry is kept.
 ///
 /// Contracts see the bytes and the places.
 #[derive(Drop)]
@@ -53,7 +55,7 @@ fn count_in(bytes: &[u8]) -> Result<usize, TableFault>
     if !bytes.starts_with(b"XPT1") {
         return Err(TableFault::Magic);
     }
-    let count = LittleEndian::read_u32(skip(bytes, 4));
+    let count = u32_at(bytes, 4);
     if count == 0 || count > MAX_ENTRIES {
         return Err(TableFault::Count);
     }
@@ -76,7 +78,7 @@ fn pass_or_fault<'a>(
     image: &Image,
     index: usize,
     bytes: &'a [u8],
-    room: &mut State,
+    room: &mut [Kind; 10],
 ) -> Result<(bool, &'a [u8]), TableFault>
     ensures { MatchResult result (λ x. seen (entry_in image.now bytes.now) ≡ Ok (x.0, x.1.now))
         (λ fault. (stop : Stop) × (seen (entry_in image.now bytes.now) ≡ Err stop)
@@ -104,7 +106,7 @@ fn places_in(
     let mut places = Vec::new(alloc);
     let mut first = None;
     let mut rest = skip(bytes, 8);
-    let mut room = State::start();
+    let mut room = [Kind::Unset; 10];
     for index in 0..count {
         push_place(&mut places, bytes.len() - rest.len())?;
         let (allowed, after) = pass_or_fault(image, index, rest, &mut room)?;
@@ -185,7 +187,7 @@ impl<'a> Table<'a> {
         if bytes.len() < 4 {
             return None;
         }
-        Some(LittleEndian::read_u32(bytes))
+        Some(u32_at(bytes, 0))
     }
 
     /// The entry of that index, whose state is put into the room for it.
@@ -202,5 +204,19 @@ impl<'a> Table<'a> {
             Ok((head, _)) => head,
             Err(_) => None,
         }
+    }
+
+    /// What the entry of that index says beside its state, if its bytes spell this state. None says
+    /// nothing.
+    ///
+    /// The image is the one that the table was made with.
+    pub fn head_of(&self, image: &Image, index: usize, state: &State) -> Option<Head>
+        ensures allowed { IfSome result
+            (λ head. IsAllowed image.now head.number state.now.slot) }
+        ensures entry { IfSome result
+            (λ head. entry_at image.now self.now index ≡ Some (entry_of head state.now)) }
+    {
+        let place = *self.places.get(index)?;
+        head_of(image, bytes_from(self.bytes, place), state)
     }
 }

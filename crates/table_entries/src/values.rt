@@ -10,15 +10,15 @@ ghost use Rattle.table_entries.specs.Reading.{Gives};
 ghost use Rattle.table_entries.specs.Values.{range_of, scalar_of, packet_of, lacks_identity};
 ghost use Rattle.table_entries.specs.Values.{bits_in, wide_in, low_in};
 
-use crate::slices::skip;
+use crate::slices::{skip, u32_at, u64_at};
 use crate::stops::Stop;
-use byteorder::{ByteOrder, LittleEndian};
 use known_bits::Bits;
 use ranges::{Low, Range, Wide};
 use reg_state::{Kind, Scalar};
 use stack_state::Slot;
 
 #[tactic(auto, unfolding(crate::specs::Values::bits_of))]
+#[inline(always)]
 fn bits_of(value: u64, mask: u64) -> Option<Bits>
     ensures { result ≡ bits_of value mask }
 {
@@ -29,6 +29,7 @@ fn bits_of(value: u64, mask: u64) -> Option<Bits>
     }
 }
 
+#[inline(always)]
 fn wide_of(least: u64, greatest: u64, signed_least: i64, signed_greatest: i64) -> Option<Wide>
     ensures { result ≡ wide_of least greatest signed_least signed_greatest }
 {
@@ -46,6 +47,7 @@ fn wide_of(least: u64, greatest: u64, signed_least: i64, signed_greatest: i64) -
     })
 }
 
+#[inline(always)]
 fn low_of(least: u32, greatest: u32, signed_least: i32, signed_greatest: i32) -> Option<Low>
     ensures { result ≡ low_of least greatest signed_least signed_greatest }
 {
@@ -63,6 +65,7 @@ fn low_of(least: u32, greatest: u32, signed_least: i32, signed_greatest: i32) ->
     })
 }
 
+#[inline(always)]
 fn range_of(wide: Option<Wide>, low: Option<Low>) -> Option<Range>
     ensures { result ≡ range_of wide low }
 {
@@ -72,6 +75,7 @@ fn range_of(wide: Option<Wide>, low: Option<Low>) -> Option<Range>
     }
 }
 
+#[inline(always)]
 fn scalar_of(bits: Option<Bits>, range: Option<Range>) -> Option<Scalar>
     ensures { result ≡ scalar_of bits range }
 {
@@ -81,42 +85,43 @@ fn scalar_of(bits: Option<Bits>, range: Option<Range>) -> Option<Scalar>
     }
 }
 
+#[inline(always)]
 fn bits_in(bytes: &[u8]) -> Option<Bits>
     requires { 16 ≤ length bytes.now }
     ensures { result ≡ bits_in bytes.now }
 {
-    bits_of(
-        LittleEndian::read_u64(bytes),
-        LittleEndian::read_u64(skip(bytes, 8)),
-    )
+    bits_of(u64_at(bytes, 0), u64_at(bytes, 8))
 }
 
+#[inline(always)]
 fn wide_in(bytes: &[u8]) -> Option<Wide>
     requires { 32 ≤ length bytes.now }
     ensures { result ≡ wide_in bytes.now }
 {
     wide_of(
-        LittleEndian::read_u64(bytes),
-        LittleEndian::read_u64(skip(bytes, 8)),
-        LittleEndian::read_u64(skip(bytes, 16)).cast_signed(),
-        LittleEndian::read_u64(skip(bytes, 24)).cast_signed(),
+        u64_at(bytes, 0),
+        u64_at(bytes, 8),
+        u64_at(bytes, 16).cast_signed(),
+        u64_at(bytes, 24).cast_signed(),
     )
 }
 
+#[inline(always)]
 fn low_in(bytes: &[u8]) -> Option<Low>
     requires { 16 ≤ length bytes.now }
     ensures { result ≡ low_in bytes.now }
 {
     low_of(
-        LittleEndian::read_u32(bytes),
-        LittleEndian::read_u32(skip(bytes, 4)),
-        LittleEndian::read_u32(skip(bytes, 8)).cast_signed(),
-        LittleEndian::read_u32(skip(bytes, 12)).cast_signed(),
+        u32_at(bytes, 0),
+        u32_at(bytes, 4),
+        u32_at(bytes, 8).cast_signed(),
+        u32_at(bytes, 12).cast_signed(),
     )
 }
 
 #[tactic(auto, unfolding(crate::specs::Values::scalar_in))]
-fn scalar_in(bytes: &[u8]) -> Option<Scalar>
+#[inline(always)]
+pub fn scalar_in(bytes: &[u8]) -> Option<Scalar>
     requires { 64 ≤ length bytes.now }
     ensures { result ≡ scalar_in bytes.now }
 {
@@ -142,8 +147,8 @@ fn limits_in(bytes: &[u8]) -> Option<(i32, i32)>
     ensures { result ≡ limits_in bytes.now }
 {
     limits_of(
-        LittleEndian::read_u32(bytes).cast_signed(),
-        LittleEndian::read_u32(skip(bytes, 4)).cast_signed(),
+        u32_at(bytes, 0).cast_signed(),
+        u32_at(bytes, 4).cast_signed(),
     )
 }
 
@@ -151,7 +156,7 @@ fn has_no_part(bytes: &[u8]) -> bool
     requires { 8 ≤ length bytes.now }
     ensures { result ≡ has_no_part bytes.now }
 {
-    LittleEndian::read_u32(bytes) == 0 && LittleEndian::read_u32(skip(bytes, 4)) == 0
+    u32_at(bytes, 0) == 0 && u32_at(bytes, 4) == 0
 }
 
 // Whether there is a variable part, and no identity.
@@ -159,7 +164,7 @@ fn lacks_identity(bytes: &[u8]) -> bool
     requires { 20 ≤ length bytes.now }
     ensures { result ≡ lacks_identity bytes.now }
 {
-    LittleEndian::read_u32(skip(bytes, 4)) == 0 && !has_no_part(skip(bytes, 8))
+    u32_at(bytes, 4) == 0 && !has_no_part(skip(bytes, 8))
 }
 
 fn packet_of(fixed: i32, identity: u32, limits: Option<(i32, i32)>, proved: u32) -> Option<Kind>
@@ -178,7 +183,7 @@ fn packet_of(fixed: i32, identity: u32, limits: Option<(i32, i32)>, proved: u32)
 }
 
 #[tactic(auto, unfolding(crate::specs::Values::packet_in))]
-fn packet_in(bytes: &[u8]) -> Option<Kind>
+pub fn packet_in(bytes: &[u8]) -> Option<Kind>
     requires { 20 ≤ length bytes.now }
     ensures { result ≡ packet_in bytes.now }
 {
@@ -186,10 +191,10 @@ fn packet_in(bytes: &[u8]) -> Option<Kind>
         return None;
     }
     packet_of(
-        LittleEndian::read_u32(bytes).cast_signed(),
-        LittleEndian::read_u32(skip(bytes, 4)),
+        u32_at(bytes, 0).cast_signed(),
+        u32_at(bytes, 4),
         limits_in(skip(bytes, 8)),
-        LittleEndian::read_u32(skip(bytes, 16)),
+        u32_at(bytes, 16),
     )
 }
 
@@ -204,7 +209,7 @@ fn stack_in(holder: usize, bytes: &[u8]) -> Option<Kind>
     }
     Some(Kind::Stack {
         frame,
-        offset: LittleEndian::read_u32(skip(bytes, 1)).cast_signed(),
+        offset: u32_at(bytes, 1).cast_signed(),
     })
 }
 
@@ -249,14 +254,15 @@ fn null_in(rows: usize, bytes: &[u8]) -> Option<Kind>
     if usize::from(index) < rows {
         Some(Kind::MapValueOrNull {
             index,
-            identity: LittleEndian::read_u32(skip(bytes, 1)),
+            identity: u32_at(bytes, 1),
         })
     } else {
         None
     }
 }
 
-fn number_in(bytes: &[u8]) -> Option<Kind>
+#[inline(always)]
+pub fn number_in(bytes: &[u8]) -> Option<Kind>
     requires { 64 ≤ length bytes.now }
     ensures { result ≡ option_map Kind.Number (scalar_in bytes.now) }
 {

@@ -1,7 +1,7 @@
 use Rattle.std.proofs.Common.{refl}
 use Rattle.std.proofs.lemmas.Result.{err_from_is_err_and}
 use Rattle.image.specs.Programs.{IsProgram-IsImage}
-use Rattle.rechecking.proofs.RefusalLaws.{entries_there, shows_of, refused_fault, refused_start, refused_entry}
+use Rattle.rechecking.proofs.RefusalLaws.{shows_of, refused_entry}
 use Rattle.rechecking.proofs.rechecks.bound_of.Goals as goal
 
 pub first_number-requires : goal.first_number-requires

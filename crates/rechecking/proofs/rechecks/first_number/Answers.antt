@@ -1,11 +1,10 @@
-use Rattle.std.proofs.Common.{◌≡◌, ℕ, refl, sym, subst}
+use Rattle.std.proofs.Common.{sym, subst}
 use Rattle.stack_state.specs.declared.states.State.{State}
 use Rattle.stack_state.specs.Meaning.{Covers}
-use Rattle.stack_state.specs.Starts.{start}
 use Rattle.state_cover.specs.FrameCover.{Encloses}
 use Rattle.table_entries.specs.Entries.{entry_of}
 use Rattle.table_entries.specs.Tables.{entry_at}
-use Rattle.rechecking.proofs.CheckingLaws.{MeansStarts-covers, HasStart-covers, unclear_start}
+use Rattle.rechecking.proofs.CheckingLaws.{HasStart-covers, unclear_start}
 use Rattle.rechecking.proofs.rechecks.first_number.Goals as goal
 
 pub returns-then-covers-clause-some : goal.returns-then-covers-clause-some

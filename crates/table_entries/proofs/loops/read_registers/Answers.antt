@@ -1,36 +1,31 @@
-use Rattle.std.proofs.Common.{◌≡◌, ◌∙◌, take, take_all, arith}
+use Rattle.std.proofs.Common.{◌∙◌, take, arith}
 use Rattle.std.proofs.lemmas.List.{length-set}
 use Rattle.std.proofs.lemmas.Result.{err_from_is_err_and}
 use Rattle.table_entries.specs.Values.{kind_in}
 use Rattle.table_entries.specs.Reading.{kept}
-use Rattle.table_entries.proofs.Many.{kept-set, many-goes_on, many-stops, many-done}
+use Rattle.table_entries.proofs.Many.{places-goes_on, many-stops, places-done}
 use Rattle.table_entries.proofs.loops.read_registers.Goals as goal
 
 pub loop-index-preserved : goal.loop-index-preserved
 loop-index-preserved c =
-    let one = kind_in c.args.rows c.args.holder in
     let xs = c.loop-index.registers in
     let x = c.read_kind.new.kind in
     record {
       so_far =
-          rw (c.both-allowed.ensures, kept-set c.loop-index.allowed c.in_ok-fits.fits xs c.loop-index.index x (omega arith))
-          (many-goes_on (λ k. one) (kept c.loop-index.allowed (take c.loop-index.index xs)) 10 c.loop-index.index c.loop-index.rest.now
-          (kept c.in_ok-fits.fits x) c.in_ok-fits.after.now _ (omega arith) c.in_ok-fits.ensures c.loop-index.invariant.so_far);
+          rw c.both-allowed.ensures
+          (places-goes_on (λ k. kind_in c.args.rows c.args.holder) c.loop-index.allowed c.in_ok-fits.fits xs 10 c.loop-index.index c.loop-index.rest.now x
+          c.in_ok-fits.after.now _ (omega arith) (omega arith) c.in_ok-fits.ensures c.loop-index.invariant.so_far);
       long = length-set xs c.loop-index.index x ∙ c.loop-index.invariant.long;
     }
 
 pub returns-in_err-fits : goal.returns-in_err-fits
 returns-in_err-fits c =
-    let one = kind_in c.args.rows c.args.holder in
     let p = err_from_is_err_and c.from_residual.result c.from_residual.ensures.1 in
     rw (p.1, p.2)
-    (many-stops (λ k. one) (kept c.loop-index.allowed (take c.loop-index.index c.loop-index.registers)) 10 c.loop-index.index c.loop-index.rest.now
-    c.in_err-fits.field-0.0 _ (omega arith) c.in_err-fits.ensures c.loop-index.invariant.so_far)
+    (many-stops (λ k. kind_in c.args.rows c.args.holder) (kept c.loop-index.allowed (take c.loop-index.index c.loop-index.registers)) 10 c.loop-index.index
+    c.loop-index.rest.now c.in_err-fits.field-0.0 _ (omega arith) c.in_err-fits.ensures c.loop-index.invariant.so_far)
 
 pub returns : goal.returns
 returns c =
-    let one = kind_in c.args.rows c.args.holder in
-    let xs = c.loop-index.registers in
-    let whole : take c.loop-index.index xs ≡ xs = take_all c.loop-index.index xs (omega arith) in
-    rw (← whole)
-    (many-done (λ k. one) (kept c.loop-index.allowed (take c.loop-index.index xs)) 10 c.loop-index.index c.loop-index.rest.now _ (omega arith) c.loop-index.invariant.so_far)
+    places-done (λ k. kind_in c.args.rows c.args.holder) c.loop-index.allowed c.loop-index.registers 10 c.loop-index.index c.loop-index.rest.now _ (omega arith)
+    (omega arith) c.loop-index.invariant.so_far

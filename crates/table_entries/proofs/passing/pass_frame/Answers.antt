@@ -21,5 +21,5 @@ returns-in_err-slots c =
 
 pub returns : goal.returns
 returns c =
-    rw (c.both-2.ensures, c.both.ensures, c.returns_right-fits.ensures, c.read_u16.ensures)
+    rw (c.both-2.ensures, c.both.ensures, c.returns_right-fits.ensures, c.u16_at.ensures)
     (seen-frame c.args.rows c.args.holder c.args.bytes.now c.if-bytes-lt2.false ∙ rw (← c.skip.ensures, c.in_ok-values.ensures, c.in_ok-slots.ensures))

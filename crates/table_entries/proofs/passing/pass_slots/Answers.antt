@@ -1,12 +1,14 @@
 use Rattle.std.proofs.Common.{arith}
 use Rattle.std.proofs.lemmas.Result.{err_from_is_err_and}
 use Rattle.table_entries.specs.Values.{slot_in}
-use Rattle.table_entries.specs.Reading.{many, seen}
-use Rattle.table_entries.proofs.Seen.{seen-begins, seen-goes_on, seen-stops, seen-done}
+use Rattle.table_entries.proofs.BlankSlots.{blank_passed}
+use Rattle.table_entries.proofs.Seen.{seen-goes_on, seen-stops, seen-done}
 use Rattle.table_entries.proofs.passing.pass_slots.Goals as goal
 
 pub loop-index-init : goal.loop-index-init
-loop-index-init c = seen-begins (seen (many (λ k. slot_in c.args.rows c.args.holder) 64 0 c.args.bytes.now))
+loop-index-init c =
+    rw c.skip-rest.ensures
+    (blank_passed c.args.rows c.args.holder 64 c.blank_slots-blank.result c.args.bytes.now c.blank_slots-blank.ensures.most c.blank_slots-blank.ensures.zeros)
 
 pub loop-index-preserved : goal.loop-index-preserved
 loop-index-preserved c =

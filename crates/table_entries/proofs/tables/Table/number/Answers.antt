@@ -11,7 +11,7 @@ returns-clause-number c = λ p e h.
     let there : slice_get c.self.inside.places.items c.args.index ≡ Some c.in_ok-place.field-0.now =
     found-at c.self.inside.places.items c.deref.result.now c.args.index c.in_ok-place.field-0.now c.deref.ensures.value (omega arith) found.1 in
     let read : entry_at p t c.args.index ≡ Some e = subst (λ (v : Kept). entry_at p v c.args.index ≡ Some e) (sym c.self.view_is) h in
-    rw (c.read_u32.ensures, c.bytes_from-bytes.ensures) (number-at p t c.args.index c.in_ok-place.field-0.now e there read)
+    rw (c.u32_at.ensures, c.bytes_from-bytes.ensures) (number-at p t c.args.index c.in_ok-place.field-0.now e there read)
 
 pub returns-then-bytes-lt4-clause-number : goal.returns-then-bytes-lt4-clause-number
 returns-then-bytes-lt4-clause-number c = λ p e h.

@@ -1,0 +1,37 @@
+-- The code of each refusal of a table, and the sentence that says what is wrong.
+use Rattle.std.specs.Prelude.{ℕ, List, codes}
+use Rattle.control_flow.specs.Messages as flow
+use Rattle.table_entries.specs.declared.faults.TableFault.{TableFault}
+use Rattle.table_entries.specs.declared.faults.TableFault.TheVariants as fault
+use Rattle.rechecking.specs.declared.errors.TableError.{TableError}
+use Rattle.rechecking.specs.declared.errors.TableError.TheVariants.{Flow, Fault, Start, Step, Successor}
+
+abbrev pub fault_code : TableFault → List ℕ
+fault_code fault.Magic = codes "P1"
+fault_code fault.Short = codes "P2"
+fault_code fault.Long = codes "P3"
+fault_code fault.Count = codes "P4"
+fault_code (fault.Entry k) = codes "P5"
+fault_code fault.Memory = codes "P9"
+
+abbrev pub code_of : TableError → List ℕ
+code_of (Flow error slot) = flow.code_of error
+code_of (Fault error) = fault_code error
+code_of Start = codes "P6"
+code_of (Step k refusal) = codes "P7"
+code_of (Successor k) = codes "P8"
+
+abbrev pub fault_sentence : TableFault → List ℕ
+fault_sentence fault.Magic = codes "the bytes do not begin with XPT1"
+fault_sentence fault.Short = codes "the table is shorter than its head, or than its entries"
+fault_sentence fault.Long = codes "the table is longer than its entries"
+fault_sentence fault.Count = codes "the table has no entries, or more than 1000000"
+fault_sentence (fault.Entry k) = codes "a field of the entry has a value that is not allowed"
+fault_sentence fault.Memory = codes "out of memory"
+
+abbrev pub sentence_of : TableError → List ℕ
+sentence_of (Flow error slot) = flow.sentence_of error
+sentence_of (Fault error) = fault_sentence error
+sentence_of Start = codes "the first entry does not cover the start of a run"
+sentence_of (Step k refusal) = codes "the step of the entry is refused"
+sentence_of (Successor k) = codes "the named entries do not cover its successors, or their numbers are not smaller"

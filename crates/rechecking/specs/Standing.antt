@@ -1,0 +1,20 @@
+-- Entries whose states stand in a room.
+use Rattle.std.specs.Prelude.{◌≡◌, ℕ, Some}
+use Rattle.isa_model.specs.Code.Instructions.{Program}
+use Rattle.stack_state.specs.declared.states.State.{State}
+use Rattle.table_entries.specs.declared.entries.Head.{Head}
+use Rattle.table_entries.specs.Entries.{IsAllowed, entry_of}
+use Rattle.rechecking.specs.declared.entries.Known.{Known}
+use Rattle.rechecking.specs.declared.entries.Known.TheVariants as known
+use Rattle.rechecking.specs.Tables.{EntryAt}
+
+-- the entry of that index has this state and says this beside it
+pub record StandsAt (p : Program) (t : EntryAt) (index : ℕ) (head : Head) (a : State) : Type 0 where
+  pub allowed : IsAllowed p head.number a.slot
+  pub there : t index ≡ Some (entry_of head a)
+
+-- the entry that is known stands in the first room or in the second
+abbrev pub IsKnown : Program → EntryAt → State → State → Known → Type 0
+IsKnown p t a b known.None = Unit {0}
+IsKnown p t a b (known.First index head) = StandsAt p t index head a
+IsKnown p t a b (known.Second index head) = StandsAt p t index head b

@@ -1,0 +1,29 @@
+use Rattle.std.proofs.Common.{◌≡◌, ◌-◌, true, arith}
+use Rattle.std.proofs.lemmas.Result.{err_from_is_err_and}
+use Rattle.table_entries.specs.Frames.{frame_in, callers_in}
+use Rattle.table_entries.specs.Reading.{seen}
+use Rattle.table_entries.proofs.Seen.{seen-begins, seen-goes_on, seen-stops, seen-done}
+use Rattle.table_entries.proofs.passing.pass_callers.Goals as goal
+
+pub loop-holder-init : goal.loop-holder-init
+loop-holder-init c =
+    let all : c.args.count - 0 ≡ c.args.count = omega arith in
+    rw all (seen-begins (seen (callers_in c.args.rows c.args.count c.args.bytes.now)))
+
+pub loop-holder-preserved : goal.loop-holder-preserved
+loop-holder-preserved c =
+    rw c.both-allowed.ensures
+    (seen-goes_on (λ k. frame_in c.args.rows k true) c.loop-holder.allowed c.args.count c.loop-holder.holder c.loop-holder.rest.now c.in_ok-fits.fits
+    c.in_ok-fits.after.now _ (omega arith) c.in_ok-fits.ensures c.loop-holder.invariant)
+
+pub returns-in_err-fits : goal.returns-in_err-fits
+returns-in_err-fits c =
+    let p = err_from_is_err_and c.from_residual.result c.from_residual.ensures.1 in
+    rw (p.1, p.2)
+    (seen-stops (λ k. frame_in c.args.rows k true) c.loop-holder.allowed c.args.count c.loop-holder.holder c.loop-holder.rest.now c.in_err-fits.field-0.0 _
+    (omega arith) c.in_err-fits.ensures c.loop-holder.invariant)
+
+pub returns : goal.returns
+returns c =
+    seen-done (λ k. frame_in c.args.rows k true) c.loop-holder.allowed c.args.count c.loop-holder.holder c.loop-holder.rest.now _ (omega arith)
+    c.loop-holder.invariant

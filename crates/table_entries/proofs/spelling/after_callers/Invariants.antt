@@ -1,0 +1,11 @@
+use Rattle.std.proofs.Common.{◌≡◌, ◌-◌, Some, true, take, length}
+use Rattle.table_entries.specs.Frames.{frame_in, callers_in}
+use Rattle.table_entries.specs.Reading.{many}
+use Rattle.table_entries.proofs.Many.{with_front}
+use Rattle.table_entries.proofs.spelling.after_callers.Given as goal
+
+-- what was spelled, and what is left to read
+abbrev pub invariant-loop-holder : goal.invariant-loop-holder
+invariant-loop-holder l =
+    with_front (Some (take l.holder l.callers)) (many (λ k. frame_in l.rows k true) (length l.callers - l.holder) l.holder l.rest)
+    ≡ callers_in l.rows (length l.callers) l.bytes

@@ -1,0 +1,102 @@
+//! Stack slots of which nothing is known, as most of a table's are.
+
+ghost use Rattle.std.specs.Prelude.{◌≡◌, ◌*◌, ◌≤◌, IsTrue, take, replicate};
+ghost use Rattle.table_entries.specs.Blanks.{AreZeros};
+
+use crate::slices::{skip, u64_at};
+use stack_state::Slot;
+
+// Whether the first 32 bytes are there, and are zeros.
+#[inline(always)]
+fn begins_blank(bytes: &[u8]) -> bool
+    ensures { IsTrue result → AreZeros 32 bytes.now }
+{
+    if bytes.len() < 32 {
+        return false;
+    }
+    if u64_at(bytes, 0) != 0 {
+        return false;
+    }
+    if u64_at(bytes, 8) != 0 {
+        return false;
+    }
+    if u64_at(bytes, 16) != 0 {
+        return false;
+    }
+    if u64_at(bytes, 24) != 0 {
+        return false;
+    }
+    true
+}
+
+// How many slots the bytes begin with of which nothing is known, by sixteens.
+#[inline(always)]
+fn blank_sixteens(bytes: &[u8]) -> usize
+    ensures most { result ≤ 64 }
+    ensures zeros { AreZeros (2 * result) bytes.now }
+{
+    let mut rest = bytes;
+    for group in 0..4usize {
+        if !begins_blank(rest) {
+            return 16 * group;
+        }
+        rest = skip(rest, 32);
+    }
+    64
+}
+
+// Whether the first 8 bytes are there, and are zeros.
+#[inline(always)]
+fn begins_with_four(bytes: &[u8]) -> bool
+    ensures { IsTrue result → AreZeros 8 bytes.now }
+{
+    if bytes.len() < 8 {
+        return false;
+    }
+    if u64_at(bytes, 0) != 0 {
+        return false;
+    }
+    true
+}
+
+/// How many slots the bytes begin with of which nothing is known, by fours: there may be more.
+#[inline(always)]
+pub fn blank_slots(bytes: &[u8]) -> usize
+    ensures most { result ≤ 64 }
+    ensures zeros { AreZeros (2 * result) bytes.now }
+{
+    let sixteens = blank_sixteens(bytes);
+    if sixteens > 52 {
+        return sixteens;
+    }
+    let mut rest = skip(bytes, 2 * sixteens);
+    for group in 0..3usize {
+        if !begins_with_four(rest) {
+            return sixteens + 4 * group;
+        }
+        rest = skip(rest, 8);
+    }
+    sixteens + 12
+}
+
+#[inline(always)]
+fn is_blank(slot: &Slot) -> bool
+    ensures { IsTrue result → slot.now ≡ Slot.Written 0 }
+{
+    match slot {
+        Slot::Written(marks) => *marks == 0,
+        Slot::Spilled(_) => false,
+    }
+}
+
+/// Whether nothing is known of the first slots.
+pub fn are_blank(slots: &[Slot; 64], count: usize) -> bool
+    requires { count ≤ 64 }
+    ensures { IsTrue result → take count slots.now ≡ replicate count (Slot.Written 0) }
+{
+    let mut blank = true;
+    for index in 0..count {
+        blank = blank & is_blank(&slots[index]);
+    }
+    blank
+}
