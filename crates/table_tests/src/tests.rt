@@ -5,3 +5,4 @@ mod faults;
 mod rechecks;
 mod tables;
 mod values;
+mod written;

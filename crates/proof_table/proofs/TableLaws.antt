@@ -1,0 +1,58 @@
+-- Tables are read from their spelling.
+use Rattle.std.specs.Prelude.{◌≡◌, ℕ, zero, suc, ◌+◌, ◌≤◌, nat_lt, ◌==◌, false, List, [], ◌∷◌, ◌++◌, length, drop, map, All, Option, Some, None, Result, Ok, refl}
+use Rattle.std.specs.List.{flat_map}
+use Rattle.std.proofs.Common.{ap, sym, ◌∙◌, append_assoc, append-nil, length-append, arith}
+use Rattle.std.proofs.lemmas.Bool.{le-ltb}
+use Rattle.std.proofs.lemmas.List.Elements.{All-head, All-tail}
+use Rattle.byteorder.specs.Endian.{little_number}
+use Rattle.byteorder.specs.Numbers.{little_number-reads_back}
+use Rattle.isa_model.specs.Code.Instructions.{Program}
+use Rattle.table_entries.specs.declared.faults.TableFault.{TableFault}
+use Rattle.table_entries.specs.declared.tables.TheConstants.{MAX_ENTRIES}
+use Rattle.table_entries.specs.Reading.{Read}
+use Rattle.table_entries.specs.Entries.{Entry}
+use Rattle.table_entries.specs.Tables.{before, then_entries, entries_in, to_the_end, count_in, with_count, first_none, all_of, unless, all_allowed, table_read}
+use Rattle.proof_table.specs.Spelling.{entry_bytes, head_bytes, table_bytes}
+use Rattle.proof_table.specs.Fitting.{EntryFits}
+use Rattle.proof_table.proofs.EntryLaws.{entry_in-reads}
+
+entries_in-reads : (p : Program) (es : List Entry) (n k : ℕ) (rest : List ℕ) → length es ≡ n → All (EntryFits p) es
+    → entries_in p n k (flat_map entry_bytes es ++ rest) ≡ Ok (map Some es, rest)
+unfolding entries_in
+entries_in-reads p [] zero k rest size h = refl
+entries_in-reads p [] (suc n) k rest size h = absurd (omega arith)
+entries_in-reads p (e ∷ es) zero k rest size h = absurd (omega arith)
+entries_in-reads p (e ∷ es) (suc n) k rest size h =
+    let behind = flat_map entry_bytes es ++ rest in
+    ap (entries_in p (suc n) k) (append_assoc (entry_bytes e) (flat_map entry_bytes es) rest)
+    ∙ ap (λ (r : Read Entry). then_entries k r (λ more. entries_in p n (k + 1) more)) (entry_in-reads p e behind (All-head (EntryFits p) e es h))
+    ∙ ap (before (Some e)) (entries_in-reads p es n (k + 1) rest (omega arith) (All-tail (EntryFits p) e es h))
+
+all_there : (es : List Entry) (k : ℕ) → first_none k (map Some es) ≡ None
+all_there [] k = refl
+all_there (e ∷ es) k = all_there es (k + 1)
+
+all_kept : (es : List Entry) → all_of (map Some es) ≡ es
+all_kept [] = refl
+all_kept (e ∷ es) = ap (λ (l : List Entry). e ∷ l) (all_kept es)
+
+-- the count that the first 8 bytes say
+count_in-reads : (n : ℕ) (rest : List ℕ) → 1 ≤ n → n ≤ MAX_ENTRIES → count_in (head_bytes n ++ rest) ≡ Ok n
+count_in-reads n rest some few =
+    let bytes = head_bytes n ++ rest in
+    let long : nat_lt (length bytes) 8 ≡ false = le-ltb (length bytes) 8 (omega (arith, length-append (head_bytes n) rest)) in
+    let count : little_number 4 (drop 4 bytes) ≡ n = little_number-reads_back 4 n rest (omega arith) in
+    let nonzero : (n == 0) ≡ false = grind arith in
+    let most : nat_lt MAX_ENTRIES n ≡ false = le-ltb MAX_ENTRIES n few in
+    rw (long, count, nonzero, most) refl
+
+pub table_read-table_bytes : (p : Program) (es : List Entry) → 1 ≤ length es → length es ≤ MAX_ENTRIES → All (EntryFits p) es → table_read p (table_bytes es) ≡ Ok es
+table_read-table_bytes p es some few h =
+    let n = length es in
+    let bytes = table_bytes es in
+    let body : entries_in p n 0 (flat_map entry_bytes es) ≡ Ok (map Some es, []) =
+    ap (entries_in p n 0) (sym (append-nil (flat_map entry_bytes es))) ∙ entries_in-reads p es n 0 [] refl h in
+    ap (λ (r : Result ℕ TableFault). all_allowed (with_count p bytes r)) (count_in-reads n (flat_map entry_bytes es) some few)
+    ∙ ap (λ (r : Result (List (Option Entry) × List ℕ) TableFault). all_allowed (to_the_end r)) body
+    ∙ ap (λ (o : Option ℕ). unless o (all_of (map Some es))) (all_there es 0)
+    ∙ ap (λ (l : List Entry). let r : Result (List Entry) TableFault = Ok l in r) (all_kept es)

@@ -1,0 +1,4 @@
+pub mod Spelling
+pub mod Fitting
+pub mod Messages
+pub mod Writing

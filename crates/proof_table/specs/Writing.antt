@@ -1,0 +1,64 @@
+-- What a writer gained.
+use Rattle.std.specs.Prelude.{◌≡◌, ℕ, List, length, All, Option, Ok}
+use Rattle.std.specs.List.{flat_map}
+use Rattle.std.specs.Io.KnownBytes.{Appends}
+use Rattle.isa_model.specs.Code.Instructions.{Program}
+use Rattle.exact_io.specs.Transfers.{AppendsBeginning}
+use Rattle.control_flow.specs.declared.errors.FlowError.TheVariants as flow
+use Rattle.walks.specs.declared.refusals.Refusal.{Refusal}
+use Rattle.walks.specs.declared.refusals.Refusal.TheVariants as refusal
+use Rattle.table_entries.specs.Entries.{Entry}
+use Rattle.table_entries.specs.Tables.{table_read}
+use Rattle.proof_table.specs.declared.errors.WriteTableError.{WriteTableError}
+use Rattle.proof_table.specs.declared.errors.WriteTableError.TheVariants.{Memory, Explored, Writer}
+use Rattle.proof_table.specs.Spelling.{entry_bytes, table_bytes}
+use Rattle.proof_table.specs.Fitting.{EntryFits}
+
+-- a table, which is read as the entries that it spells
+pub record GainsTable (p : Program) (old new : Option (List ℕ)) : Type 0 where
+  pub entries : List Entry
+  pub read : table_read p (table_bytes entries) ≡ Ok entries
+  pub gained : Appends old new (table_bytes entries)
+
+-- a beginning of such a table, which is not all of it
+pub record BeginsTable (p : Program) (old new : Option (List ℕ)) : Type 0 where
+  pub entries : List Entry
+  pub read : table_read p (table_bytes entries) ≡ Ok entries
+  pub begun : AppendsBeginning old new (table_bytes entries)
+
+-- so many entries that a table can spell
+pub record GainsEntries (p : Program) (count : ℕ) (old new : Option (List ℕ)) : Type 0 where
+  pub entries : List Entry
+  pub count_is : length entries ≡ count
+  pub fit : All (EntryFits p) entries
+  pub gained : Appends old new (flat_map entry_bytes entries)
+
+-- a beginning of them, which is not all
+pub record BeginsEntries (p : Program) (count : ℕ) (old new : Option (List ℕ)) : Type 0 where
+  pub entries : List Entry
+  pub count_is : length entries ≡ count
+  pub fit : All (EntryFits p) entries
+  pub begun : AppendsBeginning old new (flat_map entry_bytes entries)
+
+-- the bytes of an entry that a table can spell
+pub record SpellsEntry (p : Program) (e : Entry) (bytes : List ℕ) : Type 0 where
+  pub fits : EntryFits p e
+  pub spelled : bytes ≡ entry_bytes e
+
+-- ---- causes
+
+-- why no table is written of a program that the verifier refuses
+abbrev pub error_of : Refusal → WriteTableError
+error_of refusal.Memory = Memory
+error_of (refusal.Flow flow.Memory) = Memory
+error_of r = Explored
+
+abbrev pub IsWriters : WriteTableError → Type 0
+IsWriters (Writer kind) = Unit {0}
+IsWriters error = ⊥
+
+-- why an entry is not spelled: memory ran out, or a table cannot say what it has
+abbrev pub Lacks : Program → Entry → WriteTableError → Type 0
+Lacks p e Memory = Unit {0}
+Lacks p e Explored = EntryFits p e → ⊥
+Lacks p e (Writer kind) = ⊥

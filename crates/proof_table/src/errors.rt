@@ -1,0 +1,56 @@
+//! Why a table was not written.
+
+ghost use Rattle.std.specs.Prelude.{◌≡◌, Some};
+ghost use Rattle.proof_table.specs.Messages.{code_of, sentence_of};
+
+use std::error::Error;
+use std::fmt;
+use std::io::ErrorKind;
+
+/// Why a table was not written, or only in part.
+#[derive(Clone, Copy, PartialEq, Eq, Debug)]
+pub enum WriteTableError {
+    /// Memory ran out.
+    Memory,
+    /// The verifier refuses the program, or shows an entry that no table can spell. No program that
+    /// it accepted before is refused.
+    Explored,
+    /// The writer answered an error of this kind, or took no byte of those that it was given, which
+    /// is `ErrorKind::WriteZero`.
+    Writer(ErrorKind),
+}
+
+impl WriteTableError {
+    /// Its number in the documents, such as `P11`.
+    pub fn code(self) -> &'static str
+        ensures { result.now ≡ code_of self }
+    {
+        match self {
+            WriteTableError::Memory => "P9",
+            WriteTableError::Explored => "P10",
+            WriteTableError::Writer(_) => "P11",
+        }
+    }
+
+    /// What is wrong, in a sentence.
+    pub fn sentence(self) -> &'static str
+        ensures { result.now ≡ sentence_of self }
+    {
+        match self {
+            WriteTableError::Memory => "out of memory",
+            WriteTableError::Explored => "the program cannot be explored again",
+            WriteTableError::Writer(_) => "the table cannot be written",
+        }
+    }
+}
+
+/// Writes the sentence.
+impl fmt::Display for WriteTableError {
+    ghost output = { λ error. Some (sentence_of error) };
+
+    fn fmt<W: fmt::Write>(&self, f: &mut fmt::Formatter<W>) -> fmt::Result {
+        f.write_str(self.sentence())
+    }
+}
+
+impl Error for WriteTableError {}

@@ -1,0 +1,215 @@
+//! Whether a table can say what an entry has.
+
+ghost use Rattle.std.specs.Prelude.{◌≡◌, ◌↔◌, ℕ, ◌<◌, ◌≤◌, true, false, All, IsTrue, length, get_or};
+ghost use Rattle.stack_state.specs.declared.states.AbstractFrame.{AbstractFrame};
+ghost use Rattle.table_entries.specs.Frames.{is_unset, are_unset, frame_allowed};
+ghost use Rattle.proof_table.specs.Fitting.{ScalarFits, StackFits, PacketFits, MapFits, ValueFits};
+ghost use Rattle.proof_table.specs.Fitting.{NullFits, KindFits, SlotFits, FrameFits, EntryFits};
+ghost use Rattle.proof_table.specs.Fitting.{slot_said, frame_said, entry_said};
+
+use image::Image;
+use known_bits::Bits;
+use ranges::{Low, Range, Wide};
+use reg_state::{Kind, Scalar};
+use stack_state::{AbstractFrame, Slot, State};
+use table_entries::entries::head_allowed;
+
+// ---- values; `rows` is how many map rows there are, `holder` the frame that holds the value
+
+// only for the proof: the fields of a number are of their widths
+fn number_fits(numbers: Scalar)
+    ensures { ScalarFits numbers }
+{
+    let Scalar {
+        bits: Bits { value: _, mask: _ },
+        range: Range {
+            wide: Wide {
+                least: _,
+                greatest: _,
+                signed_least: _,
+                signed_greatest: _,
+            },
+            low: Low {
+                least: _,
+                greatest: _,
+                signed_least: _,
+                signed_greatest: _,
+            },
+        },
+    } = numbers;
+}
+
+fn stack_fits(holder: usize, frame: u8, offset: i32) -> bool
+    ensures { IsTrue result ↔ StackFits holder frame offset }
+{
+    let _width = offset;
+    usize::from(frame) <= holder
+}
+
+fn packet_fits(fixed: i32, identity: u32, least: i32, greatest: i32, proved: u32) -> bool
+    ensures { IsTrue result ↔ PacketFits fixed identity least greatest proved }
+{
+    if least > greatest {
+        return false;
+    }
+    identity != 0 || (least == 0 && greatest == 0)
+}
+
+fn map_fits(rows: usize, index: u8) -> bool
+    ensures { IsTrue result ↔ MapFits rows index }
+{
+    usize::from(index) < rows
+}
+
+fn value_fits(rows: usize, index: u8, least: i32, greatest: i32) -> bool
+    ensures { IsTrue result ↔ ValueFits rows index least greatest }
+{
+    map_fits(rows, index) && least <= greatest
+}
+
+fn null_fits(rows: usize, index: u8, identity: u32) -> bool
+    ensures { IsTrue result ↔ NullFits rows index identity }
+{
+    map_fits(rows, index)
+}
+
+fn kind_fits(rows: usize, holder: usize, kind: &Kind) -> bool
+    ensures { IsTrue result ↔ KindFits rows holder kind.now }
+{
+    match *kind {
+        Kind::Unset | Kind::Context | Kind::PacketEnd => true,
+        Kind::Number(numbers) => {
+            number_fits(numbers);
+            true
+        }
+        Kind::Stack { frame, offset } => stack_fits(holder, frame, offset),
+        Kind::Packet {
+            fixed,
+            identity,
+            least,
+            greatest,
+            proved,
+        } => packet_fits(fixed, identity, least, greatest, proved),
+        Kind::Map { index } => map_fits(rows, index),
+        Kind::MapValue {
+            index,
+            least,
+            greatest,
+        } => value_fits(rows, index, least, greatest),
+        Kind::MapValueOrNull { index, identity } => null_fits(rows, index, identity),
+    }
+}
+
+fn slot_fits(rows: usize, holder: usize, slot: &Slot) -> bool
+    ensures { IsTrue result ↔ SlotFits rows holder (slot_said slot.now) }
+{
+    match slot {
+        Slot::Written(marks) => {
+            let _width = *marks;
+            true
+        }
+        Slot::Spilled(kind) => kind_fits(rows, holder, kind),
+    }
+}
+
+// ---- frames and entries
+
+fn kinds_fit(rows: usize, holder: usize, kinds: &[Kind; 10]) -> bool
+    ensures fit { IsTrue result ↔ All (KindFits rows holder) kinds.now }
+    ensures count { length kinds.now ≡ 10 }
+{
+    for kind in kinds {
+        if !kind_fits(rows, holder, kind) {
+            return false;
+        }
+    }
+    true
+}
+
+fn slots_fit(rows: usize, holder: usize, slots: &[Slot; 64]) -> bool
+    ensures fit { IsTrue result ↔ All (λ slot. SlotFits rows holder (slot_said slot)) slots.now }
+    ensures count { length slots.now ≡ 64 }
+{
+    for slot in slots {
+        if !slot_fits(rows, holder, slot) {
+            return false;
+        }
+    }
+    true
+}
+
+fn is_unset(kind: &Kind) -> bool
+    ensures { result ≡ is_unset kind.now }
+{
+    matches!(kind, Kind::Unset)
+}
+
+// Whether r0 to r5 are unset.
+fn are_unset(registers: &[Kind; 10]) -> bool
+    ensures { result ≡ are_unset registers.now }
+{
+    is_unset(&registers[0])
+        && is_unset(&registers[1])
+        && is_unset(&registers[2])
+        && is_unset(&registers[3])
+        && is_unset(&registers[4])
+        && is_unset(&registers[5])
+}
+
+fn frame_allowed(holder: usize, outer: bool, slot: usize, registers: &[Kind; 10]) -> bool
+    ensures { result ≡ frame_allowed holder outer slot registers.now }
+{
+    (holder != 0 || slot == 0) && (!outer || are_unset(registers))
+}
+
+fn frame_fits(rows: usize, holder: usize, outer: bool, frame: &AbstractFrame) -> bool
+    ensures { IsTrue result ↔ FrameFits rows holder outer (frame_said frame.now) }
+{
+    if frame.return_slot > usize::from(u16::MAX) {
+        return false;
+    }
+    if !frame_allowed(holder, outer, frame.return_slot, &frame.registers) {
+        return false;
+    }
+    if !kinds_fit(rows, holder, &frame.registers) {
+        return false;
+    }
+    slots_fit(rows, holder, &frame.stack.slots)
+}
+
+// Whether a table can say what outer frames have.
+fn callers_fit(rows: usize, callers: &[AbstractFrame]) -> bool
+    ensures { IsTrue result ↔ ((k : ℕ) (d : AbstractFrame) → k < length callers.now
+        → FrameFits rows k true (frame_said (get_or callers.now k d))) }
+{
+    for (holder, frame) in callers.iter().enumerate() {
+        if !frame_fits(rows, holder, true, frame) {
+            return false;
+        }
+    }
+    true
+}
+
+/// Whether a table can say what the entry has.
+pub fn entry_fits(image: &Image, number: u32, state: &State, successors: &[u32]) -> bool
+    ensures { IsTrue result ↔ EntryFits image.now (entry_said (record {
+      number = number;
+      state = state.now;
+      successors = successors.now;
+    })) }
+{
+    let rows = image.maps().len();
+    if successors.len() > 2 {
+        return false;
+    }
+    if state.slot > usize::from(u16::MAX) {
+        return false;
+    }
+    if !head_allowed(image, number, state.slot) {
+        return false;
+    }
+    if !callers_fit(rows, &state.callers) {
+        return false;
+    }
+    frame_fits(rows, state.callers.len(), false, &state.innermost)
+}

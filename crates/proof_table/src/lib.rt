@@ -1,0 +1,18 @@
+//! Proof tables: written for a verified program, and tested.
+//!
+//! A table says of each abstract state that the verifier came to how many more steps a run makes
+//! from it at most, and which entries its step leads to. `recheck` tests a table with no trust in
+//! who made it. `write_table` makes one, which is read as the entries that it spells; that
+//! `recheck` accepts it is only tested.
+#![tactic(auto)]
+
+pub mod entries;
+pub mod errors;
+pub mod fitting;
+pub mod frames;
+pub mod tables;
+pub mod values;
+
+pub use errors::WriteTableError;
+pub use rechecking::{TableError, recheck};
+pub use tables::write_table;

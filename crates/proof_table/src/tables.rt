@@ -1,0 +1,148 @@
+//! Tables written.
+
+ghost use Rattle.std.specs.Prelude.{◌≡◌, ◌≤◌, ◌⊎◌, OnOk, OnErr, IfErr};
+ghost use Rattle.std.specs.Io.KnownBytes.{Appends};
+ghost use Rattle.exact_io.specs.Transfers.{AppendsBeginning};
+ghost use Rattle.proof_table.specs.Spelling.{head_bytes};
+ghost use Rattle.proof_table.specs.Writing.{GainsTable, BeginsTable, GainsEntries, BeginsEntries};
+ghost use Rattle.proof_table.specs.Fitting.{entry_said};
+ghost use Rattle.proof_table.specs.Writing.{SpellsEntry, Lacks, IsWriters, error_of};
+
+use crate::entries::spell_entry;
+use crate::errors::WriteTableError;
+use crate::fitting::entry_fits;
+use bounds::Verified;
+use byteorder::{ByteOrder, LittleEndian};
+use control_flow::FlowError;
+use exact_io::write_bytes;
+use explorer::{Entry, Explored, Refusal, explore};
+use image::Image;
+use stack_state::State;
+use std::alloc::Global;
+use std::io::Write;
+use table_entries::MAX_ENTRIES;
+
+/// The bytes of the longest entry: one of 8 frames, in which each register and each slot is a
+/// number.
+const LONGEST_ENTRY: usize = 39_024;
+
+fn head_bytes(count: u32) -> [u8; 8]
+    ensures { result ≡ head_bytes count }
+{
+    let mut bytes = *b"XPT1\0\0\0\0";
+    LittleEndian::write_u32(&mut bytes[4..], count);
+    bytes
+}
+
+fn write_all<W: Write>(writer: &mut W, bytes: &[u8]) -> Result<(), WriteTableError>
+    ensures ok { OnOk result (Appends (W.contents writer.old) (W.contents writer.new) bytes.now) }
+    ensures err { OnErr result
+        (AppendsBeginning (W.contents writer.old) (W.contents writer.new) bytes.now) }
+    ensures cause { IfErr result IsWriters }
+{
+    match write_bytes(writer, bytes) {
+        Ok(()) => Ok(()),
+        Err(error) => Err(WriteTableError::Writer(error.kind())),
+    }
+}
+
+/// Spells an entry that was explored, in a buffer of its own. Its state is put into the room for it.
+fn spell_explored(
+    image: &Image,
+    entry: &Entry,
+    state: &mut State,
+    buffer: &mut Vec<u8>,
+) -> Result<(), WriteTableError>
+    ensures ok { OnOk result (SpellsEntry image.now (entry_said (record {
+      number = entry.now.number;
+      state = entry.now.state;
+      successors = entry.now.successors.items;
+    })) buffer.new.items) }
+    ensures err { IfErr result (Lacks image.now (entry_said (record {
+      number = entry.now.number;
+      state = entry.now.state;
+      successors = entry.now.successors.items;
+    }))) }
+{
+    entry.state.restore(state);
+    if !entry_fits(image, entry.number, state, &entry.successors) {
+        return Err(WriteTableError::Explored);
+    }
+    buffer.clear();
+    match spell_entry(entry.number, state, &entry.successors, buffer) {
+        Ok(()) => Ok(()),
+        Err(_) => Err(WriteTableError::Memory),
+    }
+}
+
+/// Writes that many of the entries that were explored, each by way of the buffer.
+fn write_entries<W: Write>(
+    image: &Image,
+    explored: &Explored,
+    count: usize,
+    buffer: &mut Vec<u8>,
+    writer: &mut W,
+) -> Result<(), WriteTableError>
+    ensures ok { OnOk result
+        (GainsEntries image.now count (W.contents writer.old) (W.contents writer.new)) }
+    ensures err { OnErr result
+        (BeginsEntries image.now count (W.contents writer.old) (W.contents writer.new)) }
+{
+    // only for the proof: this call says that the program is an image's
+    let _slots = image.slots();
+    let mut state = State::start();
+    for index in 0..count {
+        let Some(entry) = explored.entry(index) else {
+            return Err(WriteTableError::Explored);
+        };
+        spell_explored(image, entry, &mut state, buffer)?;
+        write_all(writer, buffer)?;
+    }
+    Ok(())
+}
+
+fn error_of(refusal: Refusal) -> WriteTableError
+    ensures { result ≡ error_of refusal }
+{
+    match refusal {
+        Refusal::Memory | Refusal::Flow(FlowError::Memory) => WriteTableError::Memory,
+        _ => WriteTableError::Explored,
+    }
+}
+
+/// Writes a table of a verified program: an entry for each instruction that the verifier explored,
+/// in its state, with its number and the entries to which its step leads.
+///
+/// The verifier explores the program again, which takes as much memory as it took before. Each entry
+/// is one write, so a writer to a file is to have a buffer. The writer's first error, of any kind,
+/// is the failure; a write of no byte is the failure `ErrorKind::WriteZero`. Nothing is tried again.
+pub fn write_table<W: Write>(
+    alloc: Global,
+    verified: &Verified,
+    writer: &mut W,
+) -> Result<(), WriteTableError>
+    // A table, which is read as the entries that it spells.
+    ensures ok { OnOk result
+        (GainsTable verified.now.program (W.contents writer.old) (W.contents writer.new)) }
+
+    // A beginning of one.
+    ensures err { OnErr result
+        (BeginsTable verified.now.program (W.contents writer.old) (W.contents writer.new)) }
+{
+    let image = verified.image();
+    // only for the proof: this call says that the program is an image's
+    let _slots = image.slots();
+    let explored = match explore(alloc, image) {
+        Ok(explored) => explored,
+        Err((refusal, _)) => return Err(error_of(refusal)),
+    };
+    let count = explored.len();
+    if count == 0 || count > MAX_ENTRIES as usize {
+        return Err(WriteTableError::Explored);
+    }
+    let Ok(mut buffer) = Vec::with_capacity(alloc, LONGEST_ENTRY) else {
+        return Err(WriteTableError::Memory);
+    };
+    write_all(writer, &head_bytes(count as u32))?;
+    write_entries(image, &explored, count, &mut buffer, writer)
+}
