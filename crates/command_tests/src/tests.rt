@@ -2,11 +2,13 @@
 //! and an output that fails.
 
 mod accepted;
+mod command_lines;
 mod cuts;
 mod files;
 mod map_runs;
 mod outputs;
 mod programs;
+mod tables;
 mod texts;
 mod verdicts;
 
@@ -42,6 +44,12 @@ const RUN: &[&str] = &["run", "image", "frames", "sent"];
 
 const VERIFY: &[&str] = &["verify", "image"];
 
+const PROVE: &[&str] = &["prove", "image", "table"];
+
+const RECHECK: &[&str] = &["recheck", "image", "table"];
+
+const RUN_BY_TABLE: &[&str] = &["run", "image", "frames", "sent", "--table", "table"];
+
 fn words_of(alloc: Global, texts: &[&str]) -> Result<Vec<String>, Fail> {
     let mut words = Vec::new(alloc);
     words.push(String::from_str(alloc, "xdpvm")?)?;
@@ -52,9 +60,9 @@ fn words_of(alloc: Global, texts: &[&str]) -> Result<Vec<String>, Fail> {
 }
 
 // The files that tests write.
-const FILES: [&str; 12] = [
+const FILES: [&str; 13] = [
     "image", "short", "frames", "sent", "other", "cut", "text", "made", "wrong", "right", "long",
-    "largest",
+    "largest", "table",
 ];
 
 // Removes what a test has written. Of a test that fails the files stay.
@@ -184,167 +192,7 @@ fn write_files<R: Files + AllocGlobal>(rt: &R) -> Result<(), Fail> {
     Ok(())
 }
 
-// The command asks for nothing: standard error gets a text that begins so, and then the usage line.
-fn is_wrong<R: Files + AllocGlobal + Abort>(
-    rt: &R,
-    texts: &[&str],
-    front: &str,
-) -> Result<(), Fail> {
-    let mut out = sink(rt.alloc());
-    let mut err = sink(rt.alloc());
-    let found = status_of(rt, texts, &mut out, &mut err)?;
-    assert_eq!(rt; (found, out.taken.len()), (1, 0), "{texts:?}");
-    let said = err.taken.as_slice();
-    assert!(rt; said.starts_with(front.as_bytes()), "{texts:?}");
-    assert!(rt; said.ends_with(USAGE.as_bytes()), "{texts:?}");
-    Ok(())
-}
-
-// The help, which has a line for each command that is built.
-const HELP: &str = "\
-Verifies BPF programs of the XDP kind and runs them on streams of frames
-
-Usage: xdpvm <COMMAND>
-
-Commands:
-  asm     Makes the image of a program that is written as text
-  dis     Prints the text of an image
-  verify  Verifies a program and prints the most steps that a run takes
-  run     Verifies a program, runs it on each frame, and prints the report
-  trace   Runs a program with every access tested, verified or not
-  help    Print this message or the help of the given subcommand(s)
-";
-
-// The help of a command, which has a line for each argument.
-const TRACE_HELP: &str = "\
-Runs a program with every access tested, verified or not
-
-Usage: xdpvm trace [OPTIONS] <image> <frames> <out>
-
-Arguments:
-  <image>   The image of the program, as `asm` makes it
-  <frames>  The stream of frames
-  <out>     Gets the frames that are sent on; a file that is there is replaced
-
-Options:
-      --limit <N>  The most steps on one frame, from 1 to 1000000 [default: 1000000]
-";
-
-const NO_LIMIT: &str = "error: the value of --limit is not a number from 1 to 1000000\nusage: ";
-
-// Words that ask for nothing, and how the text on standard error begins.
-const WRONG: [(&[&str], &str); 17] = [
-    (&[], "error: 'xdpvm' requires a subcommand"),
-    (&["--help"], HELP),
-    (&["help"], HELP),
-    (&["trace", "--help"], TRACE_HELP),
-    (&["--version"], "xdpvm 0.1.0\nusage: "),
-    (&["-V"], "xdpvm 0.1.0\nusage: "),
-    (
-        &["verify", "--version"],
-        "error: unexpected argument '--version' found\n",
-    ),
-    (
-        &["walk", "image"],
-        "error: unrecognized subcommand 'walk'\n",
-    ),
-    (
-        &["trace", "image", "frames"],
-        "error: the following required arguments were not provided:\n",
-    ),
-    (
-        &["trace", "image", "frames", "sent", "more"],
-        "error: unexpected argument 'more' found\n",
-    ),
-    (
-        &["run", "image", "frames", "sent", "--limit", "5"],
-        "error: unexpected argument '--limit' found\n",
-    ),
-    // without a tip to put two hyphens before it
-    (
-        &["verify", "--json", "image"],
-        "error: unexpected argument '--json' found\n\nUsage: xdpvm verify <image>\n",
-    ),
-    (
-        &[
-            "trace", "image", "frames", "sent", "--limit", "5", "--limit", "5",
-        ],
-        "error: the argument '--limit <N>' cannot be used multiple times\n",
-    ),
-    (
-        &["trace", "image", "frames", "sent", "--limit", "0"],
-        NO_LIMIT,
-    ),
-    (
-        &["trace", "image", "frames", "sent", "--limit", "1000001"],
-        NO_LIMIT,
-    ),
-    (
-        &["trace", "image", "frames", "sent", "--limit", "+5"],
-        NO_LIMIT,
-    ),
-    (
-        &["trace", "image", "frames", "sent", "--limit", ""],
-        NO_LIMIT,
-    ),
-];
-
-#[test]
-fn wrong_words(rt: HostRuntime) -> Result<(), Fail> {
-    write_files(&rt)?;
-    for (texts, front) in WRONG.iter() {
-        is_wrong(&rt, *texts, *front)?;
-    }
-    remove_files(&rt)
-}
-
 const PASSED: &str = "0 PASS 0 2\nend 1\n";
-
-// Words that run the program, and the report.
-const RIGHT: [Answer; 5] = [
-    (TRACE, 0, PASSED, ""),
-    (RUN, 0, PASSED, ""),
-    (
-        &["trace", "--limit", "002", "image", "frames", "sent"],
-        0,
-        PASSED,
-        "",
-    ),
-    (
-        &["trace", "image", "--limit", "1", "frames", "sent"],
-        0,
-        "0 LIMIT 0 1\nend 1\n",
-        "",
-    ),
-    (
-        &["trace", "image", "frames", "sent", "--limit", "1000000"],
-        0,
-        PASSED,
-        "",
-    ),
-];
-
-#[test]
-fn right_words(rt: HostRuntime) -> Result<(), Fail> {
-    write_files(&rt)?;
-    all_answer(&rt, &RIGHT)?;
-    are_equal(&rt, "sent", "frames")?;
-    remove_files(&rt)
-}
-
-const NOT_BUILT: [(&[&str], &str); 2] = [
-    (&["prove", "a", "b"], "prove"),
-    (&["recheck", "a", "b"], "recheck"),
-];
-
-#[test]
-fn commands_that_are_not_built(rt: HostRuntime) -> Result<(), Fail> {
-    for (texts, name) in NOT_BUILT.iter() {
-        let said = format!(in rt.alloc(); "{USAGE}this build has no command {name}\n")?;
-        answers(&rt, *texts, 1, "", said.as_str())?;
-    }
-    Ok(())
-}
 
 // Files that are no images, and what standard output and standard error have.
 const NO_IMAGES: [(&[u8], &str, &str); 11] = [
@@ -361,7 +209,8 @@ const NO_IMAGES: [(&[u8], &str, &str); 11] = [
     ),
     // the row of a hash map, and one of type 3
     (
-        b"XBP1\x02\0\x01\0\x01\0\x04\0\x08\0\0\0\x01\0\0\0\x03\0\x04\0\x08\0\0\0\x01\0\0\0\x95\0\0\0\0\0\0\0",
+        b"XBP1\x02\0\x01\0\x01\0\x04\0\x08\0\0\0\x01\0\0\0\
+        \x03\0\x04\0\x08\0\0\0\x01\0\0\0\x95\0\0\0\0\0\0\0",
         "refused I5 map 1\n",
         "a map row has an unknown type, or a size that is out of its limits\nmap 1\n",
     ),

@@ -6,7 +6,7 @@ use Rattle.std.proofs.lemmas.Bool.{false≢true}
 use Rattle.std.proofs.lemmas.Option.{none-some}
 use Rattle.serving.specs.declared.rejections.Rejection.TheVariants as rejection
 use Rattle.serving.specs.declared.outcomes.Outcome.{Outcome}
-use Rattle.serving.specs.declared.outcomes.Outcome.TheVariants.{Done, WrongWords, NotBuilt, Refused, Faulted, CannotRead, CannotWrite, CannotReplace, NoMemory}
+use Rattle.serving.specs.declared.outcomes.Outcome.TheVariants.{Done, WrongWords, Refused, Faulted, CannotRead, CannotWrite, CannotReplace, NoMemory}
 use Rattle.serving.specs.Statuses.{status_of, is_silent, is_unsaid, message_of}
 use Rattle.serving.specs.Saying.{AppendsPart}
 use Rattle.serving.specs.Known.{told}
@@ -16,7 +16,6 @@ use Rattle.commands.proofs.Knowing.{Knows}
 pub silent_words : (o : Outcome) → status_of o ≡ 1 → is_silent o ≡ true
 silent_words Done e = absurd (omega arith)
 silent_words (WrongWords text) e = refl
-silent_words (NotBuilt name) e = refl
 silent_words (Refused rejection) e = absurd (omega arith)
 silent_words Faulted e = absurd (omega arith)
 silent_words (CannotRead path kind) e = refl
@@ -27,7 +26,6 @@ silent_words NoMemory e = refl
 pub silent_memory : (o : Outcome) → status_of o ≡ 5 → is_silent o ≡ true
 silent_memory Done e = absurd (omega arith)
 silent_memory (WrongWords text) e = refl
-silent_memory (NotBuilt name) e = refl
 silent_memory (Refused rejection) e = absurd (omega arith)
 silent_memory Faulted e = absurd (omega arith)
 silent_memory (CannotRead path kind) e = refl
@@ -38,7 +36,6 @@ silent_memory NoMemory e = refl
 pub status_fits : (o : Outcome) → status_of o ≤ 5
 status_fits Done = omega arith
 status_fits (WrongWords text) = omega arith
-status_fits (NotBuilt name) = omega arith
 status_fits (Refused rejection) = omega arith
 status_fits Faulted = omega arith
 status_fits (CannotRead path kind) = omega arith
@@ -49,7 +46,6 @@ status_fits NoMemory = omega arith
 pub unsaid_done : (o : Outcome) → status_of o ≡ 0 → is_unsaid o ≡ true
 unsaid_done Done e = refl
 unsaid_done (WrongWords text) e = absurd (omega arith)
-unsaid_done (NotBuilt name) e = absurd (omega arith)
 unsaid_done (Refused rejection) e = absurd (omega arith)
 unsaid_done Faulted e = refl
 unsaid_done (CannotRead path kind) e = absurd (omega arith)
@@ -60,13 +56,21 @@ unsaid_done NoMemory e = absurd (omega arith)
 pub told_refused : (o : Outcome) (why : Option (String Global)) (old new : Option (List ℕ)) → Knows o why → status_of o ≡ 2 → AppendsPart old new (told o why) → IsTold old new
 told_refused Done why old new k e h = absurd (omega arith)
 told_refused (WrongWords text) why old new k e h = absurd (omega arith)
-told_refused (NotBuilt name) why old new k e h = absurd (omega arith)
 told_refused (Refused said) None old new k e h = inl (said, h)
 told_refused (Refused said) (Some text) old new (inl none) e h = absurd (none-some text (sym none))
-told_refused (Refused (rejection.Image error)) (Some text) old new (inr (p, none)) e h = absurd (none-some text (sym none))
-told_refused (Refused (rejection.Text error)) (Some text) old new (inr (p, none)) e h = absurd (none-some text (sym none))
-told_refused (Refused (rejection.Program refusal slot insn)) (Some text) old new (inr (p, is)) e h =
-    inr (record { program = p; refusal = refusal; slot = slot; insn = insn; why = string_bytes text; known = is; said = h })
+told_refused (Refused (rejection.Image error)) (Some text) old new (inr (inl (p, none))) e h = absurd (none-some text (sym none))
+told_refused (Refused (rejection.Image error)) (Some text) old new (inr (inr (p, bytes, none))) e h = absurd (none-some text (sym none))
+told_refused (Refused rejection.Explored) (Some text) old new (inr (inl (p, none))) e h = absurd (none-some text (sym none))
+told_refused (Refused rejection.Explored) (Some text) old new (inr (inr (p, bytes, none))) e h = absurd (none-some text (sym none))
+told_refused (Refused (rejection.Text error)) (Some text) old new (inr (inl (p, none))) e h = absurd (none-some text (sym none))
+told_refused (Refused (rejection.Text error)) (Some text) old new (inr (inr (p, bytes, none))) e h = absurd (none-some text (sym none))
+told_refused (Refused (rejection.Program refusal slot insn)) (Some text) old new (inr (inl (p, is))) e h =
+    inr (inl (record { program = p; refusal = refusal; slot = slot; insn = insn; why = string_bytes text; known = is; said = h }))
+told_refused (Refused (rejection.Program refusal slot insn)) (Some text) old new (inr (inr (p, bytes, none))) e h = absurd (none-some text (sym none))
+told_refused (Refused (rejection.Table error place)) (Some text) old new (inr (inl (p, none))) e h = absurd (none-some text (sym none))
+told_refused (Refused (rejection.Table error None)) (Some text) old new (inr (inr (p, bytes, none))) e h = absurd (none-some text (sym none))
+told_refused (Refused (rejection.Table error (Some (slot, insn)))) (Some text) old new (inr (inr (p, bytes, is))) e h =
+    inr (inr (record { program = p; bytes = bytes; error = error; slot = slot; insn = insn; why = string_bytes text; known = is; said = h }))
 told_refused Faulted why old new k e h = absurd (omega arith)
 told_refused (CannotRead path kind) why old new k e h = absurd (omega arith)
 told_refused (CannotWrite path cause) why old new k e h = absurd (omega arith)
@@ -79,20 +83,25 @@ told_plain o old new e h = told_refused o None old new (inl refl) e h
 -- a task of which standard error has nothing to say has nothing known beside its end
 pub unsaid_knows : (o : Outcome) (why : Option (String Global)) → Knows o why → is_unsaid o ≡ true → why ≡ None
 unsaid_knows o why (inl none) e = none
-unsaid_knows Done why (inr (p, none)) e = none
-unsaid_knows (WrongWords text) why (inr (p, none)) e = none
-unsaid_knows (NotBuilt name) why (inr (p, none)) e = none
+unsaid_knows Done why (inr (inl (p, none))) e = none
+unsaid_knows Done why (inr (inr (p, bytes, none))) e = none
+unsaid_knows (WrongWords text) why (inr (inl (p, none))) e = none
+unsaid_knows (WrongWords text) why (inr (inr (p, bytes, none))) e = none
 unsaid_knows (Refused said) why (inr k) e = absurd (false≢true e)
-unsaid_knows Faulted why (inr (p, none)) e = none
-unsaid_knows (CannotRead path kind) why (inr (p, none)) e = none
-unsaid_knows (CannotWrite path cause) why (inr (p, none)) e = none
-unsaid_knows (CannotReplace path) why (inr (p, none)) e = none
-unsaid_knows NoMemory why (inr (p, none)) e = none
+unsaid_knows Faulted why (inr (inl (p, none))) e = none
+unsaid_knows Faulted why (inr (inr (p, bytes, none))) e = none
+unsaid_knows (CannotRead path kind) why (inr (inl (p, none))) e = none
+unsaid_knows (CannotRead path kind) why (inr (inr (p, bytes, none))) e = none
+unsaid_knows (CannotWrite path cause) why (inr (inl (p, none))) e = none
+unsaid_knows (CannotWrite path cause) why (inr (inr (p, bytes, none))) e = none
+unsaid_knows (CannotReplace path) why (inr (inl (p, none))) e = none
+unsaid_knows (CannotReplace path) why (inr (inr (p, bytes, none))) e = none
+unsaid_knows NoMemory why (inr (inl (p, none))) e = none
+unsaid_knows NoMemory why (inr (inr (p, bytes, none))) e = none
 
 pub unsaid_faulted : (o : Outcome) → status_of o ≡ 3 → is_unsaid o ≡ true
 unsaid_faulted Done e = refl
 unsaid_faulted (WrongWords text) e = absurd (omega arith)
-unsaid_faulted (NotBuilt name) e = absurd (omega arith)
 unsaid_faulted (Refused rejection) e = absurd (omega arith)
 unsaid_faulted Faulted e = refl
 unsaid_faulted (CannotRead path kind) e = absurd (omega arith)

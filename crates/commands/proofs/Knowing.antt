@@ -4,27 +4,38 @@ use Rattle.buffered_io.specs.declared.PromptWriter.{PromptWriter}
 use Rattle.buffered_io.specs.Waiting.{held}
 use Rattle.std.specs.declared.alloc.Global.{Global}
 use Rattle.isa_model.specs.{Program}
-use Rattle.tasks.specs.Requests.{Request, Trace, Run, Verify, Assemble, Disassemble, NotBuilt}
+use Rattle.tasks.specs.Requests.{Request, ProofFiles, Trace, Run, Verify, Prove, Recheck, Assemble, Disassemble}
 use Rattle.serving.specs.declared.outcomes.Outcome.{Outcome}
 use Rattle.serving.specs.declared.endings.Ending.{Ending}
-use Rattle.serving.specs.Known.{Tells}
-use Rattle.serving.specs.Commands.{Serves}
+use Rattle.serving.specs.Known.{Tells, TellsTable}
+use Rattle.serving.specs.Commands.{Serves, ShowsNone}
 use Rattle.serving.specs.HandingOn.{HandsOn, IsHandedOn, TellsFailure}
 use Rattle.serving.specs.Statuses.{is_silent}
 
--- nothing, or what is known of some program
+-- nothing, or what is known of some program, or of some table of one
 abbrev pub Knows : Outcome → Option (String Global) → Type 0
-Knows o why = (why ≡ None) ⊎ ((p : Program) × Tells p o why)
+Knows o why = (why ≡ None) ⊎ (((p : Program) × Tells p o why) ⊎ ((p : Program) × (bytes : List ℕ) × TellsTable p bytes o why))
+
+-- what is known where no bound was shown
+none_knows : (files : ProofFiles) (old new : Option (List ℕ)) (r : Ending) → ShowsNone files old new r → Knows r.outcome r.why
+none_knows files old new r (inl h) = inl h.1
+none_knows files old new r (inr (p, is, inl h)) = inl h.1
+none_knows files old new r (inr (p, is, inr (bytes, refused, known))) = inr (inr (p, bytes, known))
 
 served_knows : (request : Request) (old new : Option (List ℕ)) (r : Ending) → Serves (Some request) old new r → Knows r.outcome r.why
 served_knows (Trace files limit) old new r h = inl h.1
-served_knows (Run files) old new r (inl h) = inl h.1
-served_knows (Run files) old new r (inr (p, is, h)) = inr (p, h.1)
+served_knows (Run files None) old new r (inl h) = inl h.1
+served_knows (Run files None) old new r (inr (p, is, h)) = inr (inl (p, h.1))
+served_knows (Run files (Some table)) old new r (inl h) = none_knows _ old new r h
+served_knows (Run files (Some table)) old new r (inr (v, is, h)) = inl h.1
 served_knows (Verify path) old new r (inl h) = inl h.1
-served_knows (Verify path) old new r (inr (p, is, h)) = inr (p, h.1)
+served_knows (Verify path) old new r (inr (p, is, h)) = inr (inl (p, h.1))
+served_knows (Prove files) old new r (inl h) = inl h.1
+served_knows (Prove files) old new r (inr (p, is, h)) = inr (inl (p, h.1))
+served_knows (Recheck files) old new r (inl h) = none_knows files old new r h
+served_knows (Recheck files) old new r (inr (v, is, h)) = inl h.1
 served_knows (Assemble text image) old new r h = inl h.1
 served_knows (Disassemble path) old new r h = inl h.1
-served_knows (NotBuilt name) old new r h = inl h.1
 
 -- where standard output failed in the end nothing is known beside that
 knows_then : {W : Type 0} (out : PromptWriter W) (ended r : Ending) → Knows ended.outcome ended.why

@@ -10,7 +10,7 @@ use Rattle.tasks.specs.declared.WordsError.TheVariants.{Wrong, Memory}
 use Rattle.tasks.specs.Requests.{Request}
 use Rattle.words.specs.Asked.{Reads, asked}
 use Rattle.serving.specs.declared.outcomes.Outcome.{Outcome}
-use Rattle.serving.specs.declared.outcomes.Outcome.TheVariants.{Done, WrongWords, NotBuilt, Refused, Faulted, CannotRead, CannotWrite, CannotReplace, NoMemory}
+use Rattle.serving.specs.declared.outcomes.Outcome.TheVariants.{Done, WrongWords, Refused, Faulted, CannotRead, CannotWrite, CannotReplace, NoMemory}
 use Rattle.serving.specs.declared.endings.Ending.{Ending}
 use Rattle.serving.specs.Statuses.{IsWordsEnd, IsWrong, IsWrongWords, is_silent}
 use Rattle.serving.specs.Commands.{Serves}
@@ -31,7 +31,6 @@ asked-served contents words request old given new ended r is h on =
 wrong : (text : List ℕ) (o : Outcome) → IsWrong text o → IsWrongWords o
 wrong text (WrongWords said) h = tt
 wrong text Done h = absurd h
-wrong text (NotBuilt name) h = absurd h
 wrong text (Refused rejection) h = absurd h
 wrong text Faulted h = absurd h
 wrong text (CannotRead path kind) h = absurd h
@@ -42,7 +41,6 @@ wrong text NoMemory h = absurd h
 wrong_silent : (text : List ℕ) (o : Outcome) → IsWrong text o → is_silent o ≡ true
 wrong_silent text (WrongWords said) h = refl
 wrong_silent text Done h = absurd h
-wrong_silent text (NotBuilt name) h = absurd h
 wrong_silent text (Refused rejection) h = absurd h
 wrong_silent text Faulted h = absurd h
 wrong_silent text (CannotRead path kind) h = absurd h

@@ -2,32 +2,39 @@
 use Rattle.std.proofs.Common.{◌≡◌, ◌∙◌, ◌≤◌, ℕ, List, Option, Some, None, Result, Ok, Err, true, false, ap, refl, sym, inl, inr, ◌⊎◌, arith}
 use Rattle.std.proofs.lemmas.Bool.{both_ways, false≢true}
 use Rattle.std.specs.declared.io.ErrorKind.{ErrorKind}
+use Rattle.std.specs.Io.KnownBytes.{Keeps}
 use Rattle.buffered_io.specs.declared.PromptWriter.{PromptWriter}
 use Rattle.buffered_io.specs.Waiting.{held}
 use Rattle.isa_model.specs.declared.streams.Fault.{Fault}
 use Rattle.isa_model.specs.{Program}
+use Rattle.bounds.specs.Bounds.{Bounded}
 use Rattle.host.specs.declared.errors.HostError.{HostError}
 use Rattle.host.specs.declared.errors.HostError.TheVariants as failure
 use Rattle.host.specs.declared.tallies.Tally.{Tally}
-use Rattle.tasks.specs.Requests.{Request, RunFiles, Trace, Run, Verify, Assemble, Disassemble, NotBuilt}
+use Rattle.tasks.specs.Requests.{Request, RunFiles, ProofFiles, Trace, Run, Verify, Prove, Recheck, Assemble, Disassemble}
 use Rattle.tasks.specs.declared.WordsError.{WordsError}
 use Rattle.tasks.specs.declared.WordsError.TheVariants.{Wrong, Memory}
+use Rattle.proof_table.specs.declared.errors.WriteTableError.{WriteTableError}
+use Rattle.proof_table.specs.declared.errors.WriteTableError.TheVariants as unwritten
+use Rattle.proof_table.specs.Writing.{GainsTable, BeginsTable}
+use Rattle.rechecking.specs.declared.errors.TableError.{TableError}
+use Rattle.rechecking.specs.declared.errors.TableError.TheVariants as table
 use Rattle.serving.specs.declared.outcomes.Outcome.{Outcome}
 use Rattle.serving.specs.declared.outcomes.Outcome.TheVariants as outcome
 use Rattle.serving.specs.declared.endings.Ending.{Ending}
 use Rattle.serving.specs.Statuses.{is_silent, status_of, IsWordsEnd, IsWriteFailure, IsWriteFailureBy}
 use Rattle.serving.specs.HandingOn.{HandsOn, IsHandedOn, TellsFailure}
 use Rattle.serving.specs.Saying.{Says}
-use Rattle.serving.specs.Judging.{RefusesImage, RefusesProgram, RefusesText, Verifies, Stores}
-use Rattle.serving.specs.Streams.{Ends, EndsBy, FailsBy, outcome_at}
-use Rattle.serving.specs.Commands.{LoadsNone, OpensNone, TracesFile, RunsFile, VerifiesFile, DisassemblesFile, AssemblesFile, Serves}
+use Rattle.serving.specs.Judging.{Accepts, IsStoreFailure, RefusesImage, RefusesProgram, RefusesTable, RefusesText, SaysOfTable, Verifies, Stores}
+use Rattle.serving.specs.Streams.{Ends, EndsBy, FailsBy, IsBeginningOf, outcome_at}
+use Rattle.serving.specs.Proving.{EndsUnwritten, StoresTable}
+use Rattle.serving.specs.Commands.{LoadsNone, ShowsNone, OpensNone, RunsOn, TracesFile, RunsFile, RunsShown, VerifiesFile, ProvesFile, RechecksFile, DisassemblesFile, AssemblesFile, Serves}
 
 -- ---- what is not silent
 
 write_loud : (name : List ℕ) (r : Outcome) → IsWriteFailure name r → is_silent r ≡ true → ⊥
 write_loud name outcome.Done h e = h
 write_loud name (outcome.WrongWords text) h e = h
-write_loud name (outcome.NotBuilt command) h e = h
 write_loud name (outcome.Refused rejection) h e = h
 write_loud name outcome.Faulted h e = h
 write_loud name (outcome.CannotRead path kind) h e = h
@@ -38,7 +45,6 @@ write_loud name outcome.NoMemory h e = h
 pub write_loud_by : (name : List ℕ) (cause : Option ErrorKind) (r : Outcome) → IsWriteFailureBy name cause r → is_silent r ≡ true → ⊥
 write_loud_by name cause outcome.Done h e = h
 write_loud_by name cause (outcome.WrongWords text) h e = h
-write_loud_by name cause (outcome.NotBuilt command) h e = h
 write_loud_by name cause (outcome.Refused rejection) h e = h
 write_loud_by name cause outcome.Faulted h e = h
 write_loud_by name cause (outcome.CannotRead path kind) h e = h
@@ -80,13 +86,32 @@ program_silent : (p : Program) (old new : Option (List ℕ)) (r : Outcome) → R
 program_silent p old new r (inl lacks) e = lacks.1
 program_silent p old new r (inr (refusal, slot, is, other, says)) e = absurd (says_loud old new _ _ r refl says e)
 
+of_table_silent : (p : Program) (error : TableError) (old new : Option (List ℕ)) (r : Outcome) → SaysOfTable p error old new r → is_silent r ≡ true → new ≡ old
+of_table_silent p (table.Flow error slot) old new r (inl lacks) e = lacks.1
+of_table_silent p (table.Flow error slot) old new r (inr (other, says)) e = absurd (says_loud old new _ _ r refl says e)
+of_table_silent p (table.Fault fault) old new r (inl lacks) e = lacks.1
+of_table_silent p (table.Fault fault) old new r (inr (place, other, says)) e = absurd (says_loud old new _ _ r refl says e)
+of_table_silent p table.Start old new r (inl lacks) e = lacks.1
+of_table_silent p table.Start old new r (inr (place, other, says)) e = absurd (says_loud old new _ _ r refl says e)
+of_table_silent p (table.Step k refusal) old new r (inl lacks) e = lacks.1
+of_table_silent p (table.Step k refusal) old new r (inr (place, other, says)) e = absurd (says_loud old new _ _ r refl says e)
+of_table_silent p (table.Successor k) old new r (inl lacks) e = lacks.1
+of_table_silent p (table.Successor k) old new r (inr (place, other, says)) e = absurd (says_loud old new _ _ r refl says e)
+
+table_silent : (p : Program) (bytes : List ℕ) (old new : Option (List ℕ)) (r : Outcome) → RefusesTable p bytes old new r → is_silent r ≡ true → new ≡ old
+table_silent p bytes old new r (inl lacks) e = lacks.1
+table_silent p bytes old new r (inr (error, is, says)) e = of_table_silent p error old new r says e
+
 text_silent : (source : List ℕ) (old new : Option (List ℕ)) (r : Outcome) → RefusesText source old new r → is_silent r ≡ true → new ≡ old
 text_silent source old new r (inl lacks) e = lacks.1
 text_silent source old new r (inr (error, is, other, says)) e = absurd (says_loud old new _ _ r refl says e)
 
+bound_silent : (v : Bounded) (old new : Option (List ℕ)) (r : Outcome) → Accepts v old new r → is_silent r ≡ true → new ≡ old
+bound_silent v old new r (inl lacks) e = lacks.1
+bound_silent v old new r (inr says) e = absurd (says_loud old new _ _ r refl says e)
+
 verdict_silent : (p : Program) (old new : Option (List ℕ)) (r : Outcome) → Verifies p old new r → is_silent r ≡ true → new ≡ old
-verdict_silent p old new r (inl (bound, is, inl lacks)) e = lacks.1
-verdict_silent p old new r (inl (bound, is, inr says)) e = absurd (says_loud old new _ _ r refl says e)
+verdict_silent p old new r (inl (bound, is, accepts)) e = bound_silent (record { program = p; bound = bound }) old new r accepts e
 verdict_silent p old new r (inr refuses) e = program_silent p old new r refuses e
 
 stores_silent : (p : Program) (line name : List ℕ) (before after old new : Option (List ℕ)) (r : Outcome) → Stores p line name before after old new r → is_silent r ≡ true → new ≡ old
@@ -108,16 +133,53 @@ trace_silent files limit old new r (inl loads) e = loads_silent _ old new r load
 trace_silent files limit old new r (inr (p, is, inl opens)) e = opens_silent files old new r opens
 trace_silent files limit old new r (inr (p, is, inr some)) e = some.traces.report_untouched (stops_silent _ _ _ _ _ r some.traces.ends e)
 
+on_silent : (files : RunFiles) (v : Bounded) (old new : Option (List ℕ)) (r : Outcome) → RunsOn files v old new r → is_silent r ≡ true → new ≡ old
+on_silent files v old new r (inl opens) e = opens_silent files old new r opens
+on_silent files v old new r (inr some) e = some.runs.report_untouched (stops_silent _ _ _ _ _ r some.runs.ends e)
+
 run_silent : (files : RunFiles) (old new : Option (List ℕ)) (r : Ending) → RunsFile files old new r → is_silent r.outcome ≡ true → new ≡ old
 run_silent files old new r (inl (loads, none)) e = loads_silent _ old new r.outcome loads e
 run_silent files old new r (inr (p, is, (inl refuses, known))) e = program_silent p old new r.outcome refuses e
-run_silent files old new r (inr (p, is, (inr (bound, verified, inl opens), known))) e = opens_silent files old new r.outcome opens
-run_silent files old new r (inr (p, is, (inr (bound, verified, inr some), known))) e =
-    some.runs.report_untouched (stops_silent _ _ _ _ _ r.outcome some.runs.ends e)
+run_silent files old new r (inr (p, is, (inr (bound, verified, runs), known))) e = on_silent files _ old new r.outcome runs e
 
 verify_silent : (path : List ℕ) (old new : Option (List ℕ)) (r : Ending) → VerifiesFile path old new r → is_silent r.outcome ≡ true → new ≡ old
 verify_silent path old new r (inl (loads, none)) e = loads_silent path old new r.outcome loads e
 verify_silent path old new r (inr (p, is, (verdict, known))) e = verdict_silent p old new r.outcome verdict e
+
+shows_silent : (files : ProofFiles) (old new : Option (List ℕ)) (r : Ending) → ShowsNone files old new r → is_silent r.outcome ≡ true → new ≡ old
+shows_silent files old new r (inl (loads, none)) e = loads_silent _ old new r.outcome loads e
+shows_silent files old new r (inr (p, is, inl (reads, none))) e = reads.1
+shows_silent files old new r (inr (p, is, inr (bytes, refuses, known))) e = table_silent p bytes old new r.outcome refuses e
+
+shown_silent : (files : RunFiles) (table : List ℕ) (old new : Option (List ℕ)) (r : Ending) → RunsShown files table old new r → is_silent r.outcome ≡ true → new ≡ old
+shown_silent files table old new r (inl shows) e = shows_silent _ old new r shows e
+shown_silent files table old new r (inr (v, is, (runs, none))) e = on_silent files v old new r.outcome runs e
+
+recheck_silent : (files : ProofFiles) (old new : Option (List ℕ)) (r : Ending) → RechecksFile files old new r → is_silent r.outcome ≡ true → new ≡ old
+recheck_silent files old new r (inl shows) e = shows_silent files old new r shows e
+recheck_silent files old new r (inr (v, is, (accepts, none))) e = bound_silent v old new r.outcome accepts e
+
+unwritten_silent : (name : List ℕ) (error : WriteTableError) (old new : Option (List ℕ)) (r : Outcome) → EndsUnwritten name error old new r → is_silent r ≡ true → new ≡ old
+unwritten_silent name unwritten.Memory old new r lacks e = lacks.1
+unwritten_silent name unwritten.Explored old new r (inl lacks) e = lacks.1
+unwritten_silent name unwritten.Explored old new r (inr says) e = absurd (says_loud old new _ _ r refl says e)
+unwritten_silent name (unwritten.Writer kind) old new r (fails, same) e = same
+
+written_silent : (p : Program) (line name : List ℕ) (before after old new : Option (List ℕ)) (r : Outcome) → StoresTable p line name before after old new r → is_silent r ≡ true → new ≡ old
+written_silent p line name before after old new r stores e = by stores.ends
+  where
+    by : (GainsTable p before stores.handed × Keeps stores.handed after × Says old new line outcome.Done r)
+        ⊎ ((GainsTable p before stores.handed × IsBeginningOf after stores.handed × IsStoreFailure name r × (new ≡ old))
+        ⊎ (BeginsTable p before stores.handed × IsBeginningOf after stores.handed × ((error : WriteTableError) × EndsUnwritten name error old new r))) → new ≡ old
+    by (inl (gains, keeps, says)) = absurd (says_loud old new _ _ r refl says e)
+    by (inr (inl (gains, begins, fails, same))) = same
+    by (inr (inr (begins, part, (error, ends)))) = unwritten_silent name error old new r ends e
+
+prove_silent : (files : ProofFiles) (old new : Option (List ℕ)) (r : Ending) → ProvesFile files old new r → is_silent r.outcome ≡ true → new ≡ old
+prove_silent files old new r (inl (loads, none)) e = loads_silent _ old new r.outcome loads e
+prove_silent files old new r (inr (p, is, (inl refuses, known))) e = program_silent p old new r.outcome refuses e
+prove_silent files old new r (inr (p, is, (inr (bound, of, inl makes), known))) e = makes.1
+prove_silent files old new r (inr (p, is, (inr (bound, of, inr some), known))) e = written_silent p _ _ _ _ old new r.outcome some.stores e
 
 disassemble_silent : (path : List ℕ) (old new : Option (List ℕ)) (r : Outcome) → DisassemblesFile path old new r → is_silent r ≡ true → new ≡ old
 disassemble_silent path old new r (inl loads) e = loads_silent path old new r loads e
@@ -131,11 +193,13 @@ assemble_silent text image old new r (inr (source, inr (p, is, inr some))) e = s
 
 served_silent : (request : Request) (old new : Option (List ℕ)) (r : Ending) → Serves (Some request) old new r → is_silent r.outcome ≡ true → new ≡ old
 served_silent (Trace files limit) old new r h e = trace_silent files limit old new r.outcome h.0 e
-served_silent (Run files) old new r h e = run_silent files old new r h e
+served_silent (Run files None) old new r h e = run_silent files old new r h e
+served_silent (Run files (Some table)) old new r h e = shown_silent files table old new r h e
 served_silent (Verify path) old new r h e = verify_silent path old new r h e
+served_silent (Prove files) old new r h e = prove_silent files old new r h e
+served_silent (Recheck files) old new r h e = recheck_silent files old new r h e
 served_silent (Assemble text image) old new r h e = assemble_silent text image old new r.outcome h.0 e
 served_silent (Disassemble path) old new r h e = disassemble_silent path old new r.outcome h.0 e
-served_silent (NotBuilt name) old new r h e = h.0.1
 
 -- ---- and then standard output hands on what it was given
 
@@ -156,7 +220,6 @@ whole_silent contents request old given new ended r h on e =
 loud : (o : Outcome) → status_of o ≤ 3 → (status_of o ≡ 1 → ⊥) → is_silent o ≡ false
 loud outcome.Done most apart = refl
 loud (outcome.WrongWords text) most apart = absurd (apart refl)
-loud (outcome.NotBuilt name) most apart = absurd (apart refl)
 loud (outcome.Refused rejection) most apart = refl
 loud outcome.Faulted most apart = refl
 loud (outcome.CannotRead path kind) most apart = absurd (omega arith)
@@ -167,7 +230,6 @@ loud outcome.NoMemory most apart = absurd (omega arith)
 written : (name : List ℕ) (cause : Option ErrorKind) (o : Outcome) → IsWriteFailureBy name cause o → status_of o ≤ 3 → ⊥
 written name cause outcome.Done h most = h
 written name cause (outcome.WrongWords text) h most = h
-written name cause (outcome.NotBuilt command) h most = h
 written name cause (outcome.Refused rejection) h most = h
 written name cause outcome.Faulted h most = h
 written name cause (outcome.CannotRead path kind) h most = h
@@ -180,7 +242,6 @@ pub unasked_status : (error : WordsError) (o : Outcome) → IsWordsEnd error o �
 unasked_status Memory o e most apart = let same : status_of o ≡ 5 = ap status_of e in omega arith
 unasked_status (Wrong text) (outcome.WrongWords said) e most apart = apart refl
 unasked_status (Wrong text) outcome.Done e most apart = e
-unasked_status (Wrong text) (outcome.NotBuilt name) e most apart = e
 unasked_status (Wrong text) (outcome.Refused rejection) e most apart = e
 unasked_status (Wrong text) outcome.Faulted e most apart = e
 unasked_status (Wrong text) (outcome.CannotRead path kind) e most apart = e

@@ -1,11 +1,13 @@
 -- What the program does where it is given words.
-use Rattle.std.specs.Prelude.{◌≡◌, ℕ, List, ◌++◌, Option, ◌⊎◌}
+use Rattle.std.specs.Prelude.{◌≡◌, ℕ, List, ◌++◌, Option, Some, ◌⊎◌}
 use Rattle.buffered_io.specs.declared.PromptWriter.{PromptWriter}
 use Rattle.buffered_io.specs.Waiting.{held}
 use Rattle.isa_model.specs.declared.instructions.Insn.{Insn}
 use Rattle.isa_model.specs.{Program}
-use Rattle.explorer.specs.declared.refusals.Refusal.{Refusal}
+use Rattle.walks.specs.declared.refusals.Refusal.{Refusal}
+use Rattle.rechecking.specs.declared.errors.TableError.{TableError}
 use Rattle.explanations.specs.Reasons.{IsReason}
+use Rattle.explanations.specs.Entries.{IsEntryReason}
 use Rattle.tasks.specs.declared.WordsError.{WordsError}
 use Rattle.tasks.specs.Requests.{Request}
 use Rattle.words.specs.Asked.{asked}
@@ -57,5 +59,17 @@ pub record TellsKnown (old new : Option (List ℕ)) : Type 0 where
   pub known : IsReason program refusal slot why
   pub said : AppendsPart old new (reason_of (rejection.Program refusal slot insn) ++ why)
 
+-- a table is refused, and standard error got why, and then what is known of the entry whose step was tested; or a beginning
+-- of it
+pub record TellsEntryKnown (old new : Option (List ℕ)) : Type 0 where
+  pub program : Program
+  pub bytes : List ℕ
+  pub error : TableError
+  pub slot : ℕ
+  pub insn : Insn
+  pub why : List ℕ
+  pub known : IsEntryReason program bytes error slot insn why
+  pub said : AppendsPart old new (reason_of (rejection.Table error (Some (slot, insn))) ++ why)
+
 abbrev pub IsTold : Option (List ℕ) → Option (List ℕ) → Type 0
-IsTold old new = TellsReason old new ⊎ TellsKnown old new
+IsTold old new = TellsReason old new ⊎ (TellsKnown old new ⊎ TellsEntryKnown old new)

@@ -3,3 +3,5 @@ pub mod Kinds
 pub mod Slots
 pub mod Lines
 pub mod Reasons
+pub mod Mismatches
+pub mod Entries

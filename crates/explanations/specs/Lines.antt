@@ -18,8 +18,8 @@ use Rattle.stack_state.specs.declared.states.State.{State}
 use Rattle.stack_state.specs.Meaning.{slots_of}
 use Rattle.stack_state.specs.Places.{kind_of}
 use Rattle.transfer.specs.declared.refusals.Refusal.TheVariants.{NoAction}
-use Rattle.explorer.specs.declared.refusals.Refusal.{Refusal}
-use Rattle.explorer.specs.declared.refusals.Refusal.TheVariants.{Step}
+use Rattle.walks.specs.declared.refusals.Refusal.{Refusal}
+use Rattle.walks.specs.declared.refusals.Refusal.TheVariants.{Step}
 use Rattle.explorer.specs.declared.explanations.Jump.{Jump}
 use Rattle.explanations.specs.Numbers.{half_words}
 use Rattle.explanations.specs.Kinds.{kind_words}

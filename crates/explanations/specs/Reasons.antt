@@ -3,7 +3,7 @@ use Rattle.std.specs.Prelude.{◌≡◌, ℕ, List, ◌++◌, Some}
 use Rattle.isa_model.specs.declared.instructions.Insn.{Insn}
 use Rattle.isa_model.specs.declared.map_defs.MapDef.{MapDef}
 use Rattle.isa_model.specs.Code.Instructions.{Program, fetch}
-use Rattle.explorer.specs.declared.refusals.Refusal.{Refusal}
+use Rattle.walks.specs.declared.refusals.Refusal.{Refusal}
 use Rattle.explorer.specs.declared.explanations.Explanation.{Explanation}
 use Rattle.explorer.specs.Explained.{Explains}
 use Rattle.explanations.specs.Lines.{register_lines, answer_line, stack_lines, way_line}

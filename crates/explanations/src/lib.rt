@@ -1,10 +1,14 @@
-//! What is known where a program is refused, in words.
+//! What is known where a program or a table is refused, in words.
 #![tactic(auto)]
 
+mod differences;
+mod entries;
 mod kinds;
 mod lines;
+mod mismatches;
 mod numbers;
 mod reasons;
 mod slots;
 
+pub use entries::{EntryReason, entry_reason};
 pub use reasons::reason;

@@ -18,7 +18,8 @@ fn lines_of(
     refusal: Refusal,
     found: &Explanation,
 ) -> Result<String, AllocError>
-    ensures { IfOk result (λ text. string_bytes text ≡ lines_of image.now.maps insn.now refusal found.now) }
+    ensures { IfOk result (λ text. string_bytes text
+        ≡ lines_of image.now.maps insn.now refusal found.now) }
 {
     let registers = register_lines(alloc, &found.state, insn)?;
     let answer = answer_line(alloc, &found.state, refusal)?;

@@ -12,7 +12,7 @@ use stack_state::{Slot, State};
 use std::alloc::{AllocError, Global};
 
 /// Where a byte of a slot is, counted from the end of the frame.
-fn place_of(slot: usize, byte: u8) -> i64
+pub fn place_of(slot: usize, byte: u8) -> i64
     requires slot { slot < 64 }
     requires byte { byte < 8 }
     ensures { result ≡ place_of slot byte }
@@ -47,7 +47,7 @@ fn written_words(alloc: Global, slot: usize, marks: u8) -> Result<String, AllocE
 }
 
 /// What is known of a slot, where the innermost frame has this number.
-fn slot_words(
+pub fn slot_words(
     alloc: Global,
     innermost: usize,
     slot: usize,

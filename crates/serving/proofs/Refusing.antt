@@ -1,13 +1,16 @@
 -- What is said of a program that is refused.
-use Rattle.std.proofs.Common.{◌≡◌, ℕ, List, Option, subst, inl, inr}
+use Rattle.std.proofs.Common.{◌≡◌, ℕ, List, Option, Some, None, subst, inl, inr}
+use Rattle.exact_io.specs.Transfers.{AppendsBeginning}
+use Rattle.exact_io.specs.TransferLaws.{AppendsBeginning-first}
 use Rattle.isa_model.specs.declared.instructions.Insn.{Insn}
 use Rattle.isa_model.specs.{Program, fetch}
-use Rattle.explorer.specs.declared.refusals.Refusal.{Refusal}
-use Rattle.explorer.specs.Refused.{IsRefused}
+use Rattle.walks.specs.declared.refusals.Refusal.{Refusal}
+use Rattle.walks.specs.Refused.{IsRefused}
 use Rattle.serving.specs.declared.rejections.Rejection.TheVariants as rejection
 use Rattle.serving.specs.declared.outcomes.Outcome.{Outcome}
 use Rattle.serving.specs.declared.outcomes.Outcome.TheVariants.{Refused}
 use Rattle.serving.specs.Lines.{verdict_line}
+use Rattle.serving.specs.Messages.{entry_place, insn_place, step_place}
 use Rattle.serving.specs.Saying.{Says}
 use Rattle.serving.specs.Judging.{RefusesProgram, SaysRefused}
 
@@ -17,3 +20,8 @@ pub program_refused : (p : Program) (refusal : Refusal) (slot : ℕ) (insn : Opt
 program_refused p refusal slot insn old new r o is at e (inl lacks) = rw e (inl lacks)
 program_refused p refusal slot insn old new r o is at e (inr said) =
     rw e (inr (refusal, slot, is, said.0, subst (λ (i : Option Insn). Says old new (verdict_line refusal slot) (Refused (rejection.Program refusal slot i)) r) at said.1))
+
+-- an entry was not said, of which the place may be known
+pub step_failed : (old new : Option (List ℕ)) (index : ℕ) (place : Option (ℕ × Insn)) → AppendsBeginning old new (entry_place index) → AppendsBeginning old new (step_place index place)
+step_failed old new index None h = h
+step_failed old new index (Some (slot, insn)) h = AppendsBeginning-first old new (entry_place index) (insn_place slot insn) h

@@ -9,13 +9,14 @@ use Rattle.bounds.specs.Bounds.{Bounded}
 use Rattle.serving.specs.declared.outcomes.Outcome.{Outcome}
 use Rattle.serving.specs.declared.outcomes.Outcome.TheVariants as outcome
 use Rattle.serving.specs.declared.endings.Ending.{Ending}
-use Rattle.serving.specs.Known.{IsKnown, Plainly}
-use Rattle.serving.specs.Lines.{size_line}
-use Rattle.serving.specs.Statuses.{IsMakeFailure, IsNotBuilt, IsReadFailure, IsWrongWords}
+use Rattle.serving.specs.Known.{IsKnown, IsKnownOfTable, Plainly}
+use Rattle.serving.specs.Lines.{bound_line, size_line}
+use Rattle.serving.specs.Statuses.{IsMakeFailure, IsReadFailure, IsWrongWords}
 use Rattle.serving.specs.Saying.{Says}
-use Rattle.serving.specs.Judging.{IsBoundOf, RefusesImage, RefusesProgram, RefusesText, Stores, Verifies}
+use Rattle.serving.specs.Judging.{Accepts, IsBoundOf, IsBoundShown, RefusesImage, RefusesProgram, RefusesTable, RefusesText, Stores, Verifies}
 use Rattle.serving.specs.Streams.{RunsAccepted, Traces}
-use Rattle.tasks.specs.Requests.{Request, RunFiles, Trace, Run, Verify, Assemble, Disassemble, NotBuilt}
+use Rattle.serving.specs.Proving.{StoresTable}
+use Rattle.tasks.specs.Requests.{Request, RunFiles, ProofFiles, Trace, Run, Verify, Prove, Recheck, Assemble, Disassemble}
 
 -- ---- files
 
@@ -34,6 +35,21 @@ LoadsNone path old new result = ReadsNone path old new result ⊎ ((bytes : List
 -- an image was read, and P holds of its program
 abbrev pub Loads : (Program → Type 0) → Type 0
 Loads P = (p : Program) × IsImage p × P p
+
+-- the image, or then the table, could not be read; or one of them is refused, and what is told of that beside is known
+abbrev pub ShowsNone : ProofFiles → Option (List ℕ) → Option (List ℕ) → Ending → Type 0
+ShowsNone files old new result =
+    Plainly (LoadsNone files.image old new) result
+    ⊎ Loads (λ p. Plainly (ReadsNone files.table old new) result
+    ⊎ ((bytes : List ℕ) × RefusesTable p bytes old new result.outcome × IsKnownOfTable p bytes result))
+
+-- a table was read, and it shows this bound of the program
+abbrev pub IsShown : Bounded → Type 0
+IsShown v = (bytes : List ℕ) × IsBoundShown v.program bytes v.bound
+
+-- the program of an image with a bound that a table shows, and P holds of the two
+abbrev pub ShowsSome : (Bounded → Type 0) → Type 0
+ShowsSome P = (v : Bounded) × IsShown v × P v
 
 -- the frames could not be opened, or the frames out not be made
 abbrev pub OpensNone : RunFiles → Option (List ℕ) → Option (List ℕ) → Outcome → Type 0
@@ -60,17 +76,26 @@ pub record StoresSome (p : Program) (path : List ℕ) (old new : Option (List �
   pub after : Option (List ℕ)
   pub stores : Stores p (size_line p) path before after old new result
 
+-- a proof table was written to the file at the path, and the bound was said
+pub record ProvesSome (p : Program) (bound : ℕ) (path : List ℕ) (old new : Option (List ℕ)) (result : Outcome) : Type 0 where
+  pub before : Option (List ℕ)
+  pub after : Option (List ℕ)
+  pub stores : StoresTable p (bound_line bound) path before after old new result
+
 -- ---- the commands
 
 abbrev pub TracesFile : RunFiles → ℕ → Option (List ℕ) → Option (List ℕ) → Outcome → Type 0
 TracesFile files limit old new result =
     LoadsNone files.image old new result ⊎ Loads (λ p. OpensNone files old new result ⊎ TracesSome p limit files.out old new result)
 
+-- a program with its bound is run
+abbrev pub RunsOn : RunFiles → Bounded → Option (List ℕ) → Option (List ℕ) → Outcome → Type 0
+RunsOn files v old new result = OpensNone files old new result ⊎ RunsSome v files.out old new result
+
 -- a program is accepted, with its bound, and run
 abbrev pub AcceptsAndRuns : RunFiles → Program → Option (List ℕ) → Option (List ℕ) → Outcome → Type 0
 AcceptsAndRuns files p old new result =
-    (bound : ℕ) × IsBoundOf p bound
-    × (OpensNone files old new result ⊎ RunsSome (record { program = p; bound = bound }) files.out old new result)
+    (bound : ℕ) × IsBoundOf p bound × RunsOn files (record { program = p; bound = bound }) old new result
 
 -- where the program is refused, what is told of that beside is known
 abbrev pub RunsFile : RunFiles → Option (List ℕ) → Option (List ℕ) → Ending → Type 0
@@ -78,9 +103,29 @@ RunsFile files old new result =
     Plainly (LoadsNone files.image old new) result
     ⊎ Loads (λ p. (RefusesProgram p old new result.outcome ⊎ AcceptsAndRuns files p old new result.outcome) × IsKnown p result)
 
+-- the same where a table takes the place of the verifier
+abbrev pub RunsShown : RunFiles → List ℕ → Option (List ℕ) → Option (List ℕ) → Ending → Type 0
+RunsShown files table old new result =
+    ShowsNone (record { image = files.image; table = table }) old new result ⊎ ShowsSome (λ v. Plainly (RunsOn files v old new) result)
+
+-- the bound that a table shows is said
+abbrev pub RechecksFile : ProofFiles → Option (List ℕ) → Option (List ℕ) → Ending → Type 0
+RechecksFile files old new result =
+    ShowsNone files old new result ⊎ ShowsSome (λ v. Plainly (Accepts v old new) result)
+
 abbrev pub VerifiesFile : List ℕ → Option (List ℕ) → Option (List ℕ) → Ending → Type 0
 VerifiesFile path old new result =
     Plainly (LoadsNone path old new) result ⊎ Loads (λ p. Verifies p old new result.outcome × IsKnown p result)
+
+-- a program is accepted, with its bound, and then a table of it is written
+abbrev pub AcceptsAndProves : List ℕ → Program → Option (List ℕ) → Option (List ℕ) → Outcome → Type 0
+AcceptsAndProves table p old new result =
+    (bound : ℕ) × IsBoundOf p bound × (MakesNone table old new result ⊎ ProvesSome p bound table old new result)
+
+abbrev pub ProvesFile : ProofFiles → Option (List ℕ) → Option (List ℕ) → Ending → Type 0
+ProvesFile files old new result =
+    Plainly (LoadsNone files.image old new) result
+    ⊎ Loads (λ p. (RefusesProgram p old new result.outcome ⊎ AcceptsAndProves files.table p old new result.outcome) × IsKnown p result)
 
 abbrev pub DisassemblesFile : List ℕ → Option (List ℕ) → Option (List ℕ) → Outcome → Type 0
 DisassemblesFile path old new result = LoadsNone path old new result ⊎ Loads (λ p. Says old new (canonical_text p) outcome.Done result)
@@ -101,8 +146,10 @@ AssemblesFile text image old new result =
 abbrev pub Serves : Option Request → Option (List ℕ) → Option (List ℕ) → Ending → Type 0
 Serves None old new result = Plainly (λ o. IsWrongWords o × (new ≡ old)) result
 Serves (Some (Trace files limit)) old new result = Plainly (TracesFile files limit old new) result
-Serves (Some (Run files)) old new result = RunsFile files old new result
+Serves (Some (Run files None)) old new result = RunsFile files old new result
+Serves (Some (Run files (Some table))) old new result = RunsShown files table old new result
 Serves (Some (Verify path)) old new result = VerifiesFile path old new result
+Serves (Some (Prove files)) old new result = ProvesFile files old new result
+Serves (Some (Recheck files)) old new result = RechecksFile files old new result
 Serves (Some (Assemble text image)) old new result = Plainly (AssemblesFile text image old new) result
 Serves (Some (Disassemble path)) old new result = Plainly (DisassemblesFile path old new) result
-Serves (Some (NotBuilt name)) old new result = Plainly (λ o. IsNotBuilt name o × (new ≡ old)) result

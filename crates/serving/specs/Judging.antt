@@ -1,4 +1,4 @@
--- What is said of images, programs and texts that are judged.
+-- What is said of images, programs, tables and texts that are judged.
 use Rattle.std.specs.Prelude.{◌≡◌, ◌≢◌, ℕ, false, List, Option, Some, Err, ◌⊎◌}
 use Rattle.std.specs.Io.KnownBytes.{Appends}
 use Rattle.exact_io.specs.Transfers.{AppendsBeginning}
@@ -7,12 +7,17 @@ use Rattle.isa_model.specs.{Program, fetch}
 use Rattle.image.specs.declared.errors.ImageError.{ImageError}
 use Rattle.image.specs.Images.{image_bytes}
 use Rattle.image.specs.Refusals.{refusal_of}
-use Rattle.explorer.specs.declared.refusals.Refusal.{Refusal}
+use Rattle.walks.specs.declared.refusals.Refusal.{Refusal}
 use Rattle.bounds.specs.Bounds.{Bounded, IsVerified}
 use Rattle.stack_state.specs.Starts.{start}
-use Rattle.explorer.specs.Accepting.{BoundsAll}
-use Rattle.explorer.specs.Counts.{HasNumber}
-use Rattle.explorer.specs.Refused.{IsRefused}
+use Rattle.walks.specs.Accepting.{BoundsAll}
+use Rattle.walks.specs.Counts.{HasNumber}
+use Rattle.walks.specs.Refused.{IsRefused}
+use Rattle.walks.specs.declared.refusals.Refusal.TheVariants.{Flow}
+use Rattle.rechecking.specs.declared.errors.TableError.{TableError}
+use Rattle.rechecking.specs.declared.errors.TableError.TheVariants as table
+use Rattle.rechecking.specs.Refusing.{Shows}
+use Rattle.rechecking.specs.Refusing as rechecking
 use Rattle.assembler.specs.declared.errors.AsmErrorKind.TheVariants as text
 use Rattle.assembler.specs.declared.errors.AsmError.{AsmError}
 use Rattle.assembler.specs.Assembling.{assembled}
@@ -20,7 +25,7 @@ use Rattle.serving.specs.declared.rejections.Rejection.TheVariants as rejection
 use Rattle.serving.specs.declared.outcomes.Outcome.{Outcome}
 use Rattle.serving.specs.declared.outcomes.Outcome.TheVariants.{Done, Refused, NoMemory}
 use Rattle.serving.specs.Statuses.{IsWriteFailure}
-use Rattle.serving.specs.Lines.{image_line, verdict_line, text_line, bound_line, is_memory}
+use Rattle.serving.specs.Lines.{image_line, verdict_line, table_line, text_line, bound_line, is_memory, is_table_memory}
 use Rattle.serving.specs.Saying.{Says, LacksMemory}
 
 -- bytes are no image, and standard output says why; or memory ran out
@@ -59,6 +64,34 @@ AcceptsSome p old new result = (bound : ℕ) × IsBoundOf p bound × Accepts (re
 
 abbrev pub Verifies : Program → Option (List ℕ) → Option (List ℕ) → Outcome → Type 0
 Verifies p old new result = AcceptsSome p old new result ⊎ RefusesProgram p old new result
+
+-- ---- tables
+
+-- The bound that a table shows, whoever made it: its bytes are a closed table of the program, of which this is the first
+-- number, and so every run exits within it.
+pub record IsBoundShown (p : Program) (bytes : List ℕ) (bound : ℕ) : Type 0 where
+  pub verified : IsVerified (record { program = p; bound = bound })
+  pub shows : Shows p bytes bound
+
+-- standard output says that a table is refused; of an entry whose step was tested the place may be known. Or memory ran out
+abbrev pub SaysTable : TableError → Option (ℕ × Insn) → Option (List ℕ) → Option (List ℕ) → Outcome → Type 0
+SaysTable error place old new result =
+    LacksMemory old new result ⊎ Says old new (table_line error) (Refused (rejection.Table error place)) result
+
+-- the same, where this is the refusal of the program with those bytes as its table; of control flow that is not good the
+-- program is told to be refused
+abbrev pub SaysOfTable : Program → TableError → Option (List ℕ) → Option (List ℕ) → Outcome → Type 0
+SaysOfTable p (table.Flow error slot) old new result = SaysRefused (Flow error) slot (fetch p slot) old new result
+SaysOfTable p error old new result =
+    LacksMemory old new result
+    ⊎ ((place : Option (ℕ × Insn)) × (is_table_memory error ≡ false) × Says old new (table_line error) (Refused (rejection.Table error place)) result)
+
+-- a table is refused, and standard output says why and where; or memory ran out
+abbrev pub RefusesTable : Program → List ℕ → Option (List ℕ) → Option (List ℕ) → Outcome → Type 0
+RefusesTable p bytes old new result =
+    LacksMemory old new result ⊎ ((error : TableError) × rechecking.IsRefused p bytes error × SaysOfTable p error old new result)
+
+-- ---- texts
 
 -- a text spells no program, and standard output says why and where; or memory ran out
 abbrev pub RefusesText : List ℕ → Option (List ℕ) → Option (List ℕ) → Outcome → Type 0

@@ -1,9 +1,12 @@
--- What is known of a program that was refused, and told after why and where.
-use Rattle.std.specs.Prelude.{◌≡◌, ℕ, List, ◌++◌, Option, Some, None, String, IfSome}
+-- What is known of a program or a table that was refused, and told after why and where.
+use Rattle.std.specs.Prelude.{◌≡◌, ℕ, List, ◌++◌, Option, Some, None, String, IfSome, IsSomeAnd, option_map}
 use Rattle.std.specs.declared.alloc.Global.{Global}
 use Rattle.std.specs.String.{string_bytes}
+use Rattle.isa_model.specs.declared.instructions.Insn.{Insn}
 use Rattle.isa_model.specs.{Program}
 use Rattle.explanations.specs.Reasons.{IsReason}
+use Rattle.explanations.specs.declared.entries.EntryReason.{EntryReason}
+use Rattle.explanations.specs.Entries.{IsEntryReason}
 use Rattle.serving.specs.declared.rejections.Rejection.TheVariants as rejection
 use Rattle.serving.specs.declared.outcomes.Outcome.{Outcome}
 use Rattle.serving.specs.declared.outcomes.Outcome.TheVariants.{Refused}
@@ -18,6 +21,32 @@ Tells p outcome why = why ≡ None
 
 abbrev pub IsKnown : Program → Ending → Type 0
 IsKnown p ending = Tells p ending.outcome ending.why
+
+-- The same of a task on these bytes as a table of the program: where the step of an entry was tested, its slot and its
+-- instruction may be told, and then this is what is known there.
+abbrev pub TellsTable : Program → List ℕ → Outcome → Option (String Global) → Type 0
+TellsTable p bytes (Refused (rejection.Table error (Some (slot, insn)))) why =
+    IsSomeAnd why (λ text. IsEntryReason p bytes error slot insn (string_bytes text))
+TellsTable p bytes outcome why = why ≡ None
+
+abbrev pub IsKnownOfTable : Program → List ℕ → Ending → Type 0
+IsKnownOfTable p bytes ending = TellsTable p bytes ending.outcome ending.why
+
+-- ---- what was found of an entry
+
+-- the slot of its step, and the instruction there
+abbrev pub place_found : Option EntryReason → Option (ℕ × Insn)
+place_found found = option_map (λ f. (f.slot, f.insn)) found
+
+abbrev pub why_found : Option EntryReason → Option (String Global)
+why_found found = option_map (λ f. f.text) found
+
+-- it is told with a refusal alone
+abbrev pub with_refusal : Outcome → Option (String Global) → Option (String Global)
+with_refusal (Refused rejection) why = why
+with_refusal outcome why = None
+
+-- ---- endings
 
 -- a task ended so, and nothing is known beside that
 abbrev pub Plainly : (Outcome → Type 0) → Ending → Type 0

@@ -7,4 +7,5 @@ pub mod Lines
 pub mod Saying
 pub mod Judging
 pub mod Streams
+pub mod Proving
 pub mod Commands

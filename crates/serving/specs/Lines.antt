@@ -6,9 +6,16 @@ use Rattle.image.specs.declared.errors.ImageError.{ImageError}
 use Rattle.image.specs.declared.errors.ImageError.TheVariants.{Code, MapRow, UnknownMap, ValuePointer}
 use Rattle.image.specs.Messages as image
 use Rattle.control_flow.specs.declared.errors.FlowError.TheVariants as flow
-use Rattle.explorer.specs.declared.refusals.Refusal.{Refusal}
-use Rattle.explorer.specs.declared.refusals.Refusal.TheVariants.{Flow, Step, Repeats, TooLong, Memory}
-use Rattle.explorer.specs.Messages as explorer
+use Rattle.walks.specs.declared.refusals.Refusal.{Refusal}
+use Rattle.walks.specs.declared.refusals.Refusal.TheVariants.{Flow, Step, Repeats, TooLong, Memory}
+use Rattle.walks.specs.Messages as walks
+use Rattle.transfer.specs.Messages as transfer
+use Rattle.table_entries.specs.declared.faults.TableFault.TheVariants as fault
+use Rattle.rechecking.specs.declared.errors.TableError.{TableError}
+use Rattle.rechecking.specs.declared.errors.TableError.TheVariants as table
+use Rattle.rechecking.specs.Messages as rechecking
+use Rattle.proof_table.specs.declared.errors.WriteTableError.TheVariants as unwritten
+use Rattle.proof_table.specs.Messages as proof_table
 use Rattle.assembler.specs.declared.errors.AsmError.{AsmError}
 use Rattle.assembler.specs.Messages as assembler
 
@@ -28,7 +35,23 @@ image_line error = codes "refused " ++ (image.code_of error ++ codes "\n")
 -- a program is refused, at a slot
 abbrev pub verdict_line : Refusal → ℕ → List ℕ
 verdict_line refusal slot =
-    codes "refused " ++ (explorer.code_of refusal ++ (codes " slot " ++ (decimal slot ++ codes "\n")))
+    codes "refused " ++ (walks.code_of refusal ++ (codes " slot " ++ (decimal slot ++ codes "\n")))
+
+-- a table is refused, at an entry or as a whole
+abbrev pub table_line : TableError → List ℕ
+table_line (table.Flow error slot) = verdict_line (Flow error) slot
+table_line (table.Fault (fault.Entry index)) =
+    codes "refused " ++ (rechecking.code_of (table.Fault (fault.Entry index)) ++ (codes " entry " ++ (decimal index ++ codes "\n")))
+table_line (table.Step index refusal) =
+    codes "refused " ++ (rechecking.code_of (table.Step index refusal)
+    ++ (codes " entry " ++ (decimal index ++ (codes " " ++ (transfer.code_of refusal ++ codes "\n")))))
+table_line (table.Successor index) =
+    codes "refused " ++ (rechecking.code_of (table.Successor index) ++ (codes " entry " ++ (decimal index ++ codes "\n")))
+table_line error = codes "refused " ++ (rechecking.code_of error ++ codes "\n")
+
+-- an accepted program could not be explored again
+abbrev pub explored_line : List ℕ
+explored_line = codes "refused " ++ (proof_table.code_of unwritten.Explored ++ codes "\n")
 
 -- a text is refused, at a line and a column
 abbrev pub text_line : AsmError → List ℕ
@@ -53,3 +76,9 @@ is_memory (Step refusal) = false
 is_memory Repeats = false
 is_memory TooLong = false
 is_memory Memory = true
+
+-- the same of a table
+abbrev pub is_table_memory : TableError → Bool
+is_table_memory (table.Flow error slot) = is_memory (Flow error)
+is_table_memory (table.Fault fault.Memory) = true
+is_table_memory error = false

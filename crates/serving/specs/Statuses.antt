@@ -5,7 +5,7 @@ use Rattle.std.specs.String.{string_bytes}
 use Rattle.tasks.specs.declared.WordsError.{WordsError}
 use Rattle.tasks.specs.declared.WordsError.TheVariants.{Wrong, Memory}
 use Rattle.serving.specs.declared.outcomes.Outcome.{Outcome}
-use Rattle.serving.specs.declared.outcomes.Outcome.TheVariants.{Done, WrongWords, NotBuilt, Refused, Faulted, CannotRead, CannotWrite, CannotReplace, NoMemory}
+use Rattle.serving.specs.declared.outcomes.Outcome.TheVariants.{Done, WrongWords, Refused, Faulted, CannotRead, CannotWrite, CannotReplace, NoMemory}
 use Rattle.serving.specs.Causes.{cause_line, line_after}
 use Rattle.serving.specs.Messages.{reason_of}
 
@@ -13,7 +13,6 @@ use Rattle.serving.specs.Messages.{reason_of}
 abbrev pub status_of : Outcome → ℕ
 status_of Done = 0
 status_of (WrongWords text) = 1
-status_of (NotBuilt name) = 1
 status_of (Refused rejection) = 2
 status_of Faulted = 3
 status_of (CannotRead path kind) = 4
@@ -25,7 +24,6 @@ status_of NoMemory = 5
 abbrev pub is_silent : Outcome → Bool
 is_silent Done = false
 is_silent (WrongWords text) = true
-is_silent (NotBuilt name) = true
 is_silent (Refused rejection) = false
 is_silent Faulted = false
 is_silent (CannotRead path kind) = true
@@ -37,7 +35,6 @@ is_silent NoMemory = true
 abbrev pub is_unsaid : Outcome → Bool
 is_unsaid Done = true
 is_unsaid (WrongWords text) = false
-is_unsaid (NotBuilt name) = false
 is_unsaid (Refused rejection) = false
 is_unsaid Faulted = true
 is_unsaid (CannotRead path kind) = false
@@ -52,7 +49,6 @@ usage = codes "usage: xdpvm asm|dis|verify|run|trace|prove|recheck\n"
 abbrev pub message_of : Outcome → List ℕ
 message_of Done = []
 message_of (WrongWords text) = text.now ++ usage
-message_of (NotBuilt name) = usage ++ (codes "this build has no command " ++ (name.now ++ codes "\n"))
 message_of (Refused rejection) = reason_of rejection
 message_of Faulted = []
 message_of (CannotRead path kind) = codes "cannot read " ++ (path.now ++ cause_line kind)
@@ -106,8 +102,3 @@ IsMakeFailure path (CannotWrite file cause) = file.now ≡ path
 IsMakeFailure path (CannotReplace file) = file.now ≡ path
 IsMakeFailure path NoMemory = Unit {0}
 IsMakeFailure path outcome = ⊥
-
--- the command of this name is not built
-abbrev pub IsNotBuilt : List ℕ → Outcome → Type 0
-IsNotBuilt name (NotBuilt command) = command.now ≡ name
-IsNotBuilt name outcome = ⊥

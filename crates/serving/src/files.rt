@@ -25,18 +25,22 @@ use tasks::{Assembly, Paths, StepLimit};
 // longer file the rest changes nothing.
 const PAST_ANY_IMAGE: u64 = 8 + 12 * MAX_MAPS as u64 + 8 * MAX_SLOTS as u64 + 1;
 
-// How many bytes go to or from a file of frames at once.
-const BUFFER: usize = 65536;
+/// How many bytes go to or from a file of frames or a table at once.
+pub const BUFFER: usize = 65536;
 
 // The length of the magic, with which frames out begin. It goes to the file at once, so that a file
 // that cannot be written is found before the report begins.
 const MAGIC: usize = 4;
 
-// A source of frames, and where the frames out go.
-type Streams<F> = (BufReader<F>, PromptWriter<F>);
+/// A source of frames, and where the frames out go.
+pub type Streams<F> = (BufReader<F>, PromptWriter<F>);
 
-// Makes a file to write to, unless it is one of those that are read.
-fn create_file<'a, R: Files>(rt: &R, path: &'a str, read: &[&str]) -> Result<R::File, Outcome<'a>>
+/// Makes a file to write to, unless it is one of those that are read.
+pub fn create_file<'a, R: Files>(
+    rt: &R,
+    path: &'a str,
+    read: &[&str],
+) -> Result<R::File, Outcome<'a>>
     ensures { IfErr result (IsMakeFailure path.now) }
 {
     for other in read {
@@ -50,8 +54,8 @@ fn create_file<'a, R: Files>(rt: &R, path: &'a str, read: &[&str]) -> Result<R::
     }
 }
 
-// The image in a file, or how the task ends without it.
-fn load_image<'a, R: Files, W: Write>(
+/// The image in a file, or how the task ends without it.
+pub fn load_image<'a, R: Files, W: Write>(
     rt: &R,
     alloc: Global,
     path: &'a str,
@@ -69,12 +73,13 @@ fn load_image<'a, R: Files, W: Write>(
     image_of(alloc, bytes.as_slice(), out)
 }
 
-// Opens the frames, and then the frames out. Their buffers are made before any of their bytes is
-// read or written.
-fn open_streams<'a, R: Files>(
+/// Opens the frames, and then the frames out, which are written over none of the files that are
+/// read. Their buffers are made before any of their bytes is read or written.
+pub fn open_streams<'a, R: Files>(
     rt: &R,
     alloc: Global,
     paths: Paths<'a>,
+    read: &[&str],
 ) -> Result<Streams<R::File>, Outcome<'a>>
     ensures { IfErr result
         (λ ended. IsReadFailure paths.entry.frames.now ended
@@ -87,7 +92,7 @@ fn open_streams<'a, R: Files>(
     let Ok(source) = BufReader::with_capacity(alloc, BUFFER, source) else {
         return Err(Outcome::NoMemory);
     };
-    let file = create_file(rt, paths.out, &[paths.image, paths.frames])?;
+    let file = create_file(rt, paths.out, read)?;
     match PromptWriter::new(alloc, BUFFER, MAGIC, file) {
         Ok(file) => Ok((source, file)),
         Err(_) => Err(Outcome::NoMemory),
@@ -110,7 +115,7 @@ pub fn trace<'a, R: Files, W: Write>(
         Ok(image) => image,
         Err(outcome) => return outcome,
     };
-    match open_streams(rt, alloc, paths) {
+    match open_streams(rt, alloc, paths, &[paths.image, paths.frames]) {
         Ok((source, mut file)) => {
             trace_stream(alloc, image, limit, source, paths.out, out, &mut file)
         }
@@ -136,7 +141,7 @@ pub fn run_verified<'a, R: Files, W: Write>(
         Ok(verified) => verified,
         Err(ending) => return ending,
     };
-    match open_streams(rt, alloc, paths) {
+    match open_streams(rt, alloc, paths, &[paths.image, paths.frames]) {
         Ok((source, mut file)) => {
             let outcome = run_stream(alloc, verified, source, paths.out, out, &mut file);
             Ending::plain(outcome)

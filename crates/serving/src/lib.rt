@@ -6,11 +6,14 @@ mod endings;
 mod files;
 mod names;
 mod outcomes;
+mod proving;
 mod reading;
+mod rechecks;
 mod rejections;
 mod requests;
 mod same;
 mod streams;
+mod tables;
 mod texts;
 mod verdicts;
 

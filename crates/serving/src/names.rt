@@ -2,12 +2,14 @@
 
 ghost use Rattle.std.specs.Prelude.{◌≡◌, IfOk};
 ghost use Rattle.std.specs.String.{string_bytes};
-ghost use Rattle.serving.specs.Lines.{image_line, verdict_line, text_line};
+ghost use Rattle.serving.specs.Lines.{image_line, verdict_line, table_line, text_line};
 
 use assembler::AsmError;
 use explorer::Refusal;
 use image::ImageError;
+use rechecking::TableError;
 use std::alloc::{AllocError, Global};
+use table_entries::TableFault;
 
 /// The line for an image that is refused.
 pub fn image_line(alloc: Global, error: ImageError) -> Result<String, AllocError>
@@ -33,6 +35,24 @@ pub fn verdict_line(alloc: Global, refusal: Refusal, slot: usize) -> Result<Stri
 {
     let name = refusal.code();
     format!(in alloc; "refused {name} slot {slot}\n")
+}
+
+/// The line for a table that is refused; for control flow it is that of the program.
+pub fn table_line(alloc: Global, error: TableError) -> Result<String, AllocError>
+    ensures { IfOk result (λ line. string_bytes line ≡ table_line error) }
+{
+    let name = error.code();
+    match error {
+        TableError::Flow(_, slot) => format!(in alloc; "refused {name} slot {slot}\n"),
+        TableError::Fault(TableFault::Entry(index)) | TableError::Successor(index) => {
+            format!(in alloc; "refused {name} entry {index}\n")
+        }
+        TableError::Step(index, refusal) => {
+            let inner = refusal.code();
+            format!(in alloc; "refused {name} entry {index} {inner}\n")
+        }
+        TableError::Fault(_) | TableError::Start => format!(in alloc; "refused {name}\n"),
+    }
 }
 
 /// The line for a text that is refused at a line and a column.

@@ -28,9 +28,7 @@ pub enum Outcome<'a> {
     Done,
     /// The words ask for nothing. The text says why, or is the help.
     WrongWords(&'a str),
-    /// The words ask for a command that this build does not have.
-    NotBuilt(&'static str),
-    /// The image, the text or the program was refused, which standard output says.
+    /// The image, the program, the table or the text was refused, which standard output says.
     Refused(Rejection),
     /// The report ended in a fault.
     Faulted,
@@ -90,7 +88,6 @@ impl<'a> Outcome<'a> {
             Outcome::Done | Outcome::Refused(_) | Outcome::Faulted | Outcome::CannotWrite(_, _) =>
                 false,
             Outcome::WrongWords(_)
-            | Outcome::NotBuilt(_)
             | Outcome::CannotRead(_, _)
             | Outcome::CannotReplace(_)
             | Outcome::NoMemory => true,
@@ -103,7 +100,7 @@ impl<'a> Outcome<'a> {
     {
         match self {
             Outcome::Done => 0,
-            Outcome::WrongWords(_) | Outcome::NotBuilt(_) => 1,
+            Outcome::WrongWords(_) => 1,
             Outcome::Refused(_) => 2,
             Outcome::Faulted => 3,
             Outcome::CannotRead(_, _) | Outcome::CannotWrite(_, _) | Outcome::CannotReplace(_) => 4,
@@ -125,10 +122,6 @@ impl<'a> Outcome<'a> {
             Outcome::WrongWords(text) => {
                 write_bytes(err, text.as_bytes())?;
                 write_bytes(err, USAGE.as_bytes())
-            }
-            Outcome::NotBuilt(name) => {
-                write_bytes(err, USAGE.as_bytes())?;
-                write_texts(err, "this build has no command ", name, "\n")
             }
             Outcome::CannotRead(path, kind) => {
                 write_texts(err, "cannot read ", path, cause_line(kind))

@@ -5,7 +5,7 @@ ghost use Rattle.std.specs.Io.KnownBytes.{Appends};
 ghost use Rattle.isa_model.specs.Text.CanonicalText as canonical;
 ghost use Rattle.exact_io.specs.Transfers.{AppendsBeginning};
 ghost use Rattle.serving.specs.Messages.{sentence_of, map_place, insn_place, text_place, place_of};
-ghost use Rattle.serving.specs.Messages.{reason_of};
+ghost use Rattle.serving.specs.Messages.{entry_place, step_place, table_place, reason_of};
 
 use super::texts::write_texts;
 use assembler::AsmError;
@@ -14,8 +14,11 @@ use explorer::Refusal;
 use image::ImageError;
 use isa_model::Insn;
 use itoa::Buffer;
+use proof_table::WriteTableError;
+use rechecking::TableError;
 use std::io;
 use std::io::Write;
+use table_entries::TableFault;
 
 /// What is refused, and why.
 #[derive(Clone, Copy)]
@@ -24,6 +27,11 @@ pub enum Rejection {
     Image(ImageError),
     /// The program is not accepted, at a slot. The instruction is the one that begins there.
     Program(Refusal, usize, Option<Insn>),
+    /// The table is not accepted. Of an entry whose step was tested this is the slot, and the
+    /// instruction that begins there, unless memory ran out when it was read again.
+    Table(TableError, Option<(usize, Insn)>),
+    /// The program was accepted, and could not be explored again for its table.
+    Explored,
     /// The text is no program.
     Text(AsmError),
 }
@@ -35,6 +43,8 @@ impl Rejection {
         match self {
             Rejection::Image(error) => error.sentence(),
             Rejection::Program(refusal, _, _) => refusal.sentence(),
+            Rejection::Table(error, _) => error.sentence(),
+            Rejection::Explored => WriteTableError::Explored.sentence(),
             Rejection::Text(error) => error.kind.sentence(),
         }
     }
@@ -56,6 +66,8 @@ impl Rejection {
             Rejection::Image(_) => Ok(()),
             Rejection::Program(_, slot, None) => say_slot(err, slot, "\n"),
             Rejection::Program(_, slot, Some(insn)) => say_insn(err, slot, &insn),
+            Rejection::Table(error, place) => say_table_place(err, error, place),
+            Rejection::Explored => Ok(()),
             Rejection::Text(error) => say_text_place(err, error.line, error.column),
         }
     }
@@ -103,6 +115,53 @@ fn say_insn<W: Write>(err: &mut W, slot: usize, insn: &Insn) -> io::Result<()>
 {
     say_slot(err, slot, ": ")?;
     write_insn(err, insn)
+}
+
+// Writes the index of an entry.
+fn say_entry<W: Write>(err: &mut W, index: usize) -> io::Result<()>
+    ensures ok { OnOk result (Appends (W.contents err.old) (W.contents err.new)
+        (entry_place index)) }
+    ensures err { OnErr result (AppendsBeginning (W.contents err.old) (W.contents err.new)
+        (entry_place index)) }
+{
+    let mut buffer = Buffer::new();
+    write_texts(err, "entry ", buffer.format(index as u64), "\n")
+}
+
+// Writes the index of an entry, and where its step is, if that is known.
+fn say_step<W: Write>(err: &mut W, index: usize, place: Option<(usize, Insn)>) -> io::Result<()>
+    ensures ok { OnOk result (Appends (W.contents err.old) (W.contents err.new)
+        (step_place index place)) }
+    ensures err { OnErr result (AppendsBeginning (W.contents err.old) (W.contents err.new)
+        (step_place index place)) }
+{
+    say_entry(err, index)?;
+    match place {
+        None => Ok(()),
+        Some((slot, insn)) => say_insn(err, slot, &insn),
+    }
+}
+
+// Writes where a table is refused, and why the step of an entry is.
+fn say_table_place<W: Write>(
+    err: &mut W,
+    error: TableError,
+    place: Option<(usize, Insn)>,
+) -> io::Result<()>
+    ensures ok { OnOk result (Appends (W.contents err.old) (W.contents err.new)
+        (table_place error place)) }
+    ensures err { OnErr result (AppendsBeginning (W.contents err.old) (W.contents err.new)
+        (table_place error place)) }
+{
+    match error {
+        TableError::Fault(TableFault::Entry(index)) => say_entry(err, index),
+        TableError::Step(index, refusal) => {
+            say_step(err, index, place)?;
+            write_texts(err, "", refusal.sentence(), "\n")
+        }
+        TableError::Successor(index) => say_step(err, index, place),
+        TableError::Flow(_, _) | TableError::Fault(_) | TableError::Start => Ok(()),
+    }
 }
 
 // Writes a line and a column.

@@ -1,16 +1,33 @@
 //! What is done where something is asked for.
 
-ghost use Rattle.std.specs.Prelude.{Some};
-ghost use Rattle.tasks.specs.Requests.{request_of};
+ghost use Rattle.std.specs.Prelude.{Some, option_map};
+ghost use Rattle.tasks.specs.Requests.{Run, files_of, request_of};
 ghost use Rattle.serving.specs.Commands.{Serves};
 
 use super::endings::Ending;
 use super::files::{assemble_file, disassemble_file, run_verified, trace, verify_file};
-use super::outcomes::Outcome;
+use super::tables::{prove_file, recheck_file, run_shown};
 use std::alloc::Global;
 use std::io::Write;
 use std::rt::Files;
-use tasks::Task;
+use tasks::{Paths, Task};
+
+// Runs a program that is verified, or of which a table is tested where one is given.
+fn run<'a, R: Files, W: Write>(
+    rt: &R,
+    alloc: Global,
+    paths: Paths<'a>,
+    table: Option<&'a str>,
+    out: &mut W,
+) -> Ending<'a>
+    ensures { Serves (Some (Run (files_of paths.entry) (option_map (λ path. path.now) table.entry)))
+        (W.contents out.old) (W.contents out.new) result }
+{
+    match table {
+        None => run_verified(rt, alloc, paths, out),
+        Some(table) => run_shown(rt, alloc, paths, table, out),
+    }
+}
 
 /// Does what is asked for. Files are opened by their paths, and `out` stands for standard output.
 pub fn serve<'a, R: Files, W: Write>(
@@ -27,18 +44,16 @@ pub fn serve<'a, R: Files, W: Write>(
             outcome: trace(rt, alloc, paths, limit, out),
             why: None,
         },
-        Task::Run(paths) => run_verified(rt, alloc, paths, out),
+        Task::Run(paths, table) => run(rt, alloc, paths, table, out),
         Task::Verify(path) => verify_file(rt, alloc, path, out),
+        Task::Prove(proof) => prove_file(rt, alloc, proof, out),
+        Task::Recheck(proof) => recheck_file(rt, alloc, proof, out),
         Task::Assemble(paths) => Ending {
             outcome: assemble_file(rt, alloc, paths, out),
             why: None,
         },
         Task::Disassemble(path) => Ending {
             outcome: disassemble_file(rt, alloc, path, out),
-            why: None,
-        },
-        Task::NotBuilt(name) => Ending {
-            outcome: Outcome::NotBuilt(name),
             why: None,
         },
     }

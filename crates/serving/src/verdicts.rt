@@ -7,8 +7,8 @@ ghost use Rattle.isa_model.specs.Text.CanonicalText.{canonical_text};
 ghost use Rattle.image.specs.Images.{IsImage, image_bytes};
 ghost use Rattle.bounds.specs.Bounds.{IsVerified};
 ghost use Rattle.stack_state.specs.Starts.{start};
-ghost use Rattle.explorer.specs.Accepting.{BoundsAll};
-ghost use Rattle.explorer.specs.Counts.{HasNumber};
+ghost use Rattle.walks.specs.Accepting.{BoundsAll};
+ghost use Rattle.walks.specs.Counts.{HasNumber};
 ghost use Rattle.assembler.specs.Assembling as spells;
 ghost use Rattle.serving.specs.Statuses.{is_silent};
 ghost use Rattle.serving.specs.Lines.{bound_line, size_line};
@@ -43,8 +43,8 @@ pub fn say_line<'a, W: Write>(line: &str, ended: Outcome<'a>, out: &mut W) -> Ou
     }
 }
 
-// Says a line for which there was memory, after which the task has ended so.
-fn say_made<'a, W: Write>(
+/// Says a line for which there was memory, after which the task has ended so.
+pub fn say_made<'a, W: Write>(
     line: Result<String, AllocError>,
     ended: Outcome<'a>,
     out: &mut W,
@@ -86,8 +86,8 @@ pub fn image_of<'a, W: Write>(
     }
 }
 
-// Says that a program is refused at a slot, where this instruction begins.
-fn say_refused<'a, W: Write>(
+/// Says that a program is refused at a slot, where this instruction begins.
+pub fn say_refused<'a, W: Write>(
     alloc: Global,
     refusal: Refusal,
     slot: usize,
@@ -134,12 +134,19 @@ pub fn judge<'a, W: Write>(alloc: Global, image: Image, out: &mut W) -> Result<V
     }
 }
 
+/// The line that says the most steps of a run.
+pub fn bound_line(alloc: Global, verified: &Verified) -> Result<String, AllocError>
+    ensures { IfOk result (λ line. string_bytes line ≡ bound_line verified.now.bound) }
+{
+    let bound = verified.bound();
+    format!(in alloc; "ok bound {bound}\n")
+}
+
 /// Says the most steps of a run.
 pub fn accepted<'a, W: Write>(alloc: Global, verified: &Verified, out: &mut W) -> Outcome<'a>
     ensures { Accepts verified.now (W.contents out.old) (W.contents out.new) result }
 {
-    let bound = verified.bound();
-    say_made(format!(in alloc; "ok bound {bound}\n"), Outcome::Done, out)
+    say_made(bound_line(alloc, verified), Outcome::Done, out)
 }
 
 /// Verifies a program: standard output says the most steps of a run, or the refusal.

@@ -1,6 +1,7 @@
 -- What is asked for, and of which task it is.
-use Rattle.std.specs.Prelude.{ℕ, List}
+use Rattle.std.specs.Prelude.{ℕ, List, Option, option_map}
 use Rattle.tasks.specs.declared.Paths.{Paths}
+use Rattle.tasks.specs.declared.Proof.{Proof}
 use Rattle.tasks.specs.declared.Task.{Task}
 use Rattle.tasks.specs.declared.Task.TheVariants as task
 
@@ -10,26 +11,36 @@ pub record RunFiles : Type 0 where
   pub frames : List ℕ
   pub out : List ℕ
 
+-- the files of a proof, by their paths
+pub record ProofFiles : Type 0 where
+  pub image : List ℕ
+  pub table : List ℕ
+
 -- what is asked for, on files by their paths
 pub data Request : Type 0 where
   Trace : RunFiles → ℕ → Request
-  Run : RunFiles → Request
+  -- where a proof table is given, that is tested in place of verifying the program
+  Run : RunFiles → Option (List ℕ) → Request
   Verify : List ℕ → Request
+  Prove : ProofFiles → Request
+  Recheck : ProofFiles → Request
   -- of a text, an image
   Assemble : List ℕ → List ℕ → Request
   Disassemble : List ℕ → Request
-  -- a command that this build does not have
-  NotBuilt : List ℕ → Request
 
 -- ---- what a task is of
 
 abbrev pub files_of : Paths → RunFiles
 files_of paths = record { image = paths.image.now; frames = paths.frames.now; out = paths.out.now }
 
+abbrev pub proof_files_of : Proof → ProofFiles
+proof_files_of proof = record { image = proof.image.now; table = proof.table.now }
+
 abbrev pub request_of : Task → Request
 request_of (task.Trace paths limit) = Trace (files_of paths) limit.steps
-request_of (task.Run paths) = Run (files_of paths)
+request_of (task.Run paths table) = Run (files_of paths) (option_map (λ path. path.now) table)
 request_of (task.Verify path) = Verify path.now
+request_of (task.Prove proof) = Prove (proof_files_of proof)
+request_of (task.Recheck proof) = Recheck (proof_files_of proof)
 request_of (task.Assemble paths) = Assemble paths.text.now paths.image.now
 request_of (task.Disassemble path) = Disassemble path.now
-request_of (task.NotBuilt name) = NotBuilt name.now

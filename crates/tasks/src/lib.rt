@@ -12,16 +12,18 @@ use std::alloc::AllocError;
 pub enum Task<'a> {
     /// Run a program with checks.
     Trace(Paths<'a>, StepLimit),
-    /// Verify a program and run it.
-    Run(Paths<'a>),
+    /// Verify a program and run it. Where a proof table is given, that is tested instead.
+    Run(Paths<'a>, Option<&'a str>),
     /// Verify a program.
     Verify(&'a str),
+    /// Verify a program and write a proof table of it.
+    Prove(Proof<'a>),
+    /// Test a proof table of a program.
+    Recheck(Proof<'a>),
     /// Make an image of the text in a file.
     Assemble(Assembly<'a>),
     /// Write the text of the image in a file.
     Disassemble(&'a str),
-    /// A command of this program that this build does not have.
-    NotBuilt(&'static str),
 }
 
 /// The most steps of a run on one frame: from 1 to 1,000,000.
@@ -45,6 +47,13 @@ pub struct Paths<'a> {
 pub struct Assembly<'a> {
     pub text: &'a str,
     pub image: &'a str,
+}
+
+/// The files of a proof: the image, and the proof table of its program.
+#[derive(Clone, Copy)]
+pub struct Proof<'a> {
+    pub image: &'a str,
+    pub table: &'a str,
 }
 
 /// Why the words ask for nothing.

@@ -11,7 +11,7 @@ use Rattle.clap.specs.Faults.{fault_of}
 use Rattle.tasks.specs.declared.Task.{Task}
 use Rattle.tasks.specs.declared.WordsError.{WordsError}
 use Rattle.tasks.specs.declared.WordsError.TheVariants.{Wrong, Memory}
-use Rattle.tasks.specs.Requests.{Request, RunFiles, Trace, Run, Verify, Assemble, Disassemble, NotBuilt, request_of}
+use Rattle.tasks.specs.Requests.{Request, RunFiles, ProofFiles, Trace, Run, Verify, Prove, Recheck, Assemble, Disassemble, request_of}
 use Rattle.isa_model.specs.Running.Runs.{max_steps}
 use Rattle.words.specs.CommandLine.{program}
 
@@ -21,6 +21,11 @@ use Rattle.words.specs.CommandLine.{program}
 abbrev pub files_in : List Row → Option RunFiles
 files_in rows = option_and_then (λ image. option_and_then (λ frames. option_map (λ out. record { image = image; frames = frames; out = out })
     (first_of (codes "out") rows)) (first_of (codes "frames") rows)) (first_of (codes "image") rows)
+
+-- the files of a proof
+abbrev pub proof_in : List Row → Option ProofFiles
+proof_in rows = option_and_then (λ image. option_map (λ table. record { image = image; table = table }) (first_of (codes "table") rows))
+    (first_of (codes "image") rows)
 
 abbrev pub is_limit : List ℕ → Bool
 is_limit text = nat_lt 0 (length text) && (list_all is_ascii_digit text
@@ -38,6 +43,10 @@ limit_or_most (Some text) = limit_of text
 abbrev pub limit_in : List Row → Option ℕ
 limit_in rows = limit_or_most (first_of (codes "limit") rows)
 
+-- with a proof table, if one is given
+abbrev pub run_of : List Row → Option Request
+run_of rows = option_map (λ files. Run files (first_of (codes "table") rows)) (files_in rows)
+
 abbrev pub trace_of : List Row → Option Request
 trace_of rows = option_and_then (λ files. option_map (Trace files) (limit_in rows)) (files_in rows)
 
@@ -47,13 +56,13 @@ assembly_of rows = option_and_then (λ text. option_map (Assemble text) (first_o
 -- what the command of this name asks for with these arguments
 abbrev pub request_by : List ℕ → List Row → Option Request
 request_by name rows =
-    if bytes_eq name (codes "run") then option_map Run (files_in rows)
+    if bytes_eq name (codes "run") then run_of rows
     else if bytes_eq name (codes "verify") then option_map Verify (first_of (codes "image") rows)
     else if bytes_eq name (codes "trace") then trace_of rows
     else if bytes_eq name (codes "asm") then assembly_of rows
     else if bytes_eq name (codes "dis") then option_map Disassemble (first_of (codes "image") rows)
-    else if bytes_eq name (codes "prove") then Some (NotBuilt (codes "prove"))
-    else if bytes_eq name (codes "recheck") then Some (NotBuilt (codes "recheck"))
+    else if bytes_eq name (codes "prove") then option_map Prove (proof_in rows)
+    else if bytes_eq name (codes "recheck") then option_map Recheck (proof_in rows)
     else None
 
 -- ---- what the words ask for

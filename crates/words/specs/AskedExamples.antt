@@ -3,12 +3,12 @@ use Rattle.std.specs.Prelude.{◌≡◌, [], ◌∷◌, Some, None, codes}
 use Rattle.std.proofs.Common.{refl}
 use Rattle.clap.proofs.OnLiterals.{clap_on_literals}
 use Rattle.words.specs.CommandLine.{program, asm, dis, verify, run, trace, prove, recheck}
-use Rattle.tasks.specs.Requests.{Trace, Run, Verify, NotBuilt}
+use Rattle.tasks.specs.Requests.{Trace, Run, Verify, Prove, Recheck}
 use Rattle.words.specs.Asked.{asked}
 
 -- ---- the commands
 
-runs : asked (codes "xdpvm" ∷ codes "run" ∷ codes "a" ∷ codes "b" ∷ codes "c" ∷ []) ≡ Some (Run (record { image = codes "a"; frames = codes "b"; out = codes "c" }))
+runs : asked (codes "xdpvm" ∷ codes "run" ∷ codes "a" ∷ codes "b" ∷ codes "c" ∷ []) ≡ Some (Run (record { image = codes "a"; frames = codes "b"; out = codes "c" }) None)
 unfolding clap_on_literals asked program asm dis verify run trace prove recheck
 runs = refl
 
@@ -58,15 +58,41 @@ verifies-hyphen : asked (codes "xdpvm" ∷ codes "verify" ∷ codes "--" ∷ cod
 unfolding clap_on_literals asked program asm dis verify run trace prove recheck
 verifies-hyphen = refl
 
--- ---- commands that this build does not have
+-- ---- proof tables
 
-proves : asked (codes "xdpvm" ∷ codes "prove" ∷ codes "a" ∷ codes "b" ∷ []) ≡ Some (NotBuilt (codes "prove"))
+proves : asked (codes "xdpvm" ∷ codes "prove" ∷ codes "a" ∷ codes "b" ∷ []) ≡ Some (Prove (record { image = codes "a"; table = codes "b" }))
 unfolding clap_on_literals asked program asm dis verify run trace prove recheck
 proves = refl
 
-rechecks : asked (codes "xdpvm" ∷ codes "recheck" ∷ codes "a" ∷ codes "b" ∷ []) ≡ Some (NotBuilt (codes "recheck"))
+rechecks : asked (codes "xdpvm" ∷ codes "recheck" ∷ codes "a" ∷ codes "b" ∷ []) ≡ Some (Recheck (record { image = codes "a"; table = codes "b" }))
 unfolding clap_on_literals asked program asm dis verify run trace prove recheck
 rechecks = refl
+
+rechecks-one : asked (codes "xdpvm" ∷ codes "recheck" ∷ codes "a" ∷ []) ≡ None
+unfolding clap_on_literals asked program asm dis verify run trace prove recheck
+rechecks-one = refl
+
+-- ---- the table of a run stands anywhere among its files
+
+runs-table : asked (codes "xdpvm" ∷ codes "run" ∷ codes "--table" ∷ codes "t" ∷ codes "a" ∷ codes "b" ∷ codes "c" ∷ []) ≡ Some (Run (record { image = codes "a"; frames = codes "b"; out = codes "c" }) (Some (codes "t")))
+unfolding clap_on_literals asked program asm dis verify run trace prove recheck
+runs-table = refl
+
+runs-table-last : asked (codes "xdpvm" ∷ codes "run" ∷ codes "a" ∷ codes "b" ∷ codes "c" ∷ codes "--table=t" ∷ []) ≡ Some (Run (record { image = codes "a"; frames = codes "b"; out = codes "c" }) (Some (codes "t")))
+unfolding clap_on_literals asked program asm dis verify run trace prove recheck
+runs-table-last = refl
+
+runs-table-twice : asked (codes "xdpvm" ∷ codes "run" ∷ codes "a" ∷ codes "b" ∷ codes "c" ∷ codes "--table" ∷ codes "t" ∷ codes "--table" ∷ codes "t" ∷ []) ≡ None
+unfolding clap_on_literals asked program asm dis verify run trace prove recheck
+runs-table-twice = refl
+
+runs-table-none : asked (codes "xdpvm" ∷ codes "run" ∷ codes "a" ∷ codes "b" ∷ codes "c" ∷ codes "--table" ∷ []) ≡ None
+unfolding clap_on_literals asked program asm dis verify run trace prove recheck
+runs-table-none = refl
+
+traces-table : asked (codes "xdpvm" ∷ codes "trace" ∷ codes "a" ∷ codes "b" ∷ codes "c" ∷ codes "--table" ∷ codes "t" ∷ []) ≡ None
+unfolding clap_on_literals asked program asm dis verify run trace prove recheck
+traces-table = refl
 
 -- ---- words that ask for nothing
 

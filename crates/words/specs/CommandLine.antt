@@ -8,9 +8,9 @@ use Rattle.clap.specs.declared.builder.action.ArgAction.TheVariants.{Set}
 abbrev pub wanted : List ℕ → Rule
 wanted name = record (new_rule name) { required = true; action = Some Set }
 
--- --limit, which takes one value, for which help has one name, and may be left out
-abbrev pub limit : Rule
-limit = record (new_rule (codes "limit")) { long = Some (codes "limit"); action = Some Set; value_names = 1 }
+-- an option, which takes one value, for which help has one name, and may be left out
+abbrev pub optional : List ℕ → Rule
+optional name = record (new_rule name) { long = Some name; action = Some Set; value_names = 1 }
 
 -- a command with one wanted argument more
 abbrev pub with_wanted : App → List ℕ → App
@@ -19,6 +19,10 @@ with_wanted command name = with_rule command (wanted name)
 -- the command of this name that wants these arguments
 abbrev pub command : List ℕ → List (List ℕ) → App
 command name arguments = fold with_wanted (new_app name) arguments
+
+-- the command of this name that runs a program on a stream of frames, and takes this option
+abbrev pub running : List ℕ → List ℕ → App
+running name option = with_rule (command name (codes "image" ∷ codes "frames" ∷ codes "out" ∷ [])) (optional option)
 
 unfoldable pub asm : App
 asm = command (codes "asm") (codes "text" ∷ codes "image" ∷ [])
@@ -30,10 +34,10 @@ unfoldable pub verify : App
 verify = command (codes "verify") (codes "image" ∷ [])
 
 unfoldable pub run : App
-run = command (codes "run") (codes "image" ∷ codes "frames" ∷ codes "out" ∷ [])
+run = running (codes "run") (codes "table")
 
 unfoldable pub trace : App
-trace = with_rule (command (codes "trace") (codes "image" ∷ codes "frames" ∷ codes "out" ∷ [])) limit
+trace = running (codes "trace") (codes "limit")
 
 unfoldable pub prove : App
 prove = command (codes "prove") (codes "image" ∷ codes "table" ∷ [])

@@ -5,16 +5,16 @@ ghost use Rattle.std.specs.List.{list_all};
 ghost use Rattle.std.specs.Char.{is_ascii_digit};
 ghost use Rattle.std.specs.String.{string_bytes};
 ghost use Rattle.clap.specs.Words.{first_of, found_of, kind_of, rows_of};
-ghost use Rattle.tasks.specs.Requests.{files_of, request_of};
+ghost use Rattle.tasks.specs.Requests.{files_of, proof_files_of, request_of};
 ghost use Rattle.words.specs.Asked.{Reads, TellsOf, assembly_of, files_in, limit_in, limit_of};
-ghost use Rattle.words.specs.Asked.{request_by, trace_of};
+ghost use Rattle.words.specs.Asked.{proof_in, request_by, run_of, trace_of};
 
 use super::command_line::program;
 use clap::ArgMatches;
 use clap::error::ErrorKind;
 use isa_model::MAX_STEPS;
 use std::alloc::{AllocError, Global};
-use tasks::{Assembly, Paths, StepLimit, Task, WordsError};
+use tasks::{Assembly, Paths, Proof, StepLimit, Task, WordsError};
 
 // What is wrong with the words, where clap takes them and a command does not.
 const NO_LIMIT: &str = "error: the value of --limit is not a number from 1 to 1000000\n";
@@ -66,6 +66,22 @@ fn limit_in(matches: &ArgMatches<'_>) -> Option<StepLimit>
     }
 }
 
+// The table takes the place of the verifier, where one is given.
+fn run_in<'a>(matches: &ArgMatches<'a>) -> Option<Task<'a>>
+    ensures { option_map request_of result ≡ run_of (rows_of (found_of matches.now)) }
+{
+    Some(Task::Run(paths_in(matches)?, value_in(matches, "table")))
+}
+
+fn proof_in<'a>(matches: &ArgMatches<'a>) -> Option<Proof<'a>>
+    ensures { option_map proof_files_of result ≡ proof_in (rows_of (found_of matches.now)) }
+{
+    Some(Proof {
+        image: value_in(matches, "image")?,
+        table: value_in(matches, "table")?,
+    })
+}
+
 fn trace_in<'a>(matches: &ArgMatches<'a>) -> Option<Task<'a>>
     ensures { option_map request_of result ≡ trace_of (rows_of (found_of matches.now)) }
 {
@@ -86,13 +102,13 @@ fn task_of<'a>(name: &str, matches: &ArgMatches<'a>) -> Option<Task<'a>>
     ensures { option_map request_of result ≡ request_by name.now (rows_of (found_of matches.now)) }
 {
     match name {
-        "run" => Some(Task::Run(paths_in(matches)?)),
+        "run" => run_in(matches),
         "verify" => Some(Task::Verify(value_in(matches, "image")?)),
         "trace" => trace_in(matches),
         "asm" => assembly_in(matches),
         "dis" => Some(Task::Disassemble(value_in(matches, "image")?)),
-        "prove" => Some(Task::NotBuilt("prove")),
-        "recheck" => Some(Task::NotBuilt("recheck")),
+        "prove" => Some(Task::Prove(proof_in(matches)?)),
+        "recheck" => Some(Task::Recheck(proof_in(matches)?)),
         _ => None,
     }
 }

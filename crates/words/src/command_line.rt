@@ -1,8 +1,9 @@
 //! The command line of the program, for clap.
 
-ghost use Rattle.std.specs.Prelude.{◌≡◌, false, [], ◌∷◌, codes, map, IfOk};
+ghost use Rattle.std.specs.Prelude.{◌≡◌, false, map, IfOk};
 ghost use Rattle.clap.specs.Words.{app_of, rule_of, with_rule};
-ghost use Rattle.words.specs.CommandLine.{wanted, limit, command, empty_program, program, trace, with_command};
+ghost use Rattle.words.specs.CommandLine.{wanted, optional, command, running, with_command};
+ghost use Rattle.words.specs.CommandLine.{empty_program, program};
 
 use clap::{Arg, ArgAction, Command};
 use std::alloc::{AllocError, Global};
@@ -45,9 +46,34 @@ const OUT: Argument = Argument {
     help: "Gets the frames that are sent on; a file that is there is replaced",
 };
 
+const PROVED: Argument = Argument {
+    name: "table",
+    help: "The proof table that is made; a file that is there is replaced",
+};
+
 const TABLE: Argument = Argument {
     name: "table",
-    help: "The proof table",
+    help: "The proof table, as `prove` makes it",
+};
+
+// An option that a command takes, what help calls its value, and what it says of it.
+#[derive(Clone, Copy)]
+struct Choice {
+    name: &'static str,
+    value: &'static str,
+    help: &'static str,
+}
+
+const LIMIT: Choice = Choice {
+    name: "limit",
+    value: "N",
+    help: "The most steps on one frame, from 1 to 1000000 [default: 1000000]",
+};
+
+const INSTEAD: Choice = Choice {
+    name: "table",
+    value: "TABLE",
+    help: "A proof table, which is tested in place of verifying the program",
 };
 
 // What help says of each command, in the order in which they stand there.
@@ -61,9 +87,9 @@ const RUN_ABOUT: &str = "Verifies a program, runs it on each frame, and prints t
 
 const TRACE_ABOUT: &str = "Runs a program with every access tested, verified or not";
 
-const NOT_BUILT_ABOUT: &str = "Is not built yet";
+const PROVE_ABOUT: &str = "Verifies a program and writes a proof table, which others can test";
 
-const LIMIT_HELP: &str = "The most steps on one frame, from 1 to 1000000 [default: 1000000]";
+const RECHECK_ABOUT: &str = "Tests a proof table and prints the most steps that a run takes";
 
 const PROGRAM_ABOUT: &str =
     "Verifies BPF programs of the XDP kind and runs them on streams of frames";
@@ -96,24 +122,34 @@ fn command<'a>(
     Ok(command)
 }
 
-// A command that takes a limit, too.
-fn with_limit<'a>(alloc: Global, command: Command<'a>) -> Result<Command<'a>, AllocError>
-    ensures { IfOk result (λ made. app_of made ≡ with_rule (app_of command.entry) limit) }
+// A command that takes an option, too.
+fn with_choice<'a>(
+    alloc: Global,
+    command: Command<'a>,
+    choice: Choice,
+) -> Result<Command<'a>, AllocError>
+    ensures { IfOk result
+        (λ made. app_of made ≡ with_rule (app_of command.entry) (optional choice.name.now)) }
 {
-    let limit = Arg::new(alloc, "limit")
-        .long("limit")
+    let option = Arg::new(alloc, choice.name)
+        .long(choice.name)
         .action(ArgAction::Set)
-        .value_name("N")
-        .help(LIMIT_HELP);
-    command.arg(limit)
+        .value_name(choice.value)
+        .help(choice.help);
+    command.arg(option)
 }
 
-// The command `trace`.
-fn trace<'a>(alloc: Global) -> Result<Command<'a>, AllocError>
-    ensures { IfOk result (λ made. app_of made ≡ trace) }
+// The command of this name that runs a program on a stream of frames, and takes this option.
+fn running<'a>(
+    alloc: Global,
+    name: &'static str,
+    about: &'static str,
+    choice: Choice,
+) -> Result<Command<'a>, AllocError>
+    ensures { IfOk result (λ made. app_of made ≡ running name.now choice.name.now) }
 {
-    let unlimited = command(alloc, "trace", TRACE_ABOUT, &[IMAGE, FRAMES, OUT])?;
-    with_limit(alloc, unlimited)
+    let plain = command(alloc, name, about, &[IMAGE, FRAMES, OUT])?;
+    with_choice(alloc, plain, choice)
 }
 
 // A program with one more command, of this name, that wants these arguments.
@@ -131,24 +167,18 @@ fn with_command<'a>(
     program.subcommand(made)
 }
 
-// A program with the command `trace`, too.
-fn with_trace<'a>(alloc: Global, program: Command<'a>) -> Result<Command<'a>, AllocError>
-    ensures { IfOk result (λ made. app_of made ≡ with_command (app_of program.entry) trace) }
-{
-    let made = trace(alloc)?;
-    program.subcommand(made)
-}
-
-// A program with one more command, of this name, that is not built: help does not list it.
-fn with_hidden<'a>(
+// A program with one more command, of this name, that runs a program and takes this option.
+fn with_running<'a>(
     alloc: Global,
     program: Command<'a>,
     name: &'static str,
+    about: &'static str,
+    choice: Choice,
 ) -> Result<Command<'a>, AllocError>
-    ensures { IfOk result (λ made. app_of made ≡ with_command (app_of program.entry)
-        (command name.now (codes "image" ∷ codes "table" ∷ []))) }
+    ensures { IfOk result (λ made. app_of made
+        ≡ with_command (app_of program.entry) (running name.now choice.name.now)) }
 {
-    let made = command(alloc, name, NOT_BUILT_ABOUT, &[IMAGE, TABLE])?.hide(true);
+    let made = running(alloc, name, about, choice)?;
     program.subcommand(made)
 }
 
@@ -172,8 +202,8 @@ pub fn program<'a>(alloc: Global) -> Result<Command<'a>, AllocError>
     let with_asm = with_command(alloc, empty, "asm", ASM_ABOUT, &[TEXT, MADE])?;
     let with_dis = with_command(alloc, with_asm, "dis", DIS_ABOUT, &[IMAGE])?;
     let with_verify = with_command(alloc, with_dis, "verify", VERIFY_ABOUT, &[IMAGE])?;
-    let with_run = with_command(alloc, with_verify, "run", RUN_ABOUT, &[IMAGE, FRAMES, OUT])?;
-    let with_trace = with_trace(alloc, with_run)?;
-    let with_prove = with_hidden(alloc, with_trace, "prove")?;
-    with_hidden(alloc, with_prove, "recheck")
+    let with_run = with_running(alloc, with_verify, "run", RUN_ABOUT, INSTEAD)?;
+    let with_trace = with_running(alloc, with_run, "trace", TRACE_ABOUT, LIMIT)?;
+    let with_prove = with_command(alloc, with_trace, "prove", PROVE_ABOUT, &[IMAGE, PROVED])?;
+    with_command(alloc, with_prove, "recheck", RECHECK_ABOUT, &[IMAGE, TABLE])
 }

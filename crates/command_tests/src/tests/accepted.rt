@@ -1,6 +1,10 @@
-//! Programs that must be accepted, with their bounds: `run` writes what `trace` writes.
+//! Programs that must be accepted, with their bounds: `run` writes what `trace` writes, and what
+//! `prove` writes is accepted with the same bound.
 
-use super::{RUN, TRACE, VERIFY, answers, holds, remove_files, sink, status_of, write_program};
+use super::{
+    PROVE, RECHECK, RUN, RUN_BY_TABLE, TRACE, VERIFY, answers, holds, remove_files, sink,
+    status_of, write_program,
+};
 use std::alloc::Global;
 use std::fs;
 use std::process::Abort;
@@ -233,6 +237,17 @@ fn runs_as_it_traces<R: Files + AllocGlobal + Abort>(rt: &R, report: &str) -> Re
     holds(rt, "sent", sent.as_slice())
 }
 
+/// Is proved, by a table that is accepted with the same bound, and by which it runs as before.
+fn is_proved<R: Files + AllocGlobal + Abort>(
+    rt: &R,
+    bound: &str,
+    report: &str,
+) -> Result<(), Fail> {
+    answers(rt, PROVE, 0, bound, "")?;
+    answers(rt, RECHECK, 0, bound, "")?;
+    answers(rt, RUN_BY_TABLE, 0, report, "")
+}
+
 fn are_accepted<R: Files + AllocGlobal + Abort>(rt: &R, rows: &[Accepted]) -> Result<(), Fail> {
     for (text, frames, bound, report) in rows {
         let bytes = stream_of(rt.alloc(), *frames)?;
@@ -240,6 +255,7 @@ fn are_accepted<R: Files + AllocGlobal + Abort>(rt: &R, rows: &[Accepted]) -> Re
         write_program(rt, "image", *text)?;
         answers(rt, VERIFY, 0, *bound, "")?;
         runs_as_it_traces(rt, *report)?;
+        is_proved(rt, *bound, *report)?;
     }
     remove_files(rt)
 }

@@ -14,7 +14,7 @@ use stumbling_io::{FlushedWriter, Stumble, Writer};
 // Why a report in a file breaks off.
 const FULL: &str = "cannot write standard output\nno space is left\n";
 
-// A run whose report goes to a file on a disk, which has room for so many bytes.
+// A run whose report goes to a file on a disk, which has room for that many bytes.
 fn fills<R: Files + AllocGlobal + Abort>(rt: &R, room: usize) -> Result<(), Fail> {
     let full = Stumble::Error(ErrorKind::StorageFull);
     let mut out = Writer::new(rt.alloc(), 4096, room, Some(full));

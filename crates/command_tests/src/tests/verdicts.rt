@@ -119,7 +119,7 @@ const REFUSED: [(&str, &str, &str); 12] = [
             *(u64 *)(r10 - 8) = r2; r4 = *(u64 *)(r10 - 8); r4 += r3; r0 = *(u8 *)(r4 + 0); exit",
         "refused V9 slot 8\n",
         "the packet bytes are not proved to be there\nslot 8: r0 = *(u8 *)(r4 + 0)\n\
-             r4: packet pointer at 0 after part 2 of 4 to 34, 0 bytes after the part proved\n",
+             r4: packet pointer at 4 after part 2 of 0 to 30, 0 bytes after the part proved\n",
     ),
     (
         "r3 = -7; r1 *= r3; r0 = 2; exit",

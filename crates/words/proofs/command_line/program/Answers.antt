@@ -16,4 +16,4 @@ returns c =
     let with-run = c.in_ok-with_run.ensures ∙ more _ _ line.run with-verify in
     let with-trace = c.in_ok-with_trace.ensures ∙ more _ _ line.trace with-run in
     let with-prove = c.in_ok-with_prove.ensures ∙ more _ _ line.prove with-trace in
-    IfOk-weaker c.with_hidden-2.result _ _ (λ made h. h ∙ more _ _ line.recheck with-prove) c.with_hidden-2.ensures
+    IfOk-weaker c.with_command-5.result _ _ (λ made h. h ∙ more _ _ line.recheck with-prove) c.with_command-5.ensures

@@ -1,10 +1,8 @@
 use Rattle.std.proofs.Common.{refl}
 use Rattle.std.proofs.lemmas.Result.{IfOk-weaker}
-use Rattle.words.specs.CommandLine as line
 use Rattle.words.proofs.Words.{command-more}
-use Rattle.words.proofs.command_line.with_trace.Goals as goal
+use Rattle.words.proofs.command_line.with_running.Goals as goal
 
 pub returns : goal.returns
-unfolding line.trace
 returns c =
     IfOk-weaker c.subcommand.result _ _ (λ made h. command-more _ _ made _ _ h refl c.in_ok-made.ensures refl) c.subcommand.ensures

@@ -1,0 +1,94 @@
+-- Why a named entry of a table does not pass for a state that a step leads to, in words.
+use Rattle.std.specs.Prelude.{◌≡◌, ◌≢◌, ℕ, ◌+◌, ◌-◌, ◌<◌, ◌≤◌, List, ◌++◌, length, Option, Some, None, codes, decimal}
+use Rattle.std.specs.Fmt.{signed_decimal}
+use Rattle.stack_state.specs.declared.states.State.{State}
+use Rattle.stack_state.specs.Meaning.{depth, frame_of, kinds_of, slots_of, kind_at}
+use Rattle.stack_state.specs.Slots.{slot_at}
+use Rattle.table_entries.specs.Entries.{Entry}
+use Rattle.rechecking.specs.Tables.{EntryAt}
+use Rattle.explanations.specs.Kinds.{calls_up, kind_words}
+use Rattle.explanations.specs.Slots.{place_of, slot_words}
+use Rattle.explanations.specs.declared.mismatches.Mismatch.{Mismatch}
+use Rattle.explanations.specs.declared.mismatches.Mismatch.TheVariants.{Missing, NotSmaller, Slot, Frames, Returns, Register, Stack}
+
+-- ---- what is wrong with an entry that is named
+
+-- places are in frames that both have
+abbrev pub IsInside : State → State → Mismatch → Type 0
+IsInside e a (Returns frame) = (frame < depth e) × (frame < depth a)
+IsInside e a (Register frame register) = (frame < depth e) × (frame < depth a)
+IsInside e a (Stack frame slot) = (frame < depth e) × (frame < depth a) × (slot < 64)
+IsInside e a m = Unit {0}
+
+-- the state of the entry, and one that the step leads to
+abbrev pub Differs : State → State → Mismatch → Type 0
+Differs e a Missing = ⊥
+Differs e a (NotSmaller number) = ⊥
+Differs e a Slot = e.slot ≢ a.slot
+Differs e a Frames = depth e ≢ depth a
+Differs e a (Returns frame) = (frame_of e frame).return_slot ≢ (frame_of a frame).return_slot
+Differs e a m = IsInside e a m
+
+-- the entry of that index is there with this state and a smaller number, and differs so
+pub record IsThere (t : EntryAt) (number index : ℕ) (e a : State) (m : Mismatch) : Type 0 where
+  pub entry : Entry
+  pub there : t index ≡ Some entry
+  pub state_is : entry.state ≡ e
+  pub smaller : entry.number < number
+  pub differs : Differs e a m
+
+-- its number is this one
+pub record HasNumber (t : EntryAt) (number index other : ℕ) : Type 0 where
+  pub entry : Entry
+  pub there : t index ≡ Some entry
+  pub number_is : entry.number ≡ other
+  pub greater : number ≤ other
+
+-- why the entry of that index does not pass for the state a, after an entry of that number
+abbrev pub IsMismatch : EntryAt → ℕ → ℕ → State → State → Mismatch → Type 0
+IsMismatch t number index e a Missing = t index ≡ None
+IsMismatch t number index e a (NotSmaller other) = HasNumber t number index other
+IsMismatch t number index e a m = IsThere t number index e a m
+
+-- ---- words
+
+-- the successor, the entry that is named for it and in what it differs, and then both sides
+abbrev pub difference_lines : ℕ → ℕ → List ℕ → List ℕ → List ℕ → List ℕ
+difference_lines nth index what after entry =
+    codes "successor " ++ (decimal nth ++ (codes ": entry " ++ (decimal index ++ (codes " " ++ (what
+    ++ (codes "\nafter the step: " ++ (after ++ (codes "\nin the entry: " ++ (entry ++ codes "\n")))))))))
+
+-- how many calls up from the innermost frame this one is
+abbrev pub up_words : State → ℕ → List ℕ
+up_words a frame = calls_up (length a.callers.items - frame)
+
+abbrev pub register_words : State → ℕ → ℕ → List ℕ
+register_words a frame register = kind_words (length a.callers.items) (kind_at (kinds_of a frame) register)
+
+abbrev pub stack_words : State → ℕ → ℕ → List ℕ
+stack_words a frame slot = slot_words (length a.callers.items) slot (slot_at (slots_of a frame) slot)
+
+abbrev pub stack_difference : State → ℕ → ℕ → List ℕ
+stack_difference a frame slot = codes "does not cover stack " ++ (signed_decimal (place_of slot 0) ++ up_words a frame)
+
+abbrev pub returns_words : State → ℕ → List ℕ
+returns_words a frame = codes "slot " ++ decimal (frame_of a frame).return_slot
+
+-- of the nth state a that a step of an entry of that number leads to, for which the entry with that index and the state e
+-- is named
+abbrev pub mismatch_lines : ℕ → ℕ → ℕ → State → State → Mismatch → List ℕ
+mismatch_lines number nth index e a Missing =
+    codes "successor " ++ (decimal nth ++ (codes ": there is no entry " ++ (decimal index ++ codes "\n")))
+mismatch_lines number nth index e a (NotSmaller other) =
+    codes "successor " ++ (decimal nth ++ (codes ": entry " ++ (decimal index ++ (codes " has number " ++ (decimal other
+    ++ (codes ", not smaller than " ++ (decimal number ++ codes "\n")))))))
+mismatch_lines number nth index e a Slot =
+    difference_lines nth index (codes "is at another slot") (codes "slot " ++ decimal a.slot) (codes "slot " ++ decimal e.slot)
+mismatch_lines number nth index e a Frames =
+    difference_lines nth index (codes "has another number of frames") (decimal (depth a)) (decimal (depth e))
+mismatch_lines number nth index e a (Returns frame) =
+    difference_lines nth index (codes "returns to another slot" ++ up_words a frame) (returns_words a frame) (returns_words e frame)
+mismatch_lines number nth index e a (Register frame register) =
+    difference_lines nth index (codes "does not cover r" ++ (decimal register ++ up_words a frame)) (register_words a frame register) (register_words e frame register)
+mismatch_lines number nth index e a (Stack frame slot) =
+    difference_lines nth index (stack_difference a frame slot) (stack_words a frame slot) (stack_words e frame slot)

@@ -1,0 +1,257 @@
+//! Why a named entry of a table does not pass for a state, in words.
+
+ghost use Rattle.std.specs.Prelude.{◌≡◌, ◌<◌, IfOk, decimal};
+ghost use Rattle.std.specs.String.{string_bytes};
+ghost use Rattle.stack_state.specs.Meaning.{depth};
+ghost use Rattle.explanations.specs.Mismatches.{IsInside, difference_lines, mismatch_lines};
+ghost use Rattle.explanations.specs.Mismatches.{register_words, stack_words, stack_difference};
+ghost use Rattle.explanations.specs.Mismatches.{returns_words, up_words};
+
+use crate::kinds::{calls_up, kind_words};
+use crate::mismatches::{Mismatch, frame_of};
+use crate::slots::{place_of, slot_words};
+use reg_state::Kind;
+use stack_state::{Slot, State};
+use std::alloc::{AllocError, Global};
+
+/// How many calls up from the innermost frame this one is.
+fn up_words(alloc: Global, state: &State, frame: usize) -> Result<String, AllocError>
+    ensures { IfOk result (λ text. string_bytes text ≡ up_words state.now frame) }
+{
+    calls_up(alloc, state.callers.len().saturating_sub(frame))
+}
+
+fn register_words(
+    alloc: Global,
+    state: &State,
+    frame: usize,
+    register: usize,
+) -> Result<String, AllocError>
+    requires { frame < depth state.now }
+    ensures { IfOk result (λ text. string_bytes text ≡ register_words state.now frame register) }
+{
+    let kind = frame_of(state, frame)
+        .registers
+        .get(register)
+        .copied()
+        .unwrap_or(Kind::Unset);
+    kind_words(alloc, state.callers.len(), kind)
+}
+
+fn stack_words(
+    alloc: Global,
+    state: &State,
+    frame: usize,
+    slot: usize,
+) -> Result<String, AllocError>
+    requires frame { frame < depth state.now }
+    requires slot { slot < 64 }
+    ensures { IfOk result (λ text. string_bytes text ≡ stack_words state.now frame slot) }
+{
+    let known = frame_of(state, frame)
+        .stack
+        .slots
+        .get(slot)
+        .copied()
+        .unwrap_or(Slot::Written(0));
+    slot_words(alloc, state.callers.len(), slot, known)
+}
+
+fn depth_words(alloc: Global, state: &State) -> Result<String, AllocError>
+    ensures { IfOk result (λ text. string_bytes text ≡ decimal (depth state.now)) }
+{
+    let depth = state.callers.len() + 1;
+    format!(in alloc; "{depth}")
+}
+
+fn returns_words(alloc: Global, state: &State, frame: usize) -> Result<String, AllocError>
+    requires { frame < depth state.now }
+    ensures { IfOk result (λ text. string_bytes text ≡ returns_words state.now frame) }
+{
+    let slot = frame_of(state, frame).return_slot;
+    format!(in alloc; "slot {slot}")
+}
+
+fn stack_difference(
+    alloc: Global,
+    state: &State,
+    frame: usize,
+    slot: usize,
+) -> Result<String, AllocError>
+    requires { slot < 64 }
+    ensures { IfOk result (λ text. string_bytes text ≡ stack_difference state.now frame slot) }
+{
+    let up = up_words(alloc, state, frame)?;
+    let start = place_of(slot, 0);
+    format!(in alloc; "does not cover stack {start}{up}")
+}
+
+/// The successor, the entry that is named for it and in what it differs, and then both sides.
+fn difference_lines(
+    alloc: Global,
+    nth: usize,
+    index: u32,
+    what: &str,
+    after: &str,
+    entry: &str,
+) -> Result<String, AllocError>
+    ensures { IfOk result (λ text. string_bytes text
+        ≡ difference_lines nth index what.now after.now entry.now) }
+{
+    format!(in alloc;
+        "successor {nth}: entry {index} {what}\nafter the step: {after}\nin the entry: {entry}\n"
+    )
+}
+
+fn slot_lines(
+    alloc: Global,
+    nth: usize,
+    index: u32,
+    entry: &State,
+    state: &State,
+) -> Result<String, AllocError>
+    ensures { IfOk result (λ text. string_bytes text
+        ≡ mismatch_lines 0 nth index entry.now state.now Mismatch.Slot) }
+{
+    let there = entry.slot;
+    let here = state.slot;
+    let there = format!(in alloc; "slot {there}")?;
+    let here = format!(in alloc; "slot {here}")?;
+    difference_lines(
+        alloc,
+        nth,
+        index,
+        "is at another slot",
+        here.as_str(),
+        there.as_str(),
+    )
+}
+
+fn frames_lines(
+    alloc: Global,
+    nth: usize,
+    index: u32,
+    entry: &State,
+    state: &State,
+) -> Result<String, AllocError>
+    ensures { IfOk result (λ text. string_bytes text
+        ≡ mismatch_lines 0 nth index entry.now state.now Mismatch.Frames) }
+{
+    let there = depth_words(alloc, entry)?;
+    let here = depth_words(alloc, state)?;
+    let what = "has another number of frames";
+    difference_lines(alloc, nth, index, what, here.as_str(), there.as_str())
+}
+
+fn returns_lines(
+    alloc: Global,
+    nth: usize,
+    index: u32,
+    entry: &State,
+    state: &State,
+    frame: usize,
+) -> Result<String, AllocError>
+    requires entry { frame < depth entry.now }
+    requires state { frame < depth state.now }
+    ensures { IfOk result (λ text. string_bytes text
+        ≡ mismatch_lines 0 nth index entry.now state.now (Mismatch.Returns frame)) }
+{
+    let up = up_words(alloc, state, frame)?;
+    let what = format!(in alloc; "returns to another slot{up}")?;
+    let there = returns_words(alloc, entry, frame)?;
+    let here = returns_words(alloc, state, frame)?;
+    difference_lines(
+        alloc,
+        nth,
+        index,
+        what.as_str(),
+        here.as_str(),
+        there.as_str(),
+    )
+}
+
+fn register_lines(
+    alloc: Global,
+    nth: usize,
+    index: u32,
+    entry: &State,
+    state: &State,
+    frame: usize,
+    register: usize,
+) -> Result<String, AllocError>
+    requires entry { frame < depth entry.now }
+    requires state { frame < depth state.now }
+    ensures { IfOk result (λ text. string_bytes text
+        ≡ mismatch_lines 0 nth index entry.now state.now (Mismatch.Register frame register)) }
+{
+    let up = up_words(alloc, state, frame)?;
+    let what = format!(in alloc; "does not cover r{register}{up}")?;
+    let there = register_words(alloc, entry, frame, register)?;
+    let here = register_words(alloc, state, frame, register)?;
+    difference_lines(
+        alloc,
+        nth,
+        index,
+        what.as_str(),
+        here.as_str(),
+        there.as_str(),
+    )
+}
+
+fn stack_lines(
+    alloc: Global,
+    nth: usize,
+    index: u32,
+    entry: &State,
+    state: &State,
+    frame: usize,
+    slot: usize,
+) -> Result<String, AllocError>
+    requires entry { frame < depth entry.now }
+    requires state { frame < depth state.now }
+    requires slot { slot < 64 }
+    ensures { IfOk result (λ text. string_bytes text
+        ≡ mismatch_lines 0 nth index entry.now state.now (Mismatch.Stack frame slot)) }
+{
+    let what = stack_difference(alloc, state, frame, slot)?;
+    let there = stack_words(alloc, entry, frame, slot)?;
+    let here = stack_words(alloc, state, frame, slot)?;
+    difference_lines(
+        alloc,
+        nth,
+        index,
+        what.as_str(),
+        here.as_str(),
+        there.as_str(),
+    )
+}
+
+/// Of the nth state that a step of an entry of that number leads to, why the entry of that index
+/// does not pass for it.
+pub fn mismatch_lines(
+    alloc: Global,
+    number: u32,
+    nth: usize,
+    index: u32,
+    entry: &State,
+    state: &State,
+    found: Mismatch,
+) -> Result<String, AllocError>
+    requires { IsInside entry.now state.now found }
+    ensures { IfOk result (λ text. string_bytes text
+        ≡ mismatch_lines number nth index entry.now state.now found) }
+{
+    match found {
+        Mismatch::Missing => format!(in alloc; "successor {nth}: there is no entry {index}\n"),
+        Mismatch::NotSmaller(other) => format!(in alloc;
+            "successor {nth}: entry {index} has number {other}, not smaller than {number}\n"
+        ),
+        Mismatch::Slot => slot_lines(alloc, nth, index, entry, state),
+        Mismatch::Frames => frames_lines(alloc, nth, index, entry, state),
+        Mismatch::Returns(frame) => returns_lines(alloc, nth, index, entry, state, frame),
+        Mismatch::Register(frame, register) => {
+            register_lines(alloc, nth, index, entry, state, frame, register)
+        }
+        Mismatch::Stack(frame, slot) => stack_lines(alloc, nth, index, entry, state, frame, slot),
+    }
+}

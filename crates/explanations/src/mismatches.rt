@@ -1,0 +1,166 @@
+//! Why a named entry of a table does not pass for a state that a step leads to.
+
+ghost use Rattle.std.specs.Prelude.{◌≡◌, ◌<◌, IfSome};
+ghost use Rattle.stack_state.specs.Meaning.{depth, frame_of};
+ghost use Rattle.table_entries.specs.Tables.{entry_at};
+ghost use Rattle.explanations.specs.Mismatches.{IsInside, Differs, IsMismatch};
+
+use image::Image;
+use reg_state::Kind;
+use stack_state::{AbstractFrame, Slot, StackState, State};
+use state_cover::covers;
+use table_entries::Table;
+
+/// Why a named entry does not pass for a state. Frames count from the outermost, 0.
+#[derive(Clone, Copy)]
+pub enum Mismatch {
+    /// There is no such entry.
+    Missing,
+    /// Its number is this one, which is not smaller.
+    NotSmaller(u32),
+    /// It is at another slot.
+    Slot,
+    /// It has another number of frames.
+    Frames,
+    /// This frame returns to another slot.
+    Returns(usize),
+    /// It does not cover this register of this frame; it does cover all before it.
+    Register(usize, usize),
+    /// It does not cover this stack slot of this frame; it does cover all before it.
+    Stack(usize, usize),
+}
+
+/// A frame, counted from the outermost.
+pub fn frame_of(state: &State, frame: usize) -> &AbstractFrame
+    requires { frame < depth state.now }
+    ensures { result.now ≡ frame_of state.now frame }
+{
+    match state.callers.as_slice().get(frame) {
+        Some(caller) => caller,
+        None => &state.innermost,
+    }
+}
+
+/// The first so many registers and slots of a frame; of all others nothing is known.
+fn front_of(frame: &AbstractFrame, registers: usize, slots: usize) -> AbstractFrame {
+    let mut kinds = [Kind::Unset; 10];
+    for index in 0..registers.min(10) {
+        kinds[index] = frame.registers[index];
+    }
+    let mut stack = [Slot::Written(0); 64];
+    for index in 0..slots.min(64) {
+        stack[index] = frame.stack.slots[index];
+    }
+    AbstractFrame {
+        return_slot: frame.return_slot,
+        registers: kinds,
+        stack: StackState { slots: stack },
+    }
+}
+
+/// All before a frame, and its first so many registers and slots; of all others nothing is known.
+fn part_of(state: &State, frame: usize, registers: usize, slots: usize) -> State {
+    let mut part = State::start();
+    part.slot = state.slot;
+    let callers = state.callers.as_slice();
+    for index in 0..callers.len() {
+        let caller = &callers[index];
+        let front = if index < frame {
+            *caller
+        } else if index == frame {
+            front_of(caller, registers, slots)
+        } else {
+            front_of(caller, 0, 0)
+        };
+        let _ = part.callers.try_push(front);
+    }
+    part.innermost = if callers.len() == frame {
+        front_of(&state.innermost, registers, slots)
+    } else {
+        front_of(&state.innermost, 0, 0)
+    };
+    part
+}
+
+/// The first register of a frame that is not covered.
+fn first_register(entry: &State, state: &State, frame: usize) -> Option<usize> {
+    for register in 0..10usize {
+        if !covers(&part_of(entry, frame, register + 1, 0), state) {
+            return Some(register);
+        }
+    }
+    None
+}
+
+/// The first stack slot of a frame that is not covered.
+fn first_slot(entry: &State, state: &State, frame: usize) -> Option<usize>
+    ensures { IfSome result (λ slot. slot < 64) }
+{
+    for slot in 0..64usize {
+        if !covers(&part_of(entry, frame, 10, slot + 1), state) {
+            return Some(slot);
+        }
+    }
+    None
+}
+
+/// The first place of a frame that is not covered.
+fn first_place(entry: &State, state: &State, frame: usize) -> Option<Mismatch>
+    requires entry { frame < depth entry.now }
+    requires state { frame < depth state.now }
+    ensures { IfSome result
+        (λ found. Differs entry.now state.now found × IsInside entry.now state.now found) }
+{
+    if frame_of(entry, frame).return_slot != frame_of(state, frame).return_slot {
+        return Some(Mismatch::Returns(frame));
+    }
+    if let Some(register) = first_register(entry, state, frame) {
+        return Some(Mismatch::Register(frame, register));
+    }
+    match first_slot(entry, state, frame) {
+        Some(slot) => Some(Mismatch::Stack(frame, slot)),
+        None => None,
+    }
+}
+
+/// In what the state of an entry differs that does not cover another.
+fn difference(entry: &State, state: &State) -> Option<Mismatch>
+    ensures { IfSome result
+        (λ found. Differs entry.now state.now found × IsInside entry.now state.now found) }
+{
+    if entry.slot != state.slot {
+        return Some(Mismatch::Slot);
+    }
+    if entry.callers.len() != state.callers.len() {
+        return Some(Mismatch::Frames);
+    }
+    for frame in 0..entry.callers.len() + 1 {
+        if let Some(found) = first_place(entry, state, frame) {
+            return Some(found);
+        }
+    }
+    None
+}
+
+/// Why the entry of that index does not pass for a state, after one of that number. Its state is
+/// read into the room for it.
+pub fn mismatch_of(
+    image: &Image,
+    table: &Table,
+    number: u32,
+    index: u32,
+    state: &State,
+    room: &mut State,
+) -> Option<Mismatch>
+    ensures is { IfSome result (λ found. IsMismatch (entry_at image.now table.now) number index
+        room.new state.now found) }
+    ensures inside { IfSome result (λ found. IsInside room.new state.now found) }
+{
+    let Some(head) = table.read(image, index as usize, room) else {
+        return Some(Mismatch::Missing);
+    };
+    if head.number >= number {
+        return Some(Mismatch::NotSmaller(head.number));
+    }
+    difference(room, state)
+}
