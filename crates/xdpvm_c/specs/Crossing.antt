@@ -1,0 +1,44 @@
+-- What every call answers and writes.
+use Rattle.std.specs.Prelude.{◌≡◌, ℕ, Bool, true, false, List, ◌++◌, length, take, drop, codes, ◌⊎◌}
+use Rattle.isa_model.specs.declared.frames.Action.{Action}
+use Rattle.isa_model.specs.declared.frames.Action.TheVariants as action
+use Rattle.control_flow.specs.declared.errors.FlowError.TheVariants as flow
+use Rattle.walks.specs.declared.refusals.Refusal.{Refusal}
+use Rattle.walks.specs.declared.refusals.Refusal.TheVariants.{Flow, Step, Repeats, TooLong, Memory}
+
+-- done, refused, or out of memory
+abbrev pub IsVerdict : ℕ → Type 0
+IsVerdict status = (status ≡ 0) ⊎ ((status ≡ 2) ⊎ (status ≡ 5))
+
+-- one of these, or an argument is outside its limits
+abbrev pub IsStatus : ℕ → Type 0
+IsStatus status = (status ≡ 1) ⊎ IsVerdict status
+
+-- a buffer after bytes were written to it, as far as there is room
+abbrev pub filled : List ℕ → List ℕ → List ℕ
+filled buffer bytes = take (length buffer) bytes ++ drop (length bytes) buffer
+
+-- bytes were written to a buffer so, and this is their count
+pub record Fills (old new : List ℕ) (count : ℕ) (bytes : List ℕ) : Type 0 where
+  pub whole : count ≡ length bytes
+  pub written : new ≡ filled old bytes
+
+abbrev pub version : List ℕ
+version = codes "0.1.0"
+
+abbrev pub action_number : Action → ℕ
+action_number action.Aborted = 0
+action_number action.Drop = 1
+action_number action.Pass = 2
+action_number action.Tx = 3
+action_number action.Redirect = 4
+action_number action.Invalid = 5
+
+-- whether a refusal says only that memory ran out
+abbrev pub is_memory : Refusal → Bool
+is_memory (Flow flow.Memory) = true
+is_memory (Flow error) = false
+is_memory (Step refusal) = false
+is_memory Repeats = false
+is_memory TooLong = false
+is_memory Memory = true

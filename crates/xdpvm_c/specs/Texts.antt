@@ -1,0 +1,60 @@
+-- What a caller is told of a refusal: the line that the command prints, a sentence, the place, and what is known there.
+use Rattle.std.specs.Prelude.{◌≡◌, ℕ, List, [], ◌++◌, Option, Some, None, codes, decimal, ◌⊎◌}
+use Rattle.isa_model.specs.declared.instructions.Insn.{Insn}
+use Rattle.isa_model.specs.Code.Instructions.{Program, fetch}
+use Rattle.isa_model.specs.Text.CanonicalText.{line_of}
+use Rattle.insn_codec.specs.Messages as codec
+use Rattle.image.specs.declared.errors.ImageError.{ImageError}
+use Rattle.image.specs.declared.errors.ImageError.TheVariants.{Code, MapRow, UnknownMap, ValuePointer}
+use Rattle.image.specs.Messages as image
+use Rattle.walks.specs.declared.refusals.Refusal.{Refusal}
+use Rattle.walks.specs.Messages as walks
+use Rattle.explanations.specs.Reasons.{IsReason}
+use Rattle.assembler.specs.declared.errors.AsmError.{AsmError}
+use Rattle.assembler.specs.Messages as assembler
+
+-- a code with its place, and then the sentence and the place again, a line each
+abbrev pub told_at : List ℕ → List ℕ → List ℕ → List ℕ → List ℕ
+told_at code place more sentence =
+    codes "refused " ++ (code ++ (codes " " ++ (place ++ (more ++ (codes "\n" ++ (sentence ++ (codes "\n" ++ (place ++ codes "\n"))))))))
+
+abbrev pub slot_place : ℕ → List ℕ
+slot_place slot = codes "slot " ++ decimal slot
+
+abbrev pub map_place : ℕ → List ℕ
+map_place index = codes "map " ++ decimal index
+
+-- bytes are no image
+abbrev pub image_text : ImageError → List ℕ
+image_text (Code slot error) =
+    told_at (image.code_of (Code slot error)) (slot_place slot) (codes " " ++ codec.code_of error) (image.sentence_of (Code slot error))
+image_text (MapRow index) = told_at (image.code_of (MapRow index)) (map_place index) [] (image.sentence_of (MapRow index))
+image_text (UnknownMap slot) = told_at (image.code_of (UnknownMap slot)) (slot_place slot) [] (image.sentence_of (UnknownMap slot))
+image_text (ValuePointer slot) = told_at (image.code_of (ValuePointer slot)) (slot_place slot) [] (image.sentence_of (ValuePointer slot))
+image_text error = codes "refused " ++ (image.code_of error ++ (codes "\n" ++ (image.sentence_of error ++ codes "\n")))
+
+-- the place in a text
+abbrev pub text_place : ℕ → ℕ → List ℕ
+text_place line column = codes "line " ++ (decimal line ++ (codes " column " ++ (decimal column ++ codes "\n")))
+
+-- a text is no program
+abbrev pub source_text : AsmError → List ℕ
+source_text error =
+    codes "refused " ++ (assembler.code_of error.kind ++ (codes " " ++ (text_place error.line error.column
+    ++ (assembler.sentence_of error.kind ++ (codes "\n" ++ text_place error.line error.column)))))
+
+-- a program is refused at a slot, up to the instruction that begins there
+abbrev pub program_front : Refusal → ℕ → List ℕ
+program_front refusal slot =
+    codes "refused " ++ (walks.code_of refusal ++ (codes " " ++ (slot_place slot
+    ++ (codes "\n" ++ (walks.sentence_of refusal ++ (codes "\n" ++ slot_place slot))))))
+
+abbrev pub insn_end : Option Insn → List ℕ
+insn_end None = codes "\n"
+insn_end (Some insn) = codes ": " ++ line_of insn
+
+-- the same with that instruction, and with what is known there, if that was looked for
+pub record TellsProgram (p : Program) (refusal : Refusal) (slot : ℕ) (text : List ℕ) : Type 0 where
+  pub known : List ℕ
+  pub is_known : (known ≡ []) ⊎ IsReason p refusal slot known
+  pub text_is : text ≡ program_front refusal slot ++ (insn_end (fetch p slot) ++ known)

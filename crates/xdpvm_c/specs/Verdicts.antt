@@ -1,0 +1,73 @@
+-- What is answered of images and texts.
+use Rattle.std.specs.Prelude.{◌≡◌, ◌≢◌, ℕ, false, List, length, Some, Ok, Err, ◌⊎◌}
+use Rattle.isa_model.specs.Code.Instructions.{Program}
+use Rattle.isa_model.specs.declared.frames.FrameHead.{FrameHead}
+use Rattle.isa_model.specs.Machine.States.{Entries}
+use Rattle.isa_model.specs.Reporting.Reports.{starting_contents}
+use Rattle.image.specs.declared.errors.ImageError.{ImageError}
+use Rattle.image.specs.Images.{image_bytes}
+use Rattle.image.specs.Refusals.{refusal_of}
+use Rattle.bounds.specs.Bounds.{IsVerified}
+use Rattle.walks.specs.declared.refusals.Refusal.{Refusal}
+use Rattle.walks.specs.Refused.{IsRefused}
+use Rattle.assembler.specs.declared.errors.AsmError.{AsmError}
+use Rattle.assembler.specs.declared.errors.AsmErrorKind.TheVariants as text
+use Rattle.assembler.specs.Assembling.{assembled}
+use Rattle.machine.specs.declared.machines.Exit.{Exit}
+use Rattle.machine.specs.Running.{Answers}
+use Rattle.xdpvm_c.specs.Crossing.{Fills, is_memory}
+use Rattle.xdpvm_c.specs.Texts.{image_text, source_text, TellsProgram}
+
+-- ---- images
+
+-- the bytes are an image, and every run of its program exits within the bound, without a trap
+pub record Accepts (bytes : List ℕ) (bound : ℕ) : Type 0 where
+  pub program : Program
+  pub spelled : bytes ≡ image_bytes program
+  pub verified : IsVerified (record { program = program; bound = bound })
+
+-- the bytes are no image
+abbrev pub IsNoImage : List ℕ → Type 0
+IsNoImage bytes = (error : ImageError) × (refusal_of bytes ≡ Some error)
+
+-- they are one, whose program is refused
+pub record RefusesProgram (bytes : List ℕ) (refusal : Refusal) (slot : ℕ) : Type 0 where
+  pub program : Program
+  pub spelled : bytes ≡ image_bytes program
+  pub refused : IsRefused program refusal slot
+  pub not_memory : is_memory refusal ≡ false
+
+abbrev pub IsRefusedImage : List ℕ → Type 0
+IsRefusedImage bytes = IsNoImage bytes ⊎ ((refusal : Refusal) × (slot : ℕ) × RefusesProgram bytes refusal slot)
+
+-- The bytes are no image, and a buffer says why; or they are one whose program is refused at the slot, and the buffer says
+-- that. `said` is how many bytes the text has.
+abbrev pub RefusesImage : List ℕ → ℕ → List ℕ → List ℕ → ℕ → Type 0
+RefusesImage bytes slot old new said =
+    ((error : ImageError) × (refusal_of bytes ≡ Some error) × (slot ≡ 0) × Fills old new said (image_text error))
+    ⊎ ((refusal : Refusal) × (program : Program) × (bytes ≡ image_bytes program) × IsRefused program refusal slot
+    × (is_memory refusal ≡ false) × ((told : List ℕ) × TellsProgram program refusal slot told × Fills old new said told))
+
+-- ---- texts
+
+-- the text spells a program, whose image is written to a buffer
+abbrev pub Assembles : List ℕ → List ℕ → List ℕ → ℕ → Type 0
+Assembles source old new size = (p : Program) × (assembled source ≡ Ok p) × Fills old new size (image_bytes p)
+
+-- it spells none, and a buffer says why, at this line and column
+abbrev pub RefusesText : List ℕ → List ℕ → List ℕ → ℕ → ℕ → ℕ → Type 0
+RefusesText source old new size line column =
+    (error : AsmError) × (assembled source ≡ Err error) × (error.kind ≢ text.Memory)
+    × (line ≡ error.line) × (column ≡ error.column) × Fills old new size (source_text error)
+
+-- ---- runs
+
+-- the bytes are an accepted image, and the run of its program on this packet, on maps as they start, has this exit and
+-- leaves this packet
+pub record Runs (bytes : List ℕ) (head : FrameHead) (packet : List ℕ) (exit : Exit) (after : List ℕ) : Type 0 where
+  pub bound : ℕ
+  pub accepts : Accepts bytes bound
+  pub left : List Entries
+  pub coming : ℕ → ℕ
+  pub answers : Answers (record { program = accepts.program; bound = bound; contents = starting_contents accepts.program.maps })
+      head packet (λ _. head.time) exit after left coming

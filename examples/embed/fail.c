@@ -1,0 +1,117 @@
+/* Every request for memory refused, one after the other, in every call that takes some: the answer is XDPVM_MEMORY, or what
+   it is with all memory; no memory is lost, and nothing is written. Linked with the library alone, whose three heap
+   functions are defined here.
+
+   usage: fail IMAGE.. (with a text beside each image that is to be assembled, NAME.text) */
+#include "xdpvm.h"
+#include <stdio.h>
+#include <stdlib.h>
+#include <string.h>
+
+struct block {
+    uint64_t given;
+    void *at;
+};
+
+static long left = -1, live, requests;
+
+static struct block refused(void) {
+    return (struct block){0, (void *)1};
+}
+
+struct block rattle_alloc(size_t size, size_t align) {
+    requests++;
+    if (left == 0) return refused();
+    if (left > 0) left--;
+    void *at = malloc(size ? size : align);
+    if (!at) return refused();
+    live++;
+    return (struct block){1, at};
+}
+
+struct block rattle_realloc(void *old, size_t old_size, size_t size, size_t align) {
+    (void)old_size;
+    requests++;
+    if (left == 0) return refused();
+    if (left > 0) left--;
+    void *at = realloc(old, size ? size : align);
+    return at ? (struct block){1, at} : refused();
+}
+
+void rattle_dealloc(void *at) {
+    live--;
+    free(at);
+}
+
+static uint8_t image[1 << 16], text[1 << 16], frames[4 + 20 + 64], table[384];
+static uint8_t why[1 << 14], made[1 << 16], packet[64];
+static size_t image_size, text_size;
+
+static size_t read_file(const char *path, uint8_t *to, size_t room) {
+    FILE *file = fopen(path, "rb");
+    if (!file) return 0;
+    size_t size = fread(to, 1, room, file);
+    fclose(file);
+    return size;
+}
+
+static const char *const CALLS[] = {"assemble", "verify", "run_once", "trace_once", "run_stream", "recheck"};
+
+/* One call, into buffers that are zero-filled before it; a status of 5 has to leave them so. */
+static uint32_t call(int which) {
+    struct xdpvm_assembled assembled = {0, 0, 0};
+    struct xdpvm_verdict verdict = {0, 0, 0};
+    struct xdpvm_ended ended = {0, 0};
+    struct xdpvm_traced_end traced = {0, 0, 0, 0};
+    struct xdpvm_streamed streamed = {0, 0, 0, 0, 0};
+    struct xdpvm_rechecked rechecked = {0, 0, 0};
+    struct xdpvm_head head = {7, 2, 0};
+    switch (which) {
+    case 0: return xdpvm_assemble(text, text_size, made, sizeof made, why, sizeof why, &assembled);
+    case 1: return xdpvm_verify(image, image_size, why, sizeof why, &verdict);
+    case 2: return xdpvm_run_once(image, image_size, &head, packet, sizeof packet, &ended);
+    case 3: return xdpvm_trace_once(image, image_size, &head, packet, sizeof packet, 100000, &traced);
+    case 4: return xdpvm_run_stream(image, image_size, frames, sizeof frames, made, sizeof made, why, sizeof why, &streamed);
+    default: return xdpvm_recheck(image, image_size, table, sizeof table, &rechecked);
+    }
+}
+
+static int is_zero(const uint8_t *bytes, size_t size) {
+    while (size > 0 && bytes[size - 1] == 0) size--;
+    return size == 0;
+}
+
+int main(int words, char **word) {
+    int failed = 0;
+    memcpy(frames, "XPF1", 4);
+    frames[4 + 16] = 64;
+    memcpy(table, "XPT1\2", 5);
+    for (int i = 1; i < words; i++) {
+        char path[512];
+        image_size = read_file(word[i], image, sizeof image);
+        snprintf(path, sizeof path, "%.*stext", (int)(strlen(word[i]) - 5), word[i]);
+        text_size = read_file(path, text, sizeof text);
+        for (int which = 0; which < 6; which++) {
+            left = -1;
+            uint32_t wanted = call(which), status;
+            long refusals = 0, others = 0, lost = 0, written = 0;
+            for (long n = 0;; n++) {
+                memset(why, 0, sizeof why), memset(made, 0, sizeof made), memset(packet, 0, sizeof packet);
+                left = n, requests = 0, live = 0;
+                status = call(which);
+                lost += live != 0;
+                if (requests <= n) break;
+                refusals++;
+                if (status == XDPVM_MEMORY) {
+                    written += !is_zero(why, sizeof why) || !is_zero(made, sizeof made) || !is_zero(packet, sizeof packet);
+                } else {
+                    others += status != wanted;
+                }
+            }
+            printf("%s %s: status %u, %ld requests refused; another status %ld, lost %ld, written %ld\n", word[i], CALLS[which],
+                   wanted, refusals, others, lost, written);
+            failed |= status != wanted || others || lost || written;
+        }
+    }
+    return failed;
+}

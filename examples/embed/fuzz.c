@@ -1,0 +1,124 @@
+/* What libFuzzer or AFL++ calls: an accepted program runs, its traced run agrees, and all calls agree in the verdict.
+
+   The input's first byte says whether a text (1) or an image (0) is at byte 12; before that come the head and the length of
+   the packet. With counters in the library (docs/EMBEDDING.md): clang -fsanitize=fuzzer fuzz.c OBJECT liblibc_c.a. Without,
+   -DDRIVE gives a driver that mutates files by itself: fuzz SECONDS SEED FILE.. */
+#include "xdpvm.h"
+#include <stdio.h>
+#include <stdlib.h>
+#include <string.h>
+
+static uint8_t image[XDPVM_MAX_IMAGE], why[1 << 14], one[XDPVM_MAX_PACKET], two[XDPVM_MAX_PACKET];
+static unsigned long tried, accepted, traced_alone;
+
+static void check(int holds, const char *what) {
+    if (!holds) {
+        fprintf(stderr, "DIFFER: %s\n", what);
+        abort();
+    }
+}
+
+static void report(void) {
+    fprintf(stderr, "tried %lu, accepted %lu, traced alone %lu\n", tried, accepted, traced_alone);
+}
+
+/* A refused program may be traced, and has to end in one of the three ways. */
+static void trace_refused(const uint8_t *code, size_t size, const struct xdpvm_head *head, size_t length) {
+    struct xdpvm_traced_end end = {0, 0, 9, 0};
+    uint32_t status = xdpvm_trace_once(code, size, head, two, length, 10000, &end);
+    if (status != XDPVM_OK) return;
+    traced_alone++;
+    check(end.kind <= XDPVM_LIMIT && end.steps <= 10000 && (end.kind == XDPVM_TRAP) == (end.reason != 0), "an end");
+}
+
+static void compare(const uint8_t *code, size_t size, const struct xdpvm_head *head, size_t length) {
+    struct xdpvm_verdict verdict = {0, 0, 0};
+    struct xdpvm_ended ended = {0, 0};
+    struct xdpvm_traced_end traced = {0, 0, 9, 0};
+    uint32_t judged = xdpvm_verify(code, size, why, sizeof why, &verdict);
+    uint32_t ran = xdpvm_run_once(code, size, head, one, length, &ended);
+    if (judged == XDPVM_MEMORY || ran == XDPVM_MEMORY) return;
+    check(judged == ran, "verify and run");
+    if (judged == XDPVM_REFUSED) {
+        trace_refused(code, size, head, length);
+        return;
+    }
+    accepted++;
+    check(verdict.bound >= 1 && verdict.bound <= XDPVM_MAX_STEPS && ended.steps <= verdict.bound, "the bound");
+    uint32_t tested = xdpvm_trace_once(code, size, head, two, length, verdict.bound, &traced);
+    if (tested == XDPVM_MEMORY) return;
+    check(tested == XDPVM_OK && traced.kind == XDPVM_EXIT, "an accepted program traps, or passes its bound");
+    check(traced.r0 == ended.r0 && traced.steps == ended.steps, "r0 or steps");
+    check(!memcmp(one, two, length), "the packets");
+}
+
+int LLVMFuzzerTestOneInput(const uint8_t *data, size_t count) {
+    if (!tried) atexit(report);
+    tried++;
+    if (count < 12) return 0;
+    struct xdpvm_head head = {data[1], data[2], data[3]};
+    size_t length = (data[4] | (size_t)data[5] << 8) % (XDPVM_MAX_PACKET + 1);
+    for (size_t i = 0; i < length; i++) one[i] = two[i] = (uint8_t)(data[6 + i % 6] + i / 6);
+    const uint8_t *code = data + 12;
+    size_t size = count - 12;
+    if (data[0] & 1) {
+        struct xdpvm_assembled assembled;
+        if (xdpvm_assemble(code, size, image, sizeof image, why, sizeof why, &assembled) != XDPVM_OK) return 0;
+        check(assembled.size <= sizeof image, "the size of an image");
+        code = image;
+        size = assembled.size;
+    }
+    compare(code, size, &head, length);
+    return 0;
+}
+
+#ifdef DRIVE
+#include <time.h>
+
+static uint64_t state;
+static uint8_t seeds[64][8192], input[8192];
+static size_t sizes[64];
+
+static size_t below(size_t count) {
+    state ^= state << 13;
+    state ^= state >> 7;
+    state ^= state << 17;
+    return (size_t)(state >> 20) % count;
+}
+
+/* One change: a byte, a bit, or a slot of another place or seed. */
+static void mutate(size_t size, size_t count) {
+    size_t at = 12 + below(size - 12), other = below(count);
+    switch (below(4)) {
+    case 0: input[at] = (uint8_t)below(256); break;
+    case 1: input[at] ^= (uint8_t)(1u << below(8)); break;
+    case 2: input[1 + below(11)] = (uint8_t)below(256); break;
+    case 3: {
+        size_t to = 20 + 8 * below((size - 12) / 8), from = 20 + 8 * below((sizes[other] - 12) / 8);
+        if (to + 8 <= size && from + 8 <= sizes[other]) memcpy(input + to, seeds[other] + from, 8);
+    }
+    }
+}
+
+int main(int words, char **word) {
+    if (words < 4) return 1;
+    state = strtoull(word[2], 0, 10) * 2654435761u + 88172645463325252u;
+    size_t count = 0;
+    for (int i = 3; i < words && count < 64; i++) {
+        FILE *file = fopen(word[i], "rb");
+        if (!file) continue;
+        sizes[count] = 12 + fread(seeds[count] + 12, 1, 8180, file);
+        seeds[count][4] = 64;
+        count += sizes[count] >= 36;
+        fclose(file);
+    }
+    if (!count) return 1;
+    for (clock_t end = clock() + atoi(word[1]) * CLOCKS_PER_SEC; clock() < end;) {
+        size_t seed = below(count);
+        memcpy(input, seeds[seed], sizes[seed]);
+        for (size_t i = below(4) + 1; i > 0; i--) mutate(sizes[seed], count);
+        LLVMFuzzerTestOneInput(input, sizes[seed]);
+    }
+    return 0;
+}
+#endif

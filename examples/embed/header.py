@@ -1,0 +1,146 @@
+#!/usr/bin/env python3
+"""Compares xdpvm.h and xdpvm.rs with the exports of crates/xdpvm_c/src: names, parameters in their order with their types,
+results, and structs with their fields; in the header also statuses, limits and the version. Nothing else does: a compiler
+sees the declarations alone.
+
+usage: python3 examples/embed/header.py
+
+Prints each difference. The exit status is 0, or 1 where there is one. In the gate.
+"""
+import glob
+import os
+import re
+import sys
+
+TOP = os.path.dirname(os.path.dirname(os.path.dirname(os.path.abspath(__file__))))
+NUMBERS = {"u8": "uint8_t", "u32": "uint32_t", "u64": "uint64_t", "usize": "size_t"}
+
+
+def read(*names):
+    text = ""
+    for name in names:
+        with open(os.path.join(TOP, name)) as file:
+            text += file.read() + "\n"
+    return text
+
+
+def c_name(word):
+    """How C names a struct: TracedEnd is xdpvm_traced_end."""
+    return "struct xdpvm" + re.sub("[A-Z]", lambda found: "_" + found[0].lower(), word)
+
+
+def c_parameters(name, kind):
+    """What C passes for a parameter: none for the allocator, two for a slice."""
+    if kind == "Global":
+        return []
+    if kind in ("&[u8]", "&mut [u8]"):
+        const = "" if "mut" in kind else "const "
+        return [f"{const}uint8_t *{name}", f"size_t {name}_len"]
+    if kind.startswith("&mut "):
+        return [f"{c_name(kind[5:])} *{name}"]
+    if kind.startswith("&"):
+        return [f"const {c_name(kind[1:])} *{name}"]
+    return [f"{NUMBERS[kind]} {name}"]
+
+
+def rust_parameters(name, kind):
+    """The same for Rust."""
+    if kind in ("&[u8]", "&mut [u8]"):
+        return [f"{name}: *{'mut' if 'mut' in kind else 'const'} u8", f"{name}_len: usize"]
+    return [] if kind == "Global" else [f"{name}: {kind}"]
+
+
+def listed(words, parameters):
+    """The parameters of an export, as another language has them."""
+    pairs = [re.split(r":\s*", word.strip(), maxsplit=1) for word in words.split(",") if word.strip()]
+    return ", ".join(each for pair in pairs for each in parameters(*pair))
+
+
+def exports(source):
+    """Each export, with its parameters and its result."""
+    return re.findall(r'#\[unsafe\(no_mangle\)\]\s+pub extern "C" fn (\w+)\((.*?)\) -> (\w+)', source, re.S)
+
+
+def structs(source):
+    """Each struct that crosses, with its fields."""
+    for name, body in re.findall(r"#\[repr\(C\)\]\s+(?:#\[.*?\]\s+)*(?:pub )?struct (\w+) \{(.*?)\n\}", source, re.S):
+        yield name, re.findall(r"^ *(?:pub )?(\w+): (\w+),", body, re.M)
+
+
+def c_wanted(source):
+    functions = {name: f"{NUMBERS[result]} {name}({listed(words, c_parameters)})" for name, words, result in exports(source)}
+    kinds = {}
+    for name, fields in structs(source):
+        kinds[c_name(name)] = f"{c_name(name)} {{ {' '.join(f'{NUMBERS[kind]} {field};' for field, kind in fields)} }}"
+    return functions, kinds
+
+
+def rust_wanted(source):
+    functions = {name: f"fn {name}({listed(words, rust_parameters)}) -> {result}" for name, words, result in exports(source)}
+    return functions, {name: str(fields) for name, fields in structs(source)}
+
+
+def rust_declared(text):
+    functions = {}
+    for name, words, result in re.findall(r"fn (xdpvm_\w+)\((.*?)\) -> (\w+);", text, re.S):
+        functions[name] = f"fn {name}({' '.join(words.split()).rstrip(',')}) -> {result}"
+    return functions, {name: str(fields) for name, fields in structs(text)}
+
+
+def declared(header):
+    """The functions and the structs of the header, without comments and spaces that say nothing."""
+    header = re.sub(r"/\*.*?\*/", "", header, flags=re.S)
+    functions, kinds = {}, {}
+    for result, name, words in re.findall(r"^(\w+) (xdpvm_\w+)\((.*?)\);", header, re.M | re.S):
+        functions[name] = f"{result} {name}({' '.join(words.split())})"
+    for name, body in re.findall(r"^(struct xdpvm_\w+) \{(.*?)\};", header, re.M | re.S):
+        kinds[name] = f"{name} {{ {' '.join(body.split())} }}"
+    return functions, kinds, dict(re.findall(r"^#define (XDPVM_\w+) (\S+)", header, re.M))
+
+
+def constant(source, name):
+    found = re.search(rf"pub const {name}: \w+ = ([\d_]+);", source)
+    return found[1].replace("_", "") if found else None
+
+
+def limits(source):
+    """The numbers of the header, by the constants of the crates."""
+    for name in ("OK", "WRONG", "REFUSED", "MEMORY"):
+        yield f"XDPVM_{name}", constant(source, name)
+    below = read("crates/isa_model/src/frames.rt", "crates/isa_model/src/ends.rt")
+    yield "XDPVM_MAX_PACKET", constant(below, "MAX_PACKET")
+    yield "XDPVM_MAX_STEPS", constant(below, "MAX_STEPS")
+    head = read("crates/image/src/head.rt")
+    maps, slots = constant(head, "MAX_MAPS"), constant(head, "MAX_SLOTS")
+    yield "XDPVM_MAX_IMAGE", str(8 + 12 * int(maps) + 8 * int(slots)) if maps and slots else None
+    ends = re.findall(r"kind: (\d),", source.split("fn end_of(")[1])
+    yield from zip(("XDPVM_EXIT", "XDPVM_TRAP", "XDPVM_LIMIT"), ends)
+    yield "XDPVM_VERSION", f'"{re.search(r"fill.buffer, b.([0-9.]+)", source)[1]}"'
+
+
+def differences(wanted, found):
+    for name in sorted(wanted.keys() | found.keys()):
+        if wanted.get(name) != found.get(name):
+            yield f"the sources: {wanted.get(name)}\nthe caller:  {found.get(name)}"
+
+
+def main():
+    paths = sorted(glob.glob(os.path.join(TOP, "crates/xdpvm_c/src/*.rt")))
+    source = re.sub(r"^ *//.*$", "", read(*paths), flags=re.M)
+    functions, kinds, numbers = declared(read("examples/embed/xdpvm.h"))
+    found = list(differences(dict(limits(source)), numbers))
+    in_rust = rust_declared(read("examples/embed/xdpvm.rs"))
+    for wanted, has in ((c_wanted(source), (functions, kinds)), (rust_wanted(source), in_rust)):
+        for ours, theirs in zip(wanted, has):
+            found += differences(ours, theirs)
+    version = re.search(r'pub const VERSION: &str = "(.*?)";', read("crates/words/src/command_line.rt"))[1]
+    if numbers.get("XDPVM_VERSION") != f'"{version}"':
+        found.append(f"the program is of version {version}, the header of {numbers.get('XDPVM_VERSION')}")
+    for line in found:
+        print(line)
+    print(f"{len(functions)} functions, {len(kinds)} structs, {len(numbers)} numbers, {len(found)} differ")
+    return bool(found)
+
+
+if __name__ == "__main__":
+    sys.exit(main())

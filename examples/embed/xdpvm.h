@@ -1,0 +1,148 @@
+/* xdpvm in your own process: verifies BPF programs of the XDP kind, and runs them on packets.
+
+   Link libxdpvm_c.a and the toolchain's liblibc_c.a (examples/embed/build.sh; docs/EMBEDDING.md).
+
+   Every call tests its arguments and answers a status. What it answers then is proved; what you owe is not:
+
+   - Each pointer is to memory of yours of the length beside it, for the whole call. None is NULL, also where the length
+     is 0. What a call writes overlaps nothing else that the call is given.
+   - The thread has 2 MiB of stack. Where `why_len` is 0, 256 KiB are enough for xdpvm_verify.
+   - malloc, realloc and free are from one allocator. No call comes from a signal handler, or from the forked child of a
+     process with threads.
+
+   Nothing is kept between calls, so any number of threads may call at once, each with its own memory. All memory that a
+   call takes is given back before it returns. No call prints, opens a file, reads a clock, or ends the process.
+
+   A text or an image goes into a buffer of yours as far as there is room, and its whole size is answered: if that is more
+   than your buffer has, call again with more. No text ends in a zero byte.
+
+   examples/embed/header.py compares this file with the sources of the library. */
+#ifndef XDPVM_H
+#define XDPVM_H
+
+#include <stddef.h>
+#include <stdint.h>
+
+#ifdef __cplusplus
+extern "C" {
+#endif
+
+#define XDPVM_VERSION "0.1.0"
+
+/* What a call answers. */
+#define XDPVM_OK 0      /* done */
+#define XDPVM_WRONG 1   /* an argument is outside its limits: nothing was done */
+#define XDPVM_REFUSED 2 /* the text, the image, the program or the table is refused */
+#define XDPVM_MEMORY 5  /* out of memory: nothing was written */
+
+/* An image never has more bytes: 8, 12 for each of 16 maps, 8 for each of 4,096 slots. */
+#define XDPVM_MAX_IMAGE 32968
+
+/* The most bytes of a packet. */
+#define XDPVM_MAX_PACKET 9216
+
+/* The most steps that a run may be given, and the greatest bound. */
+#define XDPVM_MAX_STEPS 1000000
+
+/* The size of an image or of the text of a refusal, and the line and the column of the latter, from 1. */
+struct xdpvm_assembled {
+    size_t size;
+    size_t line;
+    size_t column;
+};
+
+/* Accepted: the most steps of a run. Refused: the slot, 0 for what is no image, and the size of the text that says why. */
+struct xdpvm_verdict {
+    size_t said;
+    size_t slot;
+    uint32_t bound;
+};
+
+/* What comes with a packet: a time in nanoseconds, which the helper bpf_ktime_get_ns answers, and the interface and the
+   receive queue that it came in by. */
+struct xdpvm_head {
+    uint64_t time;
+    uint32_t interface;
+    uint32_t queue;
+};
+
+/* How a run ended: r0 at the last exit, and how many instructions it had. */
+struct xdpvm_ended {
+    uint64_t r0;
+    uint32_t steps;
+};
+
+/* How a traced run ended. */
+#define XDPVM_EXIT 0  /* r0 has the answer */
+#define XDPVM_TRAP 1  /* `reason` says why, from 1 on in the order of docs/REFUSALS.md: code, unset, readonly, pointer, range,
+                         access, compare, helper, frames, exit, action */
+#define XDPVM_LIMIT 2 /* it was stopped at the limit */
+
+struct xdpvm_traced_end {
+    uint64_t r0;
+    uint32_t steps;
+    uint32_t kind;
+    uint32_t reason;
+};
+
+/* The sizes of a report and of the frames out, how many frames there were, and the fault that ended the stream: 1 for F1,
+   and the offset of the record; both are 0 where the stream came to its end. */
+struct xdpvm_streamed {
+    size_t report;
+    size_t sent;
+    uint64_t offset;
+    uint32_t frames;
+    uint32_t fault;
+};
+
+/* The bound that a proof table shows. Refused: the rule that is broken, 6 for P6, and for P5, P7 and P8 the entry. Rule 0
+   is an image or a control flow that is refused, which xdpvm_verify says too. */
+struct xdpvm_rechecked {
+    size_t entry;
+    uint32_t bound;
+    uint32_t rule;
+};
+
+/* Writes the library's version, and answers its size. */
+size_t xdpvm_version(uint8_t *buffer, size_t buffer_len);
+
+/* Assembles a program text (docs/TEXT.md). The image goes to `image`. XDPVM_REFUSED: the text that says why goes to `why`.
+   `out` has the size of what was written, and of a refusal the line and the column. */
+uint32_t xdpvm_assemble(const uint8_t *text, size_t text_len, uint8_t *image, size_t image_len, uint8_t *why, size_t why_len,
+                        struct xdpvm_assembled *out);
+
+/* Verifies the program of an image. XDPVM_OK: no run of it traps, and each exits within out->bound steps, on every packet
+   of at most 9,216 bytes. XDPVM_REFUSED: `why` gets what `xdpvm verify` prints: the code and the place, a sentence, the
+   instruction, and what is known there. The last is looked for only where why_len is not 0. */
+uint32_t xdpvm_verify(const uint8_t *image, size_t image_len, uint8_t *why, size_t why_len, struct xdpvm_verdict *out);
+
+/* Verifies an image, and runs its program on a packet, in place, with maps as they start. XDPVM_WRONG: the packet has
+   more than 9,216 bytes. XDPVM_REFUSED: xdpvm_verify says why. */
+uint32_t xdpvm_run_once(const uint8_t *image, size_t image_len, const struct xdpvm_head *head, uint8_t *packet, size_t packet_len,
+                        struct xdpvm_ended *out);
+
+/* Runs the program of an image on a packet, in place, with maps as they start and every access tested, verified or not,
+   for at most `limit` steps. After a trap or the limit the packet is as the last step left it. XDPVM_WRONG: the packet
+   has more than 9,216 bytes, or the limit is not from 1 to 1,000,000. XDPVM_REFUSED: the bytes are no image. */
+uint32_t xdpvm_trace_once(const uint8_t *image, size_t image_len, const struct xdpvm_head *head, uint8_t *packet, size_t packet_len,
+                          uint32_t limit, struct xdpvm_traced_end *out);
+
+/* Verifies an image, and runs its program on the frames of a stream (docs/FORMATS.md), the maps going from frame to frame.
+   `report` gets what `xdpvm run` prints, and `sent` the stream of the frames that go out. A fault of the stream ends the
+   run; it is told in the report and in `out`, and the status is XDPVM_OK. */
+uint32_t xdpvm_run_stream(const uint8_t *image, size_t image_len, const uint8_t *frames, size_t frames_len, uint8_t *report,
+                          size_t report_len, uint8_t *sent, size_t sent_len, struct xdpvm_streamed *out);
+
+/* Tests a proof table of an image's program, with no trust in its maker. XDPVM_OK: the promise of xdpvm_verify, with the
+   bound of the table. */
+uint32_t xdpvm_recheck(const uint8_t *image, size_t image_len, const uint8_t *table, size_t table_len, struct xdpvm_rechecked *out);
+
+/* The action that r0 names at the last exit, by its low 32 bits: 0 aborted, 1 drop, 2 pass, 3 tx, 4 redirect; 5 for every
+   other number. */
+uint32_t xdpvm_action(uint64_t r0);
+
+#ifdef __cplusplus
+}
+#endif
+
+#endif

@@ -1,0 +1,341 @@
+//! xdpvm behind safe functions: each hands over slices that live for the call. Copy this file, and link the library as
+//! build.sh does. header.py compares the declarations with the sources of the library.
+#![allow(dead_code)]
+
+use std::fmt;
+
+/// The most bytes of an image.
+const MAX_IMAGE: usize = 32_968;
+
+#[repr(C)]
+#[derive(Default)]
+struct Assembled {
+    size: usize,
+    line: usize,
+    column: usize,
+}
+
+#[repr(C)]
+#[derive(Default)]
+struct Verdict {
+    said: usize,
+    slot: usize,
+    bound: u32,
+}
+
+/// What comes with a packet: a time in nanoseconds, the interface and the receive queue.
+#[repr(C)]
+#[derive(Clone, Copy, Debug, Default)]
+pub struct Head {
+    pub time: u64,
+    pub interface: u32,
+    pub queue: u32,
+}
+
+/// How a run ended: r0 at the last exit, and how many instructions it had.
+#[repr(C)]
+#[derive(Clone, Copy, Debug, Default, PartialEq, Eq)]
+pub struct Ended {
+    pub r0: u64,
+    pub steps: u32,
+}
+
+#[repr(C)]
+#[derive(Default)]
+struct TracedEnd {
+    r0: u64,
+    steps: u32,
+    kind: u32,
+    reason: u32,
+}
+
+#[repr(C)]
+#[derive(Default)]
+struct Streamed {
+    report: usize,
+    sent: usize,
+    offset: u64,
+    frames: u32,
+    fault: u32,
+}
+
+#[repr(C)]
+#[derive(Default)]
+struct Rechecked {
+    entry: usize,
+    bound: u32,
+    rule: u32,
+}
+
+unsafe extern "C" {
+    fn xdpvm_version(buffer: *mut u8, buffer_len: usize) -> usize;
+    fn xdpvm_assemble(
+        text: *const u8,
+        text_len: usize,
+        image: *mut u8,
+        image_len: usize,
+        why: *mut u8,
+        why_len: usize,
+        out: &mut Assembled,
+    ) -> u32;
+    fn xdpvm_verify(
+        image: *const u8,
+        image_len: usize,
+        why: *mut u8,
+        why_len: usize,
+        out: &mut Verdict,
+    ) -> u32;
+    fn xdpvm_run_once(
+        image: *const u8,
+        image_len: usize,
+        head: &Head,
+        packet: *mut u8,
+        packet_len: usize,
+        out: &mut Ended,
+    ) -> u32;
+    fn xdpvm_trace_once(
+        image: *const u8,
+        image_len: usize,
+        head: &Head,
+        packet: *mut u8,
+        packet_len: usize,
+        limit: u32,
+        out: &mut TracedEnd,
+    ) -> u32;
+    fn xdpvm_run_stream(
+        image: *const u8,
+        image_len: usize,
+        frames: *const u8,
+        frames_len: usize,
+        report: *mut u8,
+        report_len: usize,
+        sent: *mut u8,
+        sent_len: usize,
+        out: &mut Streamed,
+    ) -> u32;
+    fn xdpvm_recheck(
+        image: *const u8,
+        image_len: usize,
+        table: *const u8,
+        table_len: usize,
+        out: &mut Rechecked,
+    ) -> u32;
+    safe fn xdpvm_action(r0: u64) -> u32;
+}
+
+/// Why there is no answer.
+#[derive(Clone, Debug, PartialEq, Eq)]
+pub enum Error {
+    /// An argument is outside its limits.
+    Wrong,
+    /// Refused. The text says why; it is empty where `verify` says more.
+    Refused(String),
+    Memory,
+}
+
+impl fmt::Display for Error {
+    fn fmt(&self, f: &mut fmt::Formatter<'_>) -> fmt::Result {
+        match self {
+            Error::Wrong => f.write_str("an argument is outside its limits"),
+            Error::Refused(why) if why.is_empty() => f.write_str("refused"),
+            Error::Refused(why) => f.write_str(why.trim_end()),
+            Error::Memory => f.write_str("out of memory"),
+        }
+    }
+}
+
+impl std::error::Error for Error {}
+
+fn answer<T>(status: u32, value: T, why: Vec<u8>) -> Result<T, Error> {
+    match status {
+        0 => Ok(value),
+        1 => Err(Error::Wrong),
+        2 => Err(Error::Refused(String::from_utf8_lossy(&why).into_owned())),
+        _ => Err(Error::Memory),
+    }
+}
+
+/// Calls with a buffer, and once more with a larger one where the size that is answered is larger.
+fn with_room(room: usize, mut call: impl FnMut(&mut [u8]) -> (u32, usize)) -> (u32, Vec<u8>) {
+    let mut buffer = vec![0; room];
+    let (mut status, mut size) = call(&mut buffer);
+    if size > buffer.len() {
+        buffer.resize(size, 0);
+        (status, size) = call(&mut buffer);
+    }
+    buffer.truncate(size);
+    (status, buffer)
+}
+
+/// The version of the library.
+pub fn version() -> String {
+    let (_, bytes) = with_room(16, |buffer| {
+        // SAFETY: the pointer and the length are of a slice that lives for the call.
+        (0, unsafe {
+            xdpvm_version(buffer.as_mut_ptr(), buffer.len())
+        })
+    });
+    String::from_utf8_lossy(&bytes).into_owned()
+}
+
+/// The image of a program text.
+pub fn assemble(text: &str) -> Result<Vec<u8>, Error> {
+    let mut image = vec![0; MAX_IMAGE];
+    let mut out = Assembled::default();
+    let (status, why) = with_room(1024, |why| {
+        // SAFETY: each pointer and length is of a slice that lives for the call, and what is written overlaps nothing.
+        let status = unsafe {
+            xdpvm_assemble(
+                text.as_ptr(),
+                text.len(),
+                image.as_mut_ptr(),
+                image.len(),
+                why.as_mut_ptr(),
+                why.len(),
+                &mut out,
+            )
+        };
+        (status, if status == 2 { out.size } else { 0 })
+    });
+    image.truncate(out.size);
+    answer(status, image, why)
+}
+
+/// The most steps of a run of an accepted program, none of which traps.
+pub fn verify(image: &[u8]) -> Result<u32, Error> {
+    let mut out = Verdict::default();
+    let (status, why) = with_room(1024, |why| {
+        // SAFETY: as above.
+        let status = unsafe {
+            xdpvm_verify(
+                image.as_ptr(),
+                image.len(),
+                why.as_mut_ptr(),
+                why.len(),
+                &mut out,
+            )
+        };
+        (status, if status == 2 { out.said } else { 0 })
+    });
+    answer(status, out.bound, why)
+}
+
+/// Runs an accepted program on a packet, on maps as they start.
+pub fn run_once(image: &[u8], head: &Head, packet: &mut [u8]) -> Result<Ended, Error> {
+    let mut out = Ended::default();
+    // SAFETY: as above; the length of the packet is tested on the other side.
+    let status = unsafe {
+        xdpvm_run_once(
+            image.as_ptr(),
+            image.len(),
+            head,
+            packet.as_mut_ptr(),
+            packet.len(),
+            &mut out,
+        )
+    };
+    answer(status, out, Vec::new())
+}
+
+/// How a traced run ended.
+#[derive(Clone, Copy, Debug, PartialEq, Eq)]
+pub enum End {
+    Exit(Ended),
+    /// The number of the reason, from 1 on in the order of docs/REFUSALS.md, and the steps before it.
+    Trap(u32, u32),
+    Limit,
+}
+
+/// Runs a program with every access tested, verified or not, for at most that many steps.
+pub fn trace_once(image: &[u8], head: &Head, packet: &mut [u8], limit: u32) -> Result<End, Error> {
+    let mut out = TracedEnd::default();
+    // SAFETY: as above; the limit is tested on the other side.
+    let status = unsafe {
+        xdpvm_trace_once(
+            image.as_ptr(),
+            image.len(),
+            head,
+            packet.as_mut_ptr(),
+            packet.len(),
+            limit,
+            &mut out,
+        )
+    };
+    let end = match out.kind {
+        0 => End::Exit(Ended {
+            r0: out.r0,
+            steps: out.steps,
+        }),
+        1 => End::Trap(out.reason, out.steps),
+        _ => End::Limit,
+    };
+    answer(status, end, Vec::new())
+}
+
+/// What a run over a stream comes to.
+#[derive(Clone, Debug, PartialEq, Eq)]
+pub struct Ran {
+    pub report: Vec<u8>,
+    /// The stream of the frames out.
+    pub sent: Vec<u8>,
+    pub frames: u32,
+    /// The fault that ended the stream, 1 for F1, and the offset of its record.
+    pub fault: Option<(u32, u64)>,
+}
+
+/// Runs an accepted program on the frames of a stream.
+pub fn run_stream(image: &[u8], frames: &[u8]) -> Result<Ran, Error> {
+    let mut sent = vec![0; frames.len().max(4)];
+    let mut out = Streamed::default();
+    let (status, report) = with_room(4096, |report| {
+        // SAFETY: as above.
+        let status = unsafe {
+            xdpvm_run_stream(
+                image.as_ptr(),
+                image.len(),
+                frames.as_ptr(),
+                frames.len(),
+                report.as_mut_ptr(),
+                report.len(),
+                sent.as_mut_ptr(),
+                sent.len(),
+                &mut out,
+            )
+        };
+        (status, if status == 0 { out.report } else { 0 })
+    });
+    sent.truncate(out.sent);
+    let ran = Ran {
+        report,
+        sent,
+        frames: out.frames,
+        fault: (out.fault != 0).then_some((out.fault, out.offset)),
+    };
+    answer(status, ran, Vec::new())
+}
+
+/// The bound that a proof table shows of an image's program, whoever made the table.
+pub fn recheck(image: &[u8], table: &[u8]) -> Result<u32, Error> {
+    let mut out = Rechecked::default();
+    // SAFETY: as above.
+    let status = unsafe {
+        xdpvm_recheck(
+            image.as_ptr(),
+            image.len(),
+            table.as_ptr(),
+            table.len(),
+            &mut out,
+        )
+    };
+    let why = match out.rule {
+        0 => String::new(),
+        5 | 7 | 8 => format!("refused P{} entry {}\n", out.rule, out.entry),
+        rule => format!("refused P{rule}\n"),
+    };
+    answer(status, out.bound, why.into_bytes())
+}
+
+/// The action that r0 names: 0 aborted, 1 drop, 2 pass, 3 tx, 4 redirect, 5 for every other number.
+pub fn action(r0: u64) -> u32 {
+    xdpvm_action(r0)
+}
