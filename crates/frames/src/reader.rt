@@ -66,8 +66,8 @@ impl<R: Read> FrameReader<R> {
     }
 
     /// Reads the magic, and answers the stream's version, 1 or 2, or the fault that stands in its
-    /// place. Where the magic was read before, it reads nothing, and answers the version, or after a
-    /// fault that fault.
+    /// place. Where the magic was read before, it reads nothing, and answers the version, or after
+    /// a fault that fault.
     pub fn begin(&mut self) -> Result<u8, (Fault, u64)>
         ensures opens { Opens self.old.position (R.remaining self.old.source)
             (R.remaining self.new.source) self.new.position }

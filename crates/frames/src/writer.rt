@@ -33,8 +33,8 @@ pub fn write_frame<W: Write>(writer: &mut W, head: &FrameHead, body: &[u8]) -> i
 /// Writes a record of an `XPF2` stream, with its reason, without the magic that stands before the
 /// first one.
 ///
-/// The body has at most 9,216 bytes: a caller must see to that. A writer's failure is handed on as by
-/// `write_frame`.
+/// The body has at most 9,216 bytes: a caller must see to that. A writer's failure is handed on as
+/// by `write_frame`.
 pub fn write_frame2<W: Write>(
     writer: &mut W,
     head: &FrameHead,

@@ -48,8 +48,9 @@ impl Runner for MachineRunner {
 /// What is written is exactly the report of the program and those frames; in every frame's run the
 /// step by step meaning of the program meets no trap, and it exits within the bound. Nothing is
 /// asked of the source: its stream may be damaged, cut off, without an end, or fail in the middle;
-/// at most 4,294,967,295 frames are run. A frame with a reason is not run, and goes out as it came. Where the source tells its bytes, the frames are those
-/// that they spell, from the first on; where it does not, as a file, they are those of some bytes.
+/// at most 4,294,967,295 frames are run. A frame with a reason is not run, and goes out as it came.
+/// Where the source tells its bytes, the frames are those that they spell, from the first on; where
+/// it does not, as a file, they are those of some bytes.
 ///
 /// Every answer of a frame's clock is the frame's time. Memory is taken before the first byte is
 /// written, and none after that. Nothing is tried again, and after a failure nothing is written to

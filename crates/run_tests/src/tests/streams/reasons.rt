@@ -1,4 +1,5 @@
-//! Streams whose frames have reasons: what is run, what is written out, and where such a stream ends.
+//! Streams whose frames have reasons: what is run, what is written out, and where such a stream
+//! ends.
 
 use super::streams::{Case, ENDLESS, broken, checked, ends_so, make_writer};
 use crate::tests::programs::image_of;
@@ -54,9 +55,12 @@ const STORES: &str = "
 
 #[rattlefmt::skip]
 const ROWS: [Row; 15] = [
-    ("r0 = 2; exit", true, &[(5, b"ab"), (0, b"")], b"0 SKIP 2 0 5\n1 PASS 0 2 0\nend 2\n", &[(5, b"ab"), (0, b"")]),
-    ("r0 = 2; exit", true, &[(u32::MAX, b"x")], b"0 SKIP 1 0 4294967295\nend 1\n", &[(u32::MAX, b"x")]),
-    ("r0 = 1; exit", true, &[(0, b""), (5, b"ab")], b"0 DROP 0 2 1\n1 SKIP 2 0 5\nend 2\n", &[(1, b""), (5, b"ab")]),
+    ("r0 = 2; exit", true, &[(5, b"ab"), (0, b"")], b"0 SKIP 2 0 5\n1 PASS 0 2 0\nend 2\n",
+        &[(5, b"ab"), (0, b"")]),
+    ("r0 = 2; exit", true, &[(u32::MAX, b"x")], b"0 SKIP 1 0 4294967295\nend 1\n",
+        &[(u32::MAX, b"x")]),
+    ("r0 = 1; exit", true, &[(0, b""), (5, b"ab")], b"0 DROP 0 2 1\n1 SKIP 2 0 5\nend 2\n",
+        &[(1, b""), (5, b"ab")]),
     ("r0 = 3; exit", true, &[(0, b"")], b"0 TX 0 2 0\nend 1\n", &[(0, b"")]),
     ("r0 = 0x900000006 ll; exit", true, &[(0, b"x")], b"0 INVALID 1 2 1\nend 1\n", &[(1, b"x")]),
     // a frame that is not run changes no map
@@ -65,15 +69,22 @@ const ROWS: [Row; 15] = [
         &[(0, b""), (3, b""), (0, b"")]),
     // a dropped frame goes out as its run left it
     (STORES, true, &[(0, b"ab")], b"0 DROP 2 8 1\nend 1\n", &[(1, b"\x07b")]),
-    ("r0 = r2; exit", false, &[(7, b"x"), (0, b"x")], b"0 SKIP 1 0 7\n1 TRAP unset 1 0\nend 2\n", &[(7, b"x")]),
-    ("again: goto again", false, &[(0, b"x"), (1, b"")], b"0 LIMIT 1 100\n1 SKIP 0 0 1\nend 2\n", &[(1, b"")]),
+    ("r0 = r2; exit", false, &[(7, b"x"), (0, b"x")],
+        b"0 SKIP 1 0 7\n1 TRAP unset 1 0\nend 2\n", &[(7, b"x")]),
+    ("again: goto again", false, &[(0, b"x"), (1, b"")],
+        b"0 LIMIT 1 100\n1 SKIP 0 0 1\nend 2\n", &[(1, b"")]),
     // programs of version 2
-    ("version 2; r0 = 0x700000001 ll; exit", true, &[(0, b"\xaa\xbb\xcc")], b"0 DROP 3 2 7\nend 1\n", &[(7, b"\xaa\xbb\xcc")]),
-    ("version 2; r0 = *(u32 *)(r1 + 12); r0 &= 3; exit", true, &[(0, b"")], b"0 PASS 0 3 0\nend 1\n", &[(0, b"")]),
-    ("version 2; r0 = 0xffffffff00000004 ll; exit", true, &[(0, b"")], b"0 REDIRECT 0 2 4294967295\nend 1\n", &[(u32::MAX, b"")]),
+    ("version 2; r0 = 0x700000001 ll; exit", true, &[(0, b"\xaa\xbb\xcc")],
+        b"0 DROP 3 2 7\nend 1\n", &[(7, b"\xaa\xbb\xcc")]),
+    ("version 2; r0 = *(u32 *)(r1 + 12); r0 &= 3; exit", true, &[(0, b"")],
+        b"0 PASS 0 3 0\nend 1\n", &[(0, b"")]),
+    ("version 2; r0 = 0xffffffff00000004 ll; exit", true, &[(0, b"")],
+        b"0 REDIRECT 0 2 4294967295\nend 1\n", &[(u32::MAX, b"")]),
     ("version 2; r0 = 0; exit", true, &[(0, b"")], b"0 ABORTED 0 2 1\nend 1\n", &[(1, b"")]),
-    ("version 2; r0 = 0x900000002 ll; exit", true, &[(0, b"")], b"0 PASS 0 2 0\nend 1\n", &[(0, b"")]),
-    ("version 2; r0 = 6; exit", false, &[(0, b""), (2, b"")], b"0 TRAP action 0 1\n1 SKIP 0 0 2\nend 2\n", &[(2, b"")]),
+    ("version 2; r0 = 0x900000002 ll; exit", true, &[(0, b"")], b"0 PASS 0 2 0\nend 1\n",
+        &[(0, b"")]),
+    ("version 2; r0 = 6; exit", false, &[(0, b""), (2, b"")],
+        b"0 TRAP action 0 1\n1 SKIP 0 0 2\nend 2\n", &[(2, b"")]),
 ];
 
 // What a checked run or a verified one writes; nothing where the program is not accepted.
@@ -130,7 +141,7 @@ const LENGTHS: [(u32, u32, usize, &[u8]); 10] = [
     (4294967295, 0, 24, b"fault F3 at 4\n"),
 ];
 
-// A stream of one record, of which so many bytes are there; the ends of its body are marked.
+// The first bytes of a stream of one record; the ends of its body are marked.
 fn stream_of_length(alloc: Global, length: u32, reason: u32, size: usize) -> Result<Vec<u8>, Fail> {
     let mut body = [7u8; 9217];
     body[0] = 1;
@@ -165,8 +176,9 @@ fn longer_frames(rt: HostRuntime) -> Result<(), Fail> {
 // ---- two empty records
 
 // The magic and two empty records.
-const TWO: &[u8; 52] =
-    b"XPF2\0\0\0\0\0\0\0\0\0\0\0\0\0\0\0\0\0\0\0\0\0\0\0\0\0\0\0\0\0\0\0\0\0\0\0\0\0\0\0\0\0\0\0\0\0\0\0\0";
+const TWO: &[u8; 52] = b"XPF2\
+    \0\0\0\0\0\0\0\0\0\0\0\0\0\0\0\0\0\0\0\0\0\0\0\0\
+    \0\0\0\0\0\0\0\0\0\0\0\0\0\0\0\0\0\0\0\0\0\0\0\0";
 
 // How many of the records are run where the stream is cut, the fault, and the report.
 fn end_of_cut(length: usize) -> (u32, Option<(Fault, u64)>, &'static [u8]) {
