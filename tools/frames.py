@@ -1,0 +1,472 @@
+#!/usr/bin/env python3
+"""Turns captures into frame streams, and frame streams into captures or text.
+
+usage: python3 tools/frames.py [--to KIND] [--interface N] [--queue N] [--reasons] [--strict] IN OUT
+       python3 tools/frames.py [--strict] --show IN
+
+IN is a capture (pcap or pcapng, packed by gzip or not), a frame stream, or a text; its first bytes tell which. OUT becomes
+what its name ends in, or the KIND that is given: `.pcap`, `.pcapng`, `.frames` (a frame stream) or `.txt` (text). With
+another name a capture or a text becomes a frame stream. `-` is standard input or standard output. Files are read and
+written frame by frame, so a capture may be of any size, or not yet at its end.
+
+A frame stream is of the first form, XPF1, with frames of up to 4,096 bytes. With --reasons it is of the second one,
+XPF2, with frames of up to 9,216 bytes and a reason for each: why it was dropped, or 0. Longer frames are left out of
+the first form, so that later ones have a smaller number than in the capture; in the second form an empty frame with the
+reason 4294967295 stands in the place of each, so that numbers stay. Both are said. A pcapng has a reason as a comment of
+its packet, `reason 7`, in and out.
+
+A capture that ends in the middle of a frame, as one that is still being written, gives its whole frames and a warning;
+with --strict the status is then 1. Times are kept to the nanosecond. Captures are of Ethernet, or of Linux's `any`
+interface (SLL and SLL2), whose frames get an Ethernet head with the destination zero. The frames of a pcap come from
+interface 0 and queue 0, those of a pcapng or of SLL2 from the interface that the capture names; --interface and --queue
+give all frames another one. A pcap has neither, nor reasons, and a pcapng no queue, so what is lost is said.
+
+--show prints IN as text, and a text is read again as it is printed:
+
+    frame 1000 interface 1 queue 0 reason 7
+      0000: 02 00 00 00 00 01 02 00 00 00 00 02 08 00 45 00 |..............E.|
+
+The first number is the time in nanoseconds; interface, queue and reason may be left out. A line of bytes is in
+hexadecimal, in any groups; its offset and what follows `|` may be left out, and `#` begins a comment.
+
+examples:
+    python3 tools/frames.py traffic.pcapng traffic.frames
+    tcpdump -i eth0 -w - | python3 tools/frames.py --to frames - - | xdpvm run filter.image /dev/stdin sent.frames
+    python3 tools/frames.py sent.frames sent.pcap
+
+The exit status is 0, or 1 with a message if a file cannot be read or written or is damaged.
+"""
+import argparse
+import collections
+import gzip
+import os
+import re
+import struct
+import sys
+
+Frame = collections.namedtuple("Frame", "time interface queue body reason", defaults=[0])
+Form = collections.namedtuple("Form", "head most")
+FORMS = {b"XPF1": Form("<QIII", 4096), b"XPF2": Form("<QIIII", 9216)}       # time, interface, queue, length, reason
+ETHERNET, SLL, SLL2 = 1, 113, 276           # link types
+SECOND = 10**9
+TOO_LONG = 2**32 - 1                        # the reason of a frame that a stream cannot hold
+PIECE = 1 << 24                             # no frame and no block of a capture is longer
+
+
+class Damaged(Exception):
+    """A file that cannot be read to its end, and why."""
+
+
+class Cut(Damaged):
+    """A file that ends in the middle of a frame."""
+
+
+def tell(message):
+    print(message, file=sys.stderr)
+
+
+class Source:
+    """A file, read from its begin to its end. Its first bytes may be looked at before."""
+
+    def __init__(self, file):
+        self.file, self.begin, self.at = file, b"", 0
+
+    def look(self, count):
+        if len(self.begin) < count:
+            self.begin += self.file.read(count - len(self.begin))
+        return self.begin[:count]
+
+    def take(self, count, what):
+        """The next bytes, which have to be there."""
+        if count > PIECE:
+            raise Damaged(f"{what} has the length {count}")
+        data, self.begin = self.begin[:count], self.begin[count:]
+        if len(data) < count:
+            data += self.file.read(count - len(data))
+        self.at += len(data)
+        if len(data) < count:
+            raise Cut(f"it ends at byte {self.at}, in {what}")
+        return data
+
+    def unpack(self, form, what):
+        return struct.unpack(form, self.take(struct.calcsize(form), what))
+
+    def is_at_end(self):
+        return not self.look(1)
+
+    def rest(self):
+        data, self.begin = self.begin + self.file.read(), b""
+        return data
+
+
+def unpack(form, data, at, what):
+    """The numbers of that form at a place of a block, which have to be there."""
+    if at + struct.calcsize(form) > len(data):
+        raise Damaged(f"{what} is too short")
+    return struct.unpack_from(form, data, at)
+
+
+# ---- frame streams
+
+def read_stream(source, counts):
+    form, number = FORMS[source.take(4, "the magic")], 0
+    while not source.is_at_end():
+        what = f"frame {number}"
+        time, interface, queue, length, *reason = source.unpack(form.head, what)
+        if length > form.most:
+            raise Damaged(f"{what} has {length} bytes, more than {form.most}")
+        yield Frame(time, interface, queue, source.take(length, what), *reason)
+        number += 1
+
+
+def write_stream(frames, magic, put):
+    form, lost = FORMS[magic], False
+    put(magic)
+    for number, frame in enumerate(frames):
+        reason = [frame.reason] if magic == b"XPF2" else []
+        lost = lost or (frame.reason != 0 and not reason)
+        if len(frame.body) > form.most:
+            if reason:
+                tell(f"frame {number} has {len(frame.body)} bytes, more than {form.most}: an empty one with the reason {TOO_LONG} stands in its place")
+                put(struct.pack(form.head, frame.time, frame.interface, frame.queue, 0, TOO_LONG))
+            else:
+                tell(f"frame {number} is left out: it has {len(frame.body)} bytes, more than {form.most}")
+        else:
+            put(struct.pack(form.head, frame.time, frame.interface, frame.queue, len(frame.body), *reason) + frame.body)
+    if lost:
+        tell("this form of frame streams has no reasons: they are lost (--reasons keeps them)")
+
+
+def write_first_form(frames, put):
+    write_stream(frames, b"XPF1", put)
+
+
+def write_second_form(frames, put):
+    write_stream(frames, b"XPF2", put)
+
+
+FORMATS = {b"XPF1": write_first_form, b"XPF2": write_second_form}
+
+
+# ---- link types
+
+def ethernet(link, body, interface):
+    """The Ethernet frame that a captured one is, and its interface."""
+    if link == SLL and len(body) >= 16:
+        return bytes(6) + body[6:12] + body[14:], interface
+    if link == SLL2 and len(body) >= 20:
+        return bytes(6) + body[12:18] + body[:2] + body[20:], struct.unpack_from(">I", body, 4)[0]
+    return body, interface
+
+
+def known(link, what):
+    if link not in (ETHERNET, SLL, SLL2):
+        raise Damaged(f"{what} link type is {link}; Ethernet (1), SLL (113) and SLL2 (276) are read")
+    return link
+
+
+# ---- pcap
+
+PCAP = {b"\xa1\xb2\xc3\xd4": (">", 1000), b"\xd4\xc3\xb2\xa1": ("<", 1000),
+        b"\xa1\xb2\x3c\x4d": (">", 1), b"\x4d\x3c\xb2\xa1": ("<", 1)}
+
+
+def read_pcap(source, counts):
+    head = source.take(24, "its head")
+    order, unit = PCAP[head[:4]]
+    link = known(struct.unpack_from(order + "I", head, 20)[0] & 0xffff, "its")
+    number = 0
+    while not source.is_at_end():
+        what = f"frame {number}"
+        seconds, fraction, length, whole = source.unpack(order + "IIII", what)
+        body, interface = ethernet(link, source.take(length, what), 0)
+        yield Frame(seconds * SECOND + fraction * unit, interface, 0, body)
+        counts["cut"] += length < whole
+        number += 1
+
+
+def write_pcap(frames, put):
+    put(struct.pack("<IHHiIII", 0xa1b23c4d, 2, 4, 0, 0, 0x40000, ETHERNET))
+    places = reasons = False
+    for number, frame in enumerate(frames):
+        if frame.time >= SECOND << 32:
+            raise Damaged(f"frame {number} has time {frame.time}, which no pcap holds")
+        size = len(frame.body)
+        put(struct.pack("<IIII", frame.time // SECOND, frame.time % SECOND, size, size) + frame.body)
+        places, reasons = places or frame.interface or frame.queue, reasons or frame.reason
+    if places:
+        tell("a pcap has no interfaces and no queues: they are lost (a pcapng keeps the interfaces)")
+    if reasons:
+        tell("a pcap has no reasons: they are lost (a pcapng keeps them)")
+
+
+# ---- pcapng
+
+SECTION, INTERFACE, SIMPLE, ENHANCED = 0x0A0D0D0A, 1, 3, 6
+END, COMMENT, RESOLUTION = 0, 1, 9      # options of blocks
+
+
+def options_of(order, options):
+    """The code and the bytes of each option at the end of a block."""
+    at = 0
+    while at + 4 <= len(options):
+        code, length = struct.unpack_from(order + "HH", options, at)
+        if code == END:
+            break
+        yield code, options[at + 4:at + 4 + length]
+        at += 4 + (length + 3) // 4 * 4
+
+
+def ticks_of(order, options):
+    """How many ticks a second the times of an interface have: 1,000,000 where no option says another number."""
+    for code, value in options_of(order, options):
+        if code == RESOLUTION and len(value) == 1:
+            return 1 << (value[0] & 127) if value[0] & 128 else 10**value[0]
+    return 10**6
+
+
+def reason_of(order, options):
+    """The reason that a packet's comment tells: `reason 7`."""
+    for code, value in options_of(order, options):
+        told = code == COMMENT and re.fullmatch(rb"reason ([0-9]{1,10})", value)
+        if told and int(told[1]) < 1 << 32:
+            return int(told[1])
+    return 0
+
+
+def read_pcapng(source, counts):
+    order, interfaces, number = "<", [], 0
+    while not source.is_at_end():
+        what = f"the block at byte {source.at}, after {number} frames"
+        head = source.take(8, what)
+        if head[:4] == b"\x0a\x0d\x0d\x0a":
+            order, interfaces = (">" if source.look(4) == b"\x1a\x2b\x3c\x4d" else "<"), []
+        kind, size = struct.unpack(order + "II", head)
+        if size < 12 or size % 4:
+            raise Damaged(f"{what} has the length {size}")
+        block = source.take(size - 8, what)[:-4]
+        if kind == INTERFACE:
+            link, _, snap = unpack(order + "HHI", block, 0, what)
+            interfaces.append((link, ticks_of(order, block[8:]), snap))
+        elif kind in (SIMPLE, ENHANCED):
+            yield packet(kind, order, block, interfaces, what, counts)
+            number += 1
+
+
+def packet(kind, order, block, interfaces, what, counts):
+    number, time = 0, 0
+    if kind == ENHANCED:
+        number, high, low, length, whole = unpack(order + "IIIII", block, 0, what)
+        time, start = high << 32 | low, 20
+    if number >= len(interfaces):
+        raise Damaged(f"{what} is of interface {number}, and there are {len(interfaces)}")
+    link, ticks, snap = interfaces[number]
+    if kind == SIMPLE:
+        whole, start = unpack(order + "I", block, 0, what)[0], 4
+        length = min(whole, snap or whole, len(block) - start)
+    known(link, f"interface {number}'s")
+    if start + length > len(block):
+        raise Damaged(f"{what} is too short")
+    body, number = ethernet(link, block[start:start + length], number)
+    reason = reason_of(order, block[start + (length + 3) // 4 * 4:]) if kind == ENHANCED else 0
+    counts["cut"] += length < whole
+    return Frame(time * SECOND // ticks, number, 0, body, reason)
+
+
+def write_pcapng(frames, put):
+    def block(kind, body):
+        return struct.pack("<II", kind, 12 + len(body)) + body + struct.pack("<I", 12 + len(body))
+
+    def padded(data):
+        return data + bytes(-len(data) % 4)
+
+    def comment(text):
+        return struct.pack("<HH", COMMENT, len(text)) + padded(text) + struct.pack("<HH", END, 0)
+
+    put(block(SECTION, struct.pack("<IHHq", 0x1a2b3c4d, 1, 0, -1)))
+    row = block(INTERFACE, struct.pack("<HHI", ETHERNET, 0, 0) + struct.pack("<HHB3xHH", RESOLUTION, 1, 9, END, 0))
+    put(row)
+    described, queues = 1, False
+    for frame in frames:
+        if frame.interface >= 65536:
+            raise Damaged(f"interface {frame.interface} is too large for a capture; give another one by --interface")
+        while described <= frame.interface:
+            put(row)
+            described += 1
+        size = len(frame.body)
+        head = struct.pack("<IIIII", frame.interface, frame.time >> 32, frame.time & 0xffffffff, size, size)
+        told = comment(b"reason %d" % frame.reason) if frame.reason else b""
+        put(block(ENHANCED, head + padded(frame.body) + told))
+        queues = queues or frame.queue
+    if queues:
+        tell("a pcapng has no queues: they are lost")
+
+
+# ---- text
+
+HEAD = re.compile(r"frame (\d+)(?: interface (\d+))?(?: queue (\d+))?(?: reason (\d+))?")
+
+
+def read_text(source, counts):
+    try:
+        lines = source.rest().decode("utf-8").splitlines()
+    except UnicodeDecodeError:
+        raise Damaged("it is no pcap, no pcapng, no frame stream and no text") from None
+    frames = []
+    for number, line in enumerate(lines, 1):
+        words = line.split("#")[0].split("|")[0].strip()
+        head = HEAD.fullmatch(words)
+        if head:
+            time, interface, queue, reason = (int(number or 0) for number in head.groups())
+            frames.append(Frame(time, interface, queue, b"", reason))
+        elif words:
+            try:
+                more = bytes.fromhex(re.sub(r"^[0-9a-f]+:", "", words))
+                frames[-1] = frames[-1]._replace(body=frames[-1].body + more)
+            except (ValueError, IndexError):
+                raise Damaged(f"line {number} is neither a frame's first line nor bytes of one: {line.strip()[:60]}") from None
+    for number, frame in enumerate(frames):
+        if frame.time >> 64 or frame.interface >> 32 or frame.queue >> 32 or frame.reason >> 32:
+            raise Damaged(f"frame {number} has a number that is too large")
+    yield from frames
+
+
+def write_text(frames, put):
+    for frame in frames:
+        reason = f" reason {frame.reason}" if frame.reason else ""
+        lines = [f"frame {frame.time} interface {frame.interface} queue {frame.queue}{reason}"]
+        for at in range(0, len(frame.body), 16):
+            row = frame.body[at:at + 16]
+            shown = "".join(chr(byte) if 32 <= byte < 127 else "." for byte in row)
+            lines.append(f"  {at:04x}: {row.hex(' '):47} |{shown}|")
+        put("".join(line + "\n" for line in lines).encode())
+
+
+# ---- files
+
+def opened(path):
+    """The file of that name, unpacked where it is packed."""
+    source = Source(sys.stdin.buffer if path == "-" else open(path, "rb"))
+    if source.look(2) == b"\x1f\x8b":
+        source.begin, begin = b"", source.begin
+        source = Source(gzip.GzipFile(fileobj=Joined(begin, source.file)))
+    return source
+
+
+class Joined:
+    """Some bytes, and the file after them."""
+
+    def __init__(self, begin, file):
+        self.begin, self.file = begin, file
+
+    def read(self, count=-1):
+        if self.begin:
+            data, self.begin = (self.begin, b"") if count < 0 else (self.begin[:count], self.begin[count:])
+            return data
+        return self.file.read(count)
+
+
+def reader_of(source):
+    """What reads a file, by its first bytes, and whether it is a frame stream."""
+    begin = source.look(4)
+    if begin in FORMS:
+        return read_stream, True
+    if begin in PCAP:
+        return read_pcap, False
+    return (read_pcapng if begin == b"\x0a\x0d\x0d\x0a" else read_text), False
+
+
+def number(word):
+    """A number of 32 bits."""
+    if not re.fullmatch("[0-9]{1,10}", word) or int(word) >> 32:
+        raise argparse.ArgumentTypeError("a number from 0 to 4294967295 is wanted")
+    return int(word)
+
+
+def writer_for(out, kind, is_stream, has_reasons):
+    """What writes the file of that name."""
+    write_frames = write_second_form if has_reasons else write_first_form
+    by_name = {"pcap": write_pcap, "pcapng": write_pcapng, "frames": write_frames, "txt": write_text}
+    kind = kind or os.path.splitext(out)[1][1:]
+    if kind not in by_name:
+        if is_stream:
+            raise Damaged("what it is to become does not follow from its name: let it end in .pcap, .pcapng, .frames or .txt, or give --to KIND")
+        kind = "frames"
+    return by_name[kind]
+
+
+def frames_of(source, words, state):
+    """The frames of a file, as they are asked for; `state` gets what was met at its end."""
+    read, _ = reader_of(source)
+    try:
+        for frame in read(source, state):
+            if words.interface is not None:
+                frame = frame._replace(interface=words.interface)
+            if words.queue is not None:
+                frame = frame._replace(queue=words.queue)
+            yield frame
+    except Cut as why:
+        state["ends"] = str(why)
+    except (OSError, EOFError) as why:
+        if not isinstance(source.file, gzip.GzipFile):
+            raise
+        state["ends"] = str(why)
+
+
+def convert(words, source, state):
+    if words.show:
+        write_text(frames_of(source, words, state), sys.stdout.buffer.write)
+        sys.stdout.buffer.flush()
+        return
+    out = words.files[1]
+    write = writer_for(out, words.to, reader_of(source)[1], words.reasons)
+    if out == "-":
+        write(frames_of(source, words, state), sys.stdout.buffer.write)
+        sys.stdout.buffer.flush()
+    else:
+        with open(out, "wb") as file:
+            try:
+                write(frames_of(source, words, state), file.write)
+            except Damaged:
+                if os.path.isfile(out):
+                    os.remove(out)
+                raise
+
+
+def main():
+    parser = argparse.ArgumentParser(description=__doc__, formatter_class=argparse.RawDescriptionHelpFormatter,
+                                     usage="python3 tools/frames.py [--to KIND] [--interface N] [--queue N] [--reasons] [--strict] IN OUT\n"
+                                           "       python3 tools/frames.py [--strict] --show IN")
+    parser.add_argument("--show", action="store_true", help="print IN as text")
+    parser.add_argument("--to", choices=["pcap", "pcapng", "frames", "txt"], help="what OUT is to be, whatever its name")
+    parser.add_argument("--interface", type=number, help="of all frames")
+    parser.add_argument("--queue", type=number, help="of all frames")
+    parser.add_argument("--reasons", action="store_true", help="a frame stream of the second form")
+    parser.add_argument("--strict", action="store_true", help="status 1 where IN ends in the middle of a frame")
+    parser.add_argument("files", nargs="+", metavar="FILE")
+    words = parser.parse_args()
+    if len(words.files) != (1 if words.show else 2):
+        parser.error("--show takes one file, and else there are two")
+    state = collections.Counter()
+    state["path"] = words.files[0]
+    try:
+        if not words.show and words.files[1] != "-" and os.path.exists(words.files[1]) and os.path.exists(words.files[0]) \
+                and os.path.samefile(*words.files):
+            raise Damaged("it would be written over while it is read")
+        convert(words, opened(words.files[0]), state)
+    except BrokenPipeError:
+        os.dup2(os.open(os.devnull, os.O_WRONLY), 1)
+        sys.exit(1)
+    except OSError as error:
+        sys.exit(f"{error.filename or state['path']}: {error.strerror or error}")
+    except Damaged as error:
+        sys.exit(f"{state['path']}: {error}")
+    if state["cut"]:
+        tell(f"{state['cut']} frames were cut when they were captured: only those bytes are here")
+    if state["ends"]:
+        tell(f"{words.files[0]}: {state['ends']}: the whole frames before it were read")
+        sys.exit(1 if words.strict else 0)
+
+
+if __name__ == "__main__":
+    main()

@@ -1,0 +1,341 @@
+#!/usr/bin/env python3
+"""Compares xdpvm with the Linux kernel that runs here: the verdict on an image, and the runs of its program on frames.
+
+usage: python3 tools/kernel.py IMAGE FRAMES [--program XDPVM] [--plain] [--log LINES]
+
+The image's maps are made in the kernel and its program is loaded there, by bpf(2); nothing is attached or pinned, and all
+is closed at the end. The program runs on each frame of FRAMES (a frame stream, or a capture that frames.py reads) by the
+kernel's test run, and by `xdpvm run`. Printed are both verdicts, and where they run alike or not: for each frame the action
+and the bytes after the run, and at the end the entries of the maps.
+
+The kernel's test run takes frames of 14 to 3,520 bytes that came in on interface 1, queue 0: other lengths are left out,
+and all frames are given that interface and queue. Helper 5 reads another clock there, so programs that call it may differ.
+With --plain the kernel loads the program without CAP_PERFMON, so under the stricter rules of its verifier (no leaks of
+pointers, no reads of bytes of the stack that were not written), which are those of xdpvm. --log prints the last lines of
+the kernel's verifier log.
+
+examples:
+    sudo python3 tools/kernel.py examples/firewall.image examples/firewall.frames --program crates/xdpvm/out/xdpvm
+    sudo python3 tools/kernel.py filter.image traffic.pcapng --plain --log 20
+
+The exit status is 0 where verdicts and runs are alike, 1 where not, 2 if the command is wrong, and 77 where bpf(2) cannot
+be used: it needs Linux on x86-64 and root.
+"""
+import argparse
+import ctypes
+import errno
+import os
+import re
+import shutil
+import struct
+import subprocess
+import sys
+import tempfile
+
+HERE = os.path.dirname(os.path.abspath(__file__))
+SYS_BPF, SYS_CAPSET = 321, 126
+MAP_CREATE, MAP_LOOKUP, MAP_NEXT, PROG_LOAD, TEST_RUN = 0, 1, 4, 5, 10
+XDP = 6
+CAP_NET_ADMIN, CAP_SYS_RESOURCE, CAP_BPF = 12, 24, 39
+ACTIONS = ["ABORTED", "DROP", "PASS", "TX", "REDIRECT"]
+LEAST, MOST = 14, 3520
+LOG_BYTES = 1 << 24
+libc = ctypes.CDLL(None, use_errno=True)
+
+
+class NoKernel(Exception):
+    """bpf(2) cannot be used here."""
+
+
+def call(command, attributes):
+    """bpf(2): the result, or minus the error number, and the attributes after the call."""
+    room = ctypes.create_string_buffer(attributes, 144)
+    result = libc.syscall(SYS_BPF, command, room, 144)
+    return (result if result >= 0 else -ctypes.get_errno()), room.raw
+
+
+def without_perfmon():
+    """This process keeps CAP_BPF, CAP_NET_ADMIN and CAP_SYS_RESOURCE, and no other capability."""
+    with open("/proc/self/status") as status:
+        has = int(next(it for it in status if it.startswith("CapPrm")).split()[1], 16)
+    bits = has & (1 << CAP_NET_ADMIN | 1 << CAP_SYS_RESOURCE | 1 << CAP_BPF)
+    low, high = bits & 0xFFFFFFFF, bits >> 32
+    header = struct.pack("<Ii", 0x20080522, 0)
+    if libc.syscall(SYS_CAPSET, header, struct.pack("<6I", low, low, 0, high, high, 0)) != 0:
+        raise NoKernel(f"capset: {os.strerror(ctypes.get_errno())}")
+
+
+# ---- images and frames
+
+
+def parsed(image):
+    """The map rows and the slots of an image."""
+    magic, maps, slots = struct.unpack_from("<4sHH", image)
+    if magic not in (b"XBP1", b"XBP2") or len(image) != 8 + 12 * maps + 8 * slots:
+        raise ValueError("this is no image")
+    rows = [struct.unpack_from("<HHII", image, 8 + 12 * k) for k in range(maps)]
+    at = 8 + 12 * maps
+    return rows, [image[at + 8 * k : at + 8 * k + 8] for k in range(slots)]
+
+
+def records(stream):
+    """Time and body of each record of a frame stream without a reason."""
+    form, at, found = stream[:4], 4, []
+    if form not in (b"XPF1", b"XPF2"):
+        raise ValueError("this is no frame stream")
+    head = 20 if form == b"XPF1" else 24
+    while at + head <= len(stream):
+        time, _, _, length = struct.unpack_from("<QIII", stream, at)
+        reason = 0 if head == 20 else struct.unpack_from("<I", stream, at + 20)[0]
+        if reason == 0:
+            found.append((time, stream[at + head : at + head + length]))
+        at += head + length
+    return found
+
+
+def stream_of(frames):
+    """A stream with reasons of these frames, each from interface 1 and queue 0."""
+    return b"XPF2" + b"".join(struct.pack("<QIIII", time, 1, 0, len(body), 0) + body for time, body in frames)
+
+
+# ---- the kernel
+
+
+class Kernel:
+    """A program in the kernel with its maps. `refusal` is None, or the log of its refusal. With `counts` an accepted one has
+    the kernel's counts in its log."""
+
+    def __init__(self, image, counts=False):
+        self.rows, slots = parsed(image)
+        self.files, self.refusal, self.log, self.counts = [], None, b"", counts
+        try:
+            self.maps = [self.made(*row) for row in self.rows]
+            self.program = self.loaded(b"".join(self.linked(slots)))
+        except BaseException:
+            self.close()
+            raise
+
+    def made(self, kind, key, value, entries):
+        result, _ = call(MAP_CREATE, struct.pack("<IIIII", kind, key, value, entries, 0))
+        if result < 0:
+            if result in (-errno.EPERM, -errno.ENOSYS):
+                raise NoKernel(f"bpf(2): {os.strerror(-result)}")
+            raise OSError(-result, "a map cannot be made in the kernel")
+        self.files.append(result)
+        return result
+
+    def processed(self):
+        """How many instructions the kernel's verifier processed, in words, if its log says it."""
+        found = re.search(rb"processed (\d+) insns", self.log)
+        return f", {int(found[1]):,} instructions processed" if found else ""
+
+    def linked(self, slots):
+        """The slots, with the maps' file descriptors in place of their indexes."""
+        wide = False
+        for slot in slots:
+            opcode, registers, offset, imm = struct.unpack("<BBhi", slot)
+            kind = registers >> 4
+            if opcode == 0x18 and not wide and kind in (5, 6):
+                slot = struct.pack("<BBhi", opcode, registers & 15 | (1 if kind == 5 else 2) << 4, offset, self.maps[imm])
+            wide = opcode == 0x18 and not wide
+            yield slot
+
+    def loaded(self, code):
+        room, license = ctypes.create_string_buffer(code, len(code)), ctypes.create_string_buffer(b"GPL")
+        words = (XDP, len(code) // 8, ctypes.addressof(room), ctypes.addressof(license))
+        for level in (4 if self.counts else 0, 1):
+            log = ctypes.create_string_buffer(LOG_BYTES if level else 1)
+            seen = (level, LOG_BYTES, ctypes.addressof(log)) if level else (0, 0, 0)
+            result, _ = call(PROG_LOAD, struct.pack("<IIQQIIQI", *words, *seen, 0))
+            if result >= 0:
+                self.files.append(result)
+                self.log = log.value
+                return result
+        self.log = log.value
+        self.refusal = last_words(self.log) or os.strerror(-result)
+        return None
+
+    def run(self, body):
+        """The kernel's answer on a frame, and its bytes after the run; None if it takes no such frame."""
+        if not LEAST <= len(body) <= MOST:
+            return None
+        given, taken = ctypes.create_string_buffer(body, len(body)), ctypes.create_string_buffer(8192)
+        words = (self.program, 0, len(body), 8192, ctypes.addressof(given), ctypes.addressof(taken), 1, 0)
+        result, after = call(TEST_RUN, struct.pack("<IIIIQQII", *words))
+        if result < 0:
+            raise OSError(-result, "the kernel's test run")
+        answer, _, length = struct.unpack_from("<III", after, 4)
+        return answer, taken.raw[:length]
+
+    def entries(self):
+        """The entries of each map, as `xdpvm run` reports them: (index, key, value)."""
+        found = []
+        for index, (row, file) in enumerate(zip(self.rows, self.maps)):
+            _, size, room, _ = row
+            key, value = None, ctypes.create_string_buffer(room)
+            after = ctypes.create_string_buffer(size)
+            keys = []
+            while True:
+                before = ctypes.addressof(key) if key is not None else 0
+                result, _ = call(MAP_NEXT, struct.pack("<IIQQ", file, 0, before, ctypes.addressof(after)))
+                if result < 0:
+                    break
+                keys.append(after.raw)
+                key = ctypes.create_string_buffer(after.raw, size)
+            for it in keys:
+                key = ctypes.create_string_buffer(it, size)
+                call(MAP_LOOKUP, struct.pack("<IIQQQ", file, 0, ctypes.addressof(key), ctypes.addressof(value), 0))
+                found.append((index, it, value.raw))
+        return sorted(found) if all(row[0] == 1 for row in self.rows) else found
+
+    def close(self):
+        for file in self.files:
+            os.close(file)
+        self.files = []
+
+    def __enter__(self):
+        return self
+
+    def __exit__(self, *_):
+        self.close()
+
+
+def last_words(log):
+    """The line of a verifier log that says why: the last one before its counts."""
+    loop = re.search(rb"infinite loop detected at insn \d+", log)
+    if loop:
+        return loop[0].decode()
+    dumps = ("processed ", "verification time", "stack depth", "mark_precise", "cur state", "old state", "from ", "R", "fp", ";")
+    lines = [it for it in log.decode(errors="replace").splitlines() if it and not it[0].isdigit()]
+    said = [it for it in lines if not it.startswith(dumps) or it.startswith("R") and "=" not in it]
+    return said[-1] if said else ""
+
+
+# ---- xdpvm
+
+
+class Ran:
+    """What `xdpvm` says of an image: its verdict, and the report and the frames after a run."""
+
+    def __init__(self, program, image, frames):
+        verdict = subprocess.run([program, "verify", image], capture_output=True, text=True)
+        self.verdict = verdict.stdout.strip() or verdict.stderr.strip()
+        self.accepted = verdict.returncode == 0
+        self.rows, self.bodies, self.entries = [], [], []
+        if self.accepted and frames is not None:
+            self.run(program, image, frames)
+
+    def run(self, program, image, frames):
+        with tempfile.TemporaryDirectory() as folder:
+            given, sent = f"{folder}/in", f"{folder}/out"
+            with open(given, "wb") as file:
+                file.write(stream_of(frames))
+            report = subprocess.run([program, "run", image, given, sent], capture_output=True, text=True).stdout
+            with open(sent, "rb") as file:
+                bodies = [body for _, body in whole(file.read())]
+        for line in report.splitlines():
+            words = line.split()
+            if words[0] == "map":
+                self.entries.append((int(words[1]), bytes.fromhex(words[2]), bytes.fromhex(words[3])))
+            elif words[0] not in ("end", "fault"):
+                self.rows.append(words)
+        self.bodies = bodies
+
+
+def whole(stream):
+    """Time and body of each record of a stream with reasons."""
+    at, found = 4, []
+    while at < len(stream):
+        time, _, _, length, _ = struct.unpack_from("<QIIII", stream, at)
+        found.append((time, stream[at + 24 : at + 24 + length]))
+        at += 24 + length
+    return found
+
+
+def action_of(answer):
+    return ACTIONS[answer] if answer < len(ACTIONS) else "INVALID"
+
+
+def differences(kernel, ran, frames):
+    """Where the runs differ, a line each; and how many frames were run by both."""
+    found, both = [], 0
+    if len(ran.rows) != len(frames) or len(ran.bodies) != len(frames):
+        return [f"xdpvm ran {len(ran.rows)} frames of {len(frames)}"], 0
+    for number, ((_, body), row, after) in enumerate(zip(frames, ran.rows, ran.bodies)):
+        answered = kernel.run(body)
+        if answered is None:
+            return found + [f"frame {number} has {len(body)} bytes: the kernel's test run takes {LEAST} to {MOST}"], both
+        both += 1
+        if action_of(answered[0]) != row[1]:
+            found.append(f"frame {number}: xdpvm {row[1]}, the kernel {action_of(answered[0])} ({answered[0]})")
+        if answered[1] != after:
+            at = next((k for k, (a, b) in enumerate(zip(answered[1], after)) if a != b), min(len(answered[1]), len(after)))
+            found.append(f"frame {number}: the bytes differ at {at}: xdpvm {after[at:at + 8].hex()}, the kernel {answered[1][at:at + 8].hex()}")
+    ours, theirs = sorted(ran.entries), sorted(kernel.entries())
+    if ours != theirs:
+        one = next((it for it in ours + theirs if (it in ours) != (it in theirs)))
+        found.append(f"map {one[0]}: the entry {one[1].hex()} {one[2].hex()} is {'of xdpvm' if one in ours else 'of the kernel'} alone")
+    return found, both
+
+
+# ---- the command
+
+
+def frames_in(path):
+    """The frames of a stream or a capture that fit the kernel's test run, and how many were left out."""
+    with open(path, "rb") as file:
+        content = file.read()
+    if content[:4] not in (b"XPF1", b"XPF2"):
+        with tempfile.TemporaryDirectory() as folder:
+            made = f"{folder}/made.frames"
+            if subprocess.run([sys.executable, f"{HERE}/frames.py", path, made]).returncode:
+                raise ValueError(f"{path} is no frame stream and no capture")
+            with open(made, "rb") as file:
+                content = file.read()
+    found = records(content)
+    fit = [it for it in found if LEAST <= len(it[1]) <= MOST]
+    return fit, len(found) - len(fit)
+
+
+def main():
+    parser = argparse.ArgumentParser(description=__doc__, formatter_class=argparse.RawDescriptionHelpFormatter,
+                                     usage=__doc__.split("usage: ")[1].splitlines()[0])
+    parser.add_argument("image")
+    parser.add_argument("frames")
+    parser.add_argument("--program", default=os.environ.get("XDPVM", "xdpvm"))
+    parser.add_argument("--plain", action="store_true")
+    parser.add_argument("--log", type=int, default=0)
+    given = parser.parse_args()
+    if not shutil.which(given.program):
+        print(f"kernel.py: there is no program {given.program}", file=sys.stderr)
+        return 2
+    try:
+        with open(given.image, "rb") as file:
+            image = file.read()
+        frames, left_out = frames_in(given.frames)
+        ran = Ran(given.program, given.image, frames)
+        if given.plain:
+            without_perfmon()
+        with Kernel(image, counts=True) as kernel:
+            print(f"xdpvm:  {ran.verdict}")
+            print(f"kernel: {'ok' if kernel.refusal is None else 'refused: ' + kernel.refusal}{kernel.processed()}")
+            if given.log and kernel.log:
+                print(*kernel.log.decode(errors="replace").splitlines()[-given.log :], sep="\n")
+            if ran.accepted != (kernel.refusal is None):
+                return 1
+            if not ran.accepted:
+                return 0
+            found, both = differences(kernel, ran, frames)
+            print(f"frames: {both} run by both, {left_out} left out; {'alike' if not found else 'not alike'}")
+            print(*found[:20], sep="\n", end="\n" if found else "")
+            return 1 if found else 0
+    except NoKernel as error:
+        print(f"kernel.py: {error}: this needs Linux on x86-64 and root", file=sys.stderr)
+        return 77
+    except (OSError, ValueError, struct.error) as error:
+        print(f"kernel.py: {error}", file=sys.stderr)
+        return 2
+
+
+if __name__ == "__main__":
+    sys.exit(main())

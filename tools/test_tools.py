@@ -1,0 +1,178 @@
+#!/usr/bin/env python3
+"""Tests of frames.py, image.py and xdp.py: forms, and what is damaged. In the gate; `python3 tools/test_tools.py` runs them.
+
+Captures and objects are cut at each byte and changed byte by byte: the answer is a message, never a traceback.
+"""
+import collections
+import glob
+import io
+import os
+import struct
+import sys
+import unittest
+
+HERE = os.path.dirname(os.path.abspath(__file__))
+sys.path.insert(0, HERE)
+sys.dont_write_bytecode = True
+import frames
+import image
+import xdp
+
+EXAMPLES = os.path.join(HERE, "../examples")
+
+
+def content(name):
+    with open(os.path.join(EXAMPLES, name), "rb") as file:
+        return file.read()
+
+
+def frames_in(data):
+    """The frames of a file's bytes, and why reading ended early: None, or an error of frames.py."""
+    source, found = frames.Source(io.BytesIO(data)), []
+    try:
+        for one in frames.reader_of(source)[0](source, collections.Counter()):
+            found.append(one)
+    except frames.Damaged as why:
+        return found, why
+    return found, None
+
+
+def written(write, found):
+    out = []
+    write(iter(found), out.append)
+    return b"".join(out)
+
+
+class Frames(unittest.TestCase):
+    def setUp(self):
+        self.said, frames.tell = [], lambda message: self.said.append(message)
+
+    def test_stored_captures_are_the_stored_streams(self):
+        for path in sorted(glob.glob(f"{EXAMPLES}/*.pcapng")):
+            found, why = frames_in(content(os.path.basename(path)))
+            self.assertIsNone(why)
+            with self.subTest(path):
+                stream = content(os.path.basename(path).replace(".pcapng", ".frames"))
+                self.assertEqual(written(frames.FORMATS[stream[:4]], found), stream)
+
+    def test_each_cut_gives_the_whole_frames_before_it(self):
+        whole, _ = frames_in(content("firewall.pcapng"))
+        for write in (frames.write_pcap, frames.write_pcapng, frames.write_first_form, frames.write_second_form):
+            data = written(write, whole)
+            reached = 0
+            for end in range(4, len(data)):
+                found, why = frames_in(data[:end])
+                self.assertEqual([it.body for it in found], [it.body for it in whole[:len(found)]])
+                self.assertTrue(why is None or isinstance(why, frames.Cut), why)
+                self.assertGreaterEqual(len(found), reached)
+                reached = len(found)
+            self.assertEqual(len(frames_in(data)[0]), len(whole))
+
+    def test_changed_bytes_are_an_answer(self):
+        whole = [it._replace(body=it.body[:20]) for it in frames_in(content("firewall.pcapng"))[0][:3]]
+        for write in (frames.write_pcap, frames.write_pcapng, frames.write_second_form, frames.write_text):
+            data = written(write, whole)
+            for at in range(len(data)):
+                for byte in (0, 1, 127, 128, 255):
+                    frames_in(data[:at] + bytes([byte]) + data[at + 1:])
+
+    def test_a_frame_that_is_too_long(self):
+        long, short = frames.Frame(1, 0, 0, bytes(9217)), frames.Frame(2, 0, 0, b"\1")
+        self.assertEqual(written(frames.write_first_form, [long, short]), b"XPF1" + struct.pack("<QIII", 2, 0, 0, 1) + b"\1")
+        kept = frames_in(written(frames.write_second_form, [long, short]))[0]
+        self.assertEqual([(it.body, it.reason) for it in kept], [(b"", 2**32 - 1), (b"\1", 0)])
+
+    def test_any_interface(self):
+        head = struct.pack(">HHIHBB8s", 0x0800, 0, 7, 1, 0, 6, b"\2\0\0\0\0\1\0\0")
+        data = struct.pack("<IHHiIII", 0xa1b2c3d4, 2, 4, 0, 0, 65535, frames.SLL2) + struct.pack("<IIII", 1, 2, 23, 23) + head + b"abc"
+        found, why = frames_in(data)
+        self.assertEqual((found, why), ([frames.Frame(10**9 + 2000, 7, 0, bytes(6) + b"\2\0\0\0\0\1\x08\0abc")], None))
+
+    def test_a_link_type_that_is_not_read(self):
+        data = struct.pack("<IHHiIII", 0xa1b2c3d4, 2, 4, 0, 0, 65535, 105)
+        self.assertEqual(str(frames_in(data)[1]), "its link type is 105; Ethernet (1), SLL (113) and SLL2 (276) are read")
+
+
+def elf(code, functions, called, kind, imm):
+    """An object: the section xdp with that code, .text with functions of 16 bytes, and a call at slot 0 by a relocation."""
+    names = b"\0.shstrtab\0xdp\0.text\0.symtab\0.strtab\0.relxdp\0"
+    texts, symbols = b"\0", [struct.pack("<IBBHQQ", 0, 0, 0, 0, 0, 0)]
+
+    def symbol(name, section, value, size, kind):
+        nonlocal texts
+        symbols.append(struct.pack("<IBBHQQ", len(texts), kind, 0, section, value, size))
+        texts += name.encode() + b"\0"
+
+    symbol("f", 2, 0, len(code), image.FUNCTION_SYMBOL)
+    text = b""
+    for name in functions:
+        symbol(name, 3, len(text), 16, image.FUNCTION_SYMBOL)
+        text += struct.pack("<BBhi", 0xB7, 0, 0, len(text)) + struct.pack("<BBhi", 0x95, 0, 0, 0)
+    if kind == image.FUNCTION_SYMBOL:
+        used = 2 + functions.index(called)
+    else:
+        symbol("", 3 if kind == image.SECTION_SYMBOL else 1, 0, 0, kind)
+        used = len(symbols) - 1
+    code = struct.pack("<BBhi", 0x85, 0x10, 0, imm) + code[8:]
+    bodies = [b"", names, code, text, b"".join(symbols), texts, struct.pack("<QQ", 0, used << 32 | 10)]
+    kinds = [(0, 0, 0, 0), (3, 0, 0, 0), (1, 6, 0, 0), (1, 6, 0, 0), (2, 0, 5, 24), (3, 0, 0, 0), (9, 0, 4, 16)]
+    head, at, rows = b"\x7fELF\2\1\1" + bytes(9), 64, []
+    for name, (kind, flags, link, size), body in zip((b"", b".shstrtab", b"xdp", b".text", b".symtab", b".strtab", b".relxdp"), kinds, bodies):
+        rows.append(struct.pack("<IIQQQQIIQQ", names.index(name + b"\0"), kind, flags, 0, at, len(body), link, 2 if kind == 9 else 0, 1, size))
+        at += len(body)
+    head += struct.pack("<HHIQQQIHHHHHH", 1, 247, 1, 0, 0, at, 0, 64, 0, 0, 64, len(rows), 1)
+    return head + b"".join(bodies) + b"".join(rows)
+
+
+CODE = bytes(8) + struct.pack("<BBhi", 0x95, 0, 0, 0)
+
+
+def call_in(data):
+    """The distance of the call at slot 0, and the slots of the image."""
+    made = image.made(data)
+    return struct.unpack_from("<i", made.slots, 4)[0], len(made.slots) // 8
+
+
+class Images(unittest.TestCase):
+    def test_calls_as_clang_and_gcc_write_them(self):
+        for called, at in (("a", 0), ("b", 16)):
+            by_section = elf(CODE, ["a", "b"], called, image.SECTION_SYMBOL, at // 8 - 1)          # clang, static
+            by_function = elf(CODE, ["a", "b"], called, image.FUNCTION_SYMBOL, -1)                 # clang, global
+            by_gcc = elf(CODE, ["a", "b"], called, image.FUNCTION_SYMBOL, at - 1)                  # gcc
+            for data in (by_section, by_function, by_gcc):
+                self.assertEqual(call_in(data), (1, 4))
+                self.assertEqual(struct.unpack_from("<i", image.made(data).slots, 20)[0], at)
+
+    def test_functions_that_nobody_calls_stay_out(self):
+        self.assertEqual(call_in(elf(CODE, ["a", "b", "c"], "c", image.FUNCTION_SYMBOL, -1)), (1, 4))
+
+    def test_a_call_in_another_form_is_refused(self):
+        with self.assertRaisesRegex(image.Refused, "leads to byte 8 of .text, where no function begins"):
+            image.made(elf(CODE, ["a", "b"], "a", image.SECTION_SYMBOL, 0))
+        with self.assertRaisesRegex(image.Refused, "in a form that is not known here"):
+            image.made(elf(CODE, ["a"], "a", 0, -1))
+
+    def test_damaged_objects_are_refused(self):
+        data = elf(CODE, ["a", "b"], "b", image.FUNCTION_SYMBOL, -1)
+        for end in range(len(data)):
+            with self.assertRaises(image.Refused):
+                image.made(data[:end])
+        for at in range(len(data)):
+            for byte in (0, 1, 127, 128, 255):
+                try:
+                    image.made(data[:at] + bytes([byte]) + data[at + 1:])
+                except image.Refused:
+                    pass
+
+
+class Sources(unittest.TestCase):
+    def test_slots_of_a_text(self):
+        for path in sorted(glob.glob(f"{EXAMPLES}/*.text")):
+            made = content(os.path.basename(path).replace(".text", ".image"))
+            maps, slots = struct.unpack_from("<HH", made, 4)
+            with self.subTest(path):
+                self.assertEqual(len(xdp.Source.of_text(path).slots), slots)
+
+
+if __name__ == "__main__":
+    unittest.main()
