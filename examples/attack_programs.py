@@ -193,4 +193,89 @@ def answers(chance):
     return [*lines, "exit", *(["out: r0 = 2", "exit"] if any("goto out" in line for line in lines) else [])]
 
 
-FAMILIES = {"sums": sums, "lengths": lengths, "spills": spills, "freed": freed, "frames": frames, "answers": answers}
+def reached(chance, lines, spare):
+    """Where r2 is at most `spare`, or a little more, it moves a pointer to bytes of which so many and one are spare, in the
+    packet, in a value or on the stack."""
+    size = chance.choice(list(SIZES))
+    last = spare + SIZES[size] + chance.choice([0, 0, 0, 0, -1, 1])
+    back = chance.choice([False, False, False, True])
+    move = ["r6 += r2"] if not back else [f"r6 += {spare}", "r6 -= r2"]
+    place = chance.choice([0, 0, 0, 0, -1, 1]) if back else chance.choice([0, 0, 0, 0, 0, -1])
+    at = f"*({size} *)(r6 + {place})".replace("+ -", "- ")
+    packet = ["r6 = *(u32 *)(r1 + 0)", "r3 = *(u32 *)(r1 + 4)", "r7 = r6", f"r7 += {last}", "if r7 > r3 goto out"]
+    value = ["r6 = map_val(map_by_idx(0)) + 0"]
+    base, maps = chance.choice([(packet, []), (packet, []), (value, [f"map array 4 {-(-last // 8) * 8} 1"])])
+    order = [*base, *lines] if base is value or chance.random() < 0.7 else [*lines, *base]
+    return program(maps, [*order, *move, chance.choice([f"r0 = {at}", f"{at} = r2"])], {})
+
+
+def moves(chance):
+    """Packet pointers moved by numbers on and back, with fixed moves and tests between: what is proved of the last one."""
+    lines = ["r6 = *(u32 *)(r1 + 0)", "r3 = *(u32 *)(r1 + 4)", "r2 = *(u32 *)(r1 + 12)", "r5 = *(u32 *)(r1 + 16)"]
+    near, far = chance.choice([(0, 3), (0, 7), (0, 15), (0, 31), (-4, 3), (-8, 7), (2, 9)])
+    lines += [f"r5 &= {far - near}"] + [f"r5 += {near}"] * (near != 0)
+    second = chance.choice([0, 3, 7])
+    lines += [f"r2 &= {second}"]
+    proved = chance.choice([8, 16, 24, 32, 40])
+    test = lambda of, by: ["r7 = r" + str(of), f"r7 += {by}", "if r7 > r3 goto out"]
+    step = chance.choice([0, 1, 4, 8, -2])
+    moved = chance.choice([["r6 += r5"], ["r6 += r5"], ["r6 -= r5"], ["r5 += r6", "r6 = r5"]])
+    lines += chance.choice([test(6, proved), test(6, proved), [], test(6, proved) + ["*(u64 *)(r10 - 8) = r6"]])
+    lines += [f"r6 += {step}"] * (step != 0) + moved
+    lines += chance.choice([[], [], [f"r6 += {chance.choice([1, 4, -1, -4])}"], ["r6 += r2"], ["r6 -= r2"], ["r8 = r6", "r6 += r2"]])
+    lines += chance.choice([[], [], test(6, chance.choice([1, 4, 8])), ["if r6 > r3 goto out"], ["if r6 >= r3 goto out"]])
+    size = chance.choice(list(SIZES))
+    grown = far if moved == ["r6 += r5"] else -near
+    place = chance.choice([proved - grown - step - SIZES[size], proved - grown - step - second - SIZES[size], -near - step, far - step,
+                           -SIZES[size], -step, 0]) + chance.choice([0, 0, 0, 1, -1])
+    return program([], [*lines, f"r0 = *({size} *)(r6 + {max(-64, min(64, place))})".replace("+ -", "- ")], {})
+
+
+def reversals(chance):
+    """Known bits whose bytes are reversed, at each size, from both sides."""
+    size = chance.choice([16, 32, 64])
+    byte = chance.randrange(size // 8)
+    wide = chance.choice([size // 8, size // 8, 8])
+    mask = chance.choice([7, 15, 31]) << 8 * chance.choice([byte, size // 8 - 1, size // 8 - 1, 0])
+    lines = NUMBERS + chance.choice([["r2 <<= 32", "r2 |= r3"], [], []]) + [f"r4 = {mask} ll", "r2 &= r4"]
+    lines += chance.choice([[], [], ["r2 |= 1"], [f"r5 = {1 << chance.randrange(64)} ll", "r2 |= r5"]])
+    lines += [f"r2 = {chance.choice(['be', 'bswap', 'be', 'le'])}{chance.choice([size, size, size, 8 * wide])} r2"]
+    lines += chance.choice([[], [], [f"r2 >>= {chance.choice([1, 8, size - 8])}"], [f"r2 = be{size} r2"] * 2])
+    return reached(chance, lines, chance.choice([7, 15, 31, 32]))
+
+
+def parts(chance):
+    """Numbers with limits, spilled; of a part of them, whatever is stored between, a limit is kept or not."""
+    limits = [[f"r2 &= {constant(chance, [31, 7, 0x1f00, 0x1f0000])}"], limit(chance), limit(chance), ["r2 &= 31", "r2 <<= 32"],
+              ["r2 &= 15", f"r2 <<= {chance.choice([8, 16, 24, 40, 56])}"], ["r2 = (s8)r2"]]
+    lines = NUMBERS + chance.choice([["r2 <<= 32", "r2 |= r3"], []]) + chance.choice(limits)
+    lines += ["*(u64 *)(r10 - 8) = r2"]
+    size = chance.choice(list(SIZES))
+    at = chance.choice(range(-8, 0, SIZES[size]))
+    other = chance.choice(["u8", "u16", "u32"])
+    over = chance.choice(range(-8, 0, SIZES[other]))
+    lines += chance.choice([[], [], [], [f"*({other} *)(r10 - {-over}) = r3"], ["r4 = 1", "lock *(u64 *)(r10 - 8) += r4"]])
+    lines += [f"r2 = *({size} *)(r10 - {-at})"]
+    if size != "u64":
+        lines += chance.choice([[], [], [f"r2 = *(s{size[1:]} *)(r10 - {-at})"]])
+    lines += chance.choice([[], [], ["r2 >>= 8"], ["r2 += -20"], limit(chance)])
+    return reached(chance, lines, chance.choice([7, 15, 31, 63]))
+
+
+def divisions(chance):
+    """Signed quotients and remainders by numbers near 0 and near the ends, at both widths."""
+    starts = [[], ["r2 <<= 32", "r2 |= r3"], ["r2 = (s32)r2"], ["r2 = (s8)r2"], ["r2 &= 255"], ["r2 &= 255", "r2 = -r2"],
+              ["r2 = (s8)r2", "if r2 s> 20 goto out"], ["r2 = (s16)r2", "if r2 s< -64 goto out"], [f"r2 = {-2**63} ll", "r2 += r3"]]
+    lines = NUMBERS + chance.choice(starts) + chance.choice([[], [], limit(chance)])
+    target = register(chance, 2)
+    by = constant(chance, [8, 16, 32, -8, -16, -32, 1, -1, -2**31, 2**31 - 1])
+    known = [f"{target} {chance.choice(['s/=', 's%='])} {by or 1}"]
+    held = [f"r5 = {chance.choice([by, 0, -1, 1 << 31, 2**32 - 1, -2**63])} ll", f"{target} {chance.choice(['s/=', 's%='])} {target[0]}5"]
+    some = ["r5 = r3", f"r5 &= {chance.choice([7, 15])}", f"{target} {chance.choice(['s/=', 's%='])} {target[0]}5"]
+    lines += chance.choice([known, known, known, held, some])
+    lines += chance.choice([[], [], [f"r2 += {constant(chance, [15, 16, 31, 7])}"], [f"w2 += {constant(chance, [15, 31])}"], ["r2 = -r2"]])
+    return reached(chance, lines, chance.choice([7, 15, 30, 31, 32, 63]))
+
+
+FAMILIES = {"sums": sums, "lengths": lengths, "moves": moves, "reversals": reversals, "parts": parts, "divisions": divisions,
+            "spills": spills, "freed": freed, "frames": frames, "answers": answers}

@@ -1,6 +1,7 @@
 #!/usr/bin/env python3
-"""Attacks the verifier rule by rule: sums that wrap and signs mixed, tests of the packet before and after moves, pointers
-overwritten in part, values that are gone, pointers into frames that have ended, and answers that name no action.
+"""Attacks the verifier rule by rule: sums that wrap and signs mixed, tests of the packet before and after moves, what such
+moves leave proved, bytes reversed, parts of spilled numbers, signed quotients and remainders, pointers overwritten in part,
+values that are gone, pointers into frames that have ended, and answers that name no action.
 
 usage: python3 examples/attacks.py [PROGRAM] [--programs N] [--seed S] [--jobs J] [--keep FOLDER] [--family NAME]
 

@@ -23,6 +23,15 @@ def frames(name):
     return f"{examples}/{name}.frames"
 
 
+def by_table(name):
+    """The commands on a program and its proof table, and a run by that."""
+    return [
+        ["prove", image(name), "made"],
+        ["recheck", image(name), f"{name}.table"],
+        ["run", image(name), frames(name), "made", "--table", f"{name}.table"],
+    ]
+
+
 RUNS = [
     ["trace", image("pass"), frames("two"), "made"],
     ["trace", image("guarded"), frames("cut"), "made"],
@@ -49,10 +58,27 @@ RUNS = [
     ["verify", "again.image"],
     ["verify", "lost"],
     ["walk"],
+    *by_table("allow"),
+    *by_table("reasons"),
+    ["prove", image("pass"), "made"],
+    ["prove", image("endless"), "made"],
+    ["prove", image("damaged"), "made"],
+    ["recheck", image("pass"), "step.table"],
+    ["recheck", image("pass"), "successor.table"],
+    ["recheck", image("pass"), "field.table"],
+    ["recheck", image("endless"), "pass.table"],
+    ["recheck", image("pass"), "lost"],
+    ["run", image("pass"), frames("two"), "made", "--table", "successor.table"],
+    ["run", image("pass"), frames("cut"), "made", "--table", "pass.table"],
 ]
 
 # by both machines: packets read behind a test, functions called, a map that grows
 FEW_RUNS = [[by, image(name), frames(name), "made"] for name in ("echo", "checksum", "allow") for by in ("run", "trace")]
+FEW_RUNS += by_table("echo") + [["recheck", image("pass"), f"{name}.table"] for name in ("step", "successor")]
+
+# tables of `pass` that are refused: r0 is unset at the exit, or another number; the first number is 0
+ENTRIES = "entry {} slot 0 to 1\nr1 context\nentry 1 slot 1\nr1 context\nr0 {}\n"
+REFUSED = {"step": (2, "unset"), "successor": (2, "number 3"), "field": (0, "number 2")}
 
 
 def runs_of(folder):
@@ -61,6 +87,9 @@ def runs_of(folder):
         stem, kind = os.path.splitext(os.path.join(folder, name))
         if kind == ".image":
             yield ["verify", f"{stem}.image"]
+            yield ["prove", f"{stem}.image", "made"]
+            if os.path.exists(f"{stem}.table"):
+                yield ["recheck", f"{stem}.image", f"{stem}.table"]
             if os.path.exists(f"{stem}.frames"):
                 yield ["run", f"{stem}.image", f"{stem}.frames", "made"]
                 yield ["trace", f"{stem}.image", f"{stem}.frames", "made"]
@@ -130,10 +159,12 @@ class Answer:
 
 
 def lacks_reason(found, good):
-    """What is known where a program is refused is left away, and standard error has its first two lines."""
+    """What is known where a program or an entry of a table is refused is left away, and standard error has the sentence,
+    the place, and of P7 the sentence of its V code."""
     same = (found.status, found.out, found.made) == (good.status, good.out, good.made)
-    two = b"".join(good.err.splitlines(keepends=True)[:2])
-    return same and good.out.startswith(b"refused V") and found.err == two
+    lines = good.err.splitlines(keepends=True)
+    kept = lines[:2] + (lines[3:4] if good.out.startswith(b"refused P7") else [])
+    return same and good.out.startswith((b"refused V", b"refused P7", b"refused P8")) and found.err == b"".join(kept)
 
 
 def of_memory(words, found, good):
@@ -145,13 +176,17 @@ def of_memory(words, found, good):
 
 
 def of_read(words, found, good):
-    if found.status == 4 and found.message() == f"cannot read {words[1]}".encode() and found.is_quiet():
+    named = [words[1]] + ([words[-1]] if words[0] == "recheck" or "--table" in words else [])
+    if found.status == 4 and found.message() in [f"cannot read {name}".encode() for name in named] and found.is_quiet():
         return "status 4"
     if found.status != 3 or found.err:
         return None
     *lines, last = found.out.splitlines()
     of_frames = [line for line in lines if not line.startswith(b"map ")]
-    begun = good.out.splitlines()[:len(of_frames)] == of_frames and (good.made or b"").startswith(found.made or b"")
+    made = found.made or b""
+    # where the magic of the frames was not read, the frames out are of the first form
+    begun = (good.made or b"").startswith(made) or (last == b"fault F5 at 0" and made == b"XPF1")
+    begun = begun and good.out.splitlines()[:len(of_frames)] == of_frames
     whole = lines[len(of_frames):] == map_lines(words, len(of_frames))
     return "status 3, F5" if last.startswith(b"fault F5 at ") and begun and whole else None
 
@@ -172,7 +207,8 @@ ALLOWED = dict(zip(KINDS, (of_memory, of_memory, of_read, of_write, of_write, of
 
 
 def takes_memory_late(words, good):
-    """Whether a run asks for memory once it has written a byte, or answers otherwise where all of it is refused then."""
+    """Whether a run asks for memory once it has written a byte, or answers otherwise where all of it is refused then. What
+    is known of a program that is refused is looked for after the refusal is written, so that is no run."""
     found = Answer(words, "late-allocs", 1)
     return found.reached or not found.is_as(good)
 
@@ -199,6 +235,17 @@ def comes_at_once():
     return begun and first + rest == good.out and made == good.made
 
 
+def make_tables():
+    """The proof tables of some programs, and tables that are refused."""
+    for name in ("pass", "echo", "allow", "reasons"):
+        Answer(["prove", image(name), "made"])
+        os.rename("made", f"{name}.table")
+    for name, fields in REFUSED.items():
+        with open("table.text", "w") as it:
+            it.write(ENTRIES.format(*fields))
+        subprocess.run(["python3", f"{examples}/../tools/table.py", "make", "table.text", f"{name}.table"], check=True)
+
+
 def main():
     os.chdir(work)
     with open("right.text", "w") as it:
@@ -208,15 +255,17 @@ def main():
     with open("again.text", "w") as it:
         it.write("again: r6 = *(u32 *)(r1 + 12)\nif r6 != 0 goto again\nr0 = 2\nexit\n")
     Answer(["asm", "again.text", "again.image"])
+    make_tables()
     given, wrong = Counter(), 0
     if not comes_at_once():
         wrong += 1
         print("WRONG the first line or the magic did not come before the second frame", flush=True)
     runs = [words for folder in folders for words in runs_of(folder)] or (FEW_RUNS if few else RUNS)
-    late = [words for words in runs if words[0] in ("run", "trace") and takes_memory_late(words, Answer(words))]
-    for words in late:
-        wrong += 1
-        print("WRONG memory was asked for after the first byte", words, flush=True)
+    for words in runs:
+        good = Answer(words)
+        if words[0] in ("run", "trace") and good.status != 2 and takes_memory_late(words, good):
+            wrong += 1
+            print("WRONG memory was asked for after the first byte", words, flush=True)
     for words, stored in itertools.product(runs, (False, True)):
         good = Answer(words, stored=stored)
         for kind in FEW_KINDS if few else KINDS:

@@ -1,11 +1,12 @@
 #!/bin/bash
 # Tries to break the program from outside: makes each allocation, each read and each write fail in turn, and each read
 # and write move only one byte in turn, for every command on the examples here. README.md says which answers are allowed;
-# the last line says how many were tried. It takes about a minute.
+# the last line says how many were tried. It takes some minutes.
 # usage: bash examples/break.sh [--few] [PROGRAM [FOLDER]]
 # Without PROGRAM it takes the one that `rt run` keeps, and proves and builds it first if there is none. With FOLDER it
-# takes what is there: NAME.image, with NAME.frames if there are some, and NAME.text. With --few it takes three programs,
-# and each allocation, read and write in turn; that is a matter of seconds, and the gate does it.
+# takes what is there: NAME.image, with NAME.frames and NAME.table if there are some, and NAME.text. With --few it takes
+# three programs and some proof tables, and each allocation, read and write in turn; that takes seconds, and the gate
+# does it.
 set -eu
 here=$(cd "$(dirname "$0")" && pwd)
 few=()

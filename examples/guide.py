@@ -13,22 +13,28 @@ The first word after the backquotes of a code block says how the block is tried:
     trace       a program text; the first frame of examples/two.frames, traced, has the line that the comment says
     image       an image in hexadecimal; `verify` answers what the comment says
     stream      a frame stream in hexadecimal; the report of examples/pass.image ends in what the comment says
+    table       a proof table of examples/pass.image in hexadecimal; `recheck` answers what the comment says
+    entries     the same as a text for tools/table.py
 
-The last four begin with a comment: the line of standard output, and after it what standard error gets. A refusal of
+The last six begin with a comment: the line of standard output, and after it what standard error gets. A refusal of
 `asm` counts as the answer. In hexadecimal `#` begins a comment. Blocks with any other word, or with none, are not
-tried. Each examples/NAME.text has to make NAME.image, each NAME.bpf.c too where clang 14 is installed, and each
-NAME.report is what `run` prints for NAME.image and NAME.frames, into a pipe and into a file. The last rows read crates.txt and the crates: what `run`
-stands on, that the clauses which pages name are there, and that each crate has its row on the pages.
+tried. Each examples/NAME.text has to make NAME.image, each NAME.bpf.c too where clang 14 is installed, each NAME.table
+is what `prove` writes for NAME.image, and each NAME.report is what `run` prints for NAME.image and NAME.frames, into a
+pipe and into a file. The last rows read crates.txt and the crates: what `run` and `recheck` stand on, that the clauses
+which pages name are there, and that each crate has its row on the pages.
 Each NAME.frames is what frames.py makes of NAME.pcapng, where there is one; frame streams of both forms become texts
-and captures, and those the same streams again.
+and captures, and those the same streams again. Each filter of examples/filters is answered as it says (filters.py).
 The exit status is 0 if every answer is the one wanted, else 1.
 """
+import argparse
 import glob
 import os
 import re
 import subprocess
 import sys
 import tempfile
+
+import filters
 
 TOP = os.path.dirname(os.path.dirname(os.path.abspath(__file__)))
 PROGRAM = os.path.abspath(sys.argv[1] if len(sys.argv) > 1 else os.path.join(TOP, "crates/xdpvm/out/xdpvm"))
@@ -77,6 +83,17 @@ def verified():
     return answer + why
 
 
+def rechecked(kind, body):
+    """The answer to a proof table of examples/pass.image."""
+    if kind == "table":
+        write_hex("example.table", body)
+    else:
+        write("example.text", body)
+        shell("python3 tools/table.py make example.text example.table")
+    status, answer, why = run("recheck", "examples/pass.image", "example.table")
+    return answer + why
+
+
 def answer_of(kind, body):
     """What the program answers to a block whose first comment says what is wanted."""
     if kind == "program":
@@ -86,6 +103,8 @@ def answer_of(kind, body):
     if kind == "image":
         write_hex("example.image", body)
         return verified()
+    if kind in ("table", "entries"):
+        return rechecked(kind, body)
     write_hex("example.frames", body)
     return line(run("run", "examples/pass.image", "example.frames", "sent")[1], -1)
 
@@ -97,7 +116,7 @@ def tries(kind, body):
     elif kind == "console":
         for command, wanted in COMMAND.findall(body):
             yield command, wanted, shell(command)
-    elif kind in ("program", "trace", "image", "stream"):
+    elif kind in ("program", "trace", "image", "stream", "table", "entries"):
         yield body, re.sub("^# ", "", COMMENT.match(body)[0], flags=re.M), answer_of(kind, body)
 
 
@@ -109,11 +128,21 @@ def stored():
             yield text, kept.read().hex() + "\n", made.read().hex() + "\n"
 
 
+def proved():
+    """Each stored proof table is the one that `prove` writes for the image beside it, and `recheck` accepts it."""
+    for table in sorted(glob.glob("examples/*.table")):
+        image = table.removesuffix(".table") + ".image"
+        run("prove", image, "example.table")
+        with open("example.table", "rb") as made, open(table, "rb") as kept:
+            yield table, kept.read().hex() + "\n", made.read().hex() + "\n"
+        yield f"{table} by recheck", run("verify", image)[1], run("recheck", image, table)[1]
+
+
 def compiled():
     """Each stored image of a source in C is what the clang that made it makes of it, where that is installed."""
     if "clang version 14." in shell("clang --version") and os.path.exists("/usr/include/linux/bpf.h"):
         for source in sorted(glob.glob("examples/*.bpf.c")):
-            shell(f"bash examples/compile.sh {source} example.image")
+            shell(f"bash tools/compile.sh {source} example.image")
             with open("example.image", "rb") as made, open(source.removesuffix(".bpf.c") + ".image", "rb") as kept:
                 yield source, kept.read().hex() + "\n", made.read().hex() + "\n"
 
@@ -153,29 +182,30 @@ CAPTURED = "58504632" "e803000000000000" "00000000" "00000000" "02000000" "07000
 def converted(flags, given, *names):
     """The bytes of the last file, each of them made by frames.py of the one before."""
     for name in names:
-        shell(f"python3 examples/frames.py {flags} {given} {name}")
+        shell(f"python3 tools/frames.py {flags} {given} {name}")
         given = name
     with open(given, "rb") as file:
         return file.read().hex() + "\n"
 
 
 def returned():
-    """Frame streams go through texts and captures unchanged, with their reasons; frames that are too long are left out."""
+    """Frame streams go through texts and captures unchanged, with their reasons; of a frame that is too long a reason is left."""
     write("example.text", FRAMES)
     yield "a text with reasons", RECORDS + "\n", converted("--reasons", "example.text", "example.frames")
     yield "a capture with reasons", RECORDS + "\n", converted("--reasons", "example.frames", "example.pcapng", "again.frames")
-    yield "a stream with reasons as a text", FRAMES, shell("python3 examples/frames.py --show again.frames")
+    yield "a stream with reasons as a text", FRAMES, shell("python3 tools/frames.py --show again.frames")
     write_hex("other.pcapng", CAPTURE)
     yield "a capture of another tool", CAPTURED + "\n", converted("--reasons", "other.pcapng", "example.frames")
     for flags, most in ("", 4096), ("--reasons", 9216):
         write("example.text", "".join(f"frame {size}\n{bytes(size).hex()}\n" for size in (most, most + 1)))
         converted(flags, "example.text", "example.frames")
-        shown = shell("python3 examples/frames.py --show example.frames | grep frame")
-        yield f"frames of {most} bytes {flags}", f"frame {most} interface 0 queue 0\n", shown
+        shown = shell("python3 tools/frames.py --show example.frames | grep frame")
+        kept = f"frame {most + 1} interface 0 queue 0 reason 4294967295\n" if flags else ""
+        yield f"frames of {most} bytes {flags}", f"frame {most} interface 0 queue 0\n{kept}", shown
     for stream in sorted(set(glob.glob("examples/*.frames")) - {"examples/cut.frames"}):
         with open(stream, "rb") as kept:
             kept = kept.read().hex() + "\n"
-        write("example.text", shell(f"python3 examples/frames.py --show {stream}"))
+        write("example.text", shell(f"python3 tools/frames.py --show {stream}"))
         flags = "--reasons" if kept[:8] == b"XPF2".hex() else ""
         yield f"{stream} as a text", kept, converted(flags, "example.text", "example.frames")
 
@@ -192,16 +222,28 @@ def reported():
             yield f"{report} into a file", kept, made.read()
 
 
-def stands():
-    """`run` executes on words, with no test of an access: its machine stands on flatmem, and not on the checked one."""
+def below(name):
+    """The crates that this one stands on."""
     with open(os.path.join(TOP, "crates.txt")) as rows:
-        below = {name.strip(): names.split() for name, _, names in (row.partition(":") for row in rows) if name[:1] != "#"}
-    found, left = set(), ["machine"]
+        rows = [row.partition(":") for row in rows if row[:1] != "#"]
+    stands_on = {head.strip(): names.split() for head, _, names in rows}
+    found, left = set(), [name]
     while left:
-        new = [name for name in below.get(left.pop(), []) if name not in found]
+        new = [it for it in stands_on.get(left.pop(), []) if it not in found]
         found.update(new)
         left += new
+    return found
+
+
+def stands():
+    """`run` executes on words, with no test of an access: its machine stands on flatmem, and not on the checked one.
+    `recheck` stands on the step and the test of covering, and on nothing of the search for a bound."""
+    found = below("machine")
     yield "crates below machine", "flatmem: True, checked_vm: False\n", f"flatmem: {'flatmem' in found}, checked_vm: {'checked_vm' in found}\n"
+    search = {"explorer", "walks", "state_index", "explanations", "proof_table"}
+    wanted = {"transfer", "state_cover"}
+    found = below("rechecking") & (search | wanted)
+    yield "crates below rechecking", f"{sorted(wanted)}\n", f"{sorted(found)}\n"
 
 
 def named_clauses():
@@ -235,6 +277,18 @@ def crates_on_pages():
         yield f"crates that differ in {page}", "[]\n", f"{sorted(crates ^ named)}\n"
 
 
+def filters_answer():
+    """Each filter of examples/filters is answered as its first line says, those in C where clang is installed, and each
+    that the page on C names is there."""
+    has_headers = os.path.exists("/usr/include/linux/bpf.h")
+    asked = argparse.Namespace(program=PROGRAM, clang="clang" if has_headers else "no compiler", only=None)
+    for path in filters.paths(asked):
+        yield os.path.relpath(path, TOP), "", filters.wrong(path, asked) or ""
+    with open(os.path.join(TOP, "docs/COMPILED.md")) as page:
+        named = set(re.findall(r"`(\w+\.c)`", page.read()))
+    yield "filters that COMPILED.md names", "[]\n", f"{sorted(named - set(os.listdir(filters.FOLDER)))}\n"
+
+
 def main():
     if not os.access(PROGRAM, os.X_OK):
         sys.exit(f"there is no program {PROGRAM}: give one, or build it as README.md says")
@@ -253,17 +307,21 @@ def main():
         os.chdir(folder)
         os.symlink(os.path.join(TOP, "examples"), "examples")
         os.mkdir("bin")
+        os.symlink(os.path.join(TOP, "tools"), "tools")
         os.symlink(PROGRAM, "bin/xdpvm")
+        os.environ["XDPVM"] = PROGRAM
         os.environ["PATH"] = os.path.join(folder, "bin") + os.pathsep + os.environ["PATH"]
         for page in pages:
             with open(page) as file:
                 for kind, body in BLOCK.findall(file.read()):
                     count(os.path.relpath(page, TOP), tries(kind, body))
         count("examples", stored())
+        count("examples", proved())
         count("examples", compiled())
         count("examples", captured())
         count("frames.py", returned())
         count("examples", reported())
+        count("filters", filters_answer())
         count("crates.txt", stands())
         count("crates", named_clauses())
         count("crates.txt", crates_on_pages())

@@ -43,12 +43,20 @@ class Accesses:
             self.compare("<", end, out, limit)
         self.state.registers[begin], self.state.registers[limit] = ("packet", length, fixed), None
         for _ in range(self.random.randrange(1, 4)):
-            if self.slip(0.1):
-                part = self.a_number((begin, end, context))
-                self.limit(part, self.random.choice([1, 3, 8, 64]))
-                self.put(self.random.choice([0x0F, 0x0F, 0x1F]), begin, part)
+            known = self.state.registers[begin]
+            if self.random.random() < 0.2 and known and known[0] == "packet":
+                self.move_packet(begin, (begin, end, context))
             self.packet_access()
         self.leave(out)
+
+    def move_packet(self, begin, keep):
+        """The pointer moves by a number, and so much less is proved after it."""
+        _, length, fixed = self.state.registers[begin]
+        part, size = self.a_number(keep), self.random.choice([1, 3, 8, 64])
+        self.limit(part, size)
+        self.put(self.random.choice([0x0F, 0x0F, 0x0F, 0x1F]), begin, part)
+        left = length - size + 1
+        self.state.registers[begin] = ("packet", left, fixed) if left > 0 else None
 
     def leave(self, out):
         """Ends the program where a test leads to out, or joins there."""
@@ -154,7 +162,9 @@ class Accesses:
 
     def limit(self, r, size):
         """Makes a number less than size: by a mask, a remainder, or one or two tests of any sign and width."""
-        if self.random.random() < 0.3:
+        if self.random.random() < 0.2:
+            self.narrow(r, max(size // 2, 1))
+        elif self.random.random() < 0.3:
             self.put(self.random.choice([0x57, 0x54]), r, imm=self.random.choice([1, 3, 7, size - 1]))
         elif self.random.random() < 0.3:
             self.put(self.random.choice([0x97, 0x94]), r, imm=size)
@@ -167,6 +177,27 @@ class Accesses:
                 self.put(0x95)
                 self.here(after)
             self.state.registers[0] = None if r != 0 else self.state.registers[0]
+
+    def narrow(self, r, size):
+        """The same by a signed remainder or quotient, by bytes in another order, or by a part of a spilled number."""
+        what, by = self.random.randrange(4), size + self.random.choice([0, 0, 0, 1])
+        if what == 0:
+            self.put(self.random.choice([0x97, 0x94]), r, 0, 1, by)
+            self.put(0x07, r, imm=size - 1)
+        elif what == 1:
+            self.put(0xBF, r, r, self.random.choice([8, 8, 16]))
+            self.put(0x37, r, 0, 1, 256 // size * self.random.choice([1, 1, 1, -1]))
+            self.put(0x07, r, imm=size // 2)
+        elif what == 2:
+            bits = self.random.choice([16, 32])
+            self.put(0x57, r, imm=(by - 1 << bits - 8) - (1 << 32 if by > 128 and bits == 32 else 0))
+            self.put(self.random.choice([0xDC, 0xD7]), r, imm=bits)
+        else:
+            byte = self.random.randrange(3)
+            self.put(0x57, r, imm=(by - 1) << 8 * byte)
+            self.put(0x7B, 10, r, -8)
+            self.put(0x71, r, 10, -8 + byte)
+            self.state.slots[63] = None
 
     def moved_value(self, r, size):
         """A copy of a value's pointer, moved by a number below the size."""

@@ -5,6 +5,8 @@
 # sanitizer, for at most ten minutes of running and 1 MiB of output.
 set -eu
 here=$(cd "$(dirname "$0")" && pwd)
+tools=$here
+[ -e "$tools/frames.py" ] || tools=$here/../tools
 
 usage() {
     cat <<END
@@ -116,7 +118,7 @@ else
     image=$(file_of "${words[0]}" image text)
     case $(form_of "$image") in
         object)
-            python3 "$here/image.py" "$image" "$work/image"
+            python3 "$tools/image.py" "$image" "$work/image"
             image=$work/image
             ;;
         other)
@@ -129,7 +131,7 @@ else
     else
         frames=$(file_of "${words[1]}" frames pcapng)
         if [ "$(form_of "$frames")" != stream ]; then
-            python3 "$here/frames.py" "${reasons[@]}" "$frames" "$work/in.frames"
+            python3 "$tools/frames.py" "${reasons[@]}" "$frames" "$work/in.frames"
             frames=$work/in.frames
         fi
         out=${words[2]-}
@@ -168,7 +170,7 @@ show() {
 run_unproved() {
     local name status
     command -v rt > "$work/answer" || stop "there is no xdpvm beside run.sh, and rt, the toolchain's command, is not on the path"
-    echo "run.sh: building xdpvm without proofs, for a first look: this takes one to four minutes" >&2
+    echo "run.sh: building xdpvm without proofs, for a first look: this takes one to six minutes" >&2
     (cd "$here/../crates/xdpvm" && rt try --steps 1 --seconds 600 --cases "$work/steps") > "$work/answer" 2> "$work/told" || true
     for name in 1-text 2-command; do
         [ -f "$work/steps/$name" ] || continue
@@ -191,6 +193,6 @@ else
     run_unproved || status=$?
 fi
 if [ -n "$out" ] && [ "$sent" = "$work/sent.frames" ] && [ -f "$sent" ]; then
-    python3 "$here/frames.py" "$sent" "$out"
+    python3 "$tools/frames.py" "$sent" "$out"
 fi
 exit $status

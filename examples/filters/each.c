@@ -1,0 +1,19 @@
+/* says: each.c: map counts: its type is PERCPU_ARRAY \(6\); there are HASH \(1\) and ARRAY \(2\) */
+/* A map for each processor. The kernel accepts it. */
+#include "filter.h"
+
+struct {
+	__uint(type, BPF_MAP_TYPE_PERCPU_ARRAY);
+	__uint(max_entries, 4);
+	__type(key, __u32);
+	__type(value, __u64);
+} counts SEC(".maps");
+
+SEC("xdp") int each(struct xdp_md *context)
+{
+	__u32 key = 1;
+	__u64 *count = bpf_map_lookup_elem(&counts, &key);
+	if (count)
+		++*count;
+	return XDP_PASS;
+}

@@ -1,0 +1,20 @@
+/* refused V3 */
+/* The checksum of a header of any length: clang makes the loop's end a pointer and subtracts. The kernel refuses it too. */
+#include "filter.h"
+
+SEC("xdp") int header(struct xdp_md *context)
+{
+	void *end = END(context);
+	struct iphdr *ip = ipv4(BEGIN(context), end);
+	if (!ip)
+		return XDP_PASS;
+	__u16 *at = (void *)ip;
+	__u32 sum = 0;
+
+	for (int i = 0; i < ip->ihl * 2; i++) {
+		if ((void *)(at + i + 1) > end)
+			return XDP_PASS;
+		sum += at[i];
+	}
+	return (sum & 0xffff) + (sum >> 16) == 0xffff ? XDP_PASS : XDP_DROP;
+}
