@@ -1,12 +1,14 @@
 #!/usr/bin/env python3
 """Runs a command that proves, such as the gate, and says how many processor seconds each crate took.
 
-usage: python3 bench/gate.py [COMMAND ..]      (the default: bash .ci/run)
+usage: python3 bench/gate.py [--most N] [--to FILE] [COMMAND ..]      (the default: rt ci)
 
 The seconds are those of the provers (user and system), by crate: its code, its tests, and its must-fail edits, and the
 greatest memory of one of them. They are read from /proc twice a second, so a prover loses half a second at most. The
-command's output goes through. With `taskset -c 0,1` in front it all runs on two cores.
+command's output goes through, and its status is the script's. --most: the N dearest crates alone; --to: the table goes
+into a file. With `taskset -c 0,1` in front it all runs on two cores. In the gate: `.ci/run` prints the ten dearest.
 """
+import argparse
 import os
 import subprocess
 import sys
@@ -54,20 +56,37 @@ def sample(seen, root):
             seen[who + (pid,)] = seconds, int(peak[0]) // 1024 if peak else 0
 
 
+def table(seen, seconds, most):
+    """The lines of the table: a row a crate, the dearest first, and their sum."""
+    crates, peaks = {}, {}
+    for (crate, kind, _), (spent, peak) in seen.items():
+        crates.setdefault(crate, dict.fromkeys(KINDS, 0))[kind] += spent
+        peaks[crate] = max(peaks.get(crate, 0), peak)
+    yield f"{seconds:.0f} s on {len(os.sched_getaffinity(0))} cores; processor seconds of the provers:"
+    yield "\n| crate | code | tests | edits | GB |\n|---|---|---|---|---|"
+    for crate, row in sorted(crates.items(), key=lambda item: -sum(item[1].values()))[:most]:
+        yield f"| {crate} | " + " | ".join(f"{row[kind]:.0f}" for kind in KINDS) + f" | {peaks[crate] / 1024:.1f} |"
+    sums = [sum(row[kind] for row in crates.values()) for kind in KINDS]
+    yield f"| all {len(crates)} | " + " | ".join(f"{it:.0f}" for it in sums) + " | |"
+
+
 def main():
+    parser = argparse.ArgumentParser(usage="gate.py [--most N] [--to FILE] [COMMAND ..]")
+    parser.add_argument("--most", type=int, metavar="N", help="only the N dearest crates")
+    parser.add_argument("--to", metavar="FILE", help="write the table into a file")
+    parser.add_argument("command", nargs=argparse.REMAINDER)
+    words = parser.parse_args()
     began, seen = time.time(), {}
-    running = subprocess.Popen(sys.argv[1:] or ["bash", ".ci/run"])
+    running = subprocess.Popen(words.command or ["rt", "ci"])
     while running.poll() is None:
         sample(seen, running.pid)
         time.sleep(0.5)
-    crates, peaks = {}, {}
-    for (crate, kind, _), (seconds, peak) in seen.items():
-        crates.setdefault(crate, dict.fromkeys(KINDS, 0))[kind] += seconds
-        peaks[crate] = max(peaks.get(crate, 0), peak)
-    print(f"\n{time.time() - began:.0f} s on {len(os.sched_getaffinity(0))} cores\n\n| crate | code | tests | edits | GB |\n|---|---|---|---|---|")
-    for crate, row in sorted(crates.items(), key=lambda item: -sum(item[1].values())):
-        print(f"| {crate} | " + " | ".join(f"{row[kind]:.0f}" for kind in KINDS) + f" | {peaks[crate] / 1024:.1f} |")
-    print("| all | " + " | ".join(f"{sum(row[kind] for row in crates.values()):.0f}" for kind in KINDS) + " | |")
+    lines = "\n".join(table(seen, time.time() - began, words.most)) + "\n"
+    if words.to:
+        with open(words.to, "w") as file:
+            file.write(lines)
+    else:
+        print(f"\n{lines}", end="")
     sys.exit(running.returncode)
 
 

@@ -2,21 +2,23 @@
 """Measures xdpvm: steps a second of `trace` and `run`, explored instructions a second and peak memory of `verify`,
 and, for scale, a plain interpreter in C (bench/switch.c, gcc -O2) on the same programs.
 
-usage: python3 bench/run.py [PROGRAM]
+usage: python3 bench/run.py [PROGRAM ..]
 
-PROGRAM is the program that `rt run` leaves in crates/xdpvm (the default: crates/xdpvm/out/xdpvm). Each figure is the
-best of three runs. Files are made in a folder of its own, which goes at the end.
+PROGRAM is the program that `rt run` leaves in crates/xdpvm (the default: crates/xdpvm/out/xdpvm); several can be
+compared. All seconds are processor seconds of one process, and each figure is the least of TIMES runs (the default is
+5), which take turns: a program on its frames, on none, and the next program. A start is taken off only where each run
+on the frames took longer than each run on none; else there is no figure. Files are made in a folder of its own, which
+goes at the end.
 """
 import os
 import struct
 import subprocess
 import sys
 import tempfile
-import time
 
 HERE = os.path.dirname(os.path.abspath(__file__))
-PROGRAM = os.path.abspath(sys.argv[1] if len(sys.argv) > 1 else os.path.join(HERE, "../crates/xdpvm/out/xdpvm"))
-TIMES = 3
+PROGRAMS = [os.path.abspath(path) for path in sys.argv[1:]] or [os.path.join(HERE, "../crates/xdpvm/out/xdpvm")]
+TIMES = int(os.environ.get("TIMES", "5"))
 
 
 def counted_loop(turns):
@@ -83,15 +85,21 @@ def frames(count, size):
     return b"XPF1" + record * count
 
 
+def frames_with_reasons(count, size):
+    """The same frames in a stream of version 2. No frame has a reason yet, so all are run."""
+    record = struct.pack("<QIIII", 0, 1, 0, size, 0) + bytes(range(size))
+    return b"XPF2" + record * count
+
+
 def measured(words):
-    """Runs a command: its status, its output's last line, and its seconds."""
+    """Runs a command: its status, its output's last line, and its processor seconds."""
     out = tempfile.TemporaryFile()
-    begin = time.monotonic()
-    status = subprocess.run(words, stdout=out, stderr=subprocess.DEVNULL).returncode
-    seconds = time.monotonic() - begin
+    child = subprocess.Popen(words, stdout=out, stderr=subprocess.DEVNULL)
+    _, status, used = os.wait4(child.pid, 0)
+    child.returncode = os.waitstatus_to_exitcode(status)
     out.seek(0, os.SEEK_END)
     out.seek(max(0, out.tell() - 200))
-    return status, out.read().decode().strip().splitlines()[-1], seconds
+    return child.returncode, out.read().decode().strip().splitlines()[-1], used.ru_utime + used.ru_stime
 
 
 def peak(words):
@@ -100,29 +108,41 @@ def peak(words):
     return int(told.stderr.split()[-1]) / 1024
 
 
-def best(words, status, last):
-    """The least seconds of some runs, each of which must end with this status and this last line."""
-    runs = []
+def in_turn(commands):
+    """The seconds of each run of each command, in turn. A command is its words, and the status and the last line with
+    which it must end."""
+    taken = [[] for _ in commands]
     for _ in range(TIMES):
-        run = measured(words)
-        if run[:2] != (status, last):
-            sys.exit(f"{' '.join(words)}: status {run[0]}, {run[1]!r}, in place of {status}, {last!r}")
-        runs.append(run[2])
-    return min(runs)
+        for (words, status, last), seconds in zip(commands, taken):
+            run = measured(words)
+            if run[:2] != (status, last):
+                sys.exit(f"{' '.join(words)}: status {run[0]}, {run[1]!r}, in place of {status}, {last!r}")
+            seconds.append(run[2])
+    return taken
+
+
+def without_start(starts, wholes):
+    """What the frames took, or nothing where it is less than what one start differs from another."""
+    return min(wholes) - min(starts) if min(wholes) > max(starts) else None
+
+
+def name_of(program):
+    """What tells a program from the others, if there are others."""
+    return os.path.basename(program) if len(PROGRAMS) > 1 else ""
 
 
 def assembled(name, text):
     with open(name + ".text", "w") as file:
         file.write(text)
-    ended = subprocess.run([PROGRAM, "asm", name + ".text", name + ".image"], stdout=subprocess.PIPE, text=True)
+    ended = subprocess.run([PROGRAMS[0], "asm", name + ".text", name + ".image"], stdout=subprocess.PIPE, text=True)
     if ended.returncode != 0:
         sys.exit(f"{name}: {ended.stdout.strip()}")
     return name + ".image"
 
 
-def streamed(name, count, size):
+def streamed(name, stream):
     with open(name + ".frames", "wb") as file:
-        file.write(frames(count, size))
+        file.write(stream)
     return name + ".frames"
 
 
@@ -133,47 +153,63 @@ def plain_c(image, stream):
     return int(rows[0][0]), min(float(row[1]) for row in rows)
 
 
+def rates(name, command, program, steps, count, seconds, c_seconds):
+    """A line: the seconds, the steps and the frames a second, where the frames took long enough to tell."""
+    each = ["too short", "-", "-", "-"]
+    if seconds is not None:
+        each = [f"{seconds:.3f}", f"{steps / seconds:.3g}" if steps else "-", f"{count / seconds:.3g}"]
+        each += [f"{seconds / c_seconds:.1f}" if c_seconds else "-"]
+    print(f"{name:<50}{command:<7}{each[0]:>9}{each[1]:>11}{each[2]:>11}{each[3]:>9} {name_of(program)}", flush=True)
+
+
+def compared(name, image, stream, count, steps, c_seconds):
+    """`trace` and `run` of each program that reads such streams, without its start."""
+    empty = streamed("none", frames(0, 0))
+    able = [program for program in PROGRAMS if measured([program, "run", image, stream, "sent"])[1] != "fault F1 at 0"]
+    ways = [(command, program) for command in ["trace", "run"] for program in able]
+    commands = []
+    for command, program in ways:
+        commands.append(([program, command, image, empty, "sent"], 0, "end 0"))
+        commands.append(([program, command, image, stream, "sent"], 0, f"end {count}"))
+    taken = in_turn(commands)
+    for place, (command, program) in enumerate(ways):
+        seconds = without_start(taken[2 * place], taken[2 * place + 1])
+        rates(name, command, program, steps, count, seconds, c_seconds)
+
+
 def execution():
-    """`trace` and `run`, less the time that they take on a stream without frames. The interpreter in C reads no frames
-    and writes no report, so it is compared only where the steps outweigh those."""
-    empty = streamed("none", 0, 0)
-    print(f"{'program and frames':<46}{'by':<7}{'seconds':>9}{'steps/s':>11}{'frames/s':>11}{'times C':>9}")
+    """Steps and frames a second. The interpreter in C reads no frames and writes no report, so it is compared only where
+    the steps outweigh those."""
+    print(f"{'program and frames':<50}{'by':<7}{'seconds':>9}{'steps/s':>11}{'frames/s':>11}{'times C':>9}")
     rows = [
-        ("loop of 499,998 turns, 40 frames", counted_loop(499_998), 999_999, 40, True),
-        ("straight code of 3,000 slots, 10,000 frames", straight(3_000), 3_000, 10_000, True),
-        ("two instructions, 100,000 frames of 60 bytes", "r0 = 1\nexit\n", 2, 100_000, False),
+        ("loop of 499,998 turns, 400 frames", counted_loop(499_998), 999_999, 400, frames, True),
+        ("straight code of 3,000 slots, 40,000 frames", straight(3_000), 3_000, 40_000, frames, True),
+        ("two instructions, 1,000,000 frames, XPF1", "r0 = 2\nexit\n", 2, 1_000_000, frames, False),
+        ("two instructions, 1,000,000 frames, XPF2", "r0 = 2\nexit\n", 2, 1_000_000, frames_with_reasons, False),
     ]
-    for name, text, steps, count, compared in rows:
-        image, stream = assembled("p", text), streamed("f", count, 60)
-        c_steps, c_seconds = plain_c(image, stream)
-        if c_steps != steps * count:
-            sys.exit(f"{name}: {c_steps} steps in C, in place of {steps * count}")
-        timed = []
-        for command in ["trace", "run"]:
-            ready = best([PROGRAM, command, image, empty, "sent"], 0, "end 0")
-            seconds = best([PROGRAM, command, image, stream, "sent"], 0, f"end {count}")
-            timed.append((command, seconds - ready))
-        if compared:
-            timed.append(("C", c_seconds))
-        for by, seconds in timed:
-            times = f"{seconds / c_seconds:.1f}" if compared else "-"
-            print(f"{name:<46}{by:<7}{seconds:>9.3f}{steps * count / seconds:>11.3g}{count / seconds:>11.3g}{times:>9}")
+    for name, text, steps, count, make, by_c in rows:
+        image, stream = assembled("p", text), streamed("f", make(count, 60))
+        c_seconds = None
+        if by_c:
+            c_steps, c_seconds = plain_c(image, stream)
+            if c_steps != steps * count:
+                sys.exit(f"{name}: {c_steps} steps in C, in place of {steps * count}")
+        compared(name, image, stream, count, steps * count, c_seconds)
+        if by_c:
+            rates(name, "C", "", steps * count, count, c_seconds, c_seconds)
 
 
 def counting():
-    """Filters of examples/ with maps, on the frames beside them a thousand times: frames a second."""
+    """Filters of examples/ with maps, on the frames beside them ten thousand times: frames a second."""
     print()
     for name in ["traffic", "limit", "protocols"]:
         path = os.path.join(HERE, "../examples", name)
         with open(path + ".frames", "rb") as file:
             stream = file.read()
-        with open("f.frames", "wb") as file:
-            file.write(stream[:4] + stream[4:] * 1000)
         with open(path + ".report") as file:
-            count = 1000 * int(file.read().split()[-1])
-        for command in ["trace", "run"]:
-            seconds = best([PROGRAM, command, path + ".image", "f.frames", "sent"], 0, f"end {count}")
-            print(f"{'examples/' + name + f', {count:,} frames':<46}{command:<7}{seconds:>9.3f}{'':>11}{count / seconds:>11.3g}")
+            count = 10_000 * int(file.read().split()[-1])
+        frames_in = streamed("f", stream[:4] + stream[4:] * 10_000)
+        compared(f"examples/{name}, {count:,} frames", path + ".image", frames_in, count, None, None)
 
 
 def verification():
@@ -192,12 +228,15 @@ def verification():
     for name, text, answer, explored in rows:
         image = assembled("p", text)
         if answer is None:
-            _, answer, _ = measured([PROGRAM, "verify", image])
+            _, answer, _ = measured([PROGRAMS[0], "verify", image])
             if not answer.startswith("refused V19 "):
                 sys.exit(f"{name}: {answer}")
-        seconds = best([PROGRAM, "verify", image], 0 if answer.startswith("ok") else 2, answer)
-        memory = peak([PROGRAM, "verify", image])
-        print(f"{name:<46}{answer:<24}{seconds:>9.3f}{explored:>10}{explored / seconds:>12.3g}{memory:>6.0f}")
+        status = 0 if answer.startswith("ok") else 2
+        taken = in_turn([([program, "verify", image], status, answer) for program in PROGRAMS])
+        for program, runs in zip(PROGRAMS, taken):
+            seconds, memory = min(runs), peak([program, "verify", image])
+            told = f"{seconds:>9.3f}{explored:>10}{explored / seconds:>12.3g}{memory:>6.0f}"
+            print(f"{name:<46}{answer:<24}{told} {name_of(program)}", flush=True)
 
 
 def parsers():
@@ -205,17 +244,19 @@ def parsers():
     print()
     for name in ["parser", "headers", "options"]:
         image = assembled(name, stored(name))
-        _, answer, _ = measured([PROGRAM, "verify", image])
-        seconds = best([PROGRAM, "verify", image], 0, answer)
-        memory = peak([PROGRAM, "verify", image])
-        print(f"{name + '.text':<46}{answer:<24}{seconds:>9.4f}{'':>22}{memory:>6.0f}")
+        _, answer, _ = measured([PROGRAMS[0], "verify", image])
+        taken = in_turn([([program, "verify", image], 0, answer) for program in PROGRAMS])
+        for program, runs in zip(PROGRAMS, taken):
+            memory = peak([program, "verify", image])
+            told = f"{min(runs):>9.4f}{'':>22}{memory:>6.0f}"
+            print(f"{name + '.text':<46}{answer:<24}{told} {name_of(program)}", flush=True)
 
 
 def main():
     with tempfile.TemporaryDirectory() as folder:
         os.chdir(folder)
         subprocess.run(["gcc", "-O2", "-o", "switch", os.path.join(HERE, "switch.c")], check=True)
-        print(f"{os.cpu_count()} cores; each figure is the best of {TIMES} runs; `trace` and `run` without their start")
+        print(f"{os.cpu_count()} cores; processor seconds, the least of {TIMES} runs; `trace` and `run` without their start")
         execution()
         counting()
         verification()

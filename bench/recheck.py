@@ -1,0 +1,112 @@
+#!/usr/bin/env python3
+"""Measures `xdpvm recheck`: entries a second and peak memory on a table of 1,000,000 entries, which a script makes, and
+on the tables that `xdpvm prove` makes of other programs, beside `verify` of the same program.
+
+usage: python3 bench/recheck.py [PROGRAM]
+
+PROGRAM is the program that `rt run` leaves in crates/xdpvm (the default: crates/xdpvm/out/xdpvm). All seconds are
+processor seconds of one process, and each figure is the least of TIMES runs (the default is 5) which take turns. What
+`recheck` takes to refuse the table's bytes one short, which reads the file and passes over the entries once, stands
+beside it.
+"""
+import os
+import struct
+import subprocess
+import sys
+import tempfile
+
+HERE = os.path.dirname(os.path.abspath(__file__))
+sys.path[:0] = [f"{HERE}/../tools"]
+import table
+
+PROGRAM = os.path.abspath((sys.argv[1:] or [f"{HERE}/../crates/xdpvm/out/xdpvm"])[0])
+TIMES = int(os.environ.get("TIMES", "5"))
+LONGEST, ENTRIES = 4096, 1_000_000
+
+DEEP = "".join(
+    f"{f'f{depth}: ' if depth else ''}r6 = 5\n*(u64 *)(r10 - 8) = r6\n*(u64 *)(r10 - 16) = r10\n"
+    + (f"call f{depth + 1}\n{'' if depth else 'r0 = 2' + chr(10)}exit\n" if depth < 6 else "")
+    for depth in range(7)
+) + "r6 = 0\nloop: r1 = r6\ncall leaf\nr6 += 1\nif r6 < 10000 goto loop\nr0 = 1\nexit\nleaf: r0 = r1\nr0 += 1\nr2 = r0\nexit\n"
+
+PROGRAMS = {
+    "loop of 300,000 turns": "r1 = 0\nloop: r1 += 1\nif r1 < 300000 goto loop\nr0 = 2\nexit\n",
+    "loop counted on the stack": "*(u64 *)(r10 - 8) = 0\nloop: r1 = *(u64 *)(r10 - 8)\nr1 += 1\n*(u64 *)(r10 - 8) = r1\n"
+                                 "if r1 < 100000 goto loop\nr0 = 2\nexit\n",
+    "six values on the stack": open(f"{HERE}/spills.text").read(),
+    "a call in each turn": "r6 = 0\nloop: r1 = r6\ncall f\nr6 += 1\nif r6 < 40000 goto loop\nr0 = 2\nexit\n"
+                           "f: r0 = r1\n*(u64 *)(r10 - 8) = r1\nr0 += 1\nr2 = *(u64 *)(r10 - 8)\nr0 += r2\nexit\n",
+    "calls from the seventh frame": DEEP,
+    "18 branches": "r2 = *(u32 *)(r1 + 12)\nr0 = 0\n" + "".join(f"if r2 & {1 << bit} goto +1\nr0 += {1 << bit}\n" for bit in range(18)) + "exit\n",
+}
+
+
+def chain_table():
+    """A closed table of the chain of 4,096 slots: 244 copies of its entries, and the end of one more."""
+    bodies = []
+    for slot in range(LONGEST):
+        frame = table.Frame()
+        frame.registers[1] = table.CONTEXT
+        if slot:
+            frame.registers[0] = table.constant(slot - 1)
+        bodies.append(struct.pack("<IHB", LONGEST - slot, slot, 1) + table.frame_bytes(frame))
+    short = ENTRIES % LONGEST
+    slots = [at % LONGEST for at in range(ENTRIES - short)] + list(range(LONGEST - short, LONGEST))
+    yield table.MAGIC + struct.pack("<I", ENTRIES)
+    for at, slot in enumerate(slots):
+        yield bodies[slot] + (struct.pack("<BI", 1, at + 1) if slot < LONGEST - 1 else b"\0")
+
+
+def measured(*words):
+    """The last line that the program writes, and its processor seconds."""
+    child = subprocess.Popen([PROGRAM, *words], stdout=subprocess.PIPE, stderr=subprocess.DEVNULL, text=True)
+    out = child.stdout.read()
+    _, status, used = os.wait4(child.pid, 0)
+    child.returncode = os.waitstatus_to_exitcode(status)
+    return (out.strip().splitlines() or [""])[-1], used.ru_utime + used.ru_stime
+
+
+def peak(*words):
+    """Its peak memory in megabytes, by GNU time: what the system tells this script counts its own too."""
+    told = subprocess.run(["time", "-f", "%M", "--", PROGRAM, *words], stdout=subprocess.DEVNULL, stderr=subprocess.PIPE, text=True)
+    return int(told.stderr.split()[-1]) / 1024
+
+
+def compare(name, image, path):
+    commands = {"verify": ("verify", image), "recheck": ("recheck", image, path), "short": ("recheck", image, "short")}
+    size = os.path.getsize(path)
+    with open(path, "rb") as source, open("short", "wb") as file:
+        entries, = struct.unpack("<I", source.read(8)[4:])
+        source.seek(0)
+        file.write(source.read(size - 1))
+    seconds, lines = {key: [] for key in commands}, {}
+    for _ in range(TIMES):
+        for key, words in commands.items():
+            lines[key], taken = measured(*words)
+            seconds[key].append(taken)
+    best = {key: min(taken) for key, taken in seconds.items()}
+    if not lines["recheck"].startswith("ok") or lines["short"] != "refused P2":
+        sys.exit(f"{name}: {lines}")
+    print(f"{name}: {entries} entries, {size / 2**20:.0f} MB; verify {best['verify']:.3f} s, recheck {best['recheck']:.3f} s"
+          f" ({entries / best['recheck'] / 1e6:.2f} million a second, {best['recheck'] / best['verify']:.2f} of verify;"
+          f" one byte short {best['short']:.3f} s), peak {peak(*commands['recheck']) - size / 2**20:.1f} MB beside the table", flush=True)
+
+
+def main():
+    with tempfile.TemporaryDirectory() as room:
+        os.chdir(room)
+        text = "r0 = 0\n" + "r0 += 1\n" * (LONGEST - 2) + "exit\n"
+        for name, text in {"chain of 4,096 slots": text, **PROGRAMS}.items():
+            with open("text", "w") as file:
+                file.write(text)
+            subprocess.run([PROGRAM, "asm", "text", "image"], check=True, stdout=subprocess.DEVNULL)
+            if name.startswith("chain"):
+                with open("table", "wb") as file:
+                    file.writelines(chain_table())
+            else:
+                subprocess.run([PROGRAM, "prove", "image", "table"], check=True, stdout=subprocess.DEVNULL)
+            compare(name, "image", "table")
+
+
+if __name__ == "__main__":
+    main()
