@@ -21,6 +21,6 @@ else
     program=out/xdpvm
 fi
 install "$program" "$folder/xdpvm"
-install "$top/examples/run.sh" "$top/examples/frames.py" "$top/examples/image.py" "$folder"
+install "$top/examples/run.sh" "$top"/tools/*.py "$top/tools/compile.sh" "$folder"
 echo "$folder/xdpvm is the program, proved by $(rt version)"
-echo "beside it: run.sh runs it on texts, objects and captures, frames.py converts captures, image.py objects (python3)"
+echo "beside it: xdp.py runs a filter of any form on a capture; frames.py converts captures, image.py objects (python3)"
