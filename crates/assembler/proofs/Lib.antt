@@ -13,3 +13,11 @@ pub mod NameUses
 pub mod ZeroedTokens
 pub mod TextTurns
 pub mod PlainReads
+pub mod MapLaws
+pub mod SpellsLaws
+pub mod SpellsParts
+pub mod SpellsReads
+pub mod SpellsRefusals
+pub mod SpellsRegisters
+pub mod SpellsTexts
+pub mod SpellsTokens

@@ -10,14 +10,14 @@ use Rattle.isa_model.specs.Code.Instructions.{Program, slots}
 use Rattle.isa_model.specs.Text.CanonicalText.{version_line, canonical_text, code_text, rows_text, row_line, instructions}
 use Rattle.isa_model.specs.Code.MapRows.{IsRow, NamesRows}
 use Rattle.image.specs.Images.{IsImage, NamesMaps, room_of, program_of}
-use Rattle.image.specs.CodeLaws.{AllFit, AllFit-instructions, slots-append, slots-instructions}
+use Rattle.image.proofs.CodeLaws.{AllFit, AllFit-instructions, slots-append, slots-instructions}
 use Rattle.image.specs.Refusals.{count_refusal, row_fits}
-use Rattle.image.specs.RowLaws.{row_fits-IsRow}
+use Rattle.image.proofs.RowLaws.{row_fits-IsRow}
 use Rattle.assembler.specs.declared.errors.AsmErrorKind.TheVariants.{SlotCount}
 use Rattle.assembler.specs.declared.refusals.Refusal.{Refusal}
 use Rattle.assembler.specs.Operands.{◌>>=◌}
 use Rattle.assembler.specs.MapTests.{takes_row, objection_to_load}
-use Rattle.assembler.specs.MapLaws.{objection_to_load-NamesRows}
+use Rattle.assembler.proofs.MapLaws.{objection_to_load-NamesRows}
 use Rattle.assembler.specs.Labels.{slot_in}
 use Rattle.assembler.specs.Naming.{resolved}
 use Rattle.assembler.specs.Assembling.{Progress, finished, program_in}

@@ -5,7 +5,7 @@ use Rattle.isa_model.specs.declared.instructions.Insn.{Insn}
 use Rattle.isa_model.specs.declared.versions.Version.{Version}
 use Rattle.isa_model.specs.declared.versions.Version.TheVariants.{One, Two}
 use Rattle.isa_model.specs.Code.Instructions.{Program, slots}
-use Rattle.isa_model.specs.Machine.MachineStates.{max_slots}
+use Rattle.isa_model.specs.Code.Limits.{max_slots}
 use Rattle.image.specs.Images as image
 use Rattle.image.specs.Refusals.{count_refusal}
 use Rattle.assembler.specs.declared.errors.AsmErrorKind.{AsmErrorKind}

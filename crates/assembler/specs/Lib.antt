@@ -2,7 +2,6 @@ pub mod Operands
 pub mod Statements
 pub mod Labelled
 pub mod MapTests
-pub mod MapLaws
 pub mod Positions
 pub mod Naming
 pub mod Labels
@@ -10,10 +9,3 @@ pub mod Assembling
 pub mod Drafts
 pub mod Messages
 pub mod Spells
-pub mod SpellsReads
-pub mod SpellsTokens
-pub mod SpellsParts
-pub mod SpellsRegisters
-pub mod SpellsLaws
-pub mod SpellsTexts
-pub mod SpellsRefusals

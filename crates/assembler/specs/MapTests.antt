@@ -5,7 +5,7 @@ use Rattle.isa_model.specs.declared.instructions.Insn.{Insn}
 use Rattle.isa_model.specs.declared.instructions.Insn.TheVariants.{LoadMap, LoadMapValue}
 use Rattle.image.specs.Images.{room_of}
 use Rattle.image.specs.Refusals.{row_fits, is_array}
-use Rattle.image.specs.declared.head.TheConstants.{MAX_MAPS, MAX_MAP_ROOM}
+use Rattle.isa_model.specs.declared.limits.TheConstants.{MAX_MAPS, MAX_MAP_ROOM}
 use Rattle.assembler.specs.declared.errors.AsmErrorKind.TheVariants.{MapLine, NoMap, NotOneValue, PastValue, LateVersion}
 use Rattle.assembler.specs.declared.readings.Statement.{Statement}
 use Rattle.assembler.specs.declared.readings.Statement.TheVariants.{Empty, Version, Row, Instruction}

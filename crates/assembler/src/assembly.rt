@@ -5,9 +5,7 @@ ghost use Rattle.isa_model.specs.Code.Instructions.{Program};
 ghost use Rattle.isa_model.specs.Text.CanonicalText.{canonical_text};
 ghost use Rattle.image.specs.Images.{IsImage};
 ghost use Rattle.assembler.specs.declared.errors.AsmErrorKind.TheVariants as AsmErrorKind;
-ghost use Rattle.assembler.specs.Assembling.{start, read_on, program_of};
-ghost use Rattle.assembler.specs.Assembling.{finished, program_in, assembled};
-ghost use Rattle.assembler.specs.Assembling.{Answers};
+ghost use Rattle.assembler.specs.Assembling.{start, read_on, program_of, finished, program_in, assembled, Answers};
 ghost use Rattle.assembler.specs.Drafts.{progress_of};
 
 use super::draft::{Draft, Span};

@@ -1,11 +1,7 @@
 //! Statements that begin with a register.
 
 ghost use Rattle.std.specs.Prelude.{◌≡◌, ◌+◌, ◌<◌};
-ghost use Rattle.assembler.specs.Statements.{plain, arithmetic, wide, number_or_wide};
-ghost use Rattle.assembler.specs.Statements.{negated, extended, load_of, loaded, swapped};
-ghost use Rattle.assembler.specs.Statements.{exchanged_place, fetched, exchanged, compared};
-ghost use Rattle.assembler.specs.Statements.{map_loaded, map_value_loaded, moved_word, moved};
-ghost use Rattle.assembler.specs.Statements.{assigned_by, assigned, wide_at};
+ghost use Rattle.assembler.specs.Statements.{plain, arithmetic, wide, number_or_wide, negated, extended, load_of, loaded, swapped, exchanged_place, fetched, exchanged, compared, map_loaded, map_value_loaded, moved_word, moved, assigned_by, assigned, wide_at};
 
 use super::map_lines::{by_index_at, field_at, index_at};
 use super::operands::{

@@ -2,11 +2,10 @@
 
 ghost use Rattle.std.specs.Prelude.{◌≡◌, ◌≤◌, ◌+◌, [], length};
 ghost use Rattle.isa_model.specs.Code.Instructions.{slots};
-ghost use Rattle.isa_model.specs.Machine.MachineStates.{max_slots};
+ghost use Rattle.isa_model.specs.Code.Limits.{max_slots};
 
 use super::errors::AsmErrorKind;
-use image::MAX_SLOTS;
-use isa_model::Insn;
+use isa_model::{Insn, MAX_SLOTS};
 use std::alloc::Global;
 
 /// The instructions so far, and how many slots they fill.

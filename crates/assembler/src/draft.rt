@@ -5,9 +5,7 @@ ghost use Rattle.lexer.specs.declared.tokens.Lexeme.TheVariants as Lexeme;
 ghost use Rattle.assembler.specs.declared.errors.AsmErrorKind.TheVariants as AsmErrorKind;
 ghost use Rattle.assembler.specs.declared.readings.Statement.TheVariants as Statement;
 ghost use Rattle.assembler.specs.Labelled.{is_label, label_length, has_form};
-ghost use Rattle.assembler.specs.Assembling.{start, accept, closed, ended, added, named};
-ghost use Rattle.assembler.specs.Assembling.{is_first, with_use, refused_by};
-ghost use Rattle.assembler.specs.Assembling.{refusal_of, offset_or, Answers};
+ghost use Rattle.assembler.specs.Assembling.{start, accept, closed, ended, added, named, is_first, with_use, refused_by, refusal_of, offset_or, Answers};
 ghost use Rattle.assembler.specs.Drafts.{place_of, progress_of};
 ghost use Rattle.assembler.specs.Naming.{use_of};
 

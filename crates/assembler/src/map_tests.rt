@@ -3,15 +3,14 @@
 ghost use Rattle.std.specs.Prelude.{◌≡◌, ◌+◌, ◌*◌, sum_by, nat_le};
 ghost use Rattle.image.specs.Images.{room_of};
 ghost use Rattle.image.specs.Refusals.{is_array};
-ghost use Rattle.image.specs.declared.head.TheConstants.{MAX_MAP_ROOM};
-ghost use Rattle.assembler.specs.MapTests.{takes_row, objection_to_index};
-ghost use Rattle.assembler.specs.MapTests.{objection_to_value, objection_to_load, objection};
+ghost use Rattle.isa_model.specs.declared.limits.TheConstants.{MAX_MAP_ROOM};
+ghost use Rattle.assembler.specs.MapTests.{takes_row, objection_to_index, objection_to_value, objection_to_load, objection};
 
 use super::errors::AsmErrorKind;
 use super::readings::Statement;
 use super::wrong::Objection;
-use image::{MAX_MAP_ROOM, MAX_MAPS, row_fits};
-use isa_model::{Insn, MapDef, MapKind};
+use image::row_fits;
+use isa_model::{Insn, MAX_MAP_ROOM, MAX_MAPS, MapDef, MapKind};
 
 // The bytes of a map's keys and values.
 fn room_of(row: &MapDef) -> u128

@@ -1,12 +1,7 @@
 //! Numbers in their ranges, registers, operands, places and targets.
 
-ghost use Rattle.std.specs.Prelude.{◌≡◌, ◌+◌, ◌-◌, ◌<◌, ◌≤◌, ◌^◌, ◌==◌, if◌then◌else◌, IfOk};
-ghost use Rattle.std.specs.Prelude.{pos, neg_ℤ, ◌≤ℤ◌, ◌<ℤ◌};
-ghost use Rattle.assembler.specs.Operands.{signed_within, wide_within, signed_at, number_index};
-ghost use Rattle.assembler.specs.Operands.{constant_at, same_width, same_register, as_register};
-ghost use Rattle.assembler.specs.Operands.{register_at, again_at, operand_token, operand_at};
-ghost use Rattle.assembler.specs.Operands.{place_at, memory_at, argument_at, is_name};
-ghost use Rattle.assembler.specs.Operands.{target_token, target_at};
+ghost use Rattle.std.specs.Prelude.{◌≡◌, ◌+◌, ◌-◌, ◌<◌, ◌≤◌, ◌^◌, ◌==◌, if◌then◌else◌, IfOk, pos, neg_ℤ, ◌≤ℤ◌, ◌<ℤ◌};
+ghost use Rattle.assembler.specs.Operands.{signed_within, wide_within, signed_at, number_index, constant_at, same_width, same_register, as_register, register_at, again_at, operand_token, operand_at, place_at, memory_at, argument_at, is_name, target_token, target_at};
 
 use super::parts::{expect_at, is_minus, number_at, sign_at, token_at, word_at};
 use super::wrong::Wrong;

@@ -1,10 +1,7 @@
 //! Single tokens of a statement.
 
 ghost use Rattle.std.specs.Prelude.{◌≡◌};
-ghost use Rattle.assembler.specs.Operands.{token_at, sign_at, number_at, word_at, is_sign};
-ghost use Rattle.assembler.specs.Operands.{expect_at, is_minus, op_of, atomic_op_of};
-ghost use Rattle.assembler.specs.Operands.{comparison_of, width_of, extension_of, as_size};
-ghost use Rattle.assembler.specs.Operands.{as_narrow, as_kind, is_by_index};
+ghost use Rattle.assembler.specs.Operands.{token_at, sign_at, number_at, word_at, is_sign, expect_at, is_minus, op_of, atomic_op_of, comparison_of, width_of, extension_of, as_size, as_narrow, as_kind, is_by_index};
 ghost use Rattle.assembler.specs.Statements.{is_full};
 ghost use Rattle.assembler.specs.Labelled.{zeroed};
 

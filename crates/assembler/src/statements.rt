@@ -1,12 +1,8 @@
 //! The instruction that a statement's tokens spell.
 
 ghost use Rattle.std.specs.Prelude.{◌≡◌, ◌+◌, ◌<◌};
-ghost use Rattle.assembler.specs.Statements.{stored_token, stored, locked, jump, long_jump};
-ghost use Rattle.assembler.specs.Statements.{is_goto, goto_at, condition, tested, called_word};
-ghost use Rattle.assembler.specs.Statements.{called, by_word, by_token, statement_of};
-ghost use Rattle.assembler.specs.Labelled.{begins_map_line, spelled};
-ghost use Rattle.assembler.specs.Labelled.{begins_version_line, version_number, version_line};
-ghost use Rattle.assembler.specs.Labelled.{fits_form, spelled_behind};
+ghost use Rattle.assembler.specs.Statements.{stored_token, stored, locked, jump, long_jump, is_goto, goto_at, condition, tested, called_word, called, by_word, by_token, statement_of};
+ghost use Rattle.assembler.specs.Labelled.{begins_map_line, spelled, begins_version_line, version_number, version_line, fits_form, spelled_behind};
 
 use super::assignments::{assigned, plain};
 use super::map_lines::map_line;

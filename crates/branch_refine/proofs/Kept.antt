@@ -22,8 +22,8 @@ use Rattle.reg_state.specs.Kinds.{Assigned, Allows}
 use Rattle.stack_state.specs.declared.states.State.{State}
 use Rattle.stack_state.specs.Meaning.{MeansBy}
 use Rattle.stack_state.specs.Places.{kind_of, with_register}
-use Rattle.stack_state.specs.MeaningLaws.{reg_allowed, MeansBy-narrow}
-use Rattle.stack_state.specs.PlaceLaws.{same_or_other, kind_of-with_same, kind_of-with_other}
+use Rattle.stack_state.proofs.MeaningLaws.{reg_allowed, MeansBy-narrow}
+use Rattle.stack_state.proofs.PlaceLaws.{same_or_other, kind_of-with_same, kind_of-with_other}
 use Rattle.branch_refine.specs.Refining.{IsNumber, IsNumberOperand, IsJust, IsJustOperand, Keeps, Narrows, KeepsOthers}
 use Rattle.branch_refine.specs.Numbers.{numbers_in, AreNumbersOf, with_operand, with_compared}
 

@@ -1,5 +1,3 @@
 pub mod Numbers
 pub mod Comparing
-pub mod ComparingLaws
 pub mod Refining
-pub mod RefiningLaws

@@ -3,8 +3,7 @@
 ghost use Rattle.std.specs.Prelude.{◌≡◌, ◌+ℤ◌, pos};
 ghost use Rattle.reg_state.specs.Reach.{exchanged};
 ghost use Rattle.branch_refine.specs.Comparing as words;
-ghost use Rattle.branch_refine.specs.Comparing.{bytes_before, with_end, with_packet, null_by};
-ghost use Rattle.branch_refine.specs.Comparing.{with_number};
+ghost use Rattle.branch_refine.specs.Comparing.{bytes_before, with_end, with_packet, null_by, with_number};
 
 use isa_model::{Comparison, Cond, Operand, Width};
 use reg_state::Kind;

@@ -1,15 +1,12 @@
 //! What the test of a conditional jump shows of an abstract state.
 #![tactic(auto)]
 
-ghost use Rattle.std.specs.Prelude.{◌≡◌, ◌≢◌, ℕ, ◌<◌, ◌^◌, IsTrue, false};
-ghost use Rattle.std.specs.Prelude.{None, IfSome, IsSome};
+ghost use Rattle.std.specs.Prelude.{◌≡◌, ◌≢◌, ℕ, ◌<◌, ◌^◌, IsTrue, false, None, IfSome, IsSome};
 ghost use Rattle.isa_model.specs.Code.Numbers.{holds};
 ghost use Rattle.reg_state.specs.Scalars.{Has, IsConstant};
 ghost use Rattle.reg_state.specs.Shown.{Shows};
 ghost use Rattle.stack_state.specs.Places.{kind_of};
-ghost use Rattle.branch_refine.specs.Refining.{IsJust, IsJustOperand, AreCompared, Keeps, Narrows};
-ghost use Rattle.branch_refine.specs.Refining.{KeepsOthers, Refined, Leaves};
-ghost use Rattle.branch_refine.specs.Refining.{Refines, IsRefined};
+ghost use Rattle.branch_refine.specs.Refining.{IsJust, IsJustOperand, AreCompared, Keeps, Narrows, KeepsOthers, Refined, Leaves, Refines, IsRefined};
 ghost use Rattle.branch_refine.specs.Comparing.{same};
 
 mod comparing;

@@ -4,8 +4,7 @@
 //! only when much else has been done.
 #![tactic(auto)]
 
-ghost use Rattle.std.specs.Prelude.{◌≡◌, ◌<◌, ◌-◌, [], length, None, Some, IfOk, OnOk, IfErr};
-ghost use Rattle.std.specs.Prelude.{MatchResult};
+ghost use Rattle.std.specs.Prelude.{◌≡◌, ◌<◌, ◌-◌, [], length, None, Some, IfOk, OnOk, IfErr, MatchResult};
 ghost use Rattle.std.specs.IoError.{error_kind};
 ghost use Rattle.std.specs.Io.{WritesAtMost};
 ghost use Rattle.std.specs.Io.KnownBytes.{Keeps, WriteAppends};
@@ -30,7 +29,7 @@ pub struct PromptWriter<W: Write + Drop> {
 impl<W: Write + Drop> PromptWriter<W> {
     ghost use Rattle.buffered_io.specs.Waiting.{behind, failure_of, held, prompt_left, waiting};
 
-    /// Puts a buffer in front of a writer. So many of the first bytes go through it at once.
+    /// Puts a buffer in front of a writer. The first `prompt` bytes go through it at once.
     pub fn new(alloc: Global, capacity: usize, prompt: usize, writer: W) -> io::Result<Self>
         ensures behind { IfOk result (λ w. behind w ≡ writer) }
         ensures empty { IfOk result (λ w. waiting w ≡ []) }

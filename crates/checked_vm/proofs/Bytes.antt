@@ -14,11 +14,11 @@ use Rattle.isa_model.specs.declared.values.Value.TheVariants.{Num}
 use Rattle.isa_model.specs.Machine.States.{State, content_of}
 use Rattle.isa_model.specs.Machine.Memory.{and_then, region_cells, entry_index, put_value, place_in, number_in, value_in, index_at, read, write}
 use Rattle.isa_model.specs.Machine.HelperCalls.{bytes_in, bytes_at}
-use Rattle.isa_model.specs.Machine.ByteCells.{list_any-is_unwritten-Byte, list_all-is_byte-Byte, map-byte_in-Byte, number_in-Byte, value_in-Byte, take-drop-Byte}
+use Rattle.isa_model.proofs.ByteCells.{list_any-is_unwritten-Byte, list_all-is_byte-Byte, map-byte_in-Byte, number_in-Byte, value_in-Byte, take-drop-Byte}
 use Rattle.live_maps.specs.Live.{value_bytes}
 use Rattle.checked_vm.specs.declared.core_state.Core.{Core}
 use Rattle.checked_vm.specs.Machine.{state_of}
-use Rattle.checked_vm.specs.Reads.{value_cells}
+use Rattle.checked_vm.proofs.ReadsLaws.{value_cells}
 
 -- a read of the packet gives the cells of its bytes there
 pub read_packet_part : (bytes : List ℕ) (i n : ℕ) → i + n ≤ length bytes → and_then (place_in (Some (map Byte bytes)) (Some i) n) (λ j. Ok (take n (drop j (map Byte bytes)))) ≡ Ok (map Byte (take (i + n - i) (drop i bytes)))

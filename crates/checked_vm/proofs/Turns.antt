@@ -6,7 +6,7 @@ use Rattle.isa_model.specs.Code.Instructions.{Program}
 use Rattle.isa_model.specs.Machine.States.{State}
 use Rattle.isa_model.specs.Machine.Steps.{Next, Finished, Trapped, step}
 use Rattle.isa_model.specs.Running.Runs.{GoesOn, Ended, after_step, advanced, progress, left, turn_of}
-use Rattle.isa_model.specs.Running.RunLaws.{progress-suc, progress-ended, progress-exit}
+use Rattle.isa_model.proofs.RunLaws.{progress-suc, progress-ended, progress-exit}
 
 -- it goes on
 pub progress-next : (p : Program) (clock : ℕ → ℕ) (n : ℕ) (s t u : State) → progress p clock n s ≡ GoesOn t → step p clock t ≡ Next u → progress p clock (n + 1) s ≡ GoesOn u

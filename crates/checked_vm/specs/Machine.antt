@@ -9,7 +9,7 @@ use Rattle.isa_model.specs.Machine.States.{State, go_to}
 use Rattle.isa_model.specs.Machine.MapHelpers.{Helped}
 use Rattle.isa_model.specs.Machine.HelperCalls.{answered}
 use Rattle.isa_model.specs.Machine.Steps.{StepResult, Next, Trapped, act}
-use Rattle.isa_model.specs.Machine.Calls.{most_frames}
+use Rattle.isa_model.specs.Code.Limits.{max_call_frames}
 use Rattle.checked_vm.specs.declared.core_state.Core.{Core}
 
 -- the state of a run: the machine's fields and the packet
@@ -42,8 +42,8 @@ NamesAllRows rows insns = (slot : ℕ) (i : Insn) → slice_index_or insns slot 
 -- in the middle of a run: 1 to 8 frames, and room for eight
 pub record IsRunning (core : Core) : Type 0 where
   pub some : 1 ≤ vec_len core.frames
-  pub few : vec_len core.frames ≤ most_frames
-  pub room : vec_capacity core.frames ≡ most_frames
+  pub few : vec_len core.frames ≤ max_call_frames
+  pub room : vec_capacity core.frames ≡ max_call_frames
 
 -- after a step the machine is still running; it has used one serial at most, and has not asked the clock
 pub record StaysRunning (old new : Core) : Type 0 where

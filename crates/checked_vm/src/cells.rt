@@ -1,15 +1,12 @@
 //! Cells of stack frames: the numbers and pointers that they spell, and the cells that spell them.
 
-ghost use Rattle.std.specs.Prelude.{◌≡◌, ◌+◌, ◌<◌, ◌≤◌, length, map, take, slice_index};
-ghost use Rattle.std.specs.Prelude.{Ok, Err, MatchResult};
+ghost use Rattle.std.specs.Prelude.{◌≡◌, ◌+◌, ◌<◌, ◌≤◌, length, map, take, slice_index, Ok, Err, MatchResult};
 ghost use Rattle.isa_model.specs.Machine.HelperCalls.{bytes_in};
 ghost use Rattle.std.specs.List.{splice, list_any, list_all, enumerate_from};
 ghost use Rattle.isa_model.specs.Code.Numbers.{bytes_of};
 ghost use Rattle.isa_model.specs.Code.Sizes.{size_bytes};
 ghost use Rattle.isa_model.specs.declared.sizes.Size.{Size};
-ghost use Rattle.isa_model.specs.Machine.Memory.{is_unwritten, is_byte, byte_in, number_of};
-ghost use Rattle.isa_model.specs.Machine.Memory.{number_in, value_in, pointer_in, is_piece};
-ghost use Rattle.isa_model.specs.Machine.Memory.{are_pieces, pieces, same_region};
+ghost use Rattle.isa_model.specs.Machine.Memory.{is_unwritten, is_byte, byte_in, number_of, number_in, value_in, pointer_in, is_piece, are_pieces, pieces, same_region};
 
 use isa_model::{Cell, Region, Size, TrapReason, Value};
 

@@ -2,7 +2,8 @@
 
 ghost use Rattle.std.specs.Prelude.{◌≡◌, ◌+◌, ◌≤◌, ℕ, length, IfOk};
 ghost use Rattle.isa_model.specs.{max_packet};
-ghost use Rattle.isa_model.specs.Running.Runs.{max_steps, turn};
+ghost use Rattle.isa_model.specs.Code.Limits.{max_steps};
+ghost use Rattle.isa_model.specs.Running.Runs.{turn};
 ghost use Rattle.isa_model.specs.Reporting.Reports.{starting_contents};
 ghost use Rattle.maps.specs.Maps.{rows_of, contents_of};
 
@@ -25,7 +26,7 @@ pub struct Checked {
 }
 
 impl Model for Checked {
-    ghost use Rattle.isa_model.specs.Machine.Calls.{most_frames};
+    ghost use Rattle.isa_model.specs.Code.Limits.{max_call_frames};
     ghost use Rattle.isa_model.specs.Machine.States.{entries_of};
     ghost use Rattle.std.specs.Prelude.{◌≡◌, ◌≤◌, map, vec_capacity};
     ghost use Rattle.checked_vm.specs.Machines.{Running};
@@ -37,7 +38,7 @@ impl Model for Checked {
       contents = map entries_of machine.core.maps.contents;
     } };
 
-    ghost invariant = { λ machine. (vec_capacity machine.core.frames ≡ most_frames)
+    ghost invariant = { λ machine. (vec_capacity machine.core.frames ≡ max_call_frames)
         × (machine.core.maps.rows ≡ machine.image.maps) };
 }
 

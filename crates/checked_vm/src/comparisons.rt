@@ -1,8 +1,7 @@
 //! Comparisons of values, pointers included.
 
 ghost use Rattle.std.specs.Prelude.{◌≡◌, ◌<◌, ◌^◌};
-ghost use Rattle.isa_model.specs.Machine.Pointers.{packet_order, pointer_order, compared};
-ghost use Rattle.isa_model.specs.Machine.Pointers.{null_test, compared_constant};
+ghost use Rattle.isa_model.specs.Machine.Pointers.{packet_order, pointer_order, compared, null_test, compared_constant};
 
 use isa_model::numbers::{compare, unsigned};
 use isa_model::{Comparison, Region, TrapReason, Value, Width};

@@ -1,20 +1,16 @@
 //! The machine's fields: slot, registers and call frames.
 
-ghost use Rattle.std.specs.Prelude.{◌≡◌, ◌≤◌, ◌^◌, ℕ, List, length, map, slice_set, IfOk, vec_len};
-ghost use Rattle.std.specs.Prelude.{vec_capacity};
+ghost use Rattle.std.specs.Prelude.{◌≡◌, ◌≤◌, ◌^◌, ℕ, List, length, map, slice_set, IfOk, vec_len, vec_capacity};
 ghost use Rattle.isa_model.specs.Code.Registers.{reg_number};
 ghost use Rattle.isa_model.specs.Machine.States.{entries_of, value_at, new_frame};
 ghost use Rattle.isa_model.specs.Machine.Memory.{frame_index};
-ghost use Rattle.isa_model.specs.Machine.Calls.{most_frames};
+ghost use Rattle.isa_model.specs.Code.Limits.{max_call_frames};
 ghost use Rattle.isa_model.specs.Running.Runs.{start_state};
 ghost use Rattle.checked_vm.specs.Machine.{state_of};
 
-use isa_model::{CallFrame, Cell, FrameHead, Reg, Region, Value};
+use isa_model::{CallFrame, Cell, FrameHead, MAX_CALL_FRAMES, Reg, Region, Value};
 use live_maps::LiveMaps;
 use std::alloc::{AllocError, Global};
-
-/// The most call frames that are live at once.
-pub const MOST_FRAMES: usize = 8;
 
 /// A run's state, the packet aside.
 #[derive(Drop)]
@@ -50,13 +46,13 @@ pub fn new_frame(serial: u64, return_slot: usize, saved: [Value; 4]) -> CallFram
 impl Core {
     /// A machine with room for all call frames, not started.
     pub fn new(alloc: Global, maps: LiveMaps) -> Result<Self, AllocError>
-        ensures room { IfOk result (λ core. vec_capacity core.frames ≡ most_frames) }
+        ensures room { IfOk result (λ core. vec_capacity core.frames ≡ max_call_frames) }
         ensures maps { IfOk result (λ core. core.maps ≡ maps) }
     {
         Ok(Core {
             slot: 0,
             regs: [Value::Unset; 11],
-            frames: Vec::with_capacity(alloc, MOST_FRAMES)?,
+            frames: Vec::with_capacity(alloc, MAX_CALL_FRAMES)?,
             interface: 0,
             queue: 0,
             maps,
@@ -67,7 +63,7 @@ impl Core {
     /// Goes to the start of a run.
     #[tactic(auto, unfolding(isa_model::specs::Running::Runs::start_state))]
     pub fn start(&mut self, head: FrameHead)
-        requires room { most_frames ≤ vec_capacity self.old.frames }
+        requires room { max_call_frames ≤ vec_capacity self.old.frames }
         ensures state { (packet : List ℕ) → state_of self.new packet
             ≡ start_state head packet (map entries_of self.old.maps.contents) }
         ensures frames { vec_len self.new.frames ≡ 1 }

@@ -1,14 +1,10 @@
 //! Loads and stores in call frames, the packet, values of maps and the context.
 
-ghost use Rattle.std.specs.Prelude.{◌≡◌, ◌+◌, ◌<◌, ◌≤◌, ℕ, ◌+ℤ◌, List, length, map};
-ghost use Rattle.std.specs.Prelude.{slice_index, Some, Ok, Err, MatchResult, vec_len};
+ghost use Rattle.std.specs.Prelude.{◌≡◌, ◌+◌, ◌<◌, ◌≤◌, ℕ, ◌+ℤ◌, List, length, map, slice_index, Some, Ok, Err, MatchResult, vec_len};
 ghost use Rattle.isa_model.specs.Code.Numbers.{number_from};
 ghost use Rattle.isa_model.specs.Code.Sizes.{narrow_size, narrow_extension};
 ghost use Rattle.isa_model.specs.Machine.States.{frame_at};
-ghost use Rattle.isa_model.specs.Machine.Memory.{frame_index, place_of, read, number_at};
-ghost use Rattle.isa_model.specs.Machine.Memory.{context_field, context_load, memory_load, load};
-ghost use Rattle.isa_model.specs.Machine.Memory.{load_number, load_signed, write, store_number};
-ghost use Rattle.isa_model.specs.Machine.Memory.{store_pointer, store};
+ghost use Rattle.isa_model.specs.Machine.Memory.{frame_index, place_of, read, number_at, context_field, context_load, memory_load, load, load_number, load_signed, write, store_number, store_pointer, store};
 ghost use Rattle.checked_vm.specs.declared.core_state.Core.{Core};
 ghost use Rattle.checked_vm.specs.Machine.{state_of, KeepsFrames};
 ghost use Rattle.checked_vm.specs.Reads.{read_cells};

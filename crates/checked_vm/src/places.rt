@@ -1,7 +1,6 @@
 //! Places in memory: where an access begins, and whether all its bytes are there.
 
-ghost use Rattle.std.specs.Prelude.{◌≡◌, ◌+◌, ◌-◌, ◌<◌, ◌≤◌, ◌^◌, List, pos, negsuc, ◌+ℤ◌, ◌<ℤ◌};
-ghost use Rattle.std.specs.Prelude.{length, Some, IfOk};
+ghost use Rattle.std.specs.Prelude.{◌≡◌, ◌+◌, ◌-◌, ◌<◌, ◌≤◌, ◌^◌, List, pos, negsuc, ◌+ℤ◌, ◌<ℤ◌, length, Some, IfOk};
 ghost use Rattle.isa_model.specs.declared.values.Cell.{Cell};
 ghost use Rattle.isa_model.specs.Machine.Memory.{index_from, index_at, place_in};
 
@@ -50,7 +49,7 @@ pub fn place_in(cells: &[Cell], index: Option<usize>, n: usize) -> Result<usize,
     place_within(cells.len(), index, n)
 }
 
-/// Where n of so many cells begin, if all of them are there.
+/// Where n of the cells begin, if all of them are there.
 pub fn place_within(len: usize, index: Option<usize>, n: usize) -> Result<usize, TrapReason>
     requires room { len < 2 ^ 63 }
     requires few { n ≤ 4096 }

@@ -1,7 +1,6 @@
 //! Reads of cells and bytes in call frames, the packet and values of maps.
 
-ghost use Rattle.std.specs.Prelude.{◌≡◌, ◌+◌, ◌<◌, ◌≤◌, ℕ, List, length, map, slice_index, Some};
-ghost use Rattle.std.specs.Prelude.{Ok, Err, IfOk, MatchResult, vec_len};
+ghost use Rattle.std.specs.Prelude.{◌≡◌, ◌+◌, ◌<◌, ◌≤◌, ℕ, List, length, map, slice_index, Some, Ok, Err, IfOk, MatchResult, vec_len};
 ghost use Rattle.isa_model.specs.Code.Numbers.{number_from};
 ghost use Rattle.isa_model.specs.Machine.States.{frame_at};
 ghost use Rattle.isa_model.specs.Machine.Memory.{frame_index, place_of, read};

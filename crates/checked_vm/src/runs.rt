@@ -3,7 +3,7 @@
 ghost use Rattle.std.specs.Prelude.{◌≡◌, ◌≢◌, ◌+◌, ◌<◌, ◌≤◌, ◌^◌, ℕ, List, map, vec_capacity};
 ghost use Rattle.isa_model.specs.Code.Instructions.{Program};
 ghost use Rattle.isa_model.specs.Machine.States.{entries_of};
-ghost use Rattle.isa_model.specs.Machine.Calls.{most_frames};
+ghost use Rattle.isa_model.specs.Code.Limits.{max_call_frames};
 ghost use Rattle.isa_model.specs.Machine.Steps.{step};
 ghost use Rattle.isa_model.specs.Running.Runs.{progress, turn_of, left, turn};
 ghost use Rattle.checked_vm.specs.Machine.{state_of, NamesAllRows, IsRunning, StaysRunning};
@@ -80,7 +80,7 @@ impl Core {
         requires serial { self.old.maps.next_serial ≤ 2 ^ 33 }
         requires named { NamesAllRows self.old.maps.rows insns.now }
         requires calls { self.old.clock_calls ≡ 0 }
-        ensures room { vec_capacity self.new.frames ≡ most_frames }
+        ensures room { vec_capacity self.new.frames ≡ max_call_frames }
         ensures rows { self.new.maps.rows ≡ self.old.maps.rows }
         ensures clock { Answers (C.at clock.old) self.new.clock_calls (C.at clock.new) }
         ensures turn { (p : Program) → p.insns ≡ insns.now → p.maps ≡ self.old.maps.rows
@@ -110,7 +110,7 @@ impl Core {
         clock: &mut C,
         limit: u32,
     ) -> End
-        requires room { vec_capacity self.old.frames ≡ most_frames }
+        requires room { vec_capacity self.old.frames ≡ max_call_frames }
         requires named { NamesAllRows self.old.maps.rows insns.now }
         ensures turn { (p : Program) → p.insns ≡ insns.now → p.maps ≡ self.old.maps.rows
             → p.version ≡ version →
@@ -122,7 +122,7 @@ impl Core {
               clock_calls = self.new.clock_calls;
             } }
         ensures clock { (k : ℕ) → C.at clock.new k ≡ C.at clock.old (self.new.clock_calls + k) }
-        ensures room { vec_capacity self.new.frames ≡ most_frames }
+        ensures room { vec_capacity self.new.frames ≡ max_call_frames }
         ensures rows { self.new.maps.rows ≡ self.old.maps.rows }
     {
         self.start(head);

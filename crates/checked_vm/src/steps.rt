@@ -12,8 +12,8 @@ ghost use Rattle.isa_model.specs.Machine.Steps.{is_unset, is_answer, act, perfor
 ghost use Rattle.checked_vm.specs.Machine.{state_of, IsRunning, StaysRunning, PerformsIn};
 ghost use Rattle.checked_vm.specs.Outcomes.{IsStep};
 
-use crate::core_state::{Core, MOST_FRAMES};
-use isa_model::{Insn, Reg, Region, TrapReason, Value, Version, destination};
+use crate::core_state::Core;
+use isa_model::{Insn, MAX_CALL_FRAMES, Reg, Region, TrapReason, Value, Version, destination};
 
 /// What a step came to.
 #[derive(Clone, Copy, PartialEq, Eq, Debug)]
@@ -109,7 +109,7 @@ impl Core {
             }
             Insn::JumpIf(cond, by) => self.do_jump_if(packet, cond, by, slots),
             Insn::CallLocal(by) => {
-                if self.depth() == MOST_FRAMES {
+                if self.depth() == MAX_CALL_FRAMES {
                     return Err(TrapReason::TooManyFrames);
                 }
                 self.enter(destination(self.slot, by, slots));

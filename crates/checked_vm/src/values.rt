@@ -2,9 +2,7 @@
 
 ghost use Rattle.std.specs.Prelude.{◌≡◌, ℕ, Ok};
 ghost use Rattle.isa_model.specs.Code.Numbers.{low, negated, sign_extended, reordered};
-ghost use Rattle.isa_model.specs.Machine.Pointers.{moved_to, pointer_and_number};
-ghost use Rattle.isa_model.specs.Machine.Pointers.{number_and_pointer, moved, combined, arithmetic};
-ghost use Rattle.isa_model.specs.Machine.Pointers.{on_number};
+ghost use Rattle.isa_model.specs.Machine.Pointers.{moved_to, pointer_and_number, number_and_pointer, moved, combined, arithmetic, on_number};
 ghost use Rattle.isa_model.specs.Machine.Memory.{and_then};
 
 use isa_model::numbers::{compute, low_word, negate, reorder, sign_extend};

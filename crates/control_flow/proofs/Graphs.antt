@@ -7,7 +7,7 @@ use Rattle.isa_model.specs.declared.instructions.Insn.{Insn}
 use Rattle.isa_model.specs.Code.Instructions.{Program, fetch}
 use Rattle.control_flow.specs.declared.nodes.Node.{Node}
 use Rattle.control_flow.specs.Graph.{fall_to, jump_to}
-use Rattle.control_flow.specs.FlowLaws.{fall_to-behind}
+use Rattle.control_flow.proofs.FlowLaws.{fall_to-behind}
 use Rattle.control_flow.specs.Flows.{Fails}
 use Rattle.control_flow.specs.declared.errors.FlowError.TheVariants.{TargetOutside}
 use Rattle.control_flow.specs.Masks.{HasHome, no_homes}

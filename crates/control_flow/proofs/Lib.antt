@@ -11,3 +11,6 @@ mod LiveMasks
 mod Graphs
 mod Chains
 mod Working
+pub mod FlowLaws
+pub mod LivenessLaws
+pub mod RegisterLaws

@@ -7,7 +7,7 @@ use Rattle.std.proofs.lemmas.List.{get_or-set_same, get_or-set_other, length-set
 use Rattle.isa_model.specs.Code.Instructions.{Program}
 use Rattle.control_flow.specs.Graph.{jump_to, Jumps}
 use Rattle.control_flow.specs.Flows.{IsMarked, MarksJoins}
-use Rattle.control_flow.specs.FlowLaws.{Leads-inside}
+use Rattle.control_flow.proofs.FlowLaws.{Leads-inside}
 
 -- the slots that are marked: those of the start, and the targets from the slots below n
 abbrev pub IsFound : (ℕ → Type 0) → (ℕ → Option ℕ) → ℕ → ℕ → Type 0

@@ -9,7 +9,7 @@ use Rattle.std.proofs.lemmas.List.{length-replicate, get_or-replicate, get_or_pa
 use Rattle.isa_model.specs.declared.registers.Reg.{Reg}
 use Rattle.isa_model.specs.Code.Registers.{reg_number}
 use Rattle.control_flow.specs.declared.masks.RegisterMask.{RegisterMask}
-use Rattle.control_flow.specs.RegisterLaws.{number_below, same_number}
+use Rattle.control_flow.proofs.RegisterLaws.{number_below, same_number}
 use Rattle.control_flow.specs.declared.homes.HomeMask.{HomeMask}
 use Rattle.control_flow.specs.Liveness.{Home, InRegister, InSlot}
 use Rattle.control_flow.specs.Masks.{no_registers, Has, no_slots, HasSlot, no_homes, HasHome, mask_at}

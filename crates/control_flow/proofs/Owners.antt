@@ -8,7 +8,7 @@ use Rattle.std.proofs.Math.Seq.{get_or-append_seam}
 use Rattle.isa_model.specs.Code.Instructions.{Program}
 use Rattle.control_flow.specs.Graph.{call_to, Calls}
 use Rattle.control_flow.specs.Functions.{BeginsFunction, SameFunction, IsFunctionOf, MarksFunctions, HasFunctions}
-use Rattle.control_flow.specs.FlowLaws.{Leads-inside}
+use Rattle.control_flow.proofs.FlowLaws.{Leads-inside}
 use Rattle.control_flow.proofs.MarkLemmas.{MarksBelow}
 
 -- ---- the slots at which functions begin

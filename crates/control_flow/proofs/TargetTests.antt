@@ -13,7 +13,7 @@ use Rattle.control_flow.specs.declared.errors.FlowError.{FlowError}
 use Rattle.control_flow.specs.declared.errors.FlowError.TheVariants.{TargetOutside, SecondHalf}
 use Rattle.control_flow.specs.Graph.{BeginsInsn, IsSecondHalf, call_distance, jump_to, call_to}
 use Rattle.control_flow.specs.Flows.{Fails, HasTarget}
-use Rattle.control_flow.specs.FlowLaws.{Fails-inside}
+use Rattle.control_flow.proofs.FlowLaws.{Fails-inside}
 
 -- ---- loops
 

@@ -6,13 +6,13 @@ use Rattle.isa_model.specs.declared.instructions.Insn.{Insn}
 use Rattle.isa_model.specs.declared.instructions.Insn.TheVariants.{LoadNumber, LoadMap, LoadMapValue}
 use Rattle.isa_model.specs.Code.Instructions.{Program, fetch, slots_of}
 use Rattle.image.specs.Images.{IsImage}
-use Rattle.image.specs.ImageLaws.{fetch-next, fetch-second}
+use Rattle.image.proofs.ImageLaws.{fetch-next, fetch-second}
 use Rattle.control_flow.specs.declared.errors.FlowError.{FlowError}
 use Rattle.control_flow.specs.declared.errors.FlowError.TheVariants.{TargetOutside, SecondHalf, OtherFunction, FallsOff, Unreachable, Memory}
 use Rattle.control_flow.specs.Graph.{BeginsInsn, fall_to, Leads, Falls, Jumps, Calls, Reached}
 use Rattle.control_flow.specs.Functions.{BeginsFunction, SameFunction}
 use Rattle.control_flow.specs.Flows.{IsFlow, IsMarked, Fails, place, IsRefusal}
-use Rattle.control_flow.specs.FlowLaws.{BeginsInsn-insn, fetch-BeginsInsn, fall_to-behind, IsFlow-Fails}
+use Rattle.control_flow.proofs.FlowLaws.{BeginsInsn-insn, fetch-BeginsInsn, fall_to-behind, IsFlow-Fails}
 use Rattle.control_flow.proofs.TargetTests.{jump-inside, call-inside, target-BeginsInsn}
 
 -- the test fails at no slot

@@ -12,7 +12,7 @@ use Rattle.isa_model.specs.Code.Instructions.{Program}
 use Rattle.control_flow.specs.declared.homes.HomeMask.{HomeMask}
 use Rattle.control_flow.specs.declared.nodes.Node.{Node}
 use Rattle.control_flow.specs.Graph.{Falls, Jumps}
-use Rattle.control_flow.specs.FlowLaws.{BeginsInsn-inside, fetch-BeginsInsn, Leads-inside}
+use Rattle.control_flow.proofs.FlowLaws.{BeginsInsn-inside, fetch-BeginsInsn, Leads-inside}
 use Rattle.control_flow.specs.Flows.{IsMarked, MarksLive}
 use Rattle.control_flow.specs.Masks.{HasHome, no_homes, mask_at}
 use Rattle.control_flow.specs.Liveness.{Home, IsReadAfter, IsHomeLive}

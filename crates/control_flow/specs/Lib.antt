@@ -3,12 +3,9 @@ pub mod Functions
 pub mod Searches
 pub mod Nodes
 pub mod Sources
-pub mod RegisterLaws
 pub mod Accesses
 pub mod StackUse
 pub mod Liveness
 pub mod Masks
 pub mod Flows
-pub mod FlowLaws
-pub mod LivenessLaws
 pub mod Messages

@@ -4,8 +4,7 @@ ghost use Rattle.std.specs.Prelude.{◌≡◌, ◌+◌, ◌<◌, ◌↔◌, ◌�
 ghost use Rattle.control_flow.specs.Liveness.{Home};
 ghost use Rattle.control_flow.specs.Flows.{Fails, MarksLive};
 ghost use Rattle.control_flow.specs.Masks.{HasHome};
-ghost use Rattle.control_flow.specs.Nodes.{HasBehind, IsLiveBefore, AddsAt, fall_from, FallsNear};
-ghost use Rattle.control_flow.specs.Nodes.{ComesFrom, HasAll};
+ghost use Rattle.control_flow.specs.Nodes.{HasBehind, IsLiveBefore, AddsAt, fall_from, FallsNear, ComesFrom, HasAll};
 ghost use Rattle.control_flow.specs.Searches.{Extends};
 ghost use Rattle.control_flow.specs.Sources.{AreSources};
 

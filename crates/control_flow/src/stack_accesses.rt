@@ -2,8 +2,7 @@
 //! instructions hand r10 itself on.
 
 ghost use Rattle.std.specs.Prelude.{◌≡◌, ℕ, ◌<◌, ◌^◌, ◌↔◌, ◌⊎◌, IsTrue, Some};
-ghost use Rattle.control_flow.specs.StackUse.{IsByte, IsWithinSlot, IsWholeSlot, ReadsSlot, WritesSlot};
-ghost use Rattle.control_flow.specs.StackUse.{HandsOn, HandsOnAt};
+ghost use Rattle.control_flow.specs.StackUse.{IsByte, IsWithinSlot, IsWholeSlot, ReadsSlot, WritesSlot, HandsOn, HandsOnAt};
 ghost use Rattle.control_flow.specs.Liveness.{Home, IsReadBy, IsWrittenBy};
 ghost use Rattle.control_flow.specs.Masks.{HasSlot, HasHome};
 ghost use Rattle.control_flow.specs.Flows.{IsLowest};

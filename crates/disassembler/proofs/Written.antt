@@ -6,7 +6,7 @@ use Rattle.std.proofs.lemmas.Grind.{flat_map-append}
 use Rattle.std.proofs.lemmas.List.{take-append-drop}
 use Rattle.std.specs.Io.KnownBytes.{Appends}
 use Rattle.exact_io.specs.Transfers.{AppendsBeginning}
-use Rattle.exact_io.specs.TransferLaws.{AppendsBeginning-first, AppendsBeginning-second}
+use Rattle.exact_io.proofs.TransferLaws.{AppendsBeginning-first, AppendsBeginning-second}
 
 -- a fact holds on an error, where it holds
 pub on_err : {X E : Type 0} (P : Type 0) (r : Result X E) → P → OnErr r P

@@ -103,7 +103,7 @@ fn push_digits(line: &mut Line, number: u64, places: u32)
 }
 
 /// Appends a number in lower-case hexadecimal, without leading zeros.
-#[tactic(auto, using(crate::specs::Hexadecimal::digits_in_hex))]
+#[tactic(auto, using(crate::proofs::HexadecimalLaws::digits_in_hex))]
 pub fn push_hex(line: &mut Line, number: u64)
     requires { array_string_len line.old + 16 ≤ 96 }
     ensures bytes { line.new.bytes ≡ line.old.bytes ++ digits 16 false number }

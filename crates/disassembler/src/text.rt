@@ -3,8 +3,7 @@
 ghost use Rattle.std.specs.Prelude.{◌≡◌, OnOk, OnErr};
 ghost use Rattle.std.specs.List.{flat_map};
 ghost use Rattle.std.specs.Io.KnownBytes.{Appends};
-ghost use Rattle.isa_model.specs.Text.CanonicalText.{line_of, row_line, rows_text, version_line};
-ghost use Rattle.isa_model.specs.Text.CanonicalText.{canonical_text};
+ghost use Rattle.isa_model.specs.Text.CanonicalText.{line_of, row_line, rows_text, version_line, canonical_text};
 ghost use Rattle.exact_io.specs.Transfers.{AppendsBeginning};
 ghost use Rattle.disassembler.specs.SlotText.{slot_text, program_text};
 

@@ -1,11 +1,7 @@
 //! The words and signs of instructions.
 
 ghost use Rattle.std.specs.Prelude.{◌≡◌, ◌≤◌, length};
-ghost use Rattle.isa_model.specs.Text.CanonicalText.{reg_digits, size_text, narrow_text};
-ghost use Rattle.isa_model.specs.Text.CanonicalText.{extension_text, extension_width, span_text};
-ghost use Rattle.isa_model.specs.Text.CanonicalText.{order_text, width_text, op_text};
-ghost use Rattle.isa_model.specs.Text.CanonicalText.{comparison_text, atomic_text, fetch_text};
-ghost use Rattle.isa_model.specs.Text.CanonicalText.{kind_text};
+ghost use Rattle.isa_model.specs.Text.CanonicalText.{reg_digits, size_text, narrow_text, extension_text, extension_width, span_text, order_text, width_text, op_text, comparison_text, atomic_text, fetch_text, kind_text};
 
 use isa_model::{
     AluOp, AtomicOp, ByteOrder, Comparison, Extension, MapKind, Narrow, Reg, Size, Span, Width,

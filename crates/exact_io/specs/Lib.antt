@@ -1,2 +1,1 @@
 pub mod Transfers
-pub mod TransferLaws

@@ -17,7 +17,7 @@ place_of slot byte = pos (8 * slot + byte) -ℤ pos 512
 abbrev pub byte_word : ℕ → ℕ → ℕ → List ℕ
 byte_word slot marks byte = if bit_at marks byte == 1 then codes " " ++ signed_decimal (place_of slot byte) else []
 
--- the places of those among its last bytes, so many
+-- the places of those among this count of its last bytes
 abbrev pub written_words : ℕ → ℕ → ℕ → List ℕ
 written_words slot marks zero = []
 written_words slot marks (suc n) = byte_word slot marks (7 - n) ++ written_words slot marks n
@@ -49,7 +49,7 @@ abbrev pub byte_line : State → ℕ → Option ℕ → List ℕ
 byte_line a frame None = []
 byte_line a frame (Some at) = slot_line a frame (at / 8)
 
--- the first slot of so many, not all of whose bytes are written number bytes
+-- the first slot among this count of them, not all of whose bytes are written number bytes
 abbrev pub first_open : List Slot → ℕ → ℕ → Option ℕ
 first_open slots slot zero = None
 first_open slots slot (suc n) = if marks_of (slot_at slots slot) == 255 then first_open slots (slot + 1) n else Some slot

@@ -3,9 +3,7 @@
 ghost use Rattle.std.specs.Prelude.{◌≡◌, ◌<◌, IfOk, decimal};
 ghost use Rattle.std.specs.String.{string_bytes};
 ghost use Rattle.stack_state.specs.Meaning.{depth};
-ghost use Rattle.explanations.specs.Mismatches.{IsInside, difference_lines, mismatch_lines};
-ghost use Rattle.explanations.specs.Mismatches.{register_words, stack_words, stack_difference};
-ghost use Rattle.explanations.specs.Mismatches.{returns_words, up_words};
+ghost use Rattle.explanations.specs.Mismatches.{IsInside, difference_lines, mismatch_lines, register_words, stack_words, stack_difference, returns_words, up_words};
 
 use crate::kinds::{calls_up, kind_words};
 use crate::mismatches::{Mismatch, frame_of};

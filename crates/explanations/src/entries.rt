@@ -5,8 +5,7 @@ ghost use Rattle.std.specs.String.{string_bytes};
 ghost use Rattle.table_entries.specs.Entries.{list_of};
 ghost use Rattle.table_entries.specs.Tables.{entry_at};
 ghost use Rattle.explanations.specs.Entries as spec;
-ghost use Rattle.explanations.specs.Entries.{step_lines, count_line, states_of};
-ghost use Rattle.explanations.specs.Entries.{TellsSuccessors, IsReasonAt, IsEntryReason};
+ghost use Rattle.explanations.specs.Entries.{step_lines, count_line, states_of, TellsSuccessors, IsReasonAt, IsEntryReason};
 
 use crate::differences::mismatch_lines;
 use crate::lines::{answer_line, register_lines, stack_lines};

@@ -2,8 +2,7 @@
 
 ghost use Rattle.std.specs.Prelude.{◌≡◌, IfOk};
 ghost use Rattle.std.specs.String.{string_bytes};
-ghost use Rattle.explanations.specs.Kinds.{calls_up, part_words, proved_words, packet_words};
-ghost use Rattle.explanations.specs.Kinds.{value_words, kind_words};
+ghost use Rattle.explanations.specs.Kinds.{calls_up, part_words, proved_words, packet_words, value_words, kind_words};
 
 use crate::numbers::number_words;
 use reg_state::Kind;

@@ -6,8 +6,7 @@ ghost use Rattle.std.specs.Option.{option_copied};
 ghost use Rattle.std.specs.String.{string_bytes};
 ghost use Rattle.isa_model.specs.Code.Helpers.{helper_numbered};
 ghost use Rattle.explanations.specs.Lines as spec;
-ghost use Rattle.explanations.specs.Lines.{concerned, register_lines, called_row, stack_lines};
-ghost use Rattle.explanations.specs.Lines.{more_jumps};
+ghost use Rattle.explanations.specs.Lines.{concerned, register_lines, called_row, stack_lines, more_jumps};
 
 use crate::kinds::kind_words;
 use crate::numbers::half_words;

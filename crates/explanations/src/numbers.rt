@@ -2,8 +2,7 @@
 
 ghost use Rattle.std.specs.Prelude.{◌≡◌, IfOk};
 ghost use Rattle.std.specs.String.{string_bytes};
-ghost use Rattle.explanations.specs.Numbers.{says_more, number_words};
-ghost use Rattle.explanations.specs.Numbers.{low_least, low_greatest, half_words};
+ghost use Rattle.explanations.specs.Numbers.{says_more, number_words, low_least, low_greatest, half_words};
 
 use isa_model::numbers::low_word;
 use ranges::Wide;

@@ -4,8 +4,7 @@ ghost use Rattle.std.specs.Prelude.{◌≡◌, ◌<◌, ◌≤◌, IfOk, IfSome,
 ghost use Rattle.std.specs.String.{string_bytes};
 ghost use Rattle.stack_state.specs.Meaning.{slots_of};
 ghost use Rattle.stack_state.specs.Slots.{slot_at};
-ghost use Rattle.explanations.specs.Slots.{place_of, byte_word, written_words, slot_words};
-ghost use Rattle.explanations.specs.Slots.{slot_line, byte_at, first_open};
+ghost use Rattle.explanations.specs.Slots.{place_of, byte_word, written_words, slot_words, slot_line, byte_at, first_open};
 
 use crate::kinds::{calls_up, kind_words};
 use stack_state::{Slot, State};
@@ -100,7 +99,7 @@ pub fn byte_at(from_end: i64) -> Option<usize>
     Some((from_end + 512) as usize)
 }
 
-/// The first slot of so many, not all of whose bytes are written number bytes.
+/// The first slot among the first ones, not all of whose bytes are written number bytes.
 pub fn first_open(state: &State, frame: u8, slot: usize, count: usize) -> Option<usize>
     requires { slot + count ≤ 64 }
     ensures found { result ≡ first_open (slots_of state.now frame) slot count }

@@ -2,7 +2,8 @@
 use Rattle.std.proofs.Common.{◌≡◌, ◌≤◌, ◌+◌, ◌∷◌, ◌++◌, [], ℕ, Some, None, Option, List, length, max, arith, refl, sym, add-one, subst, inl, inr, ◌⊎◌}
 use Rattle.isa_model.specs.Code.Instructions.{Program}
 use Rattle.isa_model.specs.Machine.Steps.{step}
-use Rattle.isa_model.specs.Running.Ends.{Ends, After-weaker, Ends-more}
+use Rattle.isa_model.specs.Running.Ends.{Ends}
+use Rattle.isa_model.proofs.EndsLaws.{After-weaker, Ends-more}
 use Rattle.stack_state.specs.declared.states.State.{State}
 use Rattle.stack_state.specs.Meaning.{Means, Within}
 use Rattle.transfer.specs.declared.Ways.TheVariants as ways

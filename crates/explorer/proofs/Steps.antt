@@ -7,15 +7,16 @@ use Rattle.isa_model.specs.declared.instructions.Insn.{Insn}
 use Rattle.isa_model.specs.declared.instructions.Insn.TheVariants.{CallLocal}
 use Rattle.isa_model.specs.Code.Instructions.{Program, fetch}
 use Rattle.image.specs.Images.{IsImage}
-use Rattle.image.specs.ImageLaws.{fetch-zero}
-use Rattle.image.specs.Programs.{IsProgram-IsImage}
+use Rattle.image.proofs.ImageLaws.{fetch-zero}
+use Rattle.image.proofs.Programs.{IsProgram-IsImage}
 use Rattle.isa_model.specs.Running.Runs.{start_state}
-use Rattle.stack_state.specs.Starts.{start, Means-start}
+use Rattle.stack_state.specs.Starts.{start}
+use Rattle.stack_state.proofs.StartsLaws.{Means-start}
 use Rattle.stack_state.specs.declared.states.State.{State}
 use Rattle.isa_model.specs.Running.Outcomes.{StartsEnd}
 use Rattle.stack_state.specs.Meaning.{Within}
 use Rattle.control_flow.specs.Flows.{IsFlow}
-use Rattle.control_flow.specs.FlowLaws.{IsFlow-Follows, IsFlow-fall, IsFlow-call}
+use Rattle.control_flow.proofs.FlowLaws.{IsFlow-Follows, IsFlow-fall, IsFlow-call}
 use Rattle.control_flow.specs.Graph.{BeginsInsn}
 use Rattle.transfer.specs.declared.Ways.{Ways}
 use Rattle.transfer.specs.declared.Ways.TheVariants as ways

@@ -25,7 +25,7 @@ pub data ComesBy (p : Program) : State → List Jump → Type 0 where
   OneMore : (a s : State) (i : Insn) (before jumps : List Jump) → ComesBy p a before → fetch p a.slot ≡ Some i → StepsTo p a s
       → jumps ≡ before ++ jump_of a i s → ComesBy p s jumps
 
--- so many at the end of the jumps, or all
+-- this count of the last jumps, or all
 unfoldable pub last : ℕ → List Jump → List Jump
 last count jumps = drop (length jumps - count) jumps
 

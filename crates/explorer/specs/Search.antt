@@ -12,7 +12,7 @@ use Rattle.stack_state.specs.Starts.{start}
 use Rattle.control_flow.specs.Graph.{BeginsInsn}
 use Rattle.control_flow.specs.Flows.{IsJoin}
 use Rattle.transfer.specs.Following.{returns_of}
-use Rattle.walks.specs.declared.refusals.TheConstants.{MAX_EXPLORED}
+use Rattle.isa_model.specs.declared.limits.TheConstants.{MAX_EXPLORED}
 use Rattle.walks.specs.declared.refusals.Refusal.{Refusal}
 use Rattle.walks.specs.declared.refusals.Refusal.TheVariants.{Repeats, Memory}
 use Rattle.explorer.specs.declared.table.Stored.{Stored}

@@ -21,4 +21,4 @@ pub use explanations::{Explanation, Jump, explain};
 pub use kept::Kept;
 pub use listing::{Entry, Explored, explore};
 pub use verified::verify;
-pub use walks::{MAX_EXPLORED, Refusal};
+pub use walks::Refusal;

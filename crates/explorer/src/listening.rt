@@ -4,8 +4,7 @@ ghost use Rattle.std.specs.Prelude.{◌≡◌, ◌∷◌, List, OnOk};
 ghost use Rattle.isa_model.specs.Code.Instructions.{Program};
 ghost use Rattle.stack_state.specs.declared.states.State.{State as TheState};
 ghost use Rattle.explorer.specs.declared.trail.Visit.{Visit as TheVisit};
-ghost use Rattle.explorer.specs.Listening.{ComesTo, IfRefused, IsToTell, IsTold};
-ghost use Rattle.explorer.specs.Listening.{IsToRefuse, EndsIn};
+ghost use Rattle.explorer.specs.Listening.{ComesTo, IfRefused, IsToTell, IsTold, IsToRefuse, EndsIn};
 
 use crate::moves::{Halt, Move, Refused};
 use stack_state::State;
@@ -81,7 +80,8 @@ pub fn tell<L: Listener>(listener: &mut L, state: &State, made: Move) -> Result<
 /// comes back.
 pub fn halt<L: Listener>(listener: &mut L, state: &State, refused: Refused) -> Halt<L::Stop>
     ensures same { IfRefused result (λ e slot. (e ≡ refused.0) × (slot ≡ refused.1)) }
-    ensures ends { (p : Program) → IsToRefuse p (L.follows listener.old p) state.now refused.0 refused.1
+    ensures ends { (p : Program)
+        → IsToRefuse p (L.follows listener.old p) state.now refused.0 refused.1
         → IfRefused result (EndsIn p (L.follows listener.new p)) }
 {
     let (refusal, slot) = refused;

@@ -1,7 +1,6 @@
 //! The search through abstract states, depth first.
 
-ghost use Rattle.std.specs.Prelude.{◌≡◌, ◌≢◌, ◌≤◌, ◌+◌, ◌<◌, [], length};
-ghost use Rattle.std.specs.Prelude.{IfOk, IfErr, IfSome, OnOk, OnErr};
+ghost use Rattle.std.specs.Prelude.{◌≡◌, ◌≢◌, ◌≤◌, ◌+◌, ◌<◌, [], length, IfOk, IfErr, IfSome, OnOk, OnErr};
 ghost use Rattle.stack_state.specs.Starts.{start};
 ghost use Rattle.stack_state.specs.Meaning.{Within};
 ghost use Rattle.stack_state.specs.declared.states.State.{State as TheState};
@@ -10,11 +9,8 @@ ghost use Rattle.walks.specs.Counts.{HasNumber};
 ghost use Rattle.image.specs.Images.{IsImage};
 ghost use Rattle.control_flow.specs.Flows.{IsFlow};
 ghost use Rattle.walks.specs.Refused.{StopsAt};
-ghost use Rattle.explorer.specs.Search.{Arrives, IsArrival, TurnsBack, IsNew, Comes, HasEnded};
-ghost use Rattle.explorer.specs.Search.{Moves, MovesOrEnds, Goes, IsFull};
-ghost use Rattle.explorer.specs.Listening.{Begins, BeginFails, Steps, StepFails, ComesBackAt};
-ghost use Rattle.explorer.specs.Listening.{IfReturns, ReturnFails, IfRefused};
-ghost use Rattle.explorer.specs.Listening.{IsToTell, FollowsTo, FollowsTurn, EndsIn};
+ghost use Rattle.explorer.specs.Search.{Arrives, IsArrival, TurnsBack, IsNew, Comes, HasEnded, Moves, MovesOrEnds, Goes, IsFull};
+ghost use Rattle.explorer.specs.Listening.{Begins, BeginFails, Steps, StepFails, ComesBackAt, IfReturns, ReturnFails, IfRefused, IsToTell, FollowsTo, FollowsTurn, EndsIn};
 
 use crate::kept::Kept;
 use crate::listening::{Listener, halt, tell};
@@ -23,11 +19,12 @@ use crate::table::Table;
 use crate::trail::{Trail, Visit};
 use control_flow::Flow;
 use image::Image;
+use isa_model::MAX_EXPLORED;
 use stack_state::State;
 use state_index::Part;
 use std::alloc::{AllocError, Global};
 use transfer::{Ways, step_in_place};
-use walks::{MAX_EXPLORED, Refusal, forget_dead};
+use walks::{Refusal, forget_dead};
 
 /// A search: the path from the start to the current state, and the states that were stored.
 #[derive(Drop)]

@@ -1,7 +1,6 @@
 //! The path from the start to the current state.
 
-ghost use Rattle.std.specs.Prelude.{◌≡◌, ◌≤◌, ◌+◌, ◌++◌, ◌∷◌, [], length, MatchOption};
-ghost use Rattle.std.specs.Prelude.{OnOk, OnErr, IfOk, option_to_list, is_some};
+ghost use Rattle.std.specs.Prelude.{◌≡◌, ◌≤◌, ◌+◌, ◌++◌, ◌∷◌, [], length, MatchOption, OnOk, OnErr, IfOk, option_to_list, is_some};
 ghost use Rattle.explorer.specs.Trail.{one_if};
 
 use crate::kept::Kept;

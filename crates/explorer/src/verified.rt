@@ -14,8 +14,9 @@ use crate::search::Search;
 use bounds::Verified;
 use control_flow::Flow;
 use image::Image;
+use isa_model::MAX_EXPLORED;
 use std::alloc::Global;
-use walks::{MAX_EXPLORED, Refusal};
+use walks::Refusal;
 
 /// The bound of a program's runs.
 fn bound_of(alloc: Global, image: &Image) -> Result<u32, (Refusal, usize)>

@@ -1,2 +1,3 @@
 mod Rows
 mod Copies
+pub mod BytesLaws

@@ -12,9 +12,10 @@ use Rattle.isa_model.specs.declared.streams.Finish.{Finish}
 use Rattle.isa_model.specs.declared.streams.Finish.TheVariants as finish
 use Rattle.isa_model.specs.declared.versions.Version.{Version}
 use Rattle.isa_model.specs.declared.versions.Version.TheVariants.{One, Two}
-use Rattle.isa_model.specs.Code.Versions.{stream_magic, head_size, max_body}
+use Rattle.isa_model.specs.Code.Versions.{stream_magic, head_size}
+use Rattle.isa_model.specs.Code.Limits.{max_body}
 use Rattle.isa_model.specs.Reporting.Streams.{max_frames, cut_by, length_field, Ending, ByEnd, ByError, head_bytes, stop_at}
-use Rattle.isa_model.specs.Reporting.StreamLaws.{some_head}
+use Rattle.isa_model.proofs.StreamLaws.{some_head}
 use Rattle.frames.specs.Readers.{Position, At, Done}
 use Rattle.frames.specs.Reading.{ReadsMagic, MayOpen, Reads, Stops, CanStop, Found, Stopped}
 use Rattle.frames.proofs.Stopping.{stop_at-cut, stop_at-read, stop_at-nothing_read, stop_at-many, stop_at-long, stop_at-body, length_field-append, opened-short, opened-other}

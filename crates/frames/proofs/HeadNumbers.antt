@@ -2,7 +2,8 @@
 use Rattle.std.proofs.Common.{◌≡◌, ℕ, ◌+◌, ◌-◌, ◌≤◌, List, ◌++◌, length, take, drop, sym, ap, ◌∙◌, arith}
 use Rattle.std.proofs.lemmas.List.{take-append-drop, drop-drop, take_all, length-drop}
 use Rattle.byteorder.specs.Endian.{little_from, little_bytes}
-use Rattle.isa_model.specs.Code.LittleEndian.{EachByte, little_bytes-little_from, little_from-drop}
+use Rattle.isa_model.specs.Code.LittleEndian.{EachByte}
+use Rattle.isa_model.proofs.LittleEndianLaws.{little_bytes-little_from, little_from-drop}
 
 -- a number that was read from the part of a list after its first i bytes
 pub little_from-behind : (n i : ℕ) (xs : List ℕ) → little_from 0 n (take (length xs - i) (drop i xs)) ≡ little_from (i + 0) n xs

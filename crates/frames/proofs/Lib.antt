@@ -1,3 +1,4 @@
 pub mod HeadNumbers
 pub mod Stopping
 pub mod Findings
+pub mod InputsLaws

@@ -7,9 +7,10 @@ use Rattle.isa_model.specs.declared.streams.Finish.TheVariants as finish
 use Rattle.std.specs.List.{starts_with}
 use Rattle.isa_model.specs.declared.versions.Version.{Version}
 use Rattle.isa_model.specs.declared.versions.Version.TheVariants.{One, Two}
-use Rattle.isa_model.specs.Code.Versions.{stream_magic, head_size, max_body}
+use Rattle.isa_model.specs.Code.Versions.{stream_magic, head_size}
+use Rattle.isa_model.specs.Code.Limits.{max_body}
 use Rattle.isa_model.specs.Reporting.Streams.{max_frames, cut_by, length_field, Ending, ByError, opened, stop_at}
-use Rattle.isa_model.specs.Reporting.StreamLaws.{some_head}
+use Rattle.isa_model.proofs.StreamLaws.{some_head}
 
 -- a part of a head
 pub stop_at-cut : (v : Version) (number offset : ℕ) (bytes : List ℕ) (e : Ending) → number ≢ max_frames → 0 < length bytes → length bytes < head_size v

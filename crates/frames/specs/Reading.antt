@@ -7,7 +7,8 @@ use Rattle.isa_model.specs.declared.streams.Finish.{Finish}
 use Rattle.isa_model.specs.declared.streams.Finish.TheVariants as finish
 use Rattle.isa_model.specs.declared.versions.Version.{Version}
 use Rattle.isa_model.specs.declared.versions.Version.TheVariants.{One}
-use Rattle.isa_model.specs.Code.Versions.{version_number, stream_magic, max_packet}
+use Rattle.isa_model.specs.Code.Versions.{version_number, stream_magic}
+use Rattle.isa_model.specs.Code.Limits.{max_packet}
 use Rattle.isa_model.specs.Reporting.Streams.{Frame, IsFrame, max_frames, frame_bytes, record_size, Ending, ByEnd, ByError, opened, stop_at}
 use Rattle.frames.specs.Readers.{Position, Fresh, At, Done, Reading}
 use Rattle.frames.specs.declared.reader.Next.{Next}

@@ -2,7 +2,8 @@
 use Rattle.std.specs.Prelude.{◌≡◌, ℕ, ◌+◌, ◌*◌, ◌<◌, ◌≤◌}
 use Rattle.isa_model.specs.declared.streams.Finish.TheVariants as finish
 use Rattle.isa_model.specs.declared.versions.Version.{Version}
-use Rattle.isa_model.specs.Code.Versions.{head_size, max_packet}
+use Rattle.isa_model.specs.Code.Versions.{head_size}
+use Rattle.isa_model.specs.Code.Limits.{max_packet}
 use Rattle.isa_model.specs.Reporting.Streams.{max_frames}
 use Rattle.frames.specs.Readers.{Position, Fresh, At, Done}
 use Rattle.frames.specs.declared.reader.Next.{Next}

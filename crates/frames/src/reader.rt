@@ -2,8 +2,7 @@
 ghost use Rattle.std.specs.Prelude.{◌≡◌, ◌≢◌, ◌+◌, ◌*◌, ◌≤◌, Option};
 ghost use Rattle.isa_model.specs.Machine.MachineStates.{AreBytes};
 ghost use Rattle.frames.specs.Readers.{Position, Fresh, At};
-ghost use Rattle.frames.specs.Reading.{ReadsMagic, MayOpen, Opens, begun_at, Finds, finding_of};
-ghost use Rattle.frames.specs.Reading.{Reads, HasRoom, FitsBuffer, StaysDone};
+ghost use Rattle.frames.specs.Reading.{ReadsMagic, MayOpen, Opens, begun_at, Finds, finding_of, Reads, HasRoom, FitsBuffer, StaysDone};
 ghost use Rattle.frames.specs.Stages.{position_of, IsWithin, HasRoomFor, IsStageAfter};
 
 use super::heads::decode_head;

@@ -2,7 +2,7 @@
 ghost use Rattle.std.specs.Prelude.{◌≤◌, length, OnOk, OnErr};
 ghost use Rattle.std.specs.Io.KnownBytes.{Appends};
 ghost use Rattle.isa_model.specs.declared.versions.Version.TheVariants.{One, Two};
-ghost use Rattle.isa_model.specs.Code.Versions.{max_body};
+ghost use Rattle.isa_model.specs.Code.Limits.{max_body};
 ghost use Rattle.isa_model.specs.Reporting.Streams.{frame_bytes};
 ghost use Rattle.exact_io.specs.Transfers.{AppendsBeginning};
 

@@ -9,13 +9,13 @@ use Rattle.isa_model.specs.declared.versions.Version.{Version}
 use Rattle.isa_model.specs.Code.Instructions.{Program}
 use Rattle.isa_model.specs.Code.Versions.{stream_magic}
 use Rattle.isa_model.specs.Machine.States.{Entries}
-use Rattle.isa_model.specs.Reporting.Streams.{Frame, Stream, stream_with}
-use Rattle.isa_model.specs.Reporting.StreamLaws.{AreOpen}
+use Rattle.isa_model.specs.Reporting.Streams.{Frame, Stream, stream_with, AreOpen}
 use Rattle.isa_model.specs.Running.Runs.{Turn, turn}
-use Rattle.isa_model.specs.Running.RunLaws.{turn-outcome}
+use Rattle.isa_model.proofs.RunLaws.{turn-outcome}
 use Rattle.isa_model.specs.Reporting.Reports.{Piece, ToReport, ToFrames, Form, Rule, turns_pieces, contents_after, maps_pieces, last_line, report_of, checked_rule, checked_report, starting_contents, IsReport}
-use Rattle.isa_model.specs.Reporting.ReportLaws.{AllExit, IsReport-checked}
-use Rattle.image.specs.Programs.{IsProgram-IsImage, FitRows-starting_contents}
+use Rattle.isa_model.specs.Running.Outcomes.{AllExit}
+use Rattle.isa_model.proofs.ReportLaws.{IsReport-checked}
+use Rattle.image.proofs.Programs.{IsProgram-IsImage, FitRows-starting_contents}
 use Rattle.bounds.specs.Bounds.{Bounded, IsVerified}
 use Rattle.machine.specs.declared.machines.Exit.{Exit as TheExit}
 use Rattle.machine.specs.Running.{Running, Answers}

@@ -6,10 +6,10 @@ use Rattle.isa_model.specs.Code.Instructions.{Program}
 use Rattle.isa_model.specs.Code.Versions.{stream_magic}
 use Rattle.isa_model.specs.Machine.States.{Entries}
 use Rattle.isa_model.specs.Running.Runs.{Outcome, Turn}
-use Rattle.isa_model.specs.Running.RunLaws.{turn-outcome, HasOutcome-same}
+use Rattle.isa_model.proofs.RunLaws.{turn-outcome, HasOutcome-same}
 use Rattle.isa_model.specs.Reporting.Streams.{Frame, stream_with}
 use Rattle.isa_model.specs.Reporting.Reports.{Piece, ToReport, ToFrames, Form, frame_line, frame_pieces, skip_pieces, turn_on, turn_pieces, contents_left, turns_pieces, maps_pieces, last_line, checked_rule, turn_by, starting_contents, ReportsFrame, ReportsFrames, form_of, IsReport}
-use Rattle.isa_model.specs.Reporting.ReportLaws.{ExitsOn, AllExit}
+use Rattle.isa_model.specs.Running.Outcomes.{ExitsOn, AllExit}
 use Rattle.host.specs.Reported.{front_in}
 
 module _ (p : Program) (n : ℕ) where

@@ -21,8 +21,9 @@ use Rattle.isa_model.specs.Machine.MapContents.{key_order, is_key}
 use Rattle.isa_model.specs.Machine.MachineStates.{IsEntry, FitsRow}
 use Rattle.isa_model.specs.Machine.States.{Entries}
 use Rattle.isa_model.specs.Reporting.Reports.{Piece, ToReport, map_line, map_pieces, maps_pieces, entry_by_index, in_report_order}
-use Rattle.maps.specs.Maps.{MapState, IsMap, map_at, content_in, ordered_in, rows_of, contents_of, KeyFits-most}
-use Rattle.maps.specs.MapLaws.{FitsRow-IsMap}
+use Rattle.maps.specs.Maps.{MapState, IsMap, map_at, content_in, ordered_in, rows_of, contents_of}
+use Rattle.maps.proofs.MapsLaws.{KeyFits-most}
+use Rattle.maps.proofs.MapLaws.{FitsRow-IsMap}
 use Rattle.maps.specs.ReportOrder.{with_key_of}
 use Rattle.host.specs.declared.errors.HostError.{HostError}
 use Rattle.host.specs.declared.errors.HostError.TheVariants as failure

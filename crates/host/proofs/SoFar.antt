@@ -4,7 +4,7 @@ use Rattle.isa_model.specs.Machine.States.{Entries}
 use Rattle.isa_model.specs.Reporting.Streams.{Frame}
 use Rattle.isa_model.specs.Reporting.Reports.{Rule, Form, contents_after}
 use Rattle.frames.specs.Readers.{Position}
-use Rattle.frames.specs.Inputs.{HasBegun}
+use Rattle.frames.proofs.InputsLaws.{HasBegun}
 use Rattle.host.specs.Writing.{Outputs, Wrote}
 use Rattle.host.specs.Reported.{front_in}
 

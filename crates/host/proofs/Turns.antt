@@ -7,14 +7,16 @@ use Rattle.isa_model.specs.declared.streams.Fault.{Fault}
 use Rattle.isa_model.specs.declared.streams.Finish.{Finish}
 use Rattle.isa_model.specs.declared.versions.Version.{Version}
 use Rattle.isa_model.specs.declared.versions.Version.TheVariants.{One, Two}
-use Rattle.isa_model.specs.Code.Versions.{stream_magic, max_body, max_packet}
+use Rattle.isa_model.specs.Code.Versions.{stream_magic}
+use Rattle.isa_model.specs.Code.Limits.{max_body, max_packet}
 use Rattle.isa_model.specs.Machine.States.{Entries}
 use Rattle.isa_model.specs.Reporting.Streams.{Frame, max_frames, stream_with}
-use Rattle.isa_model.specs.Reporting.StreamLaws.{AreOpen-nil}
+use Rattle.isa_model.proofs.StreamLaws.{AreOpen-nil}
 use Rattle.isa_model.specs.Reporting.Reports.{Piece, Rule, Form, ToReport, ToFrames, turns_pieces, contents_after, turn_on, turn_pieces, contents_left, maps_pieces, last_line}
 use Rattle.frames.specs.Readers.{Position, Fresh}
 use Rattle.frames.specs.Reading.{Opens, begun_at, Found, Stopped, Finds}
-use Rattle.frames.specs.Inputs.{HasBegun, IsBegunVersion, HasBegun-opens, HasBegun-open, HasBegun-found, HasBegun-stopped, HasFound-begins, unopened}
+use Rattle.frames.proofs.InputsLaws.{HasBegun, HasBegun-opens, HasBegun-open, HasBegun-found, HasBegun-stopped, HasFound-begins, unopened}
+use Rattle.frames.specs.Inputs.{IsBegunVersion}
 use Rattle.host.specs.declared.errors.HostError.{HostError}
 use Rattle.host.specs.declared.errors.HostError.TheVariants as failure
 use Rattle.host.specs.declared.tallies.Tally.{Tally}

@@ -2,11 +2,10 @@
 use Rattle.std.specs.Prelude.{◌≡◌, ℕ, ◌≤◌, List, ◌++◌, length, Option, Result, Err, IfOk, ◌⊎◌}
 use Rattle.isa_model.specs.declared.streams.Finish.{Finish}
 use Rattle.isa_model.specs.declared.versions.Version.{Version}
-use Rattle.isa_model.specs.Running.Runs.{max_steps}
-use Rattle.isa_model.specs.Reporting.Streams.{Frame, Stream, stream_with}
-use Rattle.isa_model.specs.Reporting.StreamLaws.{AreOpen}
+use Rattle.isa_model.specs.Code.Limits.{max_steps}
+use Rattle.isa_model.specs.Reporting.Streams.{Frame, Stream, stream_with, AreOpen}
 use Rattle.isa_model.specs.Reporting.Reports.{Piece, IsReport, starting_contents}
-use Rattle.isa_model.specs.Reporting.ReportLaws.{AllExit}
+use Rattle.isa_model.specs.Running.Outcomes.{AllExit}
 use Rattle.bounds.specs.Bounds.{Bounded}
 use Rattle.frames.specs.Inputs.{AreReadFrom, IsBegunBy}
 use Rattle.host.specs.declared.errors.HostError.{HostError}

@@ -5,8 +5,7 @@ use Rattle.isa_model.specs.declared.streams.Finish.{Finish}
 use Rattle.isa_model.specs.declared.versions.Version.{Version}
 use Rattle.isa_model.specs.Code.Versions.{stream_magic}
 use Rattle.isa_model.specs.Machine.States.{Entries}
-use Rattle.isa_model.specs.Reporting.Streams.{Frame, Stream, stream_with}
-use Rattle.isa_model.specs.Reporting.StreamLaws.{AreOpen}
+use Rattle.isa_model.specs.Reporting.Streams.{Frame, Stream, stream_with, AreOpen}
 use Rattle.isa_model.specs.Reporting.Reports.{Piece, ToFrames, Form, Rule, turns_pieces, report_of}
 use Rattle.frames.specs.Inputs.{AreReadFrom, IsBegunBy}
 use Rattle.host.specs.declared.errors.HostError.{HostError}

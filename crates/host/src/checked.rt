@@ -1,6 +1,6 @@
 //! Runs on the checked machine.
 ghost use Rattle.std.specs.Prelude.{◌≡◌, ◌≢◌, ◌≤◌};
-ghost use Rattle.isa_model.specs.Running.Runs.{max_steps};
+ghost use Rattle.isa_model.specs.Code.Limits.{max_steps};
 ghost use Rattle.isa_model.specs.Reporting.Reports.{checked_report};
 ghost use Rattle.host.specs.Reported.{Reports};
 

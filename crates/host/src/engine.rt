@@ -1,9 +1,7 @@
 //! The run over all frames of a stream, written once for every machine. It takes no memory.
 ghost use Rattle.std.specs.Prelude.{◌≡◌, ◌≢◌, ◌≤◌, [], ◌∷◌, ◌++◌, length, IfOk};
-ghost use Rattle.isa_model.specs.Code.Versions.{max_body};
-ghost use Rattle.isa_model.specs.Reporting.Reports.{ToReport, maps_pieces, last_line};
-ghost use Rattle.isa_model.specs.Reporting.Reports.{frame_pieces, skip_pieces, turn_pieces};
-ghost use Rattle.isa_model.specs.Reporting.Reports.{turn_on, contents_left};
+ghost use Rattle.isa_model.specs.Code.Limits.{max_body};
+ghost use Rattle.isa_model.specs.Reporting.Reports.{ToReport, maps_pieces, last_line, frame_pieces, skip_pieces, turn_pieces, turn_on, contents_left};
 ghost use Rattle.host.specs.Forms.{form_by};
 ghost use Rattle.host.specs.Tallies.{tally_of};
 ghost use Rattle.host.specs.Writing.{Writes, WritesReport};

@@ -1,8 +1,7 @@
 //! The lines of the report, made in a buffer of fixed size.
 ghost use Rattle.std.specs.Prelude.{◌≡◌, ◌+◌, ◌≤◌, ◌++◌, decimal};
 ghost use Rattle.arrayvec.specs.ArrayString.{array_string_len};
-ghost use Rattle.isa_model.specs.Reporting.Reports.{frame_line, skip_line, last_line};
-ghost use Rattle.isa_model.specs.Reporting.Reports.{reason_text};
+ghost use Rattle.isa_model.specs.Reporting.Reports.{frame_line, skip_line, last_line, reason_text};
 ghost use Rattle.host.specs.Forms.{form_by};
 
 use super::forms::Form;

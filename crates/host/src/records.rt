@@ -1,7 +1,8 @@
 //! The magic and the records of the frames out.
 ghost use Rattle.std.specs.Prelude.{◌≡◌, ◌≤◌, length, OnOk, OnErr};
 ghost use Rattle.std.specs.Io.KnownBytes.{Appends};
-ghost use Rattle.isa_model.specs.Code.Versions.{stream_magic, max_body};
+ghost use Rattle.isa_model.specs.Code.Versions.{stream_magic};
+ghost use Rattle.isa_model.specs.Code.Limits.{max_body};
 ghost use Rattle.isa_model.specs.Reporting.Streams.{frame_bytes};
 ghost use Rattle.exact_io.specs.Transfers.{AppendsBeginning};
 

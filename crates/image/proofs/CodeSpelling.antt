@@ -8,12 +8,13 @@ use Rattle.isa_model.specs.Code.Instructions.{slots_of}
 use Rattle.isa_model.specs.Code.Spelling.{spelling_of, InsnFits}
 use Rattle.insn_codec.specs.declared.errors.CodecError.{CodecError}
 use Rattle.insn_codec.specs.Decoding.{decoded}
-use Rattle.isa_model.specs.Code.LittleEndian.{EachByte, EachByte-drop}
+use Rattle.isa_model.specs.Code.LittleEndian.{EachByte}
+use Rattle.isa_model.proofs.LittleEndianLaws.{EachByte-drop}
 use Rattle.image.specs.declared.errors.ImageError.{ImageError}
 use Rattle.isa_model.specs.Code.MapRows.{NamesRows}
 use Rattle.image.specs.Images.{code_bytes, is_wide, IsCode, NamesMaps}
 use Rattle.image.specs.Refusals.{◌>>=◌, unless, map_refusal, insn_at, at_slot, code_from}
-use Rattle.image.specs.RowLaws.{NamesRows-map_refusal, map_refusal-NamesRows}
+use Rattle.image.proofs.RowLaws.{NamesRows-map_refusal, map_refusal-NamesRows}
 
 abbrev Slots : Type 0
 Slots = List (Option Insn)

@@ -3,3 +3,7 @@ pub mod RowSpelling
 pub mod CodeSpelling
 pub mod Whole
 pub mod Writing
+pub mod CodeLaws
+pub mod ImageLaws
+pub mod Programs
+pub mod RowLaws

@@ -12,12 +12,13 @@ use Rattle.isa_model.specs.declared.map_defs.MapKind.{MapKind}
 use Rattle.isa_model.specs.declared.map_defs.MapKind.TheVariants.{Hash, Array}
 use Rattle.isa_model.specs.declared.map_defs.MapDef.{MapDef}
 use Rattle.isa_model.specs.Code.MapRows.{KeyFits, IsRow}
-use Rattle.isa_model.specs.Code.LittleEndian.{EachByte, EachByte-drop, little_bytes-little_from}
+use Rattle.isa_model.specs.Code.LittleEndian.{EachByte}
+use Rattle.isa_model.proofs.LittleEndianLaws.{EachByte-drop, little_bytes-little_from}
 use Rattle.image.specs.declared.errors.ImageError.{ImageError}
 use Rattle.image.specs.declared.errors.ImageError.TheVariants.{MapRow}
 use Rattle.image.specs.Images.{kind_code, row_bytes}
 use Rattle.image.specs.Refusals.{◌>>=◌, row_fits, kind_numbered, with_kind, tested, row_at, rows_from}
-use Rattle.image.specs.RowLaws.{IsRow-row_fits, row_fits-IsRow}
+use Rattle.image.proofs.RowLaws.{IsRow-row_fits, row_fits-IsRow}
 
 abbrev row_ok : MapDef → Result MapDef ImageError
 row_ok row = Ok row

@@ -15,13 +15,14 @@ use Rattle.isa_model.specs.declared.instructions.Insn.{Insn}
 use Rattle.isa_model.specs.declared.versions.Version.{Version}
 use Rattle.isa_model.specs.declared.versions.Version.TheVariants.{One, Two}
 use Rattle.isa_model.specs.Code.Instructions.{Program}
-use Rattle.isa_model.specs.Code.LittleEndian.{EachByte, EachByte-drop, little_bytes-little_from}
+use Rattle.isa_model.specs.Code.LittleEndian.{EachByte}
+use Rattle.isa_model.proofs.LittleEndianLaws.{EachByte-drop, little_bytes-little_from}
 use Rattle.image.specs.declared.errors.ImageError.{ImageError}
 use Rattle.image.specs.declared.errors.ImageError.TheVariants.{Magic, Short, Long, TooManyMaps, SlotCount, MapRoom, Memory}
-use Rattle.image.specs.declared.head.TheConstants.{MAX_MAPS, MAX_MAP_ROOM, MAX_SLOTS}
+use Rattle.isa_model.specs.declared.limits.TheConstants.{MAX_MAPS, MAX_MAP_ROOM, MAX_SLOTS}
 use Rattle.image.specs.Images.{magic, row_bytes, head_bytes, code_bytes, image_bytes, IsCode, room_of, IsImage}
 use Rattle.image.specs.Refusals.{◌>>=◌, unless, count_refusal, rows_refusal, maps_refusal, parts_refusal, version_at, version_read, map_count, slot_count, size_of, size_refusal, rows_from, room_refusal, code_from, rows_read, code_read, program_read, refusal_of}
-use Rattle.image.specs.RowLaws.{All-rows_refusal, NamesMaps-maps_refusal}
+use Rattle.image.proofs.RowLaws.{All-rows_refusal, NamesMaps-maps_refusal}
 use Rattle.image.proofs.CodeSpelling.{Laws, take-rest, code_from-found, code_from-code_bytes, length-code_bytes}
 use Rattle.image.proofs.RowSpelling.{rows_from-fit, rows_from-found, rows_from-row_bytes, length-rows}
 

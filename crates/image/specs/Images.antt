@@ -12,7 +12,7 @@ use Rattle.isa_model.specs.declared.versions.Version.TheVariants.{One, Two}
 use Rattle.isa_model.specs.Code.Instructions.{Program, slots, slots_of}
 use Rattle.isa_model.specs.Code.MapRows.{IsRow, NamesRows}
 use Rattle.isa_model.specs.Code.Spelling.{spelling_of, InsnFits}
-use Rattle.image.specs.declared.head.TheConstants.{MAX_MAPS, MAX_MAP_ROOM, MAX_SLOTS}
+use Rattle.isa_model.specs.declared.limits.TheConstants.{MAX_MAPS, MAX_MAP_ROOM, MAX_SLOTS}
 
 -- ---- spelling
 

@@ -16,7 +16,8 @@ use Rattle.insn_codec.specs.declared.errors.CodecError.{CodecError}
 use Rattle.insn_codec.specs.Decoding.{decoded}
 use Rattle.image.specs.declared.errors.ImageError.{ImageError}
 use Rattle.image.specs.declared.errors.ImageError.TheVariants.{Magic, Short, Long, TooManyMaps, MapRow, SlotCount, MapRoom, Code, UnknownMap, ValuePointer, Memory}
-use Rattle.image.specs.declared.head.TheConstants.{MAX_MAPS, MAX_MAP_ROOM, MAX_SLOTS}
+use Rattle.isa_model.specs.declared.limits.TheConstants.{MAX_MAPS, MAX_MAP_ROOM, MAX_SLOTS}
+use Rattle.isa_model.specs.Code.Limits.{max_key_size, max_value_size, max_map_entries}
 use Rattle.image.specs.Images.{magic, is_wide, room_of}
 
 infixl 10 ◌>>=◌
@@ -70,15 +71,15 @@ count_refusal slots = if slots == 0 then Some SlotCount else if nat_lt MAX_SLOTS
 -- ---- the map rows
 
 abbrev pub key_fits : MapKind → ℕ → Bool
-key_fits Hash n = nat_le 1 n && nat_le n 64
+key_fits Hash n = nat_le 1 n && nat_le n max_key_size
 key_fits Array n = n == 4
 
 -- whether a row is within its limits
 abbrev pub row_fits : MapDef → Bool
 row_fits row =
     key_fits row.kind row.key_size
-    && (nat_le 1 row.value_size && nat_le row.value_size 4096)
-    && (nat_le 1 row.entries && nat_le row.entries 65536)
+    && (nat_le 1 row.value_size && nat_le row.value_size max_value_size)
+    && (nat_le 1 row.entries && nat_le row.entries max_map_entries)
 
 abbrev pub kind_numbered : ℕ → Option MapKind
 kind_numbered n = if n == 1 then Some Hash else if n == 2 then Some Array else None

@@ -1,4 +1,4 @@
-//! The sizes of an image, and the 8 bytes that stand at its front.
+//! The 8 bytes that stand at its front.
 
 ghost use Rattle.std.specs.Prelude.{◌≡◌, ◌≤◌, ◌++◌, length};
 ghost use Rattle.byteorder.specs.Endian.{little_bytes};
@@ -7,16 +7,7 @@ ghost use Rattle.image.specs.Refusals.{count_refusal, map_count, size_refusal, v
 
 use crate::errors::ImageError;
 use byteorder::{ByteOrder, LittleEndian};
-use isa_model::Version;
-
-/// The most map rows of an image.
-pub const MAX_MAPS: u16 = 16;
-
-/// The most bytes of all keys and values together, each map with as many entries as it can have.
-pub const MAX_MAP_ROOM: u64 = 16_777_216;
-
-/// The most slots of an image.
-pub const MAX_SLOTS: u16 = 4096;
+use isa_model::{MAX_MAPS, MAX_SLOTS, Version};
 
 /// The first test of the head and of the whole length that fails.
 pub fn size_refusal(bytes: &[u8]) -> Option<ImageError>

@@ -13,7 +13,6 @@ pub mod named;
 pub mod rows;
 
 pub use errors::ImageError;
-pub use head::{MAX_MAP_ROOM, MAX_MAPS, MAX_SLOTS};
 pub use images::Image;
 pub use named::map_refusal;
 pub use rows::{room_of, row_fits};

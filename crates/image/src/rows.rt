@@ -6,14 +6,12 @@ ghost use Rattle.std.specs.Io.KnownBytes.{Appends};
 ghost use Rattle.isa_model.specs.Code.MapRows.{IsRow};
 ghost use Rattle.exact_io.specs.Transfers.{AppendsBeginning};
 ghost use Rattle.image.specs.Images.{kind_code, row_bytes, room_of};
-ghost use Rattle.image.specs.Refusals.{Gives, key_fits, row_fits, kind_numbered, row_at};
-ghost use Rattle.image.specs.Refusals.{rows_from, rows_refusal, room_refusal};
+ghost use Rattle.image.specs.Refusals.{Gives, key_fits, row_fits, kind_numbered, row_at, rows_from, rows_refusal, room_refusal};
 
 use crate::errors::ImageError;
-use crate::head::{MAX_MAP_ROOM, MAX_MAPS};
 use byteorder::{ByteOrder, LittleEndian};
 use exact_io::write_bytes;
-use isa_model::{MapDef, MapKind};
+use isa_model::{MAX_KEY_SIZE, MAX_MAP_ENTRIES, MAX_MAP_ROOM, MAX_VALUE_SIZE, MapDef, MapKind};
 use std::alloc::Global;
 use std::io;
 use std::io::Write;
@@ -24,7 +22,7 @@ fn key_fits(kind: MapKind, size: u16) -> bool
     ensures { result ≡ key_fits kind size }
 {
     match kind {
-        MapKind::Hash => 1 <= size && size <= 64,
+        MapKind::Hash => 1 <= size && size <= MAX_KEY_SIZE,
         MapKind::Array => size == 4,
     }
 }
@@ -35,8 +33,8 @@ pub fn row_fits(row: &MapDef) -> bool
     ensures { result ≡ row_fits row.now }
 {
     key_fits(row.kind, row.key_size)
-        && (1 <= row.value_size && row.value_size <= 4096)
-        && (1 <= row.entries && row.entries <= 65_536)
+        && (1 <= row.value_size && row.value_size <= MAX_VALUE_SIZE)
+        && (1 <= row.entries && row.entries <= MAX_MAP_ENTRIES)
 }
 
 /// The bytes of the keys and values that a map has room for.

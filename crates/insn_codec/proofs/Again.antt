@@ -36,8 +36,7 @@ use Rattle.isa_model.specs.declared.instructions.Insn.TheVariants.{Alu, Neg, Mov
 use Rattle.isa_model.specs.declared.slots.Slot.{Slot}
 use Rattle.isa_model.specs.Code.Registers.{reg_numbered}
 use Rattle.isa_model.specs.Code.Sizes.{span_bits}
-use Rattle.isa_model.specs.Code.Spelling.{alu_code, alu_offset, alu_class, jump_class, jump_code, extension_class, extension_bits, order_opcode, size_code, narrow_code, atomic_opcode, atomic_code, fetch_bit, first_slot, next_imm, second_bytes}
-use Rattle.isa_model.specs.Code.Spelling.{InsnFits, OperandFits}
+use Rattle.isa_model.specs.Code.Spelling.{alu_code, alu_offset, alu_class, jump_class, jump_code, extension_class, extension_bits, order_opcode, size_code, narrow_code, atomic_opcode, atomic_code, fetch_bit, first_slot, next_imm, second_bytes, InsnFits, OperandFits}
 use Rattle.insn_codec.specs.declared.errors.CodecError.{CodecError}
 use Rattle.insn_codec.specs.declared.errors.CodecError.TheVariants.{UnusedField, SecondSlot}
 use Rattle.insn_codec.specs.declared.forms.AluCode.{AluCode}

@@ -1,8 +1,7 @@
 -- What is decoded is spelled so.
-use Rattle.std.proofs.Common.{◌≡◌, ℕ, ◌+◌, ◌*◌, ◌/◌, ◌%◌, ◌^◌, ◌<◌, ◌≤◌, true, false, List, [], ◌∷◌, ◌++◌, length, take, drop, Option, Some, None, Result, Ok, Err, refl, sym, ap, ◌∙◌, subst, arith, inl, inr}
+use Rattle.std.proofs.Common.{◌≡◌, ℕ, ◌+◌, ◌*◌, ◌/◌, ◌%◌, ◌^◌, ◌<◌, ◌≤◌, true, false, List, [], ◌∷◌, ◌++◌, length, take, drop, Option, Some, None, Result, Ok, Err, refl, sym, ap, ◌∙◌, subst, arith, inl, inr, take-add}
 use Rattle.std.specs.Prelude.{◌==◌, nat_lt, not}
 use Rattle.std.proofs.lemmas.List.{length-drop}
-use Rattle.std.proofs.Common.{take-add}
 use Rattle.std.specs.Int.{w16, w32, cast_signed, cast_unsigned}
 use Rattle.std.proofs.lemmas.Bool.{eqb-true, ltb-false, not-false}
 use Rattle.std.proofs.lemmas.Int.{of_z-to_z}
@@ -22,7 +21,8 @@ use Rattle.isa_model.specs.declared.instructions.Insn.TheVariants.{LoadNumber, L
 use Rattle.isa_model.specs.declared.slots.Slot.{Slot}
 use Rattle.isa_model.specs.Code.Registers.{reg_number, reg_numbered}
 use Rattle.isa_model.specs.Code.Spelling.{InsnFits, alu_class, atomic_opcode, first_slot, next_imm, second_bytes, slot}
-use Rattle.isa_model.specs.Code.LittleEndian.{EachByte, EachByte-drop, little_bytes-little_from}
+use Rattle.isa_model.specs.Code.LittleEndian.{EachByte}
+use Rattle.isa_model.proofs.LittleEndianLaws.{EachByte-drop, little_bytes-little_from}
 use Rattle.insn_codec.specs.declared.errors.CodecError.{CodecError}
 use Rattle.insn_codec.specs.declared.forms.AluCode.{AluCode}
 use Rattle.insn_codec.specs.declared.forms.Form.{Form}

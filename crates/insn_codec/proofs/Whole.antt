@@ -25,9 +25,9 @@ use Rattle.isa_model.specs.declared.slots.Slot.{Slot}
 use Rattle.isa_model.specs.Code.Registers.{reg_number}
 use Rattle.isa_model.specs.Code.Sizes.{span_bits}
 use Rattle.isa_model.specs.Code.Instructions.{slots_of}
-use Rattle.isa_model.specs.Code.Spelling.{first_slot, next_imm, second_bytes, slot_bytes, spelling_of, alu_offset, extension_bits, atomic_code, fetch_bit}
-use Rattle.isa_model.specs.Code.Spelling.{InsnFits, OperandFits, operand_imm}
-use Rattle.isa_model.specs.Code.LittleEndian.{EachByte, EachByte-drop, EachByte-take, little_bytes-little_from}
+use Rattle.isa_model.specs.Code.Spelling.{first_slot, next_imm, second_bytes, slot_bytes, spelling_of, alu_offset, extension_bits, atomic_code, fetch_bit, InsnFits, OperandFits, operand_imm}
+use Rattle.isa_model.specs.Code.LittleEndian.{EachByte}
+use Rattle.isa_model.proofs.LittleEndianLaws.{EachByte-drop, EachByte-take, little_bytes-little_from}
 use Rattle.insn_codec.specs.declared.errors.CodecError.{CodecError}
 use Rattle.insn_codec.specs.declared.errors.CodecError.TheVariants.{Short}
 use Rattle.insn_codec.specs.Decoding.{slot_at, slot_meaning, decoded, sized}

@@ -1,10 +1,7 @@
 //! What forms mean with their fields.
 
 ghost use Rattle.std.specs.Prelude.{◌≡◌};
-ghost use Rattle.insn_codec.specs.Decoding.{op_selected, extension_selected, span_selected};
-ghost use Rattle.insn_codec.specs.Decoding.{arithmetic, moved, swapped, atomic, wide, called};
-ghost use Rattle.insn_codec.specs.Decoding.{second_slot};
-ghost use Rattle.insn_codec.specs.Decoding.{meaning, slot_meaning};
+ghost use Rattle.insn_codec.specs.Decoding.{op_selected, extension_selected, span_selected, arithmetic, moved, swapped, atomic, wide, called, second_slot, meaning, slot_meaning, jump_if};
 
 use crate::errors::CodecError;
 use crate::fields::Fields;
@@ -177,8 +174,6 @@ impl Fields {
         Insn::JumpIf(cond, self.distance())
     }
 }
-
-ghost use Rattle.insn_codec.specs.Decoding.{jump_if};
 
 impl Form {
     /// The instruction with these fields, and these bytes after the first slot.

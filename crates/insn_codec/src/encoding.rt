@@ -4,12 +4,7 @@ ghost use Rattle.std.specs.Prelude.{◌≡◌, ◌+◌, ◌<◌};
 ghost use Rattle.std.specs.Int.{w32, cast_unsigned};
 ghost use Rattle.isa_model.specs.Code.Registers.{reg_number};
 ghost use Rattle.isa_model.specs.Code.Sizes.{span_bits};
-ghost use Rattle.isa_model.specs.Code.Spelling.{first_slot, next_imm, slot, offset16, alu_code};
-ghost use Rattle.isa_model.specs.Code.Spelling.{alu_offset, alu_class, jump_code, jump_class};
-ghost use Rattle.isa_model.specs.Code.Spelling.{operand_bit, operand_src, operand_imm};
-ghost use Rattle.isa_model.specs.Code.Spelling.{extension_class, extension_bits, order_opcode};
-ghost use Rattle.isa_model.specs.Code.Spelling.{size_code, narrow_code, atomic_opcode, atomic_code};
-ghost use Rattle.isa_model.specs.Code.Spelling.{fetch_bit};
+ghost use Rattle.isa_model.specs.Code.Spelling.{first_slot, next_imm, slot, offset16, alu_code, alu_offset, alu_class, jump_code, jump_class, operand_bit, operand_src, operand_imm, extension_class, extension_bits, order_opcode, size_code, narrow_code, atomic_opcode, atomic_code, fetch_bit};
 
 use isa_model::{
     AluOp, AtomicOp, ByteOrder, Comparison, Cond, Extension, Insn, Narrow, Operand, Place, Reg,

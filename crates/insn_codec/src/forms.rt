@@ -1,10 +1,7 @@
 //! The forms that opcodes name. RFC 9669, sections 4 and 5.
 
 ghost use Rattle.std.specs.Prelude.{◌≡◌};
-ghost use Rattle.insn_codec.specs.Forms.{alu_code_numbered, has_selector, comparison_numbered};
-ghost use Rattle.insn_codec.specs.Forms.{size_numbered, narrow_numbered, swap_form};
-ghost use Rattle.insn_codec.specs.Forms.{arithmetic_form, jump_form, full_only, load_form};
-ghost use Rattle.insn_codec.specs.Forms.{store_constant_form, store_form, form_of, uses};
+ghost use Rattle.insn_codec.specs.Forms.{alu_code_numbered, has_selector, comparison_numbered, size_numbered, narrow_numbered, swap_form, arithmetic_form, jump_form, full_only, load_form, store_constant_form, store_form, form_of, uses};
 
 use isa_model::{ByteOrder, Comparison, Narrow, Size, Width};
 

@@ -2,6 +2,7 @@
 pub mod Registers
 pub mod Sizes
 pub mod Versions
+pub mod Limits
 pub mod Helpers
 pub mod Instructions
 pub mod MapRows
@@ -9,4 +10,3 @@ pub mod Spelling
 pub mod LittleEndian
 pub mod Numbers
 pub mod NumberLemmas
-pub mod ExtensionLemmas

@@ -3,5 +3,3 @@ pub mod Paths
 pub mod Plain
 pub mod Determined
 pub mod Guarded
-pub mod RunSteps
-pub mod SlotLaws

@@ -1,3 +1,2 @@
 -- Programs as text.
 pub mod CanonicalText
-pub mod TextLaws

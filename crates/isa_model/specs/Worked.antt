@@ -1,4 +1,5 @@
 -- Worked examples, computed from the definitions.
+pub mod LimitExamples
 pub mod NumberExamples
 pub mod Examples
 pub mod SpellingExamples

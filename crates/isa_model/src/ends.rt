@@ -52,9 +52,6 @@ impl TrapReason {
     }
 }
 
-/// The most steps that a run may be given.
-pub const MAX_STEPS: u32 = 1_000_000;
-
 /// How a run within a limit of steps ended.
 #[derive(Clone, Copy, PartialEq, Eq, Debug)]
 pub enum End {

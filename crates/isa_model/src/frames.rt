@@ -4,9 +4,6 @@ ghost use Rattle.std.specs.Prelude.{◌≡◌, ◌≤◌, length};
 ghost use Rattle.isa_model.specs.Reporting.Frames.{action_of};
 ghost use Rattle.isa_model.specs.Reporting.Reports.{action_name, is_forwarded};
 
-/// The most bytes of a frame, whatever stream it comes from.
-pub const MAX_PACKET: usize = 9216;
-
 /// What a frame's record says beside its bytes: a time in nanoseconds, and the interface and queue
 /// that it came in by.
 #[derive(Clone, Copy, PartialEq, Eq, Debug)]

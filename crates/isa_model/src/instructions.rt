@@ -4,8 +4,7 @@
 
 ghost use Rattle.std.specs.Prelude.{◌≡◌, ◌++◌};
 ghost use Rattle.std.specs.Option.{option_to_list};
-ghost use Rattle.isa_model.specs.Code.Instructions.{slots_of, operand_reads, reads, writes};
-ghost use Rattle.isa_model.specs.Code.Instructions.{is_frame_pointer};
+ghost use Rattle.isa_model.specs.Code.Instructions.{slots_of, operand_reads, reads, writes, is_frame_pointer};
 
 use crate::helpers::Helper;
 use crate::registers::Reg;

@@ -11,6 +11,7 @@ pub mod frames;
 pub mod helpers;
 pub mod instructions;
 pub mod jumps;
+pub mod limits;
 pub mod map_defs;
 pub mod numbers;
 pub mod registers;
@@ -21,11 +22,15 @@ pub mod values;
 pub mod versions;
 
 pub use clocks::Clock;
-pub use ends::{End, MAX_STEPS, TrapReason};
-pub use frames::{Action, FrameHead, MAX_PACKET};
+pub use ends::{End, TrapReason};
+pub use frames::{Action, FrameHead};
 pub use helpers::Helper;
 pub use instructions::{AluOp, AtomicOp, Comparison, Cond, Insn, Operand, Place};
 pub use jumps::destination;
+pub use limits::{
+    FRAME_SIZE, MAX_CALL_FRAMES, MAX_EXPLORED, MAX_KEY_SIZE, MAX_MAP_ENTRIES, MAX_MAP_ROOM,
+    MAX_MAPS, MAX_PACKET, MAX_SHORT_PACKET, MAX_SLOTS, MAX_STEPS, MAX_VALUE_SIZE,
+};
 pub use map_defs::{MapDef, MapKind};
 pub use registers::Reg;
 pub use sizes::{ByteOrder, Extension, Narrow, Size, Span, Width};

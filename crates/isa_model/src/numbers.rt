@@ -3,8 +3,7 @@
 //! Machines and abstract domains compute with these functions and have no others.
 
 ghost use Rattle.std.specs.Prelude.{◌≡◌, ◌%◌, ◌^◌};
-ghost use Rattle.isa_model.specs.Code.Numbers.{low, signed, unsigned, alu, result_of, negated};
-ghost use Rattle.isa_model.specs.Code.Numbers.{sign_extended, reordered, holds};
+ghost use Rattle.isa_model.specs.Code.Numbers.{low, signed, unsigned, alu, result_of, negated, sign_extended, reordered, holds};
 
 use crate::instructions::{AluOp, Comparison};
 use crate::sizes::{ByteOrder, Extension, Span, Width};

@@ -1,5 +1,7 @@
 //! What registers and the bytes of stack frames hold in the meaning: tagged values.
 
+use crate::limits::FRAME_SIZE;
+
 /// What a pointer points into. The serials of call frames and of map values are never used again,
 /// so a pointer to one that is gone is dead for ever.
 #[derive(Clone, Copy, PartialEq, Eq, Debug)]
@@ -40,7 +42,7 @@ pub enum Cell {
 #[derive(Clone, Copy)]
 pub struct CallFrame {
     pub serial: u64,
-    pub cells: [Cell; 512],
+    pub cells: [Cell; FRAME_SIZE],
     /// Where its exit leads; 0 in the first frame.
     pub return_slot: usize,
     /// The caller's r6 to r9; unset in the first frame.

@@ -1,7 +1,10 @@
 //! The versions of the formats.
 
 ghost use Rattle.std.specs.Prelude.{◌≡◌, ◌≤◌};
-ghost use Rattle.isa_model.specs.Code.Versions.{version_number, head_size, max_body};
+ghost use Rattle.isa_model.specs.Code.Versions.{version_number, head_size};
+ghost use Rattle.isa_model.specs.Code.Limits.{max_body};
+
+use crate::limits::{MAX_PACKET, MAX_SHORT_PACKET};
 
 /// The version of an image or of a frame stream, which its magic says: `XBP1` and `XPF1`, or `XBP2`
 /// and `XPF2`.
@@ -36,11 +39,11 @@ impl Version {
     /// The most bytes of a frame in a stream of this version.
     pub fn max_body(self) -> usize
         ensures most { result ≡ max_body self }
-        ensures bounded { result ≤ 9216 }
+        ensures bounded { result ≤ MAX_PACKET }
     {
         match self {
-            Version::One => 4096,
-            Version::Two => 9216,
+            Version::One => MAX_SHORT_PACKET,
+            Version::Two => MAX_PACKET,
         }
     }
 }

@@ -10,10 +10,10 @@ use Rattle.isa_model.specs.declared.sizes.Width.TheVariants.{Low32, Full64}
 use Rattle.isa_model.specs.declared.sizes.Extension.{Extension}
 use Rattle.isa_model.specs.declared.sizes.Extension.TheVariants.{Low8, Low16, Full8, Full16, Full32}
 use Rattle.isa_model.specs.declared.instructions.AluOp.TheVariants.{Arsh}
-use Rattle.isa_model.specs.Code.Sizes.{width_bits}
+use Rattle.isa_model.specs.Code.Sizes.{width_bits, extension_bits, extension_width}
 use Rattle.isa_model.specs.Code.Numbers.{alu, low, shift, sign_extended}
-use Rattle.isa_model.specs.Code.NumberLemmas.{alu_below, low_below, shift_below, width_fits, width_most}
-use Rattle.isa_model.specs.Code.ExtensionLemmas.{extension_bits, extension_width, sign_extended_below, sign_extended_cases, sign_extended-small}
+use Rattle.isa_model.proofs.NumberLemmas.{alu_below, low_below, shift_below, width_fits, width_most}
+use Rattle.isa_model.proofs.ExtensionLemmas.{sign_extended_below, sign_extended_cases, sign_extended-small}
 use Rattle.known_bits.specs.Member.{IsMember, Occurs}
 use Rattle.known_bits.proofs.Members.{Known, bits_between, bits_apart, known_from_bits, member_from_bits}
 use Rattle.known_bits.proofs.Carry.{low_bit}

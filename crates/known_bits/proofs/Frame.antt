@@ -8,7 +8,7 @@ use Rattle.std.proofs.Math.Nat.{div-eq_of_lt, mod-eq_of_lt}
 use Rattle.std.proofs.Math.Pow.{pow_mono}
 use Rattle.std.proofs.lemmas.Bool.{cases_lt}
 use Rattle.known_bits.specs.Member.{IsMember}
-use Rattle.known_bits.specs.MemberLaws.{bit_at-differing}
+use Rattle.known_bits.proofs.MemberLaws.{bit_at-differing}
 use Rattle.known_bits.proofs.Members.{Known, member_and_most}
 use Rattle.known_bits.proofs.Carry.{low_bit}
 use Rattle.known_bits.proofs.Parts.{high_bit, low_known}

@@ -14,3 +14,4 @@ pub mod Overlaps
 pub mod Copies
 pub mod Frame
 pub mod Reversed
+pub mod MemberLaws

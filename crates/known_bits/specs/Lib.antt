@@ -1,3 +1,2 @@
 pub mod Member
 pub mod Bits
-pub mod MemberLaws

@@ -1,9 +1,8 @@
 //! What the arithmetic instructions give.
 
 ghost use Rattle.std.specs.Prelude.{◌≡◌, ℕ, ◌%◌, ◌^◌, ◌<◌};
-ghost use Rattle.isa_model.specs.Code.Sizes.{width_bits, span_bits};
+ghost use Rattle.isa_model.specs.Code.Sizes.{width_bits, span_bits, extension_width};
 ghost use Rattle.isa_model.specs.Code.Numbers.{negated, sign_extended, reordered};
-ghost use Rattle.isa_model.specs.Code.ExtensionLemmas.{extension_width};
 
 use crate::bits::Bits;
 use isa_model::{AluOp, ByteOrder, Extension, Span, Width, numbers};

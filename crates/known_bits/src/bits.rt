@@ -1,7 +1,6 @@
 //! Known bits: the type, common numbers and inclusion.
 
-ghost use Rattle.std.specs.Prelude.{◌≡◌, ◌≢◌, ℕ, ◌+◌, ◌/◌, ◌^◌, ◌<◌, ◌≤◌, ◌↔◌, IsSomeAnd, IfSome};
-ghost use Rattle.std.specs.Prelude.{IsTrue, bit_and};
+ghost use Rattle.std.specs.Prelude.{◌≡◌, ◌≢◌, ℕ, ◌+◌, ◌/◌, ◌^◌, ◌<◌, ◌≤◌, ◌↔◌, IsSomeAnd, IfSome, IsTrue, bit_and};
 ghost use Rattle.std.specs.Int.{bit_at};
 ghost use Rattle.isa_model.specs.Code.Sizes.{width_bits};
 

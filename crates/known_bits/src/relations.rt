@@ -1,7 +1,6 @@
 //! Pairs of numbers between which a relation holds, one of each set: what is left of either.
 
-ghost use Rattle.std.specs.Prelude.{◌≡◌, ◌≢◌, ℕ, ◌<◌, ◌≤◌, ◌<ℤ◌, ◌≤ℤ◌, ◌^◌, IsSomeAnd, IfSome};
-ghost use Rattle.std.specs.Prelude.{bit_and, bit_or};
+ghost use Rattle.std.specs.Prelude.{◌≡◌, ◌≢◌, ℕ, ◌<◌, ◌≤◌, ◌<ℤ◌, ◌≤ℤ◌, ◌^◌, IsSomeAnd, IfSome, bit_and, bit_or};
 ghost use Rattle.std.specs.Int.{w64, cast_signed, bit_at};
 
 use crate::bits::Bits;

@@ -4,9 +4,7 @@ ghost use Rattle.std.specs.Prelude.{◌≡◌, ◌+◌, ◌<◌, ◌≤◌, ◌^
 ghost use Rattle.std.specs.List.{prefix_len};
 ghost use Rattle.std.specs.Char.{digit_value, is_digit};
 ghost use Rattle.std.specs.Result.{result_ok};
-ghost use Rattle.lexer.specs.Lexing.{is_word_byte, is_line_byte, add_digit, digits_number};
-ghost use Rattle.lexer.specs.Lexing.{number_after, number_at, number_from, number_fault};
-ghost use Rattle.lexer.specs.Lexing.{number_fault_at, number_fault_from};
+ghost use Rattle.lexer.specs.Lexing.{is_word_byte, is_line_byte, add_digit, digits_number, number_after, number_at, number_from, number_fault, number_fault_at, number_fault_from};
 
 use super::tokens::{Lexeme, Token};
 

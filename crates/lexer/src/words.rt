@@ -1,8 +1,7 @@
 //! What words stand for.
 
 ghost use Rattle.std.specs.Prelude.{◌≡◌, bytes_eq};
-ghost use Rattle.lexer.specs.Words.{reg_of, register_word, word_of, key_word, size_word, swap_word};
-ghost use Rattle.lexer.specs.Words.{atomic_word, map_word};
+ghost use Rattle.lexer.specs.Words.{reg_of, register_word, word_of, key_word, size_word, swap_word, atomic_word, map_word};
 
 use super::tokens::Word;
 use isa_model::{AtomicOp, ByteOrder, MapKind, Narrow, Reg, Size, Span, Width};

@@ -4,7 +4,7 @@ use Rattle.std.specs.Prelude.{slice_set}
 use Rattle.std.proofs.Math.Dec.{eqb}
 use Rattle.std.proofs.lemmas.Bool.{eqb-true, eqb-false}
 use Rattle.std.proofs.lemmas.List.{get_or-set_other}
-use Rattle.maps.specs.RowLaws.{below_or_above}
+use Rattle.map_indexes.specs.RowLaws.{below_or_above}
 use Rattle.live_maps.specs.Live.{Serials, serial_in}
 
 set_none : (s : Serials) (i : ℕ) → serial_in (slice_set s i None) i ≡ None

@@ -1,2 +1,9 @@
 pub mod Clearing
 pub mod OneChanged
+pub mod ContentLaws
+pub mod EntryLaws
+pub mod LivingLaws
+pub mod LiveLaws
+pub mod NumberingLaws
+pub mod SearchLaws
+pub mod SerialLaws

@@ -5,8 +5,8 @@ use Rattle.std.specs.List.{position}
 use Rattle.isa_model.specs.declared.map_defs.MapDef.{MapDef}
 use Rattle.maps.specs.Maps.{MapState, IsMap, map_at}
 use Rattle.live_maps.specs.Live.{Live, Serials, AreLive, content_at, serials_at, has_serial, value_bytes}
-use Rattle.live_maps.specs.ContentLaws.{live_of, rows_of-known, rows_of-some, length-changed_maps}
-use Rattle.live_maps.specs.SearchLaws.{searched-inside, searched-some}
+use Rattle.live_maps.proofs.ContentLaws.{live_of, rows_of-known, rows_of-some, length-changed_maps}
+use Rattle.live_maps.proofs.SearchLaws.{searched-inside, searched-some}
 
 -- one of the maps, of whose row P holds, and what it is now
 pub record OneChanged (P : MapDef → Type 0) (maps new : List MapState) (m : ℕ) : Type 0 where

@@ -2,15 +2,12 @@
 use Rattle.std.specs.Prelude.{◌≡◌, ℕ, ◌<◌, ◌≤◌, ◌==◌, All, List, [], ◌∷◌, length, map, slice_index_or, slice_set, unwrap_or, Bool, false, Option, Some, None}
 use Rattle.std.specs.Option.{option_map}
 use Rattle.std.specs.FinMap.{get, entries}
-use Rattle.std.proofs.Common.{◌∙◌, arith}
-use Rattle.std.proofs.Math.ListN.{get_or-map}
-use Rattle.std.proofs.lemmas.List.{get_or_default, length-map}
 use Rattle.isa_model.specs.declared.map_defs.MapDef.{MapDef}
 use Rattle.isa_model.specs.Machine.States.{Stored, Content}
 use Rattle.isa_model.specs.Machine.Memory.{entry_index, entry_at, put_value}
 use Rattle.isa_model.specs.Machine.MapContents.{at_key, with_key, without_key}
 use Rattle.isa_model.specs.Machine.MapHelpers.{serial_given, serial_after}
-use Rattle.maps.specs.Rows.{row_at}
+use Rattle.map_indexes.specs.Rows.{row_at}
 use Rattle.maps.specs.Maps.{MapState, IsMap, map_at}
 
 -- what callers see: the rows, the contents with the serials of all values, and the serial that is given next
@@ -71,13 +68,6 @@ place_if_new None now = now
 abbrev pub has_serial : ℕ → Option ℕ → Bool
 has_serial n None = false
 has_serial n (Some k) = k == n
-
--- of serials that stand in other things
-pub serials_at-map : {V : Type 0} (f : V → Serials) (vs : List V) (m : ℕ) (d : V) → m < length vs
-    → serials_at (map f vs) m ≡ f (slice_index_or vs m d)
-serials_at-map f vs m d h =
-    let long = length-map vs f in
-    get_or_default (map f vs) m [] (f d) (omega arith) ∙ get_or-map f vs m d
 
 -- the value at a place
 abbrev pub stored : MapState → Serials → ℕ → Stored

@@ -1,8 +1,6 @@
 //! Maps whose values have serials.
 
-ghost use Rattle.std.specs.Prelude.{◌≡◌, ◌+◌, ◌==◌, ◌<◌, ◌≤◌, ◌^◌, ℕ, length, map, if◌then◌else◌};
-ghost use Rattle.std.specs.Prelude.{All, vec_len, IfOk, IfSome, IsSomeAnd, slice_get};
-ghost use Rattle.std.specs.Prelude.{option_copied};
+ghost use Rattle.std.specs.Prelude.{◌≡◌, ◌+◌, ◌==◌, ◌<◌, ◌≤◌, ◌^◌, ℕ, length, map, if◌then◌else◌, All, vec_len, IfOk, IfSome, IsSomeAnd, slice_get, option_copied};
 ghost use Rattle.std.specs.Option.{option_map};
 ghost use Rattle.std.specs.FinMap.{get};
 ghost use Rattle.isa_model.specs.declared.map_defs.MapKind.TheVariants.{Array};
@@ -12,10 +10,8 @@ ghost use Rattle.isa_model.specs.Machine.MachineStates.{FitRows};
 ghost use Rattle.isa_model.specs.Machine.MapContents.{at_key, update_answer, delete_answer};
 ghost use Rattle.isa_model.specs.Machine.Steps.{one_serial};
 ghost use Rattle.isa_model.specs.Running.Runs.{numbered_maps, count_values};
-ghost use Rattle.maps.specs.Maps.{rows_of, contents_of};
-ghost use Rattle.maps.specs.Maps.{map_at};
-ghost use Rattle.live_maps.specs.Live.{serials_at, place_if_new, content_at, value_bytes};
-ghost use Rattle.live_maps.specs.Live.{with_value, with_bytes, without};
+ghost use Rattle.maps.specs.Maps.{rows_of, contents_of, map_at};
+ghost use Rattle.live_maps.specs.Live.{serials_at, place_if_new, content_at, value_bytes, with_value, with_bytes, without};
 
 use crate::asked;
 use crate::numbering::{number_all, renumber_all};

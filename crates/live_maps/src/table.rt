@@ -1,7 +1,6 @@
 //! The serials of one map's values, by place.
 
-ghost use Rattle.std.specs.Prelude.{◌≡◌, ◌+◌, ◌<◌, ◌^◌, ℕ, length, All, IfOk, IfSome, Some, None};
-ghost use Rattle.std.specs.Prelude.{slice_set, vec_len, vec_capacity};
+ghost use Rattle.std.specs.Prelude.{◌≡◌, ◌+◌, ◌<◌, ◌^◌, ℕ, length, All, IfOk, IfSome, Some, None, slice_set, vec_len, vec_capacity};
 ghost use Rattle.std.specs.List.{position};
 ghost use Rattle.live_maps.specs.Live.{serial_in, has_serial};
 ghost use Rattle.live_maps.specs.Numbering.{Numbers, AreDistinct};
@@ -64,7 +63,7 @@ impl Model for Table {
 }
 
 impl Table {
-    /// Room for the serials of so many places, none of which has one.
+    /// Room for the serials of that number of places, none of which has one.
     pub fn new(alloc: Global, places: usize) -> Result<Self, AllocError>
         ensures { IfOk result (λ t. length t ≡ places) }
     {

@@ -1,7 +1,6 @@
 //! The serials of all maps' values, by map and place.
 
-ghost use Rattle.std.specs.Prelude.{◌≡◌, ◌<◌, ℕ, length, IfOk, Some, None, slice_set, vec_len};
-ghost use Rattle.std.specs.Prelude.{vec_capacity};
+ghost use Rattle.std.specs.Prelude.{◌≡◌, ◌<◌, ℕ, length, IfOk, Some, None, slice_set, vec_len, vec_capacity};
 ghost use Rattle.std.specs.List.{position};
 ghost use Rattle.maps.specs.Maps.{map_at};
 ghost use Rattle.live_maps.specs.Live.{serial_in, serials_at, has_serial};

@@ -7,8 +7,8 @@ use Rattle.isa_model.specs.Code.Instructions.{Program}
 use Rattle.isa_model.specs.Machine.States.{Entries}
 use Rattle.isa_model.specs.{max_packet}
 use Rattle.isa_model.specs.Machine.MachineStates.{AreBytes, FitRows, IsClock, IsGiven}
-use Rattle.isa_model.specs.Running.Outcomes.{FitRows-HasOutcome}
-use Rattle.image.specs.Programs.{IsProgram-IsImage}
+use Rattle.isa_model.proofs.OutcomesLaws.{FitRows-HasOutcome}
+use Rattle.image.proofs.Programs.{IsProgram-IsImage}
 use Rattle.bounds.specs.Bounds.{Bounded, IsVerified}
 use Rattle.maps.specs.Maps.{IsMap, contents_of}
 use Rattle.word_machine.specs.declared.memory.Saved.{Saved}
@@ -17,9 +17,8 @@ use Rattle.word_machine.specs.Words.{Words}
 use Rattle.word_machine.specs.Machine.{words_of}
 use Rattle.word_machine.specs.Runs.{Ends, EndsInTime, Exits}
 use Rattle.word_relation.specs.Starting.{start_words, start_of}
-use Rattle.word_relation.specs.Answering.{IsStart}
-use Rattle.word_relation.specs.Answering.{Answers as WordAnswers}
-use Rattle.word_relation.specs.Answering.{start_Ends, start_Answers}
+use Rattle.word_relation.specs.Answering.{IsStart, Answers as WordAnswers}
+use Rattle.word_relation.proofs.AnsweringLaws.{start_Ends, start_Answers}
 use Rattle.machine.specs.Running.{IsRunning, Answers}
 use Rattle.machine.specs.Ready.{IsReady}
 

@@ -3,7 +3,8 @@ use Rattle.std.specs.Prelude.{◌≡◌, ℕ, ◌+◌, ◌≤◌, List}
 use Rattle.isa_model.specs.declared.frames.FrameHead.{FrameHead}
 use Rattle.isa_model.specs.Code.Instructions.{Program}
 use Rattle.isa_model.specs.Machine.States.{Entries}
-use Rattle.isa_model.specs.Running.Runs.{max_steps, Outcome, HasOutcome}
+use Rattle.isa_model.specs.Code.Limits.{max_steps}
+use Rattle.isa_model.specs.Running.Runs.{Outcome, HasOutcome}
 use Rattle.isa_model.specs.Running.Outcomes.{StartsEnd}
 use Rattle.isa_model.specs.Machine.MachineStates.{FitRows, IsProgram}
 use Rattle.machine.specs.declared.machines.Exit.{Exit}

@@ -1,1 +1,11 @@
 pub mod KeyLemmas
+pub mod ArrayLaws
+pub mod ArrayOrder
+pub mod ChainIndexesLaws
+pub mod ChainLaws
+pub mod KeyBytes
+pub mod KeyLaws
+pub mod KeyOrderLaws
+pub mod LastBelowLaws
+pub mod ScanLaws
+pub mod SlotLaws

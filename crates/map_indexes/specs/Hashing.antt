@@ -8,6 +8,6 @@ spread = 0xd6e8feb86659fd93
 unfoldable pub hash_of : List ℕ → ℕ
 hash_of key = fold (λ h b. (h + b) * spread % 2 ^ 64) 0 key
 
--- the chain among so many, by the upper half of the number
+-- the chain among a count of them, by the upper half of the number
 unfoldable pub chain_of : List ℕ → ℕ → ℕ
 chain_of key chains = hash_of key / 2 ^ 32 % chains

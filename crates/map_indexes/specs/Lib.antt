@@ -3,14 +3,10 @@ pub mod RowLaws
 pub mod Slots
 pub mod SlotLaws
 pub mod KeyOrder
-pub mod KeyLaws
 pub mod ScanLaws
 pub mod ArrayPlaces
 pub mod ArrayLaws
-pub mod ArrayOrder
 pub mod LastBelow
 pub mod Chains
-pub mod ChainLaws
 pub mod Hashing
 pub mod ChainIndexes
-pub mod KeyBytes

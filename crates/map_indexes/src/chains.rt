@@ -4,8 +4,7 @@ ghost use Rattle.std.specs.Prelude.{◌≡◌, ◌≢◌, ◌+◌, ◌<◌, ℕ,
 ghost use Rattle.slab.specs.Slab.{get, slab_len, ContainsKey, HasRoomFor};
 ghost use Rattle.map_indexes.specs.LastBelow.{last_below};
 ghost use Rattle.map_indexes.specs.declared.chains.Link.{Link};
-ghost use Rattle.map_indexes.specs.Chains.{in_chain, spot, IsChained, StandsBehind, heads_led};
-ghost use Rattle.map_indexes.specs.Chains.{link_led};
+ghost use Rattle.map_indexes.specs.Chains.{in_chain, spot, IsChained, StandsBehind, heads_led, link_led};
 
 use crate::rooms::exact;
 use slab::Slab;
@@ -53,7 +52,7 @@ pub struct Chains {
 }
 
 impl Chains {
-    /// Chains without links, and room for so many links and no more.
+    /// Chains without links, and room for this number of links and no more.
     pub fn new(alloc: Global, count: u32, room: u32) -> Result<Self, AllocError>
         ensures count { IfOk result (λ c. c.count ≡ count) }
         ensures empty { IfOk result (λ c. (k : ℕ) → get c.links k ≡ None) }

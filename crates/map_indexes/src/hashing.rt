@@ -16,7 +16,7 @@ fn hash_of(key: &[u8]) -> u64
     hash
 }
 
-/// The chain of a key, among so many.
+/// The chain of a key, among this number of chains.
 #[tactic(auto, unfolding(crate::specs::Hashing::chain_of))]
 pub fn chain_of(key: &[u8], chains: u32) -> u32
     requires { 0 < chains }

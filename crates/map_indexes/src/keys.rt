@@ -1,7 +1,6 @@
 //! Keys of one size in a block, by place.
 
-ghost use Rattle.std.specs.Prelude.{◌≡◌, ◌+◌, ◌*◌, ◌≤◌, ◌<◌, length, Some, None, IfOk, replicate};
-ghost use Rattle.std.specs.Prelude.{slice_set, is_some, true, IsPermutation, vec_capacity};
+ghost use Rattle.std.specs.Prelude.{◌≡◌, ◌+◌, ◌*◌, ◌≤◌, ◌<◌, length, Some, None, IfOk, replicate, slice_set, is_some, true, IsPermutation, vec_capacity};
 ghost use Rattle.std.specs.List.{splice};
 ghost use Rattle.std.specs.List.Sorted.{IsSortedByKey};
 ghost use Rattle.isa_model.specs.Machine.MapContents.{key_order};

@@ -16,10 +16,12 @@ use Rattle.isa_model.specs.Machine.States.{Entries}
 use Rattle.isa_model.specs.Machine.MachineStates.{AreBytes}
 use Rattle.map_indexes.specs.Slots.{IsKey}
 use Rattle.map_indexes.specs.ArrayPlaces.{array_places}
-use Rattle.maps.specs.Either.{places_of, kind_of, room_of, either_in_range, either_apart, either_few, either_keys}
+use Rattle.maps.specs.Either.{places_of, kind_of, room_of, either_in_range, either_apart, either_few}
+use Rattle.maps.proofs.EitherLaws.{either_keys}
 use Rattle.isa_model.specs.Code.MapRows.{IsRow}
 use Rattle.maps.specs.Maps.{MapState, IsMap, map_at, with_block, ordered_in, rows_of}
-use Rattle.maps.specs.ReportOrder.{listed_of, with_key_of, listed-place, entry-value, entry-key}
+use Rattle.maps.specs.ReportOrder.{listed_of, with_key_of}
+use Rattle.maps.proofs.ReportOrderLaws.{listed-place, entry-value, entry-key}
 use Rattle.map_indexes.specs.Rows.{row_at}
 use Rattle.map_indexes.specs.RowLaws.{below-same, at_most-same}
 use Rattle.maps.specs.StoreStates.{state_by, IsListed, IsLeastHashRoom, HaveRoom}

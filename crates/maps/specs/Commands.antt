@@ -1,4 +1,4 @@
--- Lists of commands on one map: the replies of a finite map with at most so many keys, and the content that they leave.
+-- Lists of commands on one map: the replies of a finite map with a greatest count of keys, and the content that they leave.
 use Rattle.std.specs.Prelude.{◌≡◌, ℕ, List, [], ◌∷◌, length, Option, Some, None}
 use Rattle.isa_model.specs.declared.map_defs.MapDef.{MapDef}
 use Rattle.isa_model.specs.Machine.States.{Entries}

@@ -8,8 +8,7 @@ use Rattle.maps.specs.declared.either.EitherIndex.TheVariants as either
 use Rattle.map_indexes.specs.ArrayPlaces.{array_places}
 use Rattle.map_indexes.specs.ArrayLaws.{array_in_range, array_apart, array_few}
 use Rattle.map_indexes.specs.ScanLaws.{scan_in_range, scan_apart, scan_few}
-use Rattle.map_indexes.specs.KeyBytes.{key_found, index_found}
-use Rattle.map_indexes.specs.Slots.{Places, places, IsKey}
+use Rattle.map_indexes.specs.Slots.{Places, places}
 
 abbrev pub places_of : EitherIndex → Places
 places_of (either.Array s) = array_places s.entries
@@ -34,10 +33,6 @@ either_in_range (either.Chain s) k p e = scan_in_range s.keys.slots k p e
 pub either_apart : (s : EitherIndex) (j k : List ℕ) (p : ℕ) → get (places_of s) j ≡ Some p → get (places_of s) k ≡ Some p → j ≡ k
 either_apart (either.Array s) j k p e f = array_apart s.entries j k p e f
 either_apart (either.Chain s) j k p e f = scan_apart s.keys.slots j k p e f
-
-pub either_keys : (s : EitherIndex) (k : List ℕ) (p : ℕ) → get (places_of s) k ≡ Some p → IsKey (key_size_of s) k
-either_keys (either.Array s) k p e = index_found s.entries k p e
-either_keys (either.Chain s) k p e = key_found s.keys.size s.keys.slots s.sized k p e
 
 pub either_few : (s : EitherIndex) → len (places_of s) ≤ room_of s
 either_few (either.Array s) = array_few s.entries

@@ -1,16 +1,9 @@
-pub use Rattle.map_indexes.specs.Rows
-pub use Rattle.map_indexes.specs.RowLaws
-pub use Rattle.map_indexes.specs.Slots
-pub use Rattle.map_indexes.specs.SlotLaws
-pub use Rattle.map_indexes.specs.ArrayPlaces
 pub mod Either
 pub mod Contents
 pub mod ContentLaws
 pub mod ReportOrder
 pub mod Changes
-pub mod UpdateLaws
 pub mod Commands
-pub mod CommandLaws
 pub mod Maps
 pub mod MapLends
 pub mod StoreStates
@@ -18,5 +11,4 @@ pub mod LentBytes
 pub mod Lending
 pub mod StoreLends
 pub mod Listing
-pub mod MapLaws
 pub mod Messages

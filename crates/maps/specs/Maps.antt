@@ -1,13 +1,11 @@
 -- The maps of an image as contracts see them: rows, places of keys, and blocks of values.
 use Rattle.std.specs.Prelude.{◌≡◌, ℕ, ◌+◌, ◌*◌, ◌<◌, ◌≤◌, List, [], length, map, replicate, slice_index_or, slice_set, Some, refl}
-use Rattle.std.proofs.Common.{arith}
 use Rattle.std.specs.Coded.{Coded, code_by, coded×, coded_ℕ, coded_list}
 use Rattle.std.specs.FinMap.{empty, get, len, code}
 use Rattle.isa_model.specs.contracts.map_defs.MapDef.{the_row}
-use Rattle.isa_model.specs.declared.map_defs.MapKind.{MapKind}
 use Rattle.isa_model.specs.declared.map_defs.MapKind.TheVariants.{Hash, Array}
 use Rattle.isa_model.specs.declared.map_defs.MapDef.{MapDef}
-use Rattle.isa_model.specs.Code.MapRows.{KeyFits, IsRow}
+use Rattle.isa_model.specs.Code.MapRows.{IsRow}
 use Rattle.isa_model.specs.Machine.States.{Entries}
 use Rattle.isa_model.specs.Machine.MachineStates.{AreBytes}
 use Rattle.isa_model.specs.Machine.MapContents.{update_answer, delete_answer, after_update, after_delete}
@@ -54,16 +52,6 @@ abbrev pub contents_of : List MapState → List Entries
 contents_of maps = map content_in maps
 
 -- ---- rows
-
--- no key has more than 64 bytes
-pub KeyFits-most : (kind : MapKind) (n : ℕ) → KeyFits kind n → n ≤ 64
-KeyFits-most Hash n fits = fits.1
-KeyFits-most Array n fits = omega arith
-
--- an array's keys have four
-pub KeyFits-index : (kind : MapKind) (n : ℕ) → KeyFits kind n → kind ≡ Array → n ≡ 4
-KeyFits-index Hash n fits e = absurd (cc)
-KeyFits-index Array n fits e = fits
 
 -- each place is below `entries`, no two keys have one place, there are no more keys than `entries`, and the block has
 -- a value for each place; keys are keys of the row's size, and values are bytes; an array has the places of its indexes

@@ -1,8 +1,6 @@
 //! All maps of an image.
 
-ghost use Rattle.std.specs.Prelude.{◌≡◌, ◌<◌, ◌≤◌, length, map, All, IfOk, slice_set};
-ghost use Rattle.std.specs.Prelude.{option_copied};
-ghost use Rattle.std.specs.Prelude.{◌+◌, ℕ, vec_capacity};
+ghost use Rattle.std.specs.Prelude.{◌≡◌, ◌<◌, ◌≤◌, length, map, All, IfOk, slice_set, option_copied, ◌+◌, ℕ, vec_capacity};
 ghost use Rattle.std.specs.Borrow.{sem};
 ghost use Rattle.std.specs.FinMap as finmap;
 ghost use Rattle.std.specs.FinMap.{values};
@@ -10,8 +8,7 @@ ghost use Rattle.isa_model.specs.Machine.MapContents.{at_key};
 ghost use Rattle.map_indexes.specs.Rows.{row_at};
 ghost use Rattle.isa_model.specs.declared.map_defs.MapKind.TheVariants.{Hash};
 ghost use Rattle.isa_model.specs.Code.MapRows.{IsRow};
-ghost use Rattle.maps.specs.Maps.{IsMap, Updated, Deleted, WritesValue};
-ghost use Rattle.maps.specs.Maps.{map_at, content_in, starting_map, ordered_in};
+ghost use Rattle.maps.specs.Maps.{IsMap, Updated, Deleted, WritesValue, map_at, content_in, starting_map, ordered_in};
 
 use crate::either::EitherIndex;
 use crate::errors::MapError;

@@ -1,9 +1,7 @@
 //! Look-ups, updates and deletes, as the helpers answer them.
 
 ghost use Rattle.std.specs.Prelude.{◌≡◌, length, option_copied};
-ghost use Rattle.isa_model.specs.Machine.MapContents.{at_key, update_answer as the_update_answer};
-ghost use Rattle.isa_model.specs.Machine.MapContents.{update_answer_by, delete_answer};
-ghost use Rattle.isa_model.specs.Machine.MapContents.{after_update, after_delete};
+ghost use Rattle.isa_model.specs.Machine.MapContents.{at_key, update_answer as the_update_answer, update_answer_by, delete_answer, after_update, after_delete};
 ghost use Rattle.maps.specs.Changes.{Updates, Deletes};
 ghost use Rattle.maps.specs.Contents.{content};
 

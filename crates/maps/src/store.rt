@@ -1,10 +1,8 @@
 //! The entries of one map.
 
-ghost use Rattle.std.specs.Prelude.{◌≡◌, ◌+◌, ◌*◌, ◌<◌, ◌≤◌, ℕ, List, length, nat_le, vec_len};
-ghost use Rattle.std.specs.Prelude.{replicate, refl, vec_capacity};
+ghost use Rattle.std.specs.Prelude.{◌≡◌, ◌+◌, ◌*◌, ◌<◌, ◌≤◌, ℕ, List, length, nat_le, vec_len, replicate, refl, vec_capacity, None, Some, IsSome, IfSome, IfOk};
 ghost use Rattle.std.specs.Borrow.{sem};
 ghost use Rattle.maps.specs.LentBytes.{LendsBytes};
-ghost use Rattle.std.specs.Prelude.{None, Some, IsSome, IfSome, IfOk};
 ghost use Rattle.std.specs.List.{splice};
 ghost use Rattle.std.specs.FinMap as map;
 ghost use Rattle.isa_model.specs.declared.map_defs.MapKind.TheVariants.{Hash, Array};

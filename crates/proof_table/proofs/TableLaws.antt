@@ -8,7 +8,7 @@ use Rattle.byteorder.specs.Endian.{little_number}
 use Rattle.byteorder.specs.Numbers.{little_number-reads_back}
 use Rattle.isa_model.specs.Code.Instructions.{Program}
 use Rattle.table_entries.specs.declared.faults.TableFault.{TableFault}
-use Rattle.table_entries.specs.declared.tables.TheConstants.{MAX_ENTRIES}
+use Rattle.isa_model.specs.declared.limits.TheConstants.{MAX_EXPLORED}
 use Rattle.table_entries.specs.Reading.{Read}
 use Rattle.table_entries.specs.Entries.{Entry}
 use Rattle.table_entries.specs.Tables.{before, then_entries, entries_in, to_the_end, count_in, with_count, first_none, all_of, unless, all_allowed, table_read}
@@ -37,16 +37,16 @@ all_kept [] = refl
 all_kept (e ∷ es) = ap (λ (l : List Entry). e ∷ l) (all_kept es)
 
 -- the count that the first 8 bytes say
-count_in-reads : (n : ℕ) (rest : List ℕ) → 1 ≤ n → n ≤ MAX_ENTRIES → count_in (head_bytes n ++ rest) ≡ Ok n
+count_in-reads : (n : ℕ) (rest : List ℕ) → 1 ≤ n → n ≤ MAX_EXPLORED → count_in (head_bytes n ++ rest) ≡ Ok n
 count_in-reads n rest some few =
     let bytes = head_bytes n ++ rest in
     let long : nat_lt (length bytes) 8 ≡ false = le-ltb (length bytes) 8 (omega (arith, length-append (head_bytes n) rest)) in
     let count : little_number 4 (drop 4 bytes) ≡ n = little_number-reads_back 4 n rest (omega arith) in
     let nonzero : (n == 0) ≡ false = grind arith in
-    let most : nat_lt MAX_ENTRIES n ≡ false = le-ltb MAX_ENTRIES n few in
+    let most : nat_lt MAX_EXPLORED n ≡ false = le-ltb MAX_EXPLORED n few in
     rw (long, count, nonzero, most) refl
 
-pub table_read-table_bytes : (p : Program) (es : List Entry) → 1 ≤ length es → length es ≤ MAX_ENTRIES → All (EntryFits p) es → table_read p (table_bytes es) ≡ Ok es
+pub table_read-table_bytes : (p : Program) (es : List Entry) → 1 ≤ length es → length es ≤ MAX_EXPLORED → All (EntryFits p) es → table_read p (table_bytes es) ≡ Ok es
 table_read-table_bytes p es some few h =
     let n = length es in
     let bytes = table_bytes es in

@@ -10,13 +10,13 @@ use Rattle.std.specs.Io.KnownBytes.{Appends}
 use Rattle.std.proofs.KnownBytes.{Appends-nil, Appends-trans}
 use Rattle.isa_model.specs.Code.Instructions.{Program}
 use Rattle.exact_io.specs.Transfers.{AppendsBeginning}
-use Rattle.exact_io.specs.TransferLaws.{AppendsBeginning-first, AppendsBeginning-second}
+use Rattle.exact_io.proofs.TransferLaws.{AppendsBeginning-first, AppendsBeginning-second}
 use Rattle.image.specs.Images.{IsImage}
-use Rattle.image.specs.ImageLaws.{fetch-zero}
+use Rattle.image.proofs.ImageLaws.{fetch-zero}
 use Rattle.stack_state.specs.declared.slots.Slot.TheVariants.{Written}
 use Rattle.stack_state.specs.declared.states.State.{State}
 use Rattle.stack_state.specs.Starts.{start, first_registers}
-use Rattle.table_entries.specs.declared.tables.TheConstants.{MAX_ENTRIES}
+use Rattle.isa_model.specs.declared.limits.TheConstants.{MAX_EXPLORED}
 use Rattle.table_entries.specs.Entries.{Entry}
 use Rattle.table_entries.specs.Tables.{table_read}
 use Rattle.proof_table.specs.Spelling.{entry_bytes, head_bytes, table_bytes}
@@ -124,14 +124,14 @@ BeginsEntries-some p i count old mid image less g =
 
 -- ---- tables
 
--- so many entries after their count
+-- the entries after their count
 counted : (n : ℕ) (es : List Entry) → length es ≡ n → table_bytes es ≡ head_bytes n ++ flat_map entry_bytes es
 counted n es size = ap (λ m. head_bytes m ++ flat_map entry_bytes es) size
 
-is_read : (p : Program) (n : ℕ) (es : List Entry) → length es ≡ n → 1 ≤ n → n ≤ MAX_ENTRIES → All (EntryFits p) es → table_read p (table_bytes es) ≡ Ok es
+is_read : (p : Program) (n : ℕ) (es : List Entry) → length es ≡ n → 1 ≤ n → n ≤ MAX_EXPLORED → All (EntryFits p) es → table_read p (table_bytes es) ≡ Ok es
 is_read p n es size some few fit = table_read-table_bytes p es (omega arith) (omega arith) fit
 
-pub GainsTable-entries : (p : Program) (n : ℕ) (old mid new : Option (List ℕ)) → 1 ≤ n → n ≤ MAX_ENTRIES → Appends old mid (head_bytes n) → GainsEntries p n mid new → GainsTable p old new
+pub GainsTable-entries : (p : Program) (n : ℕ) (old mid new : Option (List ℕ)) → 1 ≤ n → n ≤ MAX_EXPLORED → Appends old mid (head_bytes n) → GainsEntries p n mid new → GainsTable p old new
 GainsTable-entries p n old mid new some few head g =
     record {
       entries = g.entries;
@@ -139,7 +139,7 @@ GainsTable-entries p n old mid new some few head g =
       gained = subst (Appends old new) (sym (counted n g.entries g.count_is)) (Appends-trans old mid new (head_bytes n) (flat_map entry_bytes g.entries) head g.gained);
     }
 
-pub BeginsTable-entries : (p : Program) (n : ℕ) (old mid new : Option (List ℕ)) → 1 ≤ n → n ≤ MAX_ENTRIES → Appends old mid (head_bytes n) → BeginsEntries p n mid new
+pub BeginsTable-entries : (p : Program) (n : ℕ) (old mid new : Option (List ℕ)) → 1 ≤ n → n ≤ MAX_EXPLORED → Appends old mid (head_bytes n) → BeginsEntries p n mid new
     → BeginsTable p old new
 BeginsTable-entries p n old mid new some few head b =
     record {
@@ -149,7 +149,7 @@ BeginsTable-entries p n old mid new some few head b =
           (AppendsBeginning-second old mid new (head_bytes n) (flat_map entry_bytes b.entries) head b.begun);
     }
 
-pub BeginsTable-head : (p : Program) (n : ℕ) (old new : Option (List ℕ)) → IsImage p → 1 ≤ n → n ≤ MAX_ENTRIES → AppendsBeginning old new (head_bytes n) → BeginsTable p old new
+pub BeginsTable-head : (p : Program) (n : ℕ) (old new : Option (List ℕ)) → IsImage p → 1 ≤ n → n ≤ MAX_EXPLORED → AppendsBeginning old new (head_bytes n) → BeginsTable p old new
 BeginsTable-head p n old new image some few part =
     let es = replicate n first_entry in
     let size = length-replicate n first_entry in

@@ -3,9 +3,7 @@
 ghost use Rattle.std.specs.Prelude.{◌≡◌, ◌↔◌, ℕ, ◌<◌, ◌≤◌, true, false, All, IsTrue, length, get_or};
 ghost use Rattle.stack_state.specs.declared.states.AbstractFrame.{AbstractFrame};
 ghost use Rattle.table_entries.specs.Frames.{is_unset, are_unset, frame_allowed};
-ghost use Rattle.proof_table.specs.Fitting.{ScalarFits, StackFits, PacketFits, MapFits, ValueFits};
-ghost use Rattle.proof_table.specs.Fitting.{NullFits, KindFits, SlotFits, FrameFits, EntryFits};
-ghost use Rattle.proof_table.specs.Fitting.{slot_said, frame_said, entry_said};
+ghost use Rattle.proof_table.specs.Fitting.{ScalarFits, StackFits, PacketFits, MapFits, ValueFits, NullFits, KindFits, SlotFits, FrameFits, EntryFits, slot_said, frame_said, entry_said};
 
 use image::Image;
 use known_bits::Bits;

@@ -4,9 +4,8 @@ ghost use Rattle.std.specs.Prelude.{◌≡◌, ◌≤◌, ◌⊎◌, OnOk, OnErr
 ghost use Rattle.std.specs.Io.KnownBytes.{Appends};
 ghost use Rattle.exact_io.specs.Transfers.{AppendsBeginning};
 ghost use Rattle.proof_table.specs.Spelling.{head_bytes};
-ghost use Rattle.proof_table.specs.Writing.{GainsTable, BeginsTable, GainsEntries, BeginsEntries};
+ghost use Rattle.proof_table.specs.Writing.{GainsTable, BeginsTable, GainsEntries, BeginsEntries, SpellsEntry, Lacks, IsWriters, error_of};
 ghost use Rattle.proof_table.specs.Fitting.{entry_said};
-ghost use Rattle.proof_table.specs.Writing.{SpellsEntry, Lacks, IsWriters, error_of};
 
 use crate::entries::spell_entry;
 use crate::errors::WriteTableError;
@@ -17,10 +16,10 @@ use control_flow::FlowError;
 use exact_io::write_bytes;
 use explorer::{Entry, Explored, Refusal, explore};
 use image::Image;
+use isa_model::MAX_EXPLORED;
 use stack_state::State;
 use std::alloc::Global;
 use std::io::Write;
-use table_entries::MAX_ENTRIES;
 
 /// The bytes of the longest entry: one of 8 frames, in which each register and each slot is a
 /// number.
@@ -46,7 +45,8 @@ fn write_all<W: Write>(writer: &mut W, bytes: &[u8]) -> Result<(), WriteTableErr
     }
 }
 
-/// Spells an entry that was explored, in a buffer of its own. Its state is put into the room for it.
+/// Spells an entry that was explored, in a buffer of its own. Its state is put into the room for
+/// it.
 fn spell_explored(
     image: &Image,
     entry: &Entry,
@@ -113,9 +113,10 @@ fn error_of(refusal: Refusal) -> WriteTableError
 /// Writes a table of a verified program: an entry for each instruction that the verifier explored,
 /// in its state, with its number and the entries to which its step leads.
 ///
-/// The verifier explores the program again, which takes as much memory as it took before. Each entry
-/// is one write, so a writer to a file is to have a buffer. The writer's first error, of any kind,
-/// is the failure; a write of no byte is the failure `ErrorKind::WriteZero`. Nothing is tried again.
+/// The verifier explores the program again, which takes as much memory as it took before. Each
+/// entry is one write, so a writer to a file is to have a buffer. The writer's first error, of any
+/// kind, is the failure; a write of no byte is the failure `ErrorKind::WriteZero`. Nothing is tried
+/// again.
 pub fn write_table<W: Write>(
     alloc: Global,
     verified: &Verified,
@@ -137,7 +138,7 @@ pub fn write_table<W: Write>(
         Err((refusal, _)) => return Err(error_of(refusal)),
     };
     let count = explored.len();
-    if count == 0 || count > MAX_ENTRIES as usize {
+    if count == 0 || count > MAX_EXPLORED as usize {
         return Err(WriteTableError::Explored);
     }
     let Ok(mut buffer) = Vec::with_capacity(alloc, LONGEST_ENTRY) else {

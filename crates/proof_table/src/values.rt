@@ -1,9 +1,7 @@
 //! Values of registers and stack slots, spelled as a table has them.
 
 ghost use Rattle.std.specs.Prelude.{◌≡◌, ◌++◌, OnOk};
-ghost use Rattle.proof_table.specs.Spelling.{bits_bytes, wide_bytes, low_bytes, scalar_bytes};
-ghost use Rattle.proof_table.specs.Spelling.{stack_bytes, packet_bytes, value_bytes, null_bytes};
-ghost use Rattle.proof_table.specs.Spelling.{kind_bytes, slot_bytes};
+ghost use Rattle.proof_table.specs.Spelling.{bits_bytes, wide_bytes, low_bytes, scalar_bytes, stack_bytes, packet_bytes, value_bytes, null_bytes, kind_bytes, slot_bytes};
 
 use byteorder::{ByteOrder, LittleEndian};
 use known_bits::Bits;
@@ -139,8 +137,8 @@ pub fn spell_kind(kind: &Kind, buffer: &mut Vec<u8>) -> Result<(), AllocError>
 
 /// Puts a stack slot after what the buffer has.
 ///
-/// An exit leaves an unset value where a pointer into its frame was spilled. A table has no spelling
-/// for it: it says that no byte of the slot is written, which is as little.
+/// An exit leaves an unset value where a pointer into its frame was spilled. A table has no
+/// spelling for it: it says that no byte of the slot is written, which is as little.
 #[tactic(auto, unfolding(crate::specs::Spelling::slot_bytes))]
 pub fn spell_slot(slot: &Slot, buffer: &mut Vec<u8>) -> Result<(), AllocError>
     ensures { OnOk result (buffer.new.items ≡ buffer.old.items ++ slot_bytes slot.now) }

@@ -6,7 +6,8 @@ use Rattle.std.proofs.lemmas.Int.{ints}
 use Rattle.isa_model.specs.declared.sizes.Extension.{Extension}
 use Rattle.isa_model.specs.declared.sizes.Extension.TheVariants.{Low8, Low16, Full8, Full16, Full32}
 use Rattle.isa_model.specs.Code.Numbers.{sign_extended}
-use Rattle.isa_model.specs.Code.ExtensionLemmas.{extension_bits, sign_extended_cases}
+use Rattle.isa_model.specs.Code.Sizes.{extension_bits}
+use Rattle.isa_model.proofs.ExtensionLemmas.{sign_extended_cases}
 use Rattle.std.proofs.Math.Facts.{sfits_to_z}
 use Rattle.ranges.specs.Keeps.{extension_signed}
 use Rattle.ranges.proofs.Limits.{fits_8, fits_16}

@@ -12,7 +12,7 @@ use Rattle.ranges.specs.Ranges.{Has, HasLow, IsConstant, IsTight, Encloses}
 use Rattle.ranges.specs.declared.wide.Wide.{Wide}
 use Rattle.ranges.specs.declared.low.Low.{Low}
 use Rattle.ranges.specs.declared.range.Range.{Range}
-use Rattle.ranges.specs.EnclosesLaws.{enclosed_has}
+use Rattle.ranges.proofs.EnclosesLaws.{enclosed_has}
 use Rattle.ranges.proofs.Limits.{signed_below_64}
 use Rattle.ranges.proofs.LowLaws.{reached_map, either_reached}
 

@@ -1,9 +1,6 @@
 pub mod Within
 pub mod Keeps
-pub mod KeepsMaps
 pub mod Joint
 pub mod Wides
 pub mod Lows
 pub mod Ranges
-pub mod EnclosesLaws
-pub mod FitsLaws

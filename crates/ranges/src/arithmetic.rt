@@ -1,7 +1,6 @@
 //! What the arithmetic instructions give.
 
-ghost use Rattle.std.specs.Prelude.{◌≡◌, ℕ, ◌+◌, ◌*◌, ◌*ℤ◌, ◌/◌, ◌%◌, ◌^◌, ◌<◌, ◌≤◌, ◌-ℤ◌, pos};
-ghost use Rattle.std.specs.Prelude.{FitsSigned, IsTrue, ◌↔◌};
+ghost use Rattle.std.specs.Prelude.{◌≡◌, ℕ, ◌+◌, ◌*◌, ◌*ℤ◌, ◌/◌, ◌%◌, ◌^◌, ◌<◌, ◌≤◌, ◌-ℤ◌, pos, FitsSigned, IsTrue, ◌↔◌};
 ghost use Rattle.std.specs.Int.{w32, w64};
 ghost use Rattle.isa_model.specs.Code.Sizes.{width_bits, span_bits};
 ghost use Rattle.isa_model.specs.Code.Numbers.{alu, negated, reordered, shift};

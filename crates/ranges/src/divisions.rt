@@ -1,7 +1,6 @@
 //! Quotients and remainders, and common bits.
 
-ghost use Rattle.std.specs.Prelude.{◌≡◌, ℕ, pos, ◌-ℤ◌, ◌<ℤ◌, ◌≤ℤ◌, FitsSigned, ◌^◌, ◌<◌, ◌↔◌, IsTrue, bit_and, unsigned_abs};
-ghost use Rattle.std.specs.Prelude.{int_div, int_rem};
+ghost use Rattle.std.specs.Prelude.{◌≡◌, ℕ, pos, ◌-ℤ◌, ◌<ℤ◌, ◌≤ℤ◌, FitsSigned, ◌^◌, ◌<◌, ◌↔◌, IsTrue, bit_and, unsigned_abs, int_div, int_rem};
 ghost use Rattle.std.specs.Int.{w64, cast_signed, cast_unsigned, int_min, int_max};
 ghost use Rattle.isa_model.specs.Code.Numbers.{quotient, remainder, result_of};
 ghost use Rattle.isa_model.specs.Code.Sizes.{width_bits};

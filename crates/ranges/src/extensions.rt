@@ -1,9 +1,8 @@
 //! Sign extensions of low bits.
 
 ghost use Rattle.std.specs.Prelude.{◌≡◌, ℕ, ℤ, ◌+◌, ◌%◌, ◌^◌, ◌<◌, ◌≤ℤ◌, ◌↔◌, FitsSigned, IsTrue};
-ghost use Rattle.isa_model.specs.Code.Sizes.{width_bits};
+ghost use Rattle.isa_model.specs.Code.Sizes.{width_bits, extension_bits, extension_width};
 ghost use Rattle.isa_model.specs.Code.Numbers.{sign_extended};
-ghost use Rattle.isa_model.specs.Code.ExtensionLemmas.{extension_bits, extension_width};
 ghost use Rattle.ranges.specs.Keeps.{extension_signed};
 ghost use Rattle.ranges.specs.Wides.{Has};
 

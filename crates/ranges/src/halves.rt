@@ -1,8 +1,7 @@
 //! What the arithmetic instructions make of low halves: by way of numbers of 64 bits that have
 //! them, extended without and with a sign.
 
-ghost use Rattle.std.specs.Prelude.{◌≡◌, ℕ, ℤ, pos, ◌*◌, ◌*ℤ◌, ◌%◌, ◌^◌, ◌<◌, ◌≤◌, ◌≤ℤ◌, ◌↔◌};
-ghost use Rattle.std.specs.Prelude.{FitsSigned};
+ghost use Rattle.std.specs.Prelude.{◌≡◌, ℕ, ℤ, pos, ◌*◌, ◌*ℤ◌, ◌%◌, ◌^◌, ◌<◌, ◌≤◌, ◌≤ℤ◌, ◌↔◌, FitsSigned};
 ghost use Rattle.std.specs.Int.{w32, w64, cast_signed, cast_unsigned};
 ghost use Rattle.isa_model.specs.Code.Numbers.{alu, sign_extended};
 ghost use Rattle.isa_model.specs.Code.Sizes.{span_bits};

@@ -1,7 +1,6 @@
 //! Limits of low halves: the type, common numbers and inclusion.
 
-ghost use Rattle.std.specs.Prelude.{◌≡◌, ℕ, ℤ, ◌+◌, ◌^◌, ◌<◌, ◌≤◌, ◌≤ℤ◌, ◌↔◌, IsSomeAnd, IfSome};
-ghost use Rattle.std.specs.Prelude.{Some, IsTrue, FitsSigned};
+ghost use Rattle.std.specs.Prelude.{◌≡◌, ℕ, ℤ, ◌+◌, ◌^◌, ◌<◌, ◌≤◌, ◌≤ℤ◌, ◌↔◌, IsSomeAnd, IfSome, Some, IsTrue, FitsSigned};
 ghost use Rattle.std.specs.Int.{w32, cast_signed, cast_unsigned};
 
 /// The low halves of numbers, within both pairs of limits: as unsigned and as signed numbers of 32

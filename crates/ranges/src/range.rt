@@ -1,7 +1,6 @@
 //! Ranges: the type, common numbers and inclusion.
 
-ghost use Rattle.std.specs.Prelude.{◌≡◌, ℕ, ◌%◌, ◌^◌, ◌<◌, ◌≤◌, ◌≤ℤ◌, ◌⊎◌, ◌↔◌, Some};
-ghost use Rattle.std.specs.Prelude.{IsSomeAnd, IfSome, IsTrue};
+ghost use Rattle.std.specs.Prelude.{◌≡◌, ℕ, ◌%◌, ◌^◌, ◌<◌, ◌≤◌, ◌≤ℤ◌, ◌⊎◌, ◌↔◌, Some, IsSomeAnd, IfSome, IsTrue};
 ghost use Rattle.std.specs.Int.{w64, cast_signed, cast_unsigned};
 ghost use Rattle.isa_model.specs.Code.Sizes.{width_bits};
 ghost use Rattle.ranges.specs.Lows as L;

@@ -1,7 +1,6 @@
 //! Pairs of numbers between which a relation holds, one of each range: what is left of either.
 
-ghost use Rattle.std.specs.Prelude.{◌≡◌, ◌≢◌, ◌⊎◌, ℕ, ◌<◌, ◌≤◌, ◌<ℤ◌, ◌≤ℤ◌, None, IsSomeAnd};
-ghost use Rattle.std.specs.Prelude.{IfSome, bit_and};
+ghost use Rattle.std.specs.Prelude.{◌≡◌, ◌≢◌, ◌⊎◌, ℕ, ◌<◌, ◌≤◌, ◌<ℤ◌, ◌≤ℤ◌, None, IsSomeAnd, IfSome, bit_and};
 ghost use Rattle.std.specs.Int.{w64, cast_signed};
 
 use crate::range::Range;

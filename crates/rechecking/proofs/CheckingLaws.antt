@@ -9,18 +9,19 @@ use Rattle.isa_model.specs.Code.Instructions.{Program, fetch}
 use Rattle.isa_model.specs.Machine.States as Machine
 use Rattle.isa_model.specs.Machine.Steps.{step}
 use Rattle.isa_model.specs.Machine.MachineStates.{IsProgram}
-use Rattle.isa_model.specs.Running.Ends.{After-weaker}
+use Rattle.isa_model.proofs.EndsLaws.{After-weaker}
 use Rattle.isa_model.specs.Running.Runs.{start_state}
 use Rattle.stack_state.specs.declared.states.State.{State}
 use Rattle.stack_state.specs.Meaning.{Means, Covers}
-use Rattle.stack_state.specs.Starts.{start, Means-start}
+use Rattle.stack_state.specs.Starts.{start}
+use Rattle.stack_state.proofs.StartsLaws.{Means-start}
 use Rattle.transfer.specs.declared.Ways.{Ways}
 use Rattle.transfer.specs.declared.Ways.TheVariants as ways
 use Rattle.state_cover.specs.FrameCover.{Encloses}
 use Rattle.transfer.specs.declared.refusals.Refusal.{Refusal}
 use Rattle.transfer.specs.Exact.{Steps}
 use Rattle.transfer.specs.Leading.{LeadsTo, InSome}
-use Rattle.bounds.specs.declared.verified.TheConstants.{MAX_BOUND}
+use Rattle.isa_model.specs.declared.limits.TheConstants.{MAX_STEPS}
 use Rattle.table_entries.specs.declared.entries.Head.{Head}
 use Rattle.table_entries.specs.Entries.{Entry, entry_of}
 use Rattle.table_entries.specs.Tables.{Kept, count_of, entry_at, entry_from}
@@ -53,7 +54,7 @@ into p t n from (i ∷ (j ∷ [])) ways.Two a b s f (inr m) =
 into p t n from named w a b s f m = absurd f
 
 -- an entry that passes the tests is fine
-pub IsFine-follows : (p : Program) (t : EntryAt) (e : Entry) (w : Ways) (a b : State) → 1 ≤ e.number → e.number ≤ MAX_BOUND
+pub IsFine-follows : (p : Program) (t : EntryAt) (e : Entry) (w : Ways) (a b : State) → 1 ≤ e.number → e.number ≤ MAX_STEPS
     → LeadsTo p e.state w a b → FollowsBy (Enters t e.number) e.successors w a b → IsFine p t e
 unfolding LeadsTo
 IsFine-follows p t e w a b some most leads follows = record {

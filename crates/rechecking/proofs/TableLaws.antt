@@ -4,7 +4,8 @@ use Rattle.std.proofs.Common.{arith}
 use Rattle.isa_model.specs.Code.Instructions.{Program}
 use Rattle.isa_model.specs.Machine.Steps.{step}
 use Rattle.isa_model.specs.Running.Runs.{start_state}
-use Rattle.isa_model.specs.Running.Ends.{After-weaker, Ends}
+use Rattle.isa_model.proofs.EndsLaws.{After-weaker}
+use Rattle.isa_model.specs.Running.Ends.{Ends}
 use Rattle.isa_model.specs.Running.Outcomes.{StartsEnd}
 use Rattle.stack_state.specs.Meaning.{Within}
 use Rattle.table_entries.specs.Entries.{Entry}

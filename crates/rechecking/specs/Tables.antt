@@ -10,7 +10,7 @@ use Rattle.isa_model.specs.Running.Runs.{start_state}
 use Rattle.isa_model.specs.Running.Ends.{After}
 use Rattle.stack_state.specs.declared.states.State.{State}
 use Rattle.stack_state.specs.Meaning.{Means}
-use Rattle.bounds.specs.declared.verified.TheConstants.{MAX_BOUND}
+use Rattle.isa_model.specs.declared.limits.TheConstants.{MAX_STEPS}
 use Rattle.table_entries.specs.Entries.{Entry}
 
 -- the entries by their indexes; past the end of a table there are none
@@ -29,7 +29,7 @@ pub record GoesInto (p : Program) (t : EntryAt) (e : Entry) (s : Machine.State) 
 -- no machine state of the entry traps at its next step, and each that goes on goes into a named entry of a smaller number
 pub record IsFine (p : Program) (t : EntryAt) (e : Entry) : Type 0 where
   pub some : 1 ≤ e.number
-  pub most : e.number ≤ MAX_BOUND
+  pub most : e.number ≤ MAX_STEPS
   pub steps : (clock : ℕ → ℕ) → IsClock clock → (s : Machine.State) → Means p e.state s → After (GoesInto p t e) (step p clock s)
 
 -- every state in which a run begins is one of the abstract state

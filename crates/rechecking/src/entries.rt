@@ -1,14 +1,12 @@
 //! Entries tested, one by one.
 
-ghost use Rattle.std.specs.Prelude.{◌≡◌, ◌<◌, ℕ, Some, None, IsSome, IsTrue, IfOk, IfErr, IfSome};
-ghost use Rattle.std.specs.Prelude.{false};
+ghost use Rattle.std.specs.Prelude.{◌≡◌, ◌<◌, ℕ, Some, None, IsSome, IsTrue, IfOk, IfErr, IfSome, false};
 ghost use Rattle.isa_model.specs.Code.Instructions.{Program};
 ghost use Rattle.stack_state.specs.declared.states.State.{State};
 ghost use Rattle.table_entries.specs.Entries.{Entry, list_of};
 ghost use Rattle.table_entries.specs.Tables.{entry_at, count_of};
 ghost use Rattle.rechecking.specs.Tables.{EntryAt, IsFine};
-ghost use Rattle.rechecking.specs.Checking.{Enters, EntersClearly, FollowsBy, Covering};
-ghost use Rattle.rechecking.specs.Checking.{CoversClearly, IsFaultyAt, IsFirstFault};
+ghost use Rattle.rechecking.specs.Checking.{Enters, EntersClearly, FollowsBy, Covering, CoversClearly, IsFaultyAt, IsFirstFault};
 ghost use Rattle.rechecking.specs.Standing.{StandsAt, IsKnown};
 
 use crate::errors::TableError;

@@ -9,9 +9,8 @@ use Rattle.isa_model.specs.declared.sizes.ByteOrder.{ByteOrder}
 use Rattle.isa_model.specs.declared.sizes.ByteOrder.TheVariants.{Little}
 use Rattle.isa_model.specs.declared.instructions.AluOp.{AluOp}
 use Rattle.isa_model.specs.declared.instructions.AluOp.TheVariants.{Mul, Lsh}
-use Rattle.isa_model.specs.Code.Sizes.{width_bits, span_bits}
+use Rattle.isa_model.specs.Code.Sizes.{width_bits, span_bits, extension_bits, extension_width}
 use Rattle.isa_model.specs.Code.Numbers.{alu, negated, sign_extended, reordered, shift}
-use Rattle.isa_model.specs.Code.ExtensionLemmas.{extension_bits, extension_width}
 use Rattle.known_bits.specs.Member.{Occurs}
 use Rattle.known_bits.specs.Bits.{IsPrecise, KnowsProduct, greatest_of}
 use Rattle.ranges.specs.Keeps.{extension_signed}
@@ -99,7 +98,7 @@ pub record IsReordered (order : ByteOrder) (span : Span) (a c : Scalar) : Type 0
       → bit_at (a.bits.mask % 2 ^ span_bits span) i ≡ 1
   pub sharp : IsSharp a a (λ x y. reordered order span x) c
 
--- the numbers that so many bits make, from one bit on: the limits of the numbers are kept where the bits hold them, and of
+-- the numbers that a count of bits makes, from one bit on: the limits of the numbers are kept where the bits hold them, and of
 -- the lower half else those of low halves; only a bit that is unknown is so there
 pub record IsPart (from count : ℕ) (a c : Scalar) : Type 0 where
   pub contains : (x : ℕ) → Has a x → Has c (x / 2 ^ from % 2 ^ count)

@@ -1,7 +1,6 @@
 //! What a conditional jump shows of the numbers that it compares.
 
-ghost use Rattle.std.specs.Prelude.{◌≡◌, ◌≢◌, ℕ, ◌^◌, ◌<◌, None, IsSomeAnd, IfSome, IsTrue};
-ghost use Rattle.std.specs.Prelude.{Bool, false, bit_and};
+ghost use Rattle.std.specs.Prelude.{◌≡◌, ◌≢◌, ℕ, ◌^◌, ◌<◌, None, IsSomeAnd, IfSome, IsTrue, Bool, false, bit_and};
 ghost use Rattle.isa_model.specs.Code.Numbers.{holds, low};
 ghost use Rattle.isa_model.specs.declared.sizes.Width.TheVariants.{Low32, Full64};
 ghost use Rattle.reg_state.specs.Relations.{Goes, reads_signed, low_half, low_half_limit};

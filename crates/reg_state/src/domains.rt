@@ -1,11 +1,9 @@
 //! What every domain of numbers offers.
 
-ghost use Rattle.std.specs.Prelude.{◌≡◌, ◌≢◌, ℕ, ◌^◌, ◌<◌, ◌≤◌, ◌<ℤ◌, ◌≤ℤ◌, ◌↔◌, Some, IsSomeAnd};
-ghost use Rattle.std.specs.Prelude.{IfSome, IsTrue, bit_and, pos};
+ghost use Rattle.std.specs.Prelude.{◌≡◌, ◌≢◌, ℕ, ◌^◌, ◌<◌, ◌≤◌, ◌<ℤ◌, ◌≤ℤ◌, ◌↔◌, Some, IsSomeAnd, IfSome, IsTrue, bit_and, pos};
 ghost use Rattle.std.specs.Int.{w64, cast_signed, bit_at};
-ghost use Rattle.isa_model.specs.Code.Sizes.{width_bits, span_bits};
+ghost use Rattle.isa_model.specs.Code.Sizes.{width_bits, span_bits, extension_width};
 ghost use Rattle.isa_model.specs.Code.Numbers.{alu, negated, sign_extended, reordered, low, signed};
-ghost use Rattle.isa_model.specs.Code.ExtensionLemmas.{extension_width};
 ghost use Rattle.reg_state.specs.Limits.{Limits};
 ghost use Rattle.isa_model.specs.declared.sizes.Width.{Width};
 ghost use Rattle.isa_model.specs.declared.sizes.Width.TheVariants.{Full64};

@@ -1,8 +1,6 @@
 //! Known bits and limits at once.
 
-ghost use Rattle.std.specs.Prelude.{◌≡◌, ℕ, ◌+◌, ◌*◌, ◌%◌, ◌^◌, ◌<◌, ◌≤◌, pos, ◌-ℤ◌, ◌*ℤ◌};
-ghost use Rattle.std.specs.Prelude.{FitsSigned, ◌↔◌};
-ghost use Rattle.std.specs.Prelude.{Some, IsSomeAnd, IfSome, IsTrue};
+ghost use Rattle.std.specs.Prelude.{◌≡◌, ℕ, ◌+◌, ◌*◌, ◌%◌, ◌^◌, ◌<◌, ◌≤◌, pos, ◌-ℤ◌, ◌*ℤ◌, FitsSigned, ◌↔◌, Some, IsSomeAnd, IfSome, IsTrue};
 ghost use Rattle.std.specs.Int.{w32, w64, cast_signed, bit_at};
 ghost use Rattle.isa_model.specs.Code.Sizes.{width_bits};
 
@@ -136,7 +134,7 @@ impl Domain for Scalar {
     ghost use Rattle.known_bits.specs.Bits.{IsPrecise, KnowsProduct, greatest_of};
     ghost use Rattle.isa_model.specs.Code.Numbers.{negated, sign_extended, reordered};
     ghost use Rattle.isa_model.specs.Code.Sizes.{span_bits};
-    ghost use Rattle.isa_model.specs.Code.ExtensionLemmas.{extension_bits, extension_width};
+    ghost use Rattle.isa_model.specs.Code.Sizes.{extension_bits, extension_width};
     ghost use Rattle.ranges.specs.Ranges as R;
     ghost use Rattle.ranges.specs.Ranges.{ReadsLow};
     ghost use Rattle.ranges.specs.Keeps.{extension_signed};

@@ -1,7 +1,7 @@
 -- What is said of a program that is refused.
 use Rattle.std.proofs.Common.{◌≡◌, ℕ, List, Option, Some, None, subst, inl, inr}
 use Rattle.exact_io.specs.Transfers.{AppendsBeginning}
-use Rattle.exact_io.specs.TransferLaws.{AppendsBeginning-first}
+use Rattle.exact_io.proofs.TransferLaws.{AppendsBeginning-first}
 use Rattle.isa_model.specs.declared.instructions.Insn.{Insn}
 use Rattle.isa_model.specs.{Program, fetch}
 use Rattle.walks.specs.declared.refusals.Refusal.{Refusal}

@@ -4,8 +4,7 @@ ghost use Rattle.std.specs.Prelude.{◌≡◌, ◌≢◌, true, OnOk, OnErr};
 ghost use Rattle.std.specs.Io.KnownBytes.{Appends};
 ghost use Rattle.std.specs.IoError.{error_kind};
 ghost use Rattle.exact_io.specs.Transfers.{AppendsBeginning};
-ghost use Rattle.serving.specs.Statuses.{status_of, is_silent, is_unsaid, message_of, IsWordsEnd};
-ghost use Rattle.serving.specs.Statuses.{IsReadFailure, IsMakeFailure};
+ghost use Rattle.serving.specs.Statuses.{status_of, is_silent, is_unsaid, message_of, IsWordsEnd, IsReadFailure, IsMakeFailure};
 ghost use Rattle.serving.specs.Saying.{AppendsPart};
 ghost use Rattle.serving.specs.Judging.{IsStoreFailure};
 

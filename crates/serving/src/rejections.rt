@@ -4,8 +4,7 @@ ghost use Rattle.std.specs.Prelude.{◌≡◌, ◌++◌, OnOk, OnErr, codes, dec
 ghost use Rattle.std.specs.Io.KnownBytes.{Appends};
 ghost use Rattle.isa_model.specs.Text.CanonicalText as canonical;
 ghost use Rattle.exact_io.specs.Transfers.{AppendsBeginning};
-ghost use Rattle.serving.specs.Messages.{sentence_of, map_place, insn_place, text_place, place_of};
-ghost use Rattle.serving.specs.Messages.{entry_place, step_place, table_place, reason_of};
+ghost use Rattle.serving.specs.Messages.{sentence_of, map_place, insn_place, text_place, place_of, entry_place, step_place, table_place, reason_of};
 
 use super::texts::write_texts;
 use assembler::AsmError;

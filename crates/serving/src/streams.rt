@@ -15,8 +15,8 @@ use std::io::{Read, Write};
 use tasks::StepLimit;
 
 // How a task ended whose run over a stream ended so, the frames out going to the file at the path.
-// What waits for the file is handed on to it, unless the file has failed before. Why standard output
-// failed is told when it is flushed.
+// What waits for the file is handed on to it, unless the file has failed before. Why standard
+// output failed is told when it is flushed.
 fn outcome_of<'a, W: Write + Drop>(
     path: &'a str,
     ended: Result<Tally, HostError>,

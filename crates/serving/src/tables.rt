@@ -3,8 +3,7 @@
 ghost use Rattle.std.specs.Prelude.{◌≡◌, IfOk, IfErr, OnOk};
 ghost use Rattle.bounds.specs.Bounds.{IsVerified};
 ghost use Rattle.tasks.specs.Requests.{files_of, proof_files_of};
-ghost use Rattle.serving.specs.Commands.{ShowsNone, IsShown, RechecksFile, RunsShown};
-ghost use Rattle.serving.specs.Commands.{ProvesFile};
+ghost use Rattle.serving.specs.Commands.{ShowsNone, IsShown, RechecksFile, RunsShown, ProvesFile};
 ghost use Rattle.serving.specs.Statuses.{IsMakeFailure};
 
 use super::endings::Ending;

@@ -13,8 +13,7 @@ ghost use Rattle.assembler.specs.Assembling as spells;
 ghost use Rattle.serving.specs.Statuses.{is_silent};
 ghost use Rattle.serving.specs.Lines.{bound_line, size_line};
 ghost use Rattle.serving.specs.Saying.{Says, LacksMemory};
-ghost use Rattle.serving.specs.Judging.{RefusesImage, RefusesProgram, Accepts, Verifies};
-ghost use Rattle.serving.specs.Judging.{RefusesText, SaysRefused};
+ghost use Rattle.serving.specs.Judging.{RefusesImage, RefusesProgram, Accepts, Verifies, RefusesText, SaysRefused};
 ghost use Rattle.serving.specs.Known.{IsKnown};
 
 use super::endings::Ending;

@@ -1,0 +1,17 @@
+pub mod CallLaws
+pub mod CellLaws
+pub mod EffectLaws
+pub mod EndLaws
+pub mod ExitLaws
+pub mod FillLaws
+pub mod FrameLaws
+pub mod FramePlaceLaws
+pub mod HelperEffects
+pub mod MarksLaws
+pub mod MeaningLaws
+pub mod PacketEffects
+pub mod PlaceLaws
+pub mod SpliceLaws
+pub mod StackLaws
+pub mod StartsLaws
+pub mod ValueEffects

@@ -2,10 +2,9 @@
 
 ghost use Rattle.std.specs.Prelude.{◌≡◌, ◌+◌, ◌<◌, ◌^◌, length};
 ghost use Rattle.stack_state.specs.Calls as call_words;
-ghost use Rattle.stack_state.specs.Calls.{caller_of, callee_of, resumed_of};
-ghost use Rattle.stack_state.specs.Calls.{entered, ended};
+ghost use Rattle.stack_state.specs.Calls.{caller_of, callee_of, resumed_of, entered, ended};
 ghost use Rattle.stack_state.specs.Meaning.{depth};
-ghost use Rattle.isa_model.specs.Machine.Calls.{most_frames};
+ghost use Rattle.isa_model.specs.Code.Limits.{max_call_frames};
 
 use crate::facts::Fact;
 use crate::stacks::StackState;
@@ -75,7 +74,7 @@ impl AbstractFrame {
 impl State {
     /// A call of the function at a slot. Its exit leads to the slot after this one.
     pub fn enter(&mut self, target: usize)
-        requires room { depth self.old < most_frames }
+        requires room { depth self.old < max_call_frames }
         requires slot { self.old.slot + 1 < 2 ^ 63 }
         ensures { self.new ≡ entered self.old target }
     {

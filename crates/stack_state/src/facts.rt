@@ -1,8 +1,7 @@
 //! What becomes known of values wherever they stand: in registers and slots of all live frames.
 
 ghost use Rattle.std.specs.Prelude.{◌≡◌, map};
-ghost use Rattle.stack_state.specs.Effects.{proved_kind, tested_kind, with_spilled, with_kinds};
-ghost use Rattle.stack_state.specs.Effects.{map_kinds};
+ghost use Rattle.stack_state.specs.Effects.{proved_kind, tested_kind, with_spilled, with_kinds, map_kinds};
 ghost use Rattle.stack_state.specs.Calls.{without_frame};
 ghost use Rattle.stack_state.specs.Facts.{learned};
 

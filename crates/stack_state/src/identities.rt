@@ -1,10 +1,8 @@
 //! Identities that no kind of a state names.
 
 ghost use Rattle.std.specs.Prelude.{◌≡◌, ◌≢◌, ℕ, ◌*◌, ◌<◌, ◌≤◌, Some, true, false, length};
-ghost use Rattle.stack_state.specs.Identities.{named_by, IsLeastFresh};
-ghost use Rattle.stack_state.specs.Identities.{IsLeastFreshPacket, IsLeastFreshNull};
-ghost use Rattle.stack_state.specs.Marks.{AreFree, IsOther, HoldsOther, IsFreshIn, IsFreshAt};
-ghost use Rattle.stack_state.specs.Marks.{Marks, is_marked, marked};
+ghost use Rattle.stack_state.specs.Identities.{named_by, IsLeastFresh, IsLeastFreshPacket, IsLeastFreshNull};
+ghost use Rattle.stack_state.specs.Marks.{AreFree, IsOther, HoldsOther, IsFreshIn, IsFreshAt, Marks, is_marked, marked};
 
 use crate::slots::Slot;
 use crate::states::{AbstractFrame, State};

@@ -3,8 +3,7 @@
 ghost use Rattle.std.specs.Prelude.{◌≡◌, ℕ, ◌+◌, ◌-◌, ◌*◌, ◌^◌, ◌<◌, ◌≤◌, ◌↔◌, IsTrue};
 ghost use Rattle.isa_model.specs.Code.Sizes.{size_bytes};
 ghost use Rattle.reg_state.specs.Scalars.{Has};
-ghost use Rattle.stack_state.specs.Slots.{marks_of, kind_in, mask_of, IsAny, AreAll, ArePart};
-ghost use Rattle.stack_state.specs.Slots.{AreSpilled, AreNumbers, IsSpill, IsFill, forgotten_slot};
+ghost use Rattle.stack_state.specs.Slots.{marks_of, kind_in, mask_of, IsAny, AreAll, ArePart, AreSpilled, AreNumbers, IsSpill, IsFill, forgotten_slot};
 
 use isa_model::{Size, Width};
 use reg_state::{Domain, Kind, Scalar};

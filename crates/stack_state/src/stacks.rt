@@ -1,15 +1,12 @@
 //! What is known of the bytes of a call frame.
 
-ghost use Rattle.std.specs.Prelude.{◌≡◌, List, length, ◌+◌, ◌/◌, ◌%◌, ◌<◌, ◌≤◌, ◌↔◌, IsTrue};
-ghost use Rattle.std.specs.Prelude.{replicate, slice_set};
+ghost use Rattle.std.specs.Prelude.{◌≡◌, List, length, ◌+◌, ◌/◌, ◌%◌, ◌<◌, ◌≤◌, ◌↔◌, IsTrue, replicate, slice_set};
 ghost use Rattle.isa_model.specs.declared.values.Cell.{Cell};
 ghost use Rattle.isa_model.specs.Code.Sizes.{size_bytes};
 ghost use Rattle.reg_state.specs.Kinds.{Assigned};
 ghost use Rattle.stack_state.specs.Slots as slot_words;
-ghost use Rattle.stack_state.specs.Slots.{slot_at, IsMarked, AreMarked, after_store, IsLoad};
-ghost use Rattle.stack_state.specs.Slots.{IsSpill, IsFill};
-ghost use Rattle.stack_state.specs.StackMeaning.{StackMeans, Stores, Spills, Loads, Fills};
-ghost use Rattle.stack_state.specs.StackMeaning.{AreBytes, Forgets};
+ghost use Rattle.stack_state.specs.Slots.{slot_at, IsMarked, AreMarked, after_store, IsLoad, IsSpill, IsFill};
+ghost use Rattle.stack_state.specs.StackMeaning.{StackMeans, Stores, Spills, Loads, Fills, AreBytes, Forgets};
 
 use crate::slots::{Slot, filled, forgotten, mask, numbers, spilled};
 use isa_model::Size;

@@ -7,16 +7,17 @@ use Rattle.isa_model.specs.Code.Instructions.{Program}
 use Rattle.reg_state.specs.declared.kinds.Kind.{Kind}
 use Rattle.reg_state.specs.declared.kinds.Kind.TheVariants.{Unset}
 use Rattle.reg_state.specs.Kinds.{Assigned}
-use Rattle.reg_state.specs.KindCover.{KindCovers, Allows-covered, renamed}
+use Rattle.reg_state.specs.KindCover.{KindCovers}
+use Rattle.reg_state.proofs.KindCoverLaws.{Allows-covered, renamed}
 use Rattle.stack_state.specs.declared.slots.Slot.{Slot}
 use Rattle.stack_state.specs.declared.slots.Slot.TheVariants.{Written, Spilled}
 use Rattle.stack_state.specs.declared.states.AbstractFrame.{AbstractFrame}
 use Rattle.stack_state.specs.declared.states.State.{State}
 use Rattle.stack_state.specs.Slots.{slot_at}
 use Rattle.stack_state.specs.StackMeaning.{SlotMeans}
-use Rattle.stack_state.specs.StackLaws.{SlotMeans-spilled, SlotMeans-marks}
+use Rattle.stack_state.proofs.StackLaws.{SlotMeans-spilled, SlotMeans-marks}
 use Rattle.stack_state.specs.Meaning.{Covers, Means, kind_at, frames_of, no_frame, frame_of}
-use Rattle.stack_state.specs.MeaningLaws.{FrameKeeps, MeansBy-change}
+use Rattle.stack_state.proofs.MeaningLaws.{FrameKeeps, MeansBy-change}
 use Rattle.state_cover.specs.FrameCover.{FrameCovers, KindsCover, SlotCovers}
 
 -- past the last register a kind is Unset, which covers every kind

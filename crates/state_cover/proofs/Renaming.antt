@@ -16,7 +16,7 @@ use Rattle.stack_state.specs.declared.states.AbstractFrame.{AbstractFrame}
 use Rattle.stack_state.specs.declared.states.State.{State}
 use Rattle.stack_state.specs.Slots.{slot_at, kind_in}
 use Rattle.stack_state.specs.Meaning.{frames_of, no_frame, frame_of, kind_at, kinds_of, slots_of}
-use Rattle.stack_state.specs.MeaningLaws.{length-frames_of, frame_of-caller, frame_of-innermost}
+use Rattle.stack_state.proofs.MeaningLaws.{length-frames_of, frame_of-caller, frame_of-innermost}
 use Rattle.state_cover.specs.declared.names.Sort.{Sort}
 use Rattle.state_cover.specs.declared.names.Sort.TheVariants as sort
 use Rattle.state_cover.specs.Names.{identity_of, is_number, is_named, spilled_kinds, frame_places, places, first_named, name_at, name_of, packet_name, null_name}

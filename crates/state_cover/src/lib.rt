@@ -7,9 +7,7 @@ ghost use Rattle.reg_state.specs.KindCover.{KindCovers, KindEncloses};
 ghost use Rattle.stack_state.specs.Meaning.{Covers};
 ghost use Rattle.stack_state.specs.Slots.{marks_of};
 ghost use Rattle.state_cover.specs.Names.{packet_name, null_name};
-ghost use Rattle.state_cover.specs.FrameCover.{FrameCovers, KindsCover, KindsEnclose, Encloses};
-ghost use Rattle.state_cover.specs.FrameCover.{AreAmong, SlotCovers, SlotEncloses, SlotsCover};
-ghost use Rattle.state_cover.specs.FrameCover.{SlotsEnclose};
+ghost use Rattle.state_cover.specs.FrameCover.{FrameCovers, KindsCover, KindsEnclose, Encloses, AreAmong, SlotCovers, SlotEncloses, SlotsCover, SlotsEnclose};
 
 mod names;
 

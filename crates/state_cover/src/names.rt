@@ -4,9 +4,7 @@ ghost use Rattle.std.specs.Prelude.{◌≡◌, length};
 ghost use Rattle.std.specs.List.{zip};
 ghost use Rattle.reg_state.specs.KindCover.{IsCalled};
 ghost use Rattle.stack_state.specs.Meaning.{frames_of};
-ghost use Rattle.state_cover.specs.Names.{identity_of, is_named, spilled_kinds, frame_places};
-ghost use Rattle.state_cover.specs.Names.{places};
-ghost use Rattle.state_cover.specs.Names.{first_named, name_of, packet_name, null_name};
+ghost use Rattle.state_cover.specs.Names.{identity_of, is_named, spilled_kinds, frame_places, places, first_named, name_of, packet_name, null_name};
 
 use reg_state::Kind;
 use stack_state::{AbstractFrame, Slot, State};

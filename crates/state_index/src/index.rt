@@ -271,8 +271,8 @@ impl Index {
         Ok(())
     }
 
-    /// Puts an entry into its bucket of finished ones, if it belongs there, and else notes its place
-    /// there; all that were stored before it were put there, and those after it were not.
+    /// Puts an entry into its bucket of finished ones, if it belongs there, and else notes its
+    /// place there; all that were stored before it were put there, and those after it were not.
     fn file_by_known(&mut self, index: usize) {
         let Some(link) = self.links.get_mut(index) else {
             return;
@@ -304,7 +304,8 @@ impl Index {
         }
     }
 
-    /// Moves an entry to the finished ones of its bucket; all that were stored after it are finished.
+    /// Moves an entry to the finished ones of its bucket; all that were stored after it are
+    /// finished.
     pub fn finish(&mut self, index: usize) {
         let Some(link) = self.links.get_mut(index) else {
             return;

@@ -39,7 +39,7 @@ fn differ(places: &[Place], rows: &[u64], width: usize, column: usize) -> bool {
     false
 }
 
-/// How many columns there are in which the rows differ, up to the one after so many of them, and
+/// How many columns there are in which the rows differ, up to the one after this many of them, and
 /// that one.
 fn differing(
     places: &[Place],

@@ -1,8 +1,7 @@
 //! What is known of a frame, place by place.
 
 ghost use Rattle.std.specs.Prelude.{◌≡◌, ◌++◌, OnOk, IsTrue, length, slice_set, option_to_list};
-ghost use Rattle.state_index.specs.Parts.{register_part, slot_part, register_parts, slot_parts};
-ghost use Rattle.state_index.specs.Parts.{AreParts, written, IsPartOf};
+ghost use Rattle.state_index.specs.Parts.{register_part, slot_part, register_parts, slot_parts, AreParts, written, IsPartOf};
 
 use reg_state::{Domain, Kind};
 use stack_state::{AbstractFrame, Slot};

@@ -1,4 +1,5 @@
-//! Sets of trees: each has the trees of the finished entries of one shape in which the same is known.
+//! Sets of trees: each has the trees of the finished entries of one shape in which the same is
+//! known.
 //!
 //! A set is made where many entries were scanned in vain.
 

@@ -8,3 +8,4 @@ pub mod Spelled
 pub mod Seen
 pub mod BlankSlots
 pub mod NumberSlots
+pub mod ValueLaws

@@ -1,15 +1,14 @@
 -- The number of an entry is the one that its bytes begin with, and it is allowed.
-use Rattle.std.specs.Prelude.{◌≡◌, ℕ, ◌-◌, ◌<◌, nat_lt, ◌==◌, ◌||◌, ◌&&◌, not, if◌then◌else◌, Bool, true, false, List, length, drop, slice_get, Option, Some, None, Ok, Err, refl}
+use Rattle.std.specs.Prelude.{◌≡◌, ℕ, ◌-◌, ◌<◌, nat_lt, ◌==◌, ◌||◌, ◌&&◌, not, if◌then◌else◌, Bool, true, false, List, length, drop, slice_get, Option, Some, None, Ok, Err, refl, MatchOption, IfSome}
 use Rattle.std.proofs.Common.{sym, ap, ◌∙◌, subst, arith, get_or}
 use Rattle.std.proofs.lemmas.Option.{slice_get-get_or}
-use Rattle.std.specs.Prelude.{MatchOption, IfSome}
 use Rattle.std.specs.Option.{is_some, option_map}
 use Rattle.stack_state.specs.declared.states.State.{State}
 use Rattle.table_entries.specs.declared.entries.Head.{Head}
 use Rattle.table_entries.specs.declared.stops.Stop.{Stop}
 use Rattle.byteorder.specs.Endian.{little_number}
 use Rattle.isa_model.specs.Code.Instructions.{Program, fetch}
-use Rattle.bounds.specs.declared.verified.TheConstants.{MAX_BOUND}
+use Rattle.isa_model.specs.declared.limits.TheConstants.{MAX_STEPS}
 use Rattle.stack_state.specs.declared.states.AbstractFrame.{AbstractFrame}
 use Rattle.table_entries.specs.Reading.{Read, then_read, allowed}
 use Rattle.table_entries.specs.Frames.{frame_in, callers_in}
@@ -40,13 +39,13 @@ and-right false b h = grind arith
 
 IsAllowed-head : (p : Program) (number slot : ℕ) → head_allowed p number slot ≡ true → IsAllowed p number slot
 IsAllowed-head p number slot h =
-    let within : (not (number == 0) && not (nat_lt MAX_BOUND number)) ≡ true = and-left (not (number == 0) && not (nat_lt MAX_BOUND number)) (is_some (fetch p slot)) h in
-    let first : not (number == 0) ≡ true = and-left (not (number == 0)) (not (nat_lt MAX_BOUND number)) within in
-    let second : not (nat_lt MAX_BOUND number) ≡ true = and-right (not (number == 0)) (not (nat_lt MAX_BOUND number)) within in
+    let within : (not (number == 0) && not (nat_lt MAX_STEPS number)) ≡ true = and-left (not (number == 0) && not (nat_lt MAX_STEPS number)) (is_some (fetch p slot)) h in
+    let first : not (number == 0) ≡ true = and-left (not (number == 0)) (not (nat_lt MAX_STEPS number)) within in
+    let second : not (nat_lt MAX_STEPS number) ≡ true = and-right (not (number == 0)) (not (nat_lt MAX_STEPS number)) within in
     record {
       some = grind arith;
       most = grind arith;
-      begins = and-right (not (number == 0) && not (nat_lt MAX_BOUND number)) (is_some (fetch p slot)) h;
+      begins = and-right (not (number == 0) && not (nat_lt MAX_STEPS number)) (is_some (fetch p slot)) h;
     }
 
 BeginsWith-with : (p : Program) (number slot : ℕ) (callers : Option (List AbstractFrame)) (innermost : Option AbstractFrame) (successors : Option (List ℕ))

@@ -3,7 +3,7 @@ use Rattle.std.specs.Prelude.{ℕ, ◌-◌, ◌≤◌, nat_lt, ◌==◌, ◌&&�
 use Rattle.std.specs.Option.{is_some}
 use Rattle.byteorder.specs.Endian.{little_number}
 use Rattle.isa_model.specs.Code.Instructions.{Program, fetch}
-use Rattle.bounds.specs.declared.verified.TheConstants.{MAX_BOUND}
+use Rattle.isa_model.specs.declared.limits.TheConstants.{MAX_STEPS}
 use Rattle.stack_state.specs.declared.states.AbstractFrame.{AbstractFrame}
 use Rattle.stack_state.specs.declared.states.State.{State}
 use Rattle.table_entries.specs.declared.entries.Named.{Named}
@@ -40,12 +40,12 @@ named_in (count ∷ bytes) =
 -- a number from 1 to the greatest bound, and a slot where an instruction begins
 pub record IsAllowed (p : Program) (number slot : ℕ) : Type 0 where
   pub some : 1 ≤ number
-  pub most : number ≤ MAX_BOUND
+  pub most : number ≤ MAX_STEPS
   pub begins : IsSome (fetch p slot)
 
 -- the same as a test
 abbrev pub head_allowed : Program → ℕ → ℕ → Bool
-head_allowed p number slot = (not (number == 0) && not (nat_lt MAX_BOUND number)) && is_some (fetch p slot)
+head_allowed p number slot = (not (number == 0) && not (nat_lt MAX_STEPS number)) && is_some (fetch p slot)
 
 abbrev pub entry_with : Program → ℕ → ℕ → Option (List AbstractFrame) → Option AbstractFrame → Option (List ℕ) → Option Entry
 entry_with p number slot (Some callers) (Some innermost) (Some successors) =

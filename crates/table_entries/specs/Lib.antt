@@ -2,7 +2,6 @@ pub mod Deciding
 pub mod Reading
 pub mod Blanks
 pub mod Values
-pub mod ValueLaws
 pub mod Frames
 pub mod Entries
 pub mod Tables

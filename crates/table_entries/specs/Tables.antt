@@ -8,7 +8,7 @@ use Rattle.table_entries.specs.declared.faults.TableFault.{TableFault}
 use Rattle.table_entries.specs.declared.faults.TableFault.TheVariants as fault
 use Rattle.table_entries.specs.declared.stops.Stop.{Stop}
 use Rattle.table_entries.specs.declared.stops.Stop.TheVariants.{Short, Form}
-use Rattle.table_entries.specs.declared.tables.TheConstants.{MAX_ENTRIES}
+use Rattle.isa_model.specs.declared.limits.TheConstants.{MAX_EXPLORED}
 use Rattle.table_entries.specs.Reading.{Read, allowed}
 use Rattle.table_entries.specs.Entries.{Entry, entry_in}
 
@@ -42,7 +42,7 @@ count_in bytes =
     if nat_lt (length bytes) 8 then Err fault.Short
     else if not (starts_with nat_eq bytes (codes "XPT1")) then Err fault.Magic
     else let count = little_number 4 (drop 4 bytes) in
-    if count == 0 || nat_lt MAX_ENTRIES count then Err fault.Count else Ok count
+    if count == 0 || nat_lt MAX_EXPLORED count then Err fault.Count else Ok count
 
 -- this number of entries after the first 8 bytes, and nothing more
 abbrev pub body_in : Program → List ℕ → ℕ → Result (List (Option Entry)) TableFault

@@ -2,16 +2,15 @@
 
 ghost use Rattle.std.specs.Prelude.{◌≡◌, ◌≤◌, Some, length};
 ghost use Rattle.std.specs.Option.{option_map};
-ghost use Rattle.table_entries.specs.Entries.{entry_in, entry_of, head_allowed, list_of, named_in};
-ghost use Rattle.table_entries.specs.Entries.{rest_in};
+ghost use Rattle.table_entries.specs.Entries.{entry_in, entry_of, head_allowed, list_of, named_in, rest_in};
 ghost use Rattle.table_entries.specs.Reading.{Gives, kept};
 
 use crate::frames::{read_callers, read_frame};
 use crate::loops::both;
 use crate::slices::{skip, u16_at, u32_at};
 use crate::stops::Stop;
-use bounds::MAX_BOUND;
 use image::Image;
+use isa_model::MAX_STEPS;
 use stack_state::State;
 
 /// The entries that an entry names, the fall-through first.
@@ -58,7 +57,7 @@ pub fn named_in(bytes: &[u8]) -> Result<(Named, &[u8]), Stop>
 pub fn head_allowed(image: &Image, number: u32, slot: usize) -> bool
     ensures { result ≡ head_allowed image.now number slot }
 {
-    number != 0 && number <= MAX_BOUND && image.at(slot).is_some()
+    number != 0 && number <= MAX_STEPS && image.at(slot).is_some()
 }
 
 fn head_if(allowed: bool, head: Head) -> Option<Head>

@@ -1,8 +1,7 @@
 //! Call frames in the bytes of a table.
 
 ghost use Rattle.std.specs.Prelude.{◌≡◌, ◌≤◌};
-ghost use Rattle.table_entries.specs.Frames.{is_unset, are_unset, frame_allowed, frame_in};
-ghost use Rattle.table_entries.specs.Frames.{callers_in};
+ghost use Rattle.table_entries.specs.Frames.{is_unset, are_unset, frame_allowed, frame_in, callers_in};
 ghost use Rattle.table_entries.specs.Reading.{Gives, kept};
 
 use crate::loops::{both, read_registers, read_slots};

@@ -19,4 +19,4 @@ pub mod values;
 
 pub use entries::{Head, Named};
 pub use faults::TableFault;
-pub use tables::{MAX_ENTRIES, Table};
+pub use tables::Table;

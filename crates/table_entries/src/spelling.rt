@@ -4,8 +4,7 @@
 //! No answer says nothing.
 
 ghost use Rattle.std.specs.Prelude.{◌≡◌, ◌≤◌, ℕ, List, Some, Ok, IfSome, IsTrue, length, drop};
-ghost use Rattle.table_entries.specs.Values.{bits_in, wide_in, low_in, scalar_in};
-ghost use Rattle.table_entries.specs.Values.{kind_in, packet_in, slot_in};
+ghost use Rattle.table_entries.specs.Values.{bits_in, wide_in, low_in, scalar_in, kind_in, packet_in, slot_in};
 ghost use Rattle.table_entries.specs.Frames.{frame_in, callers_in};
 ghost use Rattle.table_entries.specs.Entries.{entry_in, entry_of, rest_in};
 ghost use Rattle.table_entries.specs.Reading.{many};

@@ -1,15 +1,12 @@
 //! Tables: their bytes, and where in them the entries begin.
 
-ghost use Rattle.std.specs.Prelude.{◌≡◌, ◌⊎◌, ◌≤◌, List, Some, None, Ok, Err};
-ghost use Rattle.std.specs.Prelude.{MatchResult, MatchOption, OnOk, IfErr, IfSome};
-ghost use Rattle.std.specs.Prelude.{length, drop, [], ◌∷◌, ◌++◌};
+ghost use Rattle.std.specs.Prelude.{◌≡◌, ◌⊎◌, ◌≤◌, List, Some, None, Ok, Err, MatchResult, MatchOption, OnOk, IfErr, IfSome, length, drop, [], ◌∷◌, ◌++◌};
 ghost use Rattle.table_entries.specs.Reading.{seen};
 ghost use Rattle.isa_model.specs.Code.Instructions.{Program};
 ghost use Rattle.table_entries.specs.Entries.{Entry, IsAllowed, entry_in, entry_of};
 ghost use Rattle.table_entries.specs.declared.entries.Head.{Head};
 ghost use Rattle.table_entries.specs.declared.stops.Stop.{Stop};
-ghost use Rattle.table_entries.specs.Tables.{Kept, Holds, table_read, entry_at, count_of};
-ghost use Rattle.table_entries.specs.Tables.{ArePlaced, count_in, body_in, fault_of, earlier};
+ghost use Rattle.table_entries.specs.Tables.{Kept, Holds, table_read, entry_at, count_of, ArePlaced, count_in, body_in, fault_of, earlier};
 
 use crate::entries::{Head, read_entry};
 use crate::faults::TableFault;
@@ -18,16 +15,14 @@ use crate::slices::{skip, u32_at};
 use crate::spelling::head_of;
 use crate::stops::Stop;
 use image::Image;
+use isa_model::MAX_EXPLORED;
 use reg_state::Kind;
 use stack_state::State;
 use std::alloc::Global;
 use std::marker::Model;
 
-/// The most entries of a table.
-pub const MAX_ENTRIES: u32 = 1_000_000;
-
-/// A table whose bytes are of the form, with every field allowed. It has 8 bytes for each entry, which
-/// say where the entry begins: no entry is kept.
+/// A table whose bytes are of the form, with every field allowed. It has 8 bytes for each entry,
+/// which say where the entry begins: no entry is kept.
 ///
 /// Contracts see the bytes and the places.
 #[derive(Drop)]
@@ -56,7 +51,7 @@ fn count_in(bytes: &[u8]) -> Result<usize, TableFault>
         return Err(TableFault::Magic);
     }
     let count = u32_at(bytes, 4);
-    if count == 0 || count > MAX_ENTRIES {
+    if count == 0 || count > MAX_EXPLORED {
         return Err(TableFault::Count);
     }
     Ok(count as usize)

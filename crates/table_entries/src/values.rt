@@ -1,14 +1,9 @@
 //! Values of registers and stack slots in the bytes of a table.
 
 ghost use Rattle.std.specs.Prelude.{◌≡◌, ◌≤◌, length, MatchResult, Ok, Err};
-ghost use Rattle.table_entries.specs.Values.{bits_of, wide_of, low_of, scalar_in, packet_in};
-ghost use Rattle.table_entries.specs.Values.{stack_in, map_in, value_in, null_in, fields_in};
+ghost use Rattle.table_entries.specs.Values.{bits_of, wide_of, low_of, scalar_in, packet_in, stack_in, map_in, value_in, null_in, fields_in, kind_in, slot_in, marks_in, spilled, has_no_part, limits_of, limits_in, range_of, scalar_of, packet_of, lacks_identity, bits_in, wide_in, low_in};
 ghost use Rattle.std.specs.Option.{option_map};
-ghost use Rattle.table_entries.specs.Values.{kind_in, slot_in, marks_in, spilled, has_no_part};
-ghost use Rattle.table_entries.specs.Values.{limits_of, limits_in};
 ghost use Rattle.table_entries.specs.Reading.{Gives};
-ghost use Rattle.table_entries.specs.Values.{range_of, scalar_of, packet_of, lacks_identity};
-ghost use Rattle.table_entries.specs.Values.{bits_in, wide_in, low_in};
 
 use crate::slices::{skip, u32_at, u64_at};
 use crate::stops::Stop;

@@ -3,7 +3,7 @@
 #![tactic(auto)]
 
 ghost use Rattle.std.specs.Prelude.{◌≤◌};
-ghost use Rattle.isa_model.specs.Running.Runs.{max_steps};
+ghost use Rattle.isa_model.specs.Code.Limits.{max_steps};
 
 use std::alloc::AllocError;
 

@@ -1,1 +1,14 @@
 mod Sizes
+pub mod AccessLaws
+pub mod AnswerLaws
+pub mod ArithmeticLaws
+pub mod AtomicLaws
+pub mod ExactLaws
+pub mod FollowLaws
+pub mod HelperCallLaws
+pub mod PacketLaws
+pub mod RegisterLaws
+pub mod ResultLaws
+pub mod ReturnLaws
+pub mod StackAccessLaws
+pub mod ValueLaws

@@ -17,7 +17,7 @@ use Rattle.isa_model.specs.declared.versions.Version.TheVariants as version
 use Rattle.isa_model.specs.Code.Sizes.{width_size}
 use Rattle.isa_model.specs.Code.Numbers.{unsigned}
 use Rattle.isa_model.specs.Code.Instructions.{Program, slots_of, writes}
-use Rattle.isa_model.specs.Machine.Calls.{most_frames}
+use Rattle.isa_model.specs.Code.Limits.{max_call_frames}
 use Rattle.isa_model.specs.Machine.Steps.{destination}
 use Rattle.known_bits.specs.Bits.{greatest_of}
 use Rattle.reg_state.specs.declared.scalars.Scalar.{Scalar}
@@ -141,8 +141,8 @@ JumpsTo p a by result b = (result ≡ Ok ways.One) × (b ≡ go_to a (destinatio
 
 -- a frame is pushed, unless as many are live as may be
 abbrev pub Calls : Program → State → ℤ → Result Ways Refusal → State → Type 0
-Calls p a by (Ok w) b = (depth a < most_frames) × (w ≡ ways.One) × (b ≡ entered a (destination p a.slot by))
-Calls p a by (Err e) b = (most_frames ≤ depth a) × (e ≡ TooManyFrames)
+Calls p a by (Ok w) b = (depth a < max_call_frames) × (w ≡ ways.One) × (b ≡ entered a (destination p a.slot by))
+Calls p a by (Err e) b = (max_call_frames ≤ depth a) × (e ≡ TooManyFrames)
 
 -- known bits or limits show that the low half of each number is at most 4, which a program of version 2 must answer
 abbrev pub shows_action : Version → Scalar → Bool

@@ -7,7 +7,7 @@ use Rattle.isa_model.specs.declared.sizes.Narrow.{Narrow}
 use Rattle.isa_model.specs.declared.sizes.Width.TheVariants.{Full64}
 use Rattle.isa_model.specs.Code.Numbers.{signed}
 use Rattle.isa_model.specs.Code.Sizes.{size_bytes, narrow_size, narrow_extension}
-use Rattle.isa_model.specs.Machine.Pointers.{offset_limit}
+use Rattle.isa_model.specs.Code.Limits.{offset_limit}
 use Rattle.ranges.specs.Keeps.{extension_signed}
 use Rattle.reg_state.specs.declared.scalars.Scalar.{Scalar}
 use Rattle.reg_state.specs.declared.kinds.Kind.{Kind}

@@ -5,7 +5,7 @@ use Rattle.isa_model.specs.declared.sizes.Width.TheVariants.{Low32, Full64}
 use Rattle.isa_model.specs.declared.instructions.AluOp.{AluOp}
 use Rattle.isa_model.specs.declared.instructions.AluOp.TheVariants.{Mov, Add, Sub}
 use Rattle.isa_model.specs.Code.Numbers.{signed}
-use Rattle.isa_model.specs.Machine.Pointers.{offset_limit}
+use Rattle.isa_model.specs.Code.Limits.{offset_limit}
 use Rattle.reg_state.specs.declared.scalars.Scalar.{Scalar}
 use Rattle.reg_state.specs.declared.kinds.Kind.{Kind}
 use Rattle.reg_state.specs.declared.kinds.Kind.TheVariants.{Number, Stack, Packet, MapValue, MapValueOrNull}

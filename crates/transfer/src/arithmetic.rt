@@ -2,8 +2,7 @@
 
 ghost use Rattle.reg_state.specs.Arithmetic.{IsNegated, IsSignExtended, IsReordered};
 ghost use Rattle.branch_refine.specs.Refining.{IsJust};
-ghost use Rattle.transfer.specs.Results.{OfNumber, IsLowWord, NumberAnd, PointerAnd, Combined};
-ghost use Rattle.transfer.specs.Results.{Copied, Arithmetic};
+ghost use Rattle.transfer.specs.Results.{OfNumber, IsLowWord, NumberAnd, PointerAnd, Combined, Copied, Arithmetic};
 
 use crate::pointers::{number_and_pointer, pointer_and_number};
 use crate::refusals::Refusal;

@@ -4,9 +4,7 @@ ghost use Rattle.std.specs.Prelude.{false, ◌≡◌, ◌+ℤ◌};
 ghost use Rattle.isa_model.specs.Code.Instructions.{is_frame_pointer};
 ghost use Rattle.isa_model.specs.Code.Sizes.{size_bytes};
 ghost use Rattle.transfer.specs.Values.{AreInValue};
-ghost use Rattle.transfer.specs.Atomics.{with_old, StackSwaps, ValueSwaps, IsPacketRefusal};
-ghost use Rattle.transfer.specs.Atomics.{SwapsAt, Swaps};
-ghost use Rattle.transfer.specs.Atomics.{Compares};
+ghost use Rattle.transfer.specs.Atomics.{with_old, StackSwaps, ValueSwaps, IsPacketRefusal, SwapsAt, Swaps, Compares};
 
 use crate::packets::{are_in_packet, of_size};
 use crate::refusals::Refusal;

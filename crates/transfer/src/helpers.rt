@@ -4,11 +4,7 @@ ghost use Rattle.std.specs.Prelude.{◌≡◌, ◌≤◌, ◌<◌, ◌^◌, ◌�
 ghost use Rattle.isa_model.specs.Code.Helpers.{helper_numbered};
 ghost use Rattle.transfer.specs.Packets.{AreInPacket};
 ghost use Rattle.transfer.specs.Values.{AreInValue};
-ghost use Rattle.transfer.specs.HelperCalls.{called_map, points_to_bytes, is_number};
-ghost use Rattle.transfer.specs.HelperCalls.{judged, key_arguments, update_arguments, FindsBytes};
-ghost use Rattle.transfer.specs.HelperCalls.{AreInFrame, AreKnown, KeyIsKnown, ValueIsKnown};
-ghost use Rattle.transfer.specs.HelperCalls.{AnswersNumber, AnswersValue, without_values};
-ghost use Rattle.transfer.specs.HelperCalls.{LeavesIf, Helps, CallsHelper};
+ghost use Rattle.transfer.specs.HelperCalls.{called_map, points_to_bytes, is_number, judged, key_arguments, update_arguments, FindsBytes, AreInFrame, AreKnown, KeyIsKnown, ValueIsKnown, AnswersNumber, AnswersValue, without_values, LeavesIf, Helps, CallsHelper};
 
 use crate::jumps::is_untested;
 use crate::refusals::Refusal;

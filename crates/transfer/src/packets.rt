@@ -1,14 +1,9 @@
 //! Loads, stores and moves through packet pointers.
 
-ghost use Rattle.std.specs.Prelude.{◌≡◌, ◌+◌, ◌*◌, ◌^◌, ◌↔◌, ℤ, pos, ◌+ℤ◌, ◌-ℤ◌, ◌≤ℤ◌, FitsSigned};
-ghost use Rattle.std.specs.Prelude.{IsTrue};
+ghost use Rattle.std.specs.Prelude.{◌≡◌, ◌+◌, ◌*◌, ◌^◌, ◌↔◌, ℤ, pos, ◌+ℤ◌, ◌-ℤ◌, ◌≤ℤ◌, FitsSigned, IsTrue};
 ghost use Rattle.isa_model.specs.Code.Sizes.{size_bytes, narrow_size, narrow_extension};
 ghost use Rattle.ranges.specs.Keeps.{extension_signed};
-ghost use Rattle.transfer.specs.Packets.{AreInPacket, IsOfSize, IsOfSignedSize};
-ghost use Rattle.transfer.specs.Packets.{PacketLoads, PacketLoadsSigned, IsStored, PacketStores};
-ghost use Rattle.transfer.specs.Packets.{lowest, highest, AreLimited};
-ghost use Rattle.transfer.specs.Packets.{IsPart, AreParts, StaysProved};
-ghost use Rattle.transfer.specs.Packets.{IsFreshPointer, MovesBetween, MovesBy, PacketMoves};
+ghost use Rattle.transfer.specs.Packets.{AreInPacket, IsOfSize, IsOfSignedSize, PacketLoads, PacketLoadsSigned, IsStored, PacketStores, lowest, highest, AreLimited, IsPart, AreParts, StaysProved, IsFreshPointer, MovesBetween, MovesBy, PacketMoves};
 
 use crate::offsets::{limits, moved_by, sum};
 use crate::refusals::Refusal;

@@ -1,8 +1,7 @@
 //! Arithmetic on pointers.
 
 ghost use Rattle.std.specs.Prelude.{◌≡◌};
-ghost use Rattle.transfer.specs.Results.{moved_offset, frame_pointer, moved_frame, Moves};
-ghost use Rattle.transfer.specs.Results.{PointerAndNumber, NumberAndPointer};
+ghost use Rattle.transfer.specs.Results.{moved_offset, frame_pointer, moved_frame, Moves, PointerAndNumber, NumberAndPointer};
 
 use crate::offsets::OFFSET_LIMIT;
 use crate::packets::{PacketPointer, packet_moved};

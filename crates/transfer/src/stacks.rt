@@ -2,9 +2,7 @@
 
 ghost use Rattle.std.specs.Prelude.{◌≡◌, ◌+◌, ◌%◌, ◌<◌, ◌≤◌, ◌+ℤ◌};
 ghost use Rattle.isa_model.specs.Code.Sizes.{size_bytes, narrow_size, narrow_extension};
-ghost use Rattle.transfer.specs.StackAccesses.{FindsFramePlace, IsNumberLoad, IsStackLoad};
-ghost use Rattle.transfer.specs.StackAccesses.{IsSignedLoad, StackLoads, StackLoadsSigned};
-ghost use Rattle.transfer.specs.StackAccesses.{whole_or, store_refusal, IsLeft, StackStores};
+ghost use Rattle.transfer.specs.StackAccesses.{FindsFramePlace, IsNumberLoad, IsStackLoad, IsSignedLoad, StackLoads, StackLoadsSigned, whole_or, store_refusal, IsLeft, StackStores};
 ghost use Rattle.stack_state.specs.Meaning.{depth};
 
 use crate::refusals::Refusal;

@@ -3,12 +3,9 @@
 ghost use Rattle.std.specs.Prelude.{false, ◌≡◌, ◌+◌, ◌<◌, ◌^◌, length};
 ghost use Rattle.std.specs.List.{list_any};
 ghost use Rattle.std.specs.Option.{option_to_list};
-ghost use Rattle.isa_model.specs.Code.Instructions.{Program, slots_of};
-ghost use Rattle.isa_model.specs.Code.Instructions.{writes, is_frame_pointer};
+ghost use Rattle.isa_model.specs.Code.Instructions.{Program, slots_of, writes, is_frame_pointer};
 ghost use Rattle.transfer.specs.Refusing.{is_unset_in, reads_unset};
-ghost use Rattle.transfer.specs.Exact.{IsOperand, IsSetter, Puts, SetsOr, Performs, GoesOn};
-ghost use Rattle.transfer.specs.Exact.{StoresAt};
-ghost use Rattle.transfer.specs.Exact.{SwapsAtPlace, ComparesAtPlace};
+ghost use Rattle.transfer.specs.Exact.{IsOperand, IsSetter, Puts, SetsOr, Performs, GoesOn, StoresAt, SwapsAtPlace, ComparesAtPlace};
 ghost use Rattle.transfer.specs.HelperCalls.{CallsHelper};
 ghost use Rattle.transfer.specs.Values.{NamesFit};
 

@@ -2,9 +2,7 @@
 
 ghost use Rattle.std.specs.Prelude.{◌≡◌, ◌^◌, ◌<◌, ◌↔◌, pos, slice_get, IsTrue, Ok};
 ghost use Rattle.isa_model.specs.Code.Sizes.{size_bytes};
-ghost use Rattle.transfer.specs.Values.{value_size, AreInValue, ValueLoads, ValueLoadsSigned};
-ghost use Rattle.transfer.specs.Values.{ValueStores, nearest, farthest, moved_least};
-ghost use Rattle.transfer.specs.Values.{moved_greatest, ValueMoves};
+ghost use Rattle.transfer.specs.Values.{value_size, AreInValue, ValueLoads, ValueLoadsSigned, ValueStores, nearest, farthest, moved_least, moved_greatest, ValueMoves};
 
 use crate::offsets::{limits, moved_by, sum};
 use crate::packets::{of_signed_size, of_size, stored};

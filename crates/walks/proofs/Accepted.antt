@@ -22,7 +22,7 @@ use Rattle.control_flow.specs.Graph.{slot_behind, call_distance, BeginsInsn, jum
 use Rattle.control_flow.specs.Functions.{BeginsFunction, SameFunction}
 use Rattle.control_flow.specs.Flows.{IsFlow}
 use Rattle.control_flow.specs.Flows as flow
-use Rattle.control_flow.specs.FlowLaws.{Leads-Follows, IsFlow-Fails}
+use Rattle.control_flow.proofs.FlowLaws.{Leads-Follows, IsFlow-Fails}
 use Rattle.transfer.specs.declared.refusals.Refusal.{Refusal as StepRefusal}
 use Rattle.transfer.specs.Refusing.{is_unset, is_unset_in, register_refusal, reads_unset}
 use Rattle.walks.specs.declared.refusals.Refusal.{Refusal}

@@ -24,15 +24,15 @@ use Rattle.isa_model.specs.Machine.States.{reg, set_reg, value_at, new_frame}
 use Rattle.isa_model.specs.Machine.Steps.{Next, destination, branches, tested, test_of, act, step}
 use Rattle.isa_model.specs.Machine.Successors.{falls_through, jump_distance, FallsTo, JumpsTo}
 use Rattle.isa_model.specs.Running.Runs.{Reaches}
-use Rattle.isa_model.specs.Running.Ends.{Reaches-then}
+use Rattle.isa_model.proofs.EndsLaws.{Reaches-then}
 use Rattle.isa_model.specs.MustAccept.Paths.{Each}
 use Rattle.isa_model.specs.MustAccept.Determined.{slot_offset, slot_place, IsSlotPlace, IsDeterminedForm, WritesIn, IsDetermined}
-use Rattle.isa_model.specs.MustAccept.RunSteps.{no_trap, step_acts}
-use Rattle.isa_model.specs.MustAccept.SlotLaws.{Slots-store, Slots-keep, stored, store_acts, store_constant_acts}
+use Rattle.isa_model.proofs.RunSteps.{no_trap, step_acts}
+use Rattle.isa_model.proofs.SlotLaws.{Slots-store, Slots-keep, stored, store_acts, store_constant_acts}
 use Rattle.reg_state.specs.declared.kinds.Kind.{Kind}
 use Rattle.stack_state.specs.declared.states.State.{State}
 use Rattle.stack_state.specs.Places.{kind_of, with_register, go_to}
-use Rattle.stack_state.specs.PlaceLaws.{same_number, same_or_other, kind_of-with_other}
+use Rattle.stack_state.proofs.PlaceLaws.{same_number, same_or_other, kind_of-with_other}
 use Rattle.stack_state.specs.Slots.{slot_at, kind_in}
 use Rattle.branch_refine.specs.Refining.{IsJust, IsJustOperand}
 use Rattle.transfer.specs.declared.Ways.{Ways}
@@ -40,7 +40,7 @@ use Rattle.transfer.specs.declared.Ways.TheVariants as ways
 use Rattle.transfer.specs.Exact.{Sets, Sides, Branches, Performs, Makes, GoesOnWith, StoresAt}
 use Rattle.control_flow.specs.Liveness.{Home, InRegister, InSlot, IsLive, IsSlotLive, IsHomeLive}
 use Rattle.control_flow.specs.StackUse.{IsWholeSlot, WritesSlot}
-use Rattle.control_flow.specs.LivenessLaws.{IsSlotLive-read, IsSlotLive-back}
+use Rattle.control_flow.proofs.LivenessLaws.{IsSlotLive-read, IsSlotLive-back}
 use Rattle.walks.proofs.Living.{live_before}
 use Rattle.walks.proofs.Accepted.{Each-more, own_register}
 use Rattle.walks.proofs.Exits.{exited_none}

@@ -11,9 +11,9 @@ use Rattle.isa_model.specs.Machine.States as Machine
 use Rattle.isa_model.specs.Machine.States.{reg, set_reg, value_at, new_frame}
 use Rattle.isa_model.specs.Machine.Steps.{step}
 use Rattle.isa_model.specs.Running.Runs.{start_state, start_regs, count_values}
-use Rattle.isa_model.specs.Running.RunLaws.{progress-zero}
+use Rattle.isa_model.proofs.RunLaws.{progress-zero}
 use Rattle.isa_model.specs.MustAccept.Determined.{IsDetermined}
-use Rattle.isa_model.specs.MustAccept.SlotLaws.{Slots, Slots-start}
+use Rattle.isa_model.proofs.SlotLaws.{Slots, Slots-start}
 use Rattle.stack_state.specs.declared.states.State.{State}
 use Rattle.stack_state.specs.Places.{kind_of}
 use Rattle.stack_state.specs.Starts.{start}

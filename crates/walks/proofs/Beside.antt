@@ -27,8 +27,8 @@ use Rattle.isa_model.specs.Machine.Steps.{Trapped, is_unset, operand_value, sets
 use Rattle.isa_model.specs.Running.Runs.{start_state, Reaches}
 use Rattle.isa_model.specs.MustAccept.Paths.{Each, IsOneOf}
 use Rattle.isa_model.specs.MustAccept.Determined.{slot_place, IsSlotPlace, IsDeterminedForm, operands, WritesIn, IsDetermined}
-use Rattle.isa_model.specs.MustAccept.RunSteps.{no_trap, is_set, step_unset}
-use Rattle.isa_model.specs.MustAccept.SlotLaws.{Slots, load_acts}
+use Rattle.isa_model.proofs.RunSteps.{no_trap, is_set, step_unset}
+use Rattle.isa_model.proofs.SlotLaws.{Slots, load_acts}
 use Rattle.reg_state.specs.declared.kinds.Kind.{Kind}
 use Rattle.reg_state.specs.declared.kinds.Kind.TheVariants as kind
 use Rattle.reg_state.specs.declared.scalars.Scalar.{Scalar}
@@ -42,7 +42,7 @@ use Rattle.transfer.specs.Results.{OfNumber, NumberAnd, Combined, Copied, Arithm
 use Rattle.transfer.specs.Exact.{IsOperand, Puts}
 use Rattle.control_flow.specs.Liveness.{Home, InRegister, InSlot, IsLive, IsHomeLive}
 use Rattle.control_flow.specs.StackUse.{ReadsSlot}
-use Rattle.control_flow.specs.LivenessLaws.{IsLive-read}
+use Rattle.control_flow.proofs.LivenessLaws.{IsLive-read}
 use Rattle.walks.proofs.Accepted.{Each-all, Each-one}
 use Rattle.walks.proofs.Living.{CallsNothing, read_needed}
 use Rattle.walks.proofs.StackSlots.{Holds, load_just}

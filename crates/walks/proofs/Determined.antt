@@ -20,17 +20,19 @@ use Rattle.isa_model.specs.Machine.States.{reg, set_reg, value_at, new_frame}
 use Rattle.isa_model.specs.Machine.Steps.{StepResult, Next, Finished, Trapped, is_answer, finishes, exits, act, step}
 use Rattle.isa_model.specs.Machine.MachineStates.{IsProgram, IsClock}
 use Rattle.isa_model.specs.Running.Runs.{Runs}
-use Rattle.isa_model.specs.Running.RunLaws.{Runs-same}
-use Rattle.isa_model.specs.Running.Ends.{Ends, After, Ends-Runs}
+use Rattle.isa_model.proofs.RunLaws.{Runs-same}
+use Rattle.isa_model.specs.Running.Ends.{Ends, After}
+use Rattle.isa_model.proofs.EndsLaws.{Ends-Runs}
 use Rattle.isa_model.specs.MustAccept.Paths.{Each}
 use Rattle.isa_model.specs.MustAccept.Determined.{slot_place, IsSlotPlace, IsDeterminedForm, operands, IsDetermined}
-use Rattle.isa_model.specs.MustAccept.RunSteps.{below_steps, no_trap, step_finishes, Runs-before, Runs-one}
-use Rattle.isa_model.specs.MustAccept.SlotLaws.{load_acts}
+use Rattle.isa_model.proofs.RunSteps.{below_steps, no_trap, step_finishes, Runs-before, Runs-one}
+use Rattle.isa_model.proofs.SlotLaws.{load_acts}
 use Rattle.reg_state.specs.declared.kinds.Kind.{Kind}
 use Rattle.stack_state.specs.declared.states.State.{State}
 use Rattle.stack_state.specs.Meaning.{depth, Means, Covers}
 use Rattle.stack_state.specs.Places.{kind_of}
-use Rattle.stack_state.specs.Starts.{start, Means-start}
+use Rattle.stack_state.specs.Starts.{start}
+use Rattle.stack_state.proofs.StartsLaws.{Means-start}
 use Rattle.branch_refine.specs.Refining.{IsNumber, IsJust}
 use Rattle.transfer.specs.declared.Ways.{Ways}
 use Rattle.transfer.specs.declared.Ways.TheVariants as ways
@@ -38,11 +40,11 @@ use Rattle.transfer.specs.declared.refusals.Refusal.{Refusal as StepRefusal}
 use Rattle.transfer.specs.Leading.{LeadsTo}
 use Rattle.transfer.specs.Refusing.{is_unset as is_unset_kind}
 use Rattle.transfer.specs.Exact.{Puts, Performs, Makes, StoresAt}
-use Rattle.transfer.specs.ExactLaws.{Steps-leads}
+use Rattle.transfer.proofs.ExactLaws.{Steps-leads}
 use Rattle.walks.specs.declared.refusals.Refusal.{Refusal}
 use Rattle.walks.specs.Accepting.{IsOutOfMemory}
 use Rattle.control_flow.specs.Liveness.{IsLive, IsHomeLive}
-use Rattle.control_flow.specs.LivenessLaws.{IsSlotLive-read}
+use Rattle.control_flow.proofs.LivenessLaws.{IsSlotLive-read}
 use Rattle.walks.specs.Forgetting.{Forgets}
 use Rattle.walks.specs.Walks.{IsAmong, StepsTo, Leads, WalksTo, IsStuck, ComesBack}
 use Rattle.walks.specs.Counts.{StepsInto, HasNumber, LeadsNowhere, LeadsToOne, LeadsToTwo, IsCoveredBy, Takes, Nothing, ItsOwn, OneMore, BothMore}

@@ -12,7 +12,7 @@ use Rattle.transfer.specs.declared.Ways.TheVariants as ways
 use Rattle.transfer.specs.declared.refusals.Refusal.{Refusal}
 use Rattle.transfer.specs.declared.refusals.Refusal.TheVariants.{NoAction}
 use Rattle.transfer.specs.Exact.{ExitsFrom}
-use Rattle.transfer.specs.AnswerLaws.{answered_number, answered_refused, answered_constant}
+use Rattle.transfer.proofs.AnswerLaws.{answered_number, answered_refused, answered_constant}
 use Rattle.walks.proofs.Accepted.{number_is}
 
 -- ---- where they lead

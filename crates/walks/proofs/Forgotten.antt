@@ -13,7 +13,7 @@ use Rattle.isa_model.specs.Code.Instructions.{Program}
 use Rattle.isa_model.specs.Machine.States as Machine
 use Rattle.isa_model.specs.Machine.Steps.{step}
 use Rattle.isa_model.specs.Machine.Successors.{Follows}
-use Rattle.isa_model.specs.Running.Ends.{After-weaker}
+use Rattle.isa_model.proofs.EndsLaws.{After-weaker}
 use Rattle.reg_state.specs.declared.kinds.Kind.{Kind}
 use Rattle.reg_state.specs.declared.kinds.Kind.TheVariants.{Unset}
 use Rattle.reg_state.specs.Kinds.{Assigned, Allows}
@@ -23,12 +23,12 @@ use Rattle.stack_state.specs.Slots.{slot_at}
 use Rattle.stack_state.specs.StackMeaning.{SlotMeans}
 use Rattle.stack_state.specs.declared.states.State.{State}
 use Rattle.stack_state.specs.Meaning.{frame_of, depth, registers_of, kind_at, no_frame, Means, Covers}
-use Rattle.stack_state.specs.MeaningLaws.{frame_of-caller, frame_of-innermost, FrameKeeps, MeansBy-change}
+use Rattle.stack_state.proofs.MeaningLaws.{frame_of-caller, frame_of-innermost, FrameKeeps, MeansBy-change}
 use Rattle.stack_state.specs.Places.{kind_of}
-use Rattle.stack_state.specs.PlaceLaws.{kind_of-registers, same_number}
+use Rattle.stack_state.proofs.PlaceLaws.{kind_of-registers, same_number}
 use Rattle.control_flow.specs.Flows.{IsJoin}
 use Rattle.control_flow.specs.Liveness.{IsLive, IsSlotLive}
-use Rattle.control_flow.specs.RegisterLaws.{numbered}
+use Rattle.control_flow.proofs.RegisterLaws.{numbered}
 use Rattle.transfer.specs.declared.Ways.{Ways}
 use Rattle.transfer.specs.declared.Ways.TheVariants as ways
 use Rattle.transfer.specs.Leading.{LeadsTo, InSome}

@@ -12,16 +12,16 @@ use Rattle.isa_model.specs.declared.instructions.Insn.TheVariants.{LoadNumber, L
 use Rattle.isa_model.specs.Code.Instructions.{Program, fetch, slots_of}
 use Rattle.isa_model.specs.Machine.Successors.{Follows}
 use Rattle.stack_state.specs.declared.states.State.{State}
-use Rattle.control_flow.specs.FlowLaws.{BeginsInsn-inside, fetch-BeginsInsn}
+use Rattle.control_flow.proofs.FlowLaws.{BeginsInsn-inside, fetch-BeginsInsn}
 use Rattle.transfer.specs.declared.Ways.{Ways}
 use Rattle.transfer.specs.declared.Ways.TheVariants as ways
 use Rattle.transfer.specs.Leading.{EachWay}
 use Rattle.stack_state.specs.Meaning.{frames_of, depth}
-use Rattle.stack_state.specs.MeaningLaws.{length-frames_of}
+use Rattle.stack_state.proofs.MeaningLaws.{length-frames_of}
 use Rattle.stack_state.specs.Starts.{start}
 use Rattle.transfer.specs.Exact.{Performs, Makes}
 use Rattle.transfer.specs.Following.{returns_of, GoesOnTo}
-use Rattle.transfer.specs.FollowLaws.{Steps-follows}
+use Rattle.transfer.proofs.FollowLaws.{Steps-follows}
 use Rattle.walks.proofs.Accepted.{HasNoCalls}
 use Rattle.walks.specs.Refused.{StartTakes}
 use Rattle.walks.proofs.Forgotten.{Forgets-depth, GoesOnTo-forgets}

@@ -8,7 +8,7 @@ use Rattle.isa_model.specs.Code.Instructions.{Program, fetch}
 use Rattle.isa_model.specs.MustAccept.Guarded.{IsBodyForm, IsGuarded}
 use Rattle.isa_model.specs.Machine.Successors.{jump_distance}
 use Rattle.control_flow.specs.Flows.{IsJoin}
-use Rattle.control_flow.specs.FlowLaws.{BeginsInsn-inside, fetch-BeginsInsn}
+use Rattle.control_flow.proofs.FlowLaws.{BeginsInsn-inside, fetch-BeginsInsn}
 use Rattle.walks.proofs.Accepted.{HasNoCalls, Jumped, jump_to-by}
 use Rattle.walks.proofs.Living.{CallsNothing, none_called}
 

@@ -20,7 +20,7 @@ use Rattle.reg_state.specs.declared.kinds.Kind.{Kind}
 use Rattle.reg_state.specs.declared.kinds.Kind.TheVariants as kind
 use Rattle.stack_state.specs.declared.states.State.{State}
 use Rattle.stack_state.specs.Places.{kind_of, with_register, go_to}
-use Rattle.stack_state.specs.PlaceLaws.{kind_of-with_other}
+use Rattle.stack_state.proofs.PlaceLaws.{kind_of-with_other}
 use Rattle.stack_state.specs.Starts.{start}
 use Rattle.branch_refine.specs.Refining.{IsNumber, Names}
 use Rattle.transfer.specs.declared.Ways.{Ways}

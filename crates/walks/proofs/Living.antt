@@ -9,12 +9,12 @@ use Rattle.isa_model.specs.Code.Instructions.{Program, fetch, reads, writes}
 use Rattle.isa_model.specs.Machine.Successors.{Follows}
 use Rattle.isa_model.specs.MustAccept.Paths.{IsPlainForm, IsOneOf, needs, written_too}
 use Rattle.stack_state.specs.declared.states.State.{State}
-use Rattle.stack_state.specs.PlaceLaws.{same_or_other}
+use Rattle.stack_state.proofs.PlaceLaws.{same_or_other}
 use Rattle.branch_refine.specs.Refining.{IsNumber}
 use Rattle.control_flow.specs.Graph.{call_distance}
 use Rattle.control_flow.specs.Accesses.{read_registers, written_registers}
 use Rattle.control_flow.specs.Liveness.{IsLive}
-use Rattle.control_flow.specs.LivenessLaws.{IsLive-read, IsLive-back}
+use Rattle.control_flow.proofs.LivenessLaws.{IsLive-read, IsLive-back}
 use Rattle.walks.specs.Forgetting.{Forgets}
 use Rattle.walks.proofs.Forgotten.{Forgets-depth, Forgets-each}
 use Rattle.walks.proofs.OnNumbers.{NumbersIn, Knows}

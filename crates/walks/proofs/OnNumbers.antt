@@ -25,7 +25,7 @@ use Rattle.reg_state.specs.declared.scalars.Scalar.{Scalar}
 use Rattle.stack_state.specs.declared.states.State.{State}
 use Rattle.stack_state.specs.Meaning.{depth, registers_of}
 use Rattle.stack_state.specs.Places.{kind_of, with_register, go_to}
-use Rattle.stack_state.specs.PlaceLaws.{same_or_other, kind_of-registers, kind_of-with_same, kind_of-with_other}
+use Rattle.stack_state.proofs.PlaceLaws.{same_or_other, kind_of-registers, kind_of-with_same, kind_of-with_other}
 use Rattle.branch_refine.specs.Comparing.{operand_by, IsDefined}
 use Rattle.branch_refine.specs.Numbers.{with_operand}
 use Rattle.branch_refine.specs.Refining.{IsNumber, IsJust, IsNumberOperand, AreCompared, Refines}
@@ -36,7 +36,7 @@ use Rattle.transfer.specs.declared.refusals.Refusal.TheVariants.{UnsetRegister, 
 use Rattle.transfer.specs.Refusing.{register_refusal, reads_unset}
 use Rattle.transfer.specs.Results.{OfNumber, NumberAnd, Combined, Copied, Arithmetic}
 use Rattle.transfer.specs.Exact.{IsOperand, Puts, Sets, Sides, Branches, Performs, Tested, Makes, Refuses}
-use Rattle.transfer.specs.ExactLaws.{tested_rest}
+use Rattle.transfer.proofs.ExactLaws.{tested_rest}
 use Rattle.walks.specs.Walks.{IsAmong}
 use Rattle.walks.proofs.Accepted.{number_is}
 use Rattle.walks.proofs.Exits.{exited_none, ShowsNoAction, exit_goes}

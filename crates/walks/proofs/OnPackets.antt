@@ -23,17 +23,17 @@ use Rattle.isa_model.specs.declared.instructions.Place.{Place}
 use Rattle.isa_model.specs.declared.instructions.Insn.{Insn}
 use Rattle.isa_model.specs.declared.instructions.Insn.TheVariants.{Alu, Load, LoadSx, JumpIf}
 use Rattle.isa_model.specs.Code.Instructions.{Program, slots_of, writes}
-use Rattle.isa_model.specs.Machine.Pointers.{offset_limit}
+use Rattle.isa_model.specs.Code.Limits.{offset_limit}
 use Rattle.isa_model.specs.Machine.Steps.{destination}
 use Rattle.reg_state.specs.declared.kinds.Kind.{Kind}
 use Rattle.reg_state.specs.declared.kinds.Kind.TheVariants as kind
 use Rattle.reg_state.specs.declared.scalars.Scalar.{Scalar}
 use Rattle.reg_state.specs.Scalars.{Has, IsConstant}
-use Rattle.reg_state.specs.Constants.{IsNumber-only}
+use Rattle.reg_state.proofs.ConstantsLaws.{IsNumber-only}
 use Rattle.stack_state.specs.declared.states.State.{State}
 use Rattle.stack_state.specs.Meaning.{depth, registers_of}
 use Rattle.stack_state.specs.Places.{kind_of, with_register, go_to}
-use Rattle.stack_state.specs.PlaceLaws.{kind_of-registers}
+use Rattle.stack_state.proofs.PlaceLaws.{kind_of-registers}
 use Rattle.stack_state.specs.Effects.{map_kinds, proved_kind}
 use Rattle.branch_refine.specs.declared.comparing.Compared.TheVariants as compared
 use Rattle.branch_refine.specs.Comparing.{compared_by, IsDefined}
@@ -50,7 +50,7 @@ use Rattle.transfer.specs.Exact.{Puts, Sets, Branches, Makes, Performs}
 use Rattle.walks.specs.Walks.{IsAmong}
 use Rattle.walks.proofs.OnNumbers.{Makes-performs, kind_of-go_to, side_among}
 
--- so far behind the packet's first byte, with no variable part; so many bytes are proved to be there
+-- so far behind the packet's first byte, with no variable part; the proved bytes are there
 abbrev pub packet_from : ℕ → ℕ → Kind
 packet_from fixed proved = kind.Packet (pos fixed) 0 (pos 0) (pos 0) proved
 

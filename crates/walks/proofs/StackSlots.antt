@@ -10,12 +10,12 @@ use Rattle.isa_model.specs.declared.registers.Reg.TheVariants.{R10}
 use Rattle.isa_model.specs.MustAccept.Determined.{slot_offset}
 use Rattle.reg_state.specs.declared.kinds.Kind.{Kind}
 use Rattle.reg_state.specs.declared.kinds.Kind.TheVariants.{Number}
-use Rattle.reg_state.specs.Constants.{IsNumber-only}
+use Rattle.reg_state.proofs.ConstantsLaws.{IsNumber-only}
 use Rattle.stack_state.specs.declared.slots.Slot.{Slot}
 use Rattle.stack_state.specs.declared.slots.Slot.TheVariants.{Written, Spilled}
 use Rattle.stack_state.specs.declared.states.State.{State}
 use Rattle.stack_state.specs.Meaning.{registers_of, slots_of}
-use Rattle.stack_state.specs.MeaningLaws.{frame_of-innermost}
+use Rattle.stack_state.proofs.MeaningLaws.{frame_of-innermost}
 use Rattle.stack_state.specs.Slots.{slot_at, kind_in, IsSpill, IsFill}
 use Rattle.stack_state.specs.FramePlaces.{IsPlace}
 use Rattle.stack_state.specs.Effects.{with_slots, with_frame_slots}

@@ -8,11 +8,11 @@ use Rattle.stack_state.specs.declared.states.State.{State}
 use Rattle.walks.specs.Forgetting.{Forgets}
 use Rattle.walks.specs.Walks.{IsReached, IsStuck, ComesBack}
 use Rattle.walks.specs.Counts.{Takes}
-use Rattle.walks.specs.declared.refusals.TheConstants.{MAX_EXPLORED}
+use Rattle.isa_model.specs.declared.limits.TheConstants.{MAX_EXPLORED}
 use Rattle.walks.specs.declared.refusals.Refusal.{Refusal}
 use Rattle.walks.specs.declared.refusals.Refusal.TheVariants.{Flow, Step, Repeats, TooLong, Memory}
 
--- from the state in which a path begins so many instructions, or more, are explored
+-- from the state in which a path begins at least this count of instructions is explored
 abbrev pub StartTakes : Program → ℕ → Type 0
 StartTakes p n = (first : State) × Forgets p start first × Takes p first n
 

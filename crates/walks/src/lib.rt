@@ -10,4 +10,4 @@ pub mod forgetting;
 pub mod refusals;
 
 pub use forgetting::forget_dead;
-pub use refusals::{MAX_EXPLORED, Refusal};
+pub use refusals::Refusal;

@@ -7,9 +7,6 @@ use control_flow::FlowError;
 use std::error::Error;
 use std::fmt;
 
-/// The most instructions that are explored.
-pub const MAX_EXPLORED: u32 = 1_000_000;
-
 /// Why a program is refused; each comes with a slot, and the refusal for memory with slot 0.
 #[derive(Clone, Copy, PartialEq, Eq, Debug)]
 pub enum Refusal {

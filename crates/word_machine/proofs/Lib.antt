@@ -4,3 +4,7 @@ pub mod AtomicPlaces
 pub mod Running
 pub mod SlotOps
 pub mod Arguments
+pub mod Constants
+pub mod FlowLaws
+pub mod FrameLaws
+pub mod HelpingLaws

@@ -1,11 +1,7 @@
 pub mod Words
 pub mod Frames
-pub mod FrameLaws
 pub mod Ops
 pub mod Helping
 pub mod Machine
 pub mod Flows
-pub mod Constants
-pub mod FlowLaws
-pub mod HelpingLaws
 pub mod Runs

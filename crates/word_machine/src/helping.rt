@@ -1,13 +1,10 @@
 //! Calls of helpers.
 
-ghost use Rattle.std.specs.Prelude.{◌≡◌, ◌≢◌, ◌+◌, ◌-◌, ◌/◌, ◌≤◌, ℕ, [], length, slice_index, take};
-ghost use Rattle.std.specs.Prelude.{vec_capacity};
+ghost use Rattle.std.specs.Prelude.{◌≡◌, ◌≢◌, ◌+◌, ◌-◌, ◌/◌, ◌≤◌, ℕ, [], length, slice_index, take, vec_capacity};
 ghost use Rattle.std.specs.FinMap as finmap;
 ghost use Rattle.helpers.specs.declared.calls.Answer.TheVariants.{Number, Value};
 ghost use Rattle.isa_model.specs.Code.Helpers.{helper_numbered};
-ghost use Rattle.word_machine.specs.Helping.{CallFits, Calls, asks, NamesKey, HasPlaces};
-ghost use Rattle.word_machine.specs.Helping.{NamesValue, Updates, Deletes};
-ghost use Rattle.word_machine.specs.Helping.{found_at, key_named, named};
+ghost use Rattle.word_machine.specs.Helping.{CallFits, Calls, asks, NamesKey, HasPlaces, NamesValue, Updates, Deletes, found_at, key_named, named};
 ghost use Rattle.word_machine.specs.Machine.{words_of, Rests};
 ghost use Rattle.word_machine.specs.Ops.{constant_of, HasConstant};
 

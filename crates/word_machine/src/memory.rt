@@ -1,14 +1,11 @@
 //! The machine's memory: the block of frames, the blocks of maps, and what callers left.
 
-ghost use Rattle.std.specs.Prelude.{◌≡◌, ◌+◌, ◌-◌, ◌*◌, ◌/◌, ◌%◌, ◌<◌, ◌≤◌, ℕ, List, [], length};
-ghost use Rattle.std.specs.Prelude.{vec_capacity, IfOk};
+ghost use Rattle.std.specs.Prelude.{◌≡◌, ◌+◌, ◌-◌, ◌*◌, ◌/◌, ◌%◌, ◌<◌, ◌≤◌, ℕ, List, [], length, vec_capacity, IfOk};
 ghost use Rattle.isa_model.specs.{max_packet};
 ghost use Rattle.isa_model.specs.Code.Numbers.{bytes_of, number_from};
 ghost use Rattle.isa_model.specs.Code.Sizes.{size_bytes};
 ghost use Rattle.isa_model.specs.declared.sizes.Size.TheVariants.{U8, U16, U32, U64};
-ghost use Rattle.word_machine.specs.Words.{IsInside, Loads, spot_of, get, word_from, number_at};
-ghost use Rattle.word_machine.specs.Words.{packet_after, frames_after, maps_after};
-ghost use Rattle.word_machine.specs.Words.{context_word, first_frame, frame_index};
+ghost use Rattle.word_machine.specs.Words.{IsInside, Loads, spot_of, get, word_from, number_at, packet_after, frames_after, maps_after, context_word, first_frame, frame_index};
 ghost use Rattle.word_machine.specs.Machine.{words_of, seen, Rests};
 
 use crate::room::{Room, zeros};

@@ -1,56 +1,14 @@
 -- Whole runs from the start: words come to their end, and what they leave then is the outcome.
-use Rattle.std.proofs.Common.{◌≡◌, ℕ, suc, ◌<◌, ◌≤◌, List, [], ◌∷◌, length, map, refl, sym, ap, ◌∙◌, arith}
-use Rattle.std.specs.Prelude.{slice_index_or, All}
-use Rattle.std.specs.FinMap.{entries}
+use Rattle.std.proofs.Common.{◌≡◌, ℕ, ◌≤◌, List, length}
+use Rattle.std.specs.Prelude.{All}
 use Rattle.isa_model.specs.declared.frames.FrameHead.{FrameHead}
 use Rattle.isa_model.specs.Code.Instructions.{Program}
-use Rattle.isa_model.specs.Machine.States.{State, Content, entries_of}
-use Rattle.isa_model.specs.Machine.StepLaws.{start_is_state}
-use Rattle.isa_model.specs.Machine.MachineStates.{IsProgram, IsClock, IsGiven, IsState}
-use Rattle.isa_model.specs.Running.Runs.{start_state, Outcome, HasOutcome}
+use Rattle.isa_model.specs.Machine.MachineStates.{IsProgram, IsClock, IsGiven}
+use Rattle.isa_model.specs.Running.Runs.{Outcome, HasOutcome}
 use Rattle.isa_model.specs.Running.Outcomes.{StartsEnd}
-use Rattle.isa_model.specs.Running.Ends.{Ends as ModelEnds}
-use Rattle.maps.specs.ContentLaws.{changed}
-use Rattle.maps.specs.MapLaws.{length-rows_of}
-use Rattle.maps.specs.Maps.{MapState, IsMap, map_at, rows_of, content_in, contents_of}
+use Rattle.maps.specs.Maps.{MapState, IsMap, rows_of, contents_of}
 use Rattle.word_machine.specs.Words.{Words}
-use Rattle.word_machine.specs.Runs.{Ends, Exits}
-use Rattle.word_relation.specs.Related.{Layout, by_serial, by_place, ShowsMap, Related}
-use Rattle.word_relation.specs.Running.{related_Ends, related_Exits}
-use Rattle.word_relation.specs.Starting.{start_of, start_layout, start_related}
 use Rattle.word_relation.specs.Values.{contents_are}
-
--- ---- contents
-
-changed-twice : {X Y Z : Type 0} (g : Y → Z) (f : X → Y) (es : List (List ℕ × X)) → changed g (changed f es) ≡ changed (λ x. g (f x)) es
-changed-twice g f [] = refl
-changed-twice g f (e ∷ es) = λ i. (e.0, g (f e.1)) ∷ changed-twice g f es i
-
-abbrev value_in : (ℕ × List ℕ) → List ℕ
-value_in x = x.1
-
--- what a map shows has its content
-pub content_same : (a : Layout) (m : ℕ) (content : Content) (state : MapState) → ShowsMap a m content state → entries_of content ≡ content_in state
-content_same a m content state shown =
-    sym (changed-twice value_in (by_serial a m) content) ∙ ap (changed value_in) shown.same
-    ∙ changed-twice value_in (by_place state.row.value_size state.block) (entries state.places)
-
-same_each : (contents : List Content) (states : List MapState) → length contents ≡ length states
-    → ((m : ℕ) → m < length states → entries_of (slice_index_or contents m []) ≡ content_in (map_at states m))
-    → map entries_of contents ≡ contents_of states
-same_each [] [] e h = refl
-same_each [] (t ∷ states) e h = absurd (omega arith)
-same_each (c ∷ contents) [] e h = absurd (omega arith)
-same_each (c ∷ contents) (t ∷ states) e h =
-    λ i. h 0 (omega arith) i ∷ same_each contents states (omega arith) (λ m l. h (suc m) (omega arith)) i
-
--- related words have the contents of the state
-pub contents_same : (p : Program) (a : Layout) (s : State) (w : Words) → Related p a s w → IsState p s → map entries_of s.maps ≡ contents_of w.maps
-contents_same p a s w R K =
-    let rows = sym (length-rows_of w.maps) ∙ ap length R.maps.rows in
-    let many = contents_are p s K in
-    same_each s.maps w.maps (omega arith)
-    (λ m l. content_same a m (slice_index_or s.maps m []) (map_at w.maps m) (R.maps.maps m (omega arith)))
 
 -- ---- whole runs
 
@@ -79,56 +37,3 @@ pub record Answers (p : Program) (clock : ℕ → ℕ) (n : ℕ) (head : FrameHe
   pub whole : length v.frames ≡ 4096
   pub back : length v.saved ≡ 0
   pub rows : rows_of v.maps ≡ p.maps
-
-module _ (p : Program) (clock : ℕ → ℕ) (n : ℕ) (head : FrameHead) (packet frames : List ℕ) (maps : List MapState) (h : IsStart p clock n head packet frames maps) where
-  abbrev first : State
-  first = start_state head packet (contents_of maps)
-
-  related : Related p (start_layout packet maps) first (start_of head packet frames maps)
-  related = start_related p head packet frames maps h.few h.given.short h.whole h.are_maps h.rows
-
-  is_state : IsState p first
-  is_state = start_is_state p head packet (contents_of maps) h.given
-
-  in_time : ModelEnds p clock first n
-  unfolding StartsEnd
-  in_time = h.ends clock head packet (contents_of maps) h.answers h.given
-
-  -- the run of words ends within n moves
-  pub start_Ends : Ends p clock (start_of head packet frames maps) n
-  start_Ends = related_Ends p clock h.program h.answers n (start_layout packet maps) first (start_of head packet frames maps) related is_state in_time
-
-  -- and what it comes to is the outcome
-  pub start_Answers : (number steps : ℕ) (v : Words) → Exits p clock (start_of head packet frames maps) number steps v
-      → Answers p clock n head packet maps number steps v
-  start_Answers number steps v e =
-      let F = related_Exits p clock h.program h.answers n (start_layout packet maps) first (start_of head packet frames maps) v number steps related is_state in_time e in
-      let last : State = F.follows.state in
-      record {
-        outcome = record {
-          number = number;
-          packet = last.packet;
-          contents = map entries_of last.maps;
-          steps = suc F.before;
-          clock_calls = last.clock_calls;
-        };
-        found = record {
-          before = F.before;
-          last = last;
-          reached = F.follows.reached;
-          exits = F.exits;
-          steps_are = refl;
-          packet_is = refl;
-          contents_are = refl;
-          clock_calls_are = refl;
-        };
-        few = let c = F.counted in let t = F.in_time in omega arith;
-        number_is = refl;
-        steps_are = F.counted;
-        packet_is = F.follows.related.packet;
-        contents_are = sym (contents_same p F.follows.layout last v F.follows.related F.follows.is);
-        clock_calls_are = F.follows.related.calls;
-        whole = F.follows.related.frames.whole;
-        back = e.first;
-        rows = F.follows.related.maps.rows;
-      }

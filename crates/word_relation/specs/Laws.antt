@@ -13,7 +13,7 @@ use Rattle.word_relation.specs.Running.{Follows, Finishes}
 use Rattle.word_relation.specs.Starting.{start_of}
 use Rattle.word_relation.specs.Answering.{IsStart, Answers}
 
--- what ends in the model within so many steps ends in words within as many moves
+-- what ends in the model within a count of steps ends in words within as many moves
 abbrev pub EndsInWords : Type 0
 EndsInWords = (p : Program) (clock : ℕ → ℕ) → IsProgram p → IsClock clock → (n : ℕ) (a : Layout) (s : State) (w : Words)
     → Related p a s w → IsState p s → ModelEnds p clock s n → Ends p clock w n

@@ -3,8 +3,7 @@
 //! the same of runs.
 #![tactic(auto)]
 
-ghost use Rattle.word_relation.specs.Laws.{EndsInWords, MovesAreSteps, ExitsAgree};
-ghost use Rattle.word_relation.specs.Laws.{StartsEndInWords, ExitsAreOutcomes};
+ghost use Rattle.word_relation.specs.Laws.{EndsInWords, MovesAreSteps, ExitsAgree, StartsEndInWords, ExitsAreOutcomes};
 
 /// The relation's laws: runs of words that begin related to a state end as the model's do, and
 /// each of their moves is a step; and from a start what they come to is the outcome.

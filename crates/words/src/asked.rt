@@ -6,8 +6,7 @@ ghost use Rattle.std.specs.Char.{is_ascii_digit};
 ghost use Rattle.std.specs.String.{string_bytes};
 ghost use Rattle.clap.specs.Words.{first_of, found_of, kind_of, rows_of};
 ghost use Rattle.tasks.specs.Requests.{files_of, proof_files_of, request_of};
-ghost use Rattle.words.specs.Asked.{Reads, TellsOf, assembly_of, files_in, limit_in, limit_of};
-ghost use Rattle.words.specs.Asked.{proof_in, request_by, run_of, trace_of};
+ghost use Rattle.words.specs.Asked.{Reads, TellsOf, assembly_of, files_in, limit_in, limit_of, proof_in, request_by, run_of, trace_of};
 
 use super::command_line::program;
 use clap::ArgMatches;

@@ -2,8 +2,7 @@
 
 ghost use Rattle.std.specs.Prelude.{◌≡◌, false, map, IfOk};
 ghost use Rattle.clap.specs.Words.{app_of, rule_of, with_rule};
-ghost use Rattle.words.specs.CommandLine.{wanted, optional, command, running, with_command};
-ghost use Rattle.words.specs.CommandLine.{empty_program, program};
+ghost use Rattle.words.specs.CommandLine.{wanted, optional, command, running, with_command, empty_program, program};
 
 use clap::{Arg, ArgAction, Command};
 use std::alloc::{AllocError, Global};

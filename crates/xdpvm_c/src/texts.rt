@@ -4,8 +4,7 @@ ghost use Rattle.std.specs.Prelude.{◌≡◌, ◌++◌, IfOk, IfSome, OnOk};
 ghost use Rattle.std.specs.Option.{option_copied};
 ghost use Rattle.std.specs.String.{string_bytes};
 ghost use Rattle.explanations.specs.Reasons.{IsReason};
-ghost use Rattle.xdpvm_c.specs.Texts.{image_text, text_place, source_text};
-ghost use Rattle.xdpvm_c.specs.Texts.{program_front, insn_end, TellsProgram};
+ghost use Rattle.xdpvm_c.specs.Texts.{image_text, text_place, source_text, program_front, insn_end, TellsProgram};
 
 use assembler::AsmError;
 use disassembler::write_insn;

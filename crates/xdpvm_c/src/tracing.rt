@@ -2,7 +2,7 @@
 
 ghost use Rattle.std.specs.Prelude.{◌≡◌, ◌≢◌, ◌<◌, ◌≤◌, ◌↔◌, ◌⊎◌, length};
 ghost use Rattle.isa_model.specs.{max_packet};
-ghost use Rattle.isa_model.specs.Running.Runs.{max_steps};
+ghost use Rattle.isa_model.specs.Code.Limits.{max_steps};
 ghost use Rattle.xdpvm_c.specs.Crossing.{IsStatus};
 ghost use Rattle.xdpvm_c.specs.Verdicts.{IsNoImage};
 ghost use Rattle.xdpvm_c.specs.Traces.{Traces, trap_number, end_of};

@@ -1,5 +1,5 @@
 use Rattle.std.proofs.Common.{sym, ◌∙◌}
-use Rattle.branch_refine.specs.RefiningLaws.{Refines-pointers}
+use Rattle.branch_refine.proofs.RefiningLaws.{Refines-pointers}
 use Rattle.branch_refine.proofs.refine_in_place.Goals as goal
 
 pub returns-in_default : goal.returns-in_default

@@ -1,7 +1,8 @@
 //! Local calls and their exits.
 
 ghost use Rattle.std.specs.Prelude.{◌≡◌, ◌+◌, ◌<◌, ◌≤◌, ◌^◌, ℕ, List, vec_len, vec_capacity};
-ghost use Rattle.isa_model.specs.Machine.Calls.{most_frames, enter, leave};
+ghost use Rattle.isa_model.specs.Code.Limits.{max_call_frames};
+ghost use Rattle.isa_model.specs.Machine.Calls.{enter, leave};
 ghost use Rattle.checked_vm.specs.Machine.{state_of};
 
 use crate::core_state::{Core, new_frame};
@@ -10,8 +11,8 @@ use isa_model::{Region, Value};
 impl Core {
     /// Enters the function at a slot.
     pub fn enter(&mut self, target: usize)
-        requires few { vec_len self.old.frames < most_frames }
-        requires room { most_frames ≤ vec_capacity self.old.frames }
+        requires few { vec_len self.old.frames < max_call_frames }
+        requires room { max_call_frames ≤ vec_capacity self.old.frames }
         requires slot { self.old.slot < 2 ^ 63 }
         requires serial { self.old.maps.next_serial < 2 ^ 63 }
         ensures state { (packet : List ℕ)

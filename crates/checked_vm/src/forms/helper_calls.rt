@@ -1,16 +1,13 @@
 //! Calls of helpers: the kinds of the arguments are tested first, then the key is read, then the
 //! value, and one change comes last.
 
-ghost use Rattle.std.specs.Prelude.{◌≡◌, ◌+◌, ◌<◌, ◌≤◌, ◌^◌, ℕ, List, length, slice_get, Some, Ok};
-ghost use Rattle.std.specs.Prelude.{Err, IfOk, MatchResult};
+ghost use Rattle.std.specs.Prelude.{◌≡◌, ◌+◌, ◌<◌, ◌≤◌, ◌^◌, ℕ, List, length, slice_get, Some, Ok, Err, IfOk, MatchResult};
 ghost use Rattle.isa_model.specs.declared.instructions.Insn.{Insn};
 ghost use Rattle.isa_model.specs.Code.Instructions.{Program};
 ghost use Rattle.isa_model.specs.Code.MapRows.{IsRow};
 ghost use Rattle.isa_model.specs.Machine.States.{go_to};
 ghost use Rattle.isa_model.specs.Machine.Steps.{act};
-ghost use Rattle.isa_model.specs.Machine.HelperCalls.{map_argument, bytes_argument};
-ghost use Rattle.isa_model.specs.Machine.HelperCalls.{number_argument, bytes_at, answered};
-ghost use Rattle.isa_model.specs.Machine.HelperCalls.{lookup_call, update_call, delete_call};
+ghost use Rattle.isa_model.specs.Machine.HelperCalls.{map_argument, bytes_argument, number_argument, bytes_at, answered, lookup_call, update_call, delete_call};
 ghost use Rattle.checked_vm.specs.Machine.{state_of, KeepsFrames, IsRunning, StaysRunning, Helps};
 ghost use Rattle.checked_vm.specs.Outcomes.{IsStep, after_time};
 

@@ -6,19 +6,20 @@ use Rattle.isa_model.specs.declared.instructions.Insn.TheVariants.{LoadMap, Load
 use Rattle.isa_model.specs.declared.map_defs.MapKind.{MapKind}
 use Rattle.isa_model.specs.declared.map_defs.MapKind.TheVariants.{Hash, Array}
 use Rattle.isa_model.specs.declared.map_defs.MapDef.{MapDef}
+use Rattle.isa_model.specs.Code.Limits.{max_key_size, max_value_size, max_map_entries}
 
 -- an array's key is its index
 abbrev pub KeyFits : MapKind → ℕ → Type 0
-KeyFits Hash n = (1 ≤ n) × (n ≤ 64)
+KeyFits Hash n = (1 ≤ n) × (n ≤ max_key_size)
 KeyFits Array n = n ≡ 4
 
 -- the limits of a map row
 pub record IsRow (row : MapDef) : Type 0 where
   pub key : KeyFits row.kind row.key_size
   pub some_value : 1 ≤ row.value_size
-  pub short_value : row.value_size ≤ 4096
+  pub short_value : row.value_size ≤ max_value_size
   pub some_entries : 1 ≤ row.entries
-  pub few_entries : row.entries ≤ 65536
+  pub few_entries : row.entries ≤ max_map_entries
 
 -- the map is an array of one entry, and the offset is within its value
 pub record HoldsOffset (offset : ℕ) (row : MapDef) : Type 0 where

@@ -7,7 +7,7 @@ use Rattle.isa_model.specs.declared.sizes.Size.TheVariants.{U8, U16, U32, U64}
 use Rattle.isa_model.specs.declared.sizes.Narrow.{Narrow}
 use Rattle.isa_model.specs.declared.sizes.Narrow.TheVariants.{S8, S16, S32}
 use Rattle.isa_model.specs.declared.sizes.Extension.{Extension}
-use Rattle.isa_model.specs.declared.sizes.Extension.TheVariants.{Full8, Full16, Full32}
+use Rattle.isa_model.specs.declared.sizes.Extension.TheVariants.{Low8, Low16, Full8, Full16, Full32}
 use Rattle.isa_model.specs.declared.sizes.Span.{Span}
 use Rattle.isa_model.specs.declared.sizes.Span.TheVariants.{B16, B32, B64}
 
@@ -42,3 +42,19 @@ abbrev pub narrow_extension : Narrow → Extension
 narrow_extension S8 = Full8
 narrow_extension S16 = Full16
 narrow_extension S32 = Full32
+
+-- how many low bits are read
+abbrev pub extension_bits : Extension → ℕ
+extension_bits Low8 = 8
+extension_bits Low16 = 16
+extension_bits Full8 = 8
+extension_bits Full16 = 16
+extension_bits Full32 = 32
+
+-- the width that they are extended to
+abbrev pub extension_width : Extension → Width
+extension_width Low8 = Low32
+extension_width Low16 = Low32
+extension_width Full8 = Full64
+extension_width Full16 = Full64
+extension_width Full32 = Full64

@@ -17,12 +17,3 @@ stream_magic Two = codes "XPF2"
 abbrev pub head_size : Version → ℕ
 head_size One = 20
 head_size Two = 24
-
--- the most bytes of a body
-abbrev pub max_body : Version → ℕ
-max_body One = 4096
-max_body Two = 9216
-
--- the most bytes of a body in any stream, and so of a packet
-abbrev pub max_packet : ℕ
-max_packet = 9216

@@ -10,14 +10,15 @@ use Rattle.isa_model.specs.declared.instructions.Insn.TheVariants.{Load, Store, 
 use Rattle.isa_model.specs.Code.Instructions.{Program, fetch, reads, writes}
 use Rattle.isa_model.specs.Machine.States.{Entries, State}
 use Rattle.isa_model.specs.Machine.MachineStates.{IsGiven, IsClock}
-use Rattle.isa_model.specs.Running.Runs.{start_state, Reaches, Runs, max_steps}
+use Rattle.isa_model.specs.Running.Runs.{start_state, Reaches, Runs}
+use Rattle.isa_model.specs.Code.Limits.{max_steps, frame_size}
 use Rattle.isa_model.specs.MustAccept.Paths.{IsPlainForm, Each, IsOneOf, IsWhole}
 
 -- ---- forms
 
 -- from a frame's end, slot j of 8 bytes, counted from the lowest address on
 abbrev pub slot_offset : ℕ → ℤ
-slot_offset j = pos (8 * j) -ℤ pos 512
+slot_offset j = pos (8 * j) -ℤ pos frame_size
 
 abbrev pub slot_place : ℕ → Place
 slot_place j = record { base = R10; offset = slot_offset j }

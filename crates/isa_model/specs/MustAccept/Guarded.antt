@@ -15,6 +15,7 @@ use Rattle.isa_model.specs.Code.Sizes.{size_bytes, narrow_size}
 use Rattle.isa_model.specs.Code.Instructions.{Program, fetch}
 use Rattle.isa_model.specs.Machine.Steps.{destination}
 use Rattle.isa_model.specs.MustAccept.Paths.{IsWhole, IsForward, AreWritten}
+use Rattle.isa_model.specs.Code.Limits.{max_guarded_length}
 
 -- ---- forms of the body
 
@@ -54,7 +55,7 @@ IsBodyForm len i = ⊥
 -- r2 = the packet; r3 = its end; r4 = r2; r4 += len; if r4 > r3 goto tail; the body; tail: r0 = answer; exit
 pub record IsGuarded (p : Program) (len : ℕ) : Type 0 where
   pub some : 1 ≤ len
-  pub most : len ≤ 4096
+  pub most : len ≤ max_guarded_length
   pub packet : fetch p 0 ≡ Some (Load U32 R2 (record { base = R1; offset = pos 0 }))
   pub packet_end : fetch p 1 ≡ Some (Load U32 R3 (record { base = R1; offset = pos 4 }))
   pub copy : fetch p 2 ≡ Some (Alu Full64 Mov R4 (Register R2))

@@ -7,6 +7,7 @@ use Rattle.isa_model.specs.declared.instructions.Insn.TheVariants.{Alu, Neg, Mov
 use Rattle.isa_model.specs.Code.Instructions.{Program, fetch, slots_of, reads, writes}
 use Rattle.isa_model.specs.Machine.Steps.{destination}
 use Rattle.isa_model.specs.Machine.Successors.{falls_through, jump_distance, FallsTo, JumpsTo}
+use Rattle.isa_model.specs.Code.Limits.{max_explored}
 
 -- ---- forms and registers
 
@@ -65,7 +66,7 @@ pub record IsWhole (p : Program) : Type 0 where
 -- jumps lead forward, and there are few enough of them that may or may not be taken
 pub record IsForward (p : Program) : Type 0 where
   pub forward : (slot : ℕ) (i : Insn) (by : ℤ) → fetch p slot ≡ Some i → jump_distance i ≡ Some by → slot < destination p slot by
-  pub few : length p.insns * 2 ^ count_by is_conditional p.insns ≤ 1000000
+  pub few : length p.insns * 2 ^ count_by is_conditional p.insns ≤ max_explored
 
 -- each register that an instruction needs is one of those given, or was written on each path to it
 abbrev pub AreWritten : Program → List Reg → Type 0

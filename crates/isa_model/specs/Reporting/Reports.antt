@@ -27,7 +27,8 @@ use Rattle.isa_model.specs.declared.versions.Version.TheVariants.{One, Two}
 use Rattle.isa_model.specs.Code.Versions.{stream_magic}
 use Rattle.isa_model.specs.Reporting.Streams.{Frame, Stream, frame_bytes}
 use Rattle.isa_model.specs.Reporting.Messages.{code_of}
-use Rattle.isa_model.specs.Running.Runs.{Outcome, HasOutcome, max_steps, Turn, turn}
+use Rattle.isa_model.specs.Running.Runs.{Outcome, HasOutcome, Turn, turn}
+use Rattle.isa_model.specs.Code.Limits.{max_steps}
 
 -- ---- names
 

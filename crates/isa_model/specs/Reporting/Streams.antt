@@ -11,7 +11,8 @@ use Rattle.isa_model.specs.declared.streams.Finish.{Finish}
 use Rattle.isa_model.specs.declared.streams.Finish.TheVariants as finish
 use Rattle.isa_model.specs.declared.versions.Version.{Version}
 use Rattle.isa_model.specs.declared.versions.Version.TheVariants.{One, Two}
-use Rattle.isa_model.specs.Code.Versions.{stream_magic, head_size, max_body}
+use Rattle.isa_model.specs.Code.Versions.{stream_magic, head_size}
+use Rattle.isa_model.specs.Code.Limits.{max_body}
 
 -- a packet frame: its head, its body, and its reason, which is 0 where the stream has none
 pub record Frame : Type 0 where
@@ -148,3 +149,14 @@ stream_opened input (Err fault) = stream_with One ([], finish.Fault fault 0)
 -- the stream of an input
 abbrev pub stream_of : Input → Stream
 stream_of input = stream_opened input (opened input.bytes input.ending)
+
+-- ---- streams as bytes
+
+-- these frames may stand in a stream of the version, from the first record on
+pub record AreOpen (v : Version) (frames : List Frame) : Type 0 where
+  pub few : length frames ≤ max_frames
+  pub fit : All (IsFrame v) frames
+
+-- the bytes of a stream of these frames
+abbrev pub stream_bytes : Version → List Frame → List ℕ
+stream_bytes v frames = stream_magic v ++ records_bytes v frames

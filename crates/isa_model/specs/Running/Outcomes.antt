@@ -1,13 +1,12 @@
 -- Programs every run of which exits within a number of steps, and the outcomes of their runs.
-use Rattle.std.specs.Prelude.{ℕ, zero, suc, ◌≤◌, List, map, refl}
-use Rattle.std.proofs.Common.{subst, sym}
+use Rattle.std.specs.Prelude.{◌≡◌, ℕ, ◌≤◌, ◌==◌, List, [], ◌∷◌, Bool, true, false}
 use Rattle.isa_model.specs.declared.frames.FrameHead.{FrameHead}
 use Rattle.isa_model.specs.Code.Instructions.{Program}
-use Rattle.isa_model.specs.Machine.States.{Entries, entries_of}
-use Rattle.isa_model.specs.Running.Runs.{start_state, Runs, Outcome, HasOutcome}
-use Rattle.isa_model.specs.Running.Ends.{Ends, Runs-Ends}
-use Rattle.isa_model.specs.Machine.MachineStates.{FitRows, IsProgram, IsClock, IsGiven}
-use Rattle.isa_model.specs.Machine.StepLaws.{progress_keeps, start_is_state}
+use Rattle.isa_model.specs.Machine.States.{Entries}
+use Rattle.isa_model.specs.Reporting.Streams.{Frame}
+use Rattle.isa_model.specs.Running.Runs.{start_state, Outcome, HasOutcome}
+use Rattle.isa_model.specs.Running.Ends.{Ends}
+use Rattle.isa_model.specs.Machine.MachineStates.{IsClock, IsGiven}
 
 -- every run of the program from a start exits within n steps, whatever packet, head and map contents it is given, and
 -- with every clock
@@ -15,49 +14,14 @@ unfoldable pub StartsEnd : Program → ℕ → Type 0
 StartsEnd p n = (clock : ℕ → ℕ) (head : FrameHead) (packet : List ℕ) (contents : List Entries)
     → IsClock clock → IsGiven p head packet contents → Ends p clock (start_state head packet contents) n
 
--- a run on a packet exits within n steps
-pub record ExitsWithin (p : Program) (n : ℕ) (head : FrameHead) (packet : List ℕ) (contents : List Entries) (clock : ℕ → ℕ) : Type 0 where
-  pub outcome : Outcome
-  pub found : HasOutcome p head packet contents clock outcome
-  pub few : outcome.steps ≤ n
+-- a frame without a reason has a run that exits within n steps and leaves the contents; every other one leaves them as they were
+abbrev pub ExitsOn : Program → ℕ → List Entries → Frame → Bool → List Entries → Type 0
+ExitsOn p n contents f true next =
+    (o : Outcome) × HasOutcome p f.head f.body contents (λ k. f.head.time) o × (o.steps ≤ n) × (next ≡ o.contents)
+ExitsOn p n contents f false next = next ≡ contents
 
--- what ends within n steps has an outcome
-pub ExitsWithin-Ends : (p : Program) (n : ℕ) (head : FrameHead) (packet : List ℕ) (contents : List Entries) (clock : ℕ → ℕ)
-    → Ends p clock (start_state head packet contents) n → ExitsWithin p n head packet contents clock
-ExitsWithin-Ends p n head packet contents clock h =
-    let (m, a, within, runs) = Runs-Ends p clock (start_state head packet contents) n h in
-    exit m a within runs
-  where
-    exit : (m a : ℕ) → m ≤ n → Runs p clock (start_state head packet contents) m a → ExitsWithin p n head packet contents clock
-    exit zero a within runs = absurd runs
-    exit (suc m) a within runs =
-        let (last, reached, exits) = runs in
-        record {
-          outcome = record { number = a; packet = last.packet; contents = map entries_of last.maps; steps = suc m; clock_calls = last.clock_calls };
-          found = record {
-            before = m;
-            last = last;
-            reached = reached;
-            exits = exits;
-            steps_are = refl;
-            packet_is = refl;
-            contents_are = refl;
-            clock_calls_are = refl;
-          };
-          few = within;
-        }
-
--- every run of such a program has an outcome
-pub ExitsWithin-StartsEnd : (p : Program) (n : ℕ) (head : FrameHead) (packet : List ℕ) (contents : List Entries) (clock : ℕ → ℕ)
-    → StartsEnd p n → IsClock clock → IsGiven p head packet contents → ExitsWithin p n head packet contents clock
-unfolding StartsEnd
-ExitsWithin-StartsEnd p n head packet contents clock h fits given =
-    ExitsWithin-Ends p n head packet contents clock (h clock head packet contents fits given)
-
--- the contents that an outcome leaves fit the rows
-pub FitRows-HasOutcome : (p : Program) (head : FrameHead) (packet : List ℕ) (contents : List Entries) (clock : ℕ → ℕ) (o : Outcome)
-    → IsProgram p → IsClock clock → IsGiven p head packet contents → HasOutcome p head packet contents clock o → FitRows p.maps o.contents
-FitRows-HasOutcome p head packet contents clock o program answers given h =
-    let s = start_state head packet contents in
-    let last = progress_keeps p clock s h.last h.before program answers (start_is_state p head packet contents given) h.reached in
-    subst (FitRows p.maps) (sym h.contents_are) last.maps
+-- every run on frames that come one after the other exits within n steps, the maps' contents carried along
+abbrev pub AllExit : Program → ℕ → List Entries → List Frame → Type 0
+AllExit p n contents [] = Unit {0}
+AllExit p n contents (f ∷ frames) =
+    (next : List Entries) × ExitsOn p n contents f (f.reason == 0) next × AllExit p n next frames

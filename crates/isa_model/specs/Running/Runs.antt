@@ -101,10 +101,6 @@ pub record HasOutcome (p : Program) (head : FrameHead) (packet : List ℕ) (cont
 
 -- ---- turns
 
--- the most steps that a run may be given
-abbrev pub max_steps : ℕ
-max_steps = 1000000
-
 -- how a run within a limit ended, and what it leaves
 pub record Turn : Type 0 where
   pub ends : End

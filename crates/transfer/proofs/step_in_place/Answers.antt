@@ -1,10 +1,10 @@
 use Rattle.std.proofs.Common.{◌≡◌, ◌∙◌, sym, false}
 use Rattle.isa_model.specs.Code.Instructions.{writes, is_frame_pointer}
-use Rattle.image.specs.Programs.{IsProgram-IsImage}
+use Rattle.image.proofs.Programs.{IsProgram-IsImage}
 use Rattle.transfer.specs.Refusing.{reads_unset}
-use Rattle.transfer.specs.ValueLaws.{NamesFit-fetch}
-use Rattle.transfer.specs.ExactLaws.{Steps-leads}
-use Rattle.transfer.specs.FollowLaws.{Steps-follows}
+use Rattle.transfer.proofs.ValueLaws.{NamesFit-fetch}
+use Rattle.transfer.proofs.ExactLaws.{Steps-leads}
+use Rattle.transfer.proofs.FollowLaws.{Steps-follows}
 use Rattle.transfer.proofs.step_in_place.Goals as goal
 
 pub returns-clause-leads : goal.returns-clause-leads

@@ -1,5 +1,5 @@
-use Rattle.word_relation.specs.Running.{related_Ends, related_Reaches, related_Exits}
-use Rattle.word_relation.specs.Answering.{start_Ends, start_Answers}
+use Rattle.word_relation.proofs.RunningLaws.{related_Ends, related_Reaches, related_Exits}
+use Rattle.word_relation.proofs.AnsweringLaws.{start_Ends, start_Answers}
 use Rattle.word_relation.proofs.words_follow_states.Goals as goal
 
 pub returns-clause-ends : goal.returns-clause-ends

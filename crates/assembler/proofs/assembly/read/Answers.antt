@@ -1,7 +1,7 @@
 use Rattle.std.proofs.Common.{◌≡◌, ◌+◌, ◌<◌, ◌≤◌, ◌-◌, ◌^◌, ℕ, List, ap, ap₂, ◌∙◌, sym, length, take, rules, Some, None, Ok, Err, arith, inl, inr}
 use Rattle.std.proofs.lemmas.List.{take_min}
 use Rattle.lexer.specs.Lexing.{lexeme_at, fault_at}
-use Rattle.lexer.specs.LexingLaws.{fault_at-within}
+use Rattle.lexer.proofs.LexingLaws.{fault_at-within}
 use Rattle.assembler.specs.declared.errors.AsmErrorKind.TheVariants.{UnknownByte}
 use Rattle.assembler.specs.declared.refusals.Refusal.{Refusal}
 use Rattle.assembler.specs.Assembling.{accept, read_on}

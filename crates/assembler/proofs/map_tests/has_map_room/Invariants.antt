@@ -1,7 +1,7 @@
 use Rattle.std.proofs.Common.{◌≡◌, ◌+◌, take}
 use Rattle.std.specs.Prelude.{sum_by}
 use Rattle.image.specs.Images.{room_of}
-use Rattle.image.specs.declared.head.TheConstants.{MAX_MAP_ROOM}
+use Rattle.isa_model.specs.declared.limits.TheConstants.{MAX_MAP_ROOM}
 use Rattle.assembler.proofs.map_tests.has_map_room.Given as goal
 
 abbrev pub invariant-loop-other : goal.invariant-loop-other

@@ -1,7 +1,7 @@
 use Rattle.std.proofs.Common.{arith}
 use Rattle.std.proofs.lemmas.Bool.{iff_false}
 use Rattle.control_flow.specs.StackUse.{HandsOnAt}
-use Rattle.control_flow.specs.FlowLaws.{BeginsInsn-inside, fetch-BeginsInsn}
+use Rattle.control_flow.proofs.FlowLaws.{BeginsInsn-inside, fetch-BeginsInsn}
 use Rattle.control_flow.proofs.TargetTests.{none_more}
 use Rattle.control_flow.proofs.stack_accesses.first_handing_on.Goals as goal
 

@@ -1,5 +1,6 @@
 use Rattle.std.proofs.Common.{sym, append-nil, append_assoc, arith}
-use Rattle.disassembler.specs.Hexadecimal.{hex_digits, hex_digits_last, hex_digits_more}
+use Rattle.disassembler.specs.Hexadecimal.{hex_digits}
+use Rattle.disassembler.proofs.HexadecimalLaws.{hex_digits_last, hex_digits_more}
 use Rattle.disassembler.proofs.numbers.+push_digits.Goals as goal
 use Rattle.disassembler.proofs.numbers.+push_digits.Goals.{then-before-ne0, else-before-ne0}
 

@@ -6,7 +6,7 @@ use Rattle.bounds.specs.Bounds.{Bounded}
 use Rattle.stack_state.specs.Starts.{start}
 use Rattle.walks.specs.Accepting.{BoundsAll}
 use Rattle.walks.specs.Counts.{HasNumber}
-use Rattle.image.specs.Programs.{IsProgram-IsImage}
+use Rattle.image.proofs.Programs.{IsProgram-IsImage}
 use Rattle.walks.proofs.Plain.{IsPlain-refused, IsPlain-bound}
 use Rattle.walks.proofs.Determined.{IsDetermined-refused, IsDetermined-bound}
 use Rattle.walks.proofs.Guarded.{IsGuarded-refused, IsGuarded-bound}

@@ -1,7 +1,7 @@
 use Rattle.std.proofs.Common.{ℕ, List, ◌++◌, Option, Result, Ok, Err, OnErr, rules}
 use Rattle.std.specs.Io.KnownBytes.{Appends}
 use Rattle.exact_io.specs.Transfers.{AppendsBeginning}
-use Rattle.exact_io.specs.TransferLaws.{AppendsBeginning-second}
+use Rattle.exact_io.proofs.TransferLaws.{AppendsBeginning-second}
 use Rattle.frames.proofs.writer.write_frame2.Goals as goal
 
 -- where the second part fails, a beginning of both was written

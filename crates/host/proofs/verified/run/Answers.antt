@@ -1,7 +1,7 @@
 use Rattle.std.proofs.Common.{ap, ◌∙◌}
 use Rattle.isa_model.specs.Code.Instructions.{Program}
 use Rattle.isa_model.specs.Code.Versions.{version_number}
-use Rattle.maps.specs.MapLaws.{rows_of-starting, contents_of-starting}
+use Rattle.maps.proofs.MapLaws.{rows_of-starting, contents_of-starting}
 use Rattle.host.proofs.Accepted.{ReportsRun-machine}
 use Rattle.host.proofs.verified.run.Goals as goal
 

@@ -10,7 +10,7 @@ use Rattle.isa_model.specs.declared.instructions.Insn.TheVariants.{Alu}
 use Rattle.isa_model.specs.Code.Instructions.{slots}
 use Rattle.isa_model.specs.Code.Spelling.{InsnFits}
 use Rattle.image.specs.Images.{IsCode}
-use Rattle.image.specs.CodeLaws.{slots-append, slots-one, slots-two, IsCode-one, IsCode-append}
+use Rattle.image.proofs.CodeLaws.{slots-append, slots-one, slots-two, IsCode-one, IsCode-append}
 use Rattle.image.proofs.code.by_slot.Goals.{then-slots-eq2+in_ok-push-2, else-slots-eq2}
 use Rattle.image.proofs.code.by_slot.Goals as goal
 

@@ -1,5 +1,5 @@
 use Rattle.std.proofs.Common.{sym}
-use Rattle.image.specs.RowLaws.{All-rows_refusal}
+use Rattle.image.proofs.RowLaws.{All-rows_refusal}
 use Rattle.image.proofs.images.parts_refusal.Goals as goal
 
 pub room_refusal-requires-clause-fit : goal.room_refusal-requires-clause-fit

@@ -4,7 +4,8 @@ use Rattle.std.specs.FinMap.{values}
 use Rattle.std.proofs.lemmas.List.{get_or_default}
 use Rattle.maps.specs.Maps.{IsMap, map_at}
 use Rattle.live_maps.specs.Live.{Serials, serials_at}
-use Rattle.live_maps.specs.Numbering.{Numbers, AreDistinct, count_before, values-within, values-distinct, values-few, numbers-next, rooms-next, count_before-suc, count_before-all}
+use Rattle.live_maps.specs.Numbering.{Numbers, AreDistinct, count_before}
+use Rattle.live_maps.proofs.NumberingLaws.{values-within, values-distinct, values-few, numbers-next, rooms-next, count_before-suc, count_before-all}
 use Rattle.live_maps.proofs.numbering.number_all.Goals as goal
 
 pub number-requires-clause-within : goal.number-requires-clause-within

@@ -1,7 +1,7 @@
 use Rattle.std.proofs.Common.{◌∙◌, ap, map, arith}
 use Rattle.maps.specs.Contents.{content}
 use Rattle.maps.specs.Commands.{said}
-use Rattle.maps.specs.CommandLaws.{replies_next, left_next}
+use Rattle.maps.proofs.CommandLaws.{replies_next, left_next}
 use Rattle.maps.proofs.commands.replies.Goals as goal
 
 pub loop-i-preserved : goal.loop-i-preserved

@@ -2,8 +2,8 @@ use Rattle.std.proofs.Common.{◌≡◌, refl, sym, ap, ◌∙◌, arith}
 use Rattle.isa_model.specs.declared.map_defs.MapKind.TheVariants.{Hash}
 use Rattle.isa_model.specs.declared.map_defs.MapDef.{MapDef}
 use Rattle.isa_model.specs.Machine.MapContents.{enoent}
-use Rattle.map_indexes.specs.SlotLaws.{remove_absent}
-use Rattle.maps.specs.UpdateLaws.{delete_present, delete_absent, content-deletes}
+use Rattle.map_indexes.proofs.SlotLaws.{remove_absent}
+use Rattle.maps.proofs.UpdateLaws.{delete_present, delete_absent, content-deletes}
 use Rattle.maps.proofs.helpers.delete.Goals as goal
 
 hash_some : (g : _) (c : goal.In-Some g) → (g.S.MapStore.row_of c.args.store.now).kind ≡ Hash

@@ -2,7 +2,7 @@ use Rattle.std.proofs.Common.{Some, ap, sym, ◌∙◌}
 use Rattle.std.specs.Prelude.{option_copied}
 use Rattle.std.specs.Option.{option_map}
 use Rattle.map_indexes.specs.Rows.{row_at}
-use Rattle.maps.specs.ContentLaws.{at_key-content}
+use Rattle.maps.proofs.ContentLaws.{at_key-content}
 use Rattle.maps.proofs.helpers.lookup.Goals as goal
 
 pub returns-in_err-place : goal.returns-in_err-place

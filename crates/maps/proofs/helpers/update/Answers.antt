@@ -4,7 +4,7 @@ use Rattle.isa_model.specs.declared.map_defs.MapDef.{MapDef}
 use Rattle.isa_model.specs.Machine.MapContents.{update_answer}
 use Rattle.maps.specs.Contents.{content}
 use Rattle.maps.specs.Changes.{Writes}
-use Rattle.maps.specs.UpdateLaws.{answer_found, room_left, writes_present, writes_absent, content-writes, content-updates}
+use Rattle.maps.proofs.UpdateLaws.{answer_found, room_left, writes_present, writes_absent, content-writes, content-updates}
 use Rattle.maps.proofs.helpers.update.Goals as goal
 
 answer_ne0 : (g : _) (c : goal.Then-answer-ne0 g) → c.update_answer-answer.result

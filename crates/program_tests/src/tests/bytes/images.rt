@@ -105,7 +105,7 @@ fn makes_of_instructions(rt: HostRuntime) -> Result<(), Fail> {
     Ok(())
 }
 
-/// Counts of wide loads, and why so many are no image.
+/// Counts of wide loads, and why these are no image.
 const WIDE_COUNTS: [(u32, Option<ImageError>); 3] = [
     (0, Some(SlotCount)),
     (2048, None),

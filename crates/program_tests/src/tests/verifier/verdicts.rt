@@ -72,7 +72,7 @@ const OTHERS: [(Refusal, &str); 25] = [
     (Refusal::Step(Unsafe::PacketAtomic), "V20"),
 ];
 
-/// Want of memory is V0 or G6, and no other refusal has one of these numbers.
+/// Too little memory is V0 or G6, and no other refusal has one of these numbers.
 #[test]
 fn memory_is_no_other_refusal(rt: HostRuntime) {
     assert_eq!(rt; Refusal::Memory.code(), "V0");

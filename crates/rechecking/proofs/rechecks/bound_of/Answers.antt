@@ -1,6 +1,6 @@
 use Rattle.std.proofs.Common.{refl}
 use Rattle.std.proofs.lemmas.Result.{err_from_is_err_and}
-use Rattle.image.specs.Programs.{IsProgram-IsImage}
+use Rattle.image.proofs.Programs.{IsProgram-IsImage}
 use Rattle.rechecking.proofs.RefusalLaws.{shows_of, refused_entry}
 use Rattle.rechecking.proofs.rechecks.bound_of.Goals as goal
 

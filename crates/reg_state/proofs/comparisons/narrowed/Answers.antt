@@ -1,4 +1,4 @@
-use Rattle.reg_state.specs.Relations.{goes}
+use Rattle.reg_state.proofs.RelationsLaws.{goes}
 use Rattle.isa_model.specs.declared.sizes.Width.TheVariants.{Full64}
 use Rattle.reg_state.proofs.comparisons.narrowed.Goals as goal
 

@@ -1,4 +1,4 @@
-use Rattle.reg_state.specs.Relations.{goes_whole}
+use Rattle.reg_state.proofs.RelationsLaws.{goes_whole}
 use Rattle.reg_state.proofs.comparisons.reads_whole.Goals as goal
 
 pub returns-then-are_low_halves-clause-sound : goal.returns-then-are_low_halves-clause-sound

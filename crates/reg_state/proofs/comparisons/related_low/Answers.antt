@@ -1,5 +1,5 @@
 use Rattle.isa_model.specs.declared.sizes.Width.TheVariants.{Low32}
-use Rattle.reg_state.specs.Relations.{goes}
+use Rattle.reg_state.proofs.RelationsLaws.{goes}
 use Rattle.reg_state.proofs.comparisons.related_low.Goals as goal
 
 pub returns-in_err-left-clause-common : goal.returns-in_err-left-clause-common

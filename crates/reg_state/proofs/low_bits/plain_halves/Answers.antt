@@ -1,6 +1,6 @@
 use Rattle.std.proofs.Common.{subst}
 use Rattle.known_bits.specs.Bits.{Has}
-use Rattle.reg_state.specs.Relations.{moved_low}
+use Rattle.reg_state.proofs.RelationsLaws.{moved_low}
 use Rattle.reg_state.proofs.low_bits.plain_halves.Goals as goal
 
 pub returns : goal.returns

@@ -1,6 +1,6 @@
 use Rattle.std.proofs.Common.{◌<◌, ◌^◌, subst, arith}
 use Rattle.known_bits.specs.Bits.{Has}
-use Rattle.reg_state.specs.Relations.{signed_half-small}
+use Rattle.reg_state.proofs.RelationsLaws.{signed_half-small}
 use Rattle.reg_state.proofs.low_bits.with_signed.Goals as goal
 
 pub returns-then-greatest-lt2147483648-clause-common : goal.returns-then-greatest-lt2147483648-clause-common

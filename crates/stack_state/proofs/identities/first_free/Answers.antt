@@ -1,5 +1,5 @@
 use Rattle.std.proofs.Common.{arith, rules}
-use Rattle.stack_state.specs.Marks.{marked-room}
+use Rattle.stack_state.proofs.MarksLaws.{marked-room}
 use Rattle.stack_state.proofs.identities.first_free.Goals as goal
 
 pub unreachable-requires : goal.unreachable-requires

@@ -1,5 +1,5 @@
 use Rattle.std.proofs.Common.{arith, ◌∙◌, sym}
-use Rattle.stack_state.specs.Marks.{Marks-named}
+use Rattle.stack_state.proofs.MarksLaws.{Marks-named}
 use Rattle.stack_state.proofs.identities.mark.Goals as goal
 
 pub returns-then-identity-lt594 : goal.returns-then-identity-lt594

@@ -2,10 +2,9 @@ use Rattle.std.proofs.Common.{◌≡◌, ◌-◌, ◌++◌, ◌∷◌, [], ◌�
 use Rattle.std.proofs.lemmas.Result.{err_from_is_err_and}
 use Rattle.std.specs.Prelude.{ℕ, Option, Bool}
 use Rattle.std.specs.Option.{is_some}
-use Rattle.table_entries.specs.Entries.{Entry}
+use Rattle.table_entries.specs.Entries.{Entry, entry_in}
 use Rattle.table_entries.proofs.Seen.{read-seen, stop-seen}
 use Rattle.std.proofs.lemmas.List.{length-map}
-use Rattle.table_entries.specs.Entries.{entry_in}
 use Rattle.table_entries.specs.Tables.{entry_from, first_none, earlier, to_the_end}
 use Rattle.table_entries.proofs.Ends.{IsEnd-more, entry_in-end}
 use Rattle.table_entries.proofs.Rows.{entries-begins, entries-goes_on, entries-stops, entries-done, places-more, length-more, end-empty, end-long, earlier-more}

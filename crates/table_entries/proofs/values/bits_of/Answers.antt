@@ -1,5 +1,5 @@
 use Rattle.std.proofs.Common.{sym}
-use Rattle.table_entries.specs.ValueLaws.{bits_of-is, bits_of-none}
+use Rattle.table_entries.proofs.ValueLaws.{bits_of-is, bits_of-none}
 use Rattle.table_entries.proofs.values.bits_of.Goals as goal
 
 pub returns-then-value-mask-eq0 : goal.returns-then-value-mask-eq0

@@ -1,6 +1,6 @@
 use Rattle.std.proofs.Common.{sym, arith}
 use Rattle.std.proofs.lemmas.Int.{ints}
-use Rattle.table_entries.specs.ValueLaws.{low_of-made, low_of-none}
+use Rattle.table_entries.proofs.ValueLaws.{low_of-made, low_of-none}
 use Rattle.table_entries.proofs.values.low_of.Goals as goal
 
 pub returns-then-least-greatest : goal.returns-then-least-greatest

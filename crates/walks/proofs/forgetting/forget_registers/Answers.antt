@@ -1,7 +1,7 @@
 use Rattle.std.proofs.Common.{◌≡◌, Some, sym, ◌∙◌, arith}
 use Rattle.std.proofs.lemmas.Bool.{iff_false}
 use Rattle.isa_model.specs.Code.Registers.{reg_numbered}
-use Rattle.control_flow.specs.RegisterLaws.{number_of}
+use Rattle.control_flow.proofs.RegisterLaws.{number_of}
 use Rattle.walks.proofs.Forgotten.{kept_more_live, kept_more_dead}
 use Rattle.walks.proofs.forgetting.forget_registers.Goals as goal
 use Rattle.walks.proofs.forgetting.forget_registers.Goals.{then-not-has, else-not-has}

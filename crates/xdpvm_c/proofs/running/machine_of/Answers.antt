@@ -1,7 +1,7 @@
 use Rattle.std.proofs.Common.{◌≡◌, sym}
 use Rattle.isa_model.specs.Reporting.Reports.{starting_contents}
 use Rattle.maps.specs.Maps.{contents_of}
-use Rattle.maps.specs.MapLaws.{rows_of-starting, contents_of-starting}
+use Rattle.maps.proofs.MapLaws.{rows_of-starting, contents_of-starting}
 use Rattle.xdpvm_c.proofs.running.machine_of.Goals as goal
 
 pub new-requires-2 : goal.new-requires-2

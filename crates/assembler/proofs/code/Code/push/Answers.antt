@@ -1,7 +1,7 @@
 use Rattle.std.proofs.Common.{◌≡◌, ℕ, ◌+◌, ◌<◌, false, List, [], ◌∷◌, ◌++◌, length, refl, sym, ap, ◌∙◌, arith, inr, lt-ltb, not}
 use Rattle.isa_model.specs.declared.instructions.Insn.{Insn}
 use Rattle.isa_model.specs.Code.Instructions.{slots, slots_of}
-use Rattle.image.specs.CodeLaws.{length-slots-more}
+use Rattle.image.proofs.CodeLaws.{length-slots-more}
 use Rattle.assembler.specs.Assembling.{has_room}
 use Rattle.assembler.proofs.code.Code.push.Goals as goal
 

@@ -2,7 +2,7 @@ use Rattle.std.proofs.Common.{◌≡◌, List, subst, ap, ◌∙◌}
 use Rattle.std.specs.Prelude.{IfOk}
 use Rattle.isa_model.specs.Machine.States.{Entries}
 use Rattle.maps.specs.Maps.{rows_of, contents_of}
-use Rattle.maps.specs.MapLaws.{rows_of-starting, contents_of-starting}
+use Rattle.maps.proofs.MapLaws.{rows_of-starting, contents_of-starting}
 use Rattle.checked_vm.specs.Machines.{Running}
 use Rattle.checked_vm.proofs.checked.Checked.new.Goals as goal
 

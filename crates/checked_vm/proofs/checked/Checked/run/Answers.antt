@@ -1,5 +1,5 @@
 use Rattle.std.proofs.Common.{◌≡◌, Some, None, slice_index_or}
-use Rattle.image.specs.ImageLaws.{NamesRows-fetch}
+use Rattle.image.proofs.ImageLaws.{NamesRows-fetch}
 use Rattle.checked_vm.proofs.Acts.{fetch_at}
 use Rattle.checked_vm.proofs.checked.Checked.run.Goals as goal
 

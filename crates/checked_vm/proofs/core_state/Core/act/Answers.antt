@@ -51,12 +51,12 @@ pub returns-in-CompareExchange-clause-done : goal.returns-in-CompareExchange-cla
 returns-in-CompareExchange-clause-done c =
     performs_in c.args.slots _ c.args.insn.now c.do_compare_exchange.result c.args.self.now c.args.packet.now c.do_compare_exchange.new.self c.do_compare_exchange.new.packet c.in-CompareExchange.is c.do_compare_exchange.ensures.done
 
-pub returns-else-depth-eq-MOST_FRAMES-clause-done : goal.returns-else-depth-eq-MOST_FRAMES-clause-done
+pub returns-else-depth-eq-MAX_CALL_FRAMES-clause-done : goal.returns-else-depth-eq-MAX_CALL_FRAMES-clause-done
 unfolding act
-returns-else-depth-eq-MOST_FRAMES-clause-done c = λ p clock count.
+returns-else-depth-eq-MAX_CALL_FRAMES-clause-done c = λ p clock count.
     let fits : FitsSigned w32 c.in-CallLocal.by = search rules in
     let leads = simp to_z-of_z at c.destination.ensures in
-    let few : length c.args.self.now.frames.items ≡ 8 → ⊥ = λ full. c.if-depth-eq-MOST_FRAMES.false (c.depth.ensures.frames ∙ full) in
+    let few : length c.args.self.now.frames.items ≡ 8 → ⊥ = λ full. c.if-depth-eq-MAX_CALL_FRAMES.false (c.depth.ensures.frames ∙ full) in
     rw c.in-CallLocal.is (calls_enter (state_of c.args.self.now c.args.packet.now) p c.in-CallLocal.by c.args.slots c.destination.result count leads few ∙ ap Next (sym (c.enter.ensures.state c.args.packet.now)))
 
 pub returns-in-Alu-clause-stays : goal.returns-in-Alu-clause-stays

@@ -1,7 +1,7 @@
 use Rattle.std.proofs.Common.{◌≡◌, ◌+◌, refl, sym, ap, ◌∙◌, arith}
 use Rattle.isa_model.specs.declared.ends.End.TheVariants.{Exit, Trap}
 use Rattle.isa_model.specs.Running.Runs.{left}
-use Rattle.isa_model.specs.Running.RunLaws.{progress-zero}
+use Rattle.isa_model.proofs.RunLaws.{progress-zero}
 use Rattle.checked_vm.proofs.Turns.{progress-next, turn_of-finished, turn_of-trapped}
 use Rattle.checked_vm.proofs.core_state.Core.steps.Goals as goal
 

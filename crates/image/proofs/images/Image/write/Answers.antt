@@ -6,7 +6,7 @@ use Rattle.isa_model.specs.declared.map_defs.MapDef.{MapDef}
 use Rattle.isa_model.specs.declared.instructions.Insn.{Insn}
 use Rattle.isa_model.specs.Code.Instructions.{Program}
 use Rattle.exact_io.specs.Transfers.{AppendsBeginning}
-use Rattle.exact_io.specs.TransferLaws.{AppendsBeginning-first, AppendsBeginning-second}
+use Rattle.exact_io.proofs.TransferLaws.{AppendsBeginning-first, AppendsBeginning-second}
 use Rattle.image.specs.Images.{row_bytes, code_bytes}
 use Rattle.image.proofs.Whole.{image_bytes-written}
 use Rattle.image.proofs.Writing.{on_err, second_fails, second_written}

@@ -6,7 +6,7 @@ use Rattle.isa_model.specs.Code.Sizes.{width_bits}
 use Rattle.isa_model.specs.declared.instructions.AluOp.TheVariants.{Add, Sub, Mul, Lsh, Rsh}
 use Rattle.isa_model.specs.declared.sizes.Width.{Width}
 use Rattle.isa_model.specs.Code.Numbers.{alu, result_of}
-use Rattle.isa_model.specs.Code.NumberLemmas.{alu_below, low_below, width_most}
+use Rattle.isa_model.proofs.NumberLemmas.{alu_below, low_below, width_most}
 use Rattle.std.proofs.Math.Nat.{mod-eq_of_lt}
 use Rattle.known_bits.specs.declared.bits.Bits.{Bits}
 use Rattle.known_bits.specs.Member.{Occurs}

@@ -1,5 +1,5 @@
 use Rattle.std.proofs.Common.{arith}
-use Rattle.known_bits.specs.MemberLaws.{low-greatest}
+use Rattle.known_bits.proofs.MemberLaws.{low-greatest}
 use Rattle.known_bits.proofs.bits.Bits.low_greatest.Goals as goal
 
 pub returns-clause-bound : goal.returns-clause-bound

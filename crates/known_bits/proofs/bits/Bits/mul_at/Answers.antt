@@ -1,6 +1,6 @@
 use Rattle.std.proofs.Common.{arith, ◌*◌, ◌+◌}
 use Rattle.isa_model.specs.Code.Sizes.{width_bits}
-use Rattle.isa_model.specs.Code.NumberLemmas.{low_wrapped}
+use Rattle.isa_model.proofs.NumberLemmas.{low_wrapped}
 use Rattle.known_bits.proofs.Members.{known}
 use Rattle.known_bits.proofs.Sharp.{most_member}
 use Rattle.known_bits.proofs.Frame.{low-multiple, low-limit}

@@ -2,10 +2,10 @@ use Rattle.std.proofs.Common.{List, length, map, sym, ap, subst, ◌∙◌}
 use Rattle.std.proofs.lemmas.List.{length-map}
 use Rattle.isa_model.specs.Machine.States.{Entries, entries_of}
 use Rattle.isa_model.specs.Machine.MachineStates.{FitRows}
-use Rattle.maps.specs.MapLaws.{FitRows-IsMap}
+use Rattle.maps.proofs.MapLaws.{FitRows-IsMap}
 use Rattle.maps.specs.Maps.{rows_of}
 use Rattle.live_maps.specs.Live.{Live}
-use Rattle.live_maps.specs.ContentLaws.{entries_of-live_contents}
+use Rattle.live_maps.proofs.ContentLaws.{entries_of-live_contents}
 use Rattle.live_maps.proofs.live.LiveMaps.count.Goals as goal
 
 pub returns-clause-count : goal.returns-clause-count

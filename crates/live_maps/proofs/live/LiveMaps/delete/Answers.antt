@@ -5,9 +5,9 @@ use Rattle.isa_model.specs.declared.map_defs.MapDef.{MapDef}
 use Rattle.isa_model.specs.Machine.MapContents.{delete_answer}
 use Rattle.maps.specs.Maps.{IsMap, Deleted, map_at, rows_of}
 use Rattle.live_maps.specs.Live.{Live, Serials, AreLive, IsLeastRoom, content_at, without}
-use Rattle.live_maps.specs.ContentLaws.{live_of, All-rows-set, rows_of-set}
-use Rattle.live_maps.specs.LiveLaws.{live-removed, deleted_there, delete_answer-live}
-use Rattle.live_maps.specs.SearchLaws.{lookup-present}
+use Rattle.live_maps.proofs.ContentLaws.{live_of, All-rows-set, rows_of-set}
+use Rattle.live_maps.proofs.LiveLaws.{live-removed, deleted_there, delete_answer-live}
+use Rattle.live_maps.proofs.SearchLaws.{lookup-present}
 use Rattle.live_maps.proofs.OneChanged.{one_changed, row_told}
 use Rattle.live_maps.proofs.live.LiveMaps.delete.Goals as goal
 

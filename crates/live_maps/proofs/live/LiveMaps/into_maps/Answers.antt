@@ -1,7 +1,7 @@
 use Rattle.std.proofs.Common.{map, sym, ap, ◌∙◌}
 use Rattle.isa_model.specs.Machine.States.{entries_of}
 use Rattle.live_maps.specs.Live.{Live}
-use Rattle.live_maps.specs.ContentLaws.{entries_of-live_contents}
+use Rattle.live_maps.proofs.ContentLaws.{entries_of-live_contents}
 use Rattle.live_maps.proofs.live.LiveMaps.into_maps.Goals as goal
 
 pub returns-clause-contents : goal.returns-clause-contents

@@ -4,8 +4,8 @@ use Rattle.std.specs.Option.{option_map}
 use Rattle.isa_model.specs.declared.map_defs.MapDef.{MapDef}
 use Rattle.isa_model.specs.Machine.MapContents.{at_key}
 use Rattle.live_maps.specs.Live.{Live, content_at}
-use Rattle.live_maps.specs.ContentLaws.{rows_of-known}
-use Rattle.live_maps.specs.SearchLaws.{lookup-absent, lookup-present}
+use Rattle.live_maps.proofs.ContentLaws.{rows_of-known}
+use Rattle.live_maps.proofs.SearchLaws.{lookup-absent, lookup-present}
 use Rattle.live_maps.proofs.live.LiveMaps.lookup.Goals as goal
 
 pub serial_at-requires-clause-index : goal.serial_at-requires-clause-index

@@ -4,8 +4,8 @@ use Rattle.std.proofs.lemmas.List.{length-map}
 use Rattle.isa_model.specs.declared.map_defs.MapDef.{MapDef}
 use Rattle.maps.specs.Maps.{MapState, rows_of}
 use Rattle.live_maps.specs.Live.{AreLive}
-use Rattle.live_maps.specs.ContentLaws.{entries_of-live_contents}
-use Rattle.live_maps.specs.Numbering.{AreLive-numbered}
+use Rattle.live_maps.proofs.ContentLaws.{entries_of-live_contents}
+use Rattle.live_maps.proofs.NumberingLaws.{AreLive-numbered}
 use Rattle.live_maps.proofs.live.LiveMaps.new.Goals as goal
 
 -- what holds of all rows, holds of the rows of all maps

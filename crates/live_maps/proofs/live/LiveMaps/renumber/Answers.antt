@@ -3,8 +3,8 @@ use Rattle.isa_model.specs.Machine.States.{Entries, entries_of}
 use Rattle.isa_model.specs.Running.Runs.{numbered_maps, count_values}
 use Rattle.maps.specs.Maps.{rows_of, contents_of}
 use Rattle.live_maps.specs.Live.{Live, AreLive}
-use Rattle.live_maps.specs.ContentLaws.{live_of, entries_of-live_contents}
-use Rattle.live_maps.specs.Numbering.{AreLive-numbered, numbered-all}
+use Rattle.live_maps.proofs.ContentLaws.{live_of, entries_of-live_contents}
+use Rattle.live_maps.proofs.NumberingLaws.{AreLive-numbered, numbered-all}
 use Rattle.live_maps.proofs.live.LiveMaps.renumber.Goals as goal
 
 pub invariant_of-self : goal.invariant_of-self

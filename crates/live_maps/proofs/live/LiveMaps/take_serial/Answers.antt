@@ -1,5 +1,5 @@
 use Rattle.std.proofs.Common.{◌+◌, arith}
-use Rattle.live_maps.specs.LiveLaws.{AreLive-more}
+use Rattle.live_maps.proofs.LiveLaws.{AreLive-more}
 use Rattle.live_maps.proofs.live.LiveMaps.take_serial.Goals as goal
 
 pub invariant_of-self : goal.invariant_of-self

@@ -5,9 +5,10 @@ use Rattle.isa_model.specs.declared.map_defs.MapDef.{MapDef}
 use Rattle.isa_model.specs.Machine.MapContents.{update_answer}
 use Rattle.maps.specs.Maps.{MapState, IsMap, Updated, map_at, rows_of}
 use Rattle.live_maps.specs.Live.{Live, Serials, AreLive, IsLeastRoom, place_if_new, content_at, serials_at, with_bytes}
-use Rattle.live_maps.specs.ContentLaws.{live_of, All-rows-set, rows_of-set}
-use Rattle.live_maps.specs.LiveLaws.{live-updated, live-added, live-same, not_zero, updated_there, place_if_new-Some, place_if_new-None, update_answer-live}
-use Rattle.live_maps.specs.Numbering.{IsNumbered, IsNumbered-set, IfSome-more}
+use Rattle.live_maps.proofs.ContentLaws.{live_of, All-rows-set, rows_of-set}
+use Rattle.live_maps.proofs.LiveLaws.{live-updated, live-added, live-same, not_zero, updated_there, place_if_new-Some, place_if_new-None, update_answer-live}
+use Rattle.live_maps.specs.Numbering.{IsNumbered}
+use Rattle.live_maps.proofs.NumberingLaws.{IsNumbered-set, IfSome-more}
 use Rattle.live_maps.proofs.OneChanged.{one_changed, row_told}
 use Rattle.live_maps.proofs.live.LiveMaps.update.Goals as goal
 

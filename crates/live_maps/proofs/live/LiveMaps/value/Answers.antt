@@ -1,6 +1,6 @@
 use Rattle.std.proofs.Common.{◌∙◌, sym, ap, Some}
 use Rattle.live_maps.specs.Live.{Live, content_at, value_bytes}
-use Rattle.live_maps.specs.SearchLaws.{serials-once, searched-none, searched-inside, searched-some}
+use Rattle.live_maps.proofs.SearchLaws.{serials-once, searched-none, searched-inside, searched-some}
 use Rattle.live_maps.proofs.live.LiveMaps.value.Goals as goal
 
 pub value-requires-clause-map : goal.value-requires-clause-map

@@ -3,10 +3,11 @@ use Rattle.std.specs.Prelude.{IsSomeAnd, vec_capacity}
 use Rattle.isa_model.specs.declared.map_defs.MapDef.{MapDef}
 use Rattle.maps.specs.Maps.{IsMap, map_at, rows_of}
 use Rattle.live_maps.specs.Live.{Live, IsLeastRoom, content_at, serials_at, value_bytes, with_value}
-use Rattle.live_maps.specs.ContentLaws.{length-changed_maps, All-rows-set, rows_of-set}
-use Rattle.live_maps.specs.LiveLaws.{live-written}
-use Rattle.live_maps.specs.SearchLaws.{serials-once, searched-none, position-serial}
-use Rattle.live_maps.specs.Numbering.{IsNumbered, IsNumbered-set, IfSome-more}
+use Rattle.live_maps.proofs.ContentLaws.{length-changed_maps, All-rows-set, rows_of-set}
+use Rattle.live_maps.proofs.LiveLaws.{live-written}
+use Rattle.live_maps.proofs.SearchLaws.{serials-once, searched-none, position-serial}
+use Rattle.live_maps.specs.Numbering.{IsNumbered}
+use Rattle.live_maps.proofs.NumberingLaws.{IsNumbered-set, IfSome-more}
 use Rattle.live_maps.proofs.OneChanged.{found_at}
 use Rattle.live_maps.proofs.live.LiveMaps.write.Goals as goal
 

@@ -1,5 +1,5 @@
 use Rattle.std.proofs.Common.{sym}
-use Rattle.live_maps.specs.SearchLaws.{position-once}
+use Rattle.live_maps.proofs.SearchLaws.{position-once}
 use Rattle.live_maps.proofs.table.Table.find.Goals as goal
 
 pub returns-in-Some : goal.returns-in-Some

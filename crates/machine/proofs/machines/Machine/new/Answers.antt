@@ -3,7 +3,7 @@ use Rattle.isa_model.specs.declared.map_defs.MapDef.{MapDef}
 use Rattle.isa_model.specs.Code.Instructions.{Program}
 use Rattle.isa_model.specs.Machine.MachineStates.{FitRows}
 use Rattle.maps.specs.Maps.{rows_of, contents_of}
-use Rattle.maps.specs.MapLaws.{FitRows-IsMap}
+use Rattle.maps.proofs.MapLaws.{FitRows-IsMap}
 use Rattle.machine.proofs.Runs.{starts_running}
 use Rattle.machine.proofs.machines.Machine.new.Goals as goal
 

@@ -1,6 +1,6 @@
 use Rattle.std.proofs.Common.{◌≡◌, ◌+◌, ◌++◌, ◌∷◌, [], List, ℕ, length, sym, ap, ◌∙◌, arith}
 use Rattle.std.proofs.lemmas.List.FromFn.{length-range_with_len}
-use Rattle.map_indexes.specs.ArrayOrder.{range_with_len-more}
+use Rattle.map_indexes.proofs.ArrayOrder.{range_with_len-more}
 use Rattle.map_indexes.proofs.arrays.ArrayIndex.list_indexes.Goals as goal
 
 pub push_reserved-requires : goal.push_reserved-requires

@@ -1,5 +1,5 @@
 use Rattle.std.proofs.Common.{arith}
-use Rattle.map_indexes.specs.ArrayLaws.{len-array_places}
+use Rattle.map_indexes.proofs.ArrayLaws.{len-array_places}
 use Rattle.map_indexes.proofs.arrays.ArrayIndexIndex.add.Goals as goal
 
 -- an array is always full

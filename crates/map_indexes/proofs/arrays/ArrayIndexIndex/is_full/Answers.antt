@@ -1,7 +1,7 @@
 use Rattle.std.proofs.Common.{◌≤◌, arith}
 use Rattle.std.specs.FinMap.{len}
 use Rattle.map_indexes.specs.ArrayPlaces.{array_places}
-use Rattle.map_indexes.specs.ArrayLaws.{len-array_places}
+use Rattle.map_indexes.proofs.ArrayLaws.{len-array_places}
 use Rattle.map_indexes.proofs.arrays.ArrayIndexIndex.is_full.Goals as goal
 
 pub returns : goal.returns

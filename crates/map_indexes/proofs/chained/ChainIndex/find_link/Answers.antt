@@ -5,8 +5,8 @@ use Rattle.slab.specs.Slab.{get}
 use Rattle.map_indexes.specs.declared.chains.Link.{Link}
 use Rattle.map_indexes.specs.Slots.{slot}
 use Rattle.map_indexes.specs.Chains.{in_chain, height}
-use Rattle.map_indexes.specs.ChainLaws.{lower}
-use Rattle.map_indexes.specs.ChainIndexes.{Left, next_there, left_next, not_found}
+use Rattle.map_indexes.proofs.ChainLaws.{lower}
+use Rattle.map_indexes.proofs.ChainIndexesLaws.{Left, next_there, left_next, not_found}
 use Rattle.map_indexes.proofs.chained.ChainIndex.find_link.Goals as goal
 
 pub link-link-requires : goal.link-link-requires

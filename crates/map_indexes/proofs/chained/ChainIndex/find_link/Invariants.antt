@@ -1,6 +1,6 @@
 use Rattle.slab.specs.Slab.{get}
 use Rattle.map_indexes.specs.Chains.{height}
-use Rattle.map_indexes.specs.ChainIndexes.{Left}
+use Rattle.map_indexes.proofs.ChainIndexesLaws.{Left}
 use Rattle.map_indexes.proofs.chained.ChainIndex.find_link.Given as goal
 
 abbrev pub invariant-loop-next : goal.invariant-loop-next

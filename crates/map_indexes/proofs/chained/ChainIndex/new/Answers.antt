@@ -1,10 +1,11 @@
 use Rattle.std.proofs.Common.{ℕ, sym, ap, subst, ◌∙◌}
 use Rattle.slab.specs.Slab.{get}
 use Rattle.map_indexes.specs.Slots.{Slots, places, AreKeys}
-use Rattle.map_indexes.specs.KeyBytes.{AreKeys-none}
-use Rattle.map_indexes.specs.ScanLaws.{places-none}
+use Rattle.map_indexes.proofs.KeyBytes.{AreKeys-none}
+use Rattle.map_indexes.proofs.ScanLaws.{places-none}
 use Rattle.map_indexes.specs.Chains.{spot}
-use Rattle.map_indexes.specs.ChainIndexes.{IsChainIndex, chain_index-none}
+use Rattle.map_indexes.specs.ChainIndexes.{IsChainIndex}
+use Rattle.map_indexes.proofs.ChainIndexesLaws.{chain_index-none}
 use Rattle.map_indexes.proofs.chained.ChainIndex.new.Goals as goal
 
 pub invariant_of-result-clause-index : goal.invariant_of-result-clause-index

@@ -3,11 +3,13 @@ use Rattle.std.proofs.lemmas.List.Elements.{All-from_get_or}
 use Rattle.std.specs.Prelude.{slice_set}
 use Rattle.slab.specs.Slab.{get}
 use Rattle.map_indexes.specs.Slots.{Slots, places, AreKeys}
-use Rattle.map_indexes.specs.KeyBytes.{AreKeys-put}
-use Rattle.map_indexes.specs.SlotLaws.{got, places-added}
+use Rattle.map_indexes.proofs.KeyBytes.{AreKeys-put}
+use Rattle.map_indexes.specs.SlotLaws.{got}
+use Rattle.map_indexes.proofs.SlotLaws.{places-added}
 use Rattle.map_indexes.specs.Hashing.{chain_of}
 use Rattle.map_indexes.specs.Chains.{spot}
-use Rattle.map_indexes.specs.ChainIndexes.{IsChainIndex, chain_index-added, last_inside, last_free}
+use Rattle.map_indexes.specs.ChainIndexes.{IsChainIndex}
+use Rattle.map_indexes.proofs.ChainIndexesLaws.{chain_index-added, last_inside, last_free}
 use Rattle.map_indexes.proofs.chained.ChainIndexIndex.add.Goals as goal
 
 pub invariant_of-self-2-clause-index : goal.invariant_of-self-2-clause-index

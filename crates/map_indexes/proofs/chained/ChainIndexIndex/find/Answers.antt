@@ -1,7 +1,7 @@
 use Rattle.std.proofs.Common.{◌≡◌, Some, sym, ap, ◌∙◌}
 use Rattle.slab.specs.Slab.{get}
 use Rattle.map_indexes.specs.declared.chains.Link.{Link}
-use Rattle.map_indexes.specs.ChainIndexes.{found}
+use Rattle.map_indexes.proofs.ChainIndexesLaws.{found}
 use Rattle.map_indexes.proofs.chained.ChainIndexIndex.find.Goals as goal
 
 pub returns : goal.returns

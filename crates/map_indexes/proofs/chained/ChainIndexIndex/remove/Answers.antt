@@ -3,11 +3,14 @@ use Rattle.std.specs.Prelude.{slice_set}
 use Rattle.std.specs.FinMap as map
 use Rattle.slab.specs.Slab.{get}
 use Rattle.map_indexes.specs.Slots.{Slots, slot, places, AreKeys}
-use Rattle.map_indexes.specs.KeyBytes.{AreKeys-cleared}
-use Rattle.map_indexes.specs.SlotLaws.{places-emptied, remove_absent}
+use Rattle.map_indexes.proofs.KeyBytes.{AreKeys-cleared}
+use Rattle.map_indexes.proofs.SlotLaws.{places-emptied}
+use Rattle.map_indexes.proofs.SlotLaws.{remove_absent}
 use Rattle.map_indexes.specs.ScanLaws.{slot_inside}
 use Rattle.map_indexes.specs.Chains.{spot}
-use Rattle.map_indexes.specs.ChainIndexes.{IsChainIndex, chain_index-removed, found}
+use Rattle.map_indexes.specs.ChainIndexes.{IsChainIndex}
+use Rattle.map_indexes.proofs.ChainIndexesLaws.{chain_index-removed}
+use Rattle.map_indexes.proofs.ChainIndexesLaws.{found}
 use Rattle.map_indexes.proofs.chained.ChainIndexIndex.remove.Goals as goal
 
 pub returns-in_err-at-clause-hash : goal.returns-in_err-at-clause-hash

@@ -4,7 +4,7 @@ use Rattle.slab.specs.Slab.{get}
 use Rattle.map_indexes.specs.declared.chains.Link.{Link}
 use Rattle.map_indexes.specs.LastBelow.{last_below}
 use Rattle.map_indexes.specs.Chains.{in_chain, IsChained, StandsBehind}
-use Rattle.map_indexes.specs.ChainLaws.{limit, behind_there, length-heads_led, slab_added}
+use Rattle.map_indexes.proofs.ChainLaws.{limit, behind_there, length-heads_led, slab_added}
 use Rattle.map_indexes.proofs.chains.Chains.add.Goals as goal
 use Rattle.map_indexes.proofs.chains.Chains.add.Goals.{in-Some, in-None}
 

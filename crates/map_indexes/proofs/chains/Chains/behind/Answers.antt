@@ -2,9 +2,9 @@ use Rattle.std.proofs.Common.{◌≡◌, Option, ◌<◌, refl, sym, subst, ◌�
 use Rattle.std.specs.Prelude.{IsSome}
 use Rattle.slab.specs.Slab.{get}
 use Rattle.map_indexes.specs.declared.chains.Link.{Link}
-use Rattle.map_indexes.specs.LastBelow.{last_is}
+use Rattle.map_indexes.proofs.LastBelowLaws.{last_is}
 use Rattle.map_indexes.specs.Chains.{in_chain, height}
-use Rattle.map_indexes.specs.ChainLaws.{limit, link_of, stands, passed_next, lower}
+use Rattle.map_indexes.proofs.ChainLaws.{limit, link_of, stands, passed_next, lower}
 use Rattle.map_indexes.proofs.chains.Chains.behind.Goals as goal
 
 pub returns-then-k-at : goal.returns-then-k-at

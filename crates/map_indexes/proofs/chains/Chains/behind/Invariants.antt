@@ -1,6 +1,6 @@
 use Rattle.slab.specs.Slab.{get}
 use Rattle.map_indexes.specs.Chains.{height}
-use Rattle.map_indexes.specs.ChainLaws.{Passed}
+use Rattle.map_indexes.proofs.ChainLaws.{Passed}
 use Rattle.map_indexes.proofs.chains.Chains.behind.Given as goal
 
 abbrev pub invariant-loop-next : goal.invariant-loop-next

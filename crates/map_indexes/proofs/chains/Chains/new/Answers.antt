@@ -3,7 +3,7 @@ use Rattle.std.proofs.lemmas.List.{length-replicate}
 use Rattle.std.specs.Prelude.{replicate, slice_index_or}
 use Rattle.slab.specs.Slab.{get}
 use Rattle.map_indexes.specs.Chains.{IsChained}
-use Rattle.map_indexes.specs.ChainLaws.{chained_none}
+use Rattle.map_indexes.proofs.ChainLaws.{chained_none}
 use Rattle.map_indexes.proofs.chains.Chains.new.Goals as goal
 
 pub invariant_of-result : goal.invariant_of-result

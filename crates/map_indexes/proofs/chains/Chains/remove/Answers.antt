@@ -1,7 +1,7 @@
 use Rattle.std.proofs.Common.{ℕ, List, length, Option, ap, sym, subst, ◌∙◌}
 use Rattle.slab.specs.Slab.{get}
 use Rattle.map_indexes.specs.Chains.{IsChained}
-use Rattle.map_indexes.specs.ChainLaws.{length-heads_led, slab_removed}
+use Rattle.map_indexes.proofs.ChainLaws.{length-heads_led, slab_removed}
 use Rattle.map_indexes.proofs.chains.Chains.remove.Goals as goal
 
 pub invariant_of-self : goal.invariant_of-self

@@ -1,6 +1,6 @@
 use Rattle.std.proofs.Common.{ap, sym, ◌∙◌, subst}
 use Rattle.map_indexes.specs.Slots.{Slots, IsScan, places}
-use Rattle.map_indexes.specs.ScanLaws.{scan-none, places-none}
+use Rattle.map_indexes.proofs.ScanLaws.{scan-none, places-none}
 use Rattle.map_indexes.proofs.scan.ScanIndex.new.Goals as goal
 
 pub invariant_of-result : goal.invariant_of-result

@@ -1,5 +1,5 @@
 use Rattle.std.proofs.Common.{arith}
-use Rattle.map_indexes.specs.ScanLaws.{key_count-all}
+use Rattle.map_indexes.proofs.ScanLaws.{key_count-all}
 use Rattle.map_indexes.proofs.scan.ScanIndex.vacant.Goals as goal
 
 pub unreachable-requires : goal.unreachable-requires

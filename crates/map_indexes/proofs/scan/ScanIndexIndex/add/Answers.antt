@@ -1,7 +1,9 @@
 use Rattle.std.proofs.Common.{ap, sym, ◌∙◌, subst, arith, ◌+◌}
 use Rattle.map_indexes.specs.Slots.{Slots, IsScan, places}
-use Rattle.map_indexes.specs.SlotLaws.{got, places-added}
-use Rattle.map_indexes.specs.ScanLaws.{scan_few, scan-added}
+use Rattle.map_indexes.specs.SlotLaws.{got}
+use Rattle.map_indexes.proofs.SlotLaws.{places-added}
+use Rattle.map_indexes.specs.ScanLaws.{scan_few}
+use Rattle.map_indexes.proofs.ScanLaws.{scan-added}
 use Rattle.map_indexes.proofs.scan.ScanIndexIndex.add.Goals as goal
 
 pub vacant-place-requires : goal.vacant-place-requires

@@ -1,7 +1,10 @@
 use Rattle.std.proofs.Common.{ap, sym, ◌∙◌, subst, rules, ◌-◌}
 use Rattle.map_indexes.specs.Slots.{Slots, IsScan, places}
-use Rattle.map_indexes.specs.SlotLaws.{got, places-emptied, remove_absent}
-use Rattle.map_indexes.specs.ScanLaws.{slot_inside, scan_some, scan-emptied}
+use Rattle.map_indexes.specs.SlotLaws.{got}
+use Rattle.map_indexes.proofs.SlotLaws.{places-emptied}
+use Rattle.map_indexes.proofs.SlotLaws.{remove_absent}
+use Rattle.map_indexes.specs.ScanLaws.{slot_inside}
+use Rattle.map_indexes.proofs.ScanLaws.{scan_some, scan-emptied}
 use Rattle.map_indexes.proofs.scan.ScanIndexIndex.remove.Goals as goal
 
 pub returns-in_err-place-clause-hash : goal.returns-in_err-place-clause-hash

@@ -6,8 +6,9 @@ use Rattle.isa_model.specs.declared.map_defs.MapKind.TheVariants.{Hash}
 use Rattle.isa_model.specs.declared.map_defs.MapDef.{MapDef}
 use Rattle.maps.specs.Either.{places_of}
 use Rattle.isa_model.specs.Code.MapRows.{IsRow}
-use Rattle.maps.specs.Maps.{KeyFits-index, rows_of, starting_map}
-use Rattle.maps.specs.MapLaws.{rows_of-starting}
+use Rattle.maps.proofs.MapsLaws.{KeyFits-index}
+use Rattle.maps.specs.Maps.{rows_of, starting_map}
+use Rattle.maps.proofs.MapLaws.{rows_of-starting}
 use Rattle.maps.specs.StoreStates.{IsListed}
 use Rattle.maps.proofs.AllMaps.{state, rows-stores}
 use Rattle.maps.proofs.all.Maps.of_rows.Goals as goal

@@ -5,7 +5,8 @@ use Rattle.std.specs.List.{slice_get}
 use Rattle.std.specs.Option.{option_map}
 use Rattle.byteorder.specs.Endian.{little_bytes}
 use Rattle.maps.specs.Either.{places_of, kind_of}
-use Rattle.maps.specs.ReportOrder.{listed_of, with_key_of, listed-index, listed-past, listed-some, listed-key, listed-none}
+use Rattle.maps.specs.ReportOrder.{listed_of, with_key_of}
+use Rattle.maps.proofs.ReportOrderLaws.{listed-index, listed-past, listed-some, listed-key, listed-none}
 use Rattle.maps.proofs.either.EitherIndex.entry.Goals as goal
 use Rattle.maps.proofs.either.EitherIndex.entry.Goals.{After-slice_known-in-Array-1}
 

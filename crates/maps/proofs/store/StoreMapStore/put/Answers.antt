@@ -1,5 +1,5 @@
 use Rattle.std.proofs.Common.{sym, ap, ◌∙◌, arith}
-use Rattle.maps.specs.ContentLaws.{get-taken}
+use Rattle.maps.proofs.ContentLaws.{get-taken}
 use Rattle.maps.proofs.store.StoreMapStore.put.Goals as goal
 use Rattle.maps.proofs.store.StoreMapStore.put.Goals.{in-Some, in-None+in_ok-place-in-None}
 

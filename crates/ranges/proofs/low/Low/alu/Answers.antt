@@ -5,7 +5,7 @@ use Rattle.isa_model.specs.declared.instructions.AluOp.TheVariants.{Add, Sub, Si
 use Rattle.isa_model.specs.Code.Numbers.{alu}
 use Rattle.isa_model.specs.Code.NumberLemmas.{low_same}
 use Rattle.ranges.specs.Lows.{IsBetween, IsSignedBetween}
-use Rattle.ranges.specs.KeepsMaps.{keeps_map, keeps_signed_map}
+use Rattle.ranges.proofs.KeepsMaps.{keeps_map, keeps_signed_map}
 use Rattle.ranges.proofs.low.Low.alu.Goals as goal
 
 pub returns-in-Mov-clause-contains : goal.returns-in-Mov-clause-contains

@@ -2,7 +2,7 @@ use Rattle.std.proofs.Common.{ℕ, ◌≡◌, ◌+◌, ◌<◌, ◌/◌, ◌%◌
 use Rattle.std.proofs.lemmas.Bool.{cases_lt}
 use Rattle.ranges.specs.Joint.{IsAmong}
 use Rattle.ranges.specs.Lows.{Has}
-use Rattle.ranges.specs.EnclosesLaws.{enclosed_low}
+use Rattle.ranges.proofs.EnclosesLaws.{enclosed_low}
 use Rattle.ranges.proofs.LowLaws.{reached_map, either_reached, among_same, among_start, among_end, among_middle}
 use Rattle.ranges.proofs.low.Low.among.Goals as goal
 

@@ -1,10 +1,11 @@
 use Rattle.std.proofs.Common.{subst, arith}
 use Rattle.isa_model.specs.declared.sizes.Width.TheVariants.{Low32}
 use Rattle.isa_model.specs.Code.Numbers.{alu}
-use Rattle.isa_model.specs.Code.NumberLemmas.{alu_below, low_same}
+use Rattle.isa_model.proofs.NumberLemmas.{alu_below}
+use Rattle.isa_model.specs.Code.NumberLemmas.{low_same}
 use Rattle.ranges.specs.Wides as W
 use Rattle.ranges.specs.Lows.{Has, IsBetween}
-use Rattle.ranges.specs.KeepsMaps.{keeps_map}
+use Rattle.ranges.proofs.KeepsMaps.{keeps_map}
 use Rattle.ranges.proofs.low.Low.unsigned_alu.Goals as goal
 
 pub returns-clause-contains : goal.returns-clause-contains

@@ -7,12 +7,13 @@ use Rattle.isa_model.specs.declared.sizes.Width.TheVariants.{Low32, Full64}
 use Rattle.isa_model.specs.declared.instructions.AluOp.TheVariants.{Lsh}
 use Rattle.isa_model.specs.Code.Sizes.{width_bits}
 use Rattle.isa_model.specs.Code.Numbers.{alu, result_of, shift}
-use Rattle.isa_model.specs.Code.NumberLemmas.{alu_below, low_same}
+use Rattle.isa_model.proofs.NumberLemmas.{alu_below}
+use Rattle.isa_model.specs.Code.NumberLemmas.{low_same}
 use Rattle.ranges.specs.Wides as W
 use Rattle.ranges.specs.Lows as L
 use Rattle.ranges.specs.Ranges.{Has}
 use Rattle.ranges.proofs.Limits.{shl_mono}
-use Rattle.ranges.specs.KeepsMaps.{keeps_map, keeps_signed_map}
+use Rattle.ranges.proofs.KeepsMaps.{keeps_map, keeps_signed_map}
 use Rattle.ranges.proofs.KeepsLaws.{keeps_member, keeps_signed_member}
 use Rattle.ranges.proofs.LowResults.{low_result_of}
 use Rattle.ranges.proofs.RangeLaws.{constant_tight}

@@ -1,5 +1,5 @@
 use Rattle.std.proofs.Common.{refl}
-use Rattle.ranges.specs.EnclosesLaws.{enclosed_low}
+use Rattle.ranges.proofs.EnclosesLaws.{enclosed_low}
 use Rattle.ranges.proofs.range.Range.covers.Goals as goal
 
 pub returns-then-covers-clause-yes : goal.returns-then-covers-clause-yes

@@ -1,5 +1,5 @@
 use Rattle.std.proofs.lemmas.Option.{IfSome_then}
-use Rattle.ranges.specs.EnclosesLaws.{enclosed_has, enclosed_wide}
+use Rattle.ranges.proofs.EnclosesLaws.{enclosed_has, enclosed_wide}
 use Rattle.ranges.proofs.RangeLaws.{wide_trans}
 use Rattle.ranges.proofs.range.Range.limited.Goals as goal
 

@@ -1,7 +1,7 @@
 use Rattle.std.proofs.Common.{◌%◌, ◌^◌, subst, sym, ℕ}
 use Rattle.ranges.specs.Keeps.{extension_signed}
 use Rattle.ranges.specs.Lows.{Has}
-use Rattle.ranges.specs.FitsLaws.{narrower_fits}
+use Rattle.ranges.proofs.FitsLaws.{narrower_fits}
 use Rattle.ranges.proofs.range.Range.low_extended.Goals as goal
 
 pub returns-then-is_extended-clause-contains : goal.returns-then-is_extended-clause-contains

@@ -1,5 +1,5 @@
 use Rattle.std.proofs.lemmas.Option.{IfSome_then}
-use Rattle.ranges.specs.EnclosesLaws.{enclosed_low, enclosed_has}
+use Rattle.ranges.proofs.EnclosesLaws.{enclosed_low, enclosed_has}
 use Rattle.ranges.proofs.RangeLaws.{low_trans}
 use Rattle.ranges.proofs.range.Range.low_limited.Goals as goal
 

@@ -1,11 +1,11 @@
 use Rattle.std.proofs.Common.{◌≡◌, ◌%◌, ◌^◌, arith, subst, ap, ◌∙◌}
 use Rattle.isa_model.specs.Code.Numbers.{sign_extended}
-use Rattle.isa_model.specs.Code.ExtensionLemmas.{sign_extended_below}
+use Rattle.isa_model.proofs.ExtensionLemmas.{sign_extended_below}
 use Rattle.ranges.specs.Keeps.{extension_signed}
 use Rattle.ranges.specs.Ranges.{Has}
 use Rattle.ranges.proofs.Limits.{extended_same, extended_signed, extended_small}
 use Rattle.ranges.proofs.Extended.{extended_half, half_extended_signed}
-use Rattle.ranges.specs.FitsLaws.{narrower_fits}
+use Rattle.ranges.proofs.FitsLaws.{narrower_fits}
 use Rattle.ranges.proofs.RangeLaws.{wide_trans, low_trans, constant_tight}
 use Rattle.ranges.proofs.range.Range.sign_extend.Goals as goal
 

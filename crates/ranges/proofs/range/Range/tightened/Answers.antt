@@ -1,7 +1,7 @@
 use Rattle.std.proofs.Common.{◌^◌, inl, inr}
 use Rattle.std.proofs.lemmas.Bool.{cases_lt}
 use Rattle.std.proofs.lemmas.Option.{IfSome_then}
-use Rattle.ranges.specs.EnclosesLaws.{enclosed_has}
+use Rattle.ranges.proofs.EnclosesLaws.{enclosed_has}
 use Rattle.ranges.proofs.RangeLaws.{low_trans, either_tight}
 use Rattle.ranges.specs.Ranges.{Encloses}
 use Rattle.ranges.proofs.range.Range.tightened.Goals as goal

@@ -1,7 +1,7 @@
 use Rattle.std.proofs.Common.{◌^◌, inl, inr, arith}
 use Rattle.std.proofs.lemmas.Int.{ints}
 use Rattle.std.proofs.lemmas.Bool.{cases_lt}
-use Rattle.ranges.specs.EnclosesLaws.{enclosed_low}
+use Rattle.ranges.proofs.EnclosesLaws.{enclosed_low}
 use Rattle.ranges.specs.Joint.{IsAmong}
 use Rattle.ranges.specs.Wides.{HasHalf}
 use Rattle.ranges.proofs.LowLaws.{reached_map, either_reached, fits_between}

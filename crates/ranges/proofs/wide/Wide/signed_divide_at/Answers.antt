@@ -4,7 +4,7 @@ use Rattle.isa_model.specs.declared.sizes.Width.TheVariants.{Full64}
 use Rattle.isa_model.specs.declared.instructions.AluOp.TheVariants.{SignedDiv}
 use Rattle.isa_model.specs.Code.Sizes.{width_bits}
 use Rattle.ranges.specs.Wides.{IsSignedBetween}
-use Rattle.ranges.specs.KeepsMaps.{keeps_signed_map}
+use Rattle.ranges.proofs.KeepsMaps.{keeps_signed_map}
 use Rattle.ranges.proofs.wide.Wide.signed_divide_at.Goals as goal
 
 pub returns-in-Full64-clause-signed : goal.returns-in-Full64-clause-signed

@@ -1,4 +1,4 @@
-use Rattle.reg_state.specs.Constants.{range_constant_enclosed}
+use Rattle.reg_state.proofs.ConstantsLaws.{range_constant_enclosed}
 use Rattle.reg_state.proofs.scalars.Scalar.includes.Goals as goal
 
 pub returns-then-covers : goal.returns-then-covers

@@ -1,8 +1,8 @@
 use Rattle.std.proofs.Common.{◌<◌, ◌^◌, arith}
 use Rattle.std.proofs.lemmas.Int.{ints}
-use Rattle.known_bits.specs.MemberLaws.{bit_at-differing}
+use Rattle.known_bits.proofs.MemberLaws.{bit_at-differing}
 use Rattle.isa_model.specs.declared.sizes.Width.TheVariants.{Low32, Full64}
-use Rattle.ranges.specs.KeepsMaps.{keeps_map, keeps_signed_map}
+use Rattle.ranges.proofs.KeepsMaps.{keeps_map, keeps_signed_map}
 use Rattle.reg_state.proofs.scalars.ScalarDomain.alu.Goals as goal
 
 pub returns-clause-contains : goal.returns-clause-contains

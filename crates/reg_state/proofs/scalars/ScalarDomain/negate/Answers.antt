@@ -1,6 +1,6 @@
 use Rattle.std.proofs.Common.{◌<◌, ◌^◌, arith}
 use Rattle.std.proofs.lemmas.Int.{ints}
-use Rattle.known_bits.specs.MemberLaws.{bit_at-differing}
+use Rattle.known_bits.proofs.MemberLaws.{bit_at-differing}
 use Rattle.reg_state.proofs.scalars.ScalarDomain.negate.Goals as goal
 
 pub returns-clause-contains : goal.returns-clause-contains

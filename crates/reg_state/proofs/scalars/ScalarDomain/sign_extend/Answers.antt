@@ -1,9 +1,9 @@
 use Rattle.std.proofs.Common.{◌<◌, ◌%◌, ◌^◌, arith}
-use Rattle.known_bits.specs.MemberLaws.{bit_at-differing}
+use Rattle.known_bits.proofs.MemberLaws.{bit_at-differing}
 use Rattle.std.specs.Int.{w32, cast_signed}
-use Rattle.ranges.specs.FitsLaws.{fits_within}
+use Rattle.ranges.proofs.FitsLaws.{fits_within}
 use Rattle.ranges.specs.Keeps.{extension_signed}
-use Rattle.ranges.specs.EnclosesLaws.{enclosed_has, enclosed_low}
+use Rattle.ranges.proofs.EnclosesLaws.{enclosed_has, enclosed_low}
 use Rattle.reg_state.proofs.scalars.ScalarDomain.sign_extend.Goals as goal
 
 pub returns-clause-contains : goal.returns-clause-contains

@@ -3,7 +3,7 @@ use Rattle.std.proofs.lemmas.List.{get_or_default}
 use Rattle.stack_state.specs.declared.slots.Slot.{Slot}
 use Rattle.stack_state.specs.declared.slots.Slot.TheVariants.{Written}
 use Rattle.stack_state.specs.Slots.{IsFill}
-use Rattle.stack_state.specs.FillLaws.{fills}
+use Rattle.stack_state.proofs.FillLaws.{fills}
 use Rattle.stack_state.proofs.stacks.StackState.fill.Goals as goal
 
 pub returns-clause-meant : goal.returns-clause-meant

@@ -4,7 +4,7 @@ use Rattle.std.proofs.lemmas.List.Edits.{map_over_more}
 use Rattle.stack_state.specs.declared.slots.Slot.{Slot}
 use Rattle.stack_state.specs.Slots.{forgotten_slot, forgotten}
 use Rattle.stack_state.specs.StackMeaning.{Forgets}
-use Rattle.stack_state.specs.FillLaws.{forgets}
+use Rattle.stack_state.proofs.FillLaws.{forgets}
 use Rattle.stack_state.proofs.stacks.StackState.forget_map.Goals as goal
 
 pub loop-slot-preserved : goal.loop-slot-preserved

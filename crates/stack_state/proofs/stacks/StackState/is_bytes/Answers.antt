@@ -1,5 +1,5 @@
 use Rattle.std.proofs.Common.{arith}
-use Rattle.stack_state.specs.StackLaws.{are_bytes}
+use Rattle.stack_state.proofs.StackLaws.{are_bytes}
 use Rattle.stack_state.proofs.stacks.StackState.is_bytes.Goals as goal
 
 pub returns-clause-meant : goal.returns-clause-meant

@@ -4,7 +4,7 @@ use Rattle.stack_state.specs.declared.slots.Slot.{Slot}
 use Rattle.stack_state.specs.declared.slots.Slot.TheVariants.{Written}
 use Rattle.stack_state.specs.Slots.{AreMarked, AreNumbers}
 use Rattle.stack_state.specs.StackMeaning.{Loads}
-use Rattle.stack_state.specs.StackLaws.{loads}
+use Rattle.stack_state.proofs.StackLaws.{loads}
 use Rattle.stack_state.proofs.stacks.StackState.load.Goals as goal
 
 pub returns-then-is_bytes-clause-meant : goal.returns-then-is_bytes-clause-meant

@@ -1,4 +1,4 @@
-use Rattle.stack_state.specs.StackLaws.{StackMeans-new}
+use Rattle.stack_state.proofs.StackLaws.{StackMeans-new}
 use Rattle.stack_state.proofs.stacks.StackState.new.Goals as goal
 
 pub returns-clause-meant : goal.returns-clause-meant

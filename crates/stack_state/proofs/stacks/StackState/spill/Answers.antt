@@ -1,5 +1,5 @@
 use Rattle.std.proofs.Common.{arith, rules}
-use Rattle.stack_state.specs.StackLaws.{spills}
+use Rattle.stack_state.proofs.StackLaws.{spills}
 use Rattle.stack_state.proofs.stacks.StackState.spill.Goals as goal
 
 pub returns-clause-meant : goal.returns-clause-meant

@@ -1,5 +1,6 @@
 use Rattle.std.proofs.Common.{◌*◌, Bool, false, List, length, replicate, subst, arith}
-use Rattle.stack_state.specs.Marks.{AreFree, IsFreshAt, Marks, marked-replicate, is_marked-replicate, IsLeastFresh-marks}
+use Rattle.stack_state.specs.Marks.{AreFree, IsFreshAt, Marks}
+use Rattle.stack_state.proofs.MarksLaws.{marked-replicate, is_marked-replicate, IsLeastFresh-marks}
 use Rattle.stack_state.proofs.states.State.fresh_identity.Goals as goal
 
 pub first_free-requires : goal.first_free-requires

@@ -2,7 +2,7 @@ use Rattle.std.proofs.Common.{◌≡◌, ◌∙◌, ℕ, ◌-◌, take, length, 
 use Rattle.std.proofs.lemmas.Option.{get_or_from_slice_get}
 use Rattle.stack_state.specs.declared.states.State.{State}
 use Rattle.stack_state.specs.Meaning.{no_frame, frame_of, kind_at, registers_of}
-use Rattle.stack_state.specs.MeaningLaws.{frame_of-caller}
+use Rattle.stack_state.proofs.MeaningLaws.{frame_of-caller}
 use Rattle.stack_state.specs.Effects.{map_kinds}
 use Rattle.stack_state.specs.Calls.{without_frame, resumed_of, left}
 use Rattle.stack_state.proofs.states.State.leave.Goals as goal

@@ -1,4 +1,4 @@
-use Rattle.maps.specs.MapLaws.{rows_of-starting}
+use Rattle.maps.proofs.MapLaws.{rows_of-starting}
 use Rattle.run_tests.proofs.tests.machines.machines.machine_of.Goals as goal
 
 pub new-requires-in-Ok : goal.new-requires-in-Ok

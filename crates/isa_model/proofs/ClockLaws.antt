@@ -1,0 +1,347 @@
+-- A run asks the clock at most once a step, so only the clock's first answers count.
+use Rattle.std.specs.Prelude.{◌≡◌, ℕ, zero, suc, ◌+◌, ◌<◌, ◌≤◌, ◌==◌, Bool, true, false, if◌then◌else◌, ℤ, ◌+ℤ◌, List, map, length, slice_index, Option, Some, None, Result, Ok, Err, IfOk, refl}
+use Rattle.std.specs.List.{list_any, range_with_len}
+use Rattle.std.proofs.Common.{ap, ◌∙◌, arith}
+use Rattle.std.proofs.lemmas.List.FromFn.{get_or-map-range_with_len}
+use Rattle.isa_model.specs.declared.registers.Reg.{Reg}
+use Rattle.isa_model.specs.declared.registers.Reg.TheVariants.{R0, R1, R2, R3, R4}
+use Rattle.isa_model.specs.declared.sizes.Width.{Width}
+use Rattle.isa_model.specs.declared.sizes.Width.TheVariants.{Full64}
+use Rattle.isa_model.specs.declared.sizes.Size.{Size}
+use Rattle.isa_model.specs.declared.sizes.Size.TheVariants.{U8, U16, U32, U64}
+use Rattle.isa_model.specs.declared.instructions.Place.{Place}
+use Rattle.isa_model.specs.declared.instructions.Insn.{Insn}
+use Rattle.isa_model.specs.declared.instructions.Insn.TheVariants.{Alu, Neg, MovSx, ByteSwap, LoadNumber, LoadMap, LoadMapValue, Load, LoadSx, StoreConstant, Store, Atomic, Exchange, CompareExchange, Jump, JumpLong, JumpIf, CallHelper, CallLocal, Exit}
+use Rattle.isa_model.specs.declared.values.Region.{Region}
+use Rattle.isa_model.specs.declared.values.Region.TheVariants as region
+use Rattle.isa_model.specs.declared.values.Value.{Value}
+use Rattle.isa_model.specs.declared.values.Value.TheVariants.{Unset, Num, Ptr}
+use Rattle.isa_model.specs.declared.values.Cell.{Cell}
+use Rattle.isa_model.specs.declared.values.Cell.TheVariants.{Byte}
+use Rattle.isa_model.specs.declared.map_defs.MapDef.{MapDef}
+use Rattle.isa_model.specs.declared.helpers.Helper.{Helper}
+use Rattle.isa_model.specs.declared.helpers.Helper.TheVariants.{MapLookupElem, MapUpdateElem, MapDeleteElem, KtimeGetNs}
+use Rattle.isa_model.specs.declared.frames.FrameHead.{FrameHead}
+use Rattle.isa_model.specs.declared.ends.TrapReason.{TrapReason}
+use Rattle.isa_model.specs.declared.versions.Version.{Version}
+use Rattle.isa_model.specs.declared.ends.TrapReason.TheVariants.{UnsetRead, ReadOnly, TooManyFrames, BadAction}
+use Rattle.isa_model.specs.Code.Sizes.{width_size}
+use Rattle.isa_model.specs.Code.Numbers.{low, unsigned, alu, bytes_of, atomic_alu}
+use Rattle.isa_model.specs.Code.Helpers.{helper_numbered}
+use Rattle.isa_model.specs.Code.Instructions.{Program, fetch, reads, writes, is_frame_pointer}
+use Rattle.isa_model.specs.Machine.States.{Entries, State, reg, content_of}
+use Rattle.isa_model.specs.Machine.Memory.{and_then, pieces, index_at, place_of, put, write, load_number, store_number, store_pointer, store}
+use Rattle.isa_model.specs.Code.Limits.{max_call_frames}
+use Rattle.isa_model.specs.Machine.Calls.{enter, leave}
+use Rattle.isa_model.specs.Machine.MapContents.{update_answer, delete_answer}
+use Rattle.isa_model.specs.Machine.MapHelpers.{Helped, put_bytes, remove_key, map_update_elem, map_delete_elem}
+use Rattle.isa_model.specs.Machine.HelperCalls.{map_argument, bytes_argument, number_argument, bytes_at, lookup_call, update_call, delete_call, helper_call, after_call}
+use Rattle.isa_model.specs.Machine.Steps.{StepResult, Next, Finished, Trapped, map_pointer, value_pointer, base_of, destination, sets, goes_on, branches, test_of, is_answer, finishes, swaps_in, fetched_into, act, is_unset, performed_at, step}
+use Rattle.isa_model.specs.Running.Runs.{start_state, Progress, GoesOn, Ended, after_step, advanced, progress, turn_of, turn}
+use Rattle.isa_model.proofs.ValueLaws.{IfOk-and_then, IfOk-then}
+use Rattle.isa_model.proofs.StepLaws.{IfNext, with_number}
+
+-- ---- how often a step asks
+
+-- the clock was asked as often
+abbrev pub SameCalls : State → State → Type 0
+SameCalls s t = t.clock_calls ≡ s.clock_calls
+
+put_calls : (s : State) (r : Region) (i : ℕ) (new : List Cell) → SameCalls s (put s r i new)
+put_calls s (region.Frame n) i new = refl
+put_calls s region.Packet i new = refl
+put_calls s (region.MapValue m n) i new = refl
+put_calls s region.Context i new = refl
+put_calls s region.PacketEnd i new = refl
+put_calls s (region.Map m) i new = refl
+
+write_calls : (s : State) (r : Region) (o : Option ℕ) (new : List Cell) → IfOk (write s r o new) (SameCalls s)
+write_calls s r o new = found (place_of s r o (length new))
+  where
+    found : (place : Result ℕ TrapReason) → IfOk (and_then place (λ i. Ok (put s r i new))) (SameCalls s)
+    found (Ok i) = put_calls s r i new
+    found (Err e) = tt
+
+store_number_calls : (s : State) (size : Size) (v : Value) (by : ℤ) (n : ℕ) → IfOk (store_number s size v by n) (SameCalls s)
+store_number_calls s size (Ptr r z) by n = write_calls s r (index_at r (z +ℤ by)) (map Byte (bytes_of size n))
+store_number_calls s size (Num m) by n = tt
+store_number_calls s size Unset by n = tt
+
+store_pointer_calls : (s : State) (size : Size) (v : Value) (by : ℤ) (q : Region) (y : ℤ) → IfOk (store_pointer s size v by q y) (SameCalls s)
+store_pointer_calls s U64 (Ptr (region.Frame n) z) by q y = write_calls s (region.Frame n) (index_at (region.Frame n) (z +ℤ by)) (pieces q y)
+store_pointer_calls s U64 (Ptr region.Context z) by q y = tt
+store_pointer_calls s U64 (Ptr region.Packet z) by q y = tt
+store_pointer_calls s U64 (Ptr region.PacketEnd z) by q y = tt
+store_pointer_calls s U64 (Ptr (region.Map m) z) by q y = tt
+store_pointer_calls s U64 (Ptr (region.MapValue m n) z) by q y = tt
+store_pointer_calls s U64 (Num n) by q y = tt
+store_pointer_calls s U64 Unset by q y = tt
+store_pointer_calls s U8 v by q y = tt
+store_pointer_calls s U16 v by q y = tt
+store_pointer_calls s U32 v by q y = tt
+
+store_calls : (s : State) (size : Size) (base : Value) (by : ℤ) (v : Value) → IfOk (store s size base by v) (SameCalls s)
+store_calls s size base by (Num n) = store_number_calls s size base by n
+store_calls s size base by (Ptr q y) = store_pointer_calls s size base by q y
+store_calls s size base by Unset = tt
+
+fetched_into_calls : (fetch : Bool) (r : Reg) (old : ℕ) (s : State) → SameCalls s (fetched_into fetch r old s)
+fetched_into_calls true r old s = refl
+fetched_into_calls false r old s = refl
+
+swaps_in_calls : (s : State) (w : Width) (place : Place) (new : ℕ → ℕ) (fetch : Bool) (r : Reg)
+    → IfOk (swaps_in s w place new (fetched_into fetch r)) (SameCalls s)
+swaps_in_calls s w place new fetch r = found (load_number s (width_size w) (base_of s place) place.offset)
+  where
+    found : (old : Result ℕ TrapReason)
+        → IfOk (and_then old (λ n. and_then (store_number s (width_size w) (base_of s place) place.offset (new n)) (λ t. Ok (fetched_into fetch r n t)))) (SameCalls s)
+    found (Ok n) =
+        IfOk-and_then (SameCalls s) (SameCalls s) (store_number s (width_size w) (base_of s place) place.offset (new n)) (λ t. Ok (fetched_into fetch r n t))
+        (store_number_calls s (width_size w) (base_of s place) place.offset (new n)) (λ t h. fetched_into_calls fetch r n t ∙ h)
+    found (Err e) = tt
+
+-- at most one call a step
+abbrev pub OneCall : State → State → Type 0
+OneCall s t = t.clock_calls ≤ s.clock_calls + 1
+
+goes_on_calls : (s : State) (i : Insn) (r : Result State TrapReason) → IfOk r (SameCalls s) → IfNext (goes_on s i r) (OneCall s)
+goes_on_calls s i (Ok t) h = omega arith
+goes_on_calls s i (Err e) h = tt
+
+goes_on_one_call : (s : State) (i : Insn) (r : Result State TrapReason) → IfOk r (OneCall s)
+    → IfNext (goes_on s i r) (OneCall s)
+goes_on_one_call s i (Ok t) h = h
+goes_on_one_call s i (Err e) h = tt
+
+branches_calls : (p : Program) (s : State) (by : ℤ) (r : Result Bool TrapReason) → IfNext (branches s p by r) (OneCall s)
+branches_calls p s by (Ok true) = omega arith
+branches_calls p s by (Ok false) = omega arith
+branches_calls p s by (Err e) = tt
+
+sets_calls : (s : State) (i : Insn) (d : Reg) (r : Result Value TrapReason) → IfNext (sets s i d r) (OneCall s)
+sets_calls s i d (Ok v) = omega arith
+sets_calls s i d (Err e) = tt
+
+-- a helper asks the clock at most once
+
+updated_calls : (row : MapDef) (s : State) (m : ℕ) (key bytes : List ℕ) (flags : ℕ)
+    → SameCalls s (map_update_elem row s m key bytes flags).state
+updated_calls row s m key bytes flags = by (update_answer row (content_of s m) key flags == 0)
+  where
+    by : (b : Bool) → SameCalls s (if b then put_bytes s m key bytes else s)
+    by true = refl
+    by false = refl
+
+deleted_calls : (row : MapDef) (s : State) (m : ℕ) (key : List ℕ) → SameCalls s (map_delete_elem row s m key).state
+deleted_calls row s m key = by (delete_answer row (content_of s m) key == 0)
+  where
+    by : (b : Bool) → SameCalls s (if b then remove_key s m key else s)
+    by true = refl
+    by false = refl
+
+-- the state that a helper leaves
+abbrev LeavesSame : State → Helped → Type 0
+LeavesSame s helped = SameCalls s helped.state
+
+lookup_call_calls : (p : Program) (s : State) → IfOk (lookup_call p s) (LeavesSame s)
+lookup_call_calls p s =
+    IfOk-then (LeavesSame s) (map_argument p (reg s R1)) _ (λ m.
+    IfOk-then (LeavesSame s) (bytes_argument (reg s R2)) _ (λ key_at.
+    IfOk-then (LeavesSame s) (bytes_at s key_at m.row.key_size) _ (λ key. refl)))
+
+update_call_calls : (p : Program) (s : State) → IfOk (update_call p s) (LeavesSame s)
+update_call_calls p s =
+    IfOk-then (LeavesSame s) (map_argument p (reg s R1)) _ (λ m.
+    IfOk-then (LeavesSame s) (bytes_argument (reg s R2)) _ (λ key_at.
+    IfOk-then (LeavesSame s) (bytes_argument (reg s R3)) _ (λ value_at.
+    IfOk-then (LeavesSame s) (number_argument (reg s R4)) _ (λ flags.
+    IfOk-then (LeavesSame s) (bytes_at s key_at m.row.key_size) _ (λ key.
+    IfOk-then (LeavesSame s) (bytes_at s value_at m.row.value_size) _ (λ bytes.
+    updated_calls m.row s m.index key bytes flags))))))
+
+delete_call_calls : (p : Program) (s : State) → IfOk (delete_call p s) (LeavesSame s)
+delete_call_calls p s =
+    IfOk-then (LeavesSame s) (map_argument p (reg s R1)) _ (λ m.
+    IfOk-then (LeavesSame s) (bytes_argument (reg s R2)) _ (λ key_at.
+    IfOk-then (LeavesSame s) (bytes_at s key_at m.row.key_size) _ (λ key.
+    deleted_calls m.row s m.index key)))
+
+after_call_calls : (s : State) (called : Result Helped TrapReason) → IfOk called (LeavesSame s)
+    → IfOk (after_call called) (OneCall s)
+after_call_calls s (Ok helped) h = omega arith
+after_call_calls s (Err e) h = tt
+
+helper_call_calls : (p : Program) (clock : ℕ → ℕ) (s : State) (o : Option Helper)
+    → IfOk (after_call (helper_call p clock s o)) (OneCall s)
+helper_call_calls p clock s (Some MapLookupElem) = after_call_calls s (lookup_call p s) (lookup_call_calls p s)
+helper_call_calls p clock s (Some MapUpdateElem) = after_call_calls s (update_call p s) (update_call_calls p s)
+helper_call_calls p clock s (Some MapDeleteElem) = after_call_calls s (delete_call p s) (delete_call_calls p s)
+helper_call_calls p clock s (Some KtimeGetNs) = omega arith
+helper_call_calls p clock s None = tt
+
+if_next : (P : State → Type 0) (b : Bool) (q r : StepResult) → IfNext q P → IfNext r P → IfNext (if b then q else r) P
+if_next P true q r h k = h
+if_next P false q r h k = k
+
+finishes_calls : (s : State) (version : Version) (v : Value) → IfNext (finishes version v) (OneCall s)
+finishes_calls s version (Num n) = if_next (OneCall s) (is_answer version n) (Finished n) (Trapped BadAction) tt tt
+finishes_calls s version (Ptr r z) = tt
+finishes_calls s version Unset = tt
+
+act_calls : (p : Program) (clock : ℕ → ℕ) (s : State) (i : Insn) → IfNext (act p clock s i) (OneCall s)
+unfolding act
+act_calls p clock s (Alu w op d x) = sets_calls s (Alu w op d x) d _
+act_calls p clock s (Neg w d) = sets_calls s (Neg w d) d _
+act_calls p clock s (MovSx e d r) = sets_calls s (MovSx e d r) d _
+act_calls p clock s (ByteSwap order span d) = sets_calls s (ByteSwap order span d) d _
+act_calls p clock s (LoadNumber d n) = sets_calls s (LoadNumber d n) d (Ok (Num n))
+act_calls p clock s (LoadMap d m) = sets_calls s (LoadMap d m) d (Ok (map_pointer m))
+act_calls p clock s (LoadMapValue d m offset) = sets_calls s (LoadMapValue d m offset) d
+    (Ok (value_pointer s m offset))
+act_calls p clock s (Load size d place) = sets_calls s (Load size d place) d _
+act_calls p clock s (LoadSx size d place) = sets_calls s (LoadSx size d place) d _
+act_calls p clock s (StoreConstant size place n) =
+    goes_on_calls s (StoreConstant size place n) _ (store_calls s size (base_of s place) place.offset (Num (unsigned Full64 n)))
+act_calls p clock s (Store size place r) = goes_on_calls s (Store size place r) _ (store_calls s size (base_of s place) place.offset (reg s r))
+act_calls p clock s (Atomic w op fetch place r) =
+    goes_on_calls s (Atomic w op fetch place r) _
+    (with_number (SameCalls s) (reg s r) _ (λ b. swaps_in_calls s w place (λ a. alu (atomic_alu op) w a b) fetch r))
+act_calls p clock s (Exchange w place r) =
+    goes_on_calls s (Exchange w place r) _ (with_number (SameCalls s) (reg s r) _ (λ b. swaps_in_calls s w place (λ a. b) true r))
+act_calls p clock s (CompareExchange w place r) =
+    goes_on_calls s (CompareExchange w place r) _
+    (with_number (SameCalls s) (reg s r) _ (λ b. with_number (SameCalls s) (reg s R0) _
+    (λ expected. swaps_in_calls s w place (λ a. if a == low w expected then b else a) true R0)))
+act_calls p clock s (Jump by) = omega arith
+act_calls p clock s (JumpLong by) = omega arith
+act_calls p clock s (JumpIf cond by) = branches_calls p s by (test_of s cond)
+act_calls p clock s (CallHelper number) =
+    goes_on_one_call s (CallHelper number) _ (helper_call_calls p clock s (helper_numbered number))
+act_calls p clock s (CallLocal by) =
+    if_next (OneCall s) (length s.frames == max_call_frames) (Trapped TooManyFrames) (Next (enter s (destination p s.slot by))) tt (omega arith)
+act_calls p clock s Exit =
+    if_next (OneCall s) (length s.frames == 1) (finishes p.version (reg s R0)) (Next (leave s)) (finishes_calls s p.version (reg s R0)) (omega arith)
+
+performed_at_calls : (p : Program) (clock : ℕ → ℕ) (s : State) (o : Option Insn) → IfNext (performed_at p clock s o) (OneCall s)
+performed_at_calls p clock s None = tt
+performed_at_calls p clock s (Some i) =
+    if_next (OneCall s) (list_any (λ r. is_unset (reg s r)) (reads i)) (Trapped UnsetRead) _ tt
+    (if_next (OneCall s) (is_frame_pointer (writes i)) (Trapped ReadOnly) (act p clock s i) tt (act_calls p clock s i))
+
+-- a step asks the clock at most once
+pub step-clock_calls : (p : Program) (clock : ℕ → ℕ) (s : State) → IfNext (step p clock s) (OneCall s)
+unfolding step
+step-clock_calls p clock s = performed_at_calls p clock s (fetch p s.slot)
+
+-- ---- which answer counts
+
+helper_call-clock : (p : Program) (clock other : ℕ → ℕ) (s : State) (o : Option Helper)
+    → clock s.clock_calls ≡ other s.clock_calls
+    → helper_call p clock s o ≡ helper_call p other s o
+helper_call-clock p clock other s (Some MapLookupElem) h = refl
+helper_call-clock p clock other s (Some MapUpdateElem) h = refl
+helper_call-clock p clock other s (Some MapDeleteElem) h = refl
+helper_call-clock p clock other s (Some KtimeGetNs) h = ap (λ n. Ok (clock_answer s n)) h
+  where
+    -- an answer of the clock
+    clock_answer : State → ℕ → Helped
+    clock_answer s n = record { answer = Num n; state = record s { clock_calls = s.clock_calls + 1 } }
+helper_call-clock p clock other s None h = refl
+
+act-clock : (p : Program) (clock other : ℕ → ℕ) (s : State) (i : Insn) → clock s.clock_calls ≡ other s.clock_calls → act p clock s i ≡ act p other s i
+unfolding act
+act-clock p clock other s (Alu w op d x) h = refl
+act-clock p clock other s (Neg w d) h = refl
+act-clock p clock other s (MovSx e d r) h = refl
+act-clock p clock other s (ByteSwap order span d) h = refl
+act-clock p clock other s (LoadNumber d n) h = refl
+act-clock p clock other s (LoadMap d m) h = refl
+act-clock p clock other s (LoadMapValue d m offset) h = refl
+act-clock p clock other s (Load size d place) h = refl
+act-clock p clock other s (LoadSx size d place) h = refl
+act-clock p clock other s (StoreConstant size place n) h = refl
+act-clock p clock other s (Store size place r) h = refl
+act-clock p clock other s (Atomic w op fetch place r) h = refl
+act-clock p clock other s (Exchange w place r) h = refl
+act-clock p clock other s (CompareExchange w place r) h = refl
+act-clock p clock other s (Jump by) h = refl
+act-clock p clock other s (JumpLong by) h = refl
+act-clock p clock other s (JumpIf cond by) h = refl
+act-clock p clock other s (CallHelper number) h =
+    ap (λ called. goes_on s (CallHelper number) (after_call called))
+    (helper_call-clock p clock other s (helper_numbered number) h)
+act-clock p clock other s (CallLocal by) h = refl
+act-clock p clock other s Exit h = refl
+
+performed_at-clock : (p : Program) (clock other : ℕ → ℕ) (s : State) (o : Option Insn) → clock s.clock_calls ≡ other s.clock_calls
+    → performed_at p clock s o ≡ performed_at p other s o
+performed_at-clock p clock other s None h = refl
+performed_at-clock p clock other s (Some i) h =
+    ap (λ r. if list_any (λ r. is_unset (reg s r)) (reads i) then Trapped UnsetRead else if is_frame_pointer (writes i) then Trapped ReadOnly else r)
+    (act-clock p clock other s i h)
+
+-- a step depends on the one answer that it may ask for
+pub step-clock : (p : Program) (clock other : ℕ → ℕ) (s : State) → clock s.clock_calls ≡ other s.clock_calls → step p clock s ≡ step p other s
+unfolding step
+step-clock p clock other s h = performed_at-clock p clock other s (fetch p s.slot) h
+
+-- ---- runs
+
+-- a run of n steps asked the clock at most n times
+abbrev pub CallsBelow : ℕ → ℕ → Progress → Type 0
+CallsBelow c n (GoesOn t) = t.clock_calls ≤ c + n
+CallsBelow c n (Ended e t) = Unit {0}
+
+advanced_calls : (p : Program) (clock : ℕ → ℕ) (c n : ℕ) (q : Progress) → CallsBelow c n q → CallsBelow c (suc n) (advanced p clock n q)
+advanced_calls p clock c n (Ended e t) h = tt
+advanced_calls p clock c n (GoesOn t) h = stepped (step p clock t) (step-clock_calls p clock t)
+  where
+    stepped : (r : StepResult) → IfNext r (OneCall t) → CallsBelow c (suc n) (after_step n t r)
+    stepped (Next u) k = omega arith
+    stepped (Finished a) k = tt
+    stepped (Trapped e) k = tt
+
+pub progress-clock_calls : (p : Program) (clock : ℕ → ℕ) (n : ℕ) (s : State) → CallsBelow s.clock_calls n (progress p clock n s)
+unfolding progress
+progress-clock_calls p clock zero s = omega arith
+progress-clock_calls p clock (suc n) s = advanced_calls p clock s.clock_calls n (progress p clock n s) (progress-clock_calls p clock n s)
+
+advanced-clock : (p : Program) (clock other : ℕ → ℕ) (c n m : ℕ) (q : Progress) → ((k : ℕ) → k < m → clock k ≡ other k) → c + n < m → CallsBelow c n q
+    → advanced p clock n q ≡ advanced p other n q
+advanced-clock p clock other c n m (Ended e t) same within h = refl
+advanced-clock p clock other c n m (GoesOn t) same within h = ap (after_step n t) (step-clock p clock other t (same t.clock_calls (omega arith)))
+
+-- two clocks that agree on their first m answers are one to a run of at most m steps
+pub progress-clock : (p : Program) (clock other : ℕ → ℕ) (n m : ℕ) (s : State) → ((k : ℕ) → k < m → clock k ≡ other k) → s.clock_calls + n ≤ m
+    → progress p clock n s ≡ progress p other n s
+unfolding progress
+progress-clock p clock other zero m s same within = refl
+progress-clock p clock other (suc n) m s same within =
+    advanced-clock p clock other s.clock_calls n m (progress p clock n s) same (omega arith) (progress-clock_calls p clock n s)
+    ∙ ap (advanced p other n) (progress-clock p clock other n m s same (omega arith))
+
+-- and to a turn within a limit of m steps
+pub turn-clock : (p : Program) (limit : ℕ) (clock other : ℕ → ℕ) (head : FrameHead) (packet : List ℕ) (contents : List Entries)
+    → ((k : ℕ) → k < limit → clock k ≡ other k) → turn p limit clock head packet contents ≡ turn p limit other head packet contents
+unfolding turn start_state
+turn-clock p limit clock other head packet contents same =
+    ap turn_of (progress-clock p clock other limit limit (start_state head packet contents) same (omega arith))
+
+-- ---- a clock as a list of answers
+
+-- the answer by place, and 0 past the end
+abbrev pub clock_of : List ℕ → ℕ → ℕ
+clock_of answers k = slice_index answers k
+
+-- the first n answers of a clock
+abbrev pub answers_of : (ℕ → ℕ) → ℕ → List ℕ
+answers_of clock n = map clock (range_with_len 0 n)
+
+pub clock_of-answers_of : (clock : ℕ → ℕ) (n k : ℕ) → k < n → clock_of (answers_of clock n) k ≡ clock k
+clock_of-answers_of clock n k h = get_or-map-range_with_len clock 0 n k k 0 h (omega arith)
+
+-- a clock and the list of its first answers are one to a turn within that many steps
+pub turn-answers_of : (p : Program) (limit n : ℕ) (clock : ℕ → ℕ) (head : FrameHead) (packet : List ℕ) (contents : List Entries) → limit ≤ n
+    → turn p limit (clock_of (answers_of clock n)) head packet contents ≡ turn p limit clock head packet contents
+turn-answers_of p limit n clock head packet contents le =
+    turn-clock p limit (clock_of (answers_of clock n)) clock head packet contents (λ k h. clock_of-answers_of clock n k (omega arith))

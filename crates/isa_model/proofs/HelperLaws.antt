@@ -1,0 +1,102 @@
+-- One map of a state, and what wide loads of maps give.
+use Rattle.std.specs.Prelude.{◌≡◌, ℕ, zero, suc, ◌<◌, List, [], ◌∷◌, ◌++◌, map, length, slice_get, slice_index_or, All, Option, Some, None, IsSomeAnd, refl}
+use Rattle.std.specs.List.{flat_map}
+use Rattle.std.proofs.Common.{sym, subst, arith}
+use Rattle.std.proofs.Math.Seq.{take-append_seam, drop-append_seam}
+use Rattle.std.proofs.Math.ListN.{get_or-map as get_or-map_default}
+use Rattle.std.proofs.lemmas.Option.{slice_get_within, get_or_from_slice_get}
+use Rattle.std.proofs.lemmas.List.{length-map}
+use Rattle.std.proofs.lemmas.List.Elements.{All-nil, All-get_or, All-take, All-drop, at_from_Contains}
+use Rattle.byteorder.specs.Endian.{little_bytes}
+use Rattle.isa_model.specs.declared.map_defs.MapDef.{MapDef}
+use Rattle.isa_model.specs.declared.map_defs.MapKind.{MapKind}
+use Rattle.isa_model.specs.declared.map_defs.MapKind.TheVariants.{Array}
+use Rattle.isa_model.specs.Code.Instructions.{Program}
+use Rattle.isa_model.specs.Code.MapRows.{IsRow, HoldsOffset}
+use Rattle.isa_model.specs.Machine.States.{Stored, Entries, entries_of, State, content_of}
+use Rattle.isa_model.specs.Machine.Steps.{one_serial, map_pointer, value_pointer}
+use Rattle.isa_model.specs.Machine.MachineStates.{keys_of, KeysFit, FitsRow, FitRows, IsValue, value_serials, live_serials, IsState}
+use Rattle.isa_model.proofs.StateLaws.{serial_of}
+
+-- ---- one map of a state
+
+-- what holds of all parts in a row, holds of each part
+All-part : {X Y : Type 0} (P : Y → Type 0) (f : X → List Y) (xs : List X) (i : ℕ) (d : X) → f d ≡ []
+    → All P (flat_map f xs)
+    → All P (f (slice_index_or xs i d))
+All-part P f [] i d e h = subst (All P) (sym e) (All-nil P)
+All-part P f (x ∷ xs) zero d e h =
+    subst (All P) (take-append_seam (f x) (flat_map f xs)) (All-take P (length (f x)) (f x ++ flat_map f xs) h)
+All-part P f (x ∷ xs) (suc i) d e h =
+    All-part P f xs i d e (subst (All P) (drop-append_seam (f x) (flat_map f xs))
+    (All-drop P (length (f x)) (f x ++ flat_map f xs) h))
+
+-- the serials of a map's values were given
+pub value_serials_given : (p : Program) (s : State) (m : ℕ) → IsState p s
+    → All (λ n. n < s.next_serial) (value_serials (content_of s m))
+value_serials_given p s m k =
+    let values = flat_map value_serials s.maps in
+    let P : ℕ → Type 0 = λ n. n < s.next_serial in
+    All-part P value_serials s.maps m [] refl
+    (subst (All P) (take-append_seam values (map serial_of s.frames))
+    (All-take P (length values) (live_serials s) k.given))
+
+-- a map's content fits its row
+pub content_fits : (p : Program) (s : State) (m : ℕ) (row : MapDef) → slice_get p.maps m ≡ Some row → IsState p s
+    → FitsRow row (entries_of (content_of s m))
+content_fits p s m row e k =
+    subst (FitsRow row) (get_or-map_default entries_of s.maps m []) (at p.maps (map entries_of s.maps) m e k.maps)
+  where
+    at : (rows : List MapDef) (contents : List Entries) (m : ℕ) → slice_get rows m ≡ Some row → FitRows rows contents
+        → FitsRow row (slice_index_or contents m [])
+    at [] contents m e h = absurd cc
+    at (r ∷ rows) [] m e h = absurd h
+    at (r ∷ rows) (c ∷ contents) zero e h = let same : r ≡ row = cc in subst (λ x. FitsRow x c) same h.0
+    at (r ∷ rows) (c ∷ contents) (suc m) e h = at rows contents m e h.1
+
+-- ---- wide loads of maps
+
+pub map_pointer_fits : (rows next m : ℕ) → m < rows → IsValue rows next (map_pointer m)
+map_pointer_fits rows next m h = (h, omega arith)
+
+-- an array of one entry has that entry
+has_entry : (kind : MapKind) (entries : ℕ) (keys : List (List ℕ)) → kind ≡ Array → entries ≡ 1
+    → KeysFit kind entries keys → 0 < length keys
+has_entry kind entries keys array one h =
+    let there = (subst (λ k. KeysFit k entries keys) array h).0 0 (omega arith) in
+    let at = at_from_Contains keys (little_bytes 4 0) there in
+    omega (arith, at.1)
+
+one_serial_given : (p : Program) (s : State) (m : ℕ) (row : MapDef) (offset : ℕ) → slice_get p.maps m ≡ Some row
+    → HoldsOffset offset row → IsState p s
+    → one_serial (content_of s m) < s.next_serial
+one_serial_given p s m row offset e h k =
+    let content = content_of s m in
+    let none : List ℕ × Stored = ([], record { serial = 0; bytes = [] }) in
+    let fits = content_fits p s m row e k in
+    let some = has_entry row.kind row.entries (keys_of (entries_of content)) h.array h.one fits.keys in
+    let long = length-map {B = List ℕ × List ℕ} content (λ e. (e.0, e.1.bytes)) in
+    let keyed = length-map (entries_of content) (λ e. e.0) in
+    let serials = length-map content (λ e. e.1.serial) in
+    let found : slice_index_or (value_serials content) 0 0 ≡ one_serial content =
+    get_or-map_default (λ e. e.1.serial) content 0 none in
+    subst (λ n. n < s.next_serial) found
+    (All-get_or (λ n. n < s.next_serial) (value_serials content) 0 0 (omega arith) (value_serials_given p s m k))
+
+row_within : (rows : List MapDef) (m : ℕ) (row : MapDef) → slice_get rows m ≡ Some row → All IsRow rows → IsRow row
+row_within rows m row e h = subst IsRow (get_or_from_slice_get rows m row row e)
+    (h m row (slice_get_within rows m row e))
+
+pub value_pointer_fits : (p : Program) (s : State) (m offset : ℕ) → All IsRow p.maps
+    → IsSomeAnd (slice_get p.maps m) (HoldsOffset offset) → IsState p s
+    → IsValue (length p.maps) s.next_serial (value_pointer s m offset)
+value_pointer_fits p s m offset rows named k = at (slice_get p.maps m) refl named
+  where
+    at : (o : Option MapDef) → slice_get p.maps m ≡ o → IsSomeAnd o (HoldsOffset offset)
+        → IsValue (length p.maps) s.next_serial (value_pointer s m offset)
+    at None e h = absurd h
+    at (Some row) e h =
+        let limits = row_within p.maps m row e rows in
+        let short = limits.short_value in
+        let within = h.within in
+        ((slice_get_within p.maps m row e, one_serial_given p s m row offset e h k), omega arith)

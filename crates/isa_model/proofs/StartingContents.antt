@@ -1,0 +1,149 @@
+-- The contents that maps start with fit their rows: a hash map is empty, and an array has each of its indexes once, in
+-- the order of the keys.
+use Rattle.std.specs.Prelude.{◌≡◌, ℕ, zero, suc, ◌+◌, ◌<◌, ◌≤◌, true, T, List, [], ◌∷◌, length, fold, replicate, All, refl}
+use Rattle.std.specs.List.{range_with_len}
+use Rattle.std.specs.Cmp.Lexicographic.{nat_list_cmp_total}
+use Rattle.std.specs.FinMap.Entries.{is_sorted, is_sorted-put}
+use Rattle.std.specs.Int.{byte_at, bytes_low_first}
+use Rattle.std.proofs.Common.{sym, subst, ◌∙◌, arith, inl, inr}
+use Rattle.std.proofs.lemmas.Bool.{cases_lt}
+use Rattle.std.proofs.lemmas.List.{length-replicate}
+use Rattle.std.proofs.lemmas.List.Elements.{All-nil, All-cons, All-head, All-tail, All-map, All-replicate}
+use Rattle.byteorder.specs.Endian.{little_bytes, little_number}
+use Rattle.byteorder.specs.Numbers.{little_number-reads_back, length-bytes_low_first}
+use Rattle.isa_model.specs.declared.map_defs.MapKind.{MapKind}
+use Rattle.isa_model.specs.declared.map_defs.MapKind.TheVariants.{Hash, Array}
+use Rattle.isa_model.specs.declared.map_defs.MapDef.{MapDef}
+use Rattle.isa_model.specs.Code.MapRows.{KeyFits, IsRow}
+use Rattle.isa_model.specs.Machine.States.{Entries}
+use Rattle.isa_model.specs.Machine.MapContents.{key_order, has_key, with_key}
+use Rattle.isa_model.proofs.PutLaws.{All-with_key, IsStrictlySortedBy-is_sorted, Contains-has_key, has_key-with_key, has_key-after_with_key, length-with_key}
+use Rattle.isa_model.specs.Machine.MachineStates.{AreBytes, IsEntry, KeysFit, keys_of, FitsRow, FitRows}
+use Rattle.isa_model.specs.Reporting.Reports.{starting_entries, starting_contents}
+use Rattle.isa_model.specs.Code.Limits.{max_map_entries}
+
+-- ---- bytes
+
+AreBytes-bytes_low_first : (i k n : ℕ) → AreBytes (bytes_low_first i k n)
+AreBytes-bytes_low_first i zero n = All-nil (λ b. b < 256)
+AreBytes-bytes_low_first i (suc k) n =
+    All-cons (λ b. b < 256) (byte_at i n) (bytes_low_first (suc i) k n) (below i)
+    (AreBytes-bytes_low_first (suc i) k n)
+  where
+    below : (j : ℕ) → byte_at j n < 256
+    below zero = omega arith
+    below (suc j) = omega arith
+
+little_number-little_bytes : (i : ℕ) → i < max_map_entries → little_number 4 (little_bytes 4 i) ≡ i
+little_number-little_bytes i h = little_number-reads_back 4 i [] (omega arith)
+
+-- ---- arrays
+
+-- the first n indexes of an array, all values zero
+record IsFilled (row : MapDef) (n : ℕ) (es : Entries) : Type 0 where
+  entries : All (IsEntry row) es
+  sorted : T (is_sorted key_order es)
+  room : length es ≤ n
+  has : (i : ℕ) → i < n → has_key (little_bytes 4 i) es ≡ true
+  below : All (λ e. little_number 4 e.0 < row.entries) es
+
+module _ (row : MapDef) (four : row.key_size ≡ 4) (few : row.entries ≤ max_map_entries) where
+  abbrev zeros : List ℕ
+  zeros = replicate row.value_size 0
+
+  abbrev filled : Entries → ℕ → Entries
+  filled es i = with_key (little_bytes 4 i) zeros es
+
+  abbrev Below : List ℕ × List ℕ → Type 0
+  Below e = little_number 4 e.0 < row.entries
+
+  zeros_long : length zeros ≡ row.value_size
+  zeros_long = length-replicate row.value_size 0
+
+  zeros_bytes : AreBytes zeros
+  zeros_bytes = All-replicate (λ b. b < 256) row.value_size 0 (omega arith)
+
+  IsEntry-index : (i : ℕ) → IsEntry row (little_bytes 4 i, zeros)
+  IsEntry-index i = record {
+    key_size = length-bytes_low_first 0 4 i ∙ sym four;
+    key = AreBytes-bytes_low_first 0 4 i;
+    value_size = zeros_long;
+    value = zeros_bytes;
+  }
+
+  IsEntry-zeros : (j w : List ℕ) → IsEntry row (j, w) → IsEntry row (j, zeros)
+  IsEntry-zeros j w h = record { key_size = h.key_size; key = h.key; value_size = zeros_long; value = zeros_bytes }
+
+  IsFilled-filled : (n : ℕ) (es : Entries) → n < row.entries → IsFilled row n es → IsFilled row (n + 1) (filled es n)
+  IsFilled-filled n es l h = record {
+    entries = All-with_key (IsEntry row) (little_bytes 4 n) zeros es (IsEntry-index n) IsEntry-zeros h.entries;
+    sorted = is_sorted-put key_order nat_list_cmp_total (little_bytes 4 n) zeros es h.sorted;
+    room = let more = length-with_key (little_bytes 4 n) zeros es h.sorted in let room = h.room in omega arith;
+    has = λ i below. elim (cases_lt i n) [
+      | inl lt ↦ has_key-after_with_key (little_bytes 4 i) (little_bytes 4 n) zeros es (h.has i lt)
+      | inr ge ↦
+          let same : n ≡ i = omega arith in
+          subst (λ m. has_key (little_bytes 4 m) (filled es n) ≡ true) same
+          (has_key-with_key (little_bytes 4 n) zeros es)
+    ];
+    below =
+        let read = little_number-little_bytes n (omega arith) in
+        All-with_key Below (little_bytes 4 n) zeros es (omega arith) (λ j w b. b) h.below;
+  }
+
+  IsFilled-fold : (n k : ℕ) (es : Entries) → n + k ≤ row.entries → IsFilled row n es
+      → IsFilled row (n + k) (fold filled es (range_with_len n k))
+  IsFilled-fold n zero es l h = let same : n ≡ n + 0 = omega arith in subst (λ m. IsFilled row m es) same h
+  IsFilled-fold n (suc k) es l h =
+      let same : n + 1 + k ≡ n + suc k = omega arith in
+      subst (λ m. IsFilled row m (fold filled (filled es n) (range_with_len (n + 1) k))) same
+      (IsFilled-fold (n + 1) k (filled es n) (omega arith) (IsFilled-filled n es (omega arith) h))
+
+  IsFilled-none : IsFilled row 0 []
+  IsFilled-none = record {
+    entries = All-nil (IsEntry row);
+    sorted = tt;
+    room = omega arith;
+    has = λ i l. absurd (omega arith);
+    below = All-nil Below;
+  }
+
+  IsFilled-whole : IsFilled row row.entries (starting_entries Array row)
+  IsFilled-whole =
+      let same : 0 + row.entries ≡ row.entries = omega arith in
+      subst (λ m. IsFilled row m (starting_entries Array row)) same
+      (IsFilled-fold 0 row.entries [] (omega arith) IsFilled-none)
+
+-- ---- rows
+
+FitsRow-starting_by : (kind : MapKind) (row : MapDef) → row.kind ≡ kind → KeyFits kind row.key_size
+    → row.entries ≤ max_map_entries → FitsRow row (starting_entries kind row)
+FitsRow-starting_by Hash row e key few = record {
+  entries = All-nil (IsEntry row);
+  ordered = IsStrictlySortedBy-is_sorted {X = List ℕ} [] tt;
+  room = omega arith;
+  keys = subst (λ k. KeysFit k row.entries []) (sym e) tt;
+}
+FitsRow-starting_by Array row e key few =
+    let h = IsFilled-whole row key few in
+    let es = starting_entries Array row in
+    record {
+      entries = h.entries;
+      ordered = IsStrictlySortedBy-is_sorted es h.sorted;
+      room = h.room;
+      keys = subst (λ k. KeysFit k row.entries (keys_of es)) (sym e) (
+        (λ i l. Contains-has_key (little_bytes 4 i) es (h.has i l)),
+        All-map (λ k. little_number 4 k < row.entries) (λ e. e.0) es h.below,
+      );
+    }
+
+pub FitsRow-starting_entries : (row : MapDef) → IsRow row → FitsRow row (starting_entries row.kind row)
+FitsRow-starting_entries row h = FitsRow-starting_by row.kind row refl h.key h.few_entries
+
+-- the contents that maps start with fit their rows
+pub FitRows-starting_contents : (rows : List MapDef) → All IsRow rows → FitRows rows (starting_contents rows)
+FitRows-starting_contents [] h = tt
+FitRows-starting_contents (row ∷ rows) h = (
+  FitsRow-starting_entries row (All-head IsRow row rows h),
+  FitRows-starting_contents rows (All-tail IsRow row rows h),
+)

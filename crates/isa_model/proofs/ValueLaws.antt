@@ -1,0 +1,230 @@
+-- Laws of values: arithmetic, loads and stores give values and cells that fit.
+use Rattle.std.specs.Prelude.{◌≡◌, ℕ, zero, suc, ◌+◌, ◌^◌, ◌<◌, ◌≤◌, ◌+ℤ◌, ◌-ℤ◌, Bool, true, false, nat_le, if◌then◌else◌, ℤ, unsigned_abs, List, [], ◌∷◌, ◌++◌, map, take, drop, length, All, Result, Ok, Err, IfOk, refl}
+use Rattle.std.specs.Int.{w32, w64, to_le_bytes}
+use Rattle.std.specs.Int.RustNames.{FitsSigned}
+use Rattle.std.specs.List.{list_any, list_all, splice}
+use Rattle.std.proofs.Common.{arith, length-append, length-drop}
+use Rattle.std.proofs.lemmas.Int.{ints}
+use Rattle.std.proofs.lemmas.Bool.Decides.{nat_tests}
+use Rattle.std.proofs.lemmas.List.{length-take-le}
+use Rattle.std.proofs.lemmas.List.Elements.{All-head, All-tail, All-append, All-take, All-drop, All-map, All-weaker, All-from_recursion}
+use Rattle.isa_model.specs.declared.sizes.Width.{Width}
+use Rattle.isa_model.specs.declared.sizes.Width.TheVariants.{Low32, Full64}
+use Rattle.isa_model.specs.declared.sizes.Size.{Size}
+use Rattle.isa_model.specs.declared.instructions.AluOp.{AluOp}
+use Rattle.isa_model.specs.declared.instructions.AluOp.TheVariants.{Add, Sub, Mov}
+use Rattle.isa_model.specs.declared.values.Region.{Region}
+use Rattle.isa_model.specs.declared.values.Region.TheVariants as region
+use Rattle.isa_model.specs.declared.values.Value.{Value}
+use Rattle.isa_model.specs.declared.values.Value.TheVariants.{Unset, Num, Ptr}
+use Rattle.isa_model.specs.declared.values.Cell.{Cell}
+use Rattle.isa_model.specs.declared.values.Cell.TheVariants.{Unwritten, Byte, Piece}
+use Rattle.isa_model.specs.declared.ends.TrapReason.{TrapReason}
+use Rattle.isa_model.specs.declared.ends.TrapReason.TheVariants.{UnsetRead, BadPointer, OutOfRange, BadAccess}
+use Rattle.isa_model.specs.Code.Sizes.{size_bytes}
+use Rattle.isa_model.specs.Code.Numbers.{signed, unsigned, bytes_of, number_from}
+use Rattle.isa_model.proofs.NumberLemmas.{alu_fits, low_below, width_fits}
+use Rattle.isa_model.specs.Code.Limits.{offset_limit}
+use Rattle.isa_model.specs.Machine.Pointers.{can_move, pointer_at, moved_to, pointer_and_number, number_and_pointer, moved, combined, arithmetic, on_number}
+use Rattle.isa_model.specs.Machine.Memory.{and_then, is_unwritten, is_byte, byte_in, number_of, pieces, are_pieces, pointer_in, number_in, value_in}
+use Rattle.isa_model.specs.Code.LittleEndian.{EachByte}
+use Rattle.isa_model.specs.Machine.MachineStates.{AreBytes, IsOffset, IsRegion, IsValue, IsCell}
+
+-- ---- results
+
+-- what holds of an answer, holds of the next one
+pub IfOk-and_then : {A B : Type 0} (P : A → Type 0) (Q : B → Type 0) (r : Result A TrapReason) (go : A → Result B TrapReason)
+    → IfOk r P → ((a : A) → P a → IfOk (go a) Q) → IfOk (and_then r go) Q
+IfOk-and_then P Q (Ok a) go h k = k a h
+IfOk-and_then P Q (Err e) go h k = tt
+
+-- what holds of each next answer
+pub IfOk-then : {A B : Type 0} (Q : B → Type 0) (r : Result A TrapReason) (go : A → Result B TrapReason)
+    → ((a : A) → IfOk (go a) Q) → IfOk (and_then r go) Q
+IfOk-then Q (Ok a) go h = h a
+IfOk-then Q (Err e) go h = tt
+
+-- a test before an answer
+pub IfOk-if : {A : Type 0} (P : A → Type 0) (b : Bool) (x y : Result A TrapReason)
+    → (b ≡ true → IfOk x P) → (b ≡ false → IfOk y P) → IfOk (if b then x else y) P
+IfOk-if P true x y h k = h refl
+IfOk-if P false x y h k = k refl
+
+-- ---- more serials
+
+pub IsRegion-more : (rows next more : ℕ) (r : Region) → next ≤ more → IsRegion rows next r → IsRegion rows more r
+IsRegion-more rows next more region.Context le h = tt
+IsRegion-more rows next more region.Packet le h = tt
+IsRegion-more rows next more region.PacketEnd le h = tt
+IsRegion-more rows next more (region.Map m) le h = h
+IsRegion-more rows next more (region.Frame n) le h = omega arith
+IsRegion-more rows next more (region.MapValue m n) le h = (h.0, omega arith)
+
+pub IsValue-more : (rows next more : ℕ) (v : Value) → next ≤ more → IsValue rows next v → IsValue rows more v
+IsValue-more rows next more Unset le h = tt
+IsValue-more rows next more (Num n) le h = h
+IsValue-more rows next more (Ptr r z) le h = (IsRegion-more rows next more r le h.0, h.1)
+
+pub IsCell-more : (rows next more : ℕ) (c : Cell) → next ≤ more → IsCell rows next c → IsCell rows more c
+IsCell-more rows next more Unwritten le h = tt
+IsCell-more rows next more (Byte b) le h = h
+IsCell-more rows next more (Piece r z k) le h = (IsRegion-more rows next more r le h.0, h.1, h.2)
+
+-- ---- numbers
+
+-- a constant, sign-extended to a width
+pub unsigned_fits : (w : Width) (k : ℤ) → FitsSigned w32 k → unsigned w k < 2 ^ 64
+unsigned_fits Low32 k h = omega (arith, ints)
+unsigned_fits Full64 k h = omega (arith, ints)
+
+-- eight bytes spell a number of a register
+pub number_from_fits : (bytes : List ℕ) → EachByte bytes → number_from bytes < 2 ^ 64
+number_from_fits bytes h =
+    let h0 = h 0 in
+    let h1 = h 1 in
+    let h2 = h 2 in
+    let h3 = h 3 in
+    let h4 = h 4 in
+    let h5 = h 5 in
+    let h6 = h 6 in
+    let h7 = h 7 in
+    omega arith
+
+-- ---- arithmetic
+
+pub pointer_at_fits : (rows next : ℕ) (r : Region) (z : ℤ) → IsRegion rows next r → IfOk (pointer_at r z) (IsValue rows next)
+pointer_at_fits rows next r z h =
+    IfOk-if (IsValue rows next) (nat_le (unsigned_abs z) offset_limit) (Ok (Ptr r z)) (Err OutOfRange)
+    (λ within. (h, grind (arith, nat_tests))) (λ out. tt)
+
+pub moved_to_fits : (rows next : ℕ) (r : Region) (z : ℤ) → IsRegion rows next r → IfOk (moved_to r z) (IsValue rows next)
+moved_to_fits rows next r z h =
+    IfOk-if (IsValue rows next) (can_move r) (pointer_at r z) (Err BadPointer)
+    (λ can. pointer_at_fits rows next r z h) (λ stays. tt)
+
+pub pointer_and_number_fits : (rows next : ℕ) (op : AluOp) (w : Width) (r : Region) (z : ℤ) (n : ℕ) → IsRegion rows next r
+    → IfOk (pointer_and_number op w r z n) (IsValue rows next)
+pointer_and_number_fits rows next Add Full64 r z n h = moved_to_fits rows next r (z +ℤ signed Full64 n) h
+pointer_and_number_fits rows next Sub Full64 r z n h = moved_to_fits rows next r (z -ℤ signed Full64 n) h
+pointer_and_number_fits rows next Add Low32 r z n h = tt
+pointer_and_number_fits rows next Sub Low32 r z n h = tt
+pointer_and_number_fits rows next op w r z n h = tt
+
+pub number_and_pointer_fits : (rows next : ℕ) (op : AluOp) (w : Width) (n : ℕ) (r : Region) (z : ℤ) → IsRegion rows next r
+    → IfOk (number_and_pointer op w n r z) (IsValue rows next)
+number_and_pointer_fits rows next Add Full64 n r z h = moved_to_fits rows next r (z +ℤ signed Full64 n) h
+number_and_pointer_fits rows next Add Low32 n r z h = tt
+number_and_pointer_fits rows next op w n r z h = tt
+
+pub moved_fits : (rows next : ℕ) (w : Width) (v : Value) → IsValue rows next v → IfOk (moved w v) (IsValue rows next)
+moved_fits rows next w (Num n) h = let l = low_below w n in let m = width_fits w in omega arith
+moved_fits rows next Full64 (Ptr r z) h = h
+moved_fits rows next Low32 (Ptr r z) h = tt
+moved_fits rows next Low32 Unset h = tt
+moved_fits rows next Full64 Unset h = tt
+
+pub combined_fits : (rows next : ℕ) (op : AluOp) (w : Width) (a b : Value) → IsValue rows next a → IsValue rows next b
+    → IfOk (combined op w a b) (IsValue rows next)
+combined_fits rows next op w (Num a) (Num b) h k = alu_fits op w a b
+combined_fits rows next op w (Ptr r z) (Num n) h k = pointer_and_number_fits rows next op w r z n h.0
+combined_fits rows next op w (Num n) (Ptr r z) h k = number_and_pointer_fits rows next op w n r z k.0
+combined_fits rows next op w (Ptr r z) (Ptr q y) h k = tt
+combined_fits rows next op w Unset b h k = tt
+combined_fits rows next op w (Num a) Unset h k = tt
+combined_fits rows next op w (Ptr r z) Unset h k = tt
+
+pub arithmetic_fits : (rows next : ℕ) (op : AluOp) (w : Width) (a b : Value) → IsValue rows next a → IsValue rows next b
+    → IfOk (arithmetic op w a b) (IsValue rows next)
+arithmetic_fits rows next Mov w a b h k = moved_fits rows next w b k
+arithmetic_fits rows next op w a b h k = combined_fits rows next op w a b h k
+
+pub on_number_fits : (rows next : ℕ) (f : ℕ → ℕ) (v : Value) → ((n : ℕ) → f n < 2 ^ 64) → IfOk (on_number f v) (IsValue rows next)
+on_number_fits rows next f (Num n) h = h n
+on_number_fits rows next f (Ptr r z) h = tt
+on_number_fits rows next f Unset h = tt
+
+-- ---- cells
+
+-- a byte cell's byte, and 0 elsewhere
+pub byte_in_fits : (rows next : ℕ) (c : Cell) → IsCell rows next c → byte_in c < 256
+byte_in_fits rows next Unwritten h = omega arith
+byte_in_fits rows next (Byte b) h = h
+byte_in_fits rows next (Piece r z k) h = omega arith
+
+pub bytes_in_fit : (rows next : ℕ) (cs : List Cell) → All (IsCell rows next) cs → AreBytes (map byte_in cs)
+bytes_in_fit rows next cs h =
+    All-map (λ b. b < 256) byte_in cs (All-weaker (IsCell rows next) (λ c. byte_in c < 256) (byte_in_fits rows next) cs h)
+
+-- bytes as cells
+pub Byte_cells_fit : (rows next : ℕ) (bytes : List ℕ) → AreBytes bytes → All (IsCell rows next) (map Byte bytes)
+Byte_cells_fit rows next bytes h = All-map (IsCell rows next) Byte bytes h
+
+-- what is a byte by its place
+pub slice_index_fits : (bytes : List ℕ) → AreBytes bytes → EachByte bytes
+slice_index_fits [] h i = omega arith
+slice_index_fits (b ∷ bytes) h zero = All-head (λ b. b < 256) b bytes h
+slice_index_fits (b ∷ bytes) h (suc i) = slice_index_fits bytes (All-tail (λ b. b < 256) b bytes h) i
+
+pub number_of_fits : (rows next : ℕ) (cs : List Cell) → All (IsCell rows next) cs → number_of cs < 2 ^ 64
+number_of_fits rows next cs h = number_from_fits (map byte_in cs) (slice_index_fits (map byte_in cs) (bytes_in_fit rows next cs h))
+
+pub number_in_fits : (rows next : ℕ) (cs : List Cell) → All (IsCell rows next) cs → IfOk (number_in cs) (λ n. n < 2 ^ 64)
+number_in_fits rows next cs h =
+    IfOk-if (λ n. n < 2 ^ 64) (list_any is_unwritten cs) (Err UnsetRead) _ (λ unset. tt)
+    (λ set. IfOk-if (λ n. n < 2 ^ 64) (list_all is_byte cs) (Ok (number_of cs)) (Err BadAccess)
+    (λ all. number_of_fits rows next cs h) (λ some. tt))
+
+pub pointer_in_fits : (rows next : ℕ) (cs : List Cell) → All (IsCell rows next) cs → IfOk (pointer_in cs) (IsValue rows next)
+pointer_in_fits rows next [] h = tt
+pointer_in_fits rows next (Unwritten ∷ cs) h = tt
+pointer_in_fits rows next (Byte b ∷ cs) h = tt
+pointer_in_fits rows next (Piece r z k ∷ cs) h =
+    let piece = All-head (IsCell rows next) (Piece r z k) cs h in
+    IfOk-if (IsValue rows next) (are_pieces r z (Piece r z k ∷ cs)) (Ok (Ptr r z)) (Err BadAccess)
+    (λ whole. (piece.0, piece.1)) (λ other. tt)
+
+pub value_in_fits : (rows next : ℕ) (cs : List Cell) → All (IsCell rows next) cs → IfOk (value_in cs) (IsValue rows next)
+value_in_fits rows next cs h =
+    IfOk-if (IsValue rows next) (list_any is_unwritten cs) (Err UnsetRead) _ (λ unset. tt)
+    (λ set. IfOk-if (IsValue rows next) (list_all is_byte cs) (Ok (Num (number_of cs))) (pointer_in cs)
+    (λ all. number_of_fits rows next cs h) (λ some. pointer_in_fits rows next cs h))
+
+-- the eight pieces of a pointer
+pub pieces_fit : (rows next : ℕ) (r : Region) (z : ℤ) → IsRegion rows next r → IsOffset z → All (IsCell rows next) (pieces r z)
+pieces_fit rows next r z h k =
+    let P : Cell → Type 0 = IsCell rows next in
+    All-from_recursion P (pieces r z) (
+      (h, k, omega arith),
+      (
+        (h, k, omega arith),
+        (
+          (h, k, omega arith),
+          (
+            (h, k, omega arith),
+            ((h, k, omega arith), ((h, k, omega arith), ((h, k, omega arith), ((h, k, omega arith), tt)))),
+          ),
+        ),
+      ),
+    )
+
+-- the low bytes of any number
+pub bytes_of_fit : (size : Size) (n : ℕ) → AreBytes (bytes_of size n)
+bytes_of_fit size n =
+    All-take (λ b. b < 256) (size_bytes size) (to_le_bytes w64 n)
+    (All-from_recursion (λ b. b < 256) (to_le_bytes w64 n)
+    (omega arith, (omega arith, (omega arith, (omega arith, (omega arith, (omega arith, (omega arith, (omega arith, tt)))))))))
+
+-- ---- bytes and cells in a row
+
+-- as many elements as a splice takes out, it puts in
+pub length-splice : {A : Type 0} (xs new : List A) (i : ℕ) → i + length new ≤ length xs → length (splice xs i (i + length new) new) ≡ length xs
+length-splice xs new i h =
+    let front = length-take-le i xs (omega arith) in
+    let back = length-drop (i + length new) xs in
+    let outer = length-append (take i xs) (new ++ drop (i + length new) xs) in
+    let inner = length-append new (drop (i + length new) xs) in
+    omega arith
+
+pub All-splice : {A : Type 0} (P : A → Type 0) (xs new : List A) (i j : ℕ) → All P xs → All P new → All P (splice xs i j new)
+All-splice P xs new i j h k =
+    All-append P (take i xs) (new ++ drop j xs) (All-take P i xs h) (All-append P new (drop j xs) k (All-drop P j xs h))

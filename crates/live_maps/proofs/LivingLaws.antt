@@ -1,0 +1,13 @@
+-- Laws of the definitions in specs/Live.
+use Rattle.std.specs.Prelude.{◌≡◌, ℕ, ◌<◌, List, [], length, map, slice_index_or}
+use Rattle.std.proofs.Common.{◌∙◌, arith}
+use Rattle.std.proofs.Math.ListN.{get_or-map}
+use Rattle.std.proofs.lemmas.List.{get_or_default, length-map}
+use Rattle.live_maps.specs.Live.{Serials, serials_at}
+
+-- of serials that stand in other things
+pub serials_at-map : {V : Type 0} (f : V → Serials) (vs : List V) (m : ℕ) (d : V) → m < length vs
+    → serials_at (map f vs) m ≡ f (slice_index_or vs m d)
+serials_at-map f vs m d h =
+    let long = length-map vs f in
+    get_or_default (map f vs) m [] (f d) (omega arith) ∙ get_or-map f vs m d

@@ -1,0 +1,222 @@
+-- Laws of the definitions in specs/KeyOrder.
+use Rattle.std.proofs.Common.{◌≡◌, ℕ, zero, suc, ◌+◌, ◌<◌, ◌≤◌, List, [], ◌∷◌, ◌++◌, Option, Some, None, Bool, true, false, cond, map, take, length, unwrap_or, refl, sym, ap, subst, ◌∙◌, arith}
+use Rattle.std.specs.Prelude.{T, ◌&&◌, is_some, slice_index_or, All, IsPermutation}
+use Rattle.std.specs.List.{AllByRecursion, IsDistinct}
+use Rattle.std.specs.List.Sorted.{IsSortedByKey}
+use Rattle.std.specs.Ordering.{is_lt, ordering_reverse}
+use Rattle.std.specs.declared.cmp.Ordering.{Ordering}
+use Rattle.std.specs.declared.cmp.Ordering.TheVariants.{Less, Equal, Greater}
+use Rattle.std.specs.Cmp.Lexicographic.{nat_list_cmp_total}
+use Rattle.std.specs.FinMap.{entries, entries_sorted, values, get, find, get-entries, is_sorted, slice_cmp-IsAntisymmetric, nat_cmp-IsAntisymmetric}
+use Rattle.std.specs.FinMap.Entries.{below_all, same_entries}
+use Rattle.std.proofs.lemmas.Bool.{eqb-true, eqb-false, eq-eqb, ne_eqb}
+use Rattle.std.proofs.lemmas.List.Elements.{All-nil, All-cons, All-head, All-tail}
+use Rattle.std.proofs.lemmas.List.Sorted.{ranks_by, sorted_far, All-permutation, IsPermutation-sym}
+use Rattle.std.proofs.lemmas.Map.Keys.{IsDistinct-IsPermutation}
+use Rattle.std.proofs.Math.Dec.{eqb}
+use Rattle.isa_model.specs.Machine.MapContents.{key_order, is_key}
+use Rattle.map_indexes.specs.Slots.{Slots, slot, places, IsDistinct as IsApart}
+use Rattle.map_indexes.proofs.SlotLaws.{is_key-itself, get_here}
+use Rattle.map_indexes.specs.SlotLaws.{is_key-equal, got}
+use Rattle.map_indexes.specs.KeyOrder.{key_or_none, used_places}
+
+-- no place past the end has a key
+pub key_or_none-past : (slots : Slots) (p : ℕ) → length slots ≤ p → key_or_none slots p ≡ []
+key_or_none-past [] p l = refl
+key_or_none-past (x ∷ slots) zero l = absurd (omega arith)
+key_or_none-past (x ∷ slots) (suc p) l = key_or_none-past slots p (omega arith)
+
+pub key_or_none-unused : (slots : Slots) (p : ℕ) → is_some (slot slots p) ≡ false → key_or_none slots p ≡ []
+key_or_none-unused slots p e = elim (slot slots p) as (λ o. is_some o ≡ false → unwrap_or o [] ≡ []) [ None ↦ λ f. refl | Some k ↦ λ f. absurd (cc) ] e
+
+pub key_or_none-used : (slots : Slots) (p : ℕ) (k : List ℕ) → slot slots p ≡ Some k → k ≡ key_or_none slots p
+key_or_none-used slots p k e = sym (ap (λ (o : Option (List ℕ)). unwrap_or o []) e)
+
+abbrev place_if : Option (List ℕ) → ℕ → List ℕ
+place_if None p = []
+place_if (Some key) p = p ∷ []
+
+used_places-suc : (slots : Slots) (at i : ℕ) → i < length slots
+    → used_places at (take (suc i) slots) ≡ used_places at (take i slots) ++ place_if (slot slots i) (at + i)
+used_places-suc [] at i l = absurd (omega arith)
+used_places-suc (None ∷ slots) at zero l = refl
+used_places-suc (Some k ∷ slots) at zero l = let e : at ≡ at + 0 = omega arith in ap (λ (n : ℕ). n ∷ []) e
+used_places-suc (None ∷ slots) at (suc i) l =
+    let e : at + 1 + i ≡ at + suc i = omega arith in
+    used_places-suc slots (at + 1) i (omega arith) ∙ ap (λ (n : ℕ). used_places (at + 1) (take i slots) ++ place_if (slot slots i) n) e
+used_places-suc (Some k ∷ slots) at (suc i) l =
+    let e : at + 1 + i ≡ at + suc i = omega arith in
+    ap (λ (ps : List ℕ). at ∷ ps) (used_places-suc slots (at + 1) i (omega arith) ∙ ap (λ (n : ℕ). used_places (at + 1) (take i slots) ++ place_if (slot slots i) n) e)
+
+place_if-some : (o : Option (List ℕ)) (p : ℕ) → is_some o ≡ true → place_if o p ≡ p ∷ []
+place_if-some None p e = absurd (cc)
+place_if-some (Some k) p e = refl
+
+place_if-none : (o : Option (List ℕ)) (p : ℕ) → is_some o ≡ false → place_if o p ≡ []
+place_if-none None p e = refl
+place_if-none (Some k) p e = absurd (cc)
+
+append-none : (xs : List ℕ) → xs ++ [] ≡ xs
+append-none [] = refl
+append-none (x ∷ xs) = ap (λ (ys : List ℕ). x ∷ ys) (append-none xs)
+
+module _ (slots : Slots) (i : ℕ) (inside : i < length slots) where
+  -- one place more that has a key
+  pub used_places-key : is_some (slot slots i) ≡ true → used_places 0 (take (i + 1) slots) ≡ used_places 0 (take i slots) ++ i ∷ []
+  used_places-key e =
+      let s : i + 1 ≡ suc i = omega arith in
+      let z : 0 + i ≡ i = omega arith in
+      ap (λ (n : ℕ). used_places 0 (take n slots)) s ∙ used_places-suc slots 0 i inside
+      ∙ ap (λ (ps : List ℕ). used_places 0 (take i slots) ++ ps) (place_if-some (slot slots i) (0 + i) e ∙ ap (λ (n : ℕ). n ∷ []) z)
+
+  -- one that has none
+  pub used_places-none : is_some (slot slots i) ≡ false → used_places 0 (take (i + 1) slots) ≡ used_places 0 (take i slots)
+  used_places-none e =
+      let s : i + 1 ≡ suc i = omega arith in
+      ap (λ (n : ℕ). used_places 0 (take n slots)) s ∙ used_places-suc slots 0 i inside
+      ∙ ap (λ (ps : List ℕ). used_places 0 (take i slots) ++ ps) (place_if-none (slot slots i) (0 + i) e) ∙ append-none (used_places 0 (take i slots))
+
+module _ (P : ℕ → Type 0) where
+  each_used : (slots : Slots) (at : ℕ) → ((i : ℕ) (k : List ℕ) → slot slots i ≡ Some k → P (at + i)) → All P (used_places at slots)
+  each_used [] at h = All-nil P
+  each_used (None ∷ slots) at h = each_used slots (at + 1) (λ i k e. let s : at + suc i ≡ at + 1 + i = omega arith in subst P s (h (suc i) k e))
+  each_used (Some q ∷ slots) at h =
+      let z : at + 0 ≡ at = omega arith in
+      All-cons P at (used_places (at + 1) slots) (subst P z (h 0 q refl))
+      (each_used slots (at + 1) (λ i k e. let s : at + suc i ≡ at + 1 + i = omega arith in subst P s (h (suc i) k e)))
+
+  of_used : (slots : Slots) (at i : ℕ) (k : List ℕ) → All P (used_places at slots) → slot slots i ≡ Some k → P (at + i)
+  of_used [] at i k all e = absurd (cc)
+  of_used (None ∷ slots) at zero k all e = absurd (cc)
+  of_used (None ∷ slots) at (suc i) k all e = let s : at + 1 + i ≡ at + suc i = omega arith in subst P s (of_used slots (at + 1) i k all e)
+  of_used (Some q ∷ slots) at zero k all e = let z : at ≡ at + 0 = omega arith in subst P z (All-head P at (used_places (at + 1) slots) all)
+  of_used (Some q ∷ slots) at (suc i) k all e =
+      let s : at + 1 + i ≡ at + suc i = omega arith in
+      subst P s (of_used slots (at + 1) i k (All-tail P at (used_places (at + 1) slots) all) e)
+
+by_recursion : (P : ℕ → Type 0) (xs : List ℕ) → All P xs → AllByRecursion P xs
+by_recursion P [] all = tt
+by_recursion P (x ∷ xs) all = (All-head P x xs all, by_recursion P xs (All-tail P x xs all))
+
+distinct_used : (slots : Slots) (at : ℕ) → IsDistinct eqb (used_places at slots)
+unfolding IsDistinct
+distinct_used [] at = tt
+distinct_used (None ∷ slots) at = distinct_used slots (at + 1)
+distinct_used (Some q ∷ slots) at = (
+  by_recursion (λ y. eqb at y ≡ false) (used_places (at + 1) slots) (each_used (λ y. eqb at y ≡ false) slots (at + 1) (λ i k e. ne_eqb at (at + 1 + i) (λ f. omega arith))),
+  distinct_used slots (at + 1),
+)
+
+eqb-flips : (x y : ℕ) → eqb x y ≡ eqb y x
+eqb-flips x y =
+    elim (eqb x y) as (λ b. eqb x y ≡ b → b ≡ eqb y x) [
+      | true ↦ λ t. sym (eq-eqb y x (sym (eqb-true x y t)))
+      | false ↦ λ t. sym (ne_eqb y x (λ e. eqb-false x y t (sym e)))
+    ] refl
+
+not_less : (r : Ordering) → is_lt (ordering_reverse r) ≡ false → (r ≡ Equal → ⊥) → r ≡ Less
+not_less Less e d = refl
+not_less Equal e d = absurd (d refl)
+not_less Greater e d = absurd (cc)
+
+joins : (a b : Bool) → T a → T b → T (a && b)
+joins true b p q = q
+joins false b p q = p
+
+less_is : (r : Ordering) → r ≡ Less → T (is_lt r)
+less_is Less e = tt
+less_is Equal e = absurd (cc)
+less_is Greater e = absurd (cc)
+
+is_less : (r : Ordering) → T (is_lt r) → r ≡ Less
+is_less Less t = refl
+is_less Equal t = absurd t
+is_less Greater t = absurd t
+
+module _ (slots : Slots) (apart : IsApart slots) where
+  abbrev key : ℕ → List ℕ
+  key = key_or_none slots
+
+  abbrev keyed : List ℕ → List (List ℕ × ℕ)
+  keyed ps = map (λ p. (key p, p)) ps
+
+  abbrev HasKey : ℕ → Type 0
+  HasKey p = slot slots p ≡ Some (key p)
+
+  has_key : (p : ℕ) (k : List ℕ) → slot slots p ≡ Some k → HasKey p
+  has_key p k e = e ∙ ap Some (sym (ap (λ (o : Option (List ℕ)). unwrap_or o []) e))
+
+  below : (p : ℕ) (ps : List ℕ) → HasKey p → All HasKey ps → AllByRecursion (λ y. eqb p y ≡ false) ps
+      → All (λ r. is_lt (key_order (key r) (key p)) ≡ false) ps → T (below_all key_order (key p) (keyed ps))
+  below p [] h all d up = tt
+  below p (r ∷ ps) h all d up =
+      let there = All-head HasKey r ps all in
+      let flip : is_lt (ordering_reverse (key_order (key p) (key r))) ≡ false =
+      ap is_lt (sym (nat_list_cmp_total.antisymm (key r) (key p))) ∙ All-head (λ r. is_lt (key_order (key r) (key p)) ≡ false) r ps up in
+      let less = not_less (key_order (key p) (key r)) flip (λ e.
+      let same : key p ≡ key r = slice_cmp-IsAntisymmetric nat_cmp-IsAntisymmetric (key p) (key r) e in
+      eqb-false p r d.0 (apart p r (key p) h (there ∙ ap Some (sym same)))) in
+      joins (is_lt (key_order (key p) (key r))) (below_all key_order (key p) (keyed ps)) (less_is _ less)
+      (below p ps h (All-tail HasKey r ps all) d.1 (All-tail (λ r. is_lt (key_order (key r) (key p)) ≡ false) r ps up))
+
+  sorted : (ps : List ℕ) → All HasKey ps → IsDistinct eqb ps → IsSortedByKey key key_order ps → T (is_sorted key_order (keyed ps))
+  unfolding IsDistinct
+  sorted [] all d up = tt
+  sorted (p ∷ ps) all d up =
+      let far : All (λ r. is_lt (key_order (key r) (key p)) ≡ false) ps =
+      λ (k : ℕ) (e : ℕ) (l : k < length ps). sorted_far (λ x y. is_lt (key_order (key x) (key y))) (ranks_by nat_list_cmp_total key) (p ∷ ps) up 0 (suc k) e (omega arith) (omega arith) in
+      joins (below_all key_order (key p) (keyed ps)) (is_sorted key_order (keyed ps))
+      (below p ps (All-head HasKey p ps all) (All-tail HasKey p ps all) d.0 far)
+      (sorted ps (All-tail HasKey p ps all) d.1 (λ k e l m.
+      let s : suc k + 1 ≡ suc (k + 1) = omega arith in
+      subst (λ (n : ℕ). is_lt (key_order (key (slice_index_or (p ∷ ps) n e)) (key (slice_index_or ps k e))) ≡ false) s (up (suc k) e (omega arith) (omega arith))))
+
+  found : (q : List ℕ) (p : ℕ) → slot slots p ≡ Some q → (ps : List ℕ) → All HasKey ps → (All (λ r. eqb r p ≡ false) ps → ⊥) → find key_order q (keyed ps) ≡ Some p
+  found q p here [] all some = absurd (some (All-nil (λ r. eqb r p ≡ false)))
+  found q p here (r ∷ ps) all some =
+      elim (is_key q (key r)) as (λ b. is_key q (key r) ≡ b → cond b (Some r) (find key_order q (keyed ps)) ≡ Some p) [
+        | true ↦ λ t. ap Some (apart r p q (All-head HasKey r ps all ∙ ap Some (sym (is_key-equal q (key r) t))) here)
+        | false ↦ λ t. found q p here ps (All-tail HasKey r ps all) (λ none. some (All-cons (λ r. eqb r p ≡ false) r ps
+            (ne_eqb r p (λ e.
+            let same : slot slots r ≡ Some q = ap (slot slots) e ∙ here in
+            let k : key r ≡ q = ap (λ (o : Option (List ℕ)). unwrap_or o []) same in
+            let u : is_key q (key r) ≡ true = ap (is_key q) k ∙ is_key-itself q in
+            let w : true ≡ false = sym u ∙ t in
+            cc)) none))
+      ] refl
+
+  missed : (q : List ℕ) → get (places slots) q ≡ None → (ps : List ℕ) → All HasKey ps → find key_order q (keyed ps) ≡ None
+  missed q none [] all = refl
+  missed q none (r ∷ ps) all =
+      elim (is_key q (key r)) as (λ b. is_key q (key r) ≡ b → cond b (Some r) (find key_order q (keyed ps)) ≡ None) [
+        | true ↦ λ t.
+            let e = get_here slots r q apart (All-head HasKey r ps all ∙ ap Some (sym (is_key-equal q (key r) t))) in
+            let f : Some r ≡ None = sym e ∙ none in
+            absurd (cc)
+        | false ↦ λ t. missed q none ps (All-tail HasKey r ps all)
+      ] refl
+
+  places_back : (ps : List ℕ) → map (λ e. e.1) (keyed ps) ≡ ps
+  places_back [] = refl
+  places_back (p ∷ ps) = ap (λ (qs : List ℕ). p ∷ qs) (places_back ps)
+
+  -- the places that have a key, sorted by their keys, are the values of the map
+  pub values-sorted : (ps : List ℕ) → IsPermutation (used_places 0 slots) ps → IsSortedByKey key key_order ps → ps ≡ values (places slots)
+  values-sorted ps moved up =
+      let each = All-permutation HasKey (used_places 0 slots) ps moved
+      (each_used HasKey slots 0 (λ i k e. let z : i ≡ 0 + i = omega arith in subst HasKey z (has_key i k e))) in
+      let once = IsDistinct-IsPermutation eqb eqb-flips (used_places 0 slots) ps moved (distinct_used slots 0) in
+      let at : (q : List ℕ) → find key_order q (keyed ps) ≡ find key_order q (entries (places slots)) =
+      λ q. elim (get (places slots) q) as (λ o. get (places slots) q ≡ o → find key_order q (keyed ps) ≡ o) [
+        | None ↦ λ e. missed q e ps each
+        | Some p ↦ λ e.
+            let here = got slots q p e in
+            found q p here ps each (λ none.
+            let z : 0 + p ≡ p = omega arith in
+            let f : eqb p p ≡ false = subst (λ (n : ℕ). eqb n p ≡ false) z
+            (of_used (λ r. eqb r p ≡ false) slots 0 p q (All-permutation (λ r. eqb r p ≡ false) ps (used_places 0 slots) (IsPermutation-sym (used_places 0 slots) ps moved) none) here) in
+            eqb-false p p f refl)
+      ] refl ∙ get-entries (places slots) q in
+      let same = same_entries key_order nat_list_cmp_total (slice_cmp-IsAntisymmetric nat_cmp-IsAntisymmetric) (keyed ps) (entries (places slots)) (sorted ps each once up)
+      (entries_sorted (places slots)) at in
+      sym (places_back ps) ∙ ap (λ (es : List (List ℕ × ℕ)). map (λ e. e.1) es) same

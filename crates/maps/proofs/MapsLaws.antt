@@ -1,0 +1,16 @@
+-- Laws of the definitions in specs/Maps.
+use Rattle.std.specs.Prelude.{◌≡◌, ℕ, ◌≤◌}
+use Rattle.std.proofs.Common.{arith}
+use Rattle.isa_model.specs.declared.map_defs.MapKind.{MapKind}
+use Rattle.isa_model.specs.declared.map_defs.MapKind.TheVariants.{Hash, Array}
+use Rattle.isa_model.specs.Code.MapRows.{KeyFits}
+
+-- no key has more than 64 bytes
+pub KeyFits-most : (kind : MapKind) (n : ℕ) → KeyFits kind n → n ≤ 64
+KeyFits-most Hash n fits = fits.1
+KeyFits-most Array n fits = omega arith
+
+-- an array's keys have four
+pub KeyFits-index : (kind : MapKind) (n : ℕ) → KeyFits kind n → kind ≡ Array → n ≡ 4
+KeyFits-index Hash n fits e = absurd (cc)
+KeyFits-index Array n fits e = fits

@@ -1,0 +1,212 @@
+-- Laws of the definitions in specs/Marks.
+use Rattle.std.specs.Prelude.{◌≡◌, ◌≢◌, ℕ, zero, suc, ◌+◌, ◌<◌, ◌≤◌, Bool, true, false, List, [], ◌∷◌, length, slice_set, replicate, Some, refl}
+use borrow.Author.Count.{below_more}
+use Rattle.std.proofs.Common.{inl, inr, sym, ap, ◌∙◌, subst, arith}
+use Rattle.std.proofs.lemmas.Bool.{cases_eq, cases_lt}
+use Rattle.std.proofs.lemmas.List.{length-set, get_or_past, get_or-set_same, get_or-set_other}
+use Rattle.reg_state.specs.declared.kinds.Kind.{Kind}
+use Rattle.reg_state.specs.declared.kinds.Kind.TheVariants.{Unset}
+use Rattle.stack_state.specs.declared.identities.Names.{Names}
+use Rattle.stack_state.specs.declared.identities.Names.TheVariants.{Packets, Nulls}
+use Rattle.stack_state.specs.declared.slots.Slot.{Slot}
+use Rattle.stack_state.specs.declared.slots.Slot.TheVariants.{Written}
+use Rattle.stack_state.specs.declared.states.AbstractFrame.{AbstractFrame}
+use Rattle.stack_state.specs.declared.states.State.{State}
+use Rattle.stack_state.specs.Meaning.{frames_of, no_frame, frame_of}
+use Rattle.stack_state.proofs.MeaningLaws.{length-frames_of, frame_of-caller, frame_of-innermost}
+use Rattle.stack_state.specs.Identities.{named_by, IsFresh, IsLeastFresh}
+use Rattle.stack_state.specs.Marks.{AreFree, HoldsOther, IsFreshAt, IsFreshIn, IsOther, Marks, is_marked, marked}
+
+-- nothing is marked yet
+pub marked-replicate : (n : ℕ) → marked (replicate n false) ≡ 0
+unfolding marked
+marked-replicate zero = refl
+marked-replicate (suc n) = marked-replicate n
+
+-- one mark more
+pub marked-set : (marks : List Bool) (i : ℕ) → marked (slice_set marks i true) ≤ marked marks + 1
+unfolding marked
+marked-set [] i = omega arith
+marked-set (true ∷ marks) zero = omega arith
+marked-set (false ∷ marks) zero = omega arith
+marked-set (true ∷ marks) (suc i) = let rest = marked-set marks i in omega arith
+marked-set (false ∷ marks) (suc i) = marked-set marks i
+
+-- where all are marked, there are that many marks
+pub marked-all : (marks : List Bool) → ((i : ℕ) → i < length marks → is_marked marks i ≡ true) → marked marks ≡ length marks
+unfolding marked
+marked-all [] all = refl
+marked-all (true ∷ marks) all = ap suc (marked-all marks (λ i inside. all (suc i) (omega arith)))
+marked-all (false ∷ marks) all = absurd (cc (all 0 (omega arith)))
+
+-- with fewer marks than there are from 1 up, one of those is not marked
+pub marked-room : (marks : List Bool) → marked marks + 1 < length marks
+    → ¬ ((i : ℕ) → 0 < i → i < length marks → is_marked marks i ≡ true)
+unfolding marked
+marked-room [] room all = absurd (omega arith)
+marked-room (true ∷ marks) room all =
+    let full = marked-all marks (λ i inside. all (suc i) (omega arith) (omega arith)) in
+    absurd (omega arith)
+marked-room (false ∷ marks) room all =
+    let full = marked-all marks (λ i inside. all (suc i) (omega arith) (omega arith)) in
+    absurd (omega arith)
+
+-- nothing more is asked, and nothing marked
+pub Marks-none : (IsFree : ℕ → Type 0) (marks : List Bool) → ((i : ℕ) → IsFree i) → Marks IsFree 0 marks marks
+Marks-none IsFree marks all =
+    record { named = λ i is. inl is; free = λ i inside not. (not, all i); few = omega arith; long = refl }
+
+-- one after the other, where what is free for both is free for all
+pub Marks-then : (P Q R : ℕ → Type 0) (m n : ℕ) (old mid new : List Bool) → ((i : ℕ) → P i → Q i → R i) → ((i : ℕ) → R i → P i)
+    → ((i : ℕ) → R i → Q i) → Marks P m old mid → Marks Q n mid new → Marks R (m + n) old new
+Marks-then P Q R m n old mid new both left right first second =
+    let short = first.few in
+    let more = second.few in
+    let same = second.long in
+    record {
+      named = λ i is. elim (second.named i is) [
+        | inl before ↦ elim (first.named i before) [
+          | inl old_one ↦ inl old_one
+          | inr not ↦ inr (λ free. not (left i free))
+        ]
+        | inr not ↦ inr (λ free. not (right i free))
+      ];
+      free = λ i inside not. let (before, q) = second.free i inside not in
+          let (older, p) = first.free i (omega arith) before in
+          (older, both i p q);
+      few = omega arith;
+      long = second.long ∙ first.long;
+    }
+
+-- the same question, said otherwise
+pub Marks-same : (P Q : ℕ → Type 0) (n : ℕ) (old new : List Bool) → ((i : ℕ) → P i → Q i) → ((i : ℕ) → Q i → P i)
+    → Marks P n old new → Marks Q n old new
+Marks-same P Q n old new on back h = record {
+  named = λ i is. elim (h.named i is) [ inl before ↦ inl before | inr not ↦ inr (λ free. not (back i free)) ];
+  free = λ i inside not. let (before, p) = h.free i inside not in (before, on i p);
+  few = h.few;
+  long = h.long;
+}
+
+-- before the first place
+pub Marks-first : (Free : ℕ → ℕ → Type 0) (marks : List Bool) → Marks (AreFree Free 0) 0 marks marks
+Marks-first Free marks = Marks-none (AreFree Free 0) marks (λ i k below. absurd (omega arith))
+
+-- one place more
+pub Marks-more : (Free : ℕ → ℕ → Type 0) (k m n : ℕ) (old mid new : List Bool) → Marks (AreFree Free k) m old mid
+    → Marks (Free k) n mid new → Marks (AreFree Free (k + 1)) (m + n) old new
+Marks-more Free k m n old mid new =
+    Marks-then (AreFree Free k) (Free k) (AreFree Free (k + 1)) m n old mid new
+    (λ i before here. below_more (λ j. Free j i) k before here) (λ i all j below. all j (omega arith)) (λ i all. all k (omega arith))
+
+-- Unset names none
+unset_names : (names : Names) (i : ℕ) → named_by names Unset ≢ Some i
+unset_names Packets i = λ e. absurd (cc)
+unset_names Nulls i = λ e. absurd (cc)
+
+-- past the last register, and past the last slot, no kind names one
+pub Marks-registers : (names : Names) (kinds : List Kind) (n m : ℕ) (old new : List Bool) → length kinds ≤ n → Marks (AreFree (IsOther names kinds) n) m old new
+    → Marks (λ i. (k : ℕ) → IsOther names kinds k i) m old new
+Marks-registers names kinds n m old new all =
+    Marks-same (AreFree (IsOther names kinds) n) (λ i. (k : ℕ) → IsOther names kinds k i) m old new
+    (λ i below k. elim (cases_lt k n) [
+      | inl l ↦ below k l
+      | inr past ↦ rw (get_or_past kinds k Unset (omega arith)) (unset_names names i)
+    ]) (λ i free k below. free k)
+
+pub Marks-slots : (names : Names) (slots : List Slot) (n m : ℕ) (old new : List Bool) → length slots ≤ n → Marks (AreFree (HoldsOther names slots) n) m old new
+    → Marks (λ i. (k : ℕ) → HoldsOther names slots k i) m old new
+Marks-slots names slots n m old new all =
+    Marks-same (AreFree (HoldsOther names slots) n) (λ i. (k : ℕ) → HoldsOther names slots k i) m old new
+    (λ i below k. elim (cases_lt k n) [
+      | inl l ↦ below k l
+      | inr past ↦ rw (get_or_past slots k (Written 0) (omega arith)) (unset_names names i)
+    ]) (λ i free k below. free k)
+
+-- both of a frame
+pub Marks-frame : (names : Names) (f : AbstractFrame) (m n : ℕ) (old mid new : List Bool) → Marks (λ i. (k : ℕ) → IsOther names f.registers k i) m old mid
+    → Marks (λ i. (k : ℕ) → HoldsOther names f.stack.slots k i) n mid new → Marks (IsFreshIn names f) (m + n) old new
+Marks-frame names f m n old mid new =
+    Marks-then (λ i. (k : ℕ) → IsOther names f.registers k i) (λ i. (k : ℕ) → HoldsOther names f.stack.slots k i) (IsFreshIn names f) m n old mid new
+    (λ i r s. record { registers = r; slots = s }) (λ i free. free.registers) (λ i free. free.slots)
+
+-- of a kind that names the identity
+pub Marks-named : (names : Names) (k : Kind) (i : ℕ) (marks : List Bool) → named_by names k ≡ Some i → i < length marks
+    → Marks (λ j. named_by names k ≢ Some j) 1 marks (slice_set marks i true)
+Marks-named names k i marks is inside = record {
+  named = λ j m. elim (cases_eq j i) [
+    | inl same ↦ inr (λ free. free (is ∙ ap Some (sym same)))
+    | inr other ↦ inl (sym (get_or-set_other marks i j true false other) ∙ m)
+  ];
+  free = λ j within not. elim (cases_eq j i) [
+    | inl same ↦ absurd (cc (get_or-set_same marks i true false inside))
+    | inr other ↦ (sym (get_or-set_other marks i j true false other) ∙ not, λ e. other (cc (is, e)))
+  ];
+  few = marked-set marks i;
+  long = length-set marks i true;
+}
+
+-- of a kind that names none so low
+pub Marks-other : (names : Names) (k : Kind) (marks : List Bool) → ((i : ℕ) → i < length marks → named_by names k ≢ Some i)
+    → Marks (λ j. named_by names k ≢ Some j) 1 marks marks
+Marks-other names k marks none =
+    record { named = λ j m. inl m; free = λ j inside not. (not, none j inside); few = omega arith; long = refl }
+
+-- an empty frame names none
+nothing_names : (names : Names) (i : ℕ) → IsFreshIn names no_frame i
+nothing_names names i = record { registers = λ k. unset_names names i; slots = λ k. unset_names names i }
+
+fresh_at : (names : Names) (a : State) (i j : ℕ) → AreFree (IsFreshAt names a.callers.items) (length a.callers.items) i → IsFreshIn names a.innermost i → IsFreshIn names (frame_of a j) i
+fresh_at names a i j callers innermost =
+    let n : ℕ = length a.callers.items in
+    let long = length-frames_of a in
+    elim (cases_lt j n) [
+      | inl below ↦ subst (λ f. IsFreshIn names f i) (sym (frame_of-caller a j (omega arith))) (callers j below)
+      | inr not ↦ elim (cases_eq j n) [
+        | inl last ↦ subst (λ f. IsFreshIn names f i) (sym (ap (frame_of a) last ∙ frame_of-innermost a)) innermost
+        | inr past ↦ subst (λ f. IsFreshIn names f i) (sym (get_or_past (frames_of a) j no_frame (omega arith))) (nothing_names names i)
+      ]
+    ]
+
+-- the identities that no frame names are the fresh ones
+pub IsFresh-all : (names : Names) (a : State) (i : ℕ) → AreFree (IsFreshAt names a.callers.items) (length a.callers.items) i → IsFreshIn names a.innermost i
+    → IsFresh names a i
+IsFresh-all names a i callers innermost =
+    record {
+      registers = λ j. (fresh_at names a i j callers innermost).registers;
+      slots = λ j. (fresh_at names a i j callers innermost).slots;
+    }
+
+pub IsFreshAt-callers : (names : Names) (a : State) (i : ℕ) → IsFresh names a i → AreFree (IsFreshAt names a.callers.items) (length a.callers.items) i
+IsFreshAt-callers names a i h j below =
+    let same = frame_of-caller a j (omega arith) in
+    subst (λ f. IsFreshIn names f i) same (record { registers = h.registers j; slots = h.slots j })
+
+pub IsFreshIn-innermost : (names : Names) (a : State) (i : ℕ) → IsFresh names a i → IsFreshIn names a.innermost i
+IsFreshIn-innermost names a i h =
+    let n : ℕ = length a.callers.items in
+    subst (λ f. IsFreshIn names f i) (frame_of-innermost a) (record { registers = h.registers n; slots = h.slots n })
+
+-- the first one from 1 up without a mark, after a search of all frames
+pub IsLeastFresh-marks : (names : Names) (a : State) (m n i : ℕ) (none mid marks : List Bool)
+    → Marks (AreFree (IsFreshAt names a.callers.items) (length a.callers.items)) m none mid → Marks (IsFreshIn names a.innermost) n mid marks
+    → ((j : ℕ) → is_marked none j ≡ false) → 0 < i → i < length marks → is_marked marks i ≡ false
+    → ((j : ℕ) → 0 < j → j < i → is_marked marks j ≡ true) → IsLeastFresh names a i
+IsLeastFresh-marks names a m n i none mid marks callers innermost empty some inside free least =
+    let all : Marks (IsFresh names a) (m + n) none marks =
+    Marks-then (AreFree (IsFreshAt names a.callers.items) (length a.callers.items)) (IsFreshIn names a.innermost) (IsFresh names a) m n none mid marks
+    (IsFresh-all names a) (IsFreshAt-callers names a) (IsFreshIn-innermost names a) callers innermost in
+    record {
+      some = some;
+      fresh = (all.free i inside free).1;
+      least = λ j above below fresh. elim (all.named j (least j above below)) [
+        | inl old ↦ absurd (cc (empty j))
+        | inr not ↦ not fresh
+      ];
+    }
+
+-- no mark stands before a search
+pub is_marked-replicate : (n i : ℕ) → is_marked (replicate n false) i ≡ false
+is_marked-replicate zero i = refl
+is_marked-replicate (suc n) zero = refl
+is_marked-replicate (suc n) (suc i) = is_marked-replicate n i

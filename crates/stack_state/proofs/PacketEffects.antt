@@ -1,0 +1,23 @@
+-- What is written into the packet keeps the meaning of an abstract state, which knows no more of the packet than its length.
+use Rattle.std.specs.Prelude.{◌≡◌, ℕ, List, length, refl}
+use Rattle.std.proofs.Common.{sym, ◌∙◌}
+use Rattle.isa_model.specs.Code.Instructions.{Program}
+use Rattle.isa_model.specs.Machine.States as Machine
+use Rattle.isa_model.specs.Machine.MachineStates.{IsState}
+use Rattle.reg_state.specs.Kinds.{Assigned}
+use Rattle.stack_state.specs.declared.states.State.{State}
+use Rattle.stack_state.specs.Meaning.{MeansBy}
+use Rattle.stack_state.proofs.MeaningLaws.{MeansBy-onto}
+
+-- the packet's bytes are others, and as many
+pub MeansBy-packet : (p : Program) (e : Assigned) (a : State) (s : Machine.State) (bytes : List ℕ) → length bytes ≡ length s.packet
+    → IsState p (record s { packet = bytes }) → MeansBy p e a s → MeansBy p e a (record s { packet = bytes })
+MeansBy-packet p e a s bytes long is m =
+    MeansBy-onto p e e a a s (record s { packet = bytes }) refl refl refl is
+    (record {
+      none = m.assigned.none;
+      length_is = m.assigned.length_is ∙ sym long;
+      serials = m.assigned.serials;
+      contents = m.assigned.contents;
+    })
+    refl refl (λ j below. record { registers = λ k v h. h; slots = λ k cs inside h. h }) m

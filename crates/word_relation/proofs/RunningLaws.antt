@@ -1,0 +1,166 @@
+-- Laws of the definitions in specs/Running.
+use Rattle.std.proofs.Common.{◌≡◌, ℕ, zero, suc, ◌<◌, ◌≤◌, length, refl, sym, ap, subst, ◌∙◌, arith, add-one, Bool, true, false, Option, Some, None}
+use Rattle.std.specs.Prelude.{if◌then◌else◌}
+use Rattle.std.specs.List.{list_any}
+use Rattle.isa_model.specs.declared.instructions.Insn.{Insn}
+use Rattle.isa_model.specs.declared.instructions.Insn.TheVariants.{Exit}
+use Rattle.isa_model.specs.declared.ends.TrapReason.TheVariants.{UnsetRead, ReadOnly}
+use Rattle.isa_model.specs.{max_packet}
+use Rattle.isa_model.specs.Code.Instructions.{Program, fetch, reads, writes, is_frame_pointer}
+use Rattle.isa_model.specs.Machine.States.{State, reg}
+use Rattle.isa_model.specs.Machine.Steps.{StepResult, Next, Finished, Trapped, is_unset, act, performed_at, step}
+use Rattle.isa_model.specs.Machine.MachineStates.{IsProgram, IsClock, IsState}
+use Rattle.isa_model.proofs.StepLaws.{IfNext, step_keeps}
+use Rattle.isa_model.proofs.RunLaws.{progress-zero}
+use Rattle.isa_model.specs.Running.Ends.{After, Ends as ModelEnds}
+use Rattle.isa_model.proofs.EndsLaws.{Reaches-then}
+use Rattle.word_machine.specs.Words.{Words}
+use Rattle.word_machine.specs.Flows.{Fits}
+use Rattle.word_machine.specs.Runs.{Stands, Ends, StepsTo, Reaches, Exits}
+use Rattle.word_relation.specs.Related.{Layout, Related}
+use Rattle.word_relation.proofs.Moves.{OkMove, not_last, moves}
+use Rattle.word_relation.specs.Running.{Finishes, Follows}
+
+-- a step that does not trap has an instruction
+fetched : (p : Program) (clock : ℕ → ℕ) (s : State) (P : State → Type 0) → After P (step p clock s) → (i : Insn) × (fetch p s.slot ≡ Some i)
+unfolding step
+fetched p clock s P h = by_fetch (fetch p s.slot) refl h
+  where
+    by_fetch : (o : Option Insn) → fetch p s.slot ≡ o → After P (performed_at p clock s o) → (i : Insn) × (fetch p s.slot ≡ Some i)
+    by_fetch None e h = absurd h
+    by_fetch (Some i) e h = (i, e)
+
+-- and its instruction does not write r10
+not_read_only : (p : Program) (clock : ℕ → ℕ) (s : State) (P : State → Type 0) (i : Insn) → fetch p s.slot ≡ Some i → After P (step p clock s)
+    → is_frame_pointer (writes i) ≡ false
+unfolding step
+not_read_only p clock s P i found h =
+    unset (list_any (λ r. is_unset (reg s r)) (reads i)) (subst (λ o. After P (performed_at p clock s o)) found h)
+  where
+    own : (b : Bool) (r : StepResult) → After P (if b then Trapped ReadOnly else r) → b ≡ false
+    own true r h = absurd h
+    own false r h = refl
+
+    unset : (b : Bool) → After P (if b then Trapped UnsetRead else if is_frame_pointer (writes i) then Trapped ReadOnly else act p clock s i)
+        → is_frame_pointer (writes i) ≡ false
+    unset true h = absurd h
+    unset false h = own (is_frame_pointer (writes i)) (act p clock s i) h
+
+module _ (p : Program) (clock : ℕ → ℕ) (program : IsProgram p) (answers : IsClock clock) where
+  -- ---- runs that end
+
+  -- a step that does not trap says what the move needs, and what holds of the next words where it holds of the next states
+  stands : (P : Words → Type 0) (Q : State → Type 0) (a : Layout) (s : State) (w : Words) (R : Related p a s w) (K : IsState p s) (i : Insn) → fetch p s.slot ≡ Some i
+      → is_frame_pointer (writes i) ≡ false → (q : StepResult) → After Q q → OkMove p clock a s w R K i q → IfNext q (IsState p)
+      → ((b : Layout) (t : State) (v : Words) → Related p b t v → IsState p t → Q t → P v) → Stands p clock w P
+  stands P Q a s w R K i found own q ends move keeps rest = by_step q ends move keeps
+    where
+      shallow : length w.saved < 8
+      shallow = let d = R.frames.depth in let e = K.depth in omega arith
+
+      short : length w.packet ≤ max_packet
+      short = let e = ap length R.packet in let f = K.short in omega arith
+
+      by_step : (q : StepResult) → After Q q → OkMove p clock a s w R K i q → IfNext q (IsState p) → Stands p clock w P
+      by_step (Next t) ends move keeps = record {
+        insn = i;
+        found = ap (fetch p) R.slot ∙ found;
+        fits = move.0;
+        own = own;
+        shallow = shallow;
+        short = short;
+        after = λ going v m. let (b, related) = move.2 v m in rest b t v related keeps ends;
+      }
+      by_step (Finished x) ends move keeps = record {
+        insn = i;
+        found = ap (fetch p) R.slot ∙ found;
+        fits = subst (Fits w) (sym move.0.0) tt;
+        own = own;
+        shallow = shallow;
+        short = short;
+        after = λ going v m. absurd (going move.0);
+      }
+      by_step (Trapped e) ends move keeps = absurd ends
+
+  -- what ends in the model ends in words
+  pub related_Ends : (n : ℕ) (a : Layout) (s : State) (w : Words) → Related p a s w → IsState p s → ModelEnds p clock s n → Ends p clock w n
+  unfolding ModelEnds Ends
+  related_Ends zero a s w R K h = absurd h
+  related_Ends (suc n) a s w R K h =
+      let (i, found) = fetched p clock s (λ t. ModelEnds p clock t n) h in
+      stands (λ v. Ends p clock v n) (λ t. ModelEnds p clock t n) a s w R K i found
+      (not_read_only p clock s (λ t. ModelEnds p clock t n) i found h) (step p clock s) h (moves p clock a s w R K i found program)
+      (step_keeps p clock s program answers K) (λ b t v related keeps ends. related_Ends n b t v related keeps ends)
+
+  -- ---- runs so far
+
+  same_insn : (slot : ℕ) (i j : Insn) → fetch p slot ≡ Some i → fetch p slot ≡ Some j → i ≡ j
+  same_insn slot i j e f = let g : Some i ≡ Some j = sym e ∙ f in cc
+
+  -- what ends has a step more
+  some_left : (s : State) (n : ℕ) → ModelEnds p clock s n → (m : ℕ) × (n ≡ suc m) × After (λ t. ModelEnds p clock t m) (step p clock s)
+  unfolding ModelEnds
+  some_left s zero h = absurd h
+  some_left s (suc m) h = (m, refl, h)
+
+  one_more : (s : State) (n k : ℕ) (u v : Words) → Follows p clock s n k u → StepsTo p clock u v → Follows p clock s n (suc k) v
+  one_more s n k u v F S =
+      let (m, left, ends) = some_left F.state F.left F.ends in
+      let found : fetch p F.state.slot ≡ Some S.insn = ap (fetch p) (sym F.related.slot) ∙ S.found in
+      goes m left (step p clock F.state) refl ends (moves p clock F.layout F.state u F.related F.is S.insn found program) (step_keeps p clock F.state program answers F.is)
+    where
+      goes : (m : ℕ) → F.left ≡ suc m → (q : StepResult) → step p clock F.state ≡ q → After (λ t. ModelEnds p clock t m) q
+          → OkMove p clock F.layout F.state u F.related F.is S.insn q → IfNext q (IsState p) → Follows p clock s n (suc k) v
+      goes m left (Next t) e ends move keeps =
+          let (b, related) = move.2 v S.moves in
+          record {
+            state = t;
+            layout = b;
+            reached = Reaches-then p clock s k F.state t F.reached e;
+            is = keeps;
+            related = related;
+            left = m;
+            in_time = let h = F.in_time in omega arith;
+            ends = ends;
+          }
+      goes m left (Finished x) e ends move keeps = absurd (S.goes move.0)
+      goes m left (Trapped x) e ends move keeps = absurd ends
+
+  pub related_Reaches : (k n : ℕ) (a : Layout) (s : State) (w v : Words) → Related p a s w → IsState p s → ModelEnds p clock s n
+      → Reaches p clock w k v → Follows p clock s n k v
+  unfolding Reaches
+  related_Reaches zero n a s w v R K h r = record {
+    state = s;
+    layout = a;
+    reached = progress-zero p clock s;
+    is = K;
+    related = subst (Related p a s) (sym r) R;
+    left = n;
+    in_time = omega arith;
+    ends = h;
+  }
+  related_Reaches (suc k) n a s w v R K h r =
+      let (u, before, last) = r in
+      one_more s n k u v (related_Reaches k n a s w u R K h before) last
+
+  -- ---- exits
+
+  pub related_Exits : (n : ℕ) (a : Layout) (s : State) (w v : Words) (number steps : ℕ) → Related p a s w → IsState p s → ModelEnds p clock s n
+      → Exits p clock w number steps v → Finishes p clock s n number steps v
+  related_Exits n a s w v number steps R K h e =
+      let F = related_Reaches e.before n a s w v R K h e.reached in
+      let (m, left, ends) = some_left F.state F.left F.ends in
+      let found : fetch p F.state.slot ≡ Some Exit = ap (fetch p) (sym F.related.slot) ∙ e.found in
+      record {
+        before = e.before;
+        follows = F;
+        exits = finished F m (step p clock F.state) refl ends (moves p clock F.layout F.state v F.related F.is Exit found program);
+        counted = e.counted ∙ add-one e.before;
+        in_time = let c = e.counted in let t = F.in_time in omega arith;
+      }
+    where
+      finished : (F : Follows p clock s n e.before v) (m : ℕ) (q : StepResult) → step p clock F.state ≡ q → After (λ t. ModelEnds p clock t m) q
+          → OkMove p clock F.layout F.state v F.related F.is Exit q → step p clock F.state ≡ Finished number
+      finished F m (Next t) f ends move = absurd (not_last v Exit move.1 (refl, e.first))
+      finished F m (Finished x) f ends move = f ∙ ap Finished (sym (e.answer ∙ move.1))
+      finished F m (Trapped x) f ends move = absurd ends
