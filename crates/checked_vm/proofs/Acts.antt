@@ -6,6 +6,7 @@ use Rattle.std.proofs.lemmas.Bool.{cases_lt}
 use Rattle.std.proofs.lemmas.Bool.Decides.{nat_tests}
 use Rattle.std.proofs.lemmas.List.{get_or_past}
 use Rattle.std.proofs.lemmas.Option.{slice_get_past, slice_get-get_or}
+use Rattle.isa_model.specs.Code.Limits.{max_call_frames}
 use Rattle.isa_model.specs.declared.instructions.Insn.{Insn}
 use Rattle.isa_model.specs.declared.ends.TrapReason.{TrapReason}
 use Rattle.isa_model.specs.declared.ends.TrapReason.TheVariants.{NoCode}
@@ -26,7 +27,7 @@ performs_apart slots i j (Ok done) old new packet e h = λ p clock count. rw e (
 performs_apart slots i j (Err reason) old new packet e h = (λ p clock count. rw e (h.0 packet p clock), h.1, refl)
 
 -- a call below the last frame enters
-pub calls_enter : (s : State) (p : Program) (by : ℤ) (slots to : ℕ) → length p.insns ≡ slots → to ≡ unwrap_or (target s.slot by) slots → (length s.frames ≡ 8 → ⊥) → calls s p by ≡ Next (enter s to)
+pub calls_enter : (s : State) (p : Program) (by : ℤ) (slots to : ℕ) → length p.insns ≡ slots → to ≡ unwrap_or (target s.slot by) slots → (length s.frames ≡ max_call_frames → ⊥) → calls s p by ≡ Next (enter s to)
 calls_enter s p by slots to count leads few = rw (leads, count) (grind (arith, nat_tests))
 
 -- an exit of an inner frame leaves it

@@ -8,7 +8,7 @@ ghost use Rattle.isa_model.specs.Code.Limits.{max_call_frames};
 ghost use Rattle.isa_model.specs.Running.Runs.{start_state};
 ghost use Rattle.checked_vm.specs.Machine.{state_of};
 
-use isa_model::{CallFrame, Cell, FrameHead, MAX_CALL_FRAMES, Reg, Region, Value};
+use isa_model::{CallFrame, Cell, FRAME_SIZE, FrameHead, MAX_CALL_FRAMES, Reg, Region, Value};
 use live_maps::LiveMaps;
 use std::alloc::{AllocError, Global};
 
@@ -37,7 +37,7 @@ pub fn new_frame(serial: u64, return_slot: usize, saved: [Value; 4]) -> CallFram
 {
     CallFrame {
         serial,
-        cells: [Cell::Unwritten; 512],
+        cells: [Cell::Unwritten; FRAME_SIZE],
         return_slot,
         saved,
     }

@@ -1,19 +1,20 @@
 //! Places in memory: where an access begins, and whether all its bytes are there.
 
 ghost use Rattle.std.specs.Prelude.{◌≡◌, ◌+◌, ◌-◌, ◌<◌, ◌≤◌, ◌^◌, List, pos, negsuc, ◌+ℤ◌, ◌<ℤ◌, length, Some, IfOk};
+ghost use Rattle.isa_model.specs.Code.Limits.{frame_size, max_value_size};
 ghost use Rattle.isa_model.specs.declared.values.Cell.{Cell};
 ghost use Rattle.isa_model.specs.Machine.Memory.{index_from, index_at, place_in};
 
-use isa_model::{Cell, Place, Region, TrapReason};
+use isa_model::{Cell, FRAME_SIZE, Place, Region, TrapReason};
 
 /// The index of the cell at an offset of a region, if it is not before the first.
 fn index_of(region: Region, offset: i128) -> Option<usize>
     requires least { negsuc (2 ^ 64) <ℤ offset }
-    requires most { offset <ℤ pos (2 ^ 64 - 512) }
+    requires most { offset <ℤ pos (2 ^ 64 - frame_size) }
     ensures { result ≡ index_at region offset }
 {
     match region {
-        Region::Frame(_) => index_from(offset + 512),
+        Region::Frame(_) => index_from(offset + FRAME_SIZE as i128),
         _ => index_from(offset),
     }
 }
@@ -42,7 +43,7 @@ fn index_from(z: i128) -> Option<usize>
 
 /// Where n cells begin, if all of them are there.
 pub fn place_in(cells: &[Cell], index: Option<usize>, n: usize) -> Result<usize, TrapReason>
-    requires { n ≤ 4096 }
+    requires { n ≤ max_value_size }
     ensures place { result ≡ place_in (Some cells.now) index n }
     ensures within { IfOk result (λ i. i + n ≤ length cells.now) }
 {
@@ -52,7 +53,7 @@ pub fn place_in(cells: &[Cell], index: Option<usize>, n: usize) -> Result<usize,
 /// Where n of the cells begin, if all of them are there.
 pub fn place_within(len: usize, index: Option<usize>, n: usize) -> Result<usize, TrapReason>
     requires room { len < 2 ^ 63 }
-    requires few { n ≤ 4096 }
+    requires few { n ≤ max_value_size }
     ensures place { (cells : List Cell) → length cells ≡ len
         → result ≡ place_in (Some cells) index n }
     ensures within { IfOk result (λ i. i + n ≤ len) }

@@ -1,6 +1,7 @@
 //! Reads of cells and bytes in call frames, the packet and values of maps.
 
 ghost use Rattle.std.specs.Prelude.{◌≡◌, ◌+◌, ◌<◌, ◌≤◌, ℕ, List, length, map, slice_index, Some, Ok, Err, IfOk, MatchResult, vec_len};
+ghost use Rattle.isa_model.specs.Code.Limits.{max_value_size};
 ghost use Rattle.isa_model.specs.Code.Numbers.{number_from};
 ghost use Rattle.isa_model.specs.Machine.States.{frame_at};
 ghost use Rattle.isa_model.specs.Machine.Memory.{frame_index, place_of, read};
@@ -38,7 +39,7 @@ pub fn number_from(bytes: &[u8]) -> u64
 
 /// The bytes at a place.
 fn bytes_at(bytes: &[u8], at: Option<usize>, n: usize) -> Result<&[u8], TrapReason>
-    requires { n ≤ 4096 }
+    requires { n ≤ max_value_size }
     ensures read { MatchResult result
         (λ found. read_cells (Some (map Cell.Byte bytes.now)) at n ≡ Ok (map Cell.Byte found.now))
         (λ e. read_cells (Some (map Cell.Byte bytes.now)) at n ≡ Err e) }
@@ -58,7 +59,7 @@ impl Core {
         at: Option<usize>,
         n: usize,
     ) -> Result<(usize, usize), TrapReason>
-        requires { n ≤ 4096 }
+        requires { n ≤ max_value_size }
         ensures { MatchResult result
             (λ p. (frame_index self.now.frames.items serial ≡ Some p.0)
             × (p.0 < vec_len self.now.frames)
@@ -85,7 +86,7 @@ impl Core {
         at: Option<usize>,
         n: usize,
     ) -> Result<&[Cell], TrapReason>
-        requires { n ≤ 4096 }
+        requires { n ≤ max_value_size }
         ensures read { MatchResult result
             (λ cs. (packet : List ℕ)
             → read (state_of self.now packet) (Region.Frame serial) at n ≡ Ok cs.now)
@@ -105,7 +106,7 @@ impl Core {
         at: Option<usize>,
         n: usize,
     ) -> Result<&'a [u8], TrapReason>
-        requires { n ≤ 4096 }
+        requires { n ≤ max_value_size }
         ensures read { MatchResult result
             (λ bs. read (state_of self.now packet.now) Region.Packet at n
             ≡ Ok (map Cell.Byte bs.now))
@@ -123,7 +124,7 @@ impl Core {
         at: Option<usize>,
         n: usize,
     ) -> Result<&[u8], TrapReason>
-        requires { n ≤ 4096 }
+        requires { n ≤ max_value_size }
         ensures read { MatchResult result
             (λ bs. (packet : List ℕ)
             → read (state_of self.now packet) (Region.MapValue index serial) at n

@@ -4,6 +4,7 @@ use Rattle.std.specs.Prelude.{◌&&◌, All, slice_get}
 use Rattle.std.specs.Option.{IsSomeAnd, option_or}
 use Rattle.std.proofs.lemmas.Bool.{and_parts, eqb-true, leb-true, le-leb, ltb-true, lt-ltb}
 use Rattle.std.proofs.lemmas.List.Elements.{All-nil, All-cons, All-head, All-tail}
+use Rattle.isa_model.specs.Code.Limits.{max_key_size, max_value_size, max_map_entries}
 use Rattle.isa_model.specs.declared.map_defs.MapKind.{MapKind}
 use Rattle.isa_model.specs.declared.map_defs.MapKind.TheVariants.{Hash, Array}
 use Rattle.isa_model.specs.declared.map_defs.MapDef.{MapDef}
@@ -29,11 +30,11 @@ passes false e h = absurd cc
 -- ---- the limits of a row
 
 key_fits-KeyFits : (kind : MapKind) (n : ℕ) → key_fits kind n ≡ true → KeyFits kind n
-key_fits-KeyFits Hash n h = let p = and_parts _ _ h in (leb-true 1 n p.0, leb-true n 64 p.1)
+key_fits-KeyFits Hash n h = let p = and_parts _ _ h in (leb-true 1 n p.0, leb-true n max_key_size p.1)
 key_fits-KeyFits Array n h = eqb-true n 4 h
 
 KeyFits-key_fits : (kind : MapKind) (n : ℕ) → KeyFits kind n → key_fits kind n ≡ true
-KeyFits-key_fits Hash n h = both _ _ (le-leb 1 n h.0) (le-leb n 64 h.1)
+KeyFits-key_fits Hash n h = both _ _ (le-leb 1 n h.0) (le-leb n max_key_size h.1)
 KeyFits-key_fits Array n h = eq-eqb n 4 h
 
 pub IsRow-row_fits : (row : MapDef) → row_fits row ≡ true → IsRow row
@@ -45,17 +46,17 @@ IsRow-row_fits row h =
     record {
       key = key_fits-KeyFits row.kind row.key_size q.0;
       some_value = leb-true 1 row.value_size value.0;
-      short_value = leb-true row.value_size 4096 value.1;
+      short_value = leb-true row.value_size max_value_size value.1;
       some_entries = leb-true 1 row.entries entries.0;
-      few_entries = leb-true row.entries 65536 entries.1;
+      few_entries = leb-true row.entries max_map_entries entries.1;
     }
 
 pub row_fits-IsRow : (row : MapDef) → IsRow row → row_fits row ≡ true
 row_fits-IsRow row h =
     both _ _
     (both _ _ (KeyFits-key_fits row.kind row.key_size h.key)
-    (both _ _ (le-leb 1 row.value_size h.some_value) (le-leb row.value_size 4096 h.short_value)))
-    (both _ _ (le-leb 1 row.entries h.some_entries) (le-leb row.entries 65536 h.few_entries))
+    (both _ _ (le-leb 1 row.value_size h.some_value) (le-leb row.value_size max_value_size h.short_value)))
+    (both _ _ (le-leb 1 row.entries h.some_entries) (le-leb row.entries max_map_entries h.few_entries))
 
 pub All-rows_refusal : (index : ℕ) (rows : List MapDef) → rows_refusal index rows ≡ None → All IsRow rows
 All-rows_refusal index [] h = All-nil IsRow

@@ -38,7 +38,7 @@ pub struct LiveMaps {
 }
 
 impl Model for LiveMaps {
-    ghost use Rattle.std.specs.Prelude.{◌≡◌, ◌≤◌, length, All, IfSome, vec_capacity};
+    ghost use Rattle.std.specs.Prelude.{◌≡◌, ◌≤◌, length, All, IfSome, vec_capacity, ◌^◌};
     ghost use Rattle.maps.specs.Maps.{rows_of};
     ghost use Rattle.live_maps.specs.Live.{Live, live_contents, AreLive, IsLeastRoom};
     ghost use Rattle.live_maps.specs.Numbering.{IsNumbered};
@@ -51,7 +51,7 @@ impl Model for LiveMaps {
       next_serial = l.next;
     } };
 
-    ghost invariant = { λ l. (length l.maps ≤ 65536)
+    ghost invariant = { λ l. (length l.maps ≤ 2 ^ 16)
         × (All (λ m. m.row.entries ≤ vec_capacity l.list) l.maps)
         × (AreLive l.next l.maps l.serials.items)
         × (IfSome l.numbered (λ n. IsNumbered n l.maps l.serials.items))
@@ -88,7 +88,7 @@ fn new_place(maps: &Maps, index: usize, key: &[u8], before: Option<usize>) -> Op
 impl LiveMaps {
     /// Makes all room that runs fill.
     pub fn new(alloc: Global, maps: Maps) -> Result<Self, AllocError>
-        requires { length maps ≤ 65536 }
+        requires { length maps ≤ 2 ^ 16 }
         ensures rows { IfOk result (λ l. l.rows ≡ rows_of maps) }
         ensures contents { IfOk result (λ l. map entries_of l.contents ≡ contents_of maps) }
     {

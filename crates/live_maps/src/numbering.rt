@@ -1,6 +1,6 @@
 //! The numbering at the start of a run: serials from 0 on.
 
-ghost use Rattle.std.specs.Prelude.{◌≡◌, ◌<◌, ◌≤◌, ℕ, length, All, IfSome, vec_capacity, vec_len};
+ghost use Rattle.std.specs.Prelude.{◌≡◌, ◌<◌, ◌≤◌, ℕ, length, All, IfSome, vec_capacity, vec_len, ◌^◌};
 ghost use Rattle.maps.specs.Maps.{IsMap, map_at};
 ghost use Rattle.live_maps.specs.Live.{serials_at};
 ghost use Rattle.live_maps.specs.Numbering.{IsNumbered};
@@ -10,7 +10,7 @@ use maps::Maps;
 
 /// Numbers the values of all maps from 0 on, and answers how many there are.
 pub fn number_all(maps: &Maps, all: &mut Vec<Table>, list: &mut Vec<usize>) -> u64
-    requires few { length maps.now ≤ 65536 }
+    requires few { length maps.now ≤ 2 ^ 16 }
     requires len { vec_len all.old ≡ length maps.now }
     requires rooms { (m : ℕ) → m < length maps.now
         → length (serials_at all.old.items m) ≡ (map_at maps.now m).row.entries }
@@ -37,7 +37,7 @@ pub fn renumber_all(
     list: &mut Vec<usize>,
     numbered: Option<u64>,
 ) -> u64
-    requires few { length maps.now ≤ 65536 }
+    requires few { length maps.now ≤ 2 ^ 16 }
     requires len { vec_len all.old ≡ length maps.now }
     requires rooms { (m : ℕ) → m < length maps.now
         → length (serials_at all.old.items m) ≡ (map_at maps.now m).row.entries }

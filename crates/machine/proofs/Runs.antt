@@ -2,6 +2,7 @@
 use Rattle.std.proofs.Common.{◌≡◌, ℕ, ◌+◌, ◌<◌, ◌≤◌, ◌^◌, List, length, sym, ap, subst, ◌∙◌}
 use Rattle.std.proofs.lemmas.List.{nil_from_length}
 use Rattle.std.specs.Prelude.{All, vec_capacity}
+use Rattle.isa_model.specs.Code.Limits.{max_call_frames}
 use Rattle.isa_model.specs.declared.frames.FrameHead.{FrameHead}
 use Rattle.isa_model.specs.Code.Instructions.{Program}
 use Rattle.isa_model.specs.Machine.States.{Entries}
@@ -95,7 +96,7 @@ module _ (p : Program) (bound : ℕ) (memory : Memory) (ready : IsReady p bound 
     }
 
     -- and the machine can run again
-    pub still_ready : vec_capacity left.saved ≡ 8 → IsReady p bound left
+    pub still_ready : vec_capacity left.saved ≡ max_call_frames → IsReady p bound left
     still_ready room = record {
       running = record {
         is_program = ready.running.is_program;

@@ -1,5 +1,7 @@
 -- What a machine keeps between runs.
 use Rattle.std.specs.Prelude.{◌≡◌, ℕ, ◌≤◌, [], length, vec_capacity}
+use Rattle.word_machine.specs.Addresses.{frames_size}
+use Rattle.isa_model.specs.Code.Limits.{max_maps, max_call_frames}
 use Rattle.isa_model.specs.Code.Instructions.{Program}
 use Rattle.maps.specs.Maps.{rows_of, contents_of}
 use Rattle.word_machine.specs.declared.memory.Memory.{Memory}
@@ -9,8 +11,8 @@ use Rattle.machine.specs.Running.{IsRunning}
 -- for those that will
 pub record IsReady (p : Program) (bound : ℕ) (memory : Memory) : Type 0 where
   pub running : IsRunning (record { program = p; bound = bound; contents = contents_of memory.maps })
-  pub few : length p.maps ≤ 16
+  pub few : length p.maps ≤ max_maps
   pub rows : rows_of memory.maps ≡ p.maps
-  pub whole : length memory.frames.items ≡ 4096
+  pub whole : length memory.frames.items ≡ frames_size
   pub outer : memory.saved.items ≡ []
-  pub room : vec_capacity memory.saved ≡ 8
+  pub room : vec_capacity memory.saved ≡ max_call_frames

@@ -12,15 +12,10 @@ use isa_model::{Clock, FrameHead};
 use maps::Maps;
 use std::alloc::Global;
 use std::marker::Model;
+use word_machine::addresses::{CONTEXT, FRAME_END};
 use word_machine::loaded::Loaded;
 use word_machine::memory::Memory;
 use word_machine::run::run;
-
-// What r1 holds at the start, which is the address of the context.
-const CONTEXT: u64 = 0x1_8000_0000;
-
-// What r10 holds at the start, which is the end of the first frame.
-const FRAME_END: u64 = 0x30_8000_0000;
 
 /// How a run ended: its result, and how many instructions it had.
 #[derive(Clone, Copy, PartialEq, Eq, Debug)]

@@ -1,12 +1,13 @@
 -- Laws of the definitions in specs/Maps.
 use Rattle.std.specs.Prelude.{◌≡◌, ℕ, ◌≤◌}
 use Rattle.std.proofs.Common.{arith}
+use Rattle.isa_model.specs.Code.Limits.{max_key_size}
 use Rattle.isa_model.specs.declared.map_defs.MapKind.{MapKind}
 use Rattle.isa_model.specs.declared.map_defs.MapKind.TheVariants.{Hash, Array}
 use Rattle.isa_model.specs.Code.MapRows.{KeyFits}
 
--- no key has more than 64 bytes
-pub KeyFits-most : (kind : MapKind) (n : ℕ) → KeyFits kind n → n ≤ 64
+-- no key has more than `max_key_size` bytes
+pub KeyFits-most : (kind : MapKind) (n : ℕ) → KeyFits kind n → n ≤ max_key_size
 KeyFits-most Hash n fits = fits.1
 KeyFits-most Array n fits = omega arith
 

@@ -10,6 +10,7 @@ pub mod either;
 pub mod errors;
 mod helpers;
 pub mod ordered;
+pub mod rooms;
 pub mod store;
 mod stores;
 
@@ -20,4 +21,5 @@ pub use errors::MapError;
 pub use helpers::{delete, lookup, update};
 pub use map_indexes::{ArrayIndex, ChainIndex, Index, ScanIndex, arrays, chained, index, scan};
 pub use ordered::Ordered;
+pub use rooms::{KEY_ROOM, VALUE_ROOM};
 pub use store::{ArrayMap, HashMapChain, HashMapScan, MapStore, Store};

@@ -3,6 +3,7 @@ use Rattle.std.specs.Prelude.{◌≡◌, ℕ, zero, suc, ◌+◌, ◌-◌, ◌<�
 use Rattle.std.proofs.Common.{sym, ap, ◌∙◌, subst, inl, inr, arith}
 use Rattle.std.proofs.lemmas.Bool.{cases_lt}
 use Rattle.std.proofs.lemmas.List.{length-append, length-replicate, map-append, get_or_append_left, get_or-append_right}
+use Rattle.isa_model.specs.Code.Limits.{frame_size}
 use Rattle.isa_model.specs.declared.values.Value.{Value}
 use Rattle.isa_model.specs.declared.values.Cell.{Cell}
 use Rattle.isa_model.specs.declared.values.Cell.TheVariants.{Unwritten}
@@ -158,7 +159,7 @@ stack_entered p e a s target j below m =
           let cells : frame_at (s.frames ++ new ∷ []) j ≡ new = ap (frame_at (s.frames ++ new ∷ [])) here ∙ last_frame s.frames new in
           let slots : slots_of (entered a target) j ≡ unset_slots = ap (slots_of (entered a target)) callee ∙ ap (λ f. f.stack.slots) (frame_of-entered_callee a target) in
           subst (λ f. StackMeans more (slots_of (entered a target) j) f.cells) (sym cells)
-          (subst (λ l. StackMeans more l new.cells) (sym slots) (StackMeans-new more new.cells (length-replicate 512 Unwritten)))
+          (subst (λ l. StackMeans more l new.cells) (sym slots) (StackMeans-new more new.cells (length-replicate frame_size Unwritten)))
     ]
 
 kept_entered : (p : Program) (e : Assigned) (a : State) (s : Machine.State) (target j k : ℕ) → suc j < depth (entered a target) → k < 4 → MeansBy p e a s

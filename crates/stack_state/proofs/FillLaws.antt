@@ -3,6 +3,7 @@ use Rattle.std.specs.Prelude.{◌≡◌, ◌≢◌, ℕ, ◌*◌, ◌^◌, ◌<�
 use Rattle.std.proofs.Common.{sym, ap, ◌∙◌, subst, arith}
 use Rattle.std.proofs.lemmas.Bool.Decides.{nat_tests}
 use Rattle.std.proofs.lemmas.Nat.Bits.{bit_at_ones}
+use Rattle.isa_model.specs.Code.Limits.{frame_size}
 use Rattle.isa_model.specs.declared.sizes.Size.TheVariants.{U64}
 use Rattle.isa_model.specs.declared.values.Value.{Value}
 use Rattle.isa_model.specs.declared.values.Value.TheVariants.{Num}
@@ -14,7 +15,7 @@ use Rattle.reg_state.specs.declared.kinds.Kind.TheVariants.{Unset, Number, Conte
 use Rattle.reg_state.specs.Kinds.{Assigned, Allows, AllowsOrNull}
 use Rattle.stack_state.specs.declared.slots.Slot.{Slot}
 use Rattle.stack_state.specs.declared.slots.Slot.TheVariants.{Written, Spilled}
-use Rattle.stack_state.specs.Slots.{slot_at, IsAnyNumber, IsWrittenFill, IsFill, spilled_kind, forgotten_slot, forgotten}
+use Rattle.stack_state.specs.Slots.{slot_at, IsAnyNumber, IsWrittenFill, IsFill, spilled_kind, forgotten_slot, forgotten, frame_slots}
 use Rattle.stack_state.specs.StackMeaning.{chunk_of, Marked, SlotMeans, Fills, KeepsOthers, with_maps, Forgets}
 use Rattle.stack_state.proofs.SpliceLaws.{length-chunk}
 use Rattle.stack_state.proofs.CellLaws.{all_bytes, value_in-bytes, no_marks, value_stored}
@@ -26,12 +27,12 @@ pub any_number : (e : Assigned) (k : Kind) (n : ℕ) → n < 2 ^ 64 → IsAnyNum
 any_number e (Number numbers) n below any = (n, refl, any n below)
 any_number e k n below any = absurd any
 
-fills_written : (slots : List Slot) (k marks : ℕ) (answer : Option Kind) → k < 64 → slot_at slots k ≡ Written marks
+fills_written : (slots : List Slot) (k marks : ℕ) (answer : Option Kind) → k < frame_slots → slot_at slots k ≡ Written marks
     → IsWrittenFill marks answer → Fills slots k answer
 unfolding Fills
 fills_written slots k marks None within here is = tt
 fills_written slots k marks (Some kind) within here is = λ e rows next cells fit m.
-    let wide : length cells ≡ 512 = m.size in
+    let wide : length cells ≡ frame_size = m.size in
     let marked : Marked 255 (chunk_of k cells) =
     subst (λ (s : Slot). SlotMeans e s (chunk_of k cells)) (here ∙ ap Written is.0) (m.each k within) in
     let eight = length-chunk k cells (omega arith) in
@@ -39,13 +40,13 @@ fills_written slots k marks (Some kind) within here is = λ e rows next cells fi
     let below : number_of (chunk_of k cells) < 2 ^ 64 = part_below U64 rows next cells (8 * k) (omega arith) fit in
     (Num (number_of (chunk_of k cells)), value_in-bytes (chunk_of k cells) all, any_number e kind _ below is.1)
 
-fills_spilled : (slots : List Slot) (k : ℕ) (kind : Kind) → k < 64 → kind ≢ Unset → slot_at slots k ≡ Spilled kind → Fills slots k (Some kind)
+fills_spilled : (slots : List Slot) (k : ℕ) (kind : Kind) → k < frame_slots → kind ≢ Unset → slot_at slots k ≡ Spilled kind → Fills slots k (Some kind)
 unfolding Fills
 fills_spilled slots k kind within set here = λ e rows next cells fit m.
     let h : SlotMeans e (Spilled kind) (chunk_of k cells) = subst (λ (s : Slot). SlotMeans e s (chunk_of k cells)) here (m.each k within) in
     (h.0, ap value_in h.2 ∙ value_stored e kind h.0 set h.1, h.1)
 
-fills_kind : (slots : List Slot) (k : ℕ) (kind : Kind) → k < 64 → slot_at slots k ≡ Spilled kind → Fills slots k (spilled_kind kind)
+fills_kind : (slots : List Slot) (k : ℕ) (kind : Kind) → k < frame_slots → slot_at slots k ≡ Spilled kind → Fills slots k (spilled_kind kind)
 unfolding Fills
 fills_kind slots k Unset within here = tt
 fills_kind slots k (Number numbers) within here = fills_spilled slots k (Number numbers) within (λ e. cc e) here
@@ -57,12 +58,12 @@ fills_kind slots k (Map m) within here = fills_spilled slots k (Map m) within (�
 fills_kind slots k (MapValue m l g) within here = fills_spilled slots k (MapValue m l g) within (λ e. cc e) here
 fills_kind slots k (MapValueOrNull m i) within here = fills_spilled slots k (MapValueOrNull m i) within (λ e. cc e) here
 
-fills_slot : (slots : List Slot) (k : ℕ) (s : Slot) (answer : Option Kind) → k < 64 → slot_at slots k ≡ s → IsFill s answer → Fills slots k answer
+fills_slot : (slots : List Slot) (k : ℕ) (s : Slot) (answer : Option Kind) → k < frame_slots → slot_at slots k ≡ s → IsFill s answer → Fills slots k answer
 fills_slot slots k (Written marks) answer within here is = fills_written slots k marks answer within here is
 fills_slot slots k (Spilled kind) answer within here is =
     subst (λ (o : Option Kind). Fills slots k o) (sym is) (fills_kind slots k kind within here)
 
-pub fills : (slots : List Slot) (k : ℕ) (answer : Option Kind) → k < 64 → IsFill (slot_at slots k) answer → Fills slots k answer
+pub fills : (slots : List Slot) (k : ℕ) (answer : Option Kind) → k < frame_slots → IsFill (slot_at slots k) answer → Fills slots k answer
 fills slots k answer within is = fills_slot slots k (slot_at slots k) answer within refl is
 
 -- ---- forgotten
@@ -101,7 +102,7 @@ SlotMeans-forgotten e maps m (Spilled (Packet f i l g p)) cs keeps h =
     let x = h.1 in (h.0, record { points = x.points; from = x.from; to = x.to; inside = x.inside }, h.2)
 SlotMeans-forgotten e maps m (Spilled k) cs keeps h = h
 
-pub forgets : (slots : List Slot) (m : ℕ) → length slots ≡ 64 → Forgets m slots (forgotten m slots)
+pub forgets : (slots : List Slot) (m : ℕ) → length slots ≡ frame_slots → Forgets m slots (forgotten m slots)
 unfolding Forgets
 forgets slots m count = λ e maps cells keeps means.
     StackMeans-map (forgotten_slot m) e (with_maps e maps) slots cells count

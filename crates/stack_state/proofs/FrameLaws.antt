@@ -3,6 +3,7 @@ use Rattle.std.specs.Prelude.{◌≡◌, ◌≢◌, ℕ, ◌+◌, ◌*◌, ◌�
 use Rattle.std.proofs.Common.{sym, ◌∙◌, subst}
 use Rattle.std.proofs.lemmas.Bool.{le-leb}
 use Rattle.std.proofs.lemmas.List.{length-map}
+use Rattle.isa_model.specs.Code.Limits.{frame_size}
 use Rattle.isa_model.specs.declared.sizes.Size.{Size}
 use Rattle.isa_model.specs.declared.sizes.Size.TheVariants.{U64}
 use Rattle.isa_model.specs.declared.values.Region.TheVariants as region
@@ -28,7 +29,7 @@ use Rattle.stack_state.proofs.CellLaws.{length-bytes_of}
 -- a pointer into the frame of serial n, which is the jth, moved by an instruction's offset: n cells from `at` on are there
 pub record IsHere (s : State) (serial j at n : ℕ) (z by : ℤ) : Type 0 where
   pub found : frame_index s.frames serial ≡ Some j
-  pub index : index_from ((z +ℤ by) +ℤ pos 512) ≡ Some at
+  pub index : index_from ((z +ℤ by) +ℤ pos frame_size) ≡ Some at
   pub inside : at + n ≤ length (frame_at s.frames j).cells
 
 -- the state with other cells in the jth frame

@@ -6,6 +6,7 @@ use Rattle.std.proofs.lemmas.Bool.Decides.{nat_tests}
 use Rattle.std.proofs.lemmas.Option.{slice_get_within, get_or_from_slice_get}
 use Rattle.std.proofs.lemmas.List.{length-map, length-append, get_or-map, get_or-append_right}
 use Rattle.std.proofs.lemmas.List.Sums.{position_or_len_is}
+use Rattle.isa_model.specs.Code.Limits.{frame_size}
 use Rattle.isa_model.specs.declared.sizes.Size.{Size}
 use Rattle.isa_model.specs.declared.sizes.Size.TheVariants.{U8, U16, U32, U64}
 use Rattle.isa_model.specs.declared.values.CallFrame.{CallFrame}
@@ -24,7 +25,7 @@ use Rattle.stack_state.specs.FramePlaces.{IsPlace}
 
 -- ---- slots
 
-pub place_below : (z : ℤ) (size : Size) (at : ℕ) → IsPlace z size at → at < 512
+pub place_below : (z : ℤ) (size : Size) (at : ℕ) → IsPlace z size at → at < frame_size
 place_below z U8 at h = let i = h.inside in omega arith
 place_below z U16 at h = let i = h.inside in omega arith
 place_below z U32 at h = let i = h.inside in omega arith
@@ -77,7 +78,7 @@ IsHere-place p e a s size serial j at z by m found h =
     let count : length (map (λ f. f.serial) s.frames) ≡ length s.frames = length-map s.frames (λ f. f.serial) in
     let within : j < length (map (λ f. f.serial) s.frames) = slice_get_within (map (λ f. f.serial) s.frames) j serial mine in
     let fits : IsCallFrame p s.next_serial (frame_at s.frames j) = m.is_state.frames j (new_frame 0 0 []) (omega arith) in
-    let whole : length (frame_at s.frames j).cells ≡ 512 = fits.whole in
+    let whole : length (frame_at s.frames j).cells ≡ frame_size = fits.whole in
     let inside = h.inside in
     record {
       found = frame_index-serial p s j serial m.is_state mine;

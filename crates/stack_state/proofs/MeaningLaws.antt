@@ -29,7 +29,7 @@ use Rattle.stack_state.specs.declared.states.State.{State}
 use Rattle.stack_state.specs.Meaning.{frames_of, no_frame, frame_of, kind_at, kinds_of, slots_of, depth, registers_of, IsOf, MeansBy}
 use Rattle.stack_state.specs.Identities.{IsFreshPacket, IsFreshNull}
 use Rattle.stack_state.specs.Places.{kind_of, with_kind, with_register, go_to}
-use Rattle.stack_state.specs.Slots.{slot_at, kind_in}
+use Rattle.stack_state.specs.Slots.{slot_at, kind_in, frame_slots}
 use Rattle.stack_state.specs.StackMeaning.{SlotMeans, StackMeans}
 use Rattle.stack_state.proofs.StackLaws.{StackMeans-change, SlotMeans-spilled}
 
@@ -196,7 +196,7 @@ MeansBy-narrow p e a s r k own new m =
 -- all that one frame's kinds and slots allow under an assignment the other's allow under another
 pub record FrameKeeps (e f : Assigned) (g h : AbstractFrame) : Type 0 where
   pub registers : (k : ℕ) (v : Value) → Allows e (kind_at g.registers k) v → Allows f (kind_at h.registers k) v
-  pub slots : (k : ℕ) (cs : List Cell) → k < 64 → SlotMeans e (slot_at g.stack.slots k) cs → SlotMeans f (slot_at h.stack.slots k) cs
+  pub slots : (k : ℕ) (cs : List Cell) → k < frame_slots → SlotMeans e (slot_at g.stack.slots k) cs → SlotMeans f (slot_at h.stack.slots k) cs
 
 -- other kinds and slots, or another assignment, that allow in each frame all that was allowed there, for a machine state
 -- with the same slot, registers and frames

@@ -6,6 +6,7 @@ use Rattle.std.proofs.Common.{sym, ap, ◌∙◌, subst, inl, inr, arith}
 use Rattle.std.proofs.lemmas.Bool.{cases_eq, cases_lt}
 use Rattle.std.proofs.lemmas.List.{length-map, length-take, length-take-le, length-drop, get_or-take, get_or-drop, get_or-map, get_or-replicate, get_or-set_same, get_or-set_other}
 use Rattle.std.proofs.lemmas.List.Elements.{All-take, All-drop}
+use Rattle.isa_model.specs.Code.Limits.{frame_size}
 use Rattle.isa_model.specs.declared.sizes.Size.{Size}
 use Rattle.isa_model.specs.declared.sizes.Size.TheVariants.{U8, U16, U32, U64}
 use Rattle.isa_model.specs.declared.values.Value.{Value}
@@ -25,7 +26,7 @@ use Rattle.reg_state.specs.Arithmetic.{IsPart}
 use Rattle.reg_state.specs.Kinds.{Assigned, Allows}
 use Rattle.stack_state.specs.declared.slots.Slot.{Slot}
 use Rattle.stack_state.specs.declared.slots.Slot.TheVariants.{Written, Spilled}
-use Rattle.stack_state.specs.Slots.{slot_at, marks_of, mask_of, AreMarked, after_store, AreNumbers, IsLoad, IsNumberSpill, IsSpill}
+use Rattle.stack_state.specs.Slots.{slot_at, marks_of, mask_of, AreMarked, after_store, AreNumbers, IsLoad, IsNumberSpill, IsSpill, frame_slots}
 use Rattle.stack_state.specs.StackMeaning.{part_of, chunk_of, written, stored, Marked, SlotMeans, StackMeans, Stores, Spills, Loads, AreBytes}
 use Rattle.stack_state.proofs.SpliceLaws.{length-written, get_or-chunk, chunk_other, chunk_whole, part_of-chunk}
 use Rattle.stack_state.proofs.CellLaws.{all_bytes, number_in-bytes, length-bytes_of, number_from_below, no_marks, marked_after, marked_number, marked_slot, number_of-stored, number_of-part, length-stored}
@@ -49,11 +50,11 @@ other_slot e slots k j s cs ds other same h =
     (subst (λ (c : List Cell). SlotMeans e (slot_at slots j) c) (sym same) h)
 
 -- cells are written inside one slot, which then stands for what is there
-pub slot_changed : (e : Assigned) (slots : List Slot) (cells new : List Cell) (at k : ℕ) (s : Slot) → length slots ≡ 64 → k < 64
+pub slot_changed : (e : Assigned) (slots : List Slot) (cells new : List Cell) (at k : ℕ) (s : Slot) → length slots ≡ frame_slots → k < frame_slots
     → 8 * k ≤ at → at + length new ≤ 8 * k + 8 → StackMeans e slots cells → SlotMeans e s (chunk_of k (written cells at new))
     → StackMeans e (slice_set slots k s) (written cells at new)
 slot_changed e slots cells new at k s count within from to m h =
-    let size : length cells ≡ 512 = m.size in
+    let size : length cells ≡ frame_size = m.size in
     record {
       size = length-written cells new at (omega arith) ∙ m.size;
       each = λ j below. elim (cases_eq j k) [
@@ -68,12 +69,12 @@ slot_changed e slots cells new at k s count within from to m h =
 
 -- other slots, under another assignment, which stand for all that the slots stood for
 pub StackMeans-change : (e f : Assigned) (old new : List Slot) (cells : List Cell)
-    → ((k : ℕ) (cs : List Cell) → k < 64 → SlotMeans e (slot_at old k) cs → SlotMeans f (slot_at new k) cs)
+    → ((k : ℕ) (cs : List Cell) → k < frame_slots → SlotMeans e (slot_at old k) cs → SlotMeans f (slot_at new k) cs)
     → StackMeans e old cells → StackMeans f new cells
 StackMeans-change e f old new cells each m = record { size = m.size; each = λ k below. each k (chunk_of k cells) below (m.each k below) }
 
 -- each slot changed alike
-pub StackMeans-map : (g : Slot → Slot) (e f : Assigned) (slots : List Slot) (cells : List Cell) → length slots ≡ 64
+pub StackMeans-map : (g : Slot → Slot) (e f : Assigned) (slots : List Slot) (cells : List Cell) → length slots ≡ frame_slots
     → ((s : Slot) (cs : List Cell) → SlotMeans e s cs → SlotMeans f (g s) cs) → StackMeans e slots cells → StackMeans f (map g slots) cells
 StackMeans-map g e f slots cells count each m =
     StackMeans-change e f slots (map g slots) cells
@@ -91,24 +92,24 @@ pub SlotMeans-marks : (e f : Assigned) (s : Slot) (marks : ℕ) (cs : List Cell)
 SlotMeans-marks e f s marks cs fewer h = λ i within bit. marked_slot e s cs h i within (fewer i within bit)
 
 -- of a new frame nothing is known
-pub StackMeans-new : (e : Assigned) (cells : List Cell) → length cells ≡ 512 → StackMeans e (replicate 64 (Written 0)) cells
+pub StackMeans-new : (e : Assigned) (cells : List Cell) → length cells ≡ frame_size → StackMeans e (replicate frame_slots (Written 0)) cells
 StackMeans-new e cells wide = record {
   size = wide;
-  each = λ k below. subst (λ (s : Slot). SlotMeans e s (chunk_of k cells)) (sym (get_or-replicate 64 k (Written 0) (Written 0) below))
+  each = λ k below. subst (λ (s : Slot). SlotMeans e s (chunk_of k cells)) (sym (get_or-replicate frame_slots k (Written 0) (Written 0) below))
       (no_marks (chunk_of k cells));
 }
 
 -- ---- writes
 
-pub stores : (slots new : List Slot) (at : ℕ) (size : Size) → length slots ≡ 64 → at < 512 → at % 8 + size_bytes size ≤ 8
+pub stores : (slots new : List Slot) (at : ℕ) (size : Size) → length slots ≡ frame_slots → at < frame_size → at % 8 + size_bytes size ≤ 8
     → new ≡ after_store slots at (size_bytes size) → Stores slots at size new
 unfolding Stores
 stores slots new at size count below inside is = λ e cells n m.
     let bytes : List ℕ = bytes_of size n in
     let some : length bytes ≡ size_bytes size = length-bytes_of size n in
     let long : length (map Byte bytes) ≡ length bytes = length-map bytes Byte in
-    let wide : length cells ≡ 512 = m.size in
-    let within : at / 8 < 64 = omega arith in
+    let wide : length cells ≡ frame_size = m.size in
+    let within : at / 8 < frame_slots = omega arith in
     let marks : ℕ = marks_of (slot_at slots (at / 8)) in
     let before = marked_slot e (slot_at slots (at / 8)) (chunk_of (at / 8) cells) (m.each (at / 8) within) in
     let after : Marked (bit_or marks (mask_of (at % 8) (at % 8 + length bytes))) (chunk_of (at / 8) (written cells at (map Byte bytes))) =
@@ -131,11 +132,11 @@ SlotMeans-spill e Unset s v cs is h same = subst (λ (t : Slot). SlotMeans e t c
 SlotMeans-spill e (Number numbers) s v cs is h same = number_spill e numbers s v cs is h same
 SlotMeans-spill e k s v cs is h same = subst (λ (t : Slot). SlotMeans e t cs) (sym is) (v, h, same)
 
-pub spills : (slots new : List Slot) (k : ℕ) (kind : Kind) → length slots ≡ 64 → k < 64 → IsSpill kind (slot_at new k)
+pub spills : (slots new : List Slot) (k : ℕ) (kind : Kind) → length slots ≡ frame_slots → k < frame_slots → IsSpill kind (slot_at new k)
     → new ≡ slice_set slots k (slot_at new k) → Spills slots k kind new
 unfolding Spills
 spills slots new k kind count within is others = λ e cells v set allowed m.
-    let wide : length cells ≡ 512 = m.size in
+    let wide : length cells ≡ frame_size = m.size in
     let eight : length (stored v) ≡ 8 = length-stored v set in
     subst (λ (l : List Slot). StackMeans e l (written cells (8 * k) (stored v))) (sym others)
     (slot_changed e slots cells (stored v) (8 * k) k (slot_at new k) count within (omega arith) (omega arith) m
@@ -144,26 +145,26 @@ spills slots new k kind count within is others = λ e cells v set allowed m.
 -- ---- reads
 
 -- a byte that is marked
-byte_at : (e : Assigned) (slots : List Slot) (cells : List Cell) (i : ℕ) → i < 512 → StackMeans e slots cells
+byte_at : (e : Assigned) (slots : List Slot) (cells : List Cell) (i : ℕ) → i < frame_size → StackMeans e slots cells
     → bit_at (marks_of (slot_at slots (i / 8))) (i % 8) ≡ 1 → is_byte (slice_index_or cells i Unwritten) ≡ true
 byte_at e slots cells i below m bit =
-    let within : i / 8 < 64 = omega arith in
+    let within : i / 8 < frame_slots = omega arith in
     let inside : i % 8 < 8 = omega arith in
     let same : 8 * (i / 8) + i % 8 ≡ i = omega arith in
     let here = marked_slot e (slot_at slots (i / 8)) (chunk_of (i / 8) cells) (m.each (i / 8) within) (i % 8) inside bit in
     subst (λ (j : ℕ). is_byte (slice_index_or cells j Unwritten) ≡ true) same
     (subst (λ (c : Cell). is_byte c ≡ true) (get_or-chunk (i / 8) (i % 8) cells Unwritten inside) here)
 
-pub marked_are_bytes : (e : Assigned) (slots : List Slot) (cells : List Cell) (from n : ℕ) → from + n ≤ 512
+pub marked_are_bytes : (e : Assigned) (slots : List Slot) (cells : List Cell) (from n : ℕ) → from + n ≤ frame_size
     → AreMarked slots from (from + n) → StackMeans e slots cells → list_all is_byte (part_of cells from n) ≡ true
 marked_are_bytes e slots cells from n inside marked m =
-    let wide : length cells ≡ 512 = m.size in
+    let wide : length cells ≡ frame_size = m.size in
     all_bytes (part_of cells from n) (λ i below.
     let short : i < n = (let l = length-take n (drop from cells) in omega arith) in
     ap is_byte (get_or-take n (drop from cells) i Unwritten short ∙ get_or-drop from cells i Unwritten)
     ∙ byte_at e slots cells (from + i) (omega arith) m (marked (from + i) (omega arith) (omega arith)))
 
-pub are_bytes : (slots : List Slot) (from n : ℕ) → from + n ≤ 512 → AreMarked slots from (from + n) → AreBytes slots from n
+pub are_bytes : (slots : List Slot) (from n : ℕ) → from + n ≤ frame_size → AreMarked slots from (from + n) → AreBytes slots from n
 unfolding AreBytes
 are_bytes slots from n inside marked = λ e cells m.
     let all = marked_are_bytes e slots cells from n inside marked m in
@@ -220,13 +221,13 @@ part_number e (Spilled (Number numbers)) cells at U32 answer inside are h below 
 part_number e (Spilled (Number numbers)) cells at U64 answer inside are h below = whole_part e numbers answer cells at inside are h
 part_number e (Spilled k) cells at size answer inside are h below = (are _).1 below
 
-pub loads : (slots : List Slot) (at : ℕ) (size : Size) (answer : Option Scalar) → at < 512 → at % 8 + size_bytes size ≤ 8
+pub loads : (slots : List Slot) (at : ℕ) (size : Size) (answer : Option Scalar) → at < frame_size → at % 8 + size_bytes size ≤ 8
     → IsLoad slots at size answer → Loads slots at size answer
 unfolding Loads
 loads slots at size None below inside is = tt
 loads slots at size (Some numbers) below inside is = λ e rows next cells fit m.
-    let wide : length cells ≡ 512 = m.size in
-    let within : at / 8 < 64 = omega arith in
+    let wide : length cells ≡ frame_size = m.size in
+    let within : at / 8 < frame_slots = omega arith in
     let all = marked_are_bytes e slots cells at (size_bytes size) (omega arith) is.0 m in (
       number_of (part_of cells at (size_bytes size)),
       number_in-bytes (part_of cells at (size_bytes size)) all,

@@ -2,6 +2,7 @@
 use Rattle.std.specs.Prelude.{ℕ, zero, suc, ◌<◌, pos, List, [], ◌∷◌, None, refl, length, replicate}
 use Rattle.std.proofs.Common.{arith}
 use Rattle.std.proofs.lemmas.List.{length-replicate}
+use Rattle.isa_model.specs.Code.Limits.{frame_size}
 use Rattle.isa_model.specs.declared.values.Value.{Value}
 use Rattle.isa_model.specs.declared.values.Cell.TheVariants.{Unwritten}
 use Rattle.isa_model.specs.declared.frames.FrameHead.{FrameHead}
@@ -44,7 +45,7 @@ first_allowed e serial (suc (suc (suc (suc (suc (suc (suc (suc (suc (suc k))))))
 first_stack : (e : Assigned) (serial j : ℕ) (saved : List Value) → j < 1
     → StackMeans e (slots_of start j) (frame_at (new_frame serial 0 saved ∷ []) j).cells
 unfolding start new_frame
-first_stack e serial zero saved below = StackMeans-new e (replicate 512 Unwritten) (length-replicate 512 Unwritten)
+first_stack e serial zero saved below = StackMeans-new e (replicate frame_size Unwritten) (length-replicate frame_size Unwritten)
 first_stack e serial (suc j) saved below = absurd (omega arith)
 
 -- it means every state in which a run begins

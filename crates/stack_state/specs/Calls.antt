@@ -1,5 +1,6 @@
 -- Local calls and exits of abstract states: a frame pushed, and popped.
 use Rattle.std.specs.Prelude.{ℕ, ◌+◌, ◌-◌, ◌==◌, List, [], ◌∷◌, ◌++◌, take, length, replicate, if◌then◌else◌}
+use Rattle.stack_state.specs.Slots.{frame_slots}
 use Rattle.reg_state.specs.declared.kinds.Kind.{Kind}
 use Rattle.reg_state.specs.declared.kinds.Kind.TheVariants.{Unset, Stack}
 use Rattle.reg_state.specs.Kinds.{Assigned}
@@ -24,7 +25,7 @@ handed_kinds ks =
 
 -- a frame of whose bytes nothing is known
 unfoldable pub unset_slots : List Slot
-unset_slots = replicate 64 (Written 0)
+unset_slots = replicate frame_slots (Written 0)
 
 -- the frame of a caller
 abbrev pub caller_of : AbstractFrame → AbstractFrame

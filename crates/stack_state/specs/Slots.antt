@@ -1,6 +1,7 @@
 -- The slots of a frame, and what the calls of `StackState` do with them.
 use Rattle.std.specs.Prelude.{◌≡◌, ◌≢◌, ℕ, ◌+◌, ◌-◌, ◌*◌, ◌/◌, ◌%◌, ◌^◌, ◌<◌, ◌≤◌, ◌==◌, ◌↔◌, List, map, slice_set, slice_index_or, Option, Some, None, bit_or, if◌then◌else◌}
 use Rattle.std.specs.Int.{bit_at}
+use Rattle.isa_model.specs.Code.Limits.{frame_size}
 use Rattle.isa_model.specs.declared.sizes.Size.{Size}
 use Rattle.isa_model.specs.declared.sizes.Size.TheVariants.{U64}
 use Rattle.isa_model.specs.Code.Sizes.{size_bytes}
@@ -11,6 +12,10 @@ use Rattle.reg_state.specs.Scalars.{Has}
 use Rattle.reg_state.specs.Arithmetic.{IsPart}
 use Rattle.stack_state.specs.declared.slots.Slot.{Slot}
 use Rattle.stack_state.specs.declared.slots.Slot.TheVariants.{Written, Spilled}
+
+-- slots of 8 bytes in a call frame
+abbrev pub frame_slots : ℕ
+frame_slots = frame_size / 8
 
 abbrev pub slot_at : List Slot → ℕ → Slot
 slot_at slots k = slice_index_or slots k (Written 0)

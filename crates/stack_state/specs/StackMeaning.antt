@@ -3,6 +3,7 @@
 use Rattle.std.specs.Prelude.{◌≡◌, ◌≢◌, ℕ, ◌+◌, ◌*◌, ◌<◌, true, List, [], map, take, drop, length, slice_index_or, All, Option, Ok, IfSome}
 use Rattle.std.specs.Int.{bit_at}
 use Rattle.std.specs.List.{splice, list_all}
+use Rattle.isa_model.specs.Code.Limits.{frame_size}
 use Rattle.isa_model.specs.declared.sizes.Size.{Size}
 use Rattle.isa_model.specs.declared.sizes.Size.TheVariants.{U64}
 use Rattle.isa_model.specs.declared.values.Value.{Value}
@@ -20,7 +21,7 @@ use Rattle.reg_state.specs.Scalars.{Has}
 use Rattle.reg_state.specs.Kinds.{Assigned, Allows, IsLive}
 use Rattle.stack_state.specs.declared.slots.Slot.{Slot}
 use Rattle.stack_state.specs.declared.slots.Slot.TheVariants.{Written, Spilled}
-use Rattle.stack_state.specs.Slots.{slot_at}
+use Rattle.stack_state.specs.Slots.{slot_at, frame_slots}
 
 -- ---- cells
 
@@ -54,8 +55,8 @@ SlotMeans e (Spilled k) cs = (v : Value) × Allows e k v × (cs ≡ stored v)
 
 -- under the assignment, the slots stand for the cells
 pub record StackMeans (e : Assigned) (slots : List Slot) (cells : List Cell) : Type 0 where
-  pub size : length cells ≡ 512
-  pub each : (k : ℕ) → k < 64 → SlotMeans e (slot_at slots k) (chunk_of k cells)
+  pub size : length cells ≡ frame_size
+  pub each : (k : ℕ) → k < frame_slots → SlotMeans e (slot_at slots k) (chunk_of k cells)
 
 -- ---- what the calls keep
 

@@ -1,5 +1,6 @@
 -- The abstract state in which every run begins.
 use Rattle.std.specs.Prelude.{List, [], ◌∷◌, replicate}
+use Rattle.stack_state.specs.Slots.{frame_slots}
 use Rattle.reg_state.specs.declared.kinds.Kind.{Kind}
 use Rattle.reg_state.specs.declared.kinds.Kind.TheVariants.{Unset, Context}
 use Rattle.stack_state.specs.declared.slots.Slot.TheVariants.{Written}
@@ -14,5 +15,5 @@ start =
     record {
       slot = 0;
       callers = record { items = [] };
-      innermost = record { return_slot = 0; registers = first_registers; stack = record { slots = replicate 64 (Written 0) } };
+      innermost = record { return_slot = 0; registers = first_registers; stack = record { slots = replicate frame_slots (Written 0) } };
     }

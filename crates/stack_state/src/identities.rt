@@ -1,10 +1,12 @@
 //! Identities that no kind of a state names.
 
 ghost use Rattle.std.specs.Prelude.{◌≡◌, ◌≢◌, ℕ, ◌*◌, ◌<◌, ◌≤◌, Some, true, false, length};
+ghost use Rattle.stack_state.specs.Slots.{frame_slots};
 ghost use Rattle.stack_state.specs.Identities.{named_by, IsLeastFresh, IsLeastFreshPacket, IsLeastFreshNull};
 ghost use Rattle.stack_state.specs.Marks.{AreFree, IsOther, HoldsOther, IsFreshIn, IsFreshAt, Marks, is_marked, marked};
 
 use crate::slots::Slot;
+use crate::stacks::FRAME_SLOTS;
 use crate::states::{AbstractFrame, State};
 use reg_state::Kind;
 
@@ -51,10 +53,11 @@ fn mark_registers(names: Names, named: &mut Named, registers: &[Kind; 10])
     }
 }
 
-fn mark_slots(names: Names, named: &mut Named, slots: &[Slot; 64])
-    ensures { Marks (λ i. (k : ℕ) → HoldsOther names slots.now k i) 64 named.old named.new }
+fn mark_slots(names: Names, named: &mut Named, slots: &[Slot; FRAME_SLOTS])
+    ensures { Marks (λ i. (k : ℕ) → HoldsOther names slots.now k i) frame_slots
+        named.old named.new }
 {
-    for index in 0..64 {
+    for index in 0..FRAME_SLOTS {
         mark(names, named, slots[index].kind());
     }
 }

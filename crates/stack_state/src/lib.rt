@@ -11,7 +11,7 @@ pub mod stacks;
 pub mod states;
 
 pub use facts::Fact;
-pub use live_frames::stack_place;
+pub use live_frames::{frame_bytes, stack_place};
 pub use slots::Slot;
-pub use stacks::StackState;
-pub use states::{AbstractFrame, State};
+pub use stacks::{FRAME_SLOTS, StackState};
+pub use states::{AbstractFrame, MAX_CALLERS, State};

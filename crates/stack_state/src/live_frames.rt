@@ -1,30 +1,43 @@
 //! Places in a call frame, and what is known of the bytes of any live frame of a state.
 
 ghost use Rattle.std.specs.Prelude.{◌≡◌, ℤ, ◌+◌, ◌%◌, ◌<◌, ◌≤◌, ◌+ℤ◌, pos, MatchOption};
+ghost use Rattle.stack_state.specs.Slots.{frame_slots};
+ghost use Rattle.isa_model.specs.Code.Limits.{frame_size};
 ghost use Rattle.isa_model.specs.Code.Sizes.{size_bytes};
 ghost use Rattle.stack_state.specs.Meaning.{depth, frame_of};
-ghost use Rattle.stack_state.specs.FramePlaces.{FindsPlace, IsStoredIn, IsSpilledIn};
+ghost use Rattle.stack_state.specs.FramePlaces.{FindsBytes, FindsPlace, IsStoredIn, IsSpilledIn};
 
 use crate::stacks::StackState;
 use crate::states::State;
-use isa_model::Size;
+use isa_model::{FRAME_SIZE, Size};
 use reg_state::Kind;
 
 /// How far a place is from the frame's start.
 fn from_start(offset: i32, by: i16) -> i64
-    ensures { result ≡ (offset +ℤ by) +ℤ pos 512 }
+    ensures { result ≡ (offset +ℤ by) +ℤ pos frame_size }
 {
-    i64::from(offset) + i64::from(by) + 512
+    i64::from(offset) + i64::from(by) + FRAME_SIZE as i64
 }
 
-/// The byte that far from the frame's start, if the bytes of the size are there and aligned.
-fn aligned(from_start: i64, size: Size) -> Option<usize>
-    ensures { (z : ℤ) → from_start ≡ z +ℤ pos 512 → FindsPlace z size result }
+/// The byte that far from a frame's start, if so many bytes from it on are in the frame.
+pub fn frame_bytes(from_start: i64, count: u32) -> Option<usize>
+    ensures { FindsBytes from_start count result }
 {
     let Ok(at) = usize::try_from(from_start) else {
         return None;
     };
-    if at > 512 - size.bytes() || at % size.bytes() != 0 {
+    if at > FRAME_SIZE || count as usize > FRAME_SIZE - at {
+        return None;
+    }
+    Some(at)
+}
+
+/// The byte that far from the frame's start, if the bytes of the size are there and aligned.
+fn aligned(from_start: i64, size: Size) -> Option<usize>
+    ensures { (z : ℤ) → from_start ≡ z +ℤ pos frame_size → FindsPlace z size result }
+{
+    let at = frame_bytes(from_start, size.bytes() as u32)?;
+    if at % size.bytes() != 0 {
         return None;
     }
     Some(at)
@@ -58,7 +71,7 @@ impl State {
     /// Bytes of a number are written in a live frame.
     pub fn store(&mut self, frame: u8, at: usize, size: Size)
         requires live { frame < depth self.old }
-        requires inside { at < 512 }
+        requires inside { at < frame_size }
         requires in_slot { at % 8 + size_bytes size ≤ 8 }
         ensures { IsStoredIn self.old frame at size self.new }
     {
@@ -71,7 +84,7 @@ impl State {
     /// A value of the kind is written into a whole slot of a live frame.
     pub fn spill(&mut self, frame: u8, slot: usize, kind: Kind)
         requires live { frame < depth self.old }
-        requires inside { slot < 64 }
+        requires inside { slot < frame_slots }
         ensures { IsSpilledIn self.old frame slot kind self.new }
     {
         match self.callers.get_mut(usize::from(frame)) {

@@ -1,27 +1,31 @@
 //! What is known of the bytes of a call frame.
 
 ghost use Rattle.std.specs.Prelude.{◌≡◌, List, length, ◌+◌, ◌/◌, ◌%◌, ◌<◌, ◌≤◌, ◌↔◌, IsTrue, replicate, slice_set};
+ghost use Rattle.isa_model.specs.Code.Limits.{frame_size};
 ghost use Rattle.isa_model.specs.declared.values.Cell.{Cell};
 ghost use Rattle.isa_model.specs.Code.Sizes.{size_bytes};
 ghost use Rattle.reg_state.specs.Kinds.{Assigned};
 ghost use Rattle.stack_state.specs.Slots as slot_words;
-ghost use Rattle.stack_state.specs.Slots.{slot_at, IsMarked, AreMarked, after_store, IsLoad, IsSpill, IsFill};
+ghost use Rattle.stack_state.specs.Slots.{slot_at, IsMarked, AreMarked, after_store, IsLoad, IsSpill, IsFill, frame_slots};
 ghost use Rattle.stack_state.specs.StackMeaning.{StackMeans, Stores, Spills, Loads, Fills, AreBytes, Forgets};
 
 use crate::slots::{Slot, filled, forgotten, mask, numbers, spilled};
-use isa_model::Size;
+use isa_model::{FRAME_SIZE, Size};
 use reg_state::{Kind, Scalar};
 
-/// What is known of the 512 bytes of a call frame: slot 0 is the one at offset -512 from the
-/// frame's end.
+/// Slots of 8 bytes in a call frame.
+pub const FRAME_SLOTS: usize = FRAME_SIZE / 8;
+
+/// What is known of the bytes of a call frame: slot 0 is its first, the farthest from the frame's
+/// end.
 #[derive(Clone, Copy, PartialEq, Eq, Debug, Drop)]
 pub struct StackState {
-    pub slots: [Slot; 64],
+    pub slots: [Slot; FRAME_SLOTS],
 }
 
 impl Default for StackState {
     fn default() -> Self
-        ensures { result.slots ≡ replicate 64 (Slot.Written 0) }
+        ensures { result.slots ≡ replicate frame_slots (Slot.Written 0) }
     {
         StackState::new()
     }
@@ -30,25 +34,25 @@ impl Default for StackState {
 impl StackState {
     /// A frame of which nothing is known.
     pub fn new() -> StackState
-        ensures exact { result.slots ≡ replicate 64 (Slot.Written 0) }
-        ensures meant { (e : Assigned) (cells : List Cell) → length cells ≡ 512
+        ensures exact { result.slots ≡ replicate frame_slots (Slot.Written 0) }
+        ensures meant { (e : Assigned) (cells : List Cell) → length cells ≡ frame_size
             → StackMeans e result.slots cells }
     {
         StackState {
-            slots: [Slot::Written(0); 64],
+            slots: [Slot::Written(0); FRAME_SLOTS],
         }
     }
 
     /// Nothing is known of it any longer.
     pub fn clear(&mut self)
-        ensures { self.new.slots ≡ replicate 64 (Slot.Written 0) }
+        ensures { self.new.slots ≡ replicate frame_slots (Slot.Written 0) }
     {
-        self.slots = [Slot::Written(0); 64];
+        self.slots = [Slot::Written(0); FRAME_SLOTS];
     }
 
     /// Bytes of a number are written.
     pub fn store(&mut self, at: usize, size: Size)
-        requires inside { at < 512 }
+        requires inside { at < frame_size }
         requires in_slot { at % 8 + size_bytes size ≤ 8 }
         ensures exact { self.new.slots ≡ after_store self.old.slots at (size_bytes size) }
         ensures meant { Stores self.old.slots at size self.new.slots }
@@ -61,7 +65,7 @@ impl StackState {
     /// The numbers that a load of the bytes may answer. None: not all of them are written number
     /// bytes.
     pub fn load(&self, at: usize, size: Size) -> Option<Scalar>
-        requires inside { at < 512 }
+        requires inside { at < frame_size }
         requires in_slot { at % 8 + size_bytes size ≤ 8 }
         ensures exact { IsLoad self.now.slots at size result }
         ensures meant { Loads self.now.slots at size result }
@@ -75,7 +79,7 @@ impl StackState {
 
     /// A value of the kind is written into the whole slot.
     pub fn spill(&mut self, slot: usize, kind: Kind)
-        requires { slot < 64 }
+        requires { slot < frame_slots }
         ensures exact { IsSpill kind (slot_at self.new.slots slot) }
         ensures others { self.new.slots
             ≡ slice_set self.old.slots slot (slot_at self.new.slots slot) }
@@ -87,7 +91,7 @@ impl StackState {
     /// The kind of the value that a load of the whole slot answers. None: some byte may be unset,
     /// or a pointer not whole.
     pub fn fill(&self, slot: usize) -> Option<Kind>
-        requires { slot < 64 }
+        requires { slot < frame_slots }
         ensures exact { IsFill (slot_at self.now.slots slot) result }
         ensures meant { Fills self.now.slots slot result }
     {
@@ -96,7 +100,7 @@ impl StackState {
 
     /// Whether the byte is a written number byte.
     fn is_byte(&self, at: usize) -> bool
-        requires { at < 512 }
+        requires { at < frame_size }
         ensures { IsTrue result ↔ IsMarked self.now.slots at }
     {
         (self.slots[at / 8].marks() >> (at % 8)) & 1 == 1
@@ -104,7 +108,7 @@ impl StackState {
 
     /// Whether the bytes are all written number bytes.
     pub fn is_bytes(&self, from: usize, count: usize) -> bool
-        requires { from + count ≤ 512 }
+        requires { from + count ≤ frame_size }
         ensures exact { IsTrue result ↔ AreMarked self.now.slots from (from + count) }
         ensures meant { IsTrue result → AreBytes self.now.slots from count }
     {
@@ -121,7 +125,7 @@ impl StackState {
         ensures exact { self.new.slots ≡ slot_words.forgotten map self.old.slots }
         ensures meant { Forgets map self.old.slots self.new.slots }
     {
-        for slot in 0..64 {
+        for slot in 0..FRAME_SLOTS {
             self.slots[slot] = forgotten(self.slots[slot], map);
         }
     }

@@ -7,8 +7,11 @@ ghost use Rattle.stack_state.specs.Starts.{start};
 
 use crate::stacks::StackState;
 use arrayvec::ArrayVec;
-use isa_model::Reg;
+use isa_model::{MAX_CALL_FRAMES, Reg};
 use reg_state::Kind;
+
+/// The most call frames beside the innermost.
+pub const MAX_CALLERS: usize = MAX_CALL_FRAMES - 1;
 
 /// What is known of a call frame.
 #[derive(Clone, Copy, PartialEq, Eq, Debug, Default, Drop)]
@@ -26,7 +29,7 @@ pub struct State {
     /// The slot of the instruction.
     pub slot: usize,
     /// The live frames but for the innermost, the outermost first.
-    pub callers: ArrayVec<AbstractFrame, 7>,
+    pub callers: ArrayVec<AbstractFrame, MAX_CALLERS>,
     /// The frame in which the instruction runs.
     pub innermost: AbstractFrame,
 }

@@ -7,6 +7,7 @@ use Rattle.std.proofs.lemmas.Bool.{le-leb}
 use Rattle.std.proofs.lemmas.Int.{ints}
 use Rattle.std.proofs.lemmas.List.{length-map}
 use Rattle.std.proofs.lemmas.Option.{slice_get_within, get_or_from_slice_get}
+use Rattle.isa_model.specs.Code.Limits.{frame_size}
 use Rattle.isa_model.specs.declared.registers.Reg.TheVariants.{R1, R2, R3, R4}
 use Rattle.isa_model.specs.declared.helpers.Helper.{Helper}
 use Rattle.isa_model.specs.declared.helpers.Helper.TheVariants.{MapLookupElem, MapUpdateElem, MapDeleteElem, KtimeGetNs}
@@ -117,11 +118,11 @@ frame_points p e a s frame n serial z m found h =
     let count = depth_is_length p e a s m in
     let live = h.live in
     let fits : IsCallFrame p s.next_serial (frame_at s.frames frame) = m.is_state.frames frame (new_frame 0 0 []) (omega arith) in
-    let whole : length (frame_at s.frames frame).cells ≡ 512 = fits.whole in
+    let whole : length (frame_at s.frames frame).cells ≡ frame_size = fits.whole in
     let inside = h.inside in
     let here : IsHere s serial frame h.at n z (pos 0) = record {
       found = frame_index-serial p s frame serial m.is_state mine;
-      index = ap index_from (ap (λ y. y +ℤ pos 512) (no_move z) ∙ h.from_start);
+      index = ap index_from (ap (λ y. y +ℤ pos frame_size) (no_move z) ∙ h.from_start);
       inside = omega arith;
     } in
     let cs : List Cell = part_of (frame_at s.frames frame).cells h.at n in

@@ -11,6 +11,7 @@ use Rattle.std.proofs.lemmas.Option.{slice_get_within, get_or_from_slice_get}
 use Rattle.std.proofs.lemmas.List.Elements.{All-get_or, at_from_Contains}
 use Rattle.std.proofs.Math.Seq.{map-set_same}
 use Rattle.std.proofs.Math.ListN.{get_or-map as get_or-map_default}
+use Rattle.isa_model.specs.Code.Limits.{max_value_size}
 use Rattle.isa_model.specs.declared.sizes.Size.{Size}
 use Rattle.isa_model.specs.declared.sizes.Size.TheVariants.{U8, U16, U32, U64}
 use Rattle.isa_model.specs.declared.sizes.Narrow.{Narrow}
@@ -345,7 +346,7 @@ value_pointer_allowed p e a s m offset means names = record {
 }
 
 short_offset : (rows : List MapDef) (m offset : ℕ) (o : Option MapDef) → slice_get rows m ≡ o → All IsRow rows → IsSomeAnd o (HoldsOffset offset)
-    → (m < length rows) × (offset < 4096)
+    → (m < length rows) × (offset < max_value_size)
 short_offset rows m offset None here all names = absurd names
 short_offset rows m offset (Some row) here all names =
     let within = slice_get_within rows m row here in

@@ -1,6 +1,7 @@
 -- Calls of helpers: the kinds of their arguments, the bytes that these point to, and what a call leaves.
 -- bpf-helpers(7); Linux, Documentation/bpf/verifier.rst.
 use Rattle.std.specs.Prelude.{◌≡◌, ℕ, ◌+◌, ◌<◌, ◌≤◌, ℤ, pos, ◌+ℤ◌, Bool, true, false, ◌||◌, ◌&&◌, if◌then◌else◌, List, slice_get, Option, Some, None, Result, Ok, Err}
+use Rattle.isa_model.specs.Code.Limits.{frame_size}
 use Rattle.isa_model.specs.declared.registers.Reg.TheVariants.{R1, R2, R3, R4}
 use Rattle.isa_model.specs.declared.helpers.Helper.{Helper}
 use Rattle.isa_model.specs.declared.helpers.Helper.TheVariants.{MapLookupElem, MapUpdateElem, MapDeleteElem, KtimeGetNs}
@@ -65,17 +66,12 @@ update_arguments rows a =
 
 -- ---- the bytes that they point to
 
--- n bytes of a frame from a place on; None: they are not all in the frame
-abbrev pub FindsBytes : ℤ → ℕ → Option ℕ → Type 0
-FindsBytes z n (Some at) = (z ≡ pos at) × (at + n ≤ 512)
-FindsBytes z n None = (at : ℕ) → z ≡ pos at → ¬ (at + n ≤ 512)
-
 -- n bytes of a live frame are all written number bytes, aligned or not
 pub record AreInFrame (a : State) (frame : ℕ) (z : ℤ) (n : ℕ) : Type 0 where
   pub live : frame < depth a
   pub at : ℕ
-  pub from_start : (z +ℤ pos 512) ≡ pos at
-  pub inside : at + n ≤ 512
+  pub from_start : (z +ℤ pos frame_size) ≡ pos at
+  pub inside : at + n ≤ frame_size
   pub marked : AreMarked (slots_of a frame) at (at + n)
 
 -- n bytes at a pointer are known to be there, and to be number bytes

@@ -6,9 +6,9 @@ ghost use Rattle.isa_model.specs.Code.Sizes.{size_bytes};
 ghost use Rattle.transfer.specs.Values.{AreInValue};
 ghost use Rattle.transfer.specs.Atomics.{with_old, StackSwaps, ValueSwaps, IsPacketRefusal, SwapsAt, Swaps, Compares};
 
-use crate::packets::{are_in_packet, of_size};
+use crate::bytes::{are_in_packet, are_in_value, value_size};
+use crate::packets::of_size;
 use crate::refusals::Refusal;
-use crate::values::{are_in_value, value_size};
 use isa_model::{MapDef, Reg, Size};
 use reg_state::{Kind, Scalar};
 use stack_state::{State, stack_place};
@@ -63,7 +63,7 @@ fn value_swap(
     ensures { ValueSwaps (AreInValue room least greatest by (size_bytes size)) state.old size
         register state.new result }
 {
-    if !are_in_value(room, least, greatest, by, size) {
+    if !are_in_value(room, least, greatest, by, size.bytes() as u32) {
         return Err(Refusal::MapValueBytes);
     }
     keep_old(state, register, of_size(size));
@@ -74,7 +74,7 @@ fn value_swap(
 fn packet_refusal(fixed: i32, least: i32, proved: u32, by: i16, size: Size) -> Refusal
     ensures { IsPacketRefusal fixed least proved by size result }
 {
-    if are_in_packet(fixed, least, proved, by, size) {
+    if are_in_packet(fixed, least, proved, by, size.bytes() as u32) {
         Refusal::PacketAtomic
     } else {
         Refusal::PacketBytes

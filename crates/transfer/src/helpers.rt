@@ -2,13 +2,11 @@
 
 ghost use Rattle.std.specs.Prelude.{◌≡◌, ◌≤◌, ◌<◌, ◌^◌, ◌↔◌, ◌+ℤ◌, pos, IsTrue};
 ghost use Rattle.isa_model.specs.Code.Helpers.{helper_numbered};
-ghost use Rattle.transfer.specs.Packets.{AreInPacket};
-ghost use Rattle.transfer.specs.Values.{AreInValue};
-ghost use Rattle.transfer.specs.HelperCalls.{called_map, points_to_bytes, is_number, judged, key_arguments, update_arguments, FindsBytes, AreInFrame, AreKnown, KeyIsKnown, ValueIsKnown, AnswersNumber, AnswersValue, without_values, LeavesIf, Helps, CallsHelper};
+ghost use Rattle.transfer.specs.HelperCalls.{called_map, points_to_bytes, is_number, judged, key_arguments, update_arguments, KeyIsKnown, ValueIsKnown, AnswersNumber, AnswersValue, without_values, LeavesIf, Helps, CallsHelper};
 
+use crate::bytes::are_known;
 use crate::jumps::is_untested;
 use crate::refusals::Refusal;
-use crate::values::value_size;
 use isa_model::{Helper, MapDef, MapKind, Reg, Width};
 use reg_state::{Domain, Kind, Scalar};
 use stack_state::State;
@@ -82,82 +80,6 @@ fn update_arguments(maps: &[MapDef], state: &State) -> Result<CalledMap, Refusal
 }
 
 // ---- the bytes that they point to
-
-/// The byte of a frame from which on that many bytes are in it.
-fn frame_bytes(from_start: i64, count: u32) -> Option<usize>
-    ensures { FindsBytes from_start count result }
-{
-    let Ok(at) = usize::try_from(from_start) else {
-        return None;
-    };
-    if at > 512 || count as usize > 512 - at {
-        return None;
-    }
-    Some(at)
-}
-
-/// Whether the bytes of a live frame are written number bytes.
-fn are_in_frame(state: &State, frame: u8, offset: i32, count: u32) -> bool
-    ensures { IsTrue result ↔ AreInFrame state.now frame offset count }
-{
-    let Some(stack) = state.stack_of(frame) else {
-        return false;
-    };
-    let Some(at) = frame_bytes(i64::from(offset) + 512, count) else {
-        return false;
-    };
-    stack.is_bytes(at, count as usize)
-}
-
-/// Whether the bytes are in the packet, wherever the variable part is.
-fn are_in_packet(fixed: i32, least: i32, proved: u32, count: u32) -> bool
-    ensures { IsTrue result ↔ AreInPacket fixed least proved (pos 0) count }
-{
-    if proved == 0 {
-        return false;
-    }
-    if i64::from(fixed) + i64::from(least) < 0 {
-        return false;
-    }
-    if i64::from(fixed) + i64::from(count) > i64::from(proved) {
-        return false;
-    }
-    true
-}
-
-/// Whether the bytes are in a map's value, wherever between its limits the pointer points.
-fn are_in_value(room: u32, least: i32, greatest: i32, count: u32) -> bool
-    ensures { IsTrue result ↔ AreInValue room least greatest (pos 0) count }
-{
-    if least < 0 {
-        return false;
-    }
-    if i64::from(greatest) + i64::from(count) > i64::from(room) {
-        return false;
-    }
-    true
-}
-
-/// Whether the bytes at a pointer are known to be there, and to be number bytes.
-fn are_known(maps: &[MapDef], state: &State, kind: Kind, count: u32) -> bool
-    ensures { IsTrue result ↔ AreKnown maps.now state.now kind count }
-{
-    match kind {
-        Kind::Stack { frame, offset } => are_in_frame(state, frame, offset, count),
-        Kind::Packet {
-            fixed,
-            least,
-            proved,
-            ..
-        } => are_in_packet(fixed, least, proved, count),
-        Kind::MapValue {
-            index,
-            least,
-            greatest,
-        } => are_in_value(value_size(maps, index), least, greatest, count),
-        _ => false,
-    }
-}
 
 fn key_is_known(maps: &[MapDef], state: &State, map: CalledMap) -> bool
     ensures { IsTrue result ↔ KeyIsKnown maps.now state.now map }

@@ -10,6 +10,7 @@ ghost use Rattle.transfer.specs.Exact.{Steps};
 
 mod arithmetic;
 mod atomics;
+mod bytes;
 mod context;
 mod exits;
 mod helpers;

@@ -4,11 +4,12 @@ ghost use Rattle.std.specs.Prelude.{◌≡◌};
 ghost use Rattle.transfer.specs.Accesses.{Loads, LoadsSigned, Stores};
 ghost use Rattle.transfer.specs.Refusing.{access_refusal};
 
+use crate::bytes::value_size;
 use crate::context::context_load;
 use crate::packets::{packet_load, packet_load_signed, packet_store};
 use crate::refusals::Refusal;
 use crate::stacks::{stack_load, stack_load_signed, stack_store};
-use crate::values::{value_load, value_load_signed, value_size, value_store};
+use crate::values::{value_load, value_load_signed, value_store};
 use isa_model::{MapDef, Narrow, Size};
 use reg_state::Kind;
 use stack_state::State;

@@ -3,8 +3,9 @@
 ghost use Rattle.std.specs.Prelude.{◌≡◌, ◌+◌, ◌*◌, ◌^◌, ◌↔◌, ℤ, pos, ◌+ℤ◌, ◌-ℤ◌, ◌≤ℤ◌, FitsSigned, IsTrue};
 ghost use Rattle.isa_model.specs.Code.Sizes.{size_bytes, narrow_size, narrow_extension};
 ghost use Rattle.ranges.specs.Keeps.{extension_signed};
-ghost use Rattle.transfer.specs.Packets.{AreInPacket, IsOfSize, IsOfSignedSize, PacketLoads, PacketLoadsSigned, IsStored, PacketStores, lowest, highest, AreLimited, IsPart, AreParts, StaysProved, IsFreshPointer, MovesBetween, MovesBy, PacketMoves};
+ghost use Rattle.transfer.specs.Packets.{IsOfSize, IsOfSignedSize, PacketLoads, PacketLoadsSigned, IsStored, PacketStores, lowest, highest, AreLimited, IsPart, AreParts, StaysProved, IsFreshPointer, MovesBetween, MovesBy, PacketMoves};
 
+use crate::bytes::are_in_packet;
 use crate::offsets::{limits, moved_by, sum};
 use crate::refusals::Refusal;
 use crate::stacks::narrow_size;
@@ -22,23 +23,6 @@ pub struct PacketPointer {
     pub least: i32,
     pub greatest: i32,
     pub proved: u32,
-}
-
-/// Whether the bytes are in the packet, wherever the variable part is.
-pub fn are_in_packet(fixed: i32, least: i32, proved: u32, offset: i16, size: Size) -> bool
-    ensures { IsTrue result ↔ AreInPacket fixed least proved offset (size_bytes size) }
-{
-    if proved == 0 {
-        return false;
-    }
-    let place = sum(fixed, i32::from(offset));
-    if moved_by(false, place, i64::from(least)) < 0 {
-        return false;
-    }
-    if moved_by(false, place, size.bytes() as i64) > i128::from(proved) {
-        return false;
-    }
-    true
 }
 
 /// The greatest number of that many bytes.
@@ -98,7 +82,7 @@ pub fn packet_load(
 ) -> Result<Kind, Refusal>
     ensures { PacketLoads size fixed least proved offset result }
 {
-    if are_in_packet(fixed, least, proved, offset, size) {
+    if are_in_packet(fixed, least, proved, offset, size.bytes() as u32) {
         Ok(Kind::Number(of_size(size)))
     } else {
         Err(Refusal::PacketBytes)
@@ -115,7 +99,13 @@ pub fn packet_load_signed(
 ) -> Result<Kind, Refusal>
     ensures { PacketLoadsSigned size fixed least proved offset result }
 {
-    if are_in_packet(fixed, least, proved, offset, narrow_size(size)) {
+    if are_in_packet(
+        fixed,
+        least,
+        proved,
+        offset,
+        narrow_size(size).bytes() as u32,
+    ) {
         Ok(Kind::Number(of_signed_size(size)))
     } else {
         Err(Refusal::PacketBytes)
@@ -144,7 +134,7 @@ pub fn packet_store(
 ) -> Result<(), Refusal>
     ensures { PacketStores size fixed least proved offset source result }
 {
-    if are_in_packet(fixed, least, proved, offset, size) {
+    if are_in_packet(fixed, least, proved, offset, size.bytes() as u32) {
         stored(source)
     } else {
         Err(Refusal::PacketBytes)

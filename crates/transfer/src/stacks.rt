@@ -1,6 +1,7 @@
 //! Loads and stores through frame pointers.
 
 ghost use Rattle.std.specs.Prelude.{◌≡◌, ◌+◌, ◌%◌, ◌<◌, ◌≤◌, ◌+ℤ◌};
+ghost use Rattle.isa_model.specs.Code.Limits.{frame_size};
 ghost use Rattle.isa_model.specs.Code.Sizes.{size_bytes, narrow_size, narrow_extension};
 ghost use Rattle.transfer.specs.StackAccesses.{FindsFramePlace, IsNumberLoad, IsStackLoad, IsSignedLoad, StackLoads, StackLoadsSigned, whole_or, store_refusal, IsLeft, StackStores};
 ghost use Rattle.stack_state.specs.Meaning.{depth};
@@ -45,7 +46,7 @@ fn narrow_extension(size: Narrow) -> Extension
 
 /// The number that bytes spell.
 fn number(stack: &StackState, at: usize, size: Size) -> Option<Kind>
-    requires inside { at < 512 }
+    requires inside { at < frame_size }
     requires in_slot { at % 8 + size_bytes size ≤ 8 }
     ensures { IsNumberLoad stack.now.slots at size result }
 {
@@ -57,7 +58,7 @@ fn number(stack: &StackState, at: usize, size: Size) -> Option<Kind>
 
 /// What a load of the bytes gives.
 fn loaded(stack: &StackState, at: usize, size: Size) -> Option<Kind>
-    requires inside { at < 512 }
+    requires inside { at < frame_size }
     requires in_slot { at % 8 + size_bytes size ≤ 8 }
     ensures { IsStackLoad stack.now.slots at size result }
 {
@@ -69,7 +70,7 @@ fn loaded(stack: &StackState, at: usize, size: Size) -> Option<Kind>
 
 /// The same with the sign extended.
 fn loaded_signed(stack: &StackState, at: usize, size: Narrow) -> Option<Kind>
-    requires inside { at < 512 }
+    requires inside { at < frame_size }
     requires in_slot { at % 8 + size_bytes (narrow_size size) ≤ 8 }
     ensures { IsSignedLoad stack.now.slots at size result }
 {
@@ -157,7 +158,7 @@ fn store_refusal(state: &State, frame: u8, size: Size, source: Kind) -> Option<R
 /// Writes a value into bytes of a live frame.
 fn leave(state: &mut State, frame: u8, at: usize, size: Size, source: Kind)
     requires live { frame < depth state.old }
-    requires inside { at < 512 }
+    requires inside { at < frame_size }
     requires in_slot { at % 8 + size_bytes size ≤ 8 }
     ensures { IsLeft state.old frame at size source state.new }
 {

@@ -2,9 +2,10 @@
 
 ghost use Rattle.std.specs.Prelude.{◌≡◌, ◌^◌, ◌<◌, ◌↔◌, pos, slice_get, IsTrue, Ok};
 ghost use Rattle.isa_model.specs.Code.Sizes.{size_bytes};
-ghost use Rattle.transfer.specs.Values.{value_size, AreInValue, ValueLoads, ValueLoadsSigned, ValueStores, nearest, farthest, moved_least, moved_greatest, ValueMoves};
+ghost use Rattle.transfer.specs.Values.{ValueLoads, ValueLoadsSigned, ValueStores, nearest, farthest, moved_least, moved_greatest, ValueMoves};
 
-use crate::offsets::{limits, moved_by, sum};
+use crate::bytes::are_in_value;
+use crate::offsets::{limits, moved_by};
 use crate::packets::{of_signed_size, of_size, stored};
 use crate::refusals::Refusal;
 use crate::stacks::narrow_size;
@@ -34,32 +35,6 @@ pub fn value_pointer(index: u32, offset: u32) -> Kind
     }
 }
 
-// ---- bytes
-
-/// How many bytes each value of the map has: none, if there is no such map.
-pub fn value_size(maps: &[MapDef], index: u8) -> u32
-    ensures { result ≡ value_size (slice_get maps.now index) }
-{
-    match maps.get(usize::from(index)) {
-        Some(row) => row.value_size,
-        None => 0,
-    }
-}
-
-/// Whether the bytes are in the value, wherever between its limits the pointer points.
-pub fn are_in_value(room: u32, least: i32, greatest: i32, by: i16, size: Size) -> bool
-    ensures { IsTrue result ↔ AreInValue room least greatest by (size_bytes size) }
-{
-    if sum(least, i32::from(by)) < 0 {
-        return false;
-    }
-    let place = sum(greatest, i32::from(by));
-    if moved_by(false, place, size.bytes() as i64) > i128::from(room) {
-        return false;
-    }
-    true
-}
-
 // ---- loads and stores
 
 /// What a load without a sign gives.
@@ -72,7 +47,7 @@ pub fn value_load(
 ) -> Result<Kind, Refusal>
     ensures { ValueLoads size room least greatest by result }
 {
-    if are_in_value(room, least, greatest, by, size) {
+    if are_in_value(room, least, greatest, by, size.bytes() as u32) {
         Ok(Kind::Number(of_size(size)))
     } else {
         Err(Refusal::MapValueBytes)
@@ -89,7 +64,7 @@ pub fn value_load_signed(
 ) -> Result<Kind, Refusal>
     ensures { ValueLoadsSigned size room least greatest by result }
 {
-    if are_in_value(room, least, greatest, by, narrow_size(size)) {
+    if are_in_value(room, least, greatest, by, narrow_size(size).bytes() as u32) {
         Ok(Kind::Number(of_signed_size(size)))
     } else {
         Err(Refusal::MapValueBytes)
@@ -107,7 +82,7 @@ pub fn value_store(
 ) -> Result<(), Refusal>
     ensures { ValueStores size room least greatest by source result }
 {
-    if are_in_value(room, least, greatest, by, size) {
+    if are_in_value(room, least, greatest, by, size.bytes() as u32) {
         stored(source)
     } else {
         Err(Refusal::MapValueBytes)

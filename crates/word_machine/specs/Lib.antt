@@ -1,3 +1,4 @@
+pub mod Addresses
 pub mod Words
 pub mod Frames
 pub mod Ops

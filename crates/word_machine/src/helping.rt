@@ -3,22 +3,25 @@
 ghost use Rattle.std.specs.Prelude.{◌≡◌, ◌≢◌, ◌+◌, ◌-◌, ◌/◌, ◌≤◌, ℕ, [], length, slice_index, take, vec_capacity};
 ghost use Rattle.std.specs.FinMap as finmap;
 ghost use Rattle.helpers.specs.declared.calls.Answer.TheVariants.{Number, Value};
+ghost use Rattle.word_machine.specs.Addresses.{region_of};
 ghost use Rattle.isa_model.specs.Code.Helpers.{helper_numbered};
 ghost use Rattle.word_machine.specs.Helping.{CallFits, Calls, asks, NamesKey, HasPlaces, NamesValue, Updates, Deletes, found_at, key_named, named};
 ghost use Rattle.word_machine.specs.Machine.{words_of, Rests};
 ghost use Rattle.word_machine.specs.Ops.{constant_of, HasConstant};
 
+use crate::addresses::{FIRST_MAP, FIRST_VALUES, base, region_of};
 use crate::memory::{Memory, bytes, bytes_apart};
 use crate::ops::Op;
 use helpers::{Answer, Request, call};
 use isa_model::{Clock, Helper};
+use maps::KEY_ROOM;
 
 // The map to which r1 points.
 #[inline(always)]
 fn map_named(regs: &[u64; 11]) -> usize
-    ensures { result ≡ slice_index regs.now 1 / 4294967296 - 16 }
+    ensures { result ≡ region_of (slice_index regs.now 1) - 16 }
 {
-    (regs[1] / 0x1_0000_0000).saturating_sub(16) as usize
+    region_of(regs[1]).saturating_sub(FIRST_MAP) as usize
 }
 
 // The number that is answered, where it is no place.
@@ -68,7 +71,7 @@ fn lookup<C: Clock>(regs: &[u64; 11], memory: &mut Memory, packet: &[u8], clock:
     match call(&mut memory.maps, &request, clock) {
         Answer::Value(place) => {
             let start = place as u64 * u64::from(row.value_size);
-            (32 + map as u64) * 0x1_0000_0000 + 0x8000_0000 + start
+            base(FIRST_VALUES + map as u64) + start
         }
         Answer::Number(n) => n,
     }
@@ -86,7 +89,7 @@ fn update<C: Clock>(regs: &[u64; 11], memory: &mut Memory, packet: &[u8], clock:
 {
     let map = map_named(regs);
     let row = memory.maps.row(map);
-    let mut key = [0u8; 64];
+    let mut key = [0u8; KEY_ROOM];
     let size = usize::from(row.key_size);
     let frames = memory.frames.as_slice();
     flatmem::copy(
@@ -121,7 +124,7 @@ fn delete<C: Clock>(regs: &[u64; 11], memory: &mut Memory, packet: &[u8], clock:
     ensures clock { (k : ℕ) → C.at clock.new k ≡ C.at clock.old k }
 {
     let map = map_named(regs);
-    let mut key = [0u8; 64];
+    let mut key = [0u8; KEY_ROOM];
     let size = usize::from(memory.maps.row(map).key_size);
     let frames = memory.frames.as_slice();
     flatmem::copy(

@@ -1,15 +1,20 @@
 //! The machine's memory: the block of frames, the blocks of maps, and what callers left.
 
 ghost use Rattle.std.specs.Prelude.{◌≡◌, ◌+◌, ◌-◌, ◌*◌, ◌/◌, ◌%◌, ◌<◌, ◌≤◌, ℕ, List, [], length, vec_capacity, IfOk};
-ghost use Rattle.isa_model.specs.{max_packet};
+ghost use Rattle.isa_model.specs.Code.Limits.{max_packet, max_call_frames, max_value_size};
 ghost use Rattle.isa_model.specs.Code.Numbers.{bytes_of, number_from};
 ghost use Rattle.isa_model.specs.Code.Sizes.{size_bytes};
 ghost use Rattle.isa_model.specs.declared.sizes.Size.TheVariants.{U8, U16, U32, U64};
-ghost use Rattle.word_machine.specs.Words.{IsInside, Loads, spot_of, get, word_from, number_at, packet_after, frames_after, maps_after, context_word, first_frame, frame_index};
+ghost use Rattle.word_machine.specs.Addresses.{frames_size};
+ghost use Rattle.word_machine.specs.Words.{IsInside, Loads, spot_of, get, word_from, number_at, packet_after, frames_after, maps_after, context_word};
 ghost use Rattle.word_machine.specs.Machine.{words_of, seen, Rests};
 
+use crate::addresses::{
+    CONTEXT, CONTEXT_REGION, FRAMES, FRAMES_SIZE, PACKET, PACKET_REGION, block_index, block_map,
+    frame_index, packet_index, region_of,
+};
 use crate::room::{Room, zeros};
-use isa_model::Size;
+use isa_model::{MAX_CALL_FRAMES, Size};
 use maps::Maps;
 use std::alloc::{AllocError, Global};
 
@@ -23,7 +28,7 @@ pub struct Saved {
 /// All that a program reads and writes, but its registers and the packet.
 #[derive(Drop)]
 pub struct Memory {
-    /// The bytes of all frames, 512 each.
+    /// The bytes of all call frames.
     pub frames: Vec<u8>,
     pub saved: Vec<Saved>,
     pub interface: u32,
@@ -36,14 +41,14 @@ pub struct Memory {
 impl Memory {
     /// Frames of zeros beside these maps, and no caller. All room that a run fills is made here.
     pub fn new(alloc: Global, maps: Maps) -> Result<Self, AllocError>
-        ensures frames { IfOk result (λ memory. length memory.frames.items ≡ 4096) }
+        ensures frames { IfOk result (λ memory. length memory.frames.items ≡ frames_size) }
         ensures saved { IfOk result (λ memory. memory.saved.items ≡ []) }
-        ensures room { IfOk result (λ memory. vec_capacity memory.saved ≡ 8) }
-        ensures exact { IfOk result (λ memory. vec_capacity memory.frames ≡ 4096) }
+        ensures room { IfOk result (λ memory. vec_capacity memory.saved ≡ max_call_frames) }
+        ensures exact { IfOk result (λ memory. vec_capacity memory.frames ≡ frames_size) }
         ensures maps { IfOk result (λ memory. memory.maps ≡ maps) }
     {
-        let frames = zeros(alloc)?;
-        let saved = Vec::with_capacity(alloc, 8)?;
+        let frames = zeros(alloc, FRAMES_SIZE)?;
+        let saved = Vec::with_capacity(alloc, MAX_CALL_FRAMES)?;
         let room = Room::new(alloc)?;
         Ok(Memory {
             frames,
@@ -56,32 +61,19 @@ impl Memory {
     }
 }
 
-/// The base of the first frame's bytes.
-const FIRST_FRAME: u64 = 48 * 0x1_0000_0000 + 0x8000_0000 - 512;
-
-/// Where an address in the frames leads in their block.
-#[inline(always)]
-fn frame_place(address: u64) -> usize
-    requires { first_frame ≤ address }
-    ensures { result ≡ frame_index (address - first_frame) }
-{
-    let past = address - FIRST_FRAME;
-    (past / 0x80_0000 + past % 512) as usize
-}
-
 /// The byte at an address.
 #[inline(always)]
 pub fn get8(memory: &Memory, packet: &[u8], address: u64) -> u64
     requires { IsInside (words_of 0 [] memory.now packet.now 0) (spot_of address) 1 }
     ensures { result ≡ number_at (words_of 0 [] memory.now packet.now 0) U8 address }
 {
-    if address / 0x1_0000_0000 == 2 {
-        u64::from(flatmem::get8(packet, (address % 0x1_0000) as usize))
-    } else if address >= FIRST_FRAME {
-        u64::from(flatmem::get8(memory.frames.as_slice(), frame_place(address)))
+    if region_of(address) == PACKET_REGION {
+        u64::from(flatmem::get8(packet, packet_index(address)))
+    } else if address >= FRAMES {
+        u64::from(flatmem::get8(memory.frames.as_slice(), frame_index(address)))
     } else {
-        let block = memory.maps.block((address / 0x1_0000_0000 - 32) as usize);
-        u64::from(flatmem::get8(block, (address % 0x8000_0000) as usize))
+        let block = memory.maps.block(block_map(address));
+        u64::from(flatmem::get8(block, block_index(address)))
     }
 }
 
@@ -91,13 +83,13 @@ pub fn get16(memory: &Memory, packet: &[u8], address: u64) -> u64
     requires { IsInside (words_of 0 [] memory.now packet.now 0) (spot_of address) 2 }
     ensures { result ≡ number_at (words_of 0 [] memory.now packet.now 0) U16 address }
 {
-    if address / 0x1_0000_0000 == 2 {
-        u64::from(flatmem::get16(packet, (address % 0x1_0000) as usize))
-    } else if address >= FIRST_FRAME {
-        u64::from(flatmem::get16(memory.frames.as_slice(), frame_place(address)))
+    if region_of(address) == PACKET_REGION {
+        u64::from(flatmem::get16(packet, packet_index(address)))
+    } else if address >= FRAMES {
+        u64::from(flatmem::get16(memory.frames.as_slice(), frame_index(address)))
     } else {
-        let block = memory.maps.block((address / 0x1_0000_0000 - 32) as usize);
-        u64::from(flatmem::get16(block, (address % 0x8000_0000) as usize))
+        let block = memory.maps.block(block_map(address));
+        u64::from(flatmem::get16(block, block_index(address)))
     }
 }
 
@@ -107,13 +99,13 @@ pub fn get32(memory: &Memory, packet: &[u8], address: u64) -> u64
     requires { IsInside (words_of 0 [] memory.now packet.now 0) (spot_of address) 4 }
     ensures { result ≡ number_at (words_of 0 [] memory.now packet.now 0) U32 address }
 {
-    if address / 0x1_0000_0000 == 2 {
-        u64::from(flatmem::get32(packet, (address % 0x1_0000) as usize))
-    } else if address >= FIRST_FRAME {
-        u64::from(flatmem::get32(memory.frames.as_slice(), frame_place(address)))
+    if region_of(address) == PACKET_REGION {
+        u64::from(flatmem::get32(packet, packet_index(address)))
+    } else if address >= FRAMES {
+        u64::from(flatmem::get32(memory.frames.as_slice(), frame_index(address)))
     } else {
-        let block = memory.maps.block((address / 0x1_0000_0000 - 32) as usize);
-        u64::from(flatmem::get32(block, (address % 0x8000_0000) as usize))
+        let block = memory.maps.block(block_map(address));
+        u64::from(flatmem::get32(block, block_index(address)))
     }
 }
 
@@ -123,13 +115,13 @@ pub fn get64(memory: &Memory, packet: &[u8], address: u64) -> u64
     requires { IsInside (words_of 0 [] memory.now packet.now 0) (spot_of address) 8 }
     ensures { result ≡ number_at (words_of 0 [] memory.now packet.now 0) U64 address }
 {
-    if address / 0x1_0000_0000 == 2 {
-        flatmem::get64(packet, (address % 0x1_0000) as usize)
-    } else if address >= FIRST_FRAME {
-        flatmem::get64(memory.frames.as_slice(), frame_place(address))
+    if region_of(address) == PACKET_REGION {
+        flatmem::get64(packet, packet_index(address))
+    } else if address >= FRAMES {
+        flatmem::get64(memory.frames.as_slice(), frame_index(address))
     } else {
-        let block = memory.maps.block((address / 0x1_0000_0000 - 32) as usize);
-        flatmem::get64(block, (address % 0x8000_0000) as usize)
+        let block = memory.maps.block(block_map(address));
+        flatmem::get64(block, block_index(address))
     }
 }
 
@@ -148,15 +140,15 @@ pub fn bytes<'a>(
         ≡ get (seen frames.now maps.now packet.now) (spot_of address) count }
     ensures size { length result.now ≡ count }
 {
-    if address / 0x1_0000_0000 == 2 {
-        let at = (address % 0x1_0000) as usize;
+    if region_of(address) == PACKET_REGION {
+        let at = packet_index(address);
         &packet[at..at + count]
-    } else if address >= FIRST_FRAME {
-        let at = frame_place(address);
+    } else if address >= FRAMES {
+        let at = frame_index(address);
         &frames[at..at + count]
     } else {
-        let block = maps.block((address / 0x1_0000_0000 - 32) as usize);
-        let at = (address % 0x8000_0000) as usize;
+        let block = maps.block(block_map(address));
+        let at = block_index(address);
         &block[at..at + count]
     }
 }
@@ -172,21 +164,21 @@ pub fn bytes_apart<'a>(
     count: usize,
 ) -> &'a [u8]
     requires some { 0 < count }
-    requires most { count ≤ 4096 }
+    requires most { count ≤ max_value_size }
     requires inside { IsInside (seen frames.now maps.now packet.now) (spot_of address) count }
     ensures bytes { result.now
         ≡ get (seen frames.now maps.now packet.now) (spot_of address) count }
     ensures size { length result.now ≡ count }
 {
-    if address / 0x1_0000_0000 == 2 {
-        let at = (address % 0x1_0000) as usize;
+    if region_of(address) == PACKET_REGION {
+        let at = packet_index(address);
         &packet[at..at + count]
-    } else if address >= FIRST_FRAME {
-        let at = frame_place(address);
+    } else if address >= FRAMES {
+        let at = frame_index(address);
         &frames[at..at + count]
     } else {
-        let block = maps.block((address / 0x1_0000_0000 - 32) as usize);
-        let at = (address % 0x8000_0000) as usize;
+        let block = maps.block(block_map(address));
+        let at = block_index(address);
         room.keep(&block[at..at + count]);
         room.front(count)
     }
@@ -198,11 +190,14 @@ pub fn field(memory: &Memory, packet: &[u8], address: u64) -> u64
     requires { length packet.now ≤ max_packet }
     ensures { result ≡ context_word (words_of 0 [] memory.now packet.now 0) address }
 {
-    match address {
-        0x1_8000_0000 => 0x2_8000_0000,
-        0x1_8000_0004 => 0x2_8000_0000 + packet.len() as u64,
-        0x1_8000_000c => u64::from(memory.interface),
-        _ => u64::from(memory.queue),
+    if address == CONTEXT {
+        PACKET
+    } else if address == CONTEXT + 4 {
+        PACKET + packet.len() as u64
+    } else if address == CONTEXT + 12 {
+        u64::from(memory.interface)
+    } else {
+        u64::from(memory.queue)
     }
 }
 
@@ -218,17 +213,13 @@ pub fn put8(memory: &mut Memory, packet: &mut [u8], address: u64, number: u64)
     ensures rest { Rests memory.old memory.new }
 {
     let byte = (number % 0x100) as u8;
-    if address / 0x1_0000_0000 == 2 {
-        flatmem::put8(packet, (address % 0x1_0000) as usize, byte);
-    } else if address >= FIRST_FRAME {
-        flatmem::put8(memory.frames.as_mut_slice(), frame_place(address), byte);
+    if region_of(address) == PACKET_REGION {
+        flatmem::put8(packet, packet_index(address), byte);
+    } else if address >= FRAMES {
+        flatmem::put8(memory.frames.as_mut_slice(), frame_index(address), byte);
     } else {
-        let map = (address / 0x1_0000_0000 - 32) as usize;
-        flatmem::put8(
-            memory.maps.block_mut(map),
-            (address % 0x8000_0000) as usize,
-            byte,
-        );
+        let block = memory.maps.block_mut(block_map(address));
+        flatmem::put8(block, block_index(address), byte);
     }
 }
 
@@ -244,17 +235,13 @@ pub fn put16(memory: &mut Memory, packet: &mut [u8], address: u64, number: u64)
     ensures rest { Rests memory.old memory.new }
 {
     let half = (number % 0x1_0000) as u16;
-    if address / 0x1_0000_0000 == 2 {
-        flatmem::put16(packet, (address % 0x1_0000) as usize, half);
-    } else if address >= FIRST_FRAME {
-        flatmem::put16(memory.frames.as_mut_slice(), frame_place(address), half);
+    if region_of(address) == PACKET_REGION {
+        flatmem::put16(packet, packet_index(address), half);
+    } else if address >= FRAMES {
+        flatmem::put16(memory.frames.as_mut_slice(), frame_index(address), half);
     } else {
-        let map = (address / 0x1_0000_0000 - 32) as usize;
-        flatmem::put16(
-            memory.maps.block_mut(map),
-            (address % 0x8000_0000) as usize,
-            half,
-        );
+        let block = memory.maps.block_mut(block_map(address));
+        flatmem::put16(block, block_index(address), half);
     }
 }
 
@@ -270,17 +257,13 @@ pub fn put32(memory: &mut Memory, packet: &mut [u8], address: u64, number: u64)
     ensures rest { Rests memory.old memory.new }
 {
     let word = (number % 0x1_0000_0000) as u32;
-    if address / 0x1_0000_0000 == 2 {
-        flatmem::put32(packet, (address % 0x1_0000) as usize, word);
-    } else if address >= FIRST_FRAME {
-        flatmem::put32(memory.frames.as_mut_slice(), frame_place(address), word);
+    if region_of(address) == PACKET_REGION {
+        flatmem::put32(packet, packet_index(address), word);
+    } else if address >= FRAMES {
+        flatmem::put32(memory.frames.as_mut_slice(), frame_index(address), word);
     } else {
-        let map = (address / 0x1_0000_0000 - 32) as usize;
-        flatmem::put32(
-            memory.maps.block_mut(map),
-            (address % 0x8000_0000) as usize,
-            word,
-        );
+        let block = memory.maps.block_mut(block_map(address));
+        flatmem::put32(block, block_index(address), word);
     }
 }
 
@@ -295,17 +278,13 @@ pub fn put64(memory: &mut Memory, packet: &mut [u8], address: u64, number: u64)
         ≡ maps_after (spot_of address) (bytes_of U64 number) memory.old.maps }
     ensures rest { Rests memory.old memory.new }
 {
-    if address / 0x1_0000_0000 == 2 {
-        flatmem::put64(packet, (address % 0x1_0000) as usize, number);
-    } else if address >= FIRST_FRAME {
-        flatmem::put64(memory.frames.as_mut_slice(), frame_place(address), number);
+    if region_of(address) == PACKET_REGION {
+        flatmem::put64(packet, packet_index(address), number);
+    } else if address >= FRAMES {
+        flatmem::put64(memory.frames.as_mut_slice(), frame_index(address), number);
     } else {
-        let map = (address / 0x1_0000_0000 - 32) as usize;
-        flatmem::put64(
-            memory.maps.block_mut(map),
-            (address % 0x8000_0000) as usize,
-            number,
-        );
+        let block = memory.maps.block_mut(block_map(address));
+        flatmem::put64(block, block_index(address), number);
     }
 }
 
@@ -352,7 +331,7 @@ pub fn load(size: Size, memory: &Memory, packet: &[u8], address: u64) -> u64
     ensures { result ≡ word_from (words_of 0 [] memory.now packet.now 0) size address }
 {
     match size {
-        Size::U32 if address / 0x1_0000_0000 == 1 => field(memory, packet, address),
+        Size::U32 if region_of(address) == CONTEXT_REGION => field(memory, packet, address),
         _ => get(size, memory, packet, address),
     }
 }

@@ -1,17 +1,19 @@
 //! Room for the bytes of a value.
 
 ghost use Rattle.std.specs.Prelude.{◌≡◌, ◌≤◌, length, take, vec_capacity, IfOk};
+ghost use Rattle.isa_model.specs.Code.Limits.{max_value_size};
 
+use maps::VALUE_ROOM;
 use std::alloc::{AllocError, Global};
 
-/// 4,096 zeros, in a list with room for no more. A list with more room, which `vec!` may make, is
+/// So many zeros, in a list with room for no more. A list with more room, which `vec!` may make, is
 /// refused as one that finds none.
-pub fn zeros(alloc: Global) -> Result<Vec<u8>, AllocError>
-    ensures zeros { IfOk result (λ bytes. length bytes.items ≡ 4096) }
-    ensures exact { IfOk result (λ bytes. vec_capacity bytes ≡ 4096) }
+pub fn zeros(alloc: Global, count: usize) -> Result<Vec<u8>, AllocError>
+    ensures zeros { IfOk result (λ bytes. length bytes.items ≡ count) }
+    ensures exact { IfOk result (λ bytes. vec_capacity bytes ≡ count) }
 {
-    let bytes = vec![in alloc; 0; 4096]?;
-    if bytes.capacity() == 4096 {
+    let bytes = vec![in alloc; 0; count]?;
+    if bytes.capacity() == count {
         Ok(bytes)
     } else {
         Err(AllocError)
@@ -22,20 +24,20 @@ pub fn zeros(alloc: Global) -> Result<Vec<u8>, AllocError>
 #[derive(Drop)]
 pub struct Room {
     bytes: Vec<u8>,
-    ghost whole: { length bytes.items ≡ 4096 },
-    ghost exact: { vec_capacity bytes ≡ 4096 },
+    ghost whole: { length bytes.items ≡ max_value_size },
+    ghost exact: { vec_capacity bytes ≡ max_value_size },
 }
 
 impl Room {
     /// Room for the longest value.
     pub fn new(alloc: Global) -> Result<Self, AllocError> {
-        let bytes = zeros(alloc)?;
+        let bytes = zeros(alloc, VALUE_ROOM)?;
         Ok(Room { bytes })
     }
 
     /// Keeps some bytes.
     pub fn keep(&mut self, bytes: &[u8])
-        requires { length bytes.now ≤ 4096 }
+        requires { length bytes.now ≤ max_value_size }
         ensures { take (length bytes.now) self.new.bytes.items ≡ bytes.now }
     {
         flatmem::copy(bytes, self.bytes.as_mut_slice(), 0);
@@ -43,7 +45,7 @@ impl Room {
 
     /// The first `count` bytes.
     pub fn front(&self, count: usize) -> &[u8]
-        requires { count ≤ 4096 }
+        requires { count ≤ max_value_size }
         ensures front { result.now ≡ take count self.now.bytes.items }
         ensures size { length result.now ≡ count }
     {

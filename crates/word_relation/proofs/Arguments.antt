@@ -5,6 +5,7 @@ use Rattle.std.proofs.lemmas.List.{get_or-map}
 use Rattle.std.proofs.lemmas.Option.{slice_get-get_or}
 use Rattle.std.specs.Prelude.{if◌then◌else◌, slice_index, slice_index_or, slice_get}
 use Rattle.std.specs.List.{list_any, list_all}
+use Rattle.isa_model.specs.Code.Limits.{max_maps}
 use Rattle.isa_model.specs.declared.registers.Reg.TheVariants.{R1}
 use Rattle.isa_model.specs.declared.map_defs.MapDef.{MapDef}
 use Rattle.isa_model.specs.declared.values.Region.TheVariants as region
@@ -21,7 +22,8 @@ use Rattle.isa_model.specs.Machine.HelperCalls.{MapArgument, map_of_row, map_arg
 use Rattle.isa_model.specs.Machine.MachineStates.{IsOffset, IsValue, IsState}
 use Rattle.maps.specs.Maps.{map_at}
 use Rattle.maps.proofs.MapLaws.{length-rows_of}
-use Rattle.word_machine.specs.Words.{Words, word_at, base, spot_of, IsInside, get}
+use Rattle.word_machine.specs.Addresses.{region_of, map_base}
+use Rattle.word_machine.specs.Words.{Words, word_at, spot_of, IsInside, get}
 use Rattle.word_machine.specs.Helping.{map_named, named, answered as answered_words}
 use Rattle.word_relation.specs.Related.{Layout, start, moved, Shows, ShowsCells, ShowsRegisters, Related}
 use Rattle.word_relation.proofs.Addresses.{moved_is}
@@ -92,7 +94,7 @@ module _ (p : Program) (a : Layout) (s : State) (w : Words) (R : Related p a s w
 
   module _ (Q : Result Helped TrapReason → Type 0) (traps : (e : TrapReason) → Q (Err e)) where
     -- the map that r1 names
-    index_named : (m x : ℕ) (z : ℤ) → m < 16 → IsOffset z → x ≡ moved (base (16 + m)) z → x / 4294967296 - 16 ≡ m
+    index_named : (m x : ℕ) (z : ℤ) → m < max_maps → IsOffset z → x ≡ moved (map_base m) z → region_of x - 16 ≡ m
     index_named m x (pos n) h l e = omega (arith, ints)
     index_named m x (negsuc n) h l e = omega (arith, ints)
 

@@ -19,9 +19,9 @@ use Rattle.isa_model.specs.Code.Limits.{offset_limit}
 use Rattle.isa_model.specs.Machine.Pointers.{pointer_at, can_move, moved_to, pointer_and_number, number_and_pointer, combined, arithmetic, compared, compared_constant, packet_order, pointer_order, null_test}
 use Rattle.isa_model.specs.Machine.Pointers as pointers
 use Rattle.isa_model.specs.Machine.MachineStates.{IsOffset, IsRegion, IsValue}
-use Rattle.word_machine.specs.Words.{base}
 use Rattle.word_relation.specs.Related.{Layout, IsLayout, start, moved, word, Shows}
 use Rattle.word_relation.proofs.Addresses.{add_moved, sub_moved, alu_add_swap, start_far, word_far}
+use Rattle.word_machine.specs.Addresses.{packet_base}
 
 -- what holds of an answer
 abbrev pub OkShows : Layout → Result Value TrapReason → ℕ → Type 0
@@ -102,7 +102,7 @@ module _ (a : Layout) (rows next : ℕ) (good : IsLayout a rows) where
   OkHolds (Err e) c = Unit {0}
 
   -- a packet pointer against the packet end: the order of the words is that of the offsets
-  end_left : (c : Comparison) (z : ℤ) → IsOffset z → OkHolds (packet_order c (pos a.end) z) (holds c Full64 (base 2 + a.end) (moved (base 2) z))
+  end_left : (c : Comparison) (z : ℤ) → IsOffset z → OkHolds (packet_order c (pos a.end) z) (holds c Full64 (packet_base + a.end) (moved (packet_base) z))
   unfolding holds
   end_left Greater (pos n) h = let l = good.short in grind (arith, nat_tests)
   end_left Greater (negsuc n) h = let l = good.short in grind (arith, nat_tests)
@@ -114,7 +114,7 @@ module _ (a : Layout) (rows next : ℕ) (good : IsLayout a rows) where
   end_left LessEqual (negsuc n) h = let l = good.short in grind (arith, nat_tests)
   end_left c z h = tt
 
-  end_right : (c : Comparison) (z : ℤ) → IsOffset z → OkHolds (packet_order c z (pos a.end)) (holds c Full64 (moved (base 2) z) (base 2 + a.end))
+  end_right : (c : Comparison) (z : ℤ) → IsOffset z → OkHolds (packet_order c z (pos a.end)) (holds c Full64 (moved (packet_base) z) (packet_base + a.end))
   unfolding holds
   end_right Greater (pos n) h = let l = good.short in grind (arith, nat_tests)
   end_right Greater (negsuc n) h = let l = good.short in grind (arith, nat_tests)

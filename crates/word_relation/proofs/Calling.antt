@@ -5,6 +5,7 @@ use Rattle.std.proofs.lemmas.List.{length-take-le, get_or-take, get_or_past}
 use Rattle.std.specs.Prelude.{slice_index, slice_index_or}
 use Rattle.flatmem.specs.Bytes.{bytes_at}
 use Rattle.flatmem.proofs.BytesLaws.{length-bytes_at}
+use Rattle.isa_model.specs.Code.Limits.{frame_size, max_call_frames}
 use Rattle.isa_model.specs.declared.values.Value.{Value}
 use Rattle.isa_model.specs.declared.values.Value.TheVariants.{Unset}
 use Rattle.isa_model.specs.declared.values.Cell.TheVariants.{Unwritten}
@@ -14,8 +15,9 @@ use Rattle.isa_model.specs.Code.Instructions.{Program}
 use Rattle.isa_model.specs.Machine.States.{State, value_at, reg, frame_at, new_frame}
 use Rattle.isa_model.specs.Machine.Calls.{kept, regs_within, regs_after, enter, leave, callers, innermost}
 use Rattle.isa_model.specs.Machine.MachineStates.{IsState}
+use Rattle.word_machine.specs.Addresses.{frame_end}
 use Rattle.word_machine.specs.declared.memory.Saved.{Saved}
-use Rattle.word_machine.specs.Words.{Words, base, saved_at, kept_words, regs_back, word_enter, word_leave}
+use Rattle.word_machine.specs.Words.{Words, saved_at, kept_words, regs_back, word_enter, word_leave}
 use Rattle.word_relation.specs.Related.{Layout, Shows, ShowsCells, ShowsRegisters, ShowsFrame, ShowsSaved, ShowsFrames, Related}
 use Rattle.word_relation.proofs.Extending.{Extends, put_at-there, with_depth, Extends-with_depth, IsLayout-with_depth, register_old, frame_old, saved_old, maps_old}
 
@@ -130,7 +132,7 @@ module _ (p : Program) (a : Layout) (s : State) (w : Words) (R : Related p a s w
   c = record { back = w.at + 1; kept = kept_words w.regs }
 
   abbrev top : ℕ
-  top = base (48 + (length w.saved + 1))
+  top = frame_end (length w.saved + 1)
 
   E : Extends a b next
   E = Extends-with_depth a next n
@@ -149,11 +151,11 @@ module _ (p : Program) (a : Layout) (s : State) (w : Words) (R : Related p a s w
       record {
         count = length-set w.regs 10 top ∙ R.registers.count;
         shown = by_register P tt (same 1 (omega arith)) (same 2 (omega arith)) (same 3 (omega arith)) (same 4 (omega arith)) (same 5 (omega arith)) tt tt tt tt
-            (ten ∙ ap (λ d. base (48 + d)) (sym deep ∙ sym (put_at-there next n a.depth)) ∙ sym (add-zero (base (48 + b.depth next))))
+            (ten ∙ ap frame_end (sym deep ∙ sym (put_at-there next n a.depth)) ∙ sym (add-zero (frame_end (b.depth next))))
             (λ k h. subst (λ v. Shows b v (slice_index (slice_set w.regs 10 top) k)) (sym (get_or_past (regs_within s.regs next) k Unset h)) tt);
       }
 
-  frame_new : n < 8 → (k : ℕ) → k < length (s.frames ++ f ∷ []) → ShowsFrame b (frame_at (s.frames ++ f ∷ []) k) k w.frames
+  frame_new : n < max_call_frames → (k : ℕ) → k < length (s.frames ++ f ∷ []) → ShowsFrame b (frame_at (s.frames ++ f ∷ []) k) k w.frames
   unfolding new_frame
   frame_new room k h = elim (cases_lt k n) [
     | inl lt ↦
@@ -167,7 +169,7 @@ module _ (p : Program) (a : Layout) (s : State) (w : Words) (R : Related p a s w
         (subst (λ f. ShowsFrame b f n w.frames) (sym (get_last s.frames f (new_frame 0 0 [])))
         (record {
           depth = put_at-there next n a.depth;
-          cells = cells_unset b (bytes_at w.frames (n * 512) 512) 512 (length-bytes_at w.frames (n * 512) 512 (omega arith));
+          cells = cells_unset b (bytes_at w.frames (n * frame_size) frame_size) frame_size (length-bytes_at w.frames (n * frame_size) frame_size (omega arith));
         }))
   ]
 
@@ -198,14 +200,14 @@ module _ (p : Program) (a : Layout) (s : State) (w : Words) (R : Related p a s w
         (record { back = ap (λ n. n + 1) R.slot; kept = kept_new }))))
   ]
 
-  frames_within : n < 8 → ShowsFrames b (s.frames ++ f ∷ []) w.frames (w.saved ++ c ∷ [])
+  frames_within : n < max_call_frames → ShowsFrames b (s.frames ++ f ∷ []) w.frames (w.saved ++ c ∷ [])
   frames_within room =
       let deep = R.frames.depth in
       let long = length-append s.frames (f ∷ []) in
       let more = length-append w.saved (c ∷ []) in
       record { whole = R.frames.whole; depth = omega arith; frames = frame_new room; saved = saved_new }
 
-  pub enter_related : (to : ℕ) → n < 8 → Related p b (enter s to) (word_enter w to)
+  pub enter_related : (to : ℕ) → n < max_call_frames → Related p b (enter s to) (word_enter w to)
   enter_related to room = record {
     slot = refl;
     layout = IsLayout-with_depth a (length p.maps) next n room R.layout;
@@ -225,7 +227,7 @@ module _ (p : Program) (a : Layout) (s : State) (w : Words) (R : Related p a s w
   leave_related called =
       let n : ℕ = length w.saved - 1 in
       let m : ℕ = length s.frames - 1 in
-      let top : ℕ = base (48 + n) in
+      let top : ℕ = frame_end n in
       let c = saved_at w.saved n in
       let deep = R.frames.depth in
       let few = length-take-le m s.frames (omega arith) in
@@ -250,7 +252,7 @@ module _ (p : Program) (a : Layout) (s : State) (w : Words) (R : Related p a s w
               (show (value_at old 1) _ _ (back_7 w.regs c.kept top count) (was.kept 1))
               (show (value_at old 2) _ _ (back_8 w.regs c.kept top count) (was.kept 2))
               (show (value_at old 3) _ _ (back_9 w.regs c.kept top count) (was.kept 3))
-              (back_10 w.regs c.kept top count ∙ ap (λ d. base (48 + d)) (sym under) ∙ sym (add-zero (base (48 + a.depth (innermost (callers s.frames)).serial))))
+              (back_10 w.regs c.kept top count ∙ ap frame_end (sym under) ∙ sym (add-zero (frame_end (a.depth (innermost (callers s.frames)).serial))))
               (λ k h. subst (λ v. Shows a v (slice_index (regs_back w.regs c.kept top) k))
               (sym (get_or_past (regs_after (reg s R0) (innermost s.frames).saved (innermost (callers s.frames)).serial) k Unset h)) tt);
         };

@@ -5,6 +5,7 @@ use Rattle.std.proofs.lemmas.List.Elements.{All-get_or, All-head, All-tail}
 use Rattle.std.specs.Prelude.{if◌then◌else◌, ◌==◌, slice_index, All}
 use Rattle.std.specs.Int.{byte_at}
 use Rattle.flatmem.specs.Bytes.{bytes_at}
+use Rattle.isa_model.specs.Code.Limits.{frame_size, max_call_frames, offset_limit}
 use Rattle.isa_model.specs.declared.values.Region.{Region}
 use Rattle.isa_model.specs.declared.values.Region.TheVariants as region
 use Rattle.isa_model.specs.declared.values.Value.{Value}
@@ -19,8 +20,9 @@ use Rattle.isa_model.proofs.CallLaws.{frame_serial_given}
 use Rattle.isa_model.proofs.HelperLaws.{value_serials_given}
 use Rattle.maps.specs.ContentLaws.{changed}
 use Rattle.maps.specs.Maps.{MapState, map_at}
+use Rattle.word_machine.specs.Addresses.{packet_base, values_base, frame_end}
 use Rattle.word_machine.specs.declared.memory.Saved.{Saved}
-use Rattle.word_machine.specs.Words.{base, saved_at}
+use Rattle.word_machine.specs.Words.{saved_at}
 use Rattle.word_relation.specs.Related.{Layout, IsLayout, moved, word, Shows, ShowsCell, ShowsCells, ShowsRegisters, ShowsFrame, ShowsSaved, ShowsFrames, by_serial, ShowsMap, ShowsMaps}
 
 -- what was there before a serial is where it was
@@ -76,19 +78,19 @@ Extends-with_value a serial x = record {
   end = refl;
 }
 
-pub IsLayout-with_depth : (a : Layout) (rows serial j : ℕ) → j < 8 → IsLayout a rows → IsLayout (with_depth a serial j) rows
+pub IsLayout-with_depth : (a : Layout) (rows serial j : ℕ) → j < max_call_frames → IsLayout a rows → IsLayout (with_depth a serial j) rows
 IsLayout-with_depth a rows serial j h good = record {
   few = good.few;
-  shallow = λ n. put_at-all (λ d. d < 8) serial j a.depth h good.shallow n;
+  shallow = λ n. put_at-all (λ d. d < max_call_frames) serial j a.depth h good.shallow n;
   low = good.low;
   short = good.short;
 }
 
-pub IsLayout-with_value : (a : Layout) (rows serial x : ℕ) → x < 536870912 → IsLayout a rows → IsLayout (with_value a serial x) rows
+pub IsLayout-with_value : (a : Layout) (rows serial x : ℕ) → x < offset_limit → IsLayout a rows → IsLayout (with_value a serial x) rows
 IsLayout-with_value a rows serial x h good = record {
   few = good.few;
   shallow = good.shallow;
-  low = λ m n. put_at-all (λ v. v < 536870912) serial x (a.value m) h (good.low m) n;
+  low = λ m n. put_at-all (λ v. v < offset_limit) serial x (a.value m) h (good.low m) n;
   short = good.short;
 }
 
@@ -98,10 +100,10 @@ module _ (a b : Layout) (rows next : ℕ) (E : Extends a b next) where
   word_old : (r : Region) (z : ℤ) → IsRegion rows next r → word b r z ≡ word a r z
   word_old region.Context z h = refl
   word_old region.Packet z h = refl
-  word_old region.PacketEnd z h = ap (λ n. base 2 + n) E.end
+  word_old region.PacketEnd z h = ap (λ n. packet_base + n) E.end
   word_old (region.Map m) z h = refl
-  word_old (region.MapValue m n) z h = ap (λ v. moved (base (32 + m) + v) z) (E.value m n h.1)
-  word_old (region.Frame n) z h = ap (λ d. moved (base (48 + d)) z) (E.depth n h)
+  word_old (region.MapValue m n) z h = ap (λ v. moved (values_base m + v) z) (E.value m n h.1)
+  word_old (region.Frame n) z h = ap (λ d. moved (frame_end d) z) (E.depth n h)
 
   pub shows_old : (v : Value) (w : ℕ) → IsValue rows next v → Shows a v w → Shows b v w
   shows_old Unset w h s = tt
@@ -146,7 +148,7 @@ module _ (p : Program) (s : State) (K : IsState p s) (a b : Layout) (E : Extends
   pub frame_old : (j : ℕ) (block : List ℕ) → j < length s.frames → ShowsFrame a (frame_at s.frames j) j block → ShowsFrame b (frame_at s.frames j) j block
   frame_old j block h old = record {
     depth = E.depth (frame_at s.frames j).serial (frame_serial_given p s j K h) ∙ old.depth;
-    cells = cells_old a b (length p.maps) s.next_serial E (frame_at s.frames j).cells (bytes_at block (j * 512) 512) (old_frame j h).cells old.cells;
+    cells = cells_old a b (length p.maps) s.next_serial E (frame_at s.frames j).cells (bytes_at block (j * frame_size) frame_size) (old_frame j h).cells old.cells;
   }
 
   pub saved_old : (j : ℕ) (c : Saved) → j < length s.frames → ShowsSaved a (frame_at s.frames j) c → ShowsSaved b (frame_at s.frames j) c

@@ -10,6 +10,7 @@ use Rattle.std.specs.Int.{w16}
 use Rattle.std.specs.Int.RustNames.{FitsSigned}
 use Rattle.flatmem.specs.Bytes.{bytes_at}
 use Rattle.flatmem.proofs.BytesLaws.{bytes_of_bytes}
+use Rattle.isa_model.specs.Code.Limits.{frame_size, max_maps, offset_limit}
 use Rattle.isa_model.specs.declared.sizes.Width.TheVariants.{Full64}
 use Rattle.isa_model.specs.declared.sizes.Size.{Size}
 use Rattle.isa_model.specs.declared.sizes.Size.TheVariants.{U8, U16, U32, U64}
@@ -31,7 +32,8 @@ use Rattle.isa_model.specs.Machine.Memory.{and_then, entry_index, entry_at, inde
 use Rattle.isa_model.specs.Machine.MachineStates.{IsValue, IsCallFrame, IsState}
 use Rattle.std.proofs.lemmas.List.Quantifiers.{position-Some}
 use Rattle.word_machine.proofs.FrameLaws.{spot_frame}
-use Rattle.word_machine.specs.Words.{Words, InPacket, InFrames, InBlock, base, first_frame, spot_of, IsInside, get, in_context, word_from, Loads}
+use Rattle.word_machine.specs.Addresses.{region_size, context_base, packet_base, values_base, frame_end, packet_index, block_index, first_frame}
+use Rattle.word_machine.specs.Words.{Words, InPacket, InFrames, InBlock, spot_of, IsInside, get, in_context, word_from, Loads}
 use Rattle.maps.specs.Maps.{map_at}
 use Rattle.word_relation.specs.Related.{Layout, start, moved, word, Shows, ShowsCells, Related}
 use Rattle.word_relation.proofs.ValuesLaws.{live_map, value_inside, value_at_block, value_long}
@@ -43,19 +45,19 @@ use Rattle.word_relation.proofs.Cells.{shows-take, shows-drop, shows-bytes, show
 
 -- ---- which block an address leads to
 
-pub spot_packet : (i : ℕ) → i ≤ max_packet → spot_of (base 2 + i) ≡ InPacket i
+pub spot_packet : (i : ℕ) → i ≤ max_packet → spot_of (packet_base + i) ≡ InPacket i
 spot_packet i h =
-    let high : (base 2 + i) / 4294967296 ≡ 2 = omega arith in
-    let low : (base 2 + i) % 65536 ≡ i = omega arith in
+    let high : (packet_base + i) / region_size ≡ 2 = omega arith in
+    let low : packet_index (packet_base + i) ≡ i = omega arith in
     rw (high, low) refl
 
-pub spot_block : (m i : ℕ) → m < 16 → i < 1073741824 → spot_of (base (32 + m) + i) ≡ InBlock m i
+pub spot_block : (m i : ℕ) → m < max_maps → i < 2 * offset_limit → spot_of (values_base m + i) ≡ InBlock m i
 spot_block m i h g =
-    let high : (base (32 + m) + i) / 4294967296 ≡ 32 + m = omega arith in
-    let low : (base (32 + m) + i) % 2147483648 ≡ i = omega arith in
+    let high : (values_base m + i) / region_size ≡ 32 + m = omega arith in
+    let low : block_index (values_base m + i) ≡ i = omega arith in
     let map : 32 + m - 32 ≡ m = omega arith in
     let packet : (32 + m == 2) ≡ false = grind (arith, nat_tests) in
-    let frame : nat_le first_frame (base (32 + m) + i) ≡ false = grind (arith, nat_tests) in
+    let frame : nat_le first_frame (values_base m + i) ≡ false = grind (arith, nat_tests) in
     let block : nat_le 32 (32 + m) ≡ true = grind (arith, nat_tests) in
     rw (high, packet, frame, block, map, low) refl
 
@@ -89,7 +91,7 @@ module _ (p : Program) (a : Layout) (s : State) (w : Words) (R : Related p a s w
       (subst (λ bs. ShowsCells a (map Byte (bytes_at bytes i n)) bs)
       (ap (λ bs. bytes_at bs i n) (sym e) ∙ bytes_of_bytes block from (length bytes) i n h) (shows-bytes a (bytes_at bytes i n)))
 
-  read_packet : (i n x : ℕ) → x ≡ base 2 + i → OkRead n (found (Some (map Byte s.packet)) (Some i) n) x
+  read_packet : (i n x : ℕ) → x ≡ packet_base + i → OkRead n (found (Some (map Byte s.packet)) (Some i) n) x
   read_packet i n x e = found_in (map Byte s.packet) i n x (λ h.
       let long = length-map s.packet Byte in
       let short = K.short in
@@ -102,20 +104,20 @@ module _ (p : Program) (a : Layout) (s : State) (w : Words) (R : Related p a s w
       rw spot (omega arith, cells, far))
 
   -- the frame at a depth
-  pub frame_whole : (j : ℕ) → j < length s.frames → length (frame_at s.frames j).cells ≡ 512
+  pub frame_whole : (j : ℕ) → j < length s.frames → length (frame_at s.frames j).cells ≡ frame_size
   frame_whole j h = (All-get_or (IsCallFrame p s.next_serial) s.frames j (new_frame 0 0 []) h K.frames).whole
 
-  read_frame : (j i n x : ℕ) → 0 < n → j < length s.frames → x + 512 ≡ base (48 + j) + i
+  read_frame : (j i n x : ℕ) → 0 < n → j < length s.frames → x + frame_size ≡ frame_end j + i
       → OkRead n (found (Some (frame_at s.frames j).cells) (Some i) n) x
   read_frame j i n x some here e = found_in (frame_at s.frames j).cells i n x (λ h.
       let f = frame_at s.frames j in
       let whole = frame_whole j here in
       let block = R.frames.whole in
       let few = K.depth in
-      let spot : spot_of x ≡ InFrames (j * 512 + i) = spot_frame j i x (omega arith) (omega arith) e in
+      let spot : spot_of x ≡ InFrames (j * frame_size + i) = spot_frame j i x (omega arith) (omega arith) e in
       let shown = R.frames.frames j here in
-      let part = shows-take a n (drop i f.cells) (drop i (bytes_at w.frames (j * 512) 512)) (shows-drop a i f.cells (bytes_at w.frames (j * 512) 512) shown.cells) in
-      let cells = subst (ShowsCells a (take n (drop i f.cells))) (bytes_of_bytes w.frames (j * 512) 512 i n (omega arith)) part in
+      let part = shows-take a n (drop i f.cells) (drop i (bytes_at w.frames (j * frame_size) frame_size)) (shows-drop a i f.cells (bytes_at w.frames (j * frame_size) frame_size) shown.cells) in
+      let cells = subst (ShowsCells a (take n (drop i f.cells))) (bytes_of_bytes w.frames (j * frame_size) frame_size i n (omega arith)) part in
       let far : 8589934592 ≤ x = omega arith in
       rw spot (omega arith, cells, far))
 
@@ -136,7 +138,7 @@ module _ (p : Program) (a : Layout) (s : State) (w : Words) (R : Related p a s w
   -- where a place of a live value is
   pub spot_value : (m j i n x : ℕ) → j < length (content_of s m) → m < length p.maps
       → i + n ≤ length (entry_at (content_of s m) j).1.bytes
-      → x ≡ base (32 + m) + a.value m (entry_at (content_of s m) j).1.serial + i
+      → x ≡ values_base m + a.value m (entry_at (content_of s m) j).1.serial + i
       → (spot_of x ≡ InBlock m (a.value m (entry_at (content_of s m) j).1.serial + i))
       × (a.value m (entry_at (content_of s m) j).1.serial + i + n ≤ length (map_at w.maps m).block)
   spot_value m j i n x here row h e =
@@ -147,11 +149,11 @@ module _ (p : Program) (a : Layout) (s : State) (w : Words) (R : Related p a s w
       let short = shown.is.is_row.short_value in
       let low = R.layout.low m (entry_at (content_of s m) j).1.serial in
       let few = R.layout.few in
-      let at : x ≡ base (32 + m) + (from + i) = omega arith in
+      let at : x ≡ values_base m + (from + i) = omega arith in
       (ap spot_of at ∙ spot_block m (from + i) (omega arith) (omega arith), omega arith)
 
   read_value : (m j i n x : ℕ) → j < length (content_of s m) → m < length p.maps
-      → x ≡ base (32 + m) + a.value m (entry_at (content_of s m) j).1.serial + i
+      → x ≡ values_base m + a.value m (entry_at (content_of s m) j).1.serial + i
       → OkRead n (found (Some (map Byte (entry_at (content_of s m) j).1.bytes)) (Some i) n) x
   read_value m j i n x here row e =
       let bytes = (entry_at (content_of s m) j).1.bytes in
@@ -170,9 +172,9 @@ module _ (p : Program) (a : Layout) (s : State) (w : Words) (R : Related p a s w
   shows_read (region.Map m) z n x some e = tt
   shows_read region.Packet (pos i) n x some e = read_packet i n x (omega (arith, ints))
   shows_read region.Packet (negsuc i) n x some e = tt
-  shows_read (region.Frame m) z n x some e = by_frame (frame_index_of s.frames m) refl (z +ℤ pos 512) refl
+  shows_read (region.Frame m) z n x some e = by_frame (frame_index_of s.frames m) refl (z +ℤ pos frame_size) refl
     where
-      by_frame : (o : Option ℕ) → frame_index_of s.frames m ≡ o → (y : ℤ) → z +ℤ pos 512 ≡ y
+      by_frame : (o : Option ℕ) → frame_index_of s.frames m ≡ o → (y : ℤ) → z +ℤ pos frame_size ≡ y
           → OkRead n (found (option_map (λ j. (frame_at s.frames j).cells) o) (index_from y) n) x
       by_frame None f y g = tt
       by_frame (Some j) f (negsuc i) g = tt
@@ -242,31 +244,31 @@ module _ (p : Program) (a : Layout) (s : State) (w : Words) (R : Related p a s w
   shows_memory_load U64 r z x fits e = got U64 x _ fits (got_value x (read s r (index_at r z) 8) (shows_read r z 8 x (omega arith) e))
 
   -- the context's fields
-  shows_field : (i : ℕ) → OkLoad U32 (context_field s (Some i)) (base 1 + i)
+  shows_field : (i : ℕ) → OkLoad U32 (context_field s (Some i)) (context_base + i)
   shows_field i = zero (i == 0) refl
     where
-      last : (b : Bool) → (i == 16) ≡ b → OkLoad U32 (if b then Ok (Num s.queue) else Err BadAccess) (base 1 + i)
+      last : (b : Bool) → (i == 16) ≡ b → OkLoad U32 (if b then Ok (Num s.queue) else Err BadAccess) (context_base + i)
       last true e = let f : i ≡ 16 = grind (arith, nat_tests) in rw f ((λ h. absurd (cc)), R.queue)
       last false e = tt
 
-      third : (b : Bool) → (i == 12) ≡ b → OkLoad U32 (if b then Ok (Num s.interface) else if i == 16 then Ok (Num s.queue) else Err BadAccess) (base 1 + i)
+      third : (b : Bool) → (i == 12) ≡ b → OkLoad U32 (if b then Ok (Num s.interface) else if i == 16 then Ok (Num s.queue) else Err BadAccess) (context_base + i)
       third true e = let f : i ≡ 12 = grind (arith, nat_tests) in rw f ((λ h. absurd (cc)), R.interface)
       third false e = last (i == 16) refl
 
-      second : (b : Bool) → (i == 4) ≡ b → OkLoad U32 (if b then Ok (Ptr region.PacketEnd (pos 0)) else if i == 12 then Ok (Num s.interface) else if i == 16 then Ok (Num s.queue) else Err BadAccess) (base 1 + i)
-      second true e = let f : i ≡ 4 = grind (arith, nat_tests) in rw f ((λ h. absurd (cc)), ap (λ n. base 2 + n) (ap length R.packet ∙ sym R.end))
+      second : (b : Bool) → (i == 4) ≡ b → OkLoad U32 (if b then Ok (Ptr region.PacketEnd (pos 0)) else if i == 12 then Ok (Num s.interface) else if i == 16 then Ok (Num s.queue) else Err BadAccess) (context_base + i)
+      second true e = let f : i ≡ 4 = grind (arith, nat_tests) in rw f ((λ h. absurd (cc)), ap (λ n. packet_base + n) (ap length R.packet ∙ sym R.end))
       second false e = third (i == 12) refl
 
-      zero : (b : Bool) → (i == 0) ≡ b → OkLoad U32 (if b then Ok (Ptr region.Packet (pos 0)) else if i == 4 then Ok (Ptr region.PacketEnd (pos 0)) else if i == 12 then Ok (Num s.interface) else if i == 16 then Ok (Num s.queue) else Err BadAccess) (base 1 + i)
-      zero true e = let f : i ≡ 0 = grind (arith, nat_tests) in rw f ((λ h. absurd (cc)), refl {a = base 2})
+      zero : (b : Bool) → (i == 0) ≡ b → OkLoad U32 (if b then Ok (Ptr region.Packet (pos 0)) else if i == 4 then Ok (Ptr region.PacketEnd (pos 0)) else if i == 12 then Ok (Num s.interface) else if i == 16 then Ok (Num s.queue) else Err BadAccess) (context_base + i)
+      zero true e = let f : i ≡ 0 = grind (arith, nat_tests) in rw f ((λ h. absurd (cc)), refl {a = packet_base})
       zero false e = second (i == 4) refl
 
-  shows_context_load : (size : Size) (z : ℤ) (x : ℕ) → pos x ≡ pos (base 1) +ℤ z → OkLoad size (context_load s size (index_from z)) x
+  shows_context_load : (size : Size) (z : ℤ) (x : ℕ) → pos x ≡ pos context_base +ℤ z → OkLoad size (context_load s size (index_from z)) x
   shows_context_load U8 z x e = tt
   shows_context_load U16 z x e = tt
   shows_context_load U64 z x e = tt
   shows_context_load U32 (negsuc i) x e = tt
-  shows_context_load U32 (pos i) x e = let f : base 1 + i ≡ x = omega (arith, ints) in subst (OkLoad U32 (context_field s (Some i))) f (shows_field i)
+  shows_context_load U32 (pos i) x e = let f : context_base + i ≡ x = omega (arith, ints) in subst (OkLoad U32 (context_field s (Some i))) f (shows_field i)
 
   -- every load
   pub shows_load : (size : Size) (v : Value) (by : ℤ) (x : ℕ) → IsValue (length p.maps) s.next_serial v → FitsSigned w16 by → Shows a v x

@@ -5,6 +5,7 @@ use Rattle.std.specs.Prelude.{if◌then◌else◌, ◌==◌, ◌≢◌, nat_le, 
 use Rattle.std.specs.Option.{option_map}
 use Rattle.std.specs.Cmp.Lexicographic.{nat_list_cmp_total}
 use Rattle.std.specs.FinMap.{get, remove, len, entries, get-insert, len-entries}
+use Rattle.isa_model.specs.Code.Limits.{offset_limit}
 use Rattle.isa_model.specs.Code.Instructions.{Program}
 use Rattle.isa_model.specs.Machine.States.{State, Content, Stored, content_of}
 use Rattle.isa_model.specs.Machine.MapContents.{is_key, at_key, has_key, with_key, without_key, update_answer_by, update_answer, delete_answer_by, delete_answer}
@@ -18,7 +19,8 @@ use Rattle.maps.specs.Changes.{Writes}
 use Rattle.maps.specs.ContentLaws.{changed, find-changed}
 use Rattle.maps.proofs.UpdateLaws.{update_answer-places, delete_answer-places}
 use Rattle.maps.specs.Maps.{MapState, IsMap, map_at, content_in, Updated, Deleted}
-use Rattle.word_machine.specs.Words.{Words, base}
+use Rattle.word_machine.specs.Addresses.{values_base}
+use Rattle.word_machine.specs.Words.{Words}
 use Rattle.word_relation.specs.Related.{Layout, IsLayout, Shows, by_serial, by_place, ShowsMap, ShowsMaps, Related}
 use Rattle.word_relation.proofs.Extending.{Extends, with_value, put_at-there, Extends-with_value, IsLayout-with_value, registers_old, frames_old, maps_old, content_old}
 use Rattle.word_relation.proofs.Contents.{changed-with_key, changed-without_key, find-placed, placed-remove, placed-put}
@@ -46,7 +48,7 @@ module _ (a : Layout) (m : ℕ) (content : Content) (state : MapState) (shown : 
 
   -- where the value at a place begins, or 0
   abbrev pub address : Option ℕ → ℕ
-  address (Some place) = base (32 + m) + place * size
+  address (Some place) = values_base m + place * size
   address None = 0
 
   found_shown : (o : Option Stored) (q : Option ℕ) → option_map (by_serial a m) o ≡ option_map (by_place size state.block) q
@@ -56,7 +58,7 @@ module _ (a : Layout) (m : ℕ) (content : Content) (state : MapState) (shown : 
   found_shown (Some v) None e = absurd (cc)
   found_shown (Some v) (Some place) e =
       let same : by_serial a m v ≡ by_place size state.block place = cc in
-      ap (λ n. base (32 + m) + n) (ap (λ x. x.0) (sym same)) ∙ sym (add-zero (base (32 + m) + a.value m v.serial))
+      ap (λ n. values_base m + n) (ap (λ x. x.0) (sym same)) ∙ sym (add-zero (values_base m + a.value m v.serial))
 
   pub lookup_shown : (key : List ℕ) → Shows a (pointer_or_zero m (at_key key content)) (address (get state.places key))
   lookup_shown key = found_shown (at_key key content) (get state.places key) (found key)
@@ -103,11 +105,11 @@ module _ (a : Layout) (m : ℕ) (content : Content) (state : MapState) (shown : 
   -- ---- an update
 
   -- a value's end is low
-  place_low : (new : MapState) (place : ℕ) → IsMap new → new.row ≡ state.row → place < new.row.entries → place * size < 536870912
+  place_low : (new : MapState) (place : ℕ) → IsMap new → new.row ≡ state.row → place < new.row.entries → place * size < offset_limit
   place_low new place is row inside =
       let end = row_end place new.row.entries new.row.value_size inside in
       let all = mul-le-mul is.is_row.few_entries is.is_row.short_value in
-      subst (λ r. place * r.value_size < 536870912) row (omega arith)
+      subst (λ r. place * r.value_size < offset_limit) row (omega arith)
 
   module _ (new : MapState) (key value : List ℕ) (is : IsMap new) (row : new.row ≡ state.row) (long : length value ≡ size)
       (writes : Writes size key value state.places state.block new.places new.block) where

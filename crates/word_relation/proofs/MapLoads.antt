@@ -5,6 +5,7 @@ use Rattle.std.specs.Option.{option_map}
 use Rattle.std.specs.FinMap.{get}
 use Rattle.std.proofs.lemmas.Option.{slice_get_within}
 use Rattle.byteorder.specs.Endian.{little_bytes}
+use Rattle.isa_model.specs.Code.Limits.{max_maps}
 use Rattle.isa_model.specs.declared.map_defs.MapDef.{MapDef}
 use Rattle.isa_model.specs.declared.map_defs.MapKind.TheVariants.{Array}
 use Rattle.isa_model.specs.Code.MapRows.{HoldsOffset}
@@ -15,7 +16,8 @@ use Rattle.isa_model.specs.Machine.MachineStates.{IsState}
 use Rattle.map_indexes.specs.Slots.{Places}
 use Rattle.map_indexes.proofs.ArrayLaws.{get_index}
 use Rattle.maps.specs.Maps.{MapState, map_at}
-use Rattle.word_machine.specs.Words.{Words, base}
+use Rattle.word_machine.specs.Addresses.{values_base}
+use Rattle.word_machine.specs.Words.{Words}
 use Rattle.word_relation.specs.Related.{Layout, Shows, by_place, ShowsMap, Related}
 use Rattle.word_relation.proofs.ValuesLaws.{value_starts, in_block, place_at}
 use Rattle.word_relation.proofs.Arguments.{row_of}
@@ -42,11 +44,11 @@ module _ (a : Layout) (m : ℕ) (state : MapState) where
 module _ (p : Program) (a : Layout) (s : State) (w : Words) (R : Related p a s w) (K : IsState p s) where
   -- the word of a pointer into the only value
   pub only_value : (m offset : ℕ) → IsSomeAnd (slice_get p.maps m) (HoldsOffset offset)
-      → Shows a (value_pointer s m offset) (base (32 + m) + offset) × (m < 16)
+      → Shows a (value_pointer s m offset) (values_base m + offset) × (m < max_maps)
   only_value m offset named = at (slice_get p.maps m) refl named
     where
       at : (o : Option MapDef) → slice_get p.maps m ≡ o → IsSomeAnd o (HoldsOffset offset)
-          → Shows a (value_pointer s m offset) (base (32 + m) + offset) × (m < 16)
+          → Shows a (value_pointer s m offset) (values_base m + offset) × (m < max_maps)
       at None e h = absurd h
       at (Some row) e h =
           let inside = slice_get_within p.maps m row e in

@@ -35,6 +35,7 @@ use Rattle.isa_model.specs.Machine.Steps.{StepResult, Next, Finished, Trapped, o
 use Rattle.isa_model.specs.Machine.MachineStates.{IsProgram, IsValue, IsState}
 use Rattle.isa_model.proofs.ValueLaws.{unsigned_fits}
 use Rattle.isa_model.proofs.StateLaws.{reg_fits}
+use Rattle.word_machine.specs.Addresses.{map_base, values_base}
 use Rattle.word_machine.specs.Words.{Words, word_at, set_word, word_operand, at_slot, address_of, word_from, word_tested, word_act, word_enter, word_leave, number_at, old_number, Loads, put, spot_of, IsInside}
 use Rattle.word_machine.specs.Words as words
 use Rattle.word_machine.specs.Flows.{Fits, Moves}
@@ -168,8 +169,8 @@ module _ (p : Program) (clock : ℕ → ℕ) (a : Layout) (s : State) (w : Words
           → OkMove (CallLocal by) (if full then Trapped TooManyFrames else Next (enter s (destination p s.slot by)))
       room true e = tt
       room false e =
-          let other : length s.frames ≡ 8 → ⊥ = (λ h. grind (arith, nat_tests)) in
-          let few : length s.frames < 8 = let d = K.depth in omega (arith, other) in
+          let other : length s.frames ≡ max_call_frames → ⊥ = (λ h. grind (arith, nat_tests)) in
+          let few : length s.frames < max_call_frames = let d = K.depth in omega (arith, other) in
           let deep = R.frames.depth in (
             omega arith,
             tt,
@@ -233,11 +234,11 @@ module _ (p : Program) (clock : ℕ → ℕ) (a : Layout) (s : State) (w : Words
       (always (on_number (reordered order span) (reg s d)) (Unit {0}) tt) tt (λ v m. m)
   acts (LoadNumber d n) fits named = acts_sets (LoadNumber d n) d (Ok (Num n)) n refl tt tt (λ v m. m)
   acts (LoadMap d m) fits named =
-      acts_sets (LoadMap d m) d (Ok (map_pointer m)) (words.base (16 + m)) (sym (add-zero (words.base (16 + m))))
+      acts_sets (LoadMap d m) d (Ok (map_pointer m)) (map_base m) (sym (add-zero (map_base m)))
       (let few = R.layout.few in omega arith) tt (λ v m. m)
   acts (LoadMapValue d m offset) fits named =
       let only = only_value p a s w R K m offset named in
-      acts_sets (LoadMapValue d m offset) d (Ok (value_pointer s m offset)) (words.base (32 + m) + offset) only.0 (only.1, let f = fits.1 in omega arith) tt (λ v m. m)
+      acts_sets (LoadMapValue d m offset) d (Ok (value_pointer s m offset)) (values_base m + offset) only.0 (only.1, let f = fits.1 in omega arith) tt (λ v m. m)
   acts (Load size d place) fits named =
       let l = load_moves (Load size d place) size (load s size (base_of s place) place.offset) (address_of w place)
       (shows_load p a s w R K size (base_of s place) place.offset (word_at w place.base) (reg_fits p s place.base K) fits (R.registers.shown (reg_number place.base)))

@@ -2,6 +2,7 @@
 use Rattle.std.proofs.Common.{◌≡◌, ℕ, zero, suc, ◌<◌, ◌≤◌, length, refl, sym, ap, subst, ◌∙◌, arith, add-one, Bool, true, false, Option, Some, None}
 use Rattle.std.specs.Prelude.{if◌then◌else◌}
 use Rattle.std.specs.List.{list_any}
+use Rattle.isa_model.specs.Code.Limits.{max_call_frames}
 use Rattle.isa_model.specs.declared.instructions.Insn.{Insn}
 use Rattle.isa_model.specs.declared.instructions.Insn.TheVariants.{Exit}
 use Rattle.isa_model.specs.declared.ends.TrapReason.TheVariants.{UnsetRead, ReadOnly}
@@ -55,7 +56,7 @@ module _ (p : Program) (clock : ℕ → ℕ) (program : IsProgram p) (answers : 
       → ((b : Layout) (t : State) (v : Words) → Related p b t v → IsState p t → Q t → P v) → Stands p clock w P
   stands P Q a s w R K i found own q ends move keeps rest = by_step q ends move keeps
     where
-      shallow : length w.saved < 8
+      shallow : length w.saved < max_call_frames
       shallow = let d = R.frames.depth in let e = K.depth in omega arith
 
       short : length w.packet ≤ max_packet

@@ -8,6 +8,7 @@ use Rattle.std.specs.Prelude.{slice_index, slice_index_or, All}
 use Rattle.std.specs.FinMap.{entries}
 use Rattle.flatmem.specs.Bytes.{bytes_at}
 use Rattle.flatmem.proofs.BytesLaws.{length-bytes_at}
+use Rattle.isa_model.specs.Code.Limits.{frame_size, max_maps, offset_limit}
 use Rattle.isa_model.specs.declared.frames.FrameHead.{FrameHead}
 use Rattle.isa_model.specs.declared.values.Value.TheVariants.{Unset}
 use Rattle.isa_model.specs.{Program, max_packet}
@@ -22,6 +23,7 @@ use Rattle.maps.proofs.ReportOrderLaws.{get_at}
 use Rattle.word_relation.specs.Related.{Layout, Shows, ShowsFrame, by_place, Related}
 use Rattle.word_relation.proofs.Calling.{by_register, cells_unset}
 use Rattle.word_relation.specs.Starting.{start_of, start_words}
+use Rattle.word_machine.specs.Addresses.{frames_size}
 
 abbrev pub place_of : MapState → ℕ → ℕ
 place_of state k = (slice_index_or (entries state.places) k ([], 0)).1
@@ -45,7 +47,7 @@ place_inside state k is = elim (cases_lt k (length (entries state.places))) [
       subst (λ (e : List ℕ × ℕ). e.1 < state.row.entries) (sym (get_or_past (entries state.places) k ([], 0) g)) (omega arith)
 ]
 
-begins_low : (first : ℕ) (maps : List MapState) (m n : ℕ) → All IsMap maps → begins first maps m n < 536870912
+begins_low : (first : ℕ) (maps : List MapState) (m n : ℕ) → All IsMap maps → begins first maps m n < offset_limit
 begins_low first [] m n h = omega arith
 begins_low first (state ∷ maps) zero n h =
     let is = All-head IsMap state maps h in
@@ -74,8 +76,8 @@ maps_shown first (state ∷ maps) zero h =
     (λ j l. let same : first + j - first ≡ j = omega arith in ap (λ k. place_of state k * state.row.value_size) same)
 maps_shown first (state ∷ maps) (suc m) h = maps_shown (first + length (content_in state)) maps m (omega arith)
 
-pub start_related : (p : Program) (head : FrameHead) (packet frames : List ℕ) (maps : List MapState) → length p.maps ≤ 16 → length packet ≤ max_packet
-    → length frames ≡ 4096 → All IsMap maps → rows_of maps ≡ p.maps
+pub start_related : (p : Program) (head : FrameHead) (packet frames : List ℕ) (maps : List MapState) → length p.maps ≤ max_maps → length packet ≤ max_packet
+    → length frames ≡ frames_size → All IsMap maps → rows_of maps ≡ p.maps
     → Related p (start_layout packet maps) (start_state head packet (contents_of maps)) (start_of head packet frames maps)
 unfolding start_state new_frame
 start_related p head packet frames maps few short whole are rows = record {
@@ -104,5 +106,5 @@ start_related p head packet frames maps few short whole are rows = record {
   where
     frame : (j : ℕ) → j < length (start_state head packet (contents_of maps)).frames
         → ShowsFrame (start_layout packet maps) (frame_at (start_state head packet (contents_of maps)).frames j) j frames
-    frame zero h = record { depth = refl; cells = cells_unset (start_layout packet maps) (bytes_at frames 0 512) 512 (length-bytes_at frames 0 512 (omega arith)) }
+    frame zero h = record { depth = refl; cells = cells_unset (start_layout packet maps) (bytes_at frames 0 frame_size) frame_size (length-bytes_at frames 0 frame_size (omega arith)) }
     frame (suc j) h = absurd (omega arith)

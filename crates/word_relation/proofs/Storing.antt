@@ -11,6 +11,7 @@ use Rattle.std.specs.Int.{w16, w64, to_le_bytes}
 use Rattle.std.specs.Int.RustNames.{FitsSigned}
 use Rattle.flatmem.specs.Bytes.{bytes_at, with_bytes}
 use Rattle.flatmem.proofs.BytesLaws.{bytes_with, bytes_before, bytes_after, length-with_bytes}
+use Rattle.isa_model.specs.Code.Limits.{frame_size}
 use Rattle.isa_model.specs.declared.sizes.Width.TheVariants.{Full64}
 use Rattle.isa_model.specs.declared.sizes.Size.{Size}
 use Rattle.isa_model.specs.declared.sizes.Size.TheVariants.{U8, U16, U32, U64}
@@ -33,7 +34,8 @@ use Rattle.isa_model.specs.Machine.Memory.{and_then, byte_in, entry_index, entry
 use Rattle.maps.specs.Maps.{MapState, map_at, with_block}
 use Rattle.isa_model.specs.Machine.MachineStates.{AreBytes, IsValue, IsState}
 use Rattle.isa_model.proofs.ValueLaws.{length-splice, bytes_of_fit}
-use Rattle.word_machine.specs.Words.{Words, InPacket, InFrames, InBlock, base, spot_of, IsInside, saved_at, put as put_bytes}
+use Rattle.word_machine.specs.Addresses.{packet_base}
+use Rattle.word_machine.specs.Words.{Words, InPacket, InFrames, InBlock, spot_of, IsInside, saved_at, put as put_bytes}
 use Rattle.word_relation.specs.Related.{Layout, start, moved, word, Shows, ShowsCells, ShowsFrame, ShowsSaved, ShowsFrames, ShowsMaps, Related}
 use Rattle.word_relation.specs.Values.{contents_are}
 use Rattle.word_relation.proofs.ValuesLaws.{written, written_shown}
@@ -67,8 +69,8 @@ module _ (p : Program) (a : Layout) (s : State) (w : Words) (R : Related p a s w
       shows-append a (take i cs) (take i row) (new ++ drop (i + length new) cs) (bs ++ drop (i + length bs) row) (shows-take a i cs row h)
       (shows-append a new bs (drop (i + length new) cs) (drop (i + length bs) row) k rest)
 
-  put_frame_shown : (j i : ℕ) (new : List Cell) (bs : List ℕ) → j < length s.frames → i + length new ≤ 512 → ShowsCells a new bs
-      → ShowsFrames a (put_frame s.frames (Some j) i new) (with_bytes w.frames (j * 512 + i) bs) w.saved
+  put_frame_shown : (j i : ℕ) (new : List Cell) (bs : List ℕ) → j < length s.frames → i + length new ≤ frame_size → ShowsCells a new bs
+      → ShowsFrames a (put_frame s.frames (Some j) i new) (with_bytes w.frames (j * frame_size + i) bs) w.saved
   put_frame_shown j i new bs here room k =
       let f = frame_at s.frames j in
       let g : CallFrame = record f { cells = splice f.cells i (i + length new) new } in
@@ -76,22 +78,22 @@ module _ (p : Program) (a : Layout) (s : State) (w : Words) (R : Related p a s w
       let block = R.frames.whole in
       let long = shows-length a new bs k in
       let same = length-set s.frames j g in
-      let inside : j * 512 + i + length bs ≤ length w.frames = omega arith in
+      let inside : j * frame_size + i + length bs ≤ length w.frames = omega arith in
       record {
-        whole = length-with_bytes w.frames (j * 512 + i) bs inside ∙ R.frames.whole;
+        whole = length-with_bytes w.frames (j * frame_size + i) bs inside ∙ R.frames.whole;
         depth = same ∙ R.frames.depth;
-        frames = λ n h. at_set s.frames j n g (λ f. ShowsFrame a f n (with_bytes w.frames (j * 512 + i) bs)) here
+        frames = λ n h. at_set s.frames j n g (λ f. ShowsFrame a f n (with_bytes w.frames (j * frame_size + i) bs)) here
             (λ e. let old = R.frames.frames j here in record {
               depth = old.depth ∙ sym e;
-              cells = subst (λ n. ShowsCells a g.cells (bytes_at (with_bytes w.frames (j * 512 + i) bs) (n * 512) 512)) (sym e)
-                  (subst (ShowsCells a g.cells) (sym (bytes_with w.frames (j * 512) 512 i bs (omega arith) (omega arith)))
-                  (shows-splice f.cells new (bytes_at w.frames (j * 512) 512) bs i old.cells k));
+              cells = subst (λ n. ShowsCells a g.cells (bytes_at (with_bytes w.frames (j * frame_size + i) bs) (n * frame_size) frame_size)) (sym e)
+                  (subst (ShowsCells a g.cells) (sym (bytes_with w.frames (j * frame_size) frame_size i bs (omega arith) (omega arith)))
+                  (shows-splice f.cells new (bytes_at w.frames (j * frame_size) frame_size) bs i old.cells k));
             })
             (λ d. let old = R.frames.frames n (omega arith) in record {
               depth = old.depth;
               cells = subst (ShowsCells a (frame_at s.frames n).cells) (elim (cases_lt n j) [
-                | inl lt ↦ sym (bytes_before w.frames (j * 512 + i) bs inside (n * 512) 512 (omega arith))
-                | inr ge ↦ sym (bytes_after w.frames (j * 512 + i) bs inside (n * 512) 512 (let gt : j < n = omega (arith, d) in omega arith))
+                | inl lt ↦ sym (bytes_before w.frames (j * frame_size + i) bs inside (n * frame_size) frame_size (omega arith))
+                | inr ge ↦ sym (bytes_after w.frames (j * frame_size + i) bs inside (n * frame_size) frame_size (let gt : j < n = omega (arith, d) in omega arith))
               ]) old.cells;
             });
         saved = λ n h. at_set s.frames j (n + 1) g (λ f. ShowsSaved a f (saved_at w.saved n)) here
@@ -169,9 +171,9 @@ module _ (p : Program) (a : Layout) (s : State) (w : Words) (R : Related p a s w
 
   shows_write_frame : (m : ℕ) (z : ℤ) (new : List Cell) (bs : List ℕ) (x : ℕ) → 0 < length bs → ShowsCells a new bs → pos x ≡ pos (start a (region.Frame m)) +ℤ z
       → OkStore (write s (region.Frame m) (index_at (region.Frame m) z) new) x bs
-  shows_write_frame m z new bs x some k e = by_frame (frame_index_of s.frames m) refl (z +ℤ pos 512) refl
+  shows_write_frame m z new bs x some k e = by_frame (frame_index_of s.frames m) refl (z +ℤ pos frame_size) refl
     where
-      by_frame : (o : Option ℕ) → frame_index_of s.frames m ≡ o → (y : ℤ) → z +ℤ pos 512 ≡ y
+      by_frame : (o : Option ℕ) → frame_index_of s.frames m ≡ o → (y : ℤ) → z +ℤ pos frame_size ≡ y
           → OkStore (and_then (place_in (option_map (λ j. (frame_at s.frames j).cells) o) (index_from y) (length new)) (λ i. Ok (record s { frames = put_frame s.frames o i new }))) x bs
       by_frame None f y g = tt
       by_frame (Some j) f (negsuc i) g = tt
@@ -181,8 +183,8 @@ module _ (p : Program) (a : Layout) (s : State) (w : Words) (R : Related p a s w
           let few = K.depth in
           let block = R.frames.whole in
           let long = shows-length a new bs k in
-          let spot : spot_of x ≡ InFrames (j * 512 + i) = spot_frame j i x (omega arith) (omega arith) (omega (arith, ints)) in
-          rw spot (omega arith, with_frames (put_frame s.frames (Some j) i new) (with_bytes w.frames (j * 512 + i) bs) (put_frame_shown j i new bs here (omega arith) k)))
+          let spot : spot_of x ≡ InFrames (j * frame_size + i) = spot_frame j i x (omega arith) (omega arith) (omega (arith, ints)) in
+          rw spot (omega arith, with_frames (put_frame s.frames (Some j) i new) (with_bytes w.frames (j * frame_size + i) bs) (put_frame_shown j i new bs here (omega arith) k)))
 
   -- bytes into a live value
   put_value_related : (m j i : ℕ) (new bs : List ℕ) → new ≡ bs → j < length (content_of s m) → m < length p.maps
@@ -232,7 +234,7 @@ module _ (p : Program) (a : Layout) (s : State) (w : Words) (R : Related p a s w
       let part = length-map bs Byte in
       let short = K.short in
       let same : length w.packet ≡ length s.packet = ap length R.packet in
-      let at : x ≡ base 2 + i = omega (arith, ints) in
+      let at : x ≡ packet_base + i = omega (arith, ints) in
       let spot : spot_of x ≡ InPacket i = ap spot_of at ∙ spot_packet i (omega arith) in
       rw spot (omega arith, put_packet_related i bs (omega arith)))
 

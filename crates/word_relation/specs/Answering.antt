@@ -1,6 +1,8 @@
 -- Whole runs from the start: words come to their end, and what they leave then is the outcome.
 use Rattle.std.proofs.Common.{◌≡◌, ℕ, ◌≤◌, List, length}
 use Rattle.std.specs.Prelude.{All}
+use Rattle.word_machine.specs.Addresses.{frames_size}
+use Rattle.isa_model.specs.Code.Limits.{max_maps}
 use Rattle.isa_model.specs.declared.frames.FrameHead.{FrameHead}
 use Rattle.isa_model.specs.Code.Instructions.{Program}
 use Rattle.isa_model.specs.Machine.MachineStates.{IsProgram, IsClock, IsGiven}
@@ -12,14 +14,14 @@ use Rattle.word_relation.specs.Values.{contents_are}
 
 -- ---- whole runs
 
--- what a run is given: a program all of whose runs end within n steps, with at most 16 maps
+-- what a run is given: a program all of whose runs end within n steps, with no more maps than `max_maps`
 pub record IsStart (p : Program) (clock : ℕ → ℕ) (n : ℕ) (head : FrameHead) (packet frames : List ℕ) (maps : List MapState) : Type 0 where
   pub program : IsProgram p
   pub ends : StartsEnd p n
   pub answers : IsClock clock
   pub given : IsGiven p head packet (contents_of maps)
-  pub few : length p.maps ≤ 16
-  pub whole : length frames ≡ 4096
+  pub few : length p.maps ≤ max_maps
+  pub whole : length frames ≡ frames_size
   pub are_maps : All IsMap maps
   pub rows : rows_of maps ≡ p.maps
 
@@ -34,6 +36,6 @@ pub record Answers (p : Program) (clock : ℕ → ℕ) (n : ℕ) (head : FrameHe
   pub packet_is : v.packet ≡ outcome.packet
   pub contents_are : contents_of v.maps ≡ outcome.contents
   pub clock_calls_are : v.calls ≡ outcome.clock_calls
-  pub whole : length v.frames ≡ 4096
+  pub whole : length v.frames ≡ frames_size
   pub back : length v.saved ≡ 0
   pub rows : rows_of v.maps ≡ p.maps

@@ -4,6 +4,7 @@ use Rattle.std.specs.Prelude.{◌≡◌, ℕ, suc, ◌+◌, ◌-◌, ◌*◌, �
 use Rattle.std.specs.FinMap.{entries}
 use Rattle.std.specs.Int.{byte_at}
 use Rattle.flatmem.specs.Bytes.{bytes_at}
+use Rattle.isa_model.specs.Code.Limits.{max_maps, max_call_frames, offset_limit, frame_size}
 use Rattle.isa_model.specs.declared.map_defs.MapDef.{MapDef}
 use Rattle.isa_model.specs.declared.values.Region.{Region}
 use Rattle.isa_model.specs.declared.values.Region.TheVariants as region
@@ -17,8 +18,9 @@ use Rattle.isa_model.specs.Machine.States.{State, Stored, Content, value_at, fra
 use Rattle.map_indexes.specs.Rows.{row_at}
 use Rattle.maps.specs.ContentLaws.{changed}
 use Rattle.maps.specs.Maps.{MapState, IsMap, map_at, rows_of}
+use Rattle.word_machine.specs.Addresses.{context_base, packet_base, map_base, values_base, frame_end, frames_size}
 use Rattle.word_machine.specs.declared.memory.Saved.{Saved}
-use Rattle.word_machine.specs.Words.{Words, base, saved_at}
+use Rattle.word_machine.specs.Words.{Words, saved_at}
 
 -- one total assignment: `depth` of a frame's serial, `value` of a map and a value's serial; `end` is the packet's length
 pub record Layout : Type 0 where
@@ -28,19 +30,19 @@ pub record Layout : Type 0 where
 
 -- every region begins far from both ends of the addresses, and no two overlap
 pub record IsLayout (a : Layout) (rows : ℕ) : Type 0 where
-  pub few : rows ≤ 16
-  pub shallow : (n : ℕ) → a.depth n < 8
-  pub low : (m n : ℕ) → a.value m n < 536870912
+  pub few : rows ≤ max_maps
+  pub shallow : (n : ℕ) → a.depth n < max_call_frames
+  pub low : (m n : ℕ) → a.value m n < offset_limit
   pub short : a.end ≤ max_packet
 
 -- where a region's offset 0 is
 abbrev pub start : Layout → Region → ℕ
-start a region.Context = base 1
-start a region.Packet = base 2
-start a region.PacketEnd = base 2 + a.end
-start a (region.Map m) = base (16 + m)
-start a (region.MapValue m n) = base (32 + m) + a.value m n
-start a (region.Frame n) = base (48 + a.depth n)
+start a region.Context = context_base
+start a region.Packet = packet_base
+start a region.PacketEnd = packet_base + a.end
+start a (region.Map m) = map_base m
+start a (region.MapValue m n) = values_base m + a.value m n
+start a (region.Frame n) = frame_end (a.depth n)
 
 -- an address some bytes further on, or back
 abbrev pub moved : ℕ → ℤ → ℕ
@@ -77,10 +79,10 @@ pub record ShowsRegisters (a : Layout) (regs : List Value) (words : List ℕ) : 
 
 -- ---- frames
 
--- the frame at depth j has its bytes from j * 512 on
+-- the frame at depth j has its bytes from j * frame_size on
 pub record ShowsFrame (a : Layout) (f : CallFrame) (j : ℕ) (frames : List ℕ) : Type 0 where
   pub depth : a.depth f.serial ≡ j
-  pub cells : ShowsCells a f.cells (bytes_at frames (j * 512) 512)
+  pub cells : ShowsCells a f.cells (bytes_at frames (j * frame_size) frame_size)
 
 -- what is kept for the caller, whose exit leads back
 pub record ShowsSaved (a : Layout) (f : CallFrame) (s : Saved) : Type 0 where
@@ -89,7 +91,7 @@ pub record ShowsSaved (a : Layout) (f : CallFrame) (s : Saved) : Type 0 where
 
 -- each frame but the first has a caller
 pub record ShowsFrames (a : Layout) (fs : List CallFrame) (block : List ℕ) (callers : List Saved) : Type 0 where
-  pub whole : length block ≡ 4096
+  pub whole : length block ≡ frames_size
   pub depth : length fs ≡ length callers + 1
   pub frames : (j : ℕ) → j < length fs → ShowsFrame a (frame_at fs j) j block
   pub saved : (j : ℕ) → j < length callers → ShowsSaved a (frame_at fs (j + 1)) (saved_at callers j)

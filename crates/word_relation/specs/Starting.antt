@@ -2,11 +2,12 @@
 use Rattle.std.proofs.Common.{ℕ, List, [], ◌∷◌}
 use Rattle.isa_model.specs.declared.frames.FrameHead.{FrameHead}
 use Rattle.maps.specs.Maps.{MapState}
-use Rattle.word_machine.specs.Words.{Words, base}
+use Rattle.word_machine.specs.Addresses.{context_base, frame_end}
+use Rattle.word_machine.specs.Words.{Words}
 
 -- r1 is the context, and r10 the end of the first frame
 abbrev pub start_words : List ℕ
-start_words = 0 ∷ base 1 ∷ 0 ∷ 0 ∷ 0 ∷ 0 ∷ 0 ∷ 0 ∷ 0 ∷ 0 ∷ base 48 ∷ []
+start_words = 0 ∷ context_base ∷ 0 ∷ 0 ∷ 0 ∷ 0 ∷ 0 ∷ 0 ∷ 0 ∷ 0 ∷ frame_end 0 ∷ []
 
 abbrev pub start_of : FrameHead → List ℕ → List ℕ → List MapState → Words
 start_of head packet frames maps =

@@ -2,6 +2,7 @@
 //! value, and one change comes last.
 
 ghost use Rattle.std.specs.Prelude.{◌≡◌, ◌+◌, ◌<◌, ◌≤◌, ◌^◌, ℕ, List, length, slice_get, Some, Ok, Err, IfOk, MatchResult};
+ghost use Rattle.isa_model.specs.Code.Limits.{max_key_size, max_value_size};
 ghost use Rattle.isa_model.specs.declared.instructions.Insn.{Insn};
 ghost use Rattle.isa_model.specs.Code.Instructions.{Program};
 ghost use Rattle.isa_model.specs.Code.MapRows.{IsRow};
@@ -16,6 +17,7 @@ use crate::core_state::Core;
 use crate::places::index_of_pointer;
 use crate::steps::Stepped;
 use isa_model::{Helper, MapDef, Reg, Region, TrapReason, Value};
+use maps::{KEY_ROOM, VALUE_ROOM};
 
 /// Where the bytes of a key or a value stand.
 fn bytes_argument(value: Value) -> Result<(Region, i64), TrapReason>
@@ -43,17 +45,17 @@ fn number_argument(value: Value) -> Result<u64, TrapReason>
 }
 
 /// Room for the longest key.
-fn key_room() -> [u8; 64]
-    ensures { length result ≡ 64 }
+fn key_room() -> [u8; KEY_ROOM]
+    ensures { length result ≡ max_key_size }
 {
-    [0; 64]
+    [0; KEY_ROOM]
 }
 
 /// Room for the longest value.
-fn value_room() -> [u8; 4096]
-    ensures { length result ≡ 4096 }
+fn value_room() -> [u8; VALUE_ROOM]
+    ensures { length result ≡ max_value_size }
 {
-    [0; 4096]
+    [0; VALUE_ROOM]
 }
 
 impl Core {
@@ -83,7 +85,7 @@ impl Core {
         offset: i64,
         bytes: &mut [u8],
     ) -> Result<(), TrapReason>
-        requires { length bytes.old ≤ 4096 }
+        requires { length bytes.old ≤ max_value_size }
         ensures read { MatchResult result
             (λ _. bytes_at (state_of self.now packet.now)
             (record { region = region; offset = offset }) (length bytes.old) ≡ Ok bytes.new)

@@ -1,6 +1,7 @@
 use Rattle.std.proofs.Common.{◌≡◌, ◌<◌, ◌≤◌, ◌*◌, ℕ, length}
 use Rattle.std.specs.Prelude.{vec_len, vec_capacity}
 use Rattle.std.specs.FinMap.{values}
+use Rattle.isa_model.specs.Code.Limits.{max_map_entries}
 use Rattle.maps.specs.Maps.{map_at}
 use Rattle.live_maps.specs.Live.{serials_at}
 use Rattle.live_maps.specs.Numbering.{Numbers, count_before}
@@ -14,5 +15,5 @@ invariant-loop-m l = record {
   rooms : (k : ℕ) → k < length l.maps → length (serials_at l.all.items k) ≡ (map_at l.maps k).row.entries;
   numbers : (k : ℕ) → k < l.m → Numbers (count_before l.maps k) (values (map_at l.maps k).places) (serials_at l.all.items k);
   next : l.next ≡ count_before l.maps l.m;
-  few : l.next ≤ l.m * 65536;
+  few : l.next ≤ l.m * max_map_entries;
 }

@@ -1,6 +1,7 @@
-use Rattle.std.proofs.Common.{w16, w32}
+use Rattle.std.proofs.Common.{w16, w32, subst}
 use Rattle.std.specs.Prelude.{FitsSigned}
 use Rattle.std.proofs.lemmas.Int.{to_z-of_z}
+use Rattle.transfer.specs.Packets.{AreInPacket}
 use Rattle.transfer.proofs.packets.packet_load.Goals as goal
 
 pub returns-then-are_in_packet : goal.returns-then-are_in_packet
@@ -9,4 +10,4 @@ returns-then-are_in_packet c =
     let least : FitsSigned w32 c.args.least = c.ranges.least in
     let offset : FitsSigned w16 c.args.offset = c.ranges.offset in
     let inside = simp to_z-of_z at (c.are_in_packet.ensures.0 c.if-are_in_packet.true) in
-    (inside, c.of_size.ensures)
+    (subst (AreInPacket c.args.fixed c.args.least c.args.proved c.args.offset) c.bytes.ensures.value inside, c.of_size.ensures)

@@ -1,4 +1,4 @@
-use Rattle.std.proofs.Common.{w16, w32, subst}
+use Rattle.std.proofs.Common.{◌∙◌, w16, w32, ap, subst}
 use Rattle.std.specs.Prelude.{FitsSigned}
 use Rattle.std.proofs.lemmas.Int.{to_z-of_z}
 use Rattle.isa_model.specs.Code.Sizes.{size_bytes}
@@ -11,4 +11,4 @@ returns-then-are_in_packet c =
     let least : FitsSigned w32 c.args.least = c.ranges.least in
     let offset : FitsSigned w16 c.args.offset = c.ranges.offset in
     let inside = simp to_z-of_z at (c.are_in_packet.ensures.0 c.if-are_in_packet.true) in
-    (subst (λ z. AreInPacket c.args.fixed c.args.least c.args.proved c.args.offset (size_bytes z)) c.narrow_size.ensures inside, c.of_signed_size.ensures)
+    (subst (AreInPacket c.args.fixed c.args.least c.args.proved c.args.offset) (c.bytes.ensures.value ∙ ap size_bytes c.narrow_size.ensures) inside, c.of_signed_size.ensures)

@@ -1,6 +1,7 @@
-use Rattle.std.proofs.Common.{w16, w32}
+use Rattle.std.proofs.Common.{w16, w32, subst}
 use Rattle.std.specs.Prelude.{FitsSigned}
 use Rattle.std.proofs.lemmas.Int.{to_z-of_z}
+use Rattle.transfer.specs.Values.{AreInValue}
 use Rattle.transfer.proofs.values.value_load.Goals as goal
 
 pub returns-then-are_in_value : goal.returns-then-are_in_value
@@ -9,4 +10,4 @@ returns-then-are_in_value c =
     let greatest : FitsSigned w32 c.args.greatest = c.ranges.greatest in
     let by : FitsSigned w16 c.args.by = c.ranges.by in
     let inside = simp to_z-of_z at (c.are_in_value.ensures.0 c.if-are_in_value.true) in
-    (inside, c.of_size.ensures)
+    (subst (AreInValue c.args.room c.args.least c.args.greatest c.args.by) c.bytes.ensures.value inside, c.of_size.ensures)

@@ -1,5 +1,6 @@
 use Rattle.std.proofs.Common.{◌≡◌, length, sym, ap, ◌∙◌, FitsSigned, w32, rules}
 use Rattle.std.proofs.lemmas.Int.{to_z-of_z}
+use Rattle.isa_model.specs.Code.Limits.{max_call_frames}
 use Rattle.isa_model.specs.Machine.Steps.{Next, act}
 use Rattle.checked_vm.specs.Machine.{state_of}
 use Rattle.checked_vm.proofs.Acts.{stays_running, performs_in, performs_apart, calls_enter}
@@ -56,7 +57,7 @@ unfolding act
 returns-else-depth-eq-MAX_CALL_FRAMES-clause-done c = λ p clock count.
     let fits : FitsSigned w32 c.in-CallLocal.by = search rules in
     let leads = simp to_z-of_z at c.destination.ensures in
-    let few : length c.args.self.now.frames.items ≡ 8 → ⊥ = λ full. c.if-depth-eq-MAX_CALL_FRAMES.false (c.depth.ensures.frames ∙ full) in
+    let few : length c.args.self.now.frames.items ≡ max_call_frames → ⊥ = λ full. c.if-depth-eq-MAX_CALL_FRAMES.false (c.depth.ensures.frames ∙ full) in
     rw c.in-CallLocal.is (calls_enter (state_of c.args.self.now c.args.packet.now) p c.in-CallLocal.by c.args.slots c.destination.result count leads few ∙ ap Next (sym (c.enter.ensures.state c.args.packet.now)))
 
 pub returns-in-Alu-clause-stays : goal.returns-in-Alu-clause-stays

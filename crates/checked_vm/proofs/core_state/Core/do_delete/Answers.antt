@@ -1,6 +1,7 @@
 use Rattle.std.proofs.Common.{◌≡◌, ◌≤◌, length, take, Ok, sym, ap, ◌∙◌, FitsSigned, w64, rules, arith}
 use Rattle.std.proofs.lemmas.Int.{to_z-of_z}
 use Rattle.std.proofs.lemmas.List.{length-take-le}
+use Rattle.isa_model.specs.Code.Limits.{max_key_size}
 use Rattle.isa_model.specs.Machine.States.{State}
 use Rattle.isa_model.specs.Machine.Steps.{Next}
 use Rattle.isa_model.specs.Machine.MapContents.{delete_answer}
@@ -18,7 +19,7 @@ returns-clause-done c = λ p rows.
     let index = c.in_ok-index.index in
     let row = c.in_ok-index.row in
     let key = c.read_argument.new.bytes in
-    let short : row.key_size ≤ 64 = KeyFits-most row.kind row.key_size c.in_ok-index.ensures.fits.key in
+    let short : row.key_size ≤ max_key_size = KeyFits-most row.kind row.key_size c.in_ok-index.ensures.fits.key in
     let fits : FitsSigned w64 c.in_ok-region.offset = search rules in
     let size : length (take c.from.result c.key_room-key.result) ≡ row.key_size =
     length-take-le c.from.result c.key_room-key.result (omega (arith, short, c.from.ensures, c.key_room-key.ensures)) ∙ c.from.ensures in

@@ -1,6 +1,7 @@
 use Rattle.std.proofs.Common.{◌≡◌, ◌≤◌, length, take, Ok, sym, ap, ◌∙◌, FitsSigned, w64, rules, arith}
 use Rattle.std.proofs.lemmas.Int.{to_z-of_z}
 use Rattle.std.proofs.lemmas.List.{length-take-le}
+use Rattle.isa_model.specs.Code.Limits.{max_key_size, max_value_size}
 use Rattle.isa_model.specs.Machine.States.{State}
 use Rattle.isa_model.specs.Machine.Steps.{Next}
 use Rattle.isa_model.specs.Machine.MapContents.{update_answer}
@@ -20,8 +21,8 @@ returns-clause-done c = λ p rows.
     let key = c.read_argument.new.bytes in
     let bytes = c.read_argument-2.new.bytes in
     let flags = c.in_ok-flags.flags in
-    let short : row.key_size ≤ 64 = KeyFits-most row.kind row.key_size c.in_ok-index.ensures.fits.key in
-    let short_value : row.value_size ≤ 4096 = c.in_ok-index.ensures.fits.short_value in
+    let short : row.key_size ≤ max_key_size = KeyFits-most row.kind row.key_size c.in_ok-index.ensures.fits.key in
+    let short_value : row.value_size ≤ max_value_size = c.in_ok-index.ensures.fits.short_value in
     let fits : FitsSigned w64 c.in_ok-region.offset = search rules in
     let value_fits : FitsSigned w64 c.in_ok-value_region.value_offset = search rules in
     let size : length (take c.from.result c.key_room-key.result) ≡ row.key_size =

@@ -1,4 +1,5 @@
 use Rattle.std.proofs.Common.{◌≡◌, ◌≤◌, ◌∙◌, List, length, sym, ap, subst}
+use Rattle.isa_model.specs.Code.Limits.{max_maps}
 use Rattle.isa_model.specs.declared.map_defs.MapDef.{MapDef}
 use Rattle.isa_model.specs.Code.Instructions.{Program}
 use Rattle.isa_model.specs.Machine.MachineStates.{FitRows}
@@ -16,7 +17,7 @@ invariant_of-result c =
     let program : c.in-Ok.program ≡ c.args.verified.program = c.in-Ok.ensures ∙ c.into_image.ensures.program in
     record {
       running = rw (maps, c.bound-bound.ensures.bound, program) started;
-      few = subst (λ (p : Program). length p.maps ≤ 16) (sym program) c.bound-bound.ensures.verified.image.few_maps;
+      few = subst (λ (p : Program). length p.maps ≤ max_maps) (sym program) c.bound-bound.ensures.verified.image.few_maps;
       rows = ap rows_of maps ∙ c.requires.rows ∙ ap (λ (p : Program). p.maps) (sym program);
       whole = c.in-Ok-new.ensures.frames;
       outer = c.in-Ok-new.ensures.saved;

@@ -1,6 +1,6 @@
 use Rattle.std.proofs.Common.{rules, arith}
 use Rattle.std.proofs.lemmas.Int.{ints}
-use Rattle.transfer.proofs.helpers.are_in_packet.Goals as goal
+use Rattle.transfer.proofs.bytes.are_in_packet.Goals as goal
 
 pub returns : goal.returns
 returns c = (

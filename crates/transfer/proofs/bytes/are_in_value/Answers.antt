@@ -1,6 +1,6 @@
 use Rattle.std.proofs.Common.{rules, arith}
 use Rattle.std.proofs.lemmas.Int.{ints}
-use Rattle.transfer.proofs.values.are_in_value.Goals as goal
+use Rattle.transfer.proofs.bytes.are_in_value.Goals as goal
 
 pub returns : goal.returns
 returns c = (
