@@ -53,6 +53,7 @@ impl<W: Write + Drop> PromptWriter<W> {
     }
 
     // Writes, where nothing has failed before.
+    #[inline(always)]
     fn pass(&mut self, bytes: &[u8]) -> io::Result<usize>
         ensures bound { WritesAtMost result bytes.now }
         ensures bytes { WriteAppends (held W.contents self.old) (held W.contents self.new)
@@ -64,6 +65,20 @@ impl<W: Write + Drop> PromptWriter<W> {
         if self.prompt == 0 {
             return self.buffered.write(bytes);
         }
+        self.pass_at_once(bytes)
+    }
+
+    // Writes through, where some bytes are still to go through at once.
+    #[cold]
+    #[inline(never)]
+    fn pass_at_once(&mut self, bytes: &[u8]) -> io::Result<usize>
+        ensures bound { WritesAtMost result bytes.now }
+        ensures bytes { WriteAppends (held W.contents self.old) (held W.contents self.new)
+            result bytes.now }
+        ensures at_once { OnOk result (waiting self.new ≡ []) }
+        ensures left { IfOk result (λ n. prompt_left self.new ≡ prompt_left self.old - n) }
+        ensures failure { failure_of self.new ≡ failure_of self.old }
+    {
         self.buffered.flush()?;
         let front = &bytes[..bytes.len().min(self.prompt)];
         let count = self.buffered.get_mut().write(front)?;
@@ -77,6 +92,7 @@ impl<W: Write + Drop> Write for PromptWriter<W> {
 
     ghost contents = { held W.contents };
 
+    #[inline(always)]
     fn write(&mut self, bytes: &[u8]) -> io::Result<usize>
         ensures bound { WritesAtMost result bytes.now }
         ensures bytes { WriteAppends (held W.contents self.old) (held W.contents self.new)

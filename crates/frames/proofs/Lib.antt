@@ -1,4 +1,5 @@
 pub mod HeadNumbers
+pub mod Parts
 pub mod Stopping
 pub mod Findings
 pub mod InputsLaws

@@ -6,9 +6,10 @@
 //! and `specs/Inputs.antt` here has the law that a reader gives just these.
 #![tactic(auto)]
 
+mod filling;
 mod heads;
 mod reader;
 mod writer;
 
 pub use reader::{FrameReader, Next};
-pub use writer::{write_frame, write_frame2};
+pub use writer::{Unwritten, write_frame, write_frame2, write_record, write_whole};

@@ -5,6 +5,7 @@ ghost use Rattle.frames.specs.Readers.{Position, Fresh, At};
 ghost use Rattle.frames.specs.Reading.{ReadsMagic, MayOpen, Opens, begun_at, Finds, finding_of, Reads, HasRoom, FitsBuffer, StaysDone};
 ghost use Rattle.frames.specs.Stages.{position_of, IsWithin, HasRoomFor, IsStageAfter};
 
+use super::filling::fill_at_once;
 use super::heads::decode_head;
 use exact_io::{Filled, fill};
 use isa_model::{Fault, Finish, FrameHead, MAX_PACKET, Version};
@@ -88,6 +89,7 @@ impl<R: Read> FrameReader<R> {
     ///
     /// The source's first error, of any kind, is the fault `ReadFailed`, and nothing is tried
     /// again. After the end or a fault each further call answers the same and reads nothing.
+    #[inline(always)]
     pub fn next(&mut self, buffer: &mut [u8; MAX_PACKET]) -> Next
         ensures finds { Finds self.old.position (R.remaining self.old.source)
             (R.remaining self.new.source) self.new.position (finding_of result buffer.new) }
@@ -109,6 +111,7 @@ impl<R: Read> FrameReader<R> {
 }
 
 // Where a reader stands when the magic is read, if it was not.
+#[inline(always)]
 fn stage_begun<R: Read>(source: &mut R, stage: Stage) -> Stage
     requires within { IsWithin stage }
     ensures opens { Opens (position_of stage) (R.remaining source.old) (R.remaining source.new)
@@ -127,6 +130,7 @@ fn stage_begun<R: Read>(source: &mut R, stage: Stage) -> Stage
 }
 
 // Where a reader stands after what it found at a record's place.
+#[inline(always)]
 fn stage_after(version: Version, number: u32, offset: u64, next: &Next) -> Stage
     requires room { HasRoomFor number next.now }
     requires bound { offset ≤ 4 + 9240 * number }
@@ -143,6 +147,8 @@ fn stage_after(version: Version, number: u32, offset: u64, next: &Next) -> Stage
 }
 
 // Reads the magic, or says what stands in its place.
+#[cold]
+#[inline(never)]
 fn read_magic<R: Read>(source: &mut R) -> Result<Version, Fault>
     ensures bytes { ReadsMagic (R.remaining source.old) (R.remaining source.new) result }
     ensures room { MayOpen result }
@@ -171,6 +177,7 @@ fn in_range(body: &[u8])
 }
 
 // Reads the record with this number, which begins at this offset.
+#[inline(always)]
 fn read_record<R: Read>(
     source: &mut R,
     version: Version,
@@ -192,7 +199,7 @@ fn read_record<R: Read>(
         };
     }
     let head = &mut room[..version.head_size()];
-    match fill(source, head) {
+    match fill_at_once(source, head) {
         Filled::Whole => {}
         Filled::Ended(0) => return Next::End,
         Filled::Ended(_) => return Next::Fault(Fault::TruncatedHead, offset),
@@ -204,7 +211,7 @@ fn read_record<R: Read>(
         return Next::Fault(Fault::TooLong, offset);
     }
     let body = &mut buffer[..length];
-    match fill(source, body) {
+    match fill_at_once(source, body) {
         Filled::Whole => {
             in_range(body);
             Next::Frame(frame_head, length, reason)

@@ -1,5 +1,5 @@
 //! Writes records.
-ghost use Rattle.std.specs.Prelude.{◌≤◌, length, OnOk, OnErr};
+ghost use Rattle.std.specs.Prelude.{◌<◌, ◌≤◌, ◌++◌, length, drop, OnOk, OnErr};
 ghost use Rattle.std.specs.Io.KnownBytes.{Appends};
 ghost use Rattle.isa_model.specs.declared.versions.Version.TheVariants.{One, Two};
 ghost use Rattle.isa_model.specs.Code.Limits.{max_body};
@@ -8,9 +8,97 @@ ghost use Rattle.exact_io.specs.Transfers.{AppendsBeginning};
 
 use super::heads::{encode_head, encode_head2};
 use exact_io::write_bytes;
-use isa_model::FrameHead;
+use isa_model::{FrameHead, Version};
 use std::io;
 use std::io::Write;
+
+/// A writer answered an error, or took no byte of those that it was given. What its error said is
+/// not kept.
+#[derive(Clone, Copy, PartialEq, Eq, Debug)]
+pub struct Unwritten;
+
+/// Writes all the bytes. Nothing is tried again after a failure.
+///
+/// It does what `write_bytes` does, and costs less where one call of the writer takes all of the
+/// bytes and nobody asks why a write failed.
+#[inline(always)]
+pub fn write_whole<W: Write>(writer: &mut W, bytes: &[u8]) -> Result<(), Unwritten>
+    ensures ok { OnOk result (Appends (W.contents writer.old) (W.contents writer.new) bytes.now) }
+    ensures err { OnErr result
+        (AppendsBeginning (W.contents writer.old) (W.contents writer.new) bytes.now) }
+{
+    if bytes.is_empty() {
+        return Ok(());
+    }
+    match writer.write(bytes) {
+        Ok(count) => {
+            if count == bytes.len() {
+                Ok(())
+            } else {
+                write_rest(writer, bytes, count)
+            }
+        }
+        Err(_) => Err(Unwritten),
+    }
+}
+
+// Writes what is left of some bytes, after the writer took `count` of them, if it took any.
+#[cold]
+#[inline(never)]
+fn write_rest<W: Write>(writer: &mut W, bytes: &[u8], count: usize) -> Result<(), Unwritten>
+    requires { count < length bytes.now }
+    ensures ok { OnOk result (Appends (W.contents writer.old) (W.contents writer.new)
+        (drop count bytes.now)) }
+    ensures err { OnErr result (AppendsBeginning (W.contents writer.old) (W.contents writer.new)
+        (drop count bytes.now)) }
+{
+    if count == 0 {
+        return Err(Unwritten);
+    }
+    match write_bytes(writer, &bytes[count..]) {
+        Ok(()) => Ok(()),
+        Err(_) => Err(Unwritten),
+    }
+}
+
+// Writes some bytes, and then others.
+#[inline(always)]
+fn write_parts<W: Write>(writer: &mut W, front: &[u8], rest: &[u8]) -> Result<(), Unwritten>
+    ensures ok { OnOk result (Appends (W.contents writer.old) (W.contents writer.new)
+        (front.now ++ rest.now)) }
+    ensures err { OnErr result (AppendsBeginning (W.contents writer.old) (W.contents writer.new)
+        (front.now ++ rest.now)) }
+{
+    match write_whole(writer, front) {
+        Ok(()) => write_whole(writer, rest),
+        Err(failed) => Err(failed),
+    }
+}
+
+/// Writes a record of a stream of this version, without the magic that stands before the first one;
+/// the first version has no reasons, so there the reason does not show.
+///
+/// The body has at most as many bytes as a reader takes: a caller must see to that. Nothing is
+/// tried again after a failure.
+pub fn write_record<W: Write>(
+    writer: &mut W,
+    version: Version,
+    head: &FrameHead,
+    body: &[u8],
+    reason: u32,
+) -> Result<(), Unwritten>
+    requires { length body.now ≤ max_body version }
+    ensures ok { OnOk result (Appends (W.contents writer.old) (W.contents writer.new)
+        (frame_bytes version record { head = head.now; body = body.now; reason = reason })) }
+    ensures err { OnErr result (AppendsBeginning (W.contents writer.old) (W.contents writer.new)
+        (frame_bytes version record { head = head.now; body = body.now; reason = reason })) }
+{
+    let length = body.len() as u32;
+    match version {
+        Version::One => write_parts(writer, &encode_head(head, length), body),
+        Version::Two => write_parts(writer, &encode_head2(head, length, reason), body),
+    }
+}
 
 /// Writes a record of an `XPF1` stream, without the magic that stands before the first one.
 ///

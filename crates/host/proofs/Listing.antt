@@ -16,6 +16,7 @@ use Rattle.exact_io.specs.Transfers.{AppendsBeginning}
 use Rattle.isa_model.specs.declared.map_defs.MapKind.{MapKind}
 use Rattle.isa_model.specs.declared.map_defs.MapKind.TheVariants.{Hash, Array}
 use Rattle.isa_model.specs.declared.map_defs.MapDef.{MapDef}
+use Rattle.isa_model.specs.Code.Limits.{max_value_size}
 use Rattle.isa_model.specs.Code.MapRows.{KeyFits, IsRow}
 use Rattle.isa_model.specs.Machine.MapContents.{key_order, is_key}
 use Rattle.isa_model.specs.Machine.MachineStates.{IsEntry, FitsRow}
@@ -93,15 +94,15 @@ entry_of (x ∷ es) zero value e = (x, refl, cc)
 entry_of (x ∷ es) (suc k) value e = entry_of es k value e
 
 -- its sizes
-pub sizes_of : (row : MapDef) (es : Entries) (k : ℕ) (e : List ℕ × List ℕ) → AreListed row es → slice_get es k ≡ Some e → (length e.0 ≡ row.key_size) × (length e.1 ≤ 4096)
+pub sizes_of : (row : MapDef) (es : Entries) (k : ℕ) (e : List ℕ × List ℕ) → AreListed row es → slice_get es k ≡ Some e → (length e.0 ≡ row.key_size) × (length e.1 ≤ max_value_size)
 sizes_of row es k e listed there =
-    subst (λ (x : List ℕ × List ℕ). (length x.0 ≡ row.key_size) × (length x.1 ≤ 4096)) (get_or_from_slice_get es k e e there)
-    (All-get_or (λ (x : List ℕ × List ℕ). (length x.0 ≡ row.key_size) × (length x.1 ≤ 4096)) es k e (slice_get_within es k e there) listed.sizes)
+    subst (λ (x : List ℕ × List ℕ). (length x.0 ≡ row.key_size) × (length x.1 ≤ max_value_size)) (get_or_from_slice_get es k e e there)
+    (All-get_or (λ (x : List ℕ × List ℕ). (length x.0 ≡ row.key_size) × (length x.1 ≤ max_value_size)) es k e (slice_get_within es k e there) listed.sizes)
 
-pub value_short : (row : MapDef) (es : Entries) (k : ℕ) (value : List ℕ) → AreListed row es → Some value ≡ option_map (λ e. e.1) (slice_get es k) → length value ≤ 4096
+pub value_short : (row : MapDef) (es : Entries) (k : ℕ) (value : List ℕ) → AreListed row es → Some value ≡ option_map (λ e. e.1) (slice_get es k) → length value ≤ max_value_size
 value_short row es k value listed found =
     let (e, there, is) = entry_of es k value found in
-    subst (λ (v : List ℕ). length v ≤ 4096) is (sizes_of row es k e listed there).1
+    subst (λ (v : List ℕ). length v ≤ max_value_size) is (sizes_of row es k e listed there).1
 
 -- the line of the entry that was found
 module _ (index : ℕ) (row : MapDef) (es : Entries) (k : ℕ) (old new value : List ℕ) (listed : AreListed row es)
@@ -153,29 +154,29 @@ found P q (x ∷ es) v all f = elim (is_key q x.0) as (λ b. cond b (Some x.1) (
   | false ↦ λ g. found P q es v (All-tail (λ e. P e.1) x es all) g
 ] f
 
-by_index : (es : Entries) (i : ℕ) (e : List ℕ × List ℕ) → All (λ x. length x.1 ≤ 4096) es → entry_by_index es i ≡ Some e → (length e.0 ≡ 4) × (length e.1 ≤ 4096)
+by_index : (es : Entries) (i : ℕ) (e : List ℕ × List ℕ) → All (λ x. length x.1 ≤ max_value_size) es → entry_by_index es i ≡ Some e → (length e.0 ≡ 4) × (length e.1 ≤ max_value_size)
 by_index es i e all f = elim (find key_order (little_bytes 4 i) es) as (λ o. find key_order (little_bytes 4 i) es ≡ o
-    → option_map (λ value. (little_bytes 4 i, value)) o ≡ Some e → (length e.0 ≡ 4) × (length e.1 ≤ 4096)) [
+    → option_map (λ value. (little_bytes 4 i, value)) o ≡ Some e → (length e.0 ≡ 4) × (length e.1 ≤ max_value_size)) [
       | None ↦ λ g h. absurd (cc)
       | Some v ↦ λ g h.
           let same : (little_bytes 4 i, v) ≡ e = cc in
-          subst (λ (x : List ℕ × List ℕ). (length x.0 ≡ 4) × (length x.1 ≤ 4096)) same (length-bytes_low_first 0 4 i, found (λ x. length x ≤ 4096) (little_bytes 4 i) es v all g)
+          subst (λ (x : List ℕ × List ℕ). (length x.0 ≡ 4) × (length x.1 ≤ max_value_size)) same (length-bytes_low_first 0 4 i, found (λ x. length x ≤ max_value_size) (little_bytes 4 i) es v all g)
     ] refl f
 
 listed_by : (kind : MapKind) (row : MapDef) (es : Entries) → row.kind ≡ kind → IsRow row → FitsRow row es → AreListed row (in_report_order kind row.entries es)
 listed_by Hash row es k h fits = record {
   short_keys = KeyFits-most row.kind row.key_size h.key;
   room = fits.room;
-  sizes = All-weaker (IsEntry row) (λ e. (length e.0 ≡ row.key_size) × (length e.1 ≤ 4096)) (λ e m. (m.key_size, let a = m.value_size in let b = h.short_value in omega arith)) es fits.entries;
+  sizes = All-weaker (IsEntry row) (λ e. (length e.0 ≡ row.key_size) × (length e.1 ≤ max_value_size)) (λ e m. (m.key_size, let a = m.value_size in let b = h.short_value in omega arith)) es fits.entries;
 }
 listed_by Array row es k h fits =
-    let short = All-weaker (IsEntry row) (λ e. length e.1 ≤ 4096) (λ e m. let a = m.value_size in let b = h.short_value in omega arith) es fits.entries in
+    let short = All-weaker (IsEntry row) (λ e. length e.1 ≤ max_value_size) (λ e m. let a = m.value_size in let b = h.short_value in omega arith) es fits.entries in
     let four : row.key_size ≡ 4 = subst (λ (x : MapKind). KeyFits x row.key_size) k h.key in
-    let (all, few) = filtered (λ (e : List ℕ × List ℕ). (length e.0 ≡ 4) × (length e.1 ≤ 4096)) (entry_by_index es) (λ i e f. by_index es i e short f) (range_with_len 0 row.entries) in
+    let (all, few) = filtered (λ (e : List ℕ × List ℕ). (length e.0 ≡ 4) × (length e.1 ≤ max_value_size)) (entry_by_index es) (λ i e f. by_index es i e short f) (range_with_len 0 row.entries) in
     record {
       short_keys = omega arith;
       room = let n = length-range_with_len 0 row.entries in omega arith;
-      sizes = subst (λ (n : ℕ). All (λ (e : List ℕ × List ℕ). (length e.0 ≡ n) × (length e.1 ≤ 4096)) (in_report_order Array row.entries es)) (sym four) all;
+      sizes = subst (λ (n : ℕ). All (λ (e : List ℕ × List ℕ). (length e.0 ≡ n) × (length e.1 ≤ max_value_size)) (in_report_order Array row.entries es)) (sym four) all;
     }
 
 -- the entries of a map of an image, as they are listed

@@ -12,12 +12,11 @@ use super::forms::Form;
 use super::lines::{line_of_finish, line_of_frame, line_of_skip};
 use super::listings::write_maps;
 use super::reasons::{end_reason, is_written};
-use super::records::{write_magic, write_record};
+use super::records::write_magic;
 use super::runners::Runner;
 use super::tallies::Tally;
 use super::versions::version_begun;
-use exact_io::write_bytes;
-use frames::{FrameReader, Next};
+use frames::{FrameReader, Next, write_record, write_whole};
 use isa_model::{Finish, FrameHead, MAX_PACKET, Version};
 use std::io::{Read, Write};
 
@@ -53,7 +52,7 @@ fn run_frame<M: Runner, W1: Write, W2: Write>(
     let size = body.len();
     let end = machine.run(frame.head, body);
     let line = line_of_frame(form, frame.number, end, size);
-    match write_bytes(report, line.as_str().as_bytes()) {
+    match write_whole(report, line.as_str().as_bytes()) {
         Ok(()) => {}
         Err(_) => return Err(HostError::Report),
     }
@@ -83,7 +82,7 @@ fn skip_frame<W1: Write, W2: Write>(
     ensures made { result ≢ Err HostError.Memory }
 {
     let line = line_of_skip(frame.number, body.len(), frame.reason);
-    match write_bytes(report, line.as_str().as_bytes()) {
+    match write_whole(report, line.as_str().as_bytes()) {
         Ok(()) => {}
         Err(_) => return Err(HostError::Report),
     }
@@ -142,7 +141,7 @@ fn end_run<M: Runner + Drop, W1: Write>(
         Err(error) => return Err(error),
     }
     let line = line_of_finish(number, finish);
-    match write_bytes(report, line.as_str().as_bytes()) {
+    match write_whole(report, line.as_str().as_bytes()) {
         Ok(()) => Ok(Tally {
             frames: number,
             fault: match finish {

@@ -2,6 +2,7 @@
 ghost use Rattle.std.specs.Prelude.{◌≡◌, ◌+◌, ◌*◌, ◌≤◌, ◌++◌, length, decimal};
 ghost use Rattle.arrayvec.specs.ArrayVec.{array_vec_len};
 ghost use Rattle.hex.specs.Hex.{encode_lower};
+ghost use Rattle.isa_model.specs.Code.Limits.{max_key_size, max_value_size};
 ghost use Rattle.isa_model.specs.Reporting.Reports.{map_line};
 
 use arrayvec::ArrayVec;
@@ -45,8 +46,8 @@ fn push_hex(line: &mut EntryLine, bytes: &[u8])
 /// Makes the line of an entry, by the map's index.
 #[tactic(auto, unfolding(isa_model::specs::Reporting::Reports::map_line))]
 pub fn put_entry(line: &mut EntryLine, map: usize, key: &[u8], value: &[u8])
-    requires key { length key.now ≤ 64 }
-    requires value { length value.now ≤ 4096 }
+    requires key { length key.now ≤ max_key_size }
+    requires value { length value.now ≤ max_value_size }
     ensures { line.new.items ≡ map_line map (key.now, value.now) }
 {
     line.clear();

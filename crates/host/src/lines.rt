@@ -1,5 +1,5 @@
 //! The lines of the report, made in a buffer of fixed size.
-ghost use Rattle.std.specs.Prelude.{◌≡◌, ◌+◌, ◌≤◌, ◌++◌, decimal};
+ghost use Rattle.std.specs.Prelude.{◌≡◌, ◌+◌, ◌≤◌, ◌++◌, length, IfSome, decimal};
 ghost use Rattle.arrayvec.specs.ArrayString.{array_string_len};
 ghost use Rattle.isa_model.specs.Reporting.Reports.{frame_line, skip_line, last_line, reason_text};
 ghost use Rattle.host.specs.Forms.{form_by};
@@ -13,14 +13,50 @@ use itoa::Buffer;
 /// A line of the report; none has more than 72 bytes.
 pub type Line = ArrayString<96>;
 
-// Appends a number in decimal.
-fn push_number(line: &mut Line, number: u64)
+// The text of a number of one digit.
+#[inline(always)]
+#[tactic(auto, using(std::proofs::lemmas::Fmt::decimal_digit))]
+fn digit_of(number: u64) -> Option<&'static str>
+    ensures digit { IfSome result (λ text. text.now ≡ decimal number) }
+    ensures one { IfSome result (λ text. length text.now ≡ 1) }
+{
+    match number {
+        0 => Some("0"),
+        1 => Some("1"),
+        2 => Some("2"),
+        3 => Some("3"),
+        4 => Some("4"),
+        5 => Some("5"),
+        6 => Some("6"),
+        7 => Some("7"),
+        8 => Some("8"),
+        9 => Some("9"),
+        _ => None,
+    }
+}
+
+// Appends a number of any digits in decimal.
+#[inline(never)]
+fn push_digits(line: &mut Line, number: u64)
     requires { array_string_len line.old + 20 ≤ 96 }
     ensures bytes { line.new.bytes ≡ line.old.bytes ++ decimal number }
     ensures len { array_string_len line.new ≤ array_string_len line.old + 20 }
 {
     let mut buffer = Buffer::new();
     line.push_str(buffer.format(number));
+}
+
+// Appends a number in decimal. Most have one digit, or are the number and the length of a frame.
+#[inline(always)]
+fn push_number(line: &mut Line, number: u64)
+    requires { array_string_len line.old + 20 ≤ 96 }
+    ensures bytes { line.new.bytes ≡ line.old.bytes ++ decimal number }
+    ensures len { array_string_len line.new ≤ array_string_len line.old + 20 }
+{
+    match digit_of(number) {
+        Some(digit) => line.push_str(digit),
+        None => push_digits(line, number),
+    }
 }
 
 // Appends the field of a reason, in a stream that has reasons.
@@ -40,6 +76,7 @@ fn push_reason(line: &mut Line, stream: Version, reason: u32)
 
 /// The line of the frame with this number, by how its run ended and how many bytes it has.
 #[tactic(auto, unfolding(isa_model::specs::Reporting::Reports::frame_line))]
+#[inline(always)]
 pub fn line_of_frame(form: Form, number: u32, end: End, size: usize) -> Line
     ensures { result.bytes ≡ frame_line (form_by form) number end size }
 {

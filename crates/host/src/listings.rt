@@ -1,5 +1,6 @@
 //! The lines of maps, written entry by entry and map by map. It takes no memory.
 ghost use Rattle.std.specs.Prelude.{◌≡◌, ◌≢◌, ◌≤◌, [], ◌∷◌, length, map, take};
+ghost use Rattle.isa_model.specs.Code.Limits.{max_key_size, max_value_size};
 ghost use Rattle.isa_model.specs.Reporting.Reports.{ToReport, map_line, maps_pieces};
 ghost use Rattle.maps.specs.Listing.{listed_entries};
 ghost use Rattle.maps.specs.Maps.{rows_of, contents_of};
@@ -22,8 +23,8 @@ fn write_entry<W1: Write>(
     value: &[u8],
     report: &mut W1,
 ) -> Result<(), HostError>
-    requires size { size ≤ 64 }
-    requires value { length value.now ≤ 4096 }
+    requires size { size ≤ max_key_size }
+    requires value { length value.now ≤ max_value_size }
     ensures writes { WritesReport (W1.contents report.old) (W1.contents report.new) result
         (ToReport (map_line index (take size key.now, value.now)) ∷ []) }
     ensures made { result ≢ Err HostError.Memory }

@@ -14,23 +14,23 @@ returns-in-Failed-clause-bytes g c = record_failed _ _ _ _ _ _ _ (λ _. search (
 pub returns-in-Ended-eq0-clause-bytes : goal.returns-in-Ended-eq0-clause-bytes
 returns-in-Ended-eq0-clause-bytes g c = record_end _ _ _ _ _ _ _ c.in-Ended-eq0.field-0-test c.in-Ended-eq0.ensures.1 c.in-Ended-eq0.ensures.2
 
-pub returns-in-Ended-fill-clause-bytes : goal.returns-in-Ended-fill-clause-bytes
-returns-in-Ended-fill-clause-bytes g c = record_cut _ _ _ _ _ _ _ (search rules) (search rules) (whole_head _ _ _ _ c.fill-2.auto.buffer c.head_size.ensures.size c.head_size.ensures.bounded refl) c.in-Ended-fill.ensures.0 c.in-Ended-fill.ensures.1 c.in-Ended-fill.ensures.2
+pub returns-in-Ended-fill_at_once-clause-bytes : goal.returns-in-Ended-fill_at_once-clause-bytes
+returns-in-Ended-fill_at_once-clause-bytes g c = record_cut _ _ _ _ _ _ _ (search rules) (search rules) (whole_head _ _ _ _ c.fill_at_once.auto.buffer c.head_size.ensures.size c.head_size.ensures.bounded refl) c.in-Ended-fill_at_once.ensures.0 c.in-Ended-fill_at_once.ensures.1 c.in-Ended-fill_at_once.ensures.2
 
-pub returns-in-Failed-fill-clause-bytes : goal.returns-in-Failed-fill-clause-bytes
-returns-in-Failed-fill-clause-bytes g c = record_failed _ _ _ _ _ _ _ (λ last. search rules) (search rules) c.in-Failed-fill.ensures.0 c.in-Failed-fill.ensures.1
+pub returns-in-Failed-fill_at_once-clause-bytes : goal.returns-in-Failed-fill_at_once-clause-bytes
+returns-in-Failed-fill_at_once-clause-bytes g c = record_failed _ _ _ _ _ _ _ (λ last. search rules) (search rules) c.in-Failed-fill_at_once.ensures.0 c.in-Failed-fill_at_once.ensures.1
 
 pub returns-then-length-max_body-clause-bytes : goal.returns-then-length-max_body-clause-bytes
-returns-then-length-max_body-clause-bytes g c = record_long _ _ _ _ _ _ (search rules) (whole_head _ _ _ _ c.fill-2.auto.buffer c.head_size.ensures.size c.head_size.ensures.bounded refl) (omega (arith, c.max_body.ensures.most, c.decode_head-length.ensures.field)) c.in-Whole-fill.ensures
+returns-then-length-max_body-clause-bytes g c = record_long _ _ _ _ _ _ (search rules) (whole_head _ _ _ _ c.fill_at_once.auto.buffer c.head_size.ensures.size c.head_size.ensures.bounded refl) (omega (arith, c.max_body.ensures.most, c.decode_head-length.ensures.field)) c.in-Whole-fill_at_once.ensures
 
-pub returns-in-Whole-fill-2-clause-bytes : goal.returns-in-Whole-fill-2-clause-bytes
-returns-in-Whole-fill-2-clause-bytes g c = record_whole _ _ _ _ _ _ _ _ _ _ _ _ c.decode_head-length.ensures.spelled (search rules) c.in-Whole-fill.ensures c.in-Whole-fill-2.ensures
+pub returns-in-Whole-fill_at_once-2-clause-bytes : goal.returns-in-Whole-fill_at_once-2-clause-bytes
+returns-in-Whole-fill_at_once-2-clause-bytes g c = record_whole _ _ _ _ _ _ _ _ _ _ _ _ c.decode_head-length.ensures.spelled (search rules) c.in-Whole-fill_at_once.ensures c.in-Whole-fill_at_once-2.ensures
 
-pub returns-in-Ended-fill-2-clause-bytes : goal.returns-in-Ended-fill-2-clause-bytes
-returns-in-Ended-fill-2-clause-bytes g c = body_cut _ _ _ _ _ _ _ _ _ (search rules) (whole_head _ _ _ _ c.fill-2.auto.buffer c.head_size.ensures.size c.head_size.ensures.bounded refl) (omega (arith, c.max_body.ensures.most, c.decode_head-length.ensures.field)) (search rules) c.in-Ended-fill-2.ensures.0 c.in-Whole-fill.ensures c.in-Ended-fill-2.ensures.1 c.in-Ended-fill-2.ensures.2
+pub returns-in-Ended-fill_at_once-2-clause-bytes : goal.returns-in-Ended-fill_at_once-2-clause-bytes
+returns-in-Ended-fill_at_once-2-clause-bytes g c = body_cut _ _ _ _ _ _ _ _ _ (search rules) (whole_head _ _ _ _ c.fill_at_once.auto.buffer c.head_size.ensures.size c.head_size.ensures.bounded refl) (omega (arith, c.max_body.ensures.most, c.decode_head-length.ensures.field)) (search rules) c.in-Ended-fill_at_once-2.ensures.0 c.in-Whole-fill_at_once.ensures c.in-Ended-fill_at_once-2.ensures.1 c.in-Ended-fill_at_once-2.ensures.2
 
-pub returns-in-Failed-fill-2-clause-bytes : goal.returns-in-Failed-fill-2-clause-bytes
-returns-in-Failed-fill-2-clause-bytes g c = body_failed _ _ _ _ _ _ _ _ _ (search rules) (whole_head _ _ _ _ c.fill-2.auto.buffer c.head_size.ensures.size c.head_size.ensures.bounded refl) (omega (arith, c.max_body.ensures.most, c.decode_head-length.ensures.field)) (search rules) c.in-Failed-fill-2.ensures.0 c.in-Whole-fill.ensures c.in-Failed-fill-2.ensures.1
+pub returns-in-Failed-fill_at_once-2-clause-bytes : goal.returns-in-Failed-fill_at_once-2-clause-bytes
+returns-in-Failed-fill_at_once-2-clause-bytes g c = body_failed _ _ _ _ _ _ _ _ _ (search rules) (whole_head _ _ _ _ c.fill_at_once.auto.buffer c.head_size.ensures.size c.head_size.ensures.bounded refl) (omega (arith, c.max_body.ensures.most, c.decode_head-length.ensures.field)) (search rules) c.in-Failed-fill_at_once-2.ensures.0 c.in-Whole-fill_at_once.ensures c.in-Failed-fill_at_once-2.ensures.1
 
 pub returns-in-Whole-clause-room : goal.returns-in-Whole-clause-room
 returns-in-Whole-clause-room g c = can_be_many _ _ _ (search rules)
@@ -44,17 +44,17 @@ returns-in-Failed-clause-room g c = can_fail _ _ _
 pub returns-in-Ended-eq0-clause-room : goal.returns-in-Ended-eq0-clause-room
 returns-in-Ended-eq0-clause-room g c = can_end _ _ _
 
-pub returns-in-Ended-fill-clause-room : goal.returns-in-Ended-fill-clause-room
-returns-in-Ended-fill-clause-room g c = can_be_cut _ _ _ (search rules)
+pub returns-in-Ended-fill_at_once-clause-room : goal.returns-in-Ended-fill_at_once-clause-room
+returns-in-Ended-fill_at_once-clause-room g c = can_be_cut _ _ _ (search rules)
 
-pub returns-in-Failed-fill-clause-room : goal.returns-in-Failed-fill-clause-room
-returns-in-Failed-fill-clause-room g c = can_fail _ _ _
+pub returns-in-Failed-fill_at_once-clause-room : goal.returns-in-Failed-fill_at_once-clause-room
+returns-in-Failed-fill_at_once-clause-room g c = can_fail _ _ _
 
 pub returns-then-length-max_body-clause-room : goal.returns-then-length-max_body-clause-room
-returns-then-length-max_body-clause-room g c = can_be_long _ _ _ c.fill-2.new.buffer (search rules) (whole_head _ _ _ _ c.fill-2.auto.buffer c.head_size.ensures.size c.head_size.ensures.bounded refl) (omega (arith, c.max_body.ensures.most, c.decode_head-length.ensures.field))
+returns-then-length-max_body-clause-room g c = can_be_long _ _ _ c.fill_at_once.new.buffer (search rules) (whole_head _ _ _ _ c.fill_at_once.auto.buffer c.head_size.ensures.size c.head_size.ensures.bounded refl) (omega (arith, c.max_body.ensures.most, c.decode_head-length.ensures.field))
 
-pub returns-in-Ended-fill-2-clause-room : goal.returns-in-Ended-fill-2-clause-room
-returns-in-Ended-fill-2-clause-room g c = can_lack_body _ _ _ c.fill-2.new.buffer _ _ (search rules) (whole_head _ _ _ _ c.fill-2.auto.buffer c.head_size.ensures.size c.head_size.ensures.bounded refl) (omega (arith, c.max_body.ensures.most, c.decode_head-length.ensures.field)) (search rules) c.in-Ended-fill-2.ensures.0
+pub returns-in-Ended-fill_at_once-2-clause-room : goal.returns-in-Ended-fill_at_once-2-clause-room
+returns-in-Ended-fill_at_once-2-clause-room g c = can_lack_body _ _ _ c.fill_at_once.new.buffer _ _ (search rules) (whole_head _ _ _ _ c.fill_at_once.auto.buffer c.head_size.ensures.size c.head_size.ensures.bounded refl) (omega (arith, c.max_body.ensures.most, c.decode_head-length.ensures.field)) (search rules) c.in-Ended-fill_at_once-2.ensures.0
 
-pub returns-in-Failed-fill-2-clause-room : goal.returns-in-Failed-fill-2-clause-room
-returns-in-Failed-fill-2-clause-room g c = can_fail _ _ _
+pub returns-in-Failed-fill_at_once-2-clause-room : goal.returns-in-Failed-fill_at_once-2-clause-room
+returns-in-Failed-fill_at_once-2-clause-room g c = can_fail _ _ _

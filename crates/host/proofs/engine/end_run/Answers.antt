@@ -7,11 +7,11 @@ returns-in-Err-clause-writes g c = maps_failed _ _ _ _ _ c.into_maps-maps.ensure
 
 pub returns-clause-writes : goal.returns-clause-writes
 returns-clause-writes g c =
-    last_failed _ _ _ _ _ c.into_maps-maps.ensures.rows c.into_maps-maps.ensures.contents _ _ _ (search rules) c.in-Ok.ensures.writes c.in-Err-write_bytes.ensures.err
+    last_failed _ _ _ _ _ c.into_maps-maps.ensures.rows c.into_maps-maps.ensures.contents _ _ _ (search rules) c.in-Ok.ensures.writes c.in-Err-write_whole.ensures.err
 
-pub returns-in-Ok-write_bytes-clause-writes : goal.returns-in-Ok-write_bytes-clause-writes
-returns-in-Ok-write_bytes-clause-writes g c =
-    last_written _ _ _ _ _ c.into_maps-maps.ensures.rows c.into_maps-maps.ensures.contents _ _ _ (search rules) c.in-Ok.ensures.writes c.in-Ok-write_bytes.ensures.ok
+pub returns-in-Ok-write_whole-clause-writes : goal.returns-in-Ok-write_whole-clause-writes
+returns-in-Ok-write_whole-clause-writes g c =
+    last_written _ _ _ _ _ c.into_maps-maps.ensures.rows c.into_maps-maps.ensures.contents _ _ _ (search rules) c.in-Ok.ensures.writes c.in-Ok-write_whole.ensures.ok
 
-pub returns-in-Ok-write_bytes-clause-tally : goal.returns-in-Ok-write_bytes-clause-tally
-returns-in-Ok-write_bytes-clause-tally g c = search rules
+pub returns-in-Ok-write_whole-clause-tally : goal.returns-in-Ok-write_whole-clause-tally
+returns-in-Ok-write_whole-clause-tally g c = search rules
