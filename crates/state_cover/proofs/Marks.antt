@@ -24,6 +24,12 @@ bit_among m r i below among =
       | inr past ↦ let none : bit_at m i ≡ 0 = bit_at_above m 8 i below past in omega arith
     ]
 
+-- no marks
+pub none-among : (m r : ℕ) → m ≡ 0 → AreAmong m r
+none-among m r none = λ i within bit.
+    let past : bit_at m i ≡ 0 = bit_at_above m 0 i (omega arith) (omega arith) in
+    omega arith
+
 pub among-test : (m r : ℕ) → m < 2 ^ 8 → IsTrue (nat_eq (bit_and r m) m) ↔ AreAmong m r
 among-test m r below = (
   λ yes. kept_among m r (eqb-true (bit_and r m) m yes),

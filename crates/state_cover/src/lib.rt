@@ -72,7 +72,7 @@ fn registers_cover(left: &[Kind; 10], right: &[Kind; 10], a: &State, b: &State) 
         → IsTrue result }
 {
     for index in 0..10 {
-        if !kind_covers(left[index], right[index], a, b) {
+        if !kind_covers(&left[index], &right[index], a, b) {
             return false;
         }
     }
@@ -94,6 +94,7 @@ fn slots_cover(left: &[Slot; 64], right: &[Slot; 64], a: &State, b: &State) -> b
     true
 }
 
+#[inline(always)]
 fn slot_covers(left: &Slot, right: &Slot, a: &State, b: &State) -> bool
     requires { length a.now.callers.items ≡ length b.now.callers.items }
     ensures yes { IsTrue result
@@ -104,21 +105,41 @@ fn slot_covers(left: &Slot, right: &Slot, a: &State, b: &State) -> bool
     match left {
         Slot::Written(marks) => are_written(*marks, right),
         Slot::Spilled(kind) => match right {
-            Slot::Spilled(other) => kind_covers(*kind, *other, a, b),
+            Slot::Spilled(other) => kind_covers(kind, other, a, b),
             Slot::Written(_) => false,
         },
     }
 }
 
-// Are the bytes that the marks name written in the slot?
+// Are the bytes that the marks name written in the slot? Most slots have no marks.
+#[inline(always)]
 fn are_written(marks: u8, slot: &Slot) -> bool
     ensures { IsTrue result ↔ AreAmong marks (marks_of slot.now) }
 {
+    if marks == 0 {
+        return true;
+    }
     let others = slot.marks();
     others & marks == marks
 }
 
-fn kind_covers(left: Kind, right: Kind, a: &State, b: &State) -> bool
+#[inline(always)]
+fn kind_covers(left: &Kind, right: &Kind, a: &State, b: &State) -> bool
+    requires { length a.now.callers.items ≡ length b.now.callers.items }
+    ensures yes { IsTrue result
+        → KindCovers (packet_name a.now b.now) (null_name a.now b.now) left.now right.now }
+    ensures no { KindEncloses (packet_name a.now b.now) (null_name a.now b.now) left.now right.now
+        → IsTrue result }
+{
+    match left {
+        Kind::Unset => true,
+        _ => set_covers(*left, *right, a, b),
+    }
+}
+
+// The same, where the kind is set, as few are.
+#[inline(never)]
+fn set_covers(left: Kind, right: Kind, a: &State, b: &State) -> bool
     requires { length a.now.callers.items ≡ length b.now.callers.items }
     ensures yes { IsTrue result
         → KindCovers (packet_name a.now b.now) (null_name a.now b.now) left right }

@@ -50,6 +50,23 @@ AreZeros-words xs long a b c d = record { inside = long; zeros = each } where
 pub AreZeros-word : (xs : List ℕ) → 8 ≤ length xs → little_number 8 xs ≡ 0 → AreZeros 8 xs
 AreZeros-word xs long a = record { inside = long; zeros = λ k lt. word_zeros xs a k lt }
 
+six_zeros : (xs : List ℕ) → little_number 4 (drop 2 xs) ≡ 0 → little_number 2 (drop 6 xs) ≡ 0 → (k : ℕ) → k < 6 → get_or (drop 2 xs) k 0 ≡ 0
+six_zeros xs a b zero lt = omega arith
+six_zeros xs a b (suc zero) lt = omega arith
+six_zeros xs a b (suc (suc zero)) lt = omega arith
+six_zeros xs a b (suc (suc (suc zero))) lt = omega arith
+six_zeros xs a b (suc (suc (suc (suc zero)))) lt =
+    let z : get_or (drop 6 xs) 0 0 ≡ 0 = omega arith in
+    get_or-drop 2 xs 4 0 ∙ sym (get_or-drop 6 xs 0 0) ∙ z
+six_zeros xs a b (suc (suc (suc (suc (suc zero))))) lt =
+    let z : get_or (drop 6 xs) 1 0 ≡ 0 = omega arith in
+    get_or-drop 2 xs 5 0 ∙ sym (get_or-drop 6 xs 1 0) ∙ z
+six_zeros xs a b (suc (suc (suc (suc (suc (suc k)))))) lt = absurd (omega arith)
+
+-- six zeros after two bytes
+pub AreZeros-six : (xs : List ℕ) → 8 ≤ length xs → little_number 4 (drop 2 xs) ≡ 0 → little_number 2 (drop 6 xs) ≡ 0 → AreZeros 6 (drop 2 xs)
+AreZeros-six xs long a b = record { inside = let size = length-drop 2 xs in omega arith; zeros = six_zeros xs a b }
+
 pub AreZeros-none : (xs : List ℕ) → AreZeros 0 xs
 AreZeros-none xs = record { inside = omega arith; zeros = λ k lt. absurd (omega arith) }
 

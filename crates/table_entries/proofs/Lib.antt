@@ -7,5 +7,6 @@ pub mod Numbers
 pub mod Spelled
 pub mod Seen
 pub mod BlankSlots
+pub mod UnsetCallers
 pub mod NumberSlots
 pub mod ValueLaws

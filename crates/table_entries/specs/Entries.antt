@@ -2,6 +2,7 @@
 use Rattle.std.specs.Prelude.{ℕ, ◌-◌, ◌≤◌, nat_lt, ◌==◌, ◌&&◌, ◌||◌, not, Bool, false, if◌then◌else◌, List, [], ◌∷◌, length, drop, Option, Some, None, Ok, Err, IsSome}
 use Rattle.std.specs.Option.{is_some}
 use Rattle.byteorder.specs.Endian.{little_number}
+use Rattle.isa_model.specs.Code.Limits.{max_call_frames}
 use Rattle.isa_model.specs.Code.Instructions.{Program, fetch}
 use Rattle.isa_model.specs.declared.limits.TheConstants.{MAX_STEPS}
 use Rattle.stack_state.specs.declared.states.AbstractFrame.{AbstractFrame}
@@ -67,5 +68,5 @@ unfoldable pub entry_in : Program → List ℕ → Read Entry
 entry_in p bytes =
     if nat_lt (length bytes) 7 then Err Short
     else let count = little_number 1 (drop 6 bytes) in
-    if count == 0 || nat_lt 8 count then Err Form
+    if count == 0 || nat_lt max_call_frames count then Err Form
     else rest_in p (little_number 4 bytes) (little_number 2 (drop 4 bytes)) (count - 1) (drop 7 bytes)

@@ -1,9 +1,9 @@
 //! Stack slots of which nothing is known, as most of a table's are.
 
-ghost use Rattle.std.specs.Prelude.{◌≡◌, ◌*◌, ◌≤◌, IsTrue, take, replicate};
+ghost use Rattle.std.specs.Prelude.{◌≡◌, ◌*◌, ◌≤◌, IsTrue, take, drop, replicate};
 ghost use Rattle.table_entries.specs.Blanks.{AreZeros};
 
-use crate::slices::{skip, u64_at};
+use crate::slices::{skip, u16_at, u32_at, u64_at};
 use stack_state::Slot;
 
 // Whether the first 32 bytes are there, and are zeros.
@@ -79,6 +79,23 @@ pub fn blank_slots(bytes: &[u8]) -> usize
     sixteens + 12
 }
 
+/// Whether the bytes begin with an outer frame's return slot and six values that are unset.
+#[inline(always)]
+pub fn begins_unset(bytes: &[u8]) -> bool
+    ensures { IsTrue result → AreZeros 6 (drop 2 bytes.now) }
+{
+    if bytes.len() < 8 {
+        return false;
+    }
+    if u32_at(bytes, 2) != 0 {
+        return false;
+    }
+    if u16_at(bytes, 6) != 0 {
+        return false;
+    }
+    true
+}
+
 #[inline(always)]
 fn is_blank(slot: &Slot) -> bool
     ensures { IsTrue result → slot.now ≡ Slot.Written 0 }
@@ -94,9 +111,10 @@ pub fn are_blank(slots: &[Slot; 64], count: usize) -> bool
     requires { count ≤ 64 }
     ensures { IsTrue result → take count slots.now ≡ replicate count (Slot.Written 0) }
 {
-    let mut blank = true;
     for index in 0..count {
-        blank = blank & is_blank(&slots[index]);
+        if !is_blank(&slots[index]) {
+            return false;
+        }
     }
-    blank
+    true
 }

@@ -1,7 +1,8 @@
 //! Entries in the bytes of a table.
 
-ghost use Rattle.std.specs.Prelude.{◌≡◌, ◌≤◌, Some, length};
+ghost use Rattle.std.specs.Prelude.{◌≡◌, ◌<◌, Some};
 ghost use Rattle.std.specs.Option.{option_map};
+ghost use Rattle.isa_model.specs.Code.Limits.{max_call_frames};
 ghost use Rattle.table_entries.specs.Entries.{entry_in, entry_of, head_allowed, list_of, named_in, rest_in};
 ghost use Rattle.table_entries.specs.Reading.{Gives, kept};
 
@@ -10,7 +11,7 @@ use crate::loops::both;
 use crate::slices::{skip, u16_at, u32_at};
 use crate::stops::Stop;
 use image::Image;
-use isa_model::MAX_STEPS;
+use isa_model::{MAX_CALL_FRAMES, MAX_STEPS};
 use stack_state::State;
 
 /// The entries that an entry names, the fall-through first.
@@ -74,7 +75,7 @@ fn read_rest<'a>(
     bytes: &'a [u8],
     state: &mut State,
 ) -> Result<(Option<Head>, &'a [u8]), Stop>
-    requires { outer ≤ 7 }
+    requires { outer < max_call_frames }
     ensures { Gives (λ x. (option_map (λ head. entry_of head state.new) x.0, x.1.now)) result
         (rest_in image.now number state.old.slot outer bytes.now) }
 {
@@ -108,7 +109,7 @@ pub fn read_entry<'a>(
         return Err(Stop::Short);
     }
     let frames = usize::from(bytes[6]);
-    if frames == 0 || frames > 8 {
+    if frames == 0 || frames > MAX_CALL_FRAMES {
         return Err(Stop::Form);
     }
     let number = u32_at(bytes, 0);

@@ -1,6 +1,7 @@
 //! Call frames in the bytes of a table.
 
-ghost use Rattle.std.specs.Prelude.{◌≡◌, ◌≤◌};
+ghost use Rattle.std.specs.Prelude.{◌≡◌, ◌<◌};
+ghost use Rattle.isa_model.specs.Code.Limits.{max_call_frames};
 ghost use Rattle.table_entries.specs.Frames.{is_unset, are_unset, frame_allowed, frame_in, callers_in};
 ghost use Rattle.table_entries.specs.Reading.{Gives, kept};
 
@@ -66,7 +67,7 @@ pub fn read_callers<'a>(
     callers: &mut ArrayVec<AbstractFrame, 7>,
     free: &mut AbstractFrame,
 ) -> Result<(bool, &'a [u8]), Stop>
-    requires { count ≤ 7 }
+    requires { count < max_call_frames }
     ensures { Gives (λ x. (kept x.0 callers.new.items, x.1.now)) result
         (callers_in rows count bytes.now) }
 {

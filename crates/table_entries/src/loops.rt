@@ -1,9 +1,11 @@
 //! Ten values and 64 slots in the bytes of a table, read into a frame.
 
-ghost use Rattle.std.specs.Prelude.{◌≡◌, ◌&&◌};
+ghost use Rattle.std.specs.Prelude.{◌≡◌, ◌≤◌, ◌&&◌, take, replicate};
 ghost use Rattle.table_entries.specs.Values.{kind_in, slot_in};
 ghost use Rattle.table_entries.specs.Reading.{Gives, kept, many};
 
+use crate::blanks::blank_slots;
+use crate::slices::skip;
 use crate::stops::Stop;
 use crate::values::{kind_in, slot_in};
 use reg_state::Kind;
@@ -108,7 +110,18 @@ pub fn read_registers<'a>(
     Ok((allowed, rest))
 }
 
-/// 64 stack slots: whether all are allowed, and the bytes after them.
+// Marks no byte of the first slots.
+fn clear(slots: &mut [Slot; 64], count: usize)
+    requires { count ≤ 64 }
+    ensures { take count slots.new ≡ replicate count (Slot.Written 0) }
+{
+    for index in 0..count {
+        mark(&mut slots[index], 0);
+    }
+}
+
+/// 64 stack slots: whether all are allowed, and the bytes after them. Most have no value, and those
+/// that come first are read many at a time.
 pub fn read_slots<'a>(
     rows: usize,
     holder: usize,
@@ -118,9 +131,11 @@ pub fn read_slots<'a>(
     ensures { Gives (λ x. (kept x.0 slots.new, x.1.now)) result
         (many (λ k. slot_in rows holder) 64 0 bytes.now) }
 {
-    let mut rest = bytes;
+    let blank = blank_slots(bytes);
+    clear(slots, blank);
+    let mut rest = skip(bytes, 2 * blank);
     let mut allowed = true;
-    for index in 0..64 {
+    for index in blank..64 {
         let (fits, after) = read_slot(rows, holder, rest, &mut slots[index])?;
         allowed = both(allowed, fits);
         rest = after;

@@ -6,7 +6,7 @@ ghost use Rattle.table_entries.specs.Frames.{frame_in, callers_in};
 ghost use Rattle.table_entries.specs.Entries.{rest_in, entry_in};
 ghost use Rattle.table_entries.specs.Reading.{Gives, seen, many};
 
-use crate::blanks::blank_slots;
+use crate::blanks::{begins_unset, blank_slots};
 use crate::entries::{head_allowed, named_in};
 use crate::frames::frame_allowed;
 use crate::loops::{both, read_registers};
@@ -14,6 +14,7 @@ use crate::slices::{skip, u16_at, u32_at};
 use crate::stops::Stop;
 use crate::values::{kind_in, packet_in, scalar_in, slot_in};
 use image::Image;
+use isa_model::MAX_CALL_FRAMES;
 use reg_state::Kind;
 
 // A value of a kind that is rare, or not allowed, or of no kind.
@@ -127,7 +128,7 @@ fn pass_frame(rows: usize, holder: usize, bytes: &[u8]) -> Result<(bool, &[u8]),
 }
 
 /// An outer frame, by way of room for its registers.
-fn pass_caller<'a>(
+fn pass_registers<'a>(
     rows: usize,
     holder: usize,
     bytes: &'a [u8],
@@ -142,6 +143,21 @@ fn pass_caller<'a>(
     let (slots, rest) = pass_slots(rows, holder, rest)?;
     let fits = frame_allowed(holder, true, usize::from(u16_at(bytes, 0)), room);
     Ok((both(both(values, slots), fits), rest))
+}
+
+/// An outer frame. Where r0 to r5 are unset, as they have to be, it has the form of an innermost one.
+fn pass_caller<'a>(
+    rows: usize,
+    holder: usize,
+    bytes: &'a [u8],
+    room: &mut [Kind; 10],
+) -> Result<(bool, &'a [u8]), Stop>
+    ensures { Gives (λ x. (x.0, x.1.now)) result (seen (frame_in rows holder true bytes.now)) }
+{
+    if begins_unset(bytes) {
+        return pass_frame(rows, holder, bytes);
+    }
+    pass_registers(rows, holder, bytes, room)
 }
 
 /// The outer frames.
@@ -197,7 +213,7 @@ pub fn pass_entry<'a>(
         return Err(Stop::Short);
     }
     let frames = usize::from(bytes[6]);
-    if frames == 0 || frames > 8 {
+    if frames == 0 || frames > MAX_CALL_FRAMES {
         return Err(Stop::Form);
     }
     let number = u32_at(bytes, 0);

@@ -46,10 +46,10 @@ fn wide_of(least: u64, greatest: u64, signed_least: i64, signed_greatest: i64) -
 fn low_of(least: u32, greatest: u32, signed_least: i32, signed_greatest: i32) -> Option<Low>
     ensures { result ≡ low_of least greatest signed_least signed_greatest }
 {
-    if least > greatest {
+    if greatest < least {
         return None;
     }
-    if signed_least > signed_greatest {
+    if signed_greatest < signed_least {
         return None;
     }
     Some(Low {
@@ -246,11 +246,9 @@ fn null_in(rows: usize, bytes: &[u8]) -> Option<Kind>
     ensures { result ≡ null_in rows bytes.now }
 {
     let index = bytes[0];
-    if usize::from(index) < rows {
-        Some(Kind::MapValueOrNull {
-            index,
-            identity: u32_at(bytes, 1),
-        })
+    let identity = u32_at(bytes, 1);
+    if rows > usize::from(index) {
+        Some(Kind::MapValueOrNull { index, identity })
     } else {
         None
     }

@@ -1,5 +1,6 @@
 //! Proof tables of `r0 = 2; exit`.
 
+mod changes;
 mod entries;
 mod faults;
 mod rechecks;

@@ -1,8 +1,11 @@
-use Rattle.std.proofs.Common.{ℕ, bit_and, subst, arith}
+use Rattle.std.proofs.Common.{ℕ, bit_and, subst, refl, arith}
 use Rattle.std.specs.Prelude.{IsTrue, ◌↔◌, nat_eq}
 use Rattle.state_cover.specs.FrameCover.{AreAmong}
-use Rattle.state_cover.proofs.Marks.{among-test}
+use Rattle.state_cover.proofs.Marks.{none-among, among-test}
 use Rattle.state_cover.proofs.are_written.Goals as goal
+
+pub returns-then-marks-eq0 : goal.returns-then-marks-eq0
+returns-then-marks-eq0 c = (λ yes. none-among c.args.marks _ c.if-marks-eq0.true, λ among. refl)
 
 pub returns : goal.returns
 returns c =

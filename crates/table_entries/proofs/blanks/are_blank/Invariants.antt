@@ -1,6 +1,6 @@
-use Rattle.std.proofs.Common.{◌≡◌, IsTrue, take, replicate}
+use Rattle.std.proofs.Common.{◌≡◌, take, replicate}
 use Rattle.stack_state.specs.declared.slots.Slot.TheVariants.{Written}
 use Rattle.table_entries.proofs.blanks.are_blank.Given as goal
 
 abbrev pub invariant-loop-index : goal.invariant-loop-index
-invariant-loop-index l = IsTrue l.blank → take l.index l.slots ≡ replicate l.index (Written 0)
+invariant-loop-index l = take l.index l.slots ≡ replicate l.index (Written 0)

@@ -1,10 +1,20 @@
-use Rattle.std.proofs.Common.{◌∙◌, take, arith}
+use Rattle.std.proofs.Common.{◌≡◌, ◌∙◌, take, arith}
 use Rattle.std.proofs.lemmas.List.{length-set}
 use Rattle.std.proofs.lemmas.Result.{err_from_is_err_and}
 use Rattle.table_entries.specs.Values.{slot_in}
 use Rattle.table_entries.specs.Reading.{kept}
+use Rattle.table_entries.proofs.BlankSlots.{blank_so_far}
 use Rattle.table_entries.proofs.Many.{places-goes_on, many-stops, places-done}
 use Rattle.table_entries.proofs.loops.read_slots.Goals as goal
+
+pub loop-index-init : goal.loop-index-init
+loop-index-init c = record {
+  so_far =
+      let blank : take c.blank_slots-blank.result c.clear.new.slots ≡ _ = c.clear.ensures in
+      rw (blank, c.skip-rest.ensures)
+      (blank_so_far c.args.rows c.args.holder 64 c.blank_slots-blank.result c.args.bytes.now c.blank_slots-blank.ensures.most c.blank_slots-blank.ensures.zeros);
+  long = omega arith;
+}
 
 pub loop-index-preserved : goal.loop-index-preserved
 loop-index-preserved c =

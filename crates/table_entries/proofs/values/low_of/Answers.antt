@@ -3,16 +3,16 @@ use Rattle.std.proofs.lemmas.Int.{ints}
 use Rattle.table_entries.proofs.ValueLaws.{low_of-made, low_of-none}
 use Rattle.table_entries.proofs.values.low_of.Goals as goal
 
-pub returns-then-least-greatest : goal.returns-then-least-greatest
-returns-then-least-greatest c =
+pub returns-then-greatest-least : goal.returns-then-greatest-least
+returns-then-greatest-least c =
     let a = c.args in
-    let past = c.if-least-greatest.true in
+    let past = c.if-greatest-least.true in
     sym (low_of-none a.least a.greatest a.signed_least a.signed_greatest (λ o p. omega arith))
 
-pub returns-then-signed_least-signed_greatest : goal.returns-then-signed_least-signed_greatest
-returns-then-signed_least-signed_greatest c =
+pub returns-then-signed_greatest-signed_least : goal.returns-then-signed_greatest-signed_least
+returns-then-signed_greatest-signed_least c =
     let a = c.args in
-    let past = c.if-signed_least-signed_greatest.true in
+    let past = c.if-signed_greatest-signed_least.true in
     sym (low_of-none a.least a.greatest a.signed_least a.signed_greatest (λ o p. omega (arith, ints)))
 
 pub returns : goal.returns

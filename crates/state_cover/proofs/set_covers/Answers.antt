@@ -1,5 +1,5 @@
 use Rattle.state_cover.specs.Names.{packet_name, null_name}
-use Rattle.state_cover.proofs.kind_covers.Goals as goal
+use Rattle.state_cover.proofs.set_covers.Goals as goal
 
 pub returns-clause-no : goal.returns-clause-no
 returns-clause-no c =

@@ -1,0 +1,11 @@
+use Rattle.std.proofs.Common.{◌≡◌, take, replicate, length}
+use Rattle.stack_state.specs.declared.slots.Slot.TheVariants.{Written}
+use Rattle.table_entries.proofs.loops.clear.Given as goal
+
+-- no byte of those before it is marked
+abbrev pub invariant-loop-index : goal.invariant-loop-index
+invariant-loop-index l =
+    record {
+      so_far : take l.index l.slots ≡ replicate l.index (Written 0);
+      long : length l.slots ≡ 64;
+    }
