@@ -23,14 +23,14 @@ use Rattle.transfer.specs.declared.Ways.TheVariants as ways
 use Rattle.transfer.specs.Leading.{LeadsTo, EachWay}
 use Rattle.transfer.specs.Following.{returns_of, GoesOnTo}
 use Rattle.transfer.specs.Exact.{Makes}
-use Rattle.explorer.specs.declared.table.Stored.{Stored}
+use Rattle.explorer.specs.declared.stored_states.Stored.{Stored}
 use Rattle.explorer.specs.declared.trail.Visit.{Visit}
 use Rattle.explorer.specs.declared.search.Search.{Search}
 use Rattle.explorer.specs.Trail.{Visits}
-use Rattle.explorer.specs.declared.table.Table.{Table}
+use Rattle.explorer.specs.declared.stored_states.StoredStates.{StoredStates}
 use Rattle.explorer.specs.declared.moves.Move.{Move}
 use Rattle.explorer.specs.declared.moves.Move.TheVariants.{New, Covered, Finished}
-use Rattle.explorer.specs.Table.{StoredAt, IsNumbered}
+use Rattle.explorer.specs.StoredStates.{StoredAt, IsNumbered}
 use Rattle.explorer.specs.Search.{Settles, Spends, CountsTo, Arrives, AllFine, IsReady, IfReady, IfStepsTo, Waiting, Path, OnPath, HasEnded, Explores, Comes, Moves}
 use Rattle.walks.specs.Forgetting.{Forgets}
 use Rattle.walks.proofs.Forgotten.{Forgets-slot, Forgets-returns, LeadsTo-forgets, GoesOnTo-forgets}
@@ -43,11 +43,11 @@ use Rattle.explorer.proofs.Paths.{Last, Path-more, Path-push, Path-pop, Waits-en
 
 -- ---- an arrival
 
-pub comes_to : (p : Program) (old : Search) (table : Table) (scratch : State) (made : Move) → Comes p old → Arrives p old.table.entries.items old.current made table.entries.items
-    → Moves p (record old { table = table; scratch = scratch }) made
-comes_to p old table scratch (New stored) h arrives =
-    let before = old.table.entries.items in
-    let after = table.entries.items in
+pub comes_to : (p : Program) (old : Search) (states : StoredStates) (scratch : State) (made : Move) → Comes p old → Arrives p old.stored.entries.items old.current made states.entries.items
+    → Moves p (record old { stored = states; scratch = scratch }) made
+comes_to p old states scratch (New stored) h arrives =
+    let before = old.stored.entries.items in
+    let after = states.entries.items in
     let path = old.path.items in
     let kept = Arrives-keeps p before old.current (New stored) after arrives in
     record {
@@ -62,9 +62,9 @@ comes_to p old table scratch (New stored) h arrives =
       spent = h.spent;
       ready = h.ready;
     }
-comes_to p old table scratch (Covered k n) h arrives =
-    let before = old.table.entries.items in
-    let after = table.entries.items in
+comes_to p old states scratch (Covered k n) h arrives =
+    let before = old.stored.entries.items in
+    let after = states.entries.items in
     let path = old.path.items in
     let total = old.finished + length path in
     let kept = Arrives-keeps p before old.current (Covered k n) after arrives in
@@ -83,16 +83,16 @@ comes_to p old table scratch (Covered k n) h arrives =
       some = arrives.1.finished;
       most = known.1;
     }
-comes_to p old table scratch (Finished n) h arrives = absurd arrives
+comes_to p old states scratch (Finished n) h arrives = absurd arrives
 
 -- ---- a visit that ends
 
 -- the number is written, and the search is at the state before
-pub record IsBack (p : Program) (m : ℕ) (table : List Stored) (a : State) (path : List Visit) (number : ℕ) : Type 0 where
+pub record IsBack (p : Program) (m : ℕ) (entries : List Stored) (a : State) (path : List Visit) (number : ℕ) : Type 0 where
   pub state : State
-  pub fine : AllFine p m table
-  pub before : Path p m table a path state
-  pub on_path : OnPath table path None
+  pub fine : AllFine p m entries
+  pub before : Path p m entries a path state
+  pub on_path : OnPath entries path None
   pub within : Settles p state number
   pub most : number ≤ m
 
@@ -121,13 +121,13 @@ step_back p m old new a path visit child n best root fine last on_path within le
 -- ---- a visit that goes on
 
 -- the path to the pending state, once the child has its number
-step_aside : (p : Program) (m : ℕ) (table : List Stored) (a : State) (path : List Visit) (visit : Visit) (child : State) (n : ℕ) (current : State)
-    → Last p m table a path visit child → Settles p child n → n ≤ m → visit.pending ≡ Some current
-    → Path p m table a (path ++ record { pending = None; best = max visit.best n; stored = visit.stored } ∷ []) current
-step_aside p m table a path visit child n current last within le is =
+step_aside : (p : Program) (m : ℕ) (entries : List Stored) (a : State) (path : List Visit) (visit : Visit) (child : State) (n : ℕ) (current : State)
+    → Last p m entries a path visit child → Settles p child n → n ≤ m → visit.pending ≡ Some current
+    → Path p m entries a (path ++ record { pending = None; best = max visit.best n; stored = visit.stored } ∷ []) current
+step_aside p m entries a path visit child n current last within le is =
     let s = last.state in
     let next : Visit = record { pending = None; best = max visit.best n; stored = visit.stored } in
-    let waiting : Waiting p m table next s current =
+    let waiting : Waiting p m entries next s current =
     record {
       waits = Waits-next p visit s child current n last.waiting.waits is within.within;
       awaits = Awaits-next p visit s child current n last.waiting.awaits is within.number;
@@ -137,24 +137,24 @@ step_aside p m table a path visit child n current last within le is =
       stored = last.waiting.stored;
       ready = tt;
     } in
-    Path-push p m table path next a s current last.before waiting
+    Path-push p m entries path next a s current last.before waiting
 
 -- the last visit of the path goes on with what was pending
 pub comes_aside : (p : Program) (old : Search) (path : List Visit) (visit rest : Visit) (whole : Visits) (n : ℕ) (current : State) → HasEnded p old n
     → old.path.items ≡ path ++ visit ∷ [] → visit.pending ≡ Some current → rest ≡ record { pending = None; best = max visit.best n; stored = visit.stored } → whole.items ≡ path ++ rest ∷ []
     → Comes p (record old { path = whole; current = current })
 comes_aside p old path visit rest whole n current h was is rest_is pushed =
-    let table = old.table.entries.items in
+    let entries = old.stored.entries.items in
     let a = h.at.first in
     let next : Visit = record { pending = None; best = max visit.best n; stored = visit.stored } in
-    let last = Path-pop p old.finished table path visit a h.state (subst (λ (x : List Visit). Path p old.finished table a x h.state) was h.at.path) in
+    let last = Path-pop p old.finished entries path visit a h.state (subst (λ (x : List Visit). Path p old.finished entries a x h.state) was h.at.path) in
     let again : whole.items ≡ path ++ next ∷ [] = pushed ∙ ap (λ (v : Visit). path ++ v ∷ []) rest_is in
     let same : length old.path.items ≡ length whole.items =
     ap (λ (xs : List Visit). length xs) was ∙ (length-append path (visit ∷ []) ∙ (sym (length-append path (next ∷ [])) ∙ ap (λ (xs : List Visit). length xs) (sym again))) in
-    let aside = step_aside p old.finished table a path visit h.state n current last h.within h.most is in
+    let aside = step_aside p old.finished entries a path visit h.state n current last h.within h.most is in
     record {
-      at = record { fine = h.at.fine; first = a; begins = h.at.begins; path = subst (λ (x : List Visit). Path p old.finished table a x current) (sym again) aside };
-      on_path = OnPath-push table path whole.items next again (OnPath-pop table path old.path.items visit was h.on_path);
+      at = record { fine = h.at.fine; first = a; begins = h.at.begins; path = subst (λ (x : List Visit). Path p old.finished entries a x current) (sym again) aside };
+      on_path = OnPath-push entries path whole.items next again (OnPath-pop entries path old.path.items visit was h.on_path);
       spent = subst (λ k. CountsTo p a whole.items current (old.finished + k)) same
           (spent_on p a path old.path.items whole.items visit next current (old.finished + length old.path.items) was again is refl h.spent);
       ready = subst (IfReady p) is last.waiting.ready;
@@ -186,35 +186,35 @@ pub fetched : (p : Program) (s : State) → IsReady p s → (i : Insn) × (fetch
 fetched p s ready = some_there (fetch p s.slot) ready.begins
 
 -- the instruction's state waits for the state after it
-pub record Entered (p : Program) (m : ℕ) (table : List Stored) (visit : Visit) (s next : State) : Type 0 where
-  pub waiting : Waiting p m table visit s next
+pub record Entered (p : Program) (m : ℕ) (entries : List Stored) (visit : Visit) (s next : State) : Type 0 where
+  pub waiting : Waiting p m entries visit s next
   pub ready : IsReady p next
   pub spends : Spends p visit s next 1
 
-pub one_way : (p q : Program) (m : ℕ) (table : List Stored) (stored : Option ℕ) (s a b first : State) (w : Ways) (pending : Option State) → p ≡ q → IsFlow p → IsReady p s → StoredAt table stored s
+pub one_way : (p q : Program) (m : ℕ) (entries : List Stored) (stored : Option ℕ) (s a b first : State) (w : Ways) (pending : Option State) → p ≡ q → IsFlow p → IsReady p s → StoredAt entries stored s
     → LeadsTo q s w a b → ((i : Insn) → fetch q s.slot ≡ Some i → Makes q s i w a b) → EachWay w a b (GoesOnTo q s) → Forgets p a first → w ≡ ways.One → pending ≡ None
-    → Entered p m table (record { pending = pending; best = 0; stored = stored }) s first
-one_way p q m table stored s a b first w pending same flow ready at leads makes follows forgets is none =
+    → Entered p m entries (record { pending = pending; best = 0; stored = stored }) s first
+one_way p q m entries stored s a b first w pending same flow ready at leads makes follows forgets is none =
     let (i, here) = fetched p s ready in
     let leads' = LeadsTo-forgets p s ways.One a b first b forgets (subst (λ x. LeadsTo x s ways.One a b) (sym same) (subst (λ x. LeadsTo q s x a b) is leads)) in
     let follows' : GoesOnTo p s a = subst (λ x. GoesOnTo x s a) (sym same) (subst (λ x. EachWay x a b (GoesOnTo q s)) is follows) in
     let into = into_by p q s a b first b w ways.One same makes i here is forgets in
-    subst (λ x. Entered p m table (record { pending = x; best = 0; stored = stored }) s first) (sym none) (record {
+    subst (λ x. Entered p m entries (record { pending = x; best = 0; stored = stored }) s first) (sym none) (record {
       waiting = record { waits = Waits-one p s first b stored leads'; awaits = Awaits-one p s first b stored into; steps = steps_by p q s a b a first w ways.One same makes i here is refl forgets; steps_aside = tt; best = omega arith; stored = at; ready = tt };
       ready = IsReady-next p s first flow ready (GoesOnTo-forgets p s a first forgets follows');
       spends = Spends-one p s first b stored into;
     })
 
-pub two_ways : (p q : Program) (m : ℕ) (table : List Stored) (stored : Option ℕ) (s a b first other : State) (w : Ways) (pending : Option State) → p ≡ q → IsFlow p → IsReady p s → StoredAt table stored s
+pub two_ways : (p q : Program) (m : ℕ) (entries : List Stored) (stored : Option ℕ) (s a b first other : State) (w : Ways) (pending : Option State) → p ≡ q → IsFlow p → IsReady p s → StoredAt entries stored s
     → LeadsTo q s w a b → ((i : Insn) → fetch q s.slot ≡ Some i → Makes q s i w a b) → EachWay w a b (GoesOnTo q s) → Forgets p a first → Forgets p b other → w ≡ ways.Two → pending ≡ Some other
-    → Entered p m table (record { pending = pending; best = 0; stored = stored }) s first
-two_ways p q m table stored s a b first other w pending same flow ready at leads makes follows forgets aside is some =
+    → Entered p m entries (record { pending = pending; best = 0; stored = stored }) s first
+two_ways p q m entries stored s a b first other w pending same flow ready at leads makes follows forgets aside is some =
     let (i, here) = fetched p s ready in
     let leads' = LeadsTo-forgets p s ways.Two a b first other (forgets, aside) (subst (λ x. LeadsTo x s ways.Two a b) (sym same) (subst (λ x. LeadsTo q s x a b) is leads)) in
     let follows' : GoesOnTo p s a × GoesOnTo p s b =
     subst (λ x. GoesOnTo x s a × GoesOnTo x s b) (sym same) (subst (λ x. EachWay x a b (GoesOnTo q s)) is follows) in
     let into = into_by p q s a b first other w ways.Two same makes i here is (forgets, aside) in
-    subst (λ x. Entered p m table (record { pending = x; best = 0; stored = stored }) s first) (sym some) (record {
+    subst (λ x. Entered p m entries (record { pending = x; best = 0; stored = stored }) s first) (sym some) (record {
       waiting = record {
         waits = Waits-two p s first other stored leads';
         awaits = Awaits-two p s first other stored into;
@@ -230,11 +230,11 @@ two_ways p q m table stored s a b first other w pending same flow ready at leads
 
 -- the path goes on from the state to the first of those that are left to explore
 pub comes_into : (p : Program) (old x : Search) (stored : Option ℕ) (pending : Option State) (whole : Visits) (a o first : State) → x ≡ record old { current = a; scratch = o } → Explores p old stored
-    → Entered p old.finished old.table.entries.items (record { pending = pending; best = 0; stored = stored }) old.current first
+    → Entered p old.finished old.stored.entries.items (record { pending = pending; best = 0; stored = stored }) old.current first
     → whole.items ≡ x.path.items ++ record { pending = pending; best = 0; stored = stored } ∷ [] → Comes p (record x { current = first; path = whole })
 comes_into p old x stored pending whole a o first is at entered pushed =
     let visit : Visit = record { pending = pending; best = 0; stored = stored } in
-    let table = old.table.entries.items in
+    let entries = old.stored.entries.items in
     let path = old.path.items in
     let root = at.at.first in
     let again : whole.items ≡ path ++ visit ∷ [] = pushed ∙ ap (λ (y : Search). y.path.items ++ visit ∷ []) is in
@@ -244,9 +244,9 @@ comes_into p old x stored pending whole a o first is at entered pushed =
         fine = at.at.fine;
         first = root;
         begins = at.at.begins;
-        path = subst (λ (y : List Visit). Path p old.finished table root y first) (sym again) (Path-push p old.finished table path visit root old.current first at.at.path entered.waiting);
+        path = subst (λ (y : List Visit). Path p old.finished entries root y first) (sym again) (Path-push p old.finished entries path visit root old.current first at.at.path entered.waiting);
       };
-      on_path = OnPath-push table path whole.items visit again at.on_path;
+      on_path = OnPath-push entries path whole.items visit again at.on_path;
       spent = spent_into p root path whole.items visit old.current first (old.finished + length path) (old.finished + length whole.items) again at.spent entered.spends (omega (arith, more));
       ready = entered.ready;
     })
@@ -271,9 +271,9 @@ step_ends p q m old new a path stored s x y w root same fine before at on_path l
 
 -- ---- the start
 
-pub empty_fine : (p : Program) (m : ℕ) (table : List Stored) → table ≡ [] → AllFine p m table
+pub empty_fine : (p : Program) (m : ℕ) (entries : List Stored) → entries ≡ [] → AllFine p m entries
 unfolding AllFine
-empty_fine p m table e = subst (λ x. AllFine p m x) (sym e) (λ k d h. absurd (omega arith))
+empty_fine p m entries e = subst (λ x. AllFine p m x) (sym e) (λ k d h. absurd (omega arith))
 
 start_ready : (p : Program) → IsImage p → IsReady p start
 unfolding start

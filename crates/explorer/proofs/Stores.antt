@@ -5,10 +5,10 @@ use Rattle.std.proofs.lemmas.List.Elements.{All-push, All-set, All-weaker}
 use Rattle.isa_model.specs.Code.Instructions.{Program}
 use Rattle.stack_state.specs.declared.states.State.{State}
 use Rattle.stack_state.specs.Meaning.{Within, Covers}
-use Rattle.explorer.specs.declared.table.Stored.{Stored}
+use Rattle.explorer.specs.declared.stored_states.Stored.{Stored}
 use Rattle.explorer.specs.declared.moves.Move.{Move}
 use Rattle.explorer.specs.declared.moves.Move.TheVariants.{New, Covered, Finished}
-use Rattle.explorer.specs.Table.{IsCovered, StoredAt, IsNumbered}
+use Rattle.explorer.specs.StoredStates.{IsCovered, StoredAt, IsNumbered}
 use Rattle.stack_state.specs.Starts.{start}
 use Rattle.walks.specs.Forgetting.{Forgets}
 use Rattle.walks.specs.Walks.{WalksTo}
@@ -26,26 +26,26 @@ Within-covered p a b n covered h = λ clock fits w means. h clock fits w (covere
 IsFine-more : (p : Program) (m n : ℕ) (e : Stored) → m ≤ n → IsFine p m e → IsFine p n e
 IsFine-more p m n e le h = λ above. let fine = h above in (fine.0, omega (arith, fine.1), fine.2)
 
-pub AllFine-more : (p : Program) (m n : ℕ) (table : List Stored) → m ≤ n → AllFine p m table → AllFine p n table
+pub AllFine-more : (p : Program) (m n : ℕ) (entries : List Stored) → m ≤ n → AllFine p m entries → AllFine p n entries
 unfolding AllFine
-AllFine-more p m n table le h = All-weaker (IsFine p m) (IsFine p n) (λ e fine. IsFine-more p m n e le fine) table h
+AllFine-more p m n entries le h = All-weaker (IsFine p m) (IsFine p n) (λ e fine. IsFine-more p m n e le fine) entries h
 
-AllFine-push : (p : Program) (m : ℕ) (table : List Stored) (s : State) → AllFine p m table → AllFine p m (stored_too table s)
+AllFine-push : (p : Program) (m : ℕ) (entries : List Stored) (s : State) → AllFine p m entries → AllFine p m (stored_too entries s)
 unfolding AllFine
-AllFine-push p m table s h = All-push (IsFine p m) table _ h (λ above. absurd (omega arith))
+AllFine-push p m entries s h = All-push (IsFine p m) entries _ h (λ above. absurd (omega arith))
 
-AllFine-set : (p : Program) (m : ℕ) (table : List Stored) (k : ℕ) (s : State) (n : ℕ) → AllFine p m table → Settles p s n → n ≤ m
-    → (steps : ℕ) × WalksTo p steps s → AllFine p m (set table k (record { state = s; number = n }))
+AllFine-set : (p : Program) (m : ℕ) (entries : List Stored) (k : ℕ) (s : State) (n : ℕ) → AllFine p m entries → Settles p s n → n ≤ m
+    → (steps : ℕ) × WalksTo p steps s → AllFine p m (set entries k (record { state = s; number = n }))
 unfolding AllFine
-AllFine-set p m table k s n h within le walk = All-set (IsFine p m) table k _ (λ above. (within, le, walk)) h
+AllFine-set p m entries k s n h within le walk = All-set (IsFine p m) entries k _ (λ above. (within, le, walk)) h
 
 -- a state that a finished entry covers ends within the entry's number
-pub IsCovered-known : (p : Program) (m : ℕ) (table : List Stored) (k : ℕ) (s : State) (n : ℕ) → AllFine p m table → IsCovered table k s n → Settles p s n × (n ≤ m)
+pub IsCovered-known : (p : Program) (m : ℕ) (entries : List Stored) (k : ℕ) (s : State) (n : ℕ) → AllFine p m entries → IsCovered entries k s n → Settles p s n × (n ≤ m)
 unfolding AllFine
-IsCovered-known p m table k s n fine h =
+IsCovered-known p m entries k s n fine h =
     let e : Stored = record { state = h.entry; number = n } in
-    let same = get_or_from_slice_get table k e e h.stored in
-    let here : IsFine p m e = subst (IsFine p m) same (fine k e (slice_get_within table k e h.stored)) in
+    let same = get_or_from_slice_get entries k e e h.stored in
+    let here : IsFine p m e = subst (IsFine p m) same (fine k e (slice_get_within entries k e h.stored)) in
     let known = here h.finished in
     let walk = known.2 in (
       record {
@@ -85,40 +85,40 @@ pub Keeps-same : (old new : List Stored) → new ≡ old → Keeps old new
 unfolding Keeps
 Keeps-same old new e = λ k s h. subst (λ x. StoredAt x k s) (sym e) h
 
-Keeps-push : (table : List Stored) (e : Stored) → Keeps table (table ++ e ∷ [])
+Keeps-push : (entries : List Stored) (e : Stored) → Keeps entries (entries ++ e ∷ [])
 unfolding Keeps
-Keeps-push table e = λ k s. elim k as (λ k. StoredAt table k s → StoredAt (table ++ e ∷ []) k s)
-    [ None ↦ λ h. tt | (Some i) ↦ λ h. (h.0, slice_get-push table e i _ h.1) ]
+Keeps-push entries e = λ k s. elim k as (λ k. StoredAt entries k s → StoredAt (entries ++ e ∷ []) k s)
+    [ None ↦ λ h. tt | (Some i) ↦ λ h. (h.0, slice_get-push entries e i _ h.1) ]
 
 -- a write of a number leaves each state where it was
-set-number : (table : List Stored) (i : ℕ) (s : State) (m n : ℕ) → slice_get table i ≡ Some (record { state = s; number = m })
-    → (k : ℕ) (t : State) → StoredAt table (Some k) t → StoredAt (set table i (record { state = s; number = n })) (Some k) t
+set-number : (entries : List Stored) (i : ℕ) (s : State) (m n : ℕ) → slice_get entries i ≡ Some (record { state = s; number = m })
+    → (k : ℕ) (t : State) → StoredAt entries (Some k) t → StoredAt (set entries i (record { state = s; number = n })) (Some k) t
 set-number [] i s m n e k t h = absurd (cc)
-set-number (z ∷ table) zero s m n e zero t h =
+set-number (z ∷ entries) zero s m n e zero t h =
     let q : ◌≡◌ {A = Stored} (record { state = s; number = m }) (record { state = t; number = h.0 }) = cc (e, h.1) in
     let r : s ≡ t = ap (λ (x : Stored). x.state) q in
     (n, ap (λ (x : State). Some (record { state = x; number = n })) r)
-set-number (z ∷ table) zero s m n e (suc k) t h = h
-set-number (z ∷ table) (suc i) s m n e zero t h = h
-set-number (z ∷ table) (suc i) s m n e (suc k) t h = set-number table i s m n e k t h
+set-number (z ∷ entries) zero s m n e (suc k) t h = h
+set-number (z ∷ entries) (suc i) s m n e zero t h = h
+set-number (z ∷ entries) (suc i) s m n e (suc k) t h = set-number entries i s m n e k t h
 
-Keeps-set : (table : List Stored) (i : ℕ) (s : State) (m n : ℕ) → slice_get table i ≡ Some (record { state = s; number = m })
-    → Keeps table (set table i (record { state = s; number = n }))
+Keeps-set : (entries : List Stored) (i : ℕ) (s : State) (m n : ℕ) → slice_get entries i ≡ Some (record { state = s; number = m })
+    → Keeps entries (set entries i (record { state = s; number = n }))
 unfolding Keeps
-Keeps-set table i s m n e = λ k t. elim k as (λ k. StoredAt table k t → StoredAt (set table i (record { state = s; number = n })) k t)
-    [ None ↦ λ h. tt | (Some j) ↦ λ h. set-number table i s m n e j t h ]
+Keeps-set entries i s m n e = λ k t. elim k as (λ k. StoredAt entries k t → StoredAt (set entries i (record { state = s; number = n })) k t)
+    [ None ↦ λ h. tt | (Some j) ↦ λ h. set-number entries i s m n e j t h ]
 
 -- ---- an arrival
 
 pub Arrives-keeps : (p : Program) (old : List Stored) (s : State) (made : Move) (new : List Stored) → Arrives p old s made new → Keeps old new
 Arrives-keeps p old s (Covered k n) new h = Keeps-same old new h.2
-Arrives-keeps p old s (New None) new h = Keeps-same old new h.1
+Arrives-keeps p old s (New None) new h = Keeps-same old new h
 Arrives-keeps p old s (New (Some k)) new h = subst (λ x. Keeps old x) (sym h.2) (Keeps-push old _)
 Arrives-keeps p old s (Finished n) new h = absurd h
 
 pub Arrives-fine : (p : Program) (m : ℕ) (old : List Stored) (s : State) (made : Move) (new : List Stored) → Arrives p old s made new → AllFine p m old → AllFine p m new
 Arrives-fine p m old s (Covered k n) new h fine = subst (λ x. AllFine p m x) (sym h.2) fine
-Arrives-fine p m old s (New None) new h fine = subst (λ x. AllFine p m x) (sym h.1) fine
+Arrives-fine p m old s (New None) new h fine = subst (λ x. AllFine p m x) (sym h) fine
 Arrives-fine p m old s (New (Some k)) new h fine = subst (λ x. AllFine p m x) (sym h.2) (AllFine-push p m old s fine)
 Arrives-fine p m old s (Finished n) new h fine = absurd h
 

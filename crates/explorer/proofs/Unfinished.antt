@@ -4,10 +4,10 @@ use Rattle.std.proofs.lemmas.Option.{slice_get_within}
 use Rattle.std.proofs.lemmas.List.{map-append, map-set, length-map}
 use Rattle.isa_model.specs.Code.Instructions.{Program}
 use Rattle.stack_state.specs.declared.states.State.{State}
-use Rattle.explorer.specs.declared.table.Stored.{Stored}
+use Rattle.explorer.specs.declared.stored_states.Stored.{Stored}
 use Rattle.explorer.specs.declared.trail.Visit.{Visit}
 use Rattle.explorer.specs.declared.moves.Move.TheVariants.{New}
-use Rattle.explorer.specs.Table.{StoredAt, IsNumbered}
+use Rattle.explorer.specs.StoredStates.{StoredAt, IsNumbered}
 use Rattle.explorer.specs.Search.{Arrives, zeros_from, unfinished, with_first, with_last, places_of, OnPath}
 
 -- ---- zeros
@@ -63,25 +63,25 @@ places_of-push (first ∷ path) visit =
 
 -- ---- the path
 
-pub OnPath-start : (table : List Stored) (path : List Visit) → table ≡ [] → path ≡ [] → OnPath table path None
+pub OnPath-start : (entries : List Stored) (path : List Visit) → entries ≡ [] → path ≡ [] → OnPath entries path None
 unfolding OnPath
-OnPath-start table path none empty = subst (λ x. unfinished x ≡ places_of path) (sym none) (subst (λ x. [] ≡ places_of x) (sym empty) refl)
+OnPath-start entries path none empty = subst (λ x. unfinished x ≡ places_of path) (sym none) (subst (λ x. [] ≡ places_of x) (sym empty) refl)
 
 pub OnPath-same : (old new : List Stored) (path : List Visit) (stored : Option ℕ) → new ≡ old → OnPath old path stored → OnPath new path stored
 OnPath-same old new path stored e h = subst (λ x. OnPath x path stored) (sym e) h
 
-pub OnPath-push : (table : List Stored) (path whole : List Visit) (visit : Visit) → whole ≡ path ++ visit ∷ [] → OnPath table path visit.stored → OnPath table whole None
+pub OnPath-push : (entries : List Stored) (path whole : List Visit) (visit : Visit) → whole ≡ path ++ visit ∷ [] → OnPath entries path visit.stored → OnPath entries whole None
 unfolding OnPath
-OnPath-push table path whole visit e h = h ∙ sym (ap places_of e ∙ places_of-push path visit)
+OnPath-push entries path whole visit e h = h ∙ sym (ap places_of e ∙ places_of-push path visit)
 
-pub OnPath-pop : (table : List Stored) (path whole : List Visit) (visit : Visit) → whole ≡ path ++ visit ∷ [] → OnPath table whole None → OnPath table path visit.stored
+pub OnPath-pop : (entries : List Stored) (path whole : List Visit) (visit : Visit) → whole ≡ path ++ visit ∷ [] → OnPath entries whole None → OnPath entries path visit.stored
 unfolding OnPath
-OnPath-pop table path whole visit e h = h ∙ (ap places_of e ∙ places_of-push path visit)
+OnPath-pop entries path whole visit e h = h ∙ (ap places_of e ∙ places_of-push path visit)
 
 -- a state that was met is stored after all others
 pub OnPath-arrives : (p : Program) (old new : List Stored) (path : List Visit) (s : State) (at : Option ℕ) → Arrives p old s (New at) new → OnPath old path None → OnPath new path at
 unfolding OnPath
-OnPath-arrives p old new path s None h on = ap unfinished h.1 ∙ on
+OnPath-arrives p old new path s None h on = ap unfinished h ∙ on
 OnPath-arrives p old new path s (Some k) h on =
     let e : Stored = record { state = s; number = 0 } in
     let f : Stored → ℕ = λ x. x.number in

@@ -11,14 +11,14 @@ use Rattle.transfer.specs.declared.Ways.{Ways}
 use Rattle.transfer.specs.Exact.{Makes}
 use Rattle.walks.specs.declared.refusals.Refusal.{Refusal}
 use Rattle.walks.specs.declared.refusals.Refusal.TheVariants.{Flow, Step, Repeats, TooLong, Memory}
-use Rattle.explorer.specs.declared.table.Stored.{Stored}
+use Rattle.explorer.specs.declared.stored_states.Stored.{Stored}
 use Rattle.explorer.specs.declared.trail.Visit.{Visit}
 use Rattle.walks.specs.Walks.{IsAmong, StepsTo, Leads, WalksTo}
 use Rattle.walks.specs.Forgetting.{Forgets}
 use Rattle.walks.specs.Counts.{AreForgotten, StepsInto}
 use Rattle.explorer.specs.Listening.{ComesBackAt}
 use Rattle.walks.specs.Refused.{StopsAt}
-use Rattle.explorer.specs.Table.{StoredAt}
+use Rattle.explorer.specs.StoredStates.{StoredAt}
 use Rattle.explorer.specs.Search.{Path, TurnsBack, zeros_from, with_first, places_of, OnPath}
 
 -- ---- steps
@@ -53,14 +53,14 @@ pub WalksTo-start : (p : Program) (first : State) → Forgets p start first → 
 unfolding Leads
 WalksTo-start p first begins = record { first = first; begins = begins; leads = refl }
 
-pub Path-leads : (p : Program) (m : ℕ) (table : List Stored) (path : List Visit) (a b : State) → Path p m table a path b → Leads p (length path) a b
+pub Path-leads : (p : Program) (m : ℕ) (entries : List Stored) (path : List Visit) (a b : State) → Path p m entries a path b → Leads p (length path) a b
 unfolding Path Leads
-Path-leads p m table [] a b h = h
-Path-leads p m table (visit ∷ path) a b h = (h.0, h.1.steps, Path-leads p m table path h.0 b h.2)
+Path-leads p m entries [] a b h = h
+Path-leads p m entries (visit ∷ path) a b h = (h.0, h.1.steps, Path-leads p m entries path h.0 b h.2)
 
 -- and comes from the start
-pub Path-walks : (p : Program) (m : ℕ) (table : List Stored) (path : List Visit) (a b : State) → Forgets p start a → Path p m table a path b → WalksTo p (length path) b
-Path-walks p m table path a b begins h = record { first = a; begins = begins; leads = Path-leads p m table path a b h }
+pub Path-walks : (p : Program) (m : ℕ) (entries : List Stored) (path : List Visit) (a b : State) → Forgets p start a → Path p m entries a path b → WalksTo p (length path) b
+Path-walks p m entries path a b begins h = record { first = a; begins = begins; leads = Path-leads p m entries path a b h }
 
 -- ---- places
 
@@ -81,8 +81,8 @@ in_first (Some i) k xs (inl e) = inl (ap Some (sym e))
 in_first (Some i) k xs (inr h) = inr h
 
 -- two states that are stored at one place are one
-same_stored : (table : List Stored) (k n : ℕ) (s t : State) → StoredAt table (Some k) s → slice_get table k ≡ Some (record { state = t; number = n }) → t ≡ s
-same_stored table k n s t at e =
+same_stored : (entries : List Stored) (k n : ℕ) (s t : State) → StoredAt entries (Some k) s → slice_get entries k ≡ Some (record { state = t; number = n }) → t ≡ s
+same_stored entries k n s t at e =
     let q : ◌≡◌ {A = Stored} (record { state = t; number = n }) (record { state = s; number = at.0 }) = cc (e, at.1) in
     ap (λ (x : Stored). x.state) q
 
@@ -101,36 +101,36 @@ one_more : (p : Program) (a c t b : State) → StepsTo p a c → Through p c t b
 unfolding Leads
 one_more p a c t b step h = record { before = suc h.before; between = h.between; leads = (c, step, h.leads); leads_on = h.leads_on }
 
-through : (p : Program) (m : ℕ) (table : List Stored) (path : List Visit) (a b : State) (k : ℕ) (t : State) → Path p m table a path b → IsIn k (places_of path)
-    → slice_get table k ≡ Some (record { state = t; number = 0 }) → Through p a t b
+through : (p : Program) (m : ℕ) (entries : List Stored) (path : List Visit) (a b : State) (k : ℕ) (t : State) → Path p m entries a path b → IsIn k (places_of path)
+    → slice_get entries k ≡ Some (record { state = t; number = 0 }) → Through p a t b
 unfolding Path Leads
-through p m table [] a b k t h member e = absurd member
-through p m table (visit ∷ path) a b k t h member e =
+through p m entries [] a b k t h member e = absurd member
+through p m entries (visit ∷ path) a b k t h member e =
     let child = h.0 in
     let waiting = h.1 in
     elim (in_first visit.stored k (places_of path) member) [
       | inl is ↦
-          starts_here p (length path) a t b (same_stored table k 0 a t (subst (λ x. StoredAt table x a) is waiting.stored) e)
-          (child, waiting.steps, Path-leads p m table path child b h.2)
-      | inr rest ↦ one_more p a child t b waiting.steps (through p m table path child b k t h.2 rest e)
+          starts_here p (length path) a t b (same_stored entries k 0 a t (subst (λ x. StoredAt entries x a) is waiting.stored) e)
+          (child, waiting.steps, Path-leads p m entries path child b h.2)
+      | inr rest ↦ one_more p a child t b waiting.steps (through p m entries path child b k t h.2 rest e)
     ]
 
 -- ---- why a path is turned back
 
-unfinished_in : (table : List Stored) (path : List Visit) (k : ℕ) (t : State) → OnPath table path None → slice_get table k ≡ Some (record { state = t; number = 0 }) → IsIn k (places_of path)
+unfinished_in : (entries : List Stored) (path : List Visit) (k : ℕ) (t : State) → OnPath entries path None → slice_get entries k ≡ Some (record { state = t; number = 0 }) → IsIn k (places_of path)
 unfolding OnPath
-unfinished_in table path k t on e =
+unfinished_in entries path k t on e =
     let f : Stored → ℕ = λ x. x.number in
-    let found : slice_get (map f table) k ≡ Some 0 = slice_get-map f table k ∙ ap (option_map f) e in
-    subst (IsIn k) on (zeros_from-in 0 (map f table) k k (omega arith) found)
+    let found : slice_get (map f entries) k ≡ Some 0 = slice_get-map f entries k ∙ ap (option_map f) e in
+    subst (IsIn k) on (zeros_from-in 0 (map f entries) k k (omega arith) found)
 
-pub turned_back : (p : Program) (m : ℕ) (table : List Stored) (path : List Visit) (a b : State) (e : Refusal) (slot : ℕ) → Forgets p start a → Path p m table a path b → OnPath table path None
-    → TurnsBack p table b e slot → StopsAt p e slot
-turned_back p m table path a b (Flow e) slot begins h on back = absurd back
-turned_back p m table path a b (Step e) slot begins h on back = absurd back
-turned_back p m table path a b Repeats slot begins h on back =
+pub turned_back : (p : Program) (m : ℕ) (entries : List Stored) (path : List Visit) (a b : State) (e : Refusal) (slot : ℕ) → Forgets p start a → Path p m entries a path b → OnPath entries path None
+    → TurnsBack p entries b e slot → StopsAt p e slot
+turned_back p m entries path a b (Flow e) slot begins h on back = absurd back
+turned_back p m entries path a b (Step e) slot begins h on back = absurd back
+turned_back p m entries path a b Repeats slot begins h on back =
     let repeated = back.1 in
-    let walk = through p m table path a b repeated.index repeated.entry h (unfinished_in table path repeated.index repeated.entry on repeated.stored) repeated.stored in
+    let walk = through p m entries path a b repeated.index repeated.entry h (unfinished_in entries path repeated.index repeated.entry on repeated.stored) repeated.stored in
     record {
       join = subst (λ n. IsJoin p n) (sym back.2) back.0;
       first = repeated.entry;
@@ -144,12 +144,12 @@ turned_back p m table path a b Repeats slot begins h on back =
       covers = repeated.covers p;
       covered = repeated.covered p;
     }
-turned_back p m table path a b TooLong slot begins h on back = absurd back
-turned_back p m table path a b Memory slot begins h on back = back
+turned_back p m entries path a b TooLong slot begins h on back = absurd back
+turned_back p m entries path a b Memory slot begins h on back = back
 
-pub TurnsBack-at : (p : Program) (table : List Stored) (s : State) (e : Refusal) (slot : ℕ) → TurnsBack p table s e slot → ComesBackAt s e slot
-TurnsBack-at p table s (Flow e) slot h = absurd h
-TurnsBack-at p table s (Step e) slot h = absurd h
-TurnsBack-at p table s Repeats slot h = sym h.2
-TurnsBack-at p table s TooLong slot h = absurd h
-TurnsBack-at p table s Memory slot h = tt
+pub TurnsBack-at : (p : Program) (entries : List Stored) (s : State) (e : Refusal) (slot : ℕ) → TurnsBack p entries s e slot → ComesBackAt s e slot
+TurnsBack-at p entries s (Flow e) slot h = absurd h
+TurnsBack-at p entries s (Step e) slot h = absurd h
+TurnsBack-at p entries s Repeats slot h = sym h.2
+TurnsBack-at p entries s TooLong slot h = absurd h
+TurnsBack-at p entries s Memory slot h = tt

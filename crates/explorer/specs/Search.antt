@@ -15,7 +15,7 @@ use Rattle.transfer.specs.Following.{returns_of}
 use Rattle.isa_model.specs.declared.limits.TheConstants.{MAX_EXPLORED}
 use Rattle.walks.specs.declared.refusals.Refusal.{Refusal}
 use Rattle.walks.specs.declared.refusals.Refusal.TheVariants.{Repeats, Memory}
-use Rattle.explorer.specs.declared.table.Stored.{Stored}
+use Rattle.explorer.specs.declared.stored_states.Stored.{Stored}
 use Rattle.explorer.specs.declared.trail.Visit.{Visit}
 use Rattle.explorer.specs.declared.search.Search.{Search}
 use Rattle.explorer.specs.declared.moves.Move.{Move}
@@ -25,17 +25,17 @@ use Rattle.explorer.specs.declared.moves.Turn.TheVariants.{Explore, Done}
 use Rattle.walks.specs.Forgetting.{Forgets}
 use Rattle.walks.specs.Walks.{StepsTo, WalksTo}
 use Rattle.walks.specs.Counts.{HasNumber, Takes}
-use Rattle.explorer.specs.Table.{IsCovered, IsRepeated, StoredAt}
+use Rattle.explorer.specs.StoredStates.{IsCovered, IsRepeated, StoredAt}
 
 -- ---- arriving at a state
 
 abbrev pub stored_too : List Stored → State → List Stored
-stored_too table s = table ++ record { state = s; number = 0 } ∷ []
+stored_too entries s = entries ++ record { state = s; number = 0 } ∷ []
 
--- a state at a join has the number of one that covers it, or is stored; at other slots it is new
+-- a state at a join has the number of one that covers it, or is stored; or it is new, as at other slots
 abbrev pub Arrives : Program → List Stored → State → Move → List Stored → Type 0
 Arrives p old s (Covered k n) new = IsJoin p s.slot × IsCovered old k s n × (new ≡ old)
-Arrives p old s (New None) new = (¬ IsJoin p s.slot) × (new ≡ old)
+Arrives p old s (New None) new = new ≡ old
 Arrives p old s (New (Some k)) new = IsJoin p s.slot × (k ≡ length old) × (new ≡ stored_too old s)
 Arrives p old s (Finished n) new = ⊥
 
@@ -47,9 +47,9 @@ IsArrival (Finished n) = ⊥
 
 -- why a path is turned back at a state, and at which slot
 abbrev pub TurnsBack : Program → List Stored → State → Refusal → ℕ → Type 0
-TurnsBack p table s Repeats slot = IsJoin p s.slot × IsRepeated table s × (slot ≡ s.slot)
-TurnsBack p table s Memory slot = slot ≡ 0
-TurnsBack p table s e slot = ⊥
+TurnsBack p entries s Repeats slot = IsJoin p s.slot × IsRepeated entries s × (slot ≡ s.slot)
+TurnsBack p entries s Memory slot = slot ≡ 0
+TurnsBack p entries s e slot = ⊥
 
 -- ---- what is known of the stored states and of the path
 
@@ -64,7 +64,7 @@ abbrev pub IsFine : Program → ℕ → Stored → Type 0
 IsFine p finished e = 0 < e.number → Settles p e.state e.number × (e.number ≤ finished) × ((steps : ℕ) × WalksTo p steps e.state)
 
 unfoldable pub AllFine : Program → ℕ → List Stored → Type 0
-AllFine p finished table = All (IsFine p finished) table
+AllFine p finished entries = All (IsFine p finished) entries
 
 -- an instruction begins at the state's slot, and at each slot to which the exit of a live frame leads
 pub record IsReady (p : Program) (s : State) : Type 0 where
@@ -98,20 +98,20 @@ unfoldable pub Awaits : Program → Visit → State → State → Type 0
 Awaits p visit s child = (n : ℕ) → HasNumber p child n → AwaitsBoth p visit.pending s (max visit.best n)
 
 -- a visit of a state that waits for another one
-pub record Waiting (p : Program) (finished : ℕ) (table : List Stored) (visit : Visit) (s child : State) : Type 0 where
+pub record Waiting (p : Program) (finished : ℕ) (entries : List Stored) (visit : Visit) (s child : State) : Type 0 where
   pub waits : Waits p visit s child
   pub awaits : Awaits p visit s child
   pub steps : StepsTo p s child
   pub steps_aside : IfStepsTo p s visit.pending
   pub best : visit.best ≤ finished
-  pub stored : StoredAt table visit.stored s
+  pub stored : StoredAt entries visit.stored s
   pub ready : IfReady p visit.pending
 
 -- the path leads from one state to another, with a visit for each instruction
 unfoldable pub Path : Program → ℕ → List Stored → State → List Visit → State → Type 0
-Path p finished table from [] to = to ≡ from
-Path p finished table from (visit ∷ path) to =
-    (child : State) × Waiting p finished table visit from child × Path p finished table child path to
+Path p finished entries from [] to = to ≡ from
+Path p finished entries from (visit ∷ path) to =
+    (child : State) × Waiting p finished entries visit from child × Path p finished entries child path to
 
 -- ---- how many instructions were explored
 
@@ -149,7 +149,7 @@ zeros_from k (suc n ∷ numbers) = zeros_from (suc k) numbers
 
 -- their places, in the order in which they were stored
 abbrev pub unfinished : List Stored → List ℕ
-unfinished table = zeros_from 0 (map (λ e. e.number) table)
+unfinished entries = zeros_from 0 (map (λ e. e.number) entries)
 
 -- the places with one in front of them, or after them, if there is one
 abbrev pub with_first : Option ℕ → List ℕ → List ℕ
@@ -167,29 +167,29 @@ places_of (visit ∷ path) = with_first visit.stored (places_of path)
 
 -- the entries without a number are those of the path and the one after it, in their order, and no others
 unfoldable pub OnPath : List Stored → List Visit → Option ℕ → Type 0
-OnPath table path stored = unfinished table ≡ with_last (places_of path) stored
+OnPath entries path stored = unfinished entries ≡ with_last (places_of path) stored
 
 -- ---- the search
 
 -- the search is at the start, and nothing was explored
 pub record IsNew (search : Search) : Type 0 where
   pub current : search.current ≡ start
-  pub table : search.table.entries.items ≡ []
+  pub stored : search.stored.entries.items ≡ []
   pub path : search.path.items ≡ []
   pub finished : search.finished ≡ 0
 
 -- the search is at this state, to which its path leads from the start
 pub record IsAt (p : Program) (search : Search) (s : State) : Type 0 where
-  pub fine : AllFine p search.finished search.table.entries.items
+  pub fine : AllFine p search.finished search.stored.entries.items
   pub first : State
   pub begins : Forgets p start first
-  pub path : Path p search.finished search.table.entries.items first search.path.items s
+  pub path : Path p search.finished search.stored.entries.items first search.path.items s
 
 -- the search is at a state that ends within this number
 pub record HasEnded (p : Program) (search : Search) (n : ℕ) : Type 0 where
   pub state : State
   pub at : IsAt p search state
-  pub on_path : OnPath search.table.entries.items search.path.items None
+  pub on_path : OnPath search.stored.entries.items search.path.items None
   pub within : Settles p state n
   pub spent : HasSpent p at.first search.path.items (search.finished + length search.path.items)
   pub some : 0 < n
@@ -198,15 +198,15 @@ pub record HasEnded (p : Program) (search : Search) (n : ℕ) : Type 0 where
 -- the search is at its current state, which is stored there
 pub record Explores (p : Program) (search : Search) (stored : Option ℕ) : Type 0 where
   pub at : IsAt p search search.current
-  pub on_path : OnPath search.table.entries.items search.path.items stored
-  pub stored_at : StoredAt search.table.entries.items stored search.current
+  pub on_path : OnPath search.stored.entries.items search.path.items stored
+  pub stored_at : StoredAt search.stored.entries.items stored search.current
   pub spent : CountsTo p at.first search.path.items search.current (search.finished + length search.path.items)
   pub ready : IsReady p search.current
 
 -- the path comes to the current state, of which nothing is known yet
 pub record Comes (p : Program) (search : Search) : Type 0 where
   pub at : IsAt p search search.current
-  pub on_path : OnPath search.table.entries.items search.path.items None
+  pub on_path : OnPath search.stored.entries.items search.path.items None
   pub spent : CountsTo p at.first search.path.items search.current (search.finished + length search.path.items)
   pub ready : IsReady p search.current
 

@@ -7,6 +7,7 @@ ghost use Rattle.walks.specs.Walks.{StepsTo};
 ghost use Rattle.explorer.specs.Explained.{IsLed, Explains};
 ghost use Rattle.explorer.specs.Followed.{HasFollowed};
 
+use crate::kept::Kept;
 use crate::listening::Listener;
 use crate::moves::Halt;
 use crate::search::Search;
@@ -36,6 +37,9 @@ pub struct Explanation {
     pub state: State,
     /// The last jumps on the way there.
     pub way: ArrayVec<Jump, 8>,
+    /// Whether looking up states, or storing them, had come to its limit: from then on states were
+    /// not told apart, and each was explored as a new one.
+    pub is_cut_off: bool,
 }
 
 /// A jump comes after the others.
@@ -93,9 +97,9 @@ impl<'a> Follower<'a> {
         }
     }
 
-    /// What is known at the end of the path, which is at this slot. None: another one was asked
-    /// for.
-    fn into_explanation(self, slot: usize) -> Option<Explanation>
+    /// What is known at the end of the path, which is at this slot, and whether states were not
+    /// told apart any more. None: another one was asked for.
+    fn into_explanation(self, slot: usize, is_cut_off: bool) -> Option<Explanation>
         ensures { IfSome result (λ x. (p : Program) (before : List TheState) (s : TheState)
             → HasFollowed self.entry.image.now self.entry.slots.items self.entry.slot
             self.entry.state p (s ∷ before) s
@@ -116,6 +120,7 @@ impl<'a> Follower<'a> {
         Some(Explanation {
             state: self.state,
             way,
+            is_cut_off,
         })
     }
 }
@@ -139,7 +144,12 @@ impl Listener for Follower<'_> {
         Ok(())
     }
 
-    fn explores(&mut self, _state: &State, _stored: Option<usize>) -> Result<(), AllocError> {
+    fn explores(
+        &mut self,
+        _state: &State,
+        _stored: Option<usize>,
+        _kept: Option<&Kept>,
+    ) -> Result<(), AllocError> {
         Ok(())
     }
 
@@ -188,7 +198,7 @@ pub fn explain(alloc: Global, image: &Image, refusal: Refusal, slot: usize) -> O
     let mut follower = Follower::new(alloc, image, slot);
     match search.explore(alloc, image, &flow, &mut room, &mut follower) {
         Err(Halt::Refused(found, at)) if are_one(found, refusal) && at == slot => {
-            follower.into_explanation(slot)
+            follower.into_explanation(slot, search.stored.is_cut_off())
         }
         _ => None,
     }

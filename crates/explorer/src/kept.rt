@@ -1,175 +1,21 @@
 //! Abstract states in as little room as they need.
 
-ghost use Rattle.std.specs.Prelude.{◌≡◌, ◌≤◌, IfOk, IsTrue, length};
+ghost use Rattle.std.specs.Prelude.{◌≡◌, IfOk, IsTrue};
 ghost use Rattle.state_index.specs.Parts.{AreParts};
 
-use crate::pieces::{Piece, are_whole, may_cover_all, pieces_of, write_all};
-use arrayvec::ArrayVec;
-use reg_state::Kind;
+use crate::kept_frames::{KeptFrame, are_frames, keep_all, restore_all};
+use isa_model::FRAME_SIZE;
 use stack_state::{AbstractFrame, State};
-use state_index::{Fingerprints, Key, Limits, Part, add_limits, take_parts};
+use state_index::{Fingerprints, Key, Limits, Part, take_parts};
 use std::alloc::{AllocError, Global};
 use std::marker::Model;
 use std::rc::Rc;
 
 /// How many places a frame has: its registers and its slots.
-pub const PLACES: usize = 74;
+pub const PLACES: usize = 10 + FRAME_SIZE / 8;
 
-/// A frame that is kept for later: what is known of it, and nothing else.
-///
-/// Contracts see the frame.
-#[derive(Drop)]
-pub struct KeptFrame {
-    return_slot: usize,
-    pieces: Vec<Piece>,
-}
-
-impl Model for KeptFrame {
-    ghost use Rattle.std.specs.Prelude.{◌≡◌};
-    ghost use Rattle.stack_state.specs.declared.states.AbstractFrame.{AbstractFrame};
-    ghost use Rattle.state_index.specs.Parts.{unset_frame, all_written, parts_of};
-    ghost use Rattle.explorer.specs.Pieces.{whole};
-
-    ghost Value = { AbstractFrame };
-
-    ghost view = { λ kept. all_written (unset_frame kept.return_slot) (whole kept.pieces.items) };
-
-    ghost invariant = { λ k. parts_of (all_written (unset_frame k.return_slot)
-        (whole k.pieces.items)) ≡ whole k.pieces.items };
-}
-
-impl KeptFrame {
-    /// Keeps a frame that has these parts, in pieces of which some may be those of another frame.
-    fn with_parts(
-        alloc: Global,
-        frame: &AbstractFrame,
-        parts: &[Part],
-        other: Option<&KeptFrame>,
-    ) -> Result<Self, AllocError>
-        requires { AreParts parts.now frame.now }
-        ensures { IfOk result (λ kept. kept ≡ frame.now) }
-    {
-        let others = match other {
-            Some(other) => other.pieces.as_slice(),
-            None => &[],
-        };
-        let pieces = pieces_of(alloc, parts, others)?;
-        Ok(KeptFrame {
-            return_slot: frame.return_slot,
-            pieces,
-        })
-    }
-
-    /// Whether it is the frame, which has these parts.
-    fn is_frame(&self, frame: &AbstractFrame, parts: &[Part]) -> bool
-        requires { AreParts parts.now frame.now }
-        ensures { IsTrue result → self.now ≡ frame.now }
-    {
-        if self.return_slot != frame.return_slot {
-            return false;
-        }
-        are_whole(self.pieces.as_slice(), parts)
-    }
-
-    /// A quick test whether the frame may be one that this one covers: a no says that it is not.
-    fn may_cover(&self, frame: &AbstractFrame) -> bool
-        ensures { self.now ≡ frame.now → IsTrue result }
-    {
-        let pieces = self.pieces.as_slice();
-        for index in 0..pieces.len() {
-            if !may_cover_all(pieces[index].parts(), frame) {
-                return false;
-            }
-        }
-        true
-    }
-
-    /// Makes the frame like the one that was kept.
-    fn restore(&self, frame: &mut AbstractFrame)
-        ensures { frame.new ≡ self.now }
-    {
-        let pieces = self.pieces.as_slice();
-        frame.return_slot = self.return_slot;
-        frame.registers = [Kind::Unset; 10];
-        frame.stack.clear();
-        for index in 0..pieces.len() {
-            write_all(frame, pieces[index].parts());
-        }
-    }
-
-    /// Puts its parts after others.
-    fn put_parts(&self, parts: &mut Vec<Part>) -> Result<(), AllocError> {
-        for piece in self.pieces.as_slice() {
-            parts.extend_from_slice(piece.parts())?;
-        }
-        Ok(())
-    }
-
-    /// The fingerprints of frames, and of this one after them.
-    fn with_fingerprints(&self, fingerprints: Fingerprints) -> Fingerprints {
-        let mut fingerprints = fingerprints.with_frame(self.return_slot);
-        for piece in self.pieces.as_slice() {
-            fingerprints = fingerprints.with_parts(piece.parts());
-        }
-        fingerprints
-    }
-
-    /// Puts its limits after those of the frames around it.
-    fn put_limits(&self, limits: &mut Vec<Limits>, level: u32) -> Result<(), AllocError> {
-        for piece in self.pieces.as_slice() {
-            add_limits(limits, level, piece.parts())?;
-        }
-        Ok(())
-    }
-
-    /// How many of its parts name an identity.
-    fn named(&self) -> usize {
-        let mut count: usize = 0;
-        for piece in self.pieces.as_slice() {
-            count = count.saturating_add(named_in(piece.parts()));
-        }
-        count
-    }
-}
-
-/// Whether the frames are the ones that were kept. Their parts are taken in the room for them.
-fn are_frames(
-    kept: &[KeptFrame],
-    frames: &[AbstractFrame],
-    room: &mut Vec<Part>,
-) -> Result<bool, AllocError>
-    ensures { IfOk result (λ yes. IsTrue yes → kept.now ≡ frames.now) }
-{
-    if kept.len() != frames.len() {
-        return Ok(false);
-    }
-    for index in 0..frames.len() {
-        take_parts(room, &frames[index])?;
-        if !kept[index].is_frame(&frames[index], room.as_slice()) {
-            return Ok(false);
-        }
-    }
-    Ok(true)
-}
-
-/// Keeps each frame.
-fn keep_all(
-    alloc: Global,
-    frames: &[AbstractFrame],
-    room: &mut Vec<Part>,
-    others: &[KeptFrame],
-) -> Result<Vec<KeptFrame>, AllocError>
-    ensures { IfOk result (λ kept. kept.items ≡ frames.now) }
-{
-    let mut kept = Vec::new(alloc);
-    for index in 0..frames.len() {
-        take_parts(room, &frames[index])?;
-        let parts = room.as_slice();
-        let frame = KeptFrame::with_parts(alloc, &frames[index], parts, others.get(index))?;
-        kept.push(frame)?;
-    }
-    Ok(kept)
-}
+/// How many words a state takes beside its frames.
+const STATE_WORDS: u32 = 16;
 
 /// Keeps the callers of a state: those of another state, where they are the same.
 fn keep_callers(
@@ -195,35 +41,15 @@ fn keep_callers(
     }
 }
 
-/// Makes the frames like the ones that were kept, by way of a frame that is free for it.
-fn restore_all(
-    kept: &[KeptFrame],
-    frames: &mut ArrayVec<AbstractFrame, 7>,
-    free: &mut AbstractFrame,
-)
-    requires { length kept.now ≤ 7 }
-    ensures { frames.new.items ≡ kept.now }
-{
-    frames.clear();
-    for index in 0..kept.len() {
-        kept[index].restore(free);
-        frames.push(*free);
-    }
-}
-
-/// How many of the parts name an identity.
-fn named_in(parts: &[Part]) -> usize {
-    let mut count: usize = 0;
-    for part in parts {
-        let kind = match part {
-            Part::InRegister(_, kind) => *kind,
-            Part::InSlot(_, slot) => slot.kind(),
-        };
-        if kind.packet_identity().is_some() || kind.null_identity().is_some() {
-            count = count.saturating_add(1);
+/// How many words a state takes that no other one shares.
+fn own_words(innermost: &KeptFrame, callers: &Rc<Vec<KeptFrame>>) -> u32 {
+    let mut words = innermost.own_words().saturating_add(STATE_WORDS);
+    if Rc::strong_count(callers) == 1 {
+        for frame in callers.as_ref().as_slice() {
+            words = words.saturating_add(frame.own_words());
         }
     }
-    count
+    words
 }
 
 /// A state that is kept for later: its live frames only.
@@ -234,6 +60,8 @@ pub struct Kept {
     slot: usize,
     callers: Rc<Vec<KeptFrame>>,
     innermost: KeptFrame,
+    /// How many words it took that it did not share when it was kept.
+    words: u32,
 }
 
 impl Model for Kept {
@@ -283,11 +111,18 @@ impl Kept {
         };
         let innermost = KeptFrame::with_parts(alloc, &state.innermost, parts.as_slice(), like)?;
         let callers = keep_callers(alloc, state.callers.as_slice(), parts, other)?;
+        let words = own_words(&innermost, &callers);
         Ok(Kept {
             slot: state.slot,
             callers,
             innermost,
+            words,
         })
+    }
+
+    /// How many words it took that it did not share when it was kept.
+    pub(crate) fn words(&self) -> u32 {
+        self.words
     }
 
     /// Makes the key that of the state.
@@ -347,7 +182,7 @@ impl Kept {
         restore_all(
             self.callers.as_ref().as_slice(),
             &mut state.callers,
-            &mut state.innermost,
+            &state.innermost,
         );
         self.innermost.restore(&mut state.innermost);
     }

@@ -5,20 +5,24 @@
 //! `specs/Search.antt` says what a search knows.
 #![tactic(auto)]
 
+mod blanks;
 pub mod explanations;
 mod kept;
+mod kept_frames;
+pub mod limited;
 mod listening;
 mod listing;
 mod moves;
 mod pieces;
 mod search;
-mod table;
+mod stored_states;
 mod trail;
 pub mod verified;
 
 pub use bounds::Verified;
 pub use explanations::{Explanation, Jump, explain};
 pub use kept::Kept;
+pub use limited::{Stop, verify_within};
 pub use listing::{Entry, Explored, explore};
 pub use verified::verify;
 pub use walks::Refusal;

@@ -6,6 +6,7 @@ ghost use Rattle.stack_state.specs.declared.states.State.{State as TheState};
 ghost use Rattle.explorer.specs.declared.trail.Visit.{Visit as TheVisit};
 ghost use Rattle.explorer.specs.Listening.{ComesTo, IfRefused, IsToTell, IsTold, IsToRefuse, EndsIn};
 
+use crate::kept::Kept;
 use crate::moves::{Halt, Move, Refused};
 use stack_state::State;
 use std::convert::Infallible;
@@ -36,8 +37,13 @@ pub trait Listener {
             → follows self.old p (s ∷ path) last → OnOk result (follows self.new p path last) };
 
     /// The last state of the path, which is this one, is to be explored. At a join it is stored at
-    /// this place.
-    fn explores(&mut self, state: &State, stored: Option<usize>) -> Result<(), Self::Stop>
+    /// this place, and then as the last of all stored states, which is the one that was kept.
+    fn explores(
+        &mut self,
+        state: &State,
+        stored: Option<usize>,
+        kept: Option<&Kept>,
+    ) -> Result<(), Self::Stop>
         ensures { (p : Program) (path : List TheState) (last : TheState)
             → follows self.old p path last → OnOk result (follows self.new p path last) };
 
@@ -57,8 +63,14 @@ pub trait Listener {
             → follows self.old p path last → follows self.new p path last };
 }
 
-/// Tells of a move that leads to this state.
-pub fn tell<L: Listener>(listener: &mut L, state: &State, made: Move) -> Result<(), L::Stop>
+/// Tells of a move that leads to this state, and of the state that was stored last.
+#[inline(always)]
+pub fn tell<L: Listener>(
+    listener: &mut L,
+    state: &State,
+    made: Move,
+    kept: Option<&Kept>,
+) -> Result<(), L::Stop>
     ensures { (p : Program) (path : List TheVisit)
         → IsToTell p (L.follows listener.old p) path state.now made
         → OnOk result (IsTold p (L.follows listener.new p) path state.now made) }
@@ -66,7 +78,7 @@ pub fn tell<L: Listener>(listener: &mut L, state: &State, made: Move) -> Result<
     match made {
         Move::New(stored) => {
             listener.arrives(state)?;
-            listener.explores(state, stored)
+            listener.explores(state, stored, kept)
         }
         Move::Covered(place, number) => {
             listener.arrives(state)?;
@@ -78,6 +90,7 @@ pub fn tell<L: Listener>(listener: &mut L, state: &State, made: Move) -> Result<
 
 /// Why a search stops with a refusal at this state: it is told first of a state to which the path
 /// comes back.
+#[inline(always)]
 pub fn halt<L: Listener>(listener: &mut L, state: &State, refused: Refused) -> Halt<L::Stop>
     ensures same { IfRefused result (λ e slot. (e ≡ refused.0) × (slot ≡ refused.1)) }
     ensures ends { (p : Program)
@@ -102,25 +115,36 @@ impl Listener for Nobody {
 
     ghost follows = { λ _ _ _ _. Unit {0} };
 
+    #[inline(always)]
     fn arrives(&mut self, _state: &State) -> Result<(), Infallible> {
         Ok(())
     }
 
+    #[inline(always)]
     fn covered(&mut self, _place: usize, _number: u32) -> Result<(), Infallible> {
         Ok(())
     }
 
-    fn explores(&mut self, _state: &State, _stored: Option<usize>) -> Result<(), Infallible> {
+    #[inline(always)]
+    fn explores(
+        &mut self,
+        _state: &State,
+        _stored: Option<usize>,
+        _kept: Option<&Kept>,
+    ) -> Result<(), Infallible> {
         Ok(())
     }
 
+    #[inline(always)]
     fn stepped(&mut self, _ways: Ways) -> Result<(), Infallible> {
         Ok(())
     }
 
+    #[inline(always)]
     fn finished(&mut self, _number: u32) -> Result<(), Infallible> {
         Ok(())
     }
 
+    #[inline(always)]
     fn refused(&mut self, _refusal: Refusal, _slot: usize) {}
 }

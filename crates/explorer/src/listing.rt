@@ -4,10 +4,12 @@ ghost use Rattle.std.specs.Prelude.{◌≡◌, IfErr, length, slice_get};
 ghost use Rattle.std.specs.Option.{option_copied};
 ghost use Rattle.walks.specs.Refused.{IsRefused};
 
+use crate::blanks::clear_frame;
 use crate::kept::Kept;
 use crate::listening::Listener;
 use crate::moves::Halt;
 use crate::search::Search;
+use crate::stored_states::Stored;
 use arrayvec::ArrayVec;
 use control_flow::Flow;
 use image::Image;
@@ -15,6 +17,7 @@ use stack_state::State;
 use state_index::Part;
 use std::alloc::{AllocError, Global};
 use std::marker::Model;
+use std::mem;
 use transfer::Ways;
 use walks::Refusal;
 
@@ -75,16 +78,24 @@ struct Lister {
     path: Vec<u32>,
     /// For the parts of a frame.
     room: Vec<Part>,
+    /// A state of which nothing is known. It stands in the entries of stored states, which get
+    /// those states in the end.
+    blank: State,
+    kept_blank: Option<Kept>,
 }
 
 impl Lister {
     fn new(alloc: Global) -> Self {
+        let mut blank = State::start();
+        clear_frame(&mut blank.innermost);
         Lister {
             alloc,
             entries: Vec::new(alloc),
             stored: Vec::new(alloc),
             path: Vec::new(alloc),
             room: Vec::new(alloc),
+            blank,
+            kept_blank: None,
         }
     }
 
@@ -103,13 +114,51 @@ impl Lister {
         }
     }
 
-    /// A state is to be explored.
-    fn add(&mut self, state: &State, stored: Option<usize>) -> Result<(), AllocError> {
+    /// Keeps a state of which nothing is known, in as little room as there is for it.
+    fn keep_blank(&mut self) -> Result<Kept, AllocError> {
+        let like = self.kept_blank.as_ref();
+        let blank = Kept::of(self.alloc, &self.blank, &mut self.room, like)?;
+        if self.kept_blank.is_some() {
+            return Ok(blank);
+        }
+        self.kept_blank = Some(blank);
+        Kept::of(
+            self.alloc,
+            &self.blank,
+            &mut self.room,
+            self.kept_blank.as_ref(),
+        )
+    }
+
+    /// The entries of stored states get those states, which are not needed any more where they
+    /// are stored.
+    fn take_stored(&mut self, states: &mut [Stored]) {
+        for place in 0..states.len() {
+            let Some(entry) = self.stored.get(place).copied() else {
+                return;
+            };
+            if let Some(entry) = self.entries.get_mut(entry as usize) {
+                mem::swap(&mut entry.state, &mut states[place].state);
+            }
+        }
+    }
+
+    /// A state is to be explored. One that is stored is kept there, and another one shares what it
+    /// can with the state that was stored last.
+    fn add(
+        &mut self,
+        state: &State,
+        stored: Option<usize>,
+        kept: Option<&Kept>,
+    ) -> Result<(), AllocError> {
         let Ok(place) = u32::try_from(self.entries.len()) else {
             return Err(AllocError);
         };
         self.lead_to(place);
-        let state = Kept::of(self.alloc, state, &mut self.room, None)?;
+        let state = match stored {
+            Some(_) => self.keep_blank()?,
+            None => Kept::of(self.alloc, state, &mut self.room, kept)?,
+        };
         self.entries.push(Entry {
             number: 0,
             state,
@@ -139,8 +188,13 @@ impl Listener for Lister {
         Ok(())
     }
 
-    fn explores(&mut self, state: &State, stored: Option<usize>) -> Result<(), AllocError> {
-        self.add(state, stored)
+    fn explores(
+        &mut self,
+        state: &State,
+        stored: Option<usize>,
+        kept: Option<&Kept>,
+    ) -> Result<(), AllocError> {
+        self.add(state, stored, kept)
     }
 
     fn stepped(&mut self, _ways: Ways) -> Result<(), AllocError> {
@@ -176,9 +230,12 @@ pub fn explore(alloc: Global, image: &Image) -> Result<Explored, (Refusal, usize
     let mut room = Vec::new(alloc);
     let mut lister = Lister::new(alloc);
     match search.explore(alloc, image, &flow, &mut room, &mut lister) {
-        Ok(_) => Ok(Explored {
-            entries: lister.entries,
-        }),
+        Ok(_) => {
+            lister.take_stored(search.stored.entries.as_mut_slice());
+            Ok(Explored {
+                entries: lister.entries,
+            })
+        }
         Err(Halt::Refused(refusal, slot)) => Err((refusal, slot)),
         Err(Halt::Stopped(_)) => Err((Refusal::Memory, 0)),
     }

@@ -11,13 +11,23 @@ use std::alloc::{AllocError, Global};
 use std::marker::Model;
 use std::rc::Rc;
 
-/// How many parts stand in one piece, if these are all.
-const FEW: usize = 4;
+/// How many parts of a frame are not put into pieces, if these are all.
+pub const FEW: usize = 4;
 
 /// How many registers may stand in one piece, and how many slots.
 const REGISTERS: u8 = 3;
 
 const SLOTS: u8 = 8;
+
+/// How many words of 8 bytes a part takes, and a piece beside its parts.
+const PART_WORDS: usize = 10;
+
+const PIECE_WORDS: usize = 9;
+
+/// How many words parts take.
+pub fn words_of(parts: &[Part]) -> usize {
+    parts.len().saturating_mul(PART_WORDS)
+}
 
 /// Parts that stand beside one another in a frame. States that know the same there share them.
 ///
@@ -54,6 +64,14 @@ impl Piece {
     {
         let parts = self.parts.clone()?;
         Ok(Piece { parts })
+    }
+
+    /// How many words it takes in a state that has it, as long as no other one shares it.
+    pub fn own_words(&self) -> usize {
+        match Rc::strong_count(&self.parts) {
+            1 => PIECE_WORDS.saturating_add(words_of(self.parts())),
+            _ => 1,
+        }
     }
 
     /// Its parts.
@@ -100,13 +118,10 @@ fn piece_of(alloc: Global, parts: &[Part], others: &[Piece]) -> Result<Piece, Al
     Piece::of(alloc, parts)
 }
 
-/// The first piece of parts, and those after it. Few parts are one piece.
-fn split_first(parts: &[Part], are_few: bool) -> (&[Part], &[Part])
+/// The first piece of parts, and those after it.
+fn split_first(parts: &[Part]) -> (&[Part], &[Part])
     ensures { parts.now ≡ result.0.now ++ result.1.now }
 {
-    if are_few {
-        return (parts, &[]);
-    }
     match parts.split_at_checked(first_piece(parts)) {
         Some(halves) => halves,
         None => (parts, &[]),
@@ -127,14 +142,30 @@ fn push_piece(
     Ok(())
 }
 
+/// The parts beside pieces, if they are not more than that, and else the pieces, of which some
+/// may be those of another state.
+pub fn split(
+    alloc: Global,
+    parts: &[Part],
+    others: &[Piece],
+    few: usize,
+) -> Result<(Vec<Part>, Vec<Piece>), AllocError>
+    ensures { IfOk result (λ r. r.0.items ++ whole r.1.items ≡ parts.now) }
+{
+    if parts.len() <= few {
+        return Ok((Vec::from_slice(alloc, parts)?, Vec::new(alloc)));
+    }
+    Ok((Vec::new(alloc), pieces_of(alloc, parts, others)?))
+}
+
 /// The parts in pieces, of which some may be those of another state.
-pub fn pieces_of(alloc: Global, parts: &[Part], others: &[Piece]) -> Result<Vec<Piece>, AllocError>
+fn pieces_of(alloc: Global, parts: &[Part], others: &[Piece]) -> Result<Vec<Piece>, AllocError>
     ensures { IfOk result (λ pieces. whole pieces.items ≡ parts.now) }
 {
     let mut pieces = Vec::new(alloc);
     let mut rest = parts;
     for _piece in 0..parts.len() {
-        let (first, more) = split_first(rest, parts.len() <= FEW);
+        let (first, more) = split_first(rest);
         push_piece(alloc, &mut pieces, first, others)?;
         rest = more;
         if rest.is_empty() {
@@ -146,7 +177,7 @@ pub fn pieces_of(alloc: Global, parts: &[Part], others: &[Piece]) -> Result<Vec<
 }
 
 /// Whether these are all parts of the pieces.
-pub fn are_whole(pieces: &[Piece], parts: &[Part]) -> bool
+fn are_whole(pieces: &[Piece], parts: &[Part]) -> bool
     ensures { IsTrue result → whole pieces.now ≡ parts.now }
 {
     let mut rest = parts;
@@ -163,6 +194,16 @@ pub fn are_whole(pieces: &[Piece], parts: &[Part]) -> bool
         }
     }
     rest.is_empty()
+}
+
+/// Whether these are all parts: some, and then those of the pieces.
+pub fn are_split(few: &[Part], pieces: &[Piece], parts: &[Part]) -> bool
+    ensures { IsTrue result → few.now ++ whole pieces.now ≡ parts.now }
+{
+    match parts.split_at_checked(few.len()) {
+        Some((first, rest)) => are_same(few, first) && are_whole(pieces, rest),
+        None => false,
+    }
 }
 
 /// Writes parts where they belong.

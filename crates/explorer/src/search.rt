@@ -1,13 +1,13 @@
 //! The search through abstract states, depth first.
 
-ghost use Rattle.std.specs.Prelude.{◌≡◌, ◌≢◌, ◌≤◌, ◌+◌, ◌<◌, [], length, IfOk, IfErr, IfSome, OnOk, OnErr};
+ghost use Rattle.std.specs.Prelude.{◌≡◌, ◌≢◌, ◌≤◌, ◌+◌, ◌<◌, ◌⊎◌, [], None, length, IsTrue, IfOk, IfErr, IfSome, OnOk, OnErr};
 ghost use Rattle.stack_state.specs.Starts.{start};
 ghost use Rattle.stack_state.specs.Meaning.{Within};
 ghost use Rattle.stack_state.specs.declared.states.State.{State as TheState};
 ghost use Rattle.state_index.specs.Rooms.{HasRoom};
 ghost use Rattle.walks.specs.Counts.{HasNumber};
 ghost use Rattle.image.specs.Images.{IsImage};
-ghost use Rattle.control_flow.specs.Flows.{IsFlow};
+ghost use Rattle.control_flow.specs.Flows.{IsFlow, IsJoin};
 ghost use Rattle.walks.specs.Refused.{StopsAt};
 ghost use Rattle.explorer.specs.Search.{Arrives, IsArrival, TurnsBack, IsNew, Comes, HasEnded, Moves, MovesOrEnds, Goes, IsFull};
 ghost use Rattle.explorer.specs.Listening.{Begins, BeginFails, Steps, StepFails, ComesBackAt, IfReturns, ReturnFails, IfRefused, IsToTell, FollowsTo, FollowsTurn, EndsIn};
@@ -15,7 +15,7 @@ ghost use Rattle.explorer.specs.Listening.{Begins, BeginFails, Steps, StepFails,
 use crate::kept::Kept;
 use crate::listening::{Listener, halt, tell};
 use crate::moves::{Halt, Move, NO_MEMORY, Refused, Turn};
-use crate::table::Table;
+use crate::stored_states::StoredStates;
 use crate::trail::{Trail, Visit};
 use control_flow::Flow;
 use image::Image;
@@ -29,7 +29,7 @@ use walks::{Refusal, forget_dead};
 /// A search: the path from the start to the current state, and the states that were stored.
 #[derive(Drop)]
 pub struct Search {
-    pub table: Table,
+    pub stored: StoredStates,
     pub path: Trail,
     /// How many instructions have their number.
     pub finished: u32,
@@ -42,30 +42,35 @@ pub struct Search {
 fn arrive(
     alloc: Global,
     flow: &Flow<'_>,
-    table: &mut Table,
+    stored: &mut StoredStates,
     state: &State,
     kept: Option<Kept>,
     scratch: &mut State,
 ) -> Result<Move, Refused>
     requires { IfSome kept (λ s. s ≡ state.now) }
-    ensures arrives { IfOk result (λ made. Arrives flow.now table.old.entries.items
-        state.now made table.new.entries.items) }
-    ensures refused { IfErr result (λ r. TurnsBack flow.now table.old.entries.items
+    ensures arrives { IfOk result (λ made. Arrives flow.now stored.old.entries.items
+        state.now made stored.new.entries.items) }
+    ensures limits { IfOk result (λ made. made ≡ Move.New None → IsJoin flow.now state.now.slot
+        → IsTrue stored.new.is_over ⊎ IsTrue stored.new.is_full) }
+    ensures refused { IfErr result (λ r. TurnsBack flow.now stored.old.entries.items
         state.now r.0 r.1) }
 {
-    if !flow.is_join(state.slot) {
+    if !flow.is_join(state.slot) || stored.is_over {
         return Ok(Move::New(None));
     }
-    let Ok(()) = table.turn_to(alloc, state, &kept) else {
+    let Ok(()) = stored.turn_to(alloc, state, &kept) else {
         return Err(NO_MEMORY);
     };
-    if let Some((place, number)) = table.cover_of(state, scratch) {
+    if let Some((place, number)) = stored.cover_of(state, scratch) {
         return Ok(Move::Covered(place, number));
     }
-    if table.repeats(state, scratch) {
+    if stored.repeats(state, scratch) {
         return Err((Refusal::Repeats, state.slot));
     }
-    match table.store(alloc, state, kept) {
+    if stored.is_full {
+        return Ok(Move::New(None));
+    }
+    match stored.store(alloc, state, kept) {
         Ok(place) => Ok(Move::New(Some(place))),
         Err(_) => Err(NO_MEMORY),
     }
@@ -75,11 +80,11 @@ impl Search {
     /// A search at the start of code with that many slots.
     pub fn new(alloc: Global, slots: usize) -> Result<Self, AllocError>
         ensures new { IfOk result (λ search. IsNew search) }
-        ensures room { IfOk result (λ search. HasRoom search.table.index slots) }
+        ensures room { IfOk result (λ search. HasRoom search.stored.index slots) }
     {
-        let table = Table::new(alloc, slots)?;
+        let stored = StoredStates::new(alloc, slots)?;
         Ok(Search {
-            table,
+            stored,
             path: Trail::new(alloc),
             finished: 0,
             current: State::start(),
@@ -88,6 +93,7 @@ impl Search {
     }
 
     /// The path comes to the current state, which may have been kept already.
+    #[inline(always)]
     fn come(&mut self, alloc: Global, flow: &Flow<'_>, kept: Option<Kept>) -> Result<Move, Refused>
         requires comes { Comes flow.now self.old }
         requires kept { IfSome kept (λ s. s ≡ self.old.current) }
@@ -102,7 +108,7 @@ impl Search {
         arrive(
             alloc,
             flow,
-            &mut self.table,
+            &mut self.stored,
             &self.current,
             kept,
             &mut self.scratch,
@@ -126,6 +132,7 @@ impl Search {
 
     /// Explores the instruction at the current state, which is stored there. What is dead where it
     /// leads is forgotten, and what is then pending is kept by way of the room for its parts.
+    #[inline(always)]
     fn step(
         &mut self,
         alloc: Global,
@@ -155,13 +162,13 @@ impl Search {
         let pending = match ways {
             Ways::None => {
                 self.finished += 1;
-                self.table.finish(stored, 1);
+                self.stored.finish(stored, 1);
                 return Ok((ways, Move::Finished(1)));
             }
             Ways::One => None,
             Ways::Two => {
                 forget_dead(flow, &mut self.scratch);
-                match Kept::of(alloc, &self.scratch, room, self.table.last()) {
+                match Kept::of(alloc, &self.scratch, room, self.stored.last()) {
                     Ok(other) => Some(other),
                     Err(_) => return Err(NO_MEMORY),
                 }
@@ -182,6 +189,7 @@ impl Search {
 
     /// The path has come to a state with this number: its last visit ends, or goes on with what
     /// was pending. None: there is no visit, and this is the number of the start.
+    #[inline(always)]
     fn back(&mut self, alloc: Global, flow: &Flow<'_>, ended: u32) -> Result<Option<Move>, Refused>
         requires at { HasEnded flow.now self.old ended }
         requires room { self.old.finished + length self.old.path.items ≤ MAX_EXPLORED }
@@ -206,7 +214,7 @@ impl Search {
         let Some(other) = pending else {
             let number = best + 1;
             self.finished += 1;
-            self.table.finish(stored, number);
+            self.stored.finish(stored, number);
             return Ok(Some(Move::Finished(number)));
         };
         other.restore(&mut self.current);
@@ -223,6 +231,7 @@ impl Search {
     }
 
     /// Tells of a move, and goes back along the path to what comes next.
+    #[inline(always)]
     fn settle<L: Listener>(
         &mut self,
         alloc: Global,
@@ -246,7 +255,7 @@ impl Search {
     {
         let mut made = first;
         'moves: loop {
-            if let Err(stop) = tell(listener, &self.current, made) {
+            if let Err(stop) = tell(listener, &self.current, made, self.stored.last()) {
                 return Err(Halt::Stopped(stop));
             }
             let ended = match made {
@@ -262,6 +271,7 @@ impl Search {
     }
 
     /// Explores the instruction at the current state, and goes on to what comes next.
+    #[inline(always)]
     fn advance<L: Listener>(
         &mut self,
         alloc: Global,

@@ -7,6 +7,11 @@ use crate::kept::Kept;
 use std::alloc::{AllocError, Global};
 use std::marker::Model;
 
+/// How many words of 8 bytes the pending states of a path may take, of what they do not share with
+/// others. A path that takes more is out of memory, however much the machine has, so that every
+/// machine gives the same answer.
+const MOST_WORDS: u64 = 18_000_000;
+
 /// An instruction on the path, and what is still to be explored after it.
 #[derive(Drop)]
 pub struct Visit {
@@ -35,6 +40,8 @@ struct Step {
 pub struct Trail {
     steps: Vec<Step>,
     pending: Vec<Kept>,
+    /// How many words the pending states take.
+    words: u64,
 }
 
 impl Model for Trail {
@@ -49,6 +56,7 @@ impl Model for Trail {
 }
 
 /// The place in half the room, if it has room there.
+#[inline(always)]
 fn narrowed(stored: Option<usize>) -> Result<Option<u32>, AllocError>
     ensures { IfOk result (λ narrow. narrow ≡ stored) }
 {
@@ -61,6 +69,7 @@ fn narrowed(stored: Option<usize>) -> Result<Option<u32>, AllocError>
     }
 }
 
+#[inline(always)]
 fn widened(stored: Option<u32>) -> Option<usize>
     ensures { result ≡ stored }
 {
@@ -70,22 +79,40 @@ fn widened(stored: Option<u32>) -> Option<usize>
     }
 }
 
-fn put_pending(pending: &mut Vec<Kept>, state: Option<Kept>) -> Result<(), AllocError>
+#[inline(always)]
+fn put_pending(
+    pending: &mut Vec<Kept>,
+    words: &mut u64,
+    state: Option<Kept>,
+) -> Result<(), AllocError>
     ensures items { OnOk result (pending.new.items ≡ pending.old.items ++ option_to_list state) }
     ensures err { OnErr result (pending.new.items ≡ pending.old.items) }
 {
     if let Some(state) = state {
+        let more = words.saturating_add(u64::from(state.words()));
+        if more > MOST_WORDS {
+            return Err(AllocError);
+        }
         pending.push(state)?;
+        *words = more;
     }
     Ok(())
 }
 
-fn take_pending(pending: &mut Vec<Kept>, waits: bool) -> Option<Kept>
+#[inline(always)]
+fn take_pending(pending: &mut Vec<Kept>, words: &mut u64, waits: bool) -> Option<Kept>
     requires { one_if waits ≤ length pending.old.items }
     ensures items { pending.old.items ≡ pending.new.items ++ option_to_list result }
     ensures waits { waits ≡ is_some result }
 {
-    if waits { pending.pop() } else { None }
+    if !waits {
+        return None;
+    }
+    let state = pending.pop();
+    if let Some(state) = &state {
+        *words = words.saturating_sub(u64::from(state.words()));
+    }
+    state
 }
 
 impl Trail {
@@ -97,10 +124,12 @@ impl Trail {
         Trail {
             steps: Vec::new(alloc),
             pending: Vec::new(alloc),
+            words: 0,
         }
     }
 
     /// Puts a visit after the others.
+    #[inline(always)]
     pub fn push(&mut self, visit: Visit) -> Result<(), AllocError>
         ensures items { OnOk result (self.new.items ≡ self.old.items ++ visit ∷ []) }
         ensures len { OnOk result (length self.new.items ≡ length self.old.items + 1) }
@@ -112,20 +141,21 @@ impl Trail {
         } = visit;
         let stored = narrowed(stored)?;
         let waits = pending.is_some();
-        put_pending(&mut self.pending, pending)?;
+        put_pending(&mut self.pending, &mut self.words, pending)?;
         let step = Step {
             best,
             stored,
             waits,
         };
         let Ok(()) = self.steps.push(step) else {
-            let _state = take_pending(&mut self.pending, waits);
+            let _state = take_pending(&mut self.pending, &mut self.words, waits);
             return Err(AllocError);
         };
         Ok(())
     }
 
     /// Takes the last visit.
+    #[inline(always)]
     pub fn pop(&mut self) -> Option<Visit>
         ensures items { self.old.items ≡ self.new.items ++ option_to_list result }
         ensures cases { MatchOption result
@@ -135,7 +165,7 @@ impl Trail {
         let Some(step) = self.steps.pop() else {
             return None;
         };
-        let pending = take_pending(&mut self.pending, step.waits);
+        let pending = take_pending(&mut self.pending, &mut self.words, step.waits);
         Some(Visit {
             pending,
             best: step.best,

@@ -9,20 +9,20 @@ use Rattle.explorer.proofs.Steps.{step_back, comes_aside}
 use Rattle.explorer.proofs.search.Search.back.Goals as goal
 use Rattle.explorer.proofs.search.Search.back.Goals.{In-Some}
 
-last_of : (c : In-Some) → Last c.args.flow.now c.args.self.now.finished c.args.self.now.table.entries.items c.requires.at.at.first c.pop.new.self.items c.in-Some.visit c.requires.at.state
+last_of : (c : In-Some) → Last c.args.flow.now c.args.self.now.finished c.args.self.now.stored.entries.items c.requires.at.at.first c.pop.new.self.items c.in-Some.visit c.requires.at.state
 last_of c =
     let p = c.args.flow.now in
     let search = c.args.self.now in
     let at = c.requires.at in
-    Path-pop p search.finished search.table.entries.items c.pop.new.self.items c.in-Some.visit at.at.first at.state
-    (subst (λ (x : List Visit). Path p search.finished search.table.entries.items at.at.first x at.state) c.in-Some.ensures.items at.at.path)
+    Path-pop p search.finished search.stored.entries.items c.pop.new.self.items c.in-Some.visit at.at.first at.state
+    (subst (λ (x : List Visit). Path p search.finished search.stored.entries.items at.at.first x at.state) c.in-Some.ensures.items at.at.path)
 
 pub returns-in_default-clause-moves : goal.returns-in_default-clause-moves
 returns-in_default-clause-moves c =
     let p = c.args.flow.now in
     let search = c.args.self.now in
     let at = c.requires.at in
-    let same = Path-none p search.finished search.table.entries.items search.path.items at.at.first at.state (omega (arith, c.in_default.ensures.cases.0)) at.at.path in
+    let same = Path-none p search.finished search.stored.entries.items search.path.items at.at.first at.state (omega (arith, c.in_default.ensures.cases.0)) at.at.path in
     let settled = subst (λ x. Settles p x c.args.ended) same at.within in
     (Settles-start p at.at.first c.args.ended at.at.begins settled, at.some, at.most)
 
@@ -40,13 +40,13 @@ pub returns-in_default-pending-clause-moves : goal.returns-in_default-pending-cl
 returns-in_default-pending-clause-moves c =
     let p = c.args.flow.now in
     let search = c.args.self.now in
-    let table = search.table.entries.items in
+    let entries = search.stored.entries.items in
     let path = c.pop.new.self.items in
     let visit = c.in-Some.visit in
     let at = c.requires.at in
     let last = last_of (goal.at.returns-in_default-pending-clause-moves c).In-Some in
-    let on_path = OnPath-pop table path search.path.items visit c.in-Some.ensures.items at.on_path in
-    let back = step_back p search.finished table c.finish.new.self.entries.items at.at.first path visit at.state c.args.ended c.max-best.result
+    let on_path = OnPath-pop entries path search.path.items visit c.in-Some.ensures.items at.on_path in
+    let back = step_back p search.finished entries c.finish.new.self.entries.items at.at.first path visit at.state c.args.ended c.max-best.result
     at.at.begins at.at.fine last on_path at.within at.most c.in_default-pending.is c.max-best.ensures c.finish.ensures in
     let same : search.finished + length search.path.items ≡ search.finished + 1 + length path = omega (arith, c.in-Some.ensures.cases) in
     record {

@@ -11,14 +11,14 @@ pub come-requires-clause-comes : goal.come-requires-clause-comes
 come-requires-clause-comes c =
     let p = c.args.flow.now in
     let search = c.args.self.now in
-    let table = search.table.entries.items in
+    let entries = search.stored.entries.items in
     let path = search.path.items in
     let s = c.forget_dead.new.state in
     let new = c.requires.new in
     let begins = subst (λ x. Forgets p x s) new.current c.forget_dead.ensures in
     record {
-      at = record { fine = empty_fine p search.finished table new.table; first = s; begins = begins; path = Path-here p search.finished table path s s new.path refl };
-      on_path = OnPath-start table path new.table new.path;
+      at = record { fine = empty_fine p search.finished entries new.stored; first = s; begins = begins; path = Path-here p search.finished entries path s s new.path refl };
+      on_path = OnPath-start entries path new.stored new.path;
       spent = CountsTo-here p path s s (search.finished + length path) new.path refl (omega (arith, new.finished, ap (λ (x : List Visit). length x) new.path));
       ready = starts_ready p p s refl c.requires.whole begins;
     }

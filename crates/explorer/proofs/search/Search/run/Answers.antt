@@ -12,7 +12,7 @@ returns-in-Explore-turn-clause-stops g c =
       record {
         state = search.current;
         steps = length search.path.items;
-        walk = Path-walks p search.finished search.table.entries.items search.path.items goes.at.first search.current goes.at.begins goes.at.path;
+        walk = Path-walks p search.finished search.stored.entries.items search.path.items goes.at.first search.current goes.at.begins goes.at.path;
         slot_is = refl;
         begins = goes.ready.begins;
       },

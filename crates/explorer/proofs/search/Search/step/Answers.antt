@@ -28,7 +28,7 @@ returns-in-Err-clause-stops c =
     record {
       state = s;
       steps = length c.args.self.now.path.items;
-      walk = Path-walks p c.args.self.now.finished c.args.self.now.table.entries.items c.args.self.now.path.items at.at.first s at.at.begins at.at.path;
+      walk = Path-walks p c.args.self.now.finished c.args.self.now.stored.entries.items c.args.self.now.path.items at.at.first s at.at.begins at.at.path;
       slot_is = refl;
       begins = at.ready.begins;
       insn = i;
@@ -49,7 +49,7 @@ returns-in-None-clause-moves c =
     let total = search.finished + length search.path.items in
     let (i, here) = fetched p s at.ready in
     let into = into_by p q s a b a b c.in-Ok.ways ways.None c.requires.image c.in-Ok.ensures.steps i here c.in-None.is tt in
-    let back = step_ends p q search.finished search.table.entries.items c.finish.new.self.entries.items at.at.first search.path.items c.args.stored s a b c.in-Ok.ways
+    let back = step_ends p q search.finished search.stored.entries.items c.finish.new.self.entries.items at.at.first search.path.items c.args.stored s a b c.in-Ok.ways
     at.at.begins c.requires.image at.at.fine at.at.path at.stored_at at.on_path c.in-Ok.ensures.leads into c.in-None.is c.finish.ensures in
     record {
       state = back.state;
@@ -63,12 +63,12 @@ returns-in-None-clause-moves c =
 
 -- ---- where the step goes on
 
-entered_of : (c : After-push) → Entered c.args.flow.now c.args.self.now.finished c.args.self.now.table.entries.items (record { pending = c.match-ways.pending; best = 0; stored = c.args.stored }) c.args.self.now.current c.forget_dead-2.new.state
+entered_of : (c : After-push) → Entered c.args.flow.now c.args.self.now.finished c.args.self.now.stored.entries.items (record { pending = c.match-ways.pending; best = 0; stored = c.args.stored }) c.args.self.now.current c.forget_dead-2.new.state
 entered_of c =
     let p = c.args.flow.now in
     let q = c.args.image.now in
     let m = c.args.self.now.finished in
-    let table = c.args.self.now.table.entries.items in
+    let entries = c.args.self.now.stored.entries.items in
     let s = c.args.self.now.current in
     let a = c.step_in_place.new.state in
     let b = c.step_in_place.new.other in
@@ -78,12 +78,12 @@ entered_of c =
     elim c.match-ways.branch [
       | in-One w ↦
           let forgets : Forgets p a first = subst (λ (x : Search). Forgets p x.current first) w.self-is c.forget_dead-2.ensures in
-          one_way p q m table c.args.stored s a b first c.in-Ok.ways pending
+          one_way p q m entries c.args.stored s a b first c.in-Ok.ways pending
           c.requires.image c.requires.good at.ready at.stored_at c.in-Ok.ensures.leads c.in-Ok.ensures.steps c.in-Ok.ensures.follows forgets w.in-One.is w.pending-is
       | in-Two+in-Ok-of w ↦
           let other = w.forget_dead.new.state in
           let forgets : Forgets p a first = subst (λ (x : Search). Forgets p x.current first) w.self-is c.forget_dead-2.ensures in
-          two_ways p q m table c.args.stored s a b first other c.in-Ok.ways pending
+          two_ways p q m entries c.args.stored s a b first other c.in-Ok.ways pending
           c.requires.image c.requires.good at.ready at.stored_at c.in-Ok.ensures.leads c.in-Ok.ensures.steps c.in-Ok.ensures.follows forgets w.forget_dead.ensures w.in-Two.is (w.pending-is ∙ ap Some w.in-Ok-of.ensures)
     ]
 

@@ -1,0 +1,6 @@
+use Rattle.std.specs.Prelude.{IfSome}
+use Rattle.explorer.specs.StoredStates.{IsCovered}
+use Rattle.explorer.proofs.stored_states.StoredStates.first_covering.Given as goal
+
+abbrev pub invariant-loop-shape : goal.invariant-loop-shape
+invariant-loop-shape l = IfSome l.first (λ f. IsCovered l.self.entries.items f.0 l.state f.1)

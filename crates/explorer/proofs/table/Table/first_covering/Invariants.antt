@@ -1,6 +1,0 @@
-use Rattle.std.specs.Prelude.{IfSome}
-use Rattle.explorer.specs.Table.{IsCovered}
-use Rattle.explorer.proofs.table.Table.first_covering.Given as goal
-
-abbrev pub invariant-loop-shape : goal.invariant-loop-shape
-invariant-loop-shape l = IfSome l.first (λ f. IsCovered l.self.entries.items f.0 l.state f.1)

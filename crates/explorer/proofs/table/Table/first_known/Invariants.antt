@@ -1,6 +1,0 @@
-use Rattle.std.specs.Prelude.{IfSome}
-use Rattle.explorer.specs.Table.{IsCovered}
-use Rattle.explorer.proofs.table.Table.first_known.Given as goal
-
-abbrev pub invariant-loop-scanned : goal.invariant-loop-scanned
-invariant-loop-scanned l = IfSome l.found (λ f. IsCovered l.self.entries.items f.0 l.state f.1)

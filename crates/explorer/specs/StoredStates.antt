@@ -1,0 +1,38 @@
+-- The states that are stored at joins.
+use Rattle.std.specs.Prelude.{◌≡◌, ℕ, ◌<◌, List, Option, Some, None, slice_get, slice_set}
+use Rattle.isa_model.specs.Code.Instructions.{Program}
+use Rattle.stack_state.specs.declared.states.State.{State}
+use Rattle.stack_state.specs.Meaning.{Covers}
+use Rattle.explorer.specs.declared.stored_states.Stored.{Stored}
+
+-- the entry at this place is the state, with this number
+abbrev pub IsStored : List Stored → ℕ → State → ℕ → Type 0
+IsStored entries index s n = slice_get entries index ≡ Some (record { state = s; number = n })
+
+-- the entry at this place is finished, has this number, and covers the state
+pub record IsCovered (entries : List Stored) (index : ℕ) (s : State) (n : ℕ) : Type 0 where
+  pub entry : State
+  pub stored : slice_get entries index ≡ Some (record { state = entry; number = n })
+  pub finished : 0 < n
+  pub same_slot : entry.slot ≡ s.slot
+  pub covers : (p : Program) → Covers p entry s
+
+-- an unfinished entry and the state cover one another
+pub record IsRepeated (entries : List Stored) (s : State) : Type 0 where
+  pub index : ℕ
+  pub entry : State
+  pub stored : slice_get entries index ≡ Some (record { state = entry; number = 0 })
+  pub same_slot : entry.slot ≡ s.slot
+  pub covers : (p : Program) → Covers p entry s
+  pub covered : (p : Program) → Covers p s entry
+
+-- where a state is stored, if it is
+abbrev pub StoredAt : List Stored → Option ℕ → State → Type 0
+StoredAt entries None s = Unit {0}
+StoredAt entries (Some k) s = (n : ℕ) × (slice_get entries k ≡ Some (record { state = s; number = n }))
+
+-- the entry that was stored, if there is one, has the number, and the other entries are as they were
+abbrev pub IsNumbered : List Stored → Option ℕ → ℕ → List Stored → Type 0
+IsNumbered old None n new = new ≡ old
+IsNumbered old (Some k) n new =
+    (s : State) → StoredAt old (Some k) s → new ≡ slice_set old k (record { state = s; number = n })

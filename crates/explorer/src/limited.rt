@@ -1,0 +1,133 @@
+//! The search for a bound, up to a limit of the caller's.
+
+ghost use Rattle.std.specs.Prelude.{◌≡◌, ◌≢◌, ◌≤◌, Err, IfOk, IfErr};
+ghost use Rattle.isa_model.specs.Code.Limits.{max_explored};
+ghost use Rattle.isa_model.specs.Running.Outcomes.{StartsEnd};
+ghost use Rattle.bounds.specs.Bounds.{IsVerified};
+ghost use Rattle.walks.specs.Refused.{IsRefused};
+ghost use Rattle.walks.specs.Accepting.{AcceptsAll, BoundsAll};
+ghost use Rattle.walks.specs.Counts.{HasNumber};
+ghost use Rattle.stack_state.specs.Starts.{start};
+ghost use Rattle.explorer.specs.Limited.{IfRefuses};
+ghost use Rattle.explorer.specs.declared.limited.Stop.TheVariants as Stop;
+
+use crate::kept::Kept;
+use crate::listening::Listener;
+use crate::moves::Halt;
+use crate::search::Search;
+use crate::verified::verify;
+use bounds::Verified;
+use control_flow::Flow;
+use image::Image;
+use isa_model::MAX_EXPLORED;
+use stack_state::State;
+use std::alloc::Global;
+use transfer::Ways;
+use walks::Refusal;
+
+/// Why a search up to a limit has no bound.
+#[derive(Clone, Copy, PartialEq, Eq, Debug)]
+pub enum Stop {
+    /// The program is refused so, at this slot.
+    Refused(Refusal, usize),
+    /// More instructions than the limit would have to be explored.
+    Limit,
+}
+
+/// The limit is reached.
+#[derive(Clone, Copy, Drop)]
+struct Reached;
+
+/// Counts down the instructions that may still be explored.
+#[derive(Drop)]
+struct Countdown {
+    left: u32,
+}
+
+impl Listener for Countdown {
+    type Stop = Reached;
+
+    ghost follows = { λ _ _ _ _. Unit {0} };
+
+    fn arrives(&mut self, _state: &State) -> Result<(), Reached> {
+        Ok(())
+    }
+
+    fn covered(&mut self, _place: usize, _number: u32) -> Result<(), Reached> {
+        Ok(())
+    }
+
+    fn explores(
+        &mut self,
+        _state: &State,
+        _stored: Option<usize>,
+        _kept: Option<&Kept>,
+    ) -> Result<(), Reached> {
+        if self.left == 0 {
+            return Err(Reached);
+        }
+        self.left -= 1;
+        Ok(())
+    }
+
+    fn stepped(&mut self, _ways: Ways) -> Result<(), Reached> {
+        Ok(())
+    }
+
+    fn finished(&mut self, _number: u32) -> Result<(), Reached> {
+        Ok(())
+    }
+
+    fn refused(&mut self, _refusal: Refusal, _slot: usize) {}
+}
+
+// The bound of a program's runs, found within the limit.
+fn bound_within(alloc: Global, image: &Image, limit: u32) -> Result<u32, Stop>
+    ensures ends { IfOk result (StartsEnd image.now) }
+    ensures number { IfOk result (λ n. HasNumber image.now start n) }
+    ensures some { IfOk result (λ n. 1 ≤ n) }
+    ensures most { IfOk result (λ n. n ≤ MAX_EXPLORED) }
+    ensures refused { IfErr result (λ stop. IfRefuses stop (IsRefused image.now)) }
+{
+    let slots = image.slots();
+    let flow = match Flow::of(alloc, image) {
+        Ok(flow) => flow,
+        Err((error, slot)) => return Err(Stop::Refused(Refusal::Flow(error), slot)),
+    };
+    let Ok(mut search) = Search::new(alloc, slots) else {
+        return Err(Stop::Refused(Refusal::Memory, 0));
+    };
+    let mut room = Vec::new(alloc);
+    let mut countdown = Countdown { left: limit };
+    match search.explore(alloc, image, &flow, &mut room, &mut countdown) {
+        Ok(bound) => Ok(bound),
+        Err(Halt::Refused(refusal, slot)) => Err(Stop::Refused(refusal, slot)),
+        Err(Halt::Stopped(_)) => Err(Stop::Limit),
+    }
+}
+
+/// Verifies a program as `verify` does, but explores no more instructions than the limit. Within it
+/// the answer has each clause of `verify`'s, and with a limit of `MAX_EXPLORED` or more it is that
+/// one's.
+pub fn verify_within(alloc: Global, image: Image, limit: u32) -> Result<Verified, Stop>
+    ensures program { IfOk result (λ verified. verified.program ≡ image) }
+    ensures verified { IfOk result IsVerified }
+    ensures refused { IfErr result (λ stop. IfRefuses stop (IsRefused image)) }
+    ensures number { IfOk result (λ verified. HasNumber image start verified.bound) }
+    ensures accepts { IfErr result (λ stop. IfRefuses stop (λ e _. AcceptsAll image e)) }
+    ensures bounds { IfOk result (λ verified. BoundsAll image verified.bound) }
+    ensures whole { max_explored ≤ limit → result ≢ Err Stop.Limit }
+{
+    if limit >= MAX_EXPLORED {
+        return match verify(alloc, image) {
+            Ok(verified) => Ok(verified),
+            Err((refusal, slot)) => Err(Stop::Refused(refusal, slot)),
+        };
+    }
+    // only for the proof: this call says that the program is an image's, which `verified` needs
+    let _slots = image.slots();
+    match bound_within(alloc, &image, limit) {
+        Ok(bound) => Ok(Verified::from_within(image, bound)),
+        Err(stop) => Err(stop),
+    }
+}

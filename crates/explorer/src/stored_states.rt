@@ -1,0 +1,356 @@
+//! The states that were met at joins.
+
+ghost use Rattle.std.specs.Prelude.{◌≡◌, ℕ, ◌<◌, ◌++◌, ◌∷◌, [], Some, None, length, IsTrue, IfSome, IfOk, OnOk, OnErr};
+ghost use Rattle.stack_state.specs.declared.states.State.{State as TheState};
+ghost use Rattle.state_index.specs.Parts.{AreParts};
+ghost use Rattle.state_index.specs.Rooms.{HasRoom};
+ghost use Rattle.explorer.specs.StoredStates.{IsStored, IsCovered, IsRepeated, StoredAt, IsNumbered};
+
+use crate::kept::{Kept, PLACES};
+use stack_state::State;
+use state_cover::covers;
+use state_index::{Effort, Index, Key, LONG_SCAN, Rows, Spread, Tree};
+use std::alloc::{AllocError, Global};
+
+/// A state that was met at a join, with its number: 0 until it is finished.
+#[derive(Drop)]
+pub struct Stored {
+    pub state: Kept,
+    pub number: u32,
+}
+
+/// How many finished states with these known bits were scanned.
+#[derive(Clone, Copy, Drop)]
+struct Scan {
+    known: u64,
+    count: usize,
+}
+
+/// How many words of 8 bytes the stored states may take, of what they do not share with others.
+const MOST_WORDS: u64 = 15_000_000;
+
+/// How many words a state takes in a tree.
+const TREE_WORDS: u32 = 43;
+
+/// How often the places of callers are read where a state is looked up and stored.
+const CALLER_READINGS: usize = 3;
+
+/// The stored states, in the order in which they were met.
+#[derive(Drop)]
+pub struct StoredStates {
+    pub entries: Vec<Stored>,
+    index: Index,
+    /// Of the state that is looked for.
+    key: Key,
+    /// The longest scan when a state was looked for last.
+    longest: Scan,
+    /// What looking up has cost.
+    effort: Effort,
+    /// Whether it has cost all that it may: then no state is looked up or stored any more.
+    pub is_over: bool,
+    /// How many words the states take.
+    words: u64,
+    /// Whether they take all that they may: then no other is stored.
+    pub is_full: bool,
+}
+
+/// The state that was stored last.
+fn last_of(entries: &[Stored]) -> Option<&Kept> {
+    let entry = entries.last()?;
+    Some(&entry.state)
+}
+
+impl StoredStates {
+    /// No states yet, of code with that many slots.
+    pub fn new(alloc: Global, slots: usize) -> Result<Self, AllocError>
+        ensures empty { IfOk result (λ stored. stored.entries.items ≡ []) }
+        ensures room { IfOk result (λ stored. HasRoom stored.index slots) }
+    {
+        let index = Index::new(alloc, slots)?;
+        let key = Key::new(alloc)?;
+        Ok(StoredStates {
+            entries: Vec::new(alloc),
+            index,
+            key,
+            longest: Scan { known: 0, count: 0 },
+            effort: Effort::new(),
+            is_over: false,
+            words: 0,
+            is_full: false,
+        })
+    }
+
+    /// Whether states are not all looked up and stored any more.
+    pub fn is_cut_off(&self) -> bool {
+        self.is_over || self.is_full
+    }
+
+    /// The state that was stored last.
+    pub fn last(&self) -> Option<&Kept> {
+        last_of(self.entries.as_slice())
+    }
+
+    /// Makes a tree of the finished states with these known bits.
+    fn add_tree(&mut self, alloc: Global, known: u64) -> Result<(), AllocError>
+        ensures { self.new.entries.items ≡ self.old.entries.items }
+    {
+        let (places, left) = self.index.tree_candidates(alloc, known, &mut self.effort)?;
+        self.effort.spend_tree(places.len(), self.key.limits.len());
+        if self.effort.is_over() {
+            return Ok(());
+        }
+        let rows = self.rows_of(alloc, &places)?;
+        self.index.add_tree(known, left, Tree::of(alloc, rows)?)
+    }
+
+    /// The rows of entries for a tree.
+    fn rows_of(&self, alloc: Global, places: &[u32]) -> Result<Rows, AllocError> {
+        let mut limits = Vec::new(alloc);
+        let mut spread = Spread::new(alloc);
+        for place in places {
+            if let Some(entry) = self.entries.get(*place as usize) {
+                entry.state.take_limits(&mut limits)?;
+                spread.add(&limits)?;
+            }
+        }
+        let mut rows = Rows::of(alloc, &spread)?;
+        for place in places {
+            if let Some(entry) = self.entries.get(*place as usize) {
+                entry.state.take_limits(&mut limits)?;
+                rows.add(*place, &limits)?;
+            }
+        }
+        Ok(rows)
+    }
+
+    /// Turns to a state, which is then looked for and stored. It may have been kept already.
+    pub fn turn_to(
+        &mut self,
+        alloc: Global,
+        state: &State,
+        kept: &Option<Kept>,
+    ) -> Result<(), AllocError>
+        ensures same { self.new.entries.items ≡ self.old.entries.items }
+        ensures drawn { OnOk result (kept.now ≡ None
+            → AreParts self.new.key.parts.items state.now.innermost) }
+    {
+        let Scan { known, count } = self.longest;
+        if count >= LONG_SCAN && self.index.note_scan(alloc, known, count)? {
+            self.add_tree(alloc, known)?;
+        }
+        self.is_over = self.effort.is_over();
+        self.key.is_sought = !self.is_over;
+        let callers = state.callers.as_slice().len().saturating_mul(PLACES);
+        self.effort.spend(callers.saturating_mul(CALLER_READINGS));
+        self.key.has_limits = self.index.has_trees();
+        match kept {
+            None => self.key.take(state),
+            Some(kept) => kept.put_key(&mut self.key),
+        }
+    }
+
+    /// The number of an entry, if it is finished and covers the state.
+    fn covering(
+        &self,
+        index: usize,
+        state: &State,
+        scratch: &mut State,
+        effort: &mut Effort,
+    ) -> Option<u32>
+        ensures covered { IfSome result (λ n. IsCovered self.now.entries.items index state.now n) }
+        ensures equal { (n : ℕ) → IsStored self.now.entries.items index state.now n → 0 < n
+            → result ≡ Some n }
+    {
+        let entry = self.entries.get(index)?;
+        if entry.number == 0 || !entry.state.may_cover(state) {
+            return None;
+        }
+        effort.spend(entry.state.places());
+        entry.state.restore(scratch);
+        if !covers(scratch, state) {
+            return None;
+        }
+        Some(entry.number)
+    }
+
+    /// The first finished state that covers this one, of those with these known bits, if it was
+    /// stored before another one: its place and its number. And how many were scanned.
+    fn first_known(
+        &self,
+        known: u64,
+        other: Option<(usize, u32)>,
+        state: &State,
+        scratch: &mut State,
+        effort: &mut Effort,
+    ) -> (Option<(usize, u32)>, usize)
+        ensures { IfSome result.0 (λ r. IsCovered self.now.entries.items r.0 state.now r.1) }
+    {
+        let mut found = None;
+        let mut before = match other {
+            Some((place, _)) => place,
+            None => usize::MAX,
+        };
+        effort.spend_test();
+        let mut candidates = self.index.finished_candidates(known, &self.key.limits);
+        for scanned in 0..self.entries.len() {
+            let next = match effort.is_over() {
+                true => None,
+                false => candidates.next_before(before, effort),
+            };
+            let Some(index) = next else {
+                return (found, scanned);
+            };
+            if let Some(number) = self.covering(index, state, scratch, effort) {
+                found = Some((index, number));
+                before = index;
+            }
+        }
+        (found, self.entries.len())
+    }
+
+    /// The first finished state that covers this one, and the longest scan on the way to it.
+    fn first_covering(
+        &self,
+        state: &State,
+        scratch: &mut State,
+        effort: &mut Effort,
+    ) -> (Option<(usize, u32)>, Scan)
+        ensures { IfSome result.0 (λ r. IsCovered self.now.entries.items r.0 state.now r.1) }
+    {
+        let mut first = None;
+        let mut longest = Scan { known: 0, count: 0 };
+        for shape in self.index.shapes_at(state.slot) {
+            if let Some(known) = self.index.known_in(shape, &self.key, effort) {
+                let (found, count) = self.first_known(known, first, state, scratch, effort);
+                if let Some(found) = found {
+                    first = Some(found);
+                }
+                if count > longest.count {
+                    longest = Scan { known, count };
+                }
+            }
+        }
+        (first, longest)
+    }
+
+    /// The first finished state that covers this one: its place and its number.
+    pub fn cover_of(&mut self, state: &State, scratch: &mut State) -> Option<(usize, u32)>
+        ensures covered { IfSome result
+            (λ r. IsCovered self.old.entries.items r.0 state.now r.1) }
+        ensures same { self.new.entries.items ≡ self.old.entries.items }
+        ensures drawn { self.new.key ≡ self.old.key }
+    {
+        let mut effort = self.effort;
+        if effort.is_over() {
+            return None;
+        }
+        let (first, longest) = self.first_covering(state, scratch, &mut effort);
+        self.longest = longest;
+        self.effort = effort;
+        first
+    }
+
+    /// Whether an entry is unfinished and equal to the state.
+    fn is_equal(
+        &self,
+        index: usize,
+        state: &State,
+        scratch: &mut State,
+        effort: &mut Effort,
+    ) -> bool
+        ensures repeated { IsTrue result → IsRepeated self.now.entries.items state.now }
+        ensures equal { IsStored self.now.entries.items index state.now 0 → IsTrue result }
+    {
+        let Some(entry) = self.entries.get(index) else {
+            return false;
+        };
+        if entry.number != 0 {
+            return false;
+        }
+        effort.spend(entry.state.places());
+        entry.state.restore(scratch);
+        if !covers(scratch, state) {
+            return false;
+        }
+        covers(state, scratch)
+    }
+
+    /// Whether an unfinished state is equal to this one: each covers the other.
+    pub fn repeats(&mut self, state: &State, scratch: &mut State) -> bool
+        ensures repeated { IsTrue result → IsRepeated self.old.entries.items state.now }
+        ensures same { self.new.entries.items ≡ self.old.entries.items }
+        ensures drawn { self.new.key ≡ self.old.key }
+    {
+        let mut effort = self.effort;
+        let repeats = self.is_repeated(state, scratch, &mut effort);
+        self.effort = effort;
+        repeats
+    }
+
+    /// The same, if looking up may cost more.
+    fn is_repeated(&self, state: &State, scratch: &mut State, effort: &mut Effort) -> bool
+        ensures { IsTrue result → IsRepeated self.now.entries.items state.now }
+    {
+        let fingerprint = self.key.fingerprints.whole;
+        for index in self.index.unfinished_candidates(fingerprint) {
+            if effort.is_over() {
+                return false;
+            }
+            effort.spend_test();
+            if self.index.has_fingerprint(index, fingerprint)
+                && self.is_equal(index, state, scratch, effort)
+            {
+                return true;
+            }
+        }
+        false
+    }
+
+    /// Stores the state that was turned to, and answers its place.
+    pub fn store(
+        &mut self,
+        alloc: Global,
+        state: &State,
+        kept: Option<Kept>,
+    ) -> Result<usize, AllocError>
+        requires drawn { kept ≡ None → AreParts self.old.key.parts.items state.now.innermost }
+        requires kept { IfSome kept (λ s. s ≡ state.now) }
+        ensures place { IfOk result (λ k. k ≡ length self.old.entries.items) }
+        ensures stored { IfOk result (λ _. self.new.entries.items
+            ≡ self.old.entries.items ++ record { state = state.now; number = 0 } ∷ []) }
+        ensures err { OnErr result (self.new.entries.items ≡ self.old.entries.items) }
+    {
+        let index = self.entries.len();
+        if self.key.is_sought {
+            self.index
+                .add(alloc, state.slot, &self.key, &mut self.effort)?;
+        }
+        let state = match kept {
+            Some(kept) => kept,
+            None => {
+                let last = last_of(&self.entries);
+                Kept::of_parts(alloc, state, &mut self.key.parts, last)?
+            }
+        };
+        let words = match self.index.has_trees() {
+            true => state.words().saturating_add(TREE_WORDS),
+            false => state.words(),
+        };
+        self.words = self.words.saturating_add(u64::from(words));
+        self.is_full = self.words >= MOST_WORDS;
+        self.entries.push(Stored { state, number: 0 })?;
+        Ok(index)
+    }
+
+    /// Gives a state that was stored its number.
+    pub fn finish(&mut self, stored: Option<usize>, number: u32)
+        requires { (s : TheState) × StoredAt self.old.entries.items stored s }
+        ensures { IsNumbered self.old.entries.items stored number self.new.entries.items }
+    {
+        if let Some(index) = stored {
+            let entry = &mut self.entries[index];
+            entry.number = number;
+            self.index.finish(index);
+        }
+    }
+}
