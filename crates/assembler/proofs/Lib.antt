@@ -7,6 +7,7 @@ pub mod LineReads
 pub mod MapReads
 pub mod TextReads
 pub mod ColumnCounts
+pub mod HintTests
 pub mod LabelLookups
 pub mod NearDistances
 pub mod NameUses

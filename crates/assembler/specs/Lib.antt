@@ -9,3 +9,5 @@ pub mod Assembling
 pub mod Drafts
 pub mod Messages
 pub mod Spells
+pub mod Hints
+pub mod Shown

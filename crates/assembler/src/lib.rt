@@ -11,6 +11,7 @@ mod assignments;
 mod code;
 mod draft;
 pub mod errors;
+mod hints;
 mod map_lines;
 mod map_tests;
 mod names;
@@ -18,8 +19,10 @@ mod operands;
 mod parts;
 mod readings;
 mod refusals;
+mod showing;
 mod statements;
 mod wrong;
 
 pub use assembly::assemble;
 pub use errors::{AsmError, AsmErrorKind};
+pub use showing::shown;

@@ -11,4 +11,5 @@ pub mod tokens;
 mod words;
 
 pub use lexemes::lexeme_at;
+pub use numbers::line_len;
 pub use tokens::{Lexeme, Sign, Token, Word};

@@ -1,0 +1,6 @@
+use Rattle.std.proofs.Common.{◌≡◌}
+use Rattle.assembler.specs.Shown.{after_lines}
+use Rattle.assembler.proofs.showing.after_lines.Given as goal
+
+abbrev pub invariant-loop-skipped : goal.invariant-loop-skipped
+invariant-loop-skipped l = l.rest ≡ after_lines l.skipped l.text

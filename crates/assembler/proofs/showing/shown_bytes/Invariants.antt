@@ -1,0 +1,6 @@
+use Rattle.std.proofs.Common.{◌≡◌, map, take, string_bytes}
+use Rattle.assembler.specs.Shown.{shown_byte}
+use Rattle.assembler.proofs.showing.shown_bytes.Given as goal
+
+abbrev pub invariant-loop-byte : goal.invariant-loop-byte
+invariant-loop-byte l = string_bytes l.text ≡ map shown_byte (take l.byte-index l.line)

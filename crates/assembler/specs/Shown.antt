@@ -1,0 +1,50 @@
+-- The line in which a text is refused, and a caret under the column.
+use Rattle.std.specs.Prelude.{ℕ, zero, suc, ◌-◌, ◌==◌, nat_le, nat_lt, Bool, ◌&&◌, ◌||◌, List, [], ◌++◌, map, length, take, drop, codes, if◌then◌else◌}
+use Rattle.std.specs.List.{prefix_len}
+use Rattle.lexer.specs.Lexing.{is_line_byte}
+use Rattle.assembler.specs.declared.errors.AsmError.{AsmError}
+use Rattle.assembler.specs.Hints.{hint}
+
+-- ---- the line
+
+-- what stands behind the first line feed
+abbrev pub after_line : List ℕ → List ℕ
+after_line bs = drop 1 (drop (prefix_len is_line_byte bs) bs)
+
+-- what stands behind that many lines
+abbrev pub after_lines : ℕ → List ℕ → List ℕ
+after_lines zero bs = bs
+after_lines (suc n) bs = after_line (after_lines n bs)
+
+-- the bytes of a line, counted from 1
+abbrev pub line_of : ℕ → List ℕ → List ℕ
+line_of line bs = let rest = after_lines (line - 1) bs in take (prefix_len is_line_byte rest) rest
+
+-- the bytes of it before a column, counted from 1, and those from there on
+abbrev pub before : ℕ → List ℕ → List ℕ
+before column bs = take (column - 1) bs
+
+abbrev pub from : ℕ → List ℕ → List ℕ
+from column bs = drop (column - 1) bs
+
+-- ---- what is shown of it
+
+-- tabs and what ASCII prints stand for themselves, and a question mark for every other byte
+abbrev pub shown_byte : ℕ → ℕ
+shown_byte b = if (b == 9) || (nat_le 32 b && nat_lt b 127) then b else 63
+
+-- a tab has the width of a tab
+abbrev pub padding_byte : ℕ → ℕ
+padding_byte b = if b == 9 then 9 else 32
+
+-- a line and a line with a caret; an empty line is not shown, and none of over 160 bytes
+abbrev pub shown_line : ℕ → List ℕ → List ℕ
+shown_line column bs =
+    if (length bs == 0) || nat_lt 160 (length bs) then []
+    else map shown_byte bs ++ (codes "\n" ++ (map padding_byte (before column bs) ++ codes "^\n"))
+
+-- after the sentence and the place: the line with the caret, and what helps
+abbrev pub shown : List ℕ → AsmError → List ℕ
+shown text error =
+    let bs = line_of error.line text in
+    shown_line error.column bs ++ (hint error.kind (before error.column bs) (from error.column bs) ++ codes "\n")

@@ -1,0 +1,128 @@
+//! The line in which a text is refused, and a caret under the column.
+
+ghost use Rattle.std.specs.Prelude.{◌≡◌, ◌<◌, ◌++◌, ◌∷◌, [], map, IfOk, OnOk};
+ghost use Rattle.std.specs.String.{string_bytes};
+ghost use Rattle.assembler.specs.Shown.{after_line, after_lines, line_of, before, from, shown_byte, padding_byte, shown_line, shown};
+
+use super::errors::AsmError;
+use super::hints::hint;
+use lexer::line_len;
+use std::alloc::{AllocError, Global};
+
+/// The most bytes of a line that is shown.
+const MAX_SHOWN: usize = 160;
+
+// What stands behind the first line feed.
+fn after_line(text: &[u8]) -> &[u8]
+    ensures { result.now ≡ after_line text.now }
+{
+    match &text[line_len(text)..] {
+        [_, rest @ ..] => rest,
+        [] => &[],
+    }
+}
+
+// What stands behind that many lines.
+fn after_lines(text: &[u8], count: usize) -> &[u8]
+    ensures { result.now ≡ after_lines count text.now }
+{
+    let mut rest = text;
+    for skipped in 0..count {
+        rest = after_line(rest);
+    }
+    rest
+}
+
+// The bytes of a line.
+fn line_of(text: &[u8], line: usize) -> &[u8]
+    ensures { result.now ≡ line_of line text.now }
+{
+    let rest = after_lines(text, line.saturating_sub(1));
+    &rest[..line_len(rest)]
+}
+
+// The bytes of a line before a column, and those from there on.
+fn parted(line: &[u8], column: usize) -> (&[u8], &[u8])
+    ensures front { result.0.now ≡ before column line.now }
+    ensures back { result.1.now ≡ from column line.now }
+{
+    let count = column.saturating_sub(1);
+    if count <= line.len() {
+        line.split_at(count)
+    } else {
+        (line, &[])
+    }
+}
+
+fn shown_byte(byte: u8) -> u8
+    ensures value { result ≡ shown_byte byte }
+    ensures ascii { result < 128 }
+{
+    if byte == b'\t' || (byte >= b' ' && byte < 127) {
+        byte
+    } else {
+        b'?'
+    }
+}
+
+fn padding_byte(byte: u8) -> u8
+    ensures value { result ≡ padding_byte byte }
+    ensures ascii { result < 128 }
+{
+    if byte == b'\t' { b'\t' } else { b' ' }
+}
+
+// Adds a byte of ASCII.
+fn push_byte(text: &mut String, byte: u8) -> Result<(), AllocError>
+    requires { byte < 128 }
+    ensures { OnOk result (string_bytes text.new ≡ string_bytes text.old ++ (byte ∷ [])) }
+{
+    text.push(char::from(byte))
+}
+
+// The bytes of a line as they are shown.
+fn shown_bytes(alloc: Global, line: &[u8]) -> Result<String, AllocError>
+    ensures { IfOk result (λ text. string_bytes text ≡ map shown_byte line.now) }
+{
+    let mut text = String::new(alloc);
+    for byte in line {
+        push_byte(&mut text, shown_byte(*byte))?;
+    }
+    Ok(text)
+}
+
+// What stands below these bytes in front of the caret.
+fn padding(alloc: Global, front: &[u8]) -> Result<String, AllocError>
+    ensures { IfOk result (λ text. string_bytes text ≡ map padding_byte front.now) }
+{
+    let mut text = String::new(alloc);
+    for byte in front {
+        push_byte(&mut text, padding_byte(*byte))?;
+    }
+    Ok(text)
+}
+
+// A line, and a line with a caret under the column.
+fn shown_line(alloc: Global, line: &[u8], column: usize) -> Result<String, AllocError>
+    ensures { IfOk result (λ text. string_bytes text ≡ shown_line column line.now) }
+{
+    if line.is_empty() || line.len() > MAX_SHOWN {
+        return Ok(String::new(alloc));
+    }
+    let (front, _) = parted(line, column);
+    let shown = shown_bytes(alloc, line)?;
+    let padding = padding(alloc, front)?;
+    format!(in alloc; "{shown}\n{padding}^\n")
+}
+
+/// What is told of a text that is refused, after the sentence and the place: the line with a caret
+/// under the column, and what helps.
+pub fn shown(alloc: Global, text: &[u8], error: AsmError) -> Result<String, AllocError>
+    ensures { IfOk result (λ told. string_bytes told ≡ shown text.now error) }
+{
+    let line = line_of(text, error.line);
+    let (front, back) = parted(line, error.column);
+    let lines = shown_line(alloc, line, error.column)?;
+    let help = hint(error.kind, front, back);
+    format!(in alloc; "{lines}{help}\n")
+}
