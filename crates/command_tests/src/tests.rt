@@ -25,6 +25,13 @@ use stumbling_io::{Stumble, Writer};
 // Why an image is refused by I2.
 const SHORT: &str = "the image is shorter than its head, or than its counts say\n";
 
+// Why a stream is refused that begins with another magic, and why one that ends in a head.
+const NO_MAGIC: &str = "the stream does not begin with XPF1 or XPF2\n\
+    frames.py makes a stream of a capture (pcap, pcapng); the frames out are a magic alone\n";
+
+const CUT_HEAD: &str =
+    "the stream ends within the head of a record\nthe file was cut: make it again\n";
+
 const USAGE: &str = "usage: xdpvm asm|dis|verify|run|trace|prove|recheck\n";
 
 // Why a report breaks off that nobody reads any more.
@@ -200,7 +207,8 @@ const NO_IMAGES: [(&[u8], &str, &str); 11] = [
     (
         b"XBP3\0\0\x02\0\xb7\0\0\0\x02\0\0\0\x95\0\0\0\0\0\0\0",
         "refused I1\n",
-        "the bytes do not begin with XBP1 or XBP2\n",
+        "the bytes do not begin with XBP1 or XBP2\n\
+            an image is made of a text by xdpvm asm, of an ELF object by image.py\n",
     ),
     (
         b"XBP1\x11\0\x02\0\xb7\0\0\0\x02\0\0\0\x95\0\0\0\0\0\0\0",

@@ -36,7 +36,7 @@ write_loud : (name : List ℕ) (r : Outcome) → IsWriteFailure name r → is_si
 write_loud name outcome.Done h e = h
 write_loud name (outcome.WrongWords text) h e = h
 write_loud name (outcome.Refused rejection) h e = h
-write_loud name outcome.Faulted h e = h
+write_loud name (outcome.Faulted fault) h e = h
 write_loud name (outcome.CannotRead path kind) h e = h
 write_loud name (outcome.CannotWrite path cause) h e = false≢true e
 write_loud name (outcome.CannotReplace path) h e = h
@@ -46,7 +46,7 @@ pub write_loud_by : (name : List ℕ) (cause : Option ErrorKind) (r : Outcome) �
 write_loud_by name cause outcome.Done h e = h
 write_loud_by name cause (outcome.WrongWords text) h e = h
 write_loud_by name cause (outcome.Refused rejection) h e = h
-write_loud_by name cause outcome.Faulted h e = h
+write_loud_by name cause (outcome.Faulted fault) h e = h
 write_loud_by name cause (outcome.CannotRead path kind) h e = h
 write_loud_by name cause (outcome.CannotWrite path told) h e = false≢true e
 write_loud_by name cause (outcome.CannotReplace path) h e = h
@@ -58,7 +58,7 @@ says_loud old new text ended r loud (inr failed) e = write_loud _ r failed.1 e
 
 at_loud : (fault : Option (Fault × ℕ)) → is_silent (outcome_at fault) ≡ false
 at_loud None = refl
-at_loud (Some fault) = refl
+at_loud (Some (fault, at)) = refl
 
 -- a run of which standard output has got nothing lacked memory
 ends_silent : (name : List ℕ) (cause : Option ErrorKind) (ended : Result Tally HostError) (r : Outcome) → EndsBy name cause ended r → is_silent r ≡ true → ended ≡ Err failure.Memory
@@ -185,11 +185,11 @@ disassemble_silent : (path : List ℕ) (old new : Option (List ℕ)) (r : Outcom
 disassemble_silent path old new r (inl loads) e = loads_silent path old new r loads e
 disassemble_silent path old new r (inr (p, is, says)) e = absurd (says_loud old new _ _ r refl says e)
 
-assemble_silent : (text image : List ℕ) (old new : Option (List ℕ)) (r : Outcome) → AssemblesFile text image old new r → is_silent r ≡ true → new ≡ old
-assemble_silent text image old new r (inl reads) e = reads.1
-assemble_silent text image old new r (inr (source, inl refuses)) e = text_silent source old new r refuses e
-assemble_silent text image old new r (inr (source, inr (p, is, inl makes))) e = makes.1
-assemble_silent text image old new r (inr (source, inr (p, is, inr some))) e = stores_silent p _ image _ _ old new r some.stores e
+assemble_silent : (text image : List ℕ) (old new : Option (List ℕ)) (r : Ending) → AssemblesFile text image old new r → is_silent r.outcome ≡ true → new ≡ old
+assemble_silent text image old new r (inl (reads, none)) e = reads.1
+assemble_silent text image old new r (inr (source, inl refuses, known)) e = text_silent source old new r.outcome refuses e
+assemble_silent text image old new r (inr (source, inr (p, is, inl makes), known)) e = makes.1
+assemble_silent text image old new r (inr (source, inr (p, is, inr some), known)) e = stores_silent p _ image _ _ old new r.outcome some.stores e
 
 served_silent : (request : Request) (old new : Option (List ℕ)) (r : Ending) → Serves (Some request) old new r → is_silent r.outcome ≡ true → new ≡ old
 served_silent (Trace files limit) old new r h e = trace_silent files limit old new r.outcome h.0 e
@@ -198,7 +198,7 @@ served_silent (Run files (Some table)) old new r h e = shown_silent files table 
 served_silent (Verify path) old new r h e = verify_silent path old new r h e
 served_silent (Prove files) old new r h e = prove_silent files old new r h e
 served_silent (Recheck files) old new r h e = recheck_silent files old new r h e
-served_silent (Assemble text image) old new r h e = assemble_silent text image old new r.outcome h.0 e
+served_silent (Assemble text image) old new r h e = assemble_silent text image old new r h e
 served_silent (Disassemble path) old new r h e = disassemble_silent path old new r.outcome h.0 e
 
 -- ---- and then standard output hands on what it was given
@@ -221,7 +221,7 @@ loud : (o : Outcome) → status_of o ≤ 3 → (status_of o ≡ 1 → ⊥) → i
 loud outcome.Done most apart = refl
 loud (outcome.WrongWords text) most apart = absurd (apart refl)
 loud (outcome.Refused rejection) most apart = refl
-loud outcome.Faulted most apart = refl
+loud (outcome.Faulted fault) most apart = refl
 loud (outcome.CannotRead path kind) most apart = absurd (omega arith)
 loud (outcome.CannotWrite path cause) most apart = refl
 loud (outcome.CannotReplace path) most apart = absurd (omega arith)
@@ -231,7 +231,7 @@ written : (name : List ℕ) (cause : Option ErrorKind) (o : Outcome) → IsWrite
 written name cause outcome.Done h most = h
 written name cause (outcome.WrongWords text) h most = h
 written name cause (outcome.Refused rejection) h most = h
-written name cause outcome.Faulted h most = h
+written name cause (outcome.Faulted fault) h most = h
 written name cause (outcome.CannotRead path kind) h most = h
 written name cause (outcome.CannotWrite path told) h most = omega arith
 written name cause (outcome.CannotReplace path) h most = h
@@ -243,7 +243,7 @@ unasked_status Memory o e most apart = let same : status_of o ≡ 5 = ap status_
 unasked_status (Wrong text) (outcome.WrongWords said) e most apart = apart refl
 unasked_status (Wrong text) outcome.Done e most apart = e
 unasked_status (Wrong text) (outcome.Refused rejection) e most apart = e
-unasked_status (Wrong text) outcome.Faulted e most apart = e
+unasked_status (Wrong text) (outcome.Faulted fault) e most apart = e
 unasked_status (Wrong text) (outcome.CannotRead path kind) e most apart = e
 unasked_status (Wrong text) (outcome.CannotWrite path cause) e most apart = e
 unasked_status (Wrong text) (outcome.CannotReplace path) e most apart = e

@@ -3,7 +3,10 @@ use Rattle.std.specs.Prelude.{◌≡◌, ℕ, List, ◌++◌, Option, Some, ◌�
 use Rattle.buffered_io.specs.declared.PromptWriter.{PromptWriter}
 use Rattle.buffered_io.specs.Waiting.{held}
 use Rattle.isa_model.specs.declared.instructions.Insn.{Insn}
+use Rattle.isa_model.specs.declared.streams.Fault.{Fault}
 use Rattle.isa_model.specs.{Program}
+use Rattle.assembler.specs.declared.errors.AsmError.{AsmError}
+use Rattle.assembler.specs.Shown.{shown}
 use Rattle.walks.specs.declared.refusals.Refusal.{Refusal}
 use Rattle.rechecking.specs.declared.errors.TableError.{TableError}
 use Rattle.explanations.specs.Reasons.{IsReason}
@@ -15,6 +18,7 @@ use Rattle.serving.specs.declared.outcomes.Outcome.{Outcome}
 use Rattle.serving.specs.declared.endings.Ending.{Ending}
 use Rattle.serving.specs.declared.rejections.Rejection.{Rejection}
 use Rattle.serving.specs.declared.rejections.Rejection.TheVariants as rejection
+use Rattle.serving.specs.Faults.{fault_lines}
 use Rattle.serving.specs.Messages.{reason_of}
 use Rattle.serving.specs.Statuses.{IsWordsEnd, message_of, status_of}
 use Rattle.serving.specs.Saying.{AppendsPart, LacksMemory}
@@ -71,5 +75,17 @@ pub record TellsEntryKnown (old new : Option (List ℕ)) : Type 0 where
   pub known : IsEntryReason program bytes error slot insn why
   pub said : AppendsPart old new (reason_of (rejection.Table error (Some (slot, insn))) ++ why)
 
+-- a text is refused, and standard error got why, and then what is shown of it; or a beginning of it
+pub record TellsShown (old new : Option (List ℕ)) : Type 0 where
+  pub source : List ℕ
+  pub error : AsmError
+  pub why : List ℕ
+  pub known : why ≡ shown source error
+  pub said : AppendsPart old new (reason_of (rejection.Text error) ++ why)
+
 abbrev pub IsTold : Option (List ℕ) → Option (List ℕ) → Type 0
-IsTold old new = TellsReason old new ⊎ (TellsKnown old new ⊎ TellsEntryKnown old new)
+IsTold old new = TellsReason old new ⊎ (TellsKnown old new ⊎ (TellsEntryKnown old new ⊎ TellsShown old new))
+
+-- standard error got why a frame stream ended early, or a beginning of it
+abbrev pub TellsFault : Option (List ℕ) → Option (List ℕ) → Type 0
+TellsFault old new = (fault : Fault) × AppendsPart old new (fault_lines fault)

@@ -6,13 +6,14 @@ use Rattle.isa_model.specs.Code.Instructions.{Program, fetch}
 use Rattle.walks.specs.declared.refusals.Refusal.{Refusal}
 use Rattle.explorer.specs.declared.explanations.Explanation.{Explanation}
 use Rattle.explorer.specs.Explained.{Explains}
+use Rattle.explanations.specs.Cases.{case_line}
 use Rattle.explanations.specs.Lines.{register_lines, answer_line, stack_lines, way_line}
 
--- the registers, an answer's low half and the stack slots that concern the instruction, in the state in which it is refused
+-- the registers, what is needed, an answer's low half and the stack slots that concern the instruction, in the state in which it is refused
 -- so, and the last jumps
 abbrev pub lines_of : List MapDef → Insn → Refusal → Explanation → List ℕ
 lines_of rows i e x =
-    register_lines x.state i ++ (answer_line x.state e ++ (stack_lines rows x.state i ++ way_line x.way.items))
+    register_lines x.state i ++ (case_line rows x.state i e x.way.items ++ (answer_line x.state e ++ (stack_lines rows x.state i ++ way_line x.way.items)))
 
 -- the lines of a state in which the program is refused so, at the slot
 pub record IsReason (p : Program) (e : Refusal) (slot : ℕ) (text : List ℕ) : Type 0 where

@@ -1,6 +1,7 @@
 //! What is known where a program or a table is refused, in words.
 #![tactic(auto)]
 
+mod cases;
 mod differences;
 mod entries;
 mod kinds;

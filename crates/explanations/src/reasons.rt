@@ -4,6 +4,7 @@ ghost use Rattle.std.specs.Prelude.{◌≡◌, IfOk, IfSome};
 ghost use Rattle.std.specs.String.{string_bytes};
 ghost use Rattle.explanations.specs.Reasons.{lines_of, IsReason};
 
+use crate::cases::case_line;
 use crate::lines::{answer_line, register_lines, stack_lines, way_line};
 use explorer::{Explanation, Refusal, explain};
 use image::Image;
@@ -22,15 +23,17 @@ fn lines_of(
         ≡ lines_of image.now.maps insn.now refusal found.now) }
 {
     let registers = register_lines(alloc, &found.state, insn)?;
+    let way = found.way.as_slice();
+    let case = case_line(alloc, image.maps(), &found.state, insn, refusal, way)?;
     let answer = answer_line(alloc, &found.state, refusal)?;
     let stack = stack_lines(alloc, image.maps(), &found.state, insn)?;
-    let way = way_line(alloc, found.way.as_slice())?;
-    format!(in alloc; "{registers}{answer}{stack}{way}")
+    let way = way_line(alloc, way)?;
+    format!(in alloc; "{registers}{case}{answer}{stack}{way}")
 }
 
 /// What is known where a program is refused so, at this slot: the registers and the stack slots
-/// that concern its instruction, the low half of an answer that has to name an action, and the last
-/// jumps on the way there. None: the refusal is one of control flow, or memory ran out.
+/// that concern its instruction, what it needs, the low half of an answer that has to name an
+/// action, and the last jumps on the way there. None: the refusal is one of control flow, or memory ran out.
 pub fn reason(alloc: Global, image: &Image, refusal: Refusal, slot: usize) -> Option<String>
     ensures { IfSome result (λ text. IsReason image.now refusal slot (string_bytes text)) }
 {

@@ -15,14 +15,14 @@ use Rattle.serving.specs.declared.rejections.Rejection.TheVariants as rejection
 use Rattle.serving.specs.declared.outcomes.Outcome.{Outcome}
 use Rattle.serving.specs.declared.outcomes.Outcome.TheVariants.{Done, WrongWords, Refused, Faulted, CannotRead, CannotWrite, CannotReplace, NoMemory}
 use Rattle.serving.specs.declared.endings.Ending.{Ending}
-use Rattle.serving.specs.Known.{IsKnown, IsKnownOfTable, Tells, Plainly}
+use Rattle.serving.specs.Known.{IsKnown, IsKnownOfTable, IsKnownOfText, Tells, Plainly}
 use Rattle.serving.specs.Statuses.{IsReadFailure, IsMakeFailure}
 use Rattle.serving.specs.Lines.{bound_line, size_line}
 use Rattle.serving.specs.Judging.{Accepts, IsBoundOf, RefusesProgram, RefusesTable, Verifies, Stores}
 use Rattle.serving.specs.Streams.{RunsAccepted}
 use Rattle.serving.specs.Proving.{StoresTable}
 use Rattle.tasks.specs.Requests.{RunFiles, ProofFiles}
-use Rattle.serving.specs.Commands.{LoadsNone, ShowsNone, IsShown, VerifiesFile, RechecksFile, ProvesFile, ProvesSome, RunsFile, RunsOn, RunsShown, RunsSome, OpensNone, AssemblesFile, StoresSome}
+use Rattle.serving.specs.Commands.{LoadsNone, ShowsNone, IsShown, VerifiesFile, RechecksFile, ProvesFile, ProvesSome, RunsFile, RunsOn, RunsShown, RunsSome, OpensNone, Assembles, AssemblesFile, StoresSome}
 
 -- the streams were not opened
 opens-none : (files : RunFiles) (old new : Option (List ℕ)) (r : Outcome) → new ≡ old → IsReadFailure files.frames r ⊎ IsMakeFailure files.out r → OpensNone files old new r
@@ -33,12 +33,12 @@ opens-none files old new r e (inr h) = inr (h, e)
 pub tells-none : (p : Program) (o : Outcome) (why : Option (String Global)) → why ≡ None → Tells p o why
 tells-none p Done why e = e
 tells-none p (WrongWords text) why e = e
-tells-none p (Refused (rejection.Image error)) why e = e
+tells-none p (Refused (rejection.Image error form)) why e = e
 tells-none p (Refused (rejection.Program refusal slot insn)) why e = rw e tt
 tells-none p (Refused (rejection.Table error place)) why e = e
 tells-none p (Refused rejection.Explored) why e = e
 tells-none p (Refused (rejection.Text error)) why e = e
-tells-none p Faulted why e = e
+tells-none p (Faulted fault) why e = e
 tells-none p (CannotRead path kind) why e = e
 tells-none p (CannotWrite path cause) why e = e
 tells-none p (CannotReplace path) why e = e
@@ -162,14 +162,22 @@ table_stored files old mid now new before after v line o r e f h is stores same 
 -- ---- texts
 
 -- the image of a text that was read is written, and its size is said
-pub text_stored : (old mid new before after : Option (List ℕ)) (source line text path : List ℕ) (p : Program) (r : Outcome) → mid ≡ old → assembled source ≡ Ok p → line ≡ size_line p → Stores p line path before after mid new r → AssemblesFile text path old new r
-text_stored old mid new before after source line text path p r e found same s =
+pub text_stored : (old mid new before after : Option (List ℕ)) (source line path : List ℕ) (p : Program) (r : Outcome) → mid ≡ old → assembled source ≡ Ok p → line ≡ size_line p → Stores p line path before after mid new r → Assembles source path old new r
+text_stored old mid new before after source line path p r e found same s =
     let some : StoresSome p path old new r = record {
       before = before;
       after = after;
       stores = subst (λ (o : Option (List ℕ)). Stores p (size_line p) path before after o new r) e (subst (λ (l : List ℕ). Stores p l path before after mid new r) same s);
     } in
-    inr (source, inr (p, found, inr some))
+    inr (p, found, inr some)
 
-pub text_unmade : (old new : Option (List ℕ)) (source text path : List ℕ) (p : Program) (r : Outcome) → new ≡ old → assembled source ≡ Ok p → IsMakeFailure path r → AssemblesFile text path old new r
-text_unmade old new source text path p r e found h = inr (source, inr (p, found, inl (h, e)))
+pub text_unmade : (old new : Option (List ℕ)) (source path : List ℕ) (p : Program) (r : Outcome) → new ≡ old → assembled source ≡ Ok p → IsMakeFailure path r → Assembles source path old new r
+text_unmade old new source path p r e found h = inr (p, found, inl (h, e))
+
+-- the text could not be read
+pub text_unread : (text image : List ℕ) (old new : Option (List ℕ)) (o : Outcome) (r : Ending) → new ≡ old → IsReadFailure text o → r.outcome ≡ o → r.why ≡ None → AssemblesFile text image old new r
+text_unread text image old new o r e failed same none = inl ((rw same failed, e), none)
+
+-- a text that was read, and what is shown of it where it is refused
+pub text_assembled : (source text image : List ℕ) (old new : Option (List ℕ)) (o : Outcome) (r : Ending) → Assembles source image old new o → r.outcome ≡ o → IsKnownOfText source r → AssemblesFile text image old new r
+text_assembled source text image old new o r h same known = inr (source, rw same h, known)

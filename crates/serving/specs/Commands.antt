@@ -9,7 +9,7 @@ use Rattle.bounds.specs.Bounds.{Bounded}
 use Rattle.serving.specs.declared.outcomes.Outcome.{Outcome}
 use Rattle.serving.specs.declared.outcomes.Outcome.TheVariants as outcome
 use Rattle.serving.specs.declared.endings.Ending.{Ending}
-use Rattle.serving.specs.Known.{IsKnown, IsKnownOfTable, Plainly}
+use Rattle.serving.specs.Known.{IsKnown, IsKnownOfTable, IsKnownOfText, Plainly}
 use Rattle.serving.specs.Lines.{bound_line, size_line}
 use Rattle.serving.specs.Statuses.{IsMakeFailure, IsReadFailure, IsWrongWords}
 use Rattle.serving.specs.Saying.{Says}
@@ -134,11 +134,16 @@ DisassemblesFile path old new result = LoadsNone path old new result ⊎ Loads (
 abbrev pub Spells : List ℕ → (Program → Type 0) → Type 0
 Spells source P = (p : Program) × (assembled source ≡ Ok p) × P p
 
-abbrev pub AssemblesFile : List ℕ → List ℕ → Option (List ℕ) → Option (List ℕ) → Outcome → Type 0
+-- a text that was read is refused, or its image is written to the file at the path
+abbrev pub Assembles : List ℕ → List ℕ → Option (List ℕ) → Option (List ℕ) → Outcome → Type 0
+Assembles source image old new result =
+    RefusesText source old new result ⊎ Spells source (λ p. MakesNone image old new result ⊎ StoresSome p image old new result)
+
+-- where the text is refused, what is shown of it is known
+abbrev pub AssemblesFile : List ℕ → List ℕ → Option (List ℕ) → Option (List ℕ) → Ending → Type 0
 AssemblesFile text image old new result =
-    ReadsNone text old new result
-    ⊎ ((source : List ℕ) × (RefusesText source old new result
-    ⊎ Spells source (λ p. MakesNone image old new result ⊎ StoresSome p image old new result)))
+    Plainly (ReadsNone text old new) result
+    ⊎ ((source : List ℕ) × Assembles source image old new result.outcome × IsKnownOfText source result)
 
 -- ---- the program
 
@@ -151,5 +156,5 @@ Serves (Some (Run files (Some table))) old new result = RunsShown files table ol
 Serves (Some (Verify path)) old new result = VerifiesFile path old new result
 Serves (Some (Prove files)) old new result = ProvesFile files old new result
 Serves (Some (Recheck files)) old new result = RechecksFile files old new result
-Serves (Some (Assemble text image)) old new result = Plainly (AssemblesFile text image old new) result
+Serves (Some (Assemble text image)) old new result = AssemblesFile text image old new result
 Serves (Some (Disassemble path)) old new result = Plainly (DisassemblesFile path old new) result

@@ -24,6 +24,7 @@ use Rattle.assembler.specs.Assembling.{assembled}
 use Rattle.serving.specs.declared.rejections.Rejection.TheVariants as rejection
 use Rattle.serving.specs.declared.outcomes.Outcome.{Outcome}
 use Rattle.serving.specs.declared.outcomes.Outcome.TheVariants.{Done, Refused, NoMemory}
+use Rattle.serving.specs.Forms.{form_of}
 use Rattle.serving.specs.Statuses.{IsWriteFailure}
 use Rattle.serving.specs.Lines.{image_line, verdict_line, table_line, text_line, bound_line, is_memory, is_table_memory}
 use Rattle.serving.specs.Saying.{Says, LacksMemory}
@@ -32,7 +33,7 @@ use Rattle.serving.specs.Saying.{Says, LacksMemory}
 abbrev pub RefusesImage : List ℕ → Option (List ℕ) → Option (List ℕ) → Outcome → Type 0
 RefusesImage bytes old new result =
     LacksMemory old new result
-    ⊎ ((error : ImageError) × (refusal_of bytes ≡ Some error) × Says old new (image_line error) (Refused (rejection.Image error)) result)
+    ⊎ ((error : ImageError) × (refusal_of bytes ≡ Some error) × Says old new (image_line error) (Refused (rejection.Image error (form_of bytes))) result)
 
 -- standard output says that a program is refused at a slot, where this instruction begins; or memory ran out
 abbrev pub SaysRefused : Refusal → ℕ → Option Insn → Option (List ℕ) → Option (List ℕ) → Outcome → Type 0

@@ -4,6 +4,7 @@ use Rattle.std.specs.declared.alloc.Global.{Global}
 use Rattle.std.specs.String.{string_bytes}
 use Rattle.isa_model.specs.declared.instructions.Insn.{Insn}
 use Rattle.isa_model.specs.{Program}
+use Rattle.assembler.specs.Shown.{shown}
 use Rattle.explanations.specs.Reasons.{IsReason}
 use Rattle.explanations.specs.declared.entries.EntryReason.{EntryReason}
 use Rattle.explanations.specs.Entries.{IsEntryReason}
@@ -31,6 +32,14 @@ TellsTable p bytes outcome why = why ≡ None
 
 abbrev pub IsKnownOfTable : Program → List ℕ → Ending → Type 0
 IsKnownOfTable p bytes ending = TellsTable p bytes ending.outcome ending.why
+
+-- the same of a task that read this text: where it was refused, what is shown of it
+abbrev pub TellsText : List ℕ → Outcome → Option (String Global) → Type 0
+TellsText source (Refused (rejection.Text error)) why = IfSome why (λ text. string_bytes text ≡ shown source error)
+TellsText source outcome why = why ≡ None
+
+abbrev pub IsKnownOfText : List ℕ → Ending → Type 0
+IsKnownOfText source ending = TellsText source ending.outcome ending.why
 
 -- ---- what was found of an entry
 

@@ -1,4 +1,6 @@
 pub mod Causes
+pub mod Faults
+pub mod Forms
 pub mod Messages
 pub mod Statuses
 pub mod Known

@@ -3,7 +3,7 @@ use Rattle.std.specs.Prelude.{ℕ, List, [], ◌++◌, Option, Some, None, codes
 use Rattle.isa_model.specs.declared.instructions.Insn.{Insn}
 use Rattle.isa_model.specs.Text.CanonicalText.{line_of}
 use Rattle.image.specs.declared.errors.ImageError.{ImageError}
-use Rattle.image.specs.declared.errors.ImageError.TheVariants.{Code, MapRow, UnknownMap, ValuePointer}
+use Rattle.image.specs.declared.errors.ImageError.TheVariants.{Magic, Code, MapRow, UnknownMap, ValuePointer}
 use Rattle.image.specs.Messages as image
 use Rattle.walks.specs.Messages as walks
 use Rattle.transfer.specs.Messages as transfer
@@ -14,11 +14,13 @@ use Rattle.rechecking.specs.Messages as rechecking
 use Rattle.proof_table.specs.declared.errors.WriteTableError.TheVariants as unwritten
 use Rattle.proof_table.specs.Messages as proof_table
 use Rattle.assembler.specs.Messages as assembler
+use Rattle.serving.specs.declared.forms.Form.{Form}
+use Rattle.serving.specs.Forms.{form_line}
 use Rattle.serving.specs.declared.rejections.Rejection.{Rejection}
 use Rattle.serving.specs.declared.rejections.Rejection.TheVariants.{Image, Program, Table, Explored, Text}
 
 abbrev pub sentence_of : Rejection → List ℕ
-sentence_of (Image error) = image.sentence_of error
+sentence_of (Image error form) = image.sentence_of error
 sentence_of (Program refusal slot insn) = walks.sentence_of refusal
 sentence_of (Table error place) = rechecking.sentence_of error
 sentence_of Explored = proof_table.sentence_of unwritten.Explored
@@ -56,16 +58,17 @@ table_place (table.Step index refusal) place = step_place index place ++ (transf
 table_place (table.Successor index) place = step_place index place
 table_place error place = []
 
--- an image is refused at a slot, at a map row, or as a whole
-abbrev pub image_place : ImageError → List ℕ
-image_place (Code slot error) = slot_place slot None
-image_place (MapRow index) = map_place index
-image_place (UnknownMap slot) = slot_place slot None
-image_place (ValuePointer slot) = slot_place slot None
-image_place error = []
+-- an image is refused at a slot, at a map row, or as a whole; of what has another magic, what it looks like
+abbrev pub image_place : ImageError → Form → List ℕ
+image_place Magic form = form_line form
+image_place (Code slot error) form = slot_place slot None
+image_place (MapRow index) form = map_place index
+image_place (UnknownMap slot) form = slot_place slot None
+image_place (ValuePointer slot) form = slot_place slot None
+image_place error form = []
 
 abbrev pub place_of : Rejection → List ℕ
-place_of (Image error) = image_place error
+place_of (Image error form) = image_place error form
 place_of (Program refusal slot insn) = slot_place slot insn
 place_of (Table error place) = table_place error place
 place_of Explored = []

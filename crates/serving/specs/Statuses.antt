@@ -7,6 +7,7 @@ use Rattle.tasks.specs.declared.WordsError.TheVariants.{Wrong, Memory}
 use Rattle.serving.specs.declared.outcomes.Outcome.{Outcome}
 use Rattle.serving.specs.declared.outcomes.Outcome.TheVariants.{Done, WrongWords, Refused, Faulted, CannotRead, CannotWrite, CannotReplace, NoMemory}
 use Rattle.serving.specs.Causes.{cause_line, line_after}
+use Rattle.serving.specs.Faults.{fault_lines}
 use Rattle.serving.specs.Messages.{reason_of}
 
 -- the program's status
@@ -14,7 +15,7 @@ abbrev pub status_of : Outcome → ℕ
 status_of Done = 0
 status_of (WrongWords text) = 1
 status_of (Refused rejection) = 2
-status_of Faulted = 3
+status_of (Faulted fault) = 3
 status_of (CannotRead path kind) = 4
 status_of (CannotWrite path cause) = 4
 status_of (CannotReplace path) = 4
@@ -25,7 +26,7 @@ abbrev pub is_silent : Outcome → Bool
 is_silent Done = false
 is_silent (WrongWords text) = true
 is_silent (Refused rejection) = false
-is_silent Faulted = false
+is_silent (Faulted fault) = false
 is_silent (CannotRead path kind) = true
 is_silent (CannotWrite path cause) = false
 is_silent (CannotReplace path) = true
@@ -36,7 +37,7 @@ abbrev pub is_unsaid : Outcome → Bool
 is_unsaid Done = true
 is_unsaid (WrongWords text) = false
 is_unsaid (Refused rejection) = false
-is_unsaid Faulted = true
+is_unsaid (Faulted fault) = false
 is_unsaid (CannotRead path kind) = false
 is_unsaid (CannotWrite path cause) = false
 is_unsaid (CannotReplace path) = false
@@ -50,7 +51,7 @@ abbrev pub message_of : Outcome → List ℕ
 message_of Done = []
 message_of (WrongWords text) = text.now ++ usage
 message_of (Refused rejection) = reason_of rejection
-message_of Faulted = []
+message_of (Faulted fault) = fault_lines fault
 message_of (CannotRead path kind) = codes "cannot read " ++ (path.now ++ cause_line kind)
 message_of (CannotWrite path cause) = codes "cannot write " ++ (path.now ++ line_after cause)
 message_of (CannotReplace path) =

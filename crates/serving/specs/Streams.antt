@@ -19,7 +19,7 @@ use Rattle.serving.specs.Statuses.{IsOutputFailure, IsWriteFailureBy}
 -- a stream came to its end, or had a fault
 abbrev pub outcome_at : Option (Fault × ℕ) → Outcome
 outcome_at None = Done
-outcome_at (Some fault) = Faulted
+outcome_at (Some (fault, at)) = Faulted fault
 
 -- how a task ends by how its run did, the frames out going to the file with this name, which failed for this reason, if
 -- it did

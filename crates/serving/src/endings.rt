@@ -5,11 +5,12 @@ ghost use Rattle.std.specs.Io.KnownBytes.{Appends};
 ghost use Rattle.exact_io.specs.Transfers.{AppendsBeginning};
 ghost use Rattle.serving.specs.Statuses.{status_of, is_unsaid};
 ghost use Rattle.serving.specs.Saying.{AppendsPart};
-ghost use Rattle.serving.specs.Known.{IsKnown, told_of};
+ghost use Rattle.serving.specs.Known.{IsKnown, IsKnownOfText, told_of};
 ghost use Rattle.serving.specs.HandingOn.{HandsOn};
 
 use super::outcomes::{Outcome, STANDARD_OUTPUT};
 use super::rejections::Rejection;
+use assembler::shown;
 use buffered_io::PromptWriter;
 use exact_io::write_bytes;
 use explanations::reason;
@@ -23,7 +24,7 @@ use std::io::Write;
 pub struct Ending<'a> {
     pub outcome: Outcome<'a>,
     /// The registers and stack slots that concern the refused instruction, and the last jumps on
-    /// the way there, in lines.
+    /// the way there; or the line of a text that was refused, and what helps; in lines.
     pub why: Option<String>,
 }
 
@@ -46,6 +47,19 @@ impl<'a> Ending<'a> {
             Outcome::Refused(Rejection::Program(refusal, slot, _)) => {
                 reason(alloc, image, refusal, slot)
             }
+            _ => None,
+        };
+        Ending { outcome, why }
+    }
+
+    /// A task that read this text ended so. Where it was refused, the line is shown, and what helps;
+    /// nothing is where memory runs out.
+    pub fn of_text(alloc: Global, text: &[u8], outcome: Outcome<'a>) -> Self
+        ensures outcome { result.outcome ≡ outcome.entry }
+        ensures known { IsKnownOfText text.now result }
+    {
+        let why = match outcome {
+            Outcome::Refused(Rejection::Text(error)) => shown(alloc, text, error).ok(),
             _ => None,
         };
         Ending { outcome, why }

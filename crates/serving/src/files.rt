@@ -4,7 +4,7 @@ ghost use Rattle.std.specs.Prelude.{◌≡◌, ◌⊎◌, OnOk, IfOk, IfErr};
 ghost use Rattle.image.specs.Images.{IsImage};
 ghost use Rattle.serving.specs.Statuses.{IsReadFailure, IsMakeFailure};
 ghost use Rattle.tasks.specs.Requests.{files_of};
-ghost use Rattle.serving.specs.Commands.{LoadsNone, TracesFile, RunsFile, VerifiesFile, DisassemblesFile, AssemblesFile};
+ghost use Rattle.serving.specs.Commands.{LoadsNone, TracesFile, RunsFile, VerifiesFile, DisassemblesFile, Assembles, AssemblesFile};
 
 use super::endings::Ending;
 use super::outcomes::Outcome;
@@ -183,22 +183,18 @@ pub fn disassemble_file<'a, R: Files, W: Write>(
     say_text(&image, out)
 }
 
-/// Makes the image of a text: the text is read and judged, then the image is written, and then
-/// standard output says how large it is. Where memory runs out no file is opened for the image.
-pub fn assemble_file<'a, R: Files, W: Write>(
+// Makes the image of a text that was read.
+fn assemble_text<'a, R: Files, W: Write>(
     rt: &R,
     alloc: Global,
+    text: &[u8],
     paths: Assembly<'a>,
     out: &mut W,
 ) -> Outcome<'a>
-    ensures { AssemblesFile paths.entry.text.now paths.entry.image.now (W.contents out.old)
-        (W.contents out.new) result }
+    ensures { Assembles text.now paths.entry.image.now (W.contents out.old) (W.contents out.new)
+        result }
 {
-    let text = match read_file(rt, alloc, paths.text) {
-        Ok(text) => text,
-        Err(error) => return Outcome::of_read(paths.text, &error),
-    };
-    let image = match assembled(alloc, text.as_slice(), out) {
+    let image = match assembled(alloc, text, out) {
         Ok(image) => image,
         Err(outcome) => return outcome,
     };
@@ -209,4 +205,23 @@ pub fn assemble_file<'a, R: Files, W: Write>(
         Ok(mut file) => store_image(&image, line.as_str(), paths.image, out, &mut file),
         Err(outcome) => outcome,
     }
+}
+
+/// Makes the image of a text: the text is read and judged, then the image is written, and then
+/// standard output says how large it is. Where memory runs out no file is opened for the image.
+pub fn assemble_file<'a, R: Files, W: Write>(
+    rt: &R,
+    alloc: Global,
+    paths: Assembly<'a>,
+    out: &mut W,
+) -> Ending<'a>
+    ensures { AssemblesFile paths.entry.text.now paths.entry.image.now (W.contents out.old)
+        (W.contents out.new) result }
+{
+    let text = match read_file(rt, alloc, paths.text) {
+        Ok(text) => text,
+        Err(error) => return Ending::plain(Outcome::of_read(paths.text, &error)),
+    };
+    let source = text.as_slice();
+    Ending::of_text(alloc, source, assemble_text(rt, alloc, source, paths, out))
 }

@@ -3,7 +3,9 @@
 
 mod causes;
 mod endings;
+mod faults;
 mod files;
+mod forms;
 mod names;
 mod outcomes;
 mod proving;
@@ -18,6 +20,7 @@ mod texts;
 mod verdicts;
 
 pub use endings::Ending;
+pub use forms::Form;
 pub use outcomes::Outcome;
 pub use rejections::Rejection;
 pub use requests::serve;

@@ -9,9 +9,11 @@ ghost use Rattle.serving.specs.Saying.{AppendsPart};
 ghost use Rattle.serving.specs.Judging.{IsStoreFailure};
 
 use super::causes::{cause_line, line_after};
+use super::faults::say_fault;
 use super::rejections::Rejection;
 use super::texts::write_texts;
 use exact_io::write_bytes;
+use isa_model::Fault;
 use std::io;
 use std::io::{ErrorKind, Write};
 use tasks::WordsError;
@@ -29,8 +31,8 @@ pub enum Outcome<'a> {
     WrongWords(&'a str),
     /// The image, the program, the table or the text was refused, which standard output says.
     Refused(Rejection),
-    /// The report ended in a fault.
-    Faulted,
+    /// The report ended in this fault.
+    Faulted(Fault),
     /// The file at the path cannot be read.
     CannotRead(&'a str, ErrorKind),
     /// The file or output of this name cannot be written. Where standard output failed in a run,
@@ -84,8 +86,10 @@ impl<'a> Outcome<'a> {
         ensures { result ≡ is_silent self.now }
     {
         match self {
-            Outcome::Done | Outcome::Refused(_) | Outcome::Faulted | Outcome::CannotWrite(_, _) =>
-                false,
+            Outcome::Done
+            | Outcome::Refused(_)
+            | Outcome::Faulted(_)
+            | Outcome::CannotWrite(_, _) => false,
             Outcome::WrongWords(_)
             | Outcome::CannotRead(_, _)
             | Outcome::CannotReplace(_)
@@ -101,7 +105,7 @@ impl<'a> Outcome<'a> {
             Outcome::Done => 0,
             Outcome::WrongWords(_) => 1,
             Outcome::Refused(_) => 2,
-            Outcome::Faulted => 3,
+            Outcome::Faulted(_) => 3,
             Outcome::CannotRead(_, _) | Outcome::CannotWrite(_, _) | Outcome::CannotReplace(_) => 4,
             Outcome::NoMemory => 5,
         }
@@ -116,7 +120,8 @@ impl<'a> Outcome<'a> {
         ensures unsaid { is_unsaid self.entry ≡ true → W.contents err.new ≡ W.contents err.old }
     {
         match self {
-            Outcome::Done | Outcome::Faulted => Ok(()),
+            Outcome::Done => Ok(()),
+            Outcome::Faulted(fault) => say_fault(err, fault),
             Outcome::Refused(rejection) => rejection.say(err),
             Outcome::WrongWords(text) => {
                 write_bytes(err, text.as_bytes())?;

@@ -4,11 +4,14 @@ ghost use Rattle.std.specs.Prelude.{◌≡◌, ◌++◌, OnOk, OnErr, codes, dec
 ghost use Rattle.std.specs.Io.KnownBytes.{Appends};
 ghost use Rattle.isa_model.specs.Text.CanonicalText as canonical;
 ghost use Rattle.exact_io.specs.Transfers.{AppendsBeginning};
+ghost use Rattle.serving.specs.Forms.{form_line};
 ghost use Rattle.serving.specs.Messages.{sentence_of, map_place, insn_place, text_place, place_of, entry_place, step_place, table_place, reason_of};
 
+use super::forms::Form;
 use super::texts::write_texts;
 use assembler::AsmError;
 use disassembler::write_insn;
+use exact_io::write_bytes;
 use explorer::Refusal;
 use image::ImageError;
 use isa_model::Insn;
@@ -22,8 +25,8 @@ use table_entries::TableFault;
 /// What is refused, and why.
 #[derive(Clone, Copy)]
 pub enum Rejection {
-    /// The bytes are no image.
-    Image(ImageError),
+    /// The bytes are no image, and look like this.
+    Image(ImageError, Form),
     /// The program is not accepted, at a slot. The instruction is the one that begins there.
     Program(Refusal, usize, Option<Insn>),
     /// The table is not accepted. Of an entry whose step was tested this is the slot, and the
@@ -40,7 +43,7 @@ impl Rejection {
         ensures { result.now ≡ sentence_of self }
     {
         match self {
-            Rejection::Image(error) => error.sentence(),
+            Rejection::Image(error, _) => error.sentence(),
             Rejection::Program(refusal, _, _) => refusal.sentence(),
             Rejection::Table(error, _) => error.sentence(),
             Rejection::Explored => WriteTableError::Explored.sentence(),
@@ -56,13 +59,15 @@ impl Rejection {
             (AppendsBeginning (W.contents err.old) (W.contents err.new) (place_of self)) }
     {
         match self {
-            Rejection::Image(ImageError::MapRow(index)) => say_map(err, index),
+            Rejection::Image(ImageError::Magic, form) => say_form(err, form),
+            Rejection::Image(ImageError::MapRow(index), _) => say_map(err, index),
             Rejection::Image(
                 ImageError::Code(slot, _)
                 | ImageError::UnknownMap(slot)
                 | ImageError::ValuePointer(slot),
+                _,
             ) => say_slot(err, slot, "\n"),
-            Rejection::Image(_) => Ok(()),
+            Rejection::Image(_, _) => Ok(()),
             Rejection::Program(_, slot, None) => say_slot(err, slot, "\n"),
             Rejection::Program(_, slot, Some(insn)) => say_insn(err, slot, &insn),
             Rejection::Table(error, place) => say_table_place(err, error, place),
@@ -81,6 +86,16 @@ impl Rejection {
         write_texts(err, "", self.sentence(), "\n")?;
         self.say_place(err)
     }
+}
+
+// Writes what a file is that is no image.
+fn say_form<W: Write>(err: &mut W, form: Form) -> io::Result<()>
+    ensures ok { OnOk result (Appends (W.contents err.old) (W.contents err.new)
+        (form_line form)) }
+    ensures err { OnErr result (AppendsBeginning (W.contents err.old) (W.contents err.new)
+        (form_line form)) }
+{
+    write_bytes(err, form.line().as_bytes())
 }
 
 // Writes the index of a map.

@@ -48,10 +48,7 @@ pub fn serve<'a, R: Files, W: Write>(
         Task::Verify(path) => verify_file(rt, alloc, path, out),
         Task::Prove(proof) => prove_file(rt, alloc, proof, out),
         Task::Recheck(proof) => recheck_file(rt, alloc, proof, out),
-        Task::Assemble(paths) => Ending {
-            outcome: assemble_file(rt, alloc, paths, out),
-            why: None,
-        },
+        Task::Assemble(paths) => assemble_file(rt, alloc, paths, out),
         Task::Disassemble(path) => Ending {
             outcome: disassemble_file(rt, alloc, path, out),
             why: None,

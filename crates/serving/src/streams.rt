@@ -29,7 +29,7 @@ fn outcome_of<'a, W: Write + Drop>(
         Ok(tally) => match file.flush() {
             Ok(()) => match tally.fault {
                 None => Outcome::Done,
-                Some(_) => Outcome::Faulted,
+                Some((fault, _)) => Outcome::Faulted(fault),
             },
             Err(error) => Outcome::CannotWrite(path, Some(error.kind())),
         },

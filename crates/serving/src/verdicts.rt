@@ -17,6 +17,7 @@ ghost use Rattle.serving.specs.Judging.{RefusesImage, RefusesProgram, Accepts, V
 ghost use Rattle.serving.specs.Known.{IsKnown};
 
 use super::endings::Ending;
+use super::forms::form_of;
 use super::names::{image_line, text_line, verdict_line};
 use super::outcomes::{Outcome, STANDARD_OUTPUT};
 use super::rejections::Rejection;
@@ -79,7 +80,7 @@ pub fn image_of<'a, W: Write>(
         Err(ImageError::Memory) => Err(Outcome::NoMemory),
         Err(error) => Err(say_made(
             image_line(alloc, error),
-            Outcome::Refused(Rejection::Image(error)),
+            Outcome::Refused(Rejection::Image(error, form_of(bytes))),
             out,
         )),
     }

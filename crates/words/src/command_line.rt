@@ -22,7 +22,7 @@ struct Argument {
 
 const TEXT: Argument = Argument {
     name: "text",
-    help: "The program as text",
+    help: "The program as text; /dev/stdin is taken, too",
 };
 
 const MADE: Argument = Argument {
@@ -32,12 +32,12 @@ const MADE: Argument = Argument {
 
 const IMAGE: Argument = Argument {
     name: "image",
-    help: "The image of the program, as `asm` makes it",
+    help: "The image of the program, as `asm` makes it; /dev/stdin is taken, too",
 };
 
 const FRAMES: Argument = Argument {
     name: "frames",
-    help: "The stream of frames",
+    help: "The stream of frames, as `frames.py` makes it; /dev/stdin is taken, too",
 };
 
 const OUT: Argument = Argument {

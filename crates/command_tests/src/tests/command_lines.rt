@@ -48,8 +48,8 @@ Runs a program with every access tested, verified or not
 Usage: xdpvm trace [OPTIONS] <image> <frames> <out>
 
 Arguments:
-  <image>   The image of the program, as `asm` makes it
-  <frames>  The stream of frames
+  <image>   The image of the program, as `asm` makes it; /dev/stdin is taken, too
+  <frames>  The stream of frames, as `frames.py` makes it; /dev/stdin is taken, too
   <out>     Gets the frames that are sent on; a file that is there is replaced
 
 Options:
@@ -62,8 +62,8 @@ Verifies a program, runs it on each frame, and prints the report
 Usage: xdpvm run [OPTIONS] <image> <frames> <out>
 
 Arguments:
-  <image>   The image of the program, as `asm` makes it
-  <frames>  The stream of frames
+  <image>   The image of the program, as `asm` makes it; /dev/stdin is taken, too
+  <frames>  The stream of frames, as `frames.py` makes it; /dev/stdin is taken, too
   <out>     Gets the frames that are sent on; a file that is there is replaced
 
 Options:

@@ -1,22 +1,23 @@
 //! Images and streams that are cut, and reports that break off.
 
 use super::{
-    CLOSED, PASSED, PASSES_IMAGE, RUN, SHORT, answers, breaks, remove_files, stream, write_files,
+    CLOSED, CUT_HEAD, NO_MAGIC, PASSED, PASSES_IMAGE, RUN, SHORT, answers, breaks, remove_files,
+    stream, write_files,
 };
 use std::fs;
 use std::process::Abort;
 use std::rt::Files;
 use std::test::Fail;
 
-// What the stream of two empty records reports where it is cut after that many bytes.
-fn report_cut_at(count: usize) -> (u8, &'static str) {
+// What the stream of two empty records reports where it is cut after that many bytes, and why.
+fn report_cut_at(count: usize) -> (u8, &'static str, &'static str) {
     match count {
-        0..=3 => (3, "fault F1 at 0\n"),
-        4 => (0, "end 0\n"),
-        5..=23 => (3, "fault F2 at 4\n"),
-        24 => (0, "0 PASS 0 2\nend 1\n"),
-        25..=43 => (3, "0 PASS 0 2\nfault F2 at 24\n"),
-        _ => (0, "0 PASS 0 2\n1 PASS 0 2\nend 2\n"),
+        0..=3 => (3, "fault F1 at 0\n", NO_MAGIC),
+        4 => (0, "end 0\n", ""),
+        5..=23 => (3, "fault F2 at 4\n", CUT_HEAD),
+        24 => (0, "0 PASS 0 2\nend 1\n", ""),
+        25..=43 => (3, "0 PASS 0 2\nfault F2 at 24\n", CUT_HEAD),
+        _ => (0, "0 PASS 0 2\n1 PASS 0 2\nend 2\n", ""),
     }
 }
 
@@ -30,8 +31,8 @@ fn cut_frames(rt: HostRuntime) -> Result<(), Fail> {
     let two = stream(rt.alloc(), 40)?;
     for count in 0..45usize {
         fs::write(&rt, "cut", &two[..count.min(two.len())])?;
-        let (status, report) = report_cut_at(count);
-        answers(&rt, RUN_CUT, status, report, "")?;
+        let (status, report, said) = report_cut_at(count);
+        answers(&rt, RUN_CUT, status, report, said)?;
     }
     remove_files(&rt)
 }

@@ -1,8 +1,8 @@
 //! Files that fail, that are read and written at once, and that are large.
 
 use super::{
-    Answer, PASSED, RUN, SHORT, all_answer, answers, are_equal, holds, remove_files, write_files,
-    write_program,
+    Answer, NO_MAGIC, PASSED, RUN, SHORT, all_answer, answers, are_equal, holds, remove_files,
+    write_files, write_program,
 };
 use std::fs;
 use std::process::Abort;
@@ -34,7 +34,7 @@ const FAILING: [Answer; 11] = [
         &["trace", "image", "folder", "sent"],
         3,
         "fault F5 at 0\n",
-        "",
+        "the stream cannot be read\nsee that it is a file, and that the disk is sound\n",
     ),
     (
         &["trace", "image", "frames", "/dev/full"],
@@ -132,7 +132,8 @@ const LARGE: [Answer; 3] = [
         &["verify", "/dev/zero"],
         2,
         "refused I1\n",
-        "the bytes do not begin with XBP1 or XBP2\n",
+        "the bytes do not begin with XBP1 or XBP2\n\
+            an image is made of a text by xdpvm asm, of an ELF object by image.py\n",
     ),
 ];
 
@@ -157,7 +158,7 @@ const DEVICES: [Answer; 1] = [(
     &["trace", "image", "/dev/null", "/dev/null"],
     3,
     "fault F1 at 0\n",
-    "",
+    NO_MAGIC,
 )];
 
 /// A device is read and written at once: it holds nothing that could be lost.

@@ -39,7 +39,8 @@ const FAILING: [Answer; 3] = [
         &["asm", "wrong", "none/made"],
         2,
         "refused A5 line 2 column 6\n",
-        "the name is not defined\nline 2 column 6\n",
+        "the name is not defined\nline 2 column 6\ngoto a\n     ^\n\
+            a statement is named by `name:` before it; case counts\n",
     ),
     (
         &["asm", "right", "none/made"],

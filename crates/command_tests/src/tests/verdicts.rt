@@ -78,7 +78,8 @@ const REFUSED: [(&str, &str, &str); 12] = [
         "r0 = r10; exit",
         "refused V17 slot 1\n",
         "r0 is no number at the last exit, or points into the frame that ends\nslot 1: exit\n\
-             r0: frame pointer at 0\n",
+             r0: frame pointer at 0\n\
+             r0 has to be a number: 0 ABORTED, 1 DROP, 2 PASS, 3 TX\n",
     ),
     (
         "r0 = 0x1 ll; goto -2",
@@ -119,7 +120,8 @@ const REFUSED: [(&str, &str, &str); 12] = [
             *(u64 *)(r10 - 8) = r2; r4 = *(u64 *)(r10 - 8); r4 += r3; r0 = *(u8 *)(r4 + 0); exit",
         "refused V9 slot 8\n",
         "the packet bytes are not proved to be there\nslot 8: r0 = *(u8 *)(r4 + 0)\n\
-             r4: packet pointer at 4 after part 2 of 0 to 30, 0 bytes after the part proved\n",
+             r4: packet pointer at 4 after part 2 of 0 to 30, 0 bytes after the part proved\n\
+             needs bytes 4 to 4 after the part; 0 are proved\n",
     ),
     (
         "r3 = -7; r1 *= r3; r0 = 2; exit",
@@ -131,7 +133,8 @@ const REFUSED: [(&str, &str, &str); 12] = [
         "map hash 4 8 1; r1 = map_by_idx(0); r2 = r10; r2 += -6; call 1; exit",
         "refused V15 slot 4\n",
         "the helper's key or value bytes are not all written and in bounds\nslot 4: call 1\n\
-             r1: map 0\nr2: frame pointer at -6\nstack -8: unset\n",
+             r1: map 0\nr2: frame pointer at -6\n\
+             a key of map 0 has 4 bytes, a value 8\nstack -8: unset\n",
     ),
 ];
 

@@ -2,7 +2,7 @@ use Rattle.std.proofs.Common.{◌∙◌, ◌≤◌, None, subst, sym}
 use Rattle.tasks.specs.Requests.{request_of}
 use Rattle.serving.specs.declared.endings.Ending.{Ending}
 use Rattle.commands.proofs.Knowing.{whole_knows}
-use Rattle.commands.proofs.Endings.{silent_words, silent_memory, unsaid_done, unsaid_faulted, unsaid_knows, told_refused}
+use Rattle.commands.proofs.Endings.{silent_words, silent_memory, unsaid_done, told_faulted, unsaid_knows, told_refused}
 use Rattle.commands.proofs.Silence.{unasked_status, whole_handed_on, whole_silent}
 use Rattle.commands.proofs.Served.{asked-served, unasked}
 use Rattle.commands.proofs.answering.execute.Goals as goal
@@ -28,8 +28,8 @@ returns-in-Ok-clause-done g c e =
 
 pub returns-in-Ok-clause-faulted : goal.returns-in-Ok-clause-faulted
 returns-in-Ok-clause-faulted g c e =
-    let unsaid = unsaid_faulted _ (sym c.tell.ensures.status ∙ e) in
-    c.tell.ensures.unsaid unsaid (unsaid_knows _ _ (whole_knows _ (request_of c.in-Ok.task) _ _ _ _ c.flushed.result c.serve.ensures c.flushed.ensures) unsaid)
+    told_faulted c.flushed.result.outcome c.flushed.result.why _ _ (whole_knows _ (request_of c.in-Ok.task) _ _ _ _ c.flushed.result c.serve.ensures c.flushed.ensures)
+    (sym c.tell.ensures.status ∙ e) c.tell.ensures.said
 
 pub returns-in-Ok-clause-refused : goal.returns-in-Ok-clause-refused
 returns-in-Ok-clause-refused g c e =

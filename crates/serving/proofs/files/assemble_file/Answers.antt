@@ -1,11 +1,9 @@
-use Rattle.std.proofs.Common.{◌∙◌}
-use Rattle.serving.proofs.Loading.{text_stored, text_unmade}
+use Rattle.std.proofs.Common.{refl}
+use Rattle.serving.proofs.Loading.{text_assembled, text_unread}
 use Rattle.serving.proofs.files.assemble_file.Goals as goal
 
-pub returns-in-Ok-create_file : goal.returns-in-Ok-create_file
-returns-in-Ok-create_file g c =
-    text_stored _ _ _ _ _ c.as_slice.result.now _ _ _ c.in-Ok-assembled.image _ c.in-Ok-assembled.ensures.ok c.in-Ok-assembled.ensures.found (c.as_str.ensures.value ∙ c.in-Ok-size_line.ensures.line) c.store_image.ensures
+pub returns-in-Err : goal.returns-in-Err
+returns-in-Err g c = text_unread _ _ _ _ _ _ refl c.of_read.ensures.failed c.plain.ensures.outcome c.plain.ensures.why
 
 pub returns : goal.returns
-returns g c =
-    text_unmade _ _ c.as_slice.result.now _ _ c.in-Ok-assembled.image _ c.in-Ok-assembled.ensures.ok c.in-Ok-assembled.ensures.found c.in-Err-create_file.ensures
+returns g c = text_assembled _ _ _ _ _ _ _ c.assemble_text.ensures c.of_text.ensures.outcome c.of_text.ensures.known

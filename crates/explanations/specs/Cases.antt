@@ -1,0 +1,163 @@
+-- What an instruction needs that is refused, beside what is known: a line for each case.
+use Rattle.std.specs.Prelude.{ℕ, ◌-◌, ◌==◌, ℤ, pos, ◌+ℤ◌, ◌-ℤ◌, List, [], ◌++◌, length, min, max, slice_get, Option, Some, None, Bool, true, false, ◌&&◌, not, codes, decimal, if◌then◌else◌}
+use Rattle.std.specs.Fmt.{signed_decimal}
+use Rattle.isa_model.specs.declared.instructions.Insn.{Insn}
+use Rattle.isa_model.specs.declared.instructions.Insn.TheVariants.{Load, LoadSx, StoreConstant, Store, Atomic, Exchange, CompareExchange, CallHelper}
+use Rattle.isa_model.specs.declared.instructions.Place.{Place}
+use Rattle.isa_model.specs.declared.sizes.Size.{Size}
+use Rattle.isa_model.specs.Code.Sizes.{size_bytes, width_size, narrow_size}
+use Rattle.isa_model.specs.declared.helpers.Helper.{Helper}
+use Rattle.isa_model.specs.declared.helpers.Helper.TheVariants.{MapLookupElem, MapUpdateElem, MapDeleteElem, KtimeGetNs}
+use Rattle.isa_model.specs.Code.Helpers.{helper_numbered}
+use Rattle.isa_model.specs.declared.registers.Reg.TheVariants.{R1, R2, R3}
+use Rattle.isa_model.specs.declared.map_defs.MapDef.{MapDef}
+use Rattle.reg_state.specs.declared.kinds.Kind.{Kind}
+use Rattle.reg_state.specs.declared.kinds.Kind.TheVariants as kind
+use Rattle.stack_state.specs.declared.states.State.{State}
+use Rattle.stack_state.specs.Places.{kind_of}
+use Rattle.transfer.specs.HelperCalls.{points_to_bytes}
+use Rattle.transfer.specs.declared.refusals.Refusal.TheVariants.{StackPlace, PacketBytes, MapValueBytes, HelperArgument, HelperBytes, ExitValue}
+use Rattle.walks.specs.declared.refusals.Refusal.{Refusal}
+use Rattle.walks.specs.declared.refusals.Refusal.TheVariants.{Step, TooLong}
+use Rattle.explorer.specs.declared.explanations.Jump.{Jump}
+
+-- ---- places
+
+-- the size and the place of an access
+abbrev pub access : Insn → Option (Size × Place)
+access (Load size d place) = Some (size, place)
+access (LoadSx narrow d place) = Some (narrow_size narrow, place)
+access (StoreConstant size place constant) = Some (size, place)
+access (Store size place r) = Some (size, place)
+access (Atomic w op fetched place r) = Some (width_size w, place)
+access (Exchange w place r) = Some (width_size w, place)
+access (CompareExchange w place r) = Some (width_size w, place)
+access i = None
+
+abbrev pub needs_words : (first last : ℤ) → List ℕ
+needs_words first last = codes "needs bytes " ++ (signed_decimal first ++ (codes " to " ++ signed_decimal last))
+
+-- the last byte of an access by an offset, where its base is at this one
+abbrev pub last_byte : ℤ → ℤ → Size → ℤ
+last_byte base by size = ((base +ℤ by) +ℤ pos (size_bytes size)) -ℤ pos 1
+
+-- the bytes of an access by an offset, where its base is at one of these
+abbrev pub span_words : ℤ → ℤ → ℤ → Size → List ℕ
+span_words least greatest by size = needs_words (least +ℤ by) (last_byte greatest by size)
+
+-- from where on the bytes of the packet are counted
+abbrev pub behind_words : ℕ → List ℕ
+behind_words identity = if identity == 0 then codes "" else codes " after the part"
+
+-- how large the values of a map are
+abbrev pub size_in : Option MapDef → ℕ
+size_in None = 0
+size_in (Some row) = row.value_size
+
+abbrev pub row_size : List MapDef → ℕ → ℕ
+row_size rows m = size_in (slice_get rows m)
+
+-- which bytes are needed, and what there is: of a frame, of the packet, of a value
+abbrev pub frame_line : (span : List ℕ) → (bytes : ℕ) → List ℕ
+frame_line span bytes =
+    span ++ (codes ", and the first at a multiple of " ++ (decimal bytes ++ codes "; a frame has bytes -512 to -1\n"))
+
+abbrev pub packet_line : (span behind : List ℕ) → (proved : ℕ) → List ℕ
+packet_line span behind proved = span ++ (behind ++ (codes "; " ++ (decimal proved ++ codes " are proved\n")))
+
+abbrev pub value_line : (span : List ℕ) → (bytes : ℕ) → List ℕ
+value_line span bytes = span ++ (codes "; the value has " ++ (decimal bytes ++ codes "\n"))
+
+-- what an access needs that is refused for its place, and what there is
+abbrev pub access_line : List MapDef → Kind → Place → Size → List ℕ
+access_line rows (kind.Stack frame offset) place size =
+    frame_line (span_words offset offset place.offset size) (size_bytes size)
+access_line rows (kind.Packet fixed identity least greatest proved) place size =
+    packet_line (span_words fixed fixed place.offset size) (behind_words identity) proved
+access_line rows (kind.MapValue m least greatest) place size =
+    value_line (span_words least greatest place.offset size) (row_size rows m)
+access_line rows k place size = []
+
+abbrev pub line_at : List MapDef → State → Option (Size × Place) → List ℕ
+line_at rows a None = []
+line_at rows a (Some (size, place)) = access_line rows (kind_of a place.base) place size
+
+abbrev pub place_line : List MapDef → State → Insn → List ℕ
+place_line rows a i = line_at rows a (access i)
+
+-- ---- helpers
+
+abbrev pub is_map : Kind → Bool
+is_map (kind.Map m) = true
+is_map k = false
+
+-- what a look-up and a delete want, by what r1 is
+abbrev pub key_line : Kind → List ℕ
+key_line map =
+    if is_map map then codes "r2 has to point to the key: into a frame, the packet or a value\n"
+    else codes "r1 has to be a map: r1 = map_by_idx(0)\n"
+
+-- what an update wants, by what r1, r2 and r3 are
+abbrev pub update_line : (map key value : Kind) → List ℕ
+update_line map key value =
+    if not (is_map map && points_to_bytes key) then key_line map
+    else if points_to_bytes value then codes "r4 has to be a number, the flags: r4 = 0\n"
+    else codes "r3 has to point to the value: into a frame, the packet or a value\n"
+
+-- which argument is wrong that a helper has
+abbrev pub argument_line : State → Helper → List ℕ
+argument_line a MapLookupElem = key_line (kind_of a R1)
+argument_line a MapUpdateElem = update_line (kind_of a R1) (kind_of a R2) (kind_of a R3)
+argument_line a MapDeleteElem = key_line (kind_of a R1)
+argument_line a KtimeGetNs = codes "helper 5, the time, has no arguments\n"
+
+-- which helpers there are, or which argument is wrong
+abbrev pub numbered_line : State → ℤ → Option Helper → List ℕ
+numbered_line a number None = codes "helper " ++ (signed_decimal number ++ codes " is not known: there are 1 look-up, 2 update, 3 delete and 5 time\n")
+numbered_line a number (Some helper) = argument_line a helper
+
+abbrev pub helper_line : State → Insn → List ℕ
+helper_line a (CallHelper number) = numbered_line a number (helper_numbered number)
+helper_line a i = []
+
+-- the sizes of a map's keys and values
+abbrev pub row_line : ℕ → Option MapDef → List ℕ
+row_line m None = []
+row_line m (Some row) =
+    codes "a key of map " ++ (decimal m ++ (codes " has " ++ (decimal row.key_size ++ (codes " bytes, a value " ++ (decimal row.value_size ++ codes "\n")))))
+
+abbrev pub sizes_by : List MapDef → Kind → List ℕ
+sizes_by rows (kind.Map m) = row_line m (slice_get rows m)
+sizes_by rows k = []
+
+abbrev pub sizes_line : List MapDef → State → List ℕ
+sizes_line rows a = sizes_by rows (kind_of a R1)
+
+-- ---- ends and loops
+
+-- what an exit hands back, by how many callers there are
+abbrev pub exit_line : ℕ → List ℕ
+exit_line callers =
+    if callers == 0 then codes "r0 has to be a number: 0 ABORTED, 1 DROP, 2 PASS, 3 TX\n"
+    else codes "a function hands back no pointer to its own stack bytes\n"
+
+-- the loop that is not explored to its end: the last jump on the way there
+abbrev pub jump_line : Option Jump → List ℕ
+jump_line None = []
+jump_line (Some jump) =
+    codes "slots " ++ (decimal (min jump.from jump.to) ++ (codes " to " ++ (decimal (max jump.from jump.to) ++ codes " are taken again and again: limit what ends that (r2 &= 15)\n")))
+
+abbrev pub loop_line : List Jump → List ℕ
+loop_line way = jump_line (slice_get way (length way - 1))
+
+-- ---- cases
+
+abbrev pub case_line : List MapDef → State → Insn → Refusal → List Jump → List ℕ
+case_line rows a i (Step StackPlace) way = place_line rows a i
+case_line rows a i (Step PacketBytes) way = place_line rows a i
+case_line rows a i (Step MapValueBytes) way = place_line rows a i
+case_line rows a i (Step HelperArgument) way = helper_line a i
+case_line rows a i (Step HelperBytes) way = sizes_line rows a
+case_line rows a i (Step ExitValue) way = exit_line (length a.callers.items)
+case_line rows a i TooLong way = loop_line way
+case_line rows a i e way = []

@@ -1,0 +1,325 @@
+//! What an instruction needs that is refused, beside what is known: a line for each case.
+
+ghost use Rattle.std.specs.Prelude.{◌≡◌, ◌-◌, ◌+ℤ◌, IfOk, length, slice_get};
+ghost use Rattle.std.specs.Option.{option_copied};
+ghost use Rattle.std.specs.String.{string_bytes};
+ghost use Rattle.isa_model.specs.Code.Helpers.{helper_numbered};
+ghost use Rattle.isa_model.specs.Code.Sizes.{narrow_size};
+ghost use Rattle.transfer.specs.HelperCalls.{points_to_bytes};
+ghost use Rattle.explanations.specs.Cases as spec;
+ghost use Rattle.explanations.specs.Cases.{access, needs_words, last_byte, span_words, behind_words, frame_line, packet_line, value_line, is_map, key_line, update_line, argument_line, row_size, exit_line};
+
+use explorer::{Jump, Refusal};
+use isa_model::{Helper, Insn, MapDef, Narrow, Place, Reg, Size};
+use reg_state::Kind;
+use stack_state::State;
+use std::alloc::{AllocError, Global};
+use transfer::Refusal as StepRefusal;
+
+// What a sign-extending load reads.
+fn narrow_size(narrow: Narrow) -> Size
+    ensures { result ≡ narrow_size narrow }
+{
+    match narrow {
+        Narrow::S8 => Size::U8,
+        Narrow::S16 => Size::U16,
+        Narrow::S32 => Size::U32,
+    }
+}
+
+// The size and the place of an access.
+fn access(insn: &Insn) -> Option<(Size, Place)>
+    ensures { result ≡ access insn.now }
+{
+    match *insn {
+        Insn::Load(size, _, place) => Some((size, place)),
+        Insn::LoadSx(narrow, _, place) => Some((narrow_size(narrow), place)),
+        Insn::StoreConstant(size, place, _) => Some((size, place)),
+        Insn::Store(size, place, _) => Some((size, place)),
+        Insn::Atomic(width, _, _, place, _) => Some((width.size(), place)),
+        Insn::Exchange(width, place, _) => Some((width.size(), place)),
+        Insn::CompareExchange(width, place, _) => Some((width.size(), place)),
+        _ => None,
+    }
+}
+
+fn needs_words(alloc: Global, first: i64, last: i64) -> Result<String, AllocError>
+    ensures { IfOk result (λ text. string_bytes text ≡ needs_words first last) }
+{
+    format!(in alloc; "needs bytes {first} to {last}")
+}
+
+// The first byte of an access, where its base is at this offset.
+fn first_byte(base: i32, place: Place) -> i64
+    ensures { result ≡ base +ℤ place.offset }
+{
+    i64::from(base) + i64::from(place.offset)
+}
+
+// The last one.
+fn last_byte(base: i32, place: Place, size: Size) -> i64
+    ensures { result ≡ last_byte base place.offset size }
+{
+    i64::from(base) + i64::from(place.offset) + (size.bytes() as i64) - 1
+}
+
+// The bytes of an access, where its base is at one of these offsets.
+fn span_words(
+    alloc: Global,
+    least: i32,
+    greatest: i32,
+    place: Place,
+    size: Size,
+) -> Result<String, AllocError>
+    ensures { IfOk result (λ text. string_bytes text
+        ≡ span_words least greatest place.offset size) }
+{
+    let first = first_byte(least, place);
+    let last = last_byte(greatest, place, size);
+    needs_words(alloc, first, last)
+}
+
+// From where on the bytes of the packet are counted.
+fn behind_words(identity: u32) -> &'static str
+    ensures { result.now ≡ behind_words identity }
+{
+    if identity == 0 { "" } else { " after the part" }
+}
+
+// The row of a map.
+fn row_at(maps: &[MapDef], index: u8) -> Option<MapDef>
+    ensures { result ≡ slice_get maps.now index }
+{
+    maps.get(usize::from(index)).copied()
+}
+
+// How large the values of a map are.
+fn row_size(maps: &[MapDef], index: u8) -> u32
+    ensures { result ≡ row_size maps.now index }
+{
+    match row_at(maps, index) {
+        Some(row) => row.value_size,
+        None => 0,
+    }
+}
+
+// Which bytes of a frame are needed, and which there are.
+fn frame_line(alloc: Global, span: &str, bytes: usize) -> Result<String, AllocError>
+    ensures { IfOk result (λ text. string_bytes text ≡ frame_line span.now bytes) }
+{
+    format!(in alloc;
+        "{span}, and the first at a multiple of {bytes}; a frame has bytes -512 to -1\n"
+    )
+}
+
+// Which bytes of the packet are needed, and how many there are.
+fn packet_line(alloc: Global, span: &str, behind: &str, proved: u32) -> Result<String, AllocError>
+    ensures { IfOk result (λ text. string_bytes text ≡ packet_line span.now behind.now proved) }
+{
+    format!(in alloc; "{span}{behind}; {proved} are proved\n")
+}
+
+// Which bytes of a value are needed, and how many there are.
+fn value_line(alloc: Global, span: &str, bytes: u32) -> Result<String, AllocError>
+    ensures { IfOk result (λ text. string_bytes text ≡ value_line span.now bytes) }
+{
+    format!(in alloc; "{span}; the value has {bytes}\n")
+}
+
+// What an access needs that is refused for its place, and what there is.
+fn access_line(
+    alloc: Global,
+    maps: &[MapDef],
+    kind: Kind,
+    place: Place,
+    size: Size,
+) -> Result<String, AllocError>
+    ensures { IfOk result (λ text. string_bytes text
+        ≡ spec.access_line maps.now kind place size) }
+{
+    match kind {
+        Kind::Stack { offset, .. } => {
+            let span = span_words(alloc, offset, offset, place, size)?;
+            frame_line(alloc, span.as_str(), size.bytes())
+        }
+        Kind::Packet {
+            fixed,
+            identity,
+            proved,
+            ..
+        } => {
+            let span = span_words(alloc, fixed, fixed, place, size)?;
+            packet_line(alloc, span.as_str(), behind_words(identity), proved)
+        }
+        Kind::MapValue {
+            index,
+            least,
+            greatest,
+        } => {
+            let span = span_words(alloc, least, greatest, place, size)?;
+            value_line(alloc, span.as_str(), row_size(maps, index))
+        }
+        _ => Ok(String::new(alloc)),
+    }
+}
+
+// The same of an instruction.
+fn place_line(
+    alloc: Global,
+    maps: &[MapDef],
+    state: &State,
+    insn: &Insn,
+) -> Result<String, AllocError>
+    ensures { IfOk result (λ text. string_bytes text
+        ≡ spec.place_line maps.now state.now insn.now) }
+{
+    match access(insn) {
+        Some((size, place)) => access_line(alloc, maps, state.kind_of(place.base), place, size),
+        None => Ok(String::new(alloc)),
+    }
+}
+
+fn is_map(kind: Kind) -> bool
+    ensures { result ≡ is_map kind }
+{
+    matches!(kind, Kind::Map { .. })
+}
+
+fn points_to_bytes(kind: Kind) -> bool
+    ensures { result ≡ points_to_bytes kind }
+{
+    match kind {
+        Kind::Stack { .. } | Kind::Packet { .. } | Kind::MapValue { .. } => true,
+        _ => false,
+    }
+}
+
+// What a look-up and a delete want, by what r1 is.
+fn key_line(map: Kind) -> &'static str
+    ensures { result.now ≡ key_line map }
+{
+    if is_map(map) {
+        "r2 has to point to the key: into a frame, the packet or a value\n"
+    } else {
+        "r1 has to be a map: r1 = map_by_idx(0)\n"
+    }
+}
+
+// What an update wants, by what r1, r2 and r3 are.
+fn update_line(map: Kind, key: Kind, value: Kind) -> &'static str
+    ensures { result.now ≡ update_line map key value }
+{
+    if !(is_map(map) && points_to_bytes(key)) {
+        key_line(map)
+    } else if points_to_bytes(value) {
+        "r4 has to be a number, the flags: r4 = 0\n"
+    } else {
+        "r3 has to point to the value: into a frame, the packet or a value\n"
+    }
+}
+
+// Which argument is wrong that a helper has.
+fn argument_line(state: &State, helper: Helper) -> &'static str
+    ensures { result.now ≡ argument_line state.now helper }
+{
+    let map = state.kind_of(Reg::R1);
+    match helper {
+        Helper::MapLookupElem | Helper::MapDeleteElem => key_line(map),
+        Helper::MapUpdateElem => {
+            update_line(map, state.kind_of(Reg::R2), state.kind_of(Reg::R3))
+        }
+        Helper::KtimeGetNs => "helper 5, the time, has no arguments\n",
+    }
+}
+
+// Which helpers there are, or which argument is wrong.
+fn helper_line(alloc: Global, state: &State, insn: &Insn) -> Result<String, AllocError>
+    ensures { IfOk result (λ text. string_bytes text ≡ spec.helper_line state.now insn.now) }
+{
+    let Insn::CallHelper(number) = *insn else {
+        return Ok(String::new(alloc));
+    };
+    match Helper::numbered(number) {
+        None => format!(in alloc;
+            "helper {number} is not known: there are 1 look-up, 2 update, 3 delete and 5 time\n"
+        ),
+        Some(helper) => String::from_str(alloc, argument_line(state, helper)),
+    }
+}
+
+// The sizes of a map's keys and values.
+fn sizes_line(alloc: Global, maps: &[MapDef], state: &State) -> Result<String, AllocError>
+    ensures { IfOk result (λ text. string_bytes text ≡ spec.sizes_line maps.now state.now) }
+{
+    let Kind::Map { index } = state.kind_of(Reg::R1) else {
+        return Ok(String::new(alloc));
+    };
+    match row_at(maps, index) {
+        Some(row) => {
+            let key = row.key_size;
+            let value = row.value_size;
+            format!(in alloc; "a key of map {index} has {key} bytes, a value {value}\n")
+        }
+        None => Ok(String::new(alloc)),
+    }
+}
+
+// What an exit hands back.
+fn exit_line(callers: usize) -> &'static str
+    ensures { result.now ≡ exit_line callers }
+{
+    if callers == 0 {
+        "r0 has to be a number: 0 ABORTED, 1 DROP, 2 PASS, 3 TX\n"
+    } else {
+        "a function hands back no pointer to its own stack bytes\n"
+    }
+}
+
+// The last jump on the way.
+fn last_jump(way: &[Jump]) -> Option<Jump>
+    ensures { result ≡ slice_get way.now (length way.now - 1) }
+{
+    way.last().copied()
+}
+
+// The loop that is not explored to its end: the last jump on the way there.
+fn loop_line(alloc: Global, way: &[Jump]) -> Result<String, AllocError>
+    ensures { IfOk result (λ text. string_bytes text ≡ spec.loop_line way.now) }
+{
+    match last_jump(way) {
+        Some(jump) => {
+            let first = jump.from.min(jump.to);
+            let last = jump.from.max(jump.to);
+            format!(in alloc;
+                "slots {first} to {last} are taken again and again: limit what ends that (r2 &= 15)\n"
+            )
+        }
+        None => Ok(String::new(alloc)),
+    }
+}
+
+/// What the instruction needs that is refused, where more can be said than its registers tell.
+pub fn case_line(
+    alloc: Global,
+    maps: &[MapDef],
+    state: &State,
+    insn: &Insn,
+    refusal: Refusal,
+    way: &[Jump],
+) -> Result<String, AllocError>
+    ensures { IfOk result (λ text. string_bytes text
+        ≡ spec.case_line maps.now state.now insn.now refusal way.now) }
+{
+    match refusal {
+        Refusal::Step(
+            StepRefusal::StackPlace | StepRefusal::PacketBytes | StepRefusal::MapValueBytes,
+        ) => place_line(alloc, maps, state, insn),
+        Refusal::Step(StepRefusal::HelperArgument) => helper_line(alloc, state, insn),
+        Refusal::Step(StepRefusal::HelperBytes) => sizes_line(alloc, maps, state),
+        Refusal::Step(StepRefusal::ExitValue) => {
+            String::from_str(alloc, exit_line(state.callers.len()))
+        }
+        Refusal::TooLong => loop_line(alloc, way),
+        _ => Ok(String::new(alloc)),
+    }
+}

@@ -1,0 +1,36 @@
+//! Why a frame stream ended early, and what helps.
+
+ghost use Rattle.std.specs.Prelude.{◌≡◌, OnOk, OnErr};
+ghost use Rattle.std.specs.Io.KnownBytes.{Appends};
+ghost use Rattle.exact_io.specs.Transfers.{AppendsBeginning};
+ghost use Rattle.serving.specs.Faults.{fault_help, fault_lines};
+
+use super::texts::write_texts;
+use isa_model::Fault;
+use std::io;
+use std::io::Write;
+
+// The end of the line with the sentence, and then a line with what helps.
+fn fault_help(fault: Fault) -> &'static str
+    ensures { result.now ≡ fault_help fault }
+{
+    match fault {
+        Fault::BadMagic => {
+            "\nframes.py makes a stream of a capture (pcap, pcapng); the frames out are a magic alone\n"
+        }
+        Fault::TruncatedHead | Fault::TruncatedBody => "\nthe file was cut: make it again\n",
+        Fault::TooLong => "\nshorten the frame, or make a stream of XPF2 by frames.py --reasons\n",
+        Fault::ReadFailed => "\nsee that it is a file, and that the disk is sound\n",
+        Fault::TooManyRecords => "\nsplit the stream\n",
+    }
+}
+
+/// Says why a frame stream ended early, and in the next line what helps.
+pub fn say_fault<W: Write>(err: &mut W, fault: Fault) -> io::Result<()>
+    ensures ok { OnOk result
+        (Appends (W.contents err.old) (W.contents err.new) (fault_lines fault)) }
+    ensures err { OnErr result
+        (AppendsBeginning (W.contents err.old) (W.contents err.new) (fault_lines fault)) }
+{
+    write_texts(err, "", fault.sentence(), fault_help(fault))
+}

@@ -1,0 +1,99 @@
+//! What a file is that is no image, and what makes an image of it.
+
+ghost use Rattle.std.specs.Prelude.{◌≡◌, bytes_eq};
+ghost use Rattle.std.specs.List.{list_all};
+ghost use Rattle.serving.specs.Forms.{front_of, is_text_byte, form_by, form_of, form_line};
+
+/// What the first bytes of a file show that it is.
+#[derive(Clone, Copy)]
+pub enum Form {
+    Unknown,
+    /// An object of a compiler.
+    Elf,
+    Gzip,
+    Pcap,
+    Pcapng,
+    /// A frame stream.
+    Frames,
+    /// A proof table.
+    Table,
+    /// A program text, or another one.
+    Text,
+}
+
+// The first four bytes, or fewer.
+fn front_of(bytes: &[u8]) -> &[u8]
+    ensures { result.now ≡ front_of bytes.now }
+{
+    &bytes[..bytes.len().min(4)]
+}
+
+fn is_same(front: &[u8], magic: &[u8]) -> bool
+    ensures { result ≡ bytes_eq front.now magic.now }
+{
+    front == magic
+}
+
+// A line feed, a tab, or what ASCII prints.
+fn is_text_byte(byte: u8) -> bool
+    ensures { result ≡ is_text_byte byte }
+{
+    byte == b'\n' || byte == b'\t' || (byte >= b' ' && byte < 127)
+}
+
+fn is_text(front: &[u8]) -> bool
+    ensures { result ≡ list_all is_text_byte front.now }
+{
+    front.iter().all(|b| is_text_byte(*b))
+}
+
+fn form_by(front: &[u8]) -> Form
+    ensures { result ≡ form_by front.now }
+{
+    if is_same(front, b"\x7fELF") {
+        Form::Elf
+    } else if is_same(front, b"\xd4\xc3\xb2\xa1") || is_same(front, b"\xa1\xb2\xc3\xd4") {
+        Form::Pcap
+    } else if is_same(front, b"\x4d\x3c\xb2\xa1") || is_same(front, b"\xa1\xb2\x3c\x4d") {
+        Form::Pcap
+    } else if is_same(front, b"\x0a\x0d\x0d\x0a") {
+        Form::Pcapng
+    } else if is_same(front, b"XPF1") || is_same(front, b"XPF2") {
+        Form::Frames
+    } else if is_same(front, b"XPT1") {
+        Form::Table
+    } else if is_same(front, b"\x1f\x8b\x08\x00") || is_same(front, b"\x1f\x8b\x08\x08") {
+        Form::Gzip
+    } else if is_text(front) && !is_same(front, b"XBP3") {
+        Form::Text
+    } else {
+        Form::Unknown
+    }
+}
+
+/// What a file is that begins so.
+#[tactic(auto, unfolding(crate::specs::Forms::form_of))]
+pub fn form_of(bytes: &[u8]) -> Form
+    ensures { result ≡ form_of bytes.now }
+{
+    form_by(front_of(bytes))
+}
+
+impl Form {
+    /// What the file is, and what makes an image of it, in a line.
+    pub fn line(self) -> &'static str
+        ensures { result.now ≡ form_line self }
+    {
+        match self {
+            Form::Unknown =>
+                "an image is made of a text by xdpvm asm, of an ELF object by image.py\n",
+            Form::Elf => "it is an ELF object: image.py makes an image of it\n",
+            Form::Gzip => "it is packed by gzip: gunzip unpacks it\n",
+            Form::Pcap => "it is a capture (pcap): frames.py makes a frame stream of it\n",
+            Form::Pcapng => "it is a capture (pcapng): frames.py makes a frame stream of it\n",
+            Form::Frames => "it is a frame stream: the image stands before it, as in xdpvm run\n",
+            Form::Table => "it is a proof table: the image stands before it, as in xdpvm recheck\n",
+            Form::Text => "it looks like a text: xdpvm asm makes an image of it\n",
+        }
+    }
+}
