@@ -17,8 +17,8 @@ static uint32_t call(int which) {
     struct xdpvm_traced_end traced;
     struct xdpvm_streamed streamed;
     switch (which) {
-    case 0: return xdpvm_verify(image, size, why, sizeof why, &verdict);
-    case 1: return xdpvm_verify(image, size, why, 0, &verdict);
+    case 0: return xdpvm_verify(image, size, XDPVM_MAX_EXPLORED, why, sizeof why, &verdict);
+    case 1: return xdpvm_verify(image, size, XDPVM_MAX_EXPLORED, why, 0, &verdict);
     case 2: return xdpvm_run_once(image, size, &head, packet, sizeof packet, &ended);
     case 3: return xdpvm_trace_once(image, size, &head, packet, sizeof packet, XDPVM_MAX_STEPS, &traced);
     default: return xdpvm_run_stream(image, size, frames, sizeof frames, report, sizeof report, sent, sizeof sent, &streamed);

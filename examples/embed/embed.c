@@ -22,7 +22,7 @@ static size_t read_file(const char *path, uint8_t *to, size_t room) {
 /* Prints the verdict; a refusal's first line is what the command prints, and the rest is told beside it. */
 static uint32_t judge(size_t size) {
     struct xdpvm_verdict verdict;
-    uint32_t status = xdpvm_verify(image, size, text, sizeof text, &verdict);
+    uint32_t status = xdpvm_verify(image, size, XDPVM_MAX_EXPLORED, text, sizeof text, &verdict);
     if (status == XDPVM_OK) {
         printf("ok bound %u\n", verdict.bound);
     } else if (status == XDPVM_REFUSED) {
@@ -57,11 +57,13 @@ int main(int count, char **words) {
     for (int i = 1; i < count; i++) {
         size_t size = read_file(words[i], image, sizeof image);
         struct xdpvm_verdict verdict;
-        if (judge(size) == XDPVM_OK && xdpvm_verify(image, size, text, 0, &verdict) == XDPVM_OK) run(size, verdict.bound);
+        if (judge(size) == XDPVM_OK && xdpvm_verify(image, size, XDPVM_MAX_EXPLORED, text, 0, &verdict) == XDPVM_OK) run(size, verdict.bound);
     }
     const char source[] = "r0 = 2\nexit\n";
     struct xdpvm_assembled assembled;
     uint32_t status = xdpvm_assemble((const uint8_t *)source, sizeof source - 1, made, sizeof made, text, sizeof text, &assembled);
     if (status != XDPVM_OK || assembled.size != 24) return 1;
+    struct xdpvm_verdict verdict;
+    if (xdpvm_verify(made, assembled.size, 1, text, sizeof text, &verdict) != XDPVM_UNDECIDED) return 1;
     return 0;
 }

@@ -50,6 +50,8 @@ fn main() -> Result<(), Box<dyn std::error::Error>> {
     let image = xdpvm::assemble("r0 = 2\nexit\n")?;
     let long = xdpvm::run_once(&image, &Head::default(), &mut [0; 9217]);
     assert_eq!(long, Err(Error::Wrong));
+    assert_eq!(xdpvm::verify_within(&image, 1), Err(Error::Undecided));
+    assert_eq!(xdpvm::verify_within(&image, 2), Ok(2));
     let ran = xdpvm::run_stream(&image, b"XPF1")?;
     assert_eq!(
         (&ran.report[..], &ran.sent[..]),

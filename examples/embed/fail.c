@@ -68,7 +68,7 @@ static uint32_t call(int which) {
     struct xdpvm_head head = {7, 2, 0};
     switch (which) {
     case 0: return xdpvm_assemble(text, text_size, made, sizeof made, why, sizeof why, &assembled);
-    case 1: return xdpvm_verify(image, image_size, why, sizeof why, &verdict);
+    case 1: return xdpvm_verify(image, image_size, XDPVM_MAX_EXPLORED, why, sizeof why, &verdict);
     case 2: return xdpvm_run_once(image, image_size, &head, packet, sizeof packet, &ended);
     case 3: return xdpvm_trace_once(image, image_size, &head, packet, sizeof packet, 100000, &traced);
     case 4: return xdpvm_run_stream(image, image_size, frames, sizeof frames, made, sizeof made, why, sizeof why, &streamed);

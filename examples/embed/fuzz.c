@@ -1,15 +1,20 @@
 /* What libFuzzer or AFL++ calls: an accepted program runs, its traced run agrees, and all calls agree in the verdict.
 
-   The input's first byte says whether a text (1) or an image (0) is at byte 12; before that come the head and the length of
-   the packet. With counters in the library (docs/EMBEDDING.md): clang -fsanitize=fuzzer fuzz.c OBJECT liblibc_c.a. Without,
-   -DDRIVE gives a driver that mutates files by itself: fuzz SECONDS SEED FILE.. */
+   The input's first byte says by its lowest bit whether a text (1) or an image (0) is at byte 12; before that come the head
+   and the length of the packet. With bit 1 the image ends after as many bytes as bytes 10 and 11 say, and what follows it is
+   a stream of frames (bit 2: 0) or a proof table (1). With counters in the library (docs/EMBEDDING.md):
+   clang -fsanitize=fuzzer fuzz.c OBJECT liblibc_c.a. Without, -DDRIVE gives a driver that mutates files by itself:
+   fuzz SECONDS SEED FILE.. */
 #include "xdpvm.h"
 #include <stdio.h>
 #include <stdlib.h>
 #include <string.h>
 
 static uint8_t image[XDPVM_MAX_IMAGE], why[1 << 14], one[XDPVM_MAX_PACKET], two[XDPVM_MAX_PACKET];
-static unsigned long tried, accepted, traced_alone;
+static unsigned long tried, accepted, traced_alone, undecided, rechecks, streams;
+
+/* No input takes seconds: what is explored up to here takes milliseconds. */
+#define MOST_EXPLORED 20000
 
 static void check(int holds, const char *what) {
     if (!holds) {
@@ -19,7 +24,8 @@ static void check(int holds, const char *what) {
 }
 
 static void report(void) {
-    fprintf(stderr, "tried %lu, accepted %lu, traced alone %lu\n", tried, accepted, traced_alone);
+    fprintf(stderr, "tried %lu, accepted %lu, traced alone %lu, undecided %lu, streams %lu, tables %lu\n", tried, accepted,
+            traced_alone, undecided, streams, rechecks);
 }
 
 /* A refused program may be traced, and has to end in one of the three ways. */
@@ -35,7 +41,12 @@ static void compare(const uint8_t *code, size_t size, const struct xdpvm_head *h
     struct xdpvm_verdict verdict = {0, 0, 0};
     struct xdpvm_ended ended = {0, 0};
     struct xdpvm_traced_end traced = {0, 0, 9, 0};
-    uint32_t judged = xdpvm_verify(code, size, why, sizeof why, &verdict);
+    uint32_t judged = xdpvm_verify(code, size, MOST_EXPLORED, why, sizeof why, &verdict);
+    if (judged == XDPVM_UNDECIDED) {
+        undecided++;
+        trace_refused(code, size, head, length);
+        return;
+    }
     uint32_t ran = xdpvm_run_once(code, size, head, one, length, &ended);
     if (judged == XDPVM_MEMORY || ran == XDPVM_MEMORY) return;
     check(judged == ran, "verify and run");
@@ -52,6 +63,34 @@ static void compare(const uint8_t *code, size_t size, const struct xdpvm_head *h
     check(!memcmp(one, two, length), "the packets");
 }
 
+/* A table that passes shows what a verified program has: the traced run exits within its bound. */
+static void recheck(const uint8_t *code, size_t size, const uint8_t *table, size_t count, const struct xdpvm_head *head, size_t length) {
+    struct xdpvm_rechecked rechecked = {0, 0, 0};
+    struct xdpvm_traced_end end = {0, 0, 9, 0};
+    if (xdpvm_recheck(code, size, table, count, &rechecked) != XDPVM_OK) return;
+    rechecks++;
+    check(rechecked.bound >= 1 && rechecked.bound <= XDPVM_MAX_STEPS, "the bound of a table");
+    uint32_t tested = xdpvm_trace_once(code, size, head, two, length, rechecked.bound, &end);
+    check(tested == XDPVM_MEMORY || (tested == XDPVM_OK && end.kind == XDPVM_EXIT), "a program with a table traps, or passes its bound");
+}
+
+/* A stream is run alike into buffers of any size: each gets the front of the same. */
+static void stream(const uint8_t *code, size_t size, const uint8_t *frames, size_t count) {
+    static uint8_t report[2][1 << 16], sent[2][1 << 16];
+    struct xdpvm_verdict verdict = {0, 0, 0};
+    struct xdpvm_streamed told[2] = {{0, 0, 0, 0, 0}, {0, 0, 0, 0, 0}};
+    if (xdpvm_verify(code, size, MOST_EXPLORED, why, 0, &verdict) != XDPVM_OK) return;
+    uint32_t first = xdpvm_run_stream(code, size, frames, count, report[0], sizeof report[0], sent[0], sizeof sent[0], &told[0]);
+    uint32_t second = xdpvm_run_stream(code, size, frames, count, report[1], 40, sent[1], 40, &told[1]);
+    if (first == XDPVM_MEMORY || second == XDPVM_MEMORY) return;
+    streams++;
+    check(first == XDPVM_OK && second == XDPVM_OK, "verify and run_stream");
+    check(!memcmp(&told[0], &told[1], sizeof told[0]) && told[0].fault <= 6, "what is told of a stream");
+    check(told[0].sent <= (count < 4 ? 4 : count) && told[0].report >= 6, "the sizes of the report and the frames out");
+    check(!memcmp(report[0], report[1], told[0].report < 40 ? told[0].report : 40), "the reports");
+    check(!memcmp(sent[0], sent[1], told[0].sent < 40 ? told[0].sent : 40), "the frames out");
+}
+
 int LLVMFuzzerTestOneInput(const uint8_t *data, size_t count) {
     if (!tried) atexit(report);
     tried++;
@@ -61,6 +100,15 @@ int LLVMFuzzerTestOneInput(const uint8_t *data, size_t count) {
     for (size_t i = 0; i < length; i++) one[i] = two[i] = (uint8_t)(data[6 + i % 6] + i / 6);
     const uint8_t *code = data + 12;
     size_t size = count - 12;
+    if (data[0] & 2) {
+        size_t image_size = (data[10] | (size_t)data[11] << 8) % (size + 1);
+        if (data[0] & 4) {
+            recheck(code, image_size, code + image_size, size - image_size, &head, length);
+        } else {
+            stream(code, image_size, code + image_size, size - image_size);
+        }
+        return 0;
+    }
     if (data[0] & 1) {
         struct xdpvm_assembled assembled;
         if (xdpvm_assemble(code, size, image, sizeof image, why, sizeof why, &assembled) != XDPVM_OK) return 0;

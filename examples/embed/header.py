@@ -1,7 +1,7 @@
 #!/usr/bin/env python3
 """Compares xdpvm.h and xdpvm.rs with the exports of crates/xdpvm_c/src: names, parameters in their order with their types,
 results, and structs with their fields; in the header also statuses, limits and the version. Nothing else does: a compiler
-sees the declarations alone.
+sees only the declarations.
 
 usage: python3 examples/embed/header.py
 
@@ -105,13 +105,12 @@ def constant(source, name):
 
 def limits(source):
     """The numbers of the header, by the constants of the crates."""
-    for name in ("OK", "WRONG", "REFUSED", "MEMORY"):
+    for name in ("OK", "WRONG", "REFUSED", "MEMORY", "UNDECIDED"):
         yield f"XDPVM_{name}", constant(source, name)
-    below = read("crates/isa_model/src/frames.rt", "crates/isa_model/src/ends.rt")
-    yield "XDPVM_MAX_PACKET", constant(below, "MAX_PACKET")
-    yield "XDPVM_MAX_STEPS", constant(below, "MAX_STEPS")
-    head = read("crates/image/src/head.rt")
-    maps, slots = constant(head, "MAX_MAPS"), constant(head, "MAX_SLOTS")
+    below = read("crates/isa_model/src/limits.rt")
+    for name in ("MAX_PACKET", "MAX_STEPS", "MAX_EXPLORED"):
+        yield f"XDPVM_{name}", constant(below, name)
+    maps, slots = constant(below, "MAX_MAPS"), constant(below, "MAX_SLOTS")
     yield "XDPVM_MAX_IMAGE", str(8 + 12 * int(maps) + 8 * int(slots)) if maps and slots else None
     ends = re.findall(r"kind: (\d),", source.split("fn end_of(")[1])
     yield from zip(("XDPVM_EXIT", "XDPVM_TRAP", "XDPVM_LIMIT"), ends)

@@ -34,6 +34,7 @@ extern "C" {
 #define XDPVM_WRONG 1   /* an argument is outside its limits: nothing was done */
 #define XDPVM_REFUSED 2 /* the text, the image, the program or the table is refused */
 #define XDPVM_MEMORY 5  /* out of memory: nothing was written */
+#define XDPVM_UNDECIDED 6 /* neither accepted nor refused: the limit of xdpvm_verify came first. Nothing was written */
 
 /* An image never has more bytes: 8, 12 for each of 16 maps, 8 for each of 4,096 slots. */
 #define XDPVM_MAX_IMAGE 32968
@@ -43,6 +44,9 @@ extern "C" {
 
 /* The most steps that a run may be given, and the greatest bound. */
 #define XDPVM_MAX_STEPS 1000000
+
+/* The most instructions that xdpvm_verify explores: with this limit it never answers XDPVM_UNDECIDED. */
+#define XDPVM_MAX_EXPLORED 1000000
 
 /* The size of an image or of the text of a refusal, and the line and the column of the latter, from 1. */
 struct xdpvm_assembled {
@@ -113,8 +117,11 @@ uint32_t xdpvm_assemble(const uint8_t *text, size_t text_len, uint8_t *image, si
 
 /* Verifies the program of an image. XDPVM_OK: no run of it traps, and each exits within out->bound steps, on every packet
    of at most 9,216 bytes. XDPVM_REFUSED: `why` gets what `xdpvm verify` prints: the code and the place, a sentence, the
-   instruction, and what is known there. The last is looked for only where why_len is not 0. */
-uint32_t xdpvm_verify(const uint8_t *image, size_t image_len, uint8_t *why, size_t why_len, struct xdpvm_verdict *out);
+   instruction, and what is known there. The last is looked for only where why_len is not 0. No more than `limit`
+   instructions are explored: where that is not enough, the answer is XDPVM_UNDECIDED, and a larger limit may say more.
+   XDPVM_WRONG: the limit is not from 1 to 1,000,000. */
+uint32_t xdpvm_verify(const uint8_t *image, size_t image_len, uint32_t limit, uint8_t *why, size_t why_len,
+                      struct xdpvm_verdict *out);
 
 /* Verifies an image, and runs its program on a packet, in place, with maps as they start. XDPVM_WRONG: the packet has
    more than 9,216 bytes. XDPVM_REFUSED: xdpvm_verify says why. */

@@ -7,6 +7,9 @@ use std::fmt;
 /// The most bytes of an image.
 const MAX_IMAGE: usize = 32_968;
 
+/// The most instructions that are explored.
+pub const MAX_EXPLORED: u32 = 1_000_000;
+
 #[repr(C)]
 #[derive(Default)]
 struct Assembled {
@@ -81,6 +84,7 @@ unsafe extern "C" {
     fn xdpvm_verify(
         image: *const u8,
         image_len: usize,
+        limit: u32,
         why: *mut u8,
         why_len: usize,
         out: &mut Verdict,
@@ -131,6 +135,8 @@ pub enum Error {
     /// Refused. The text says why; it is empty where `verify` says more.
     Refused(String),
     Memory,
+    /// Neither accepted nor refused: the limit on explored instructions came first.
+    Undecided,
 }
 
 impl fmt::Display for Error {
@@ -140,6 +146,7 @@ impl fmt::Display for Error {
             Error::Refused(why) if why.is_empty() => f.write_str("refused"),
             Error::Refused(why) => f.write_str(why.trim_end()),
             Error::Memory => f.write_str("out of memory"),
+            Error::Undecided => f.write_str("more instructions would have to be explored"),
         }
     }
 }
@@ -151,6 +158,7 @@ fn answer<T>(status: u32, value: T, why: Vec<u8>) -> Result<T, Error> {
         0 => Ok(value),
         1 => Err(Error::Wrong),
         2 => Err(Error::Refused(String::from_utf8_lossy(&why).into_owned())),
+        6 => Err(Error::Undecided),
         _ => Err(Error::Memory),
     }
 }
@@ -203,6 +211,12 @@ pub fn assemble(text: &str) -> Result<Vec<u8>, Error> {
 
 /// The most steps of a run of an accepted program, none of which traps.
 pub fn verify(image: &[u8]) -> Result<u32, Error> {
+    verify_within(image, MAX_EXPLORED)
+}
+
+/// The same, with no more instructions explored than the limit, from 1 to `MAX_EXPLORED`: where that is not enough, the
+/// answer is `Error::Undecided`.
+pub fn verify_within(image: &[u8], limit: u32) -> Result<u32, Error> {
     let mut out = Verdict::default();
     let (status, why) = with_room(1024, |why| {
         // SAFETY: as above.
@@ -210,6 +224,7 @@ pub fn verify(image: &[u8]) -> Result<u32, Error> {
             xdpvm_verify(
                 image.as_ptr(),
                 image.len(),
+                limit,
                 why.as_mut_ptr(),
                 why.len(),
                 &mut out,

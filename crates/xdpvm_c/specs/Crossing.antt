@@ -14,6 +14,10 @@ IsVerdict status = (status ≡ 0) ⊎ ((status ≡ 2) ⊎ (status ≡ 5))
 abbrev pub IsStatus : ℕ → Type 0
 IsStatus status = (status ≡ 1) ⊎ IsVerdict status
 
+-- done, refused, out of memory, or the limit on explored instructions came first
+abbrev pub IsDecision : ℕ → Type 0
+IsDecision status = (status ≡ 6) ⊎ IsVerdict status
+
 -- a buffer after bytes were written to it, as far as there is room
 abbrev pub filled : List ℕ → List ℕ → List ℕ
 filled buffer bytes = take (length buffer) bytes ++ drop (length bytes) buffer

@@ -1,6 +1,7 @@
 -- What is answered of images and texts.
-use Rattle.std.specs.Prelude.{◌≡◌, ◌≢◌, ℕ, false, List, length, Some, Ok, Err, ◌⊎◌}
+use Rattle.std.specs.Prelude.{◌≡◌, ◌≢◌, ◌<◌, ℕ, false, List, length, Some, Ok, Err, ◌⊎◌}
 use Rattle.isa_model.specs.Code.Instructions.{Program}
+use Rattle.isa_model.specs.Code.Limits.{max_explored}
 use Rattle.isa_model.specs.declared.frames.FrameHead.{FrameHead}
 use Rattle.isa_model.specs.Machine.States.{Entries}
 use Rattle.isa_model.specs.Reporting.Reports.{starting_contents}
@@ -40,13 +41,21 @@ pub record RefusesProgram (bytes : List ℕ) (refusal : Refusal) (slot : ℕ) : 
 abbrev pub IsRefusedImage : List ℕ → Type 0
 IsRefusedImage bytes = IsNoImage bytes ⊎ ((refusal : Refusal) × (slot : ℕ) × RefusesProgram bytes refusal slot)
 
--- The bytes are no image, and a buffer says why; or they are one whose program is refused at the slot, and the buffer says
--- that. `said` is how many bytes the text has.
+-- the program is refused at a slot, and a buffer says why; `said` is how many bytes the text has
+abbrev pub TellsRefusal : Program → ℕ → List ℕ → List ℕ → ℕ → Type 0
+TellsRefusal p slot old new said =
+    (refusal : Refusal) × IsRefused p refusal slot × (is_memory refusal ≡ false)
+    × ((told : List ℕ) × TellsProgram p refusal slot told × Fills old new said told)
+
+-- the bytes are no image, and a buffer says why; or they are one whose program is refused, and the buffer says that
 abbrev pub RefusesImage : List ℕ → ℕ → List ℕ → List ℕ → ℕ → Type 0
 RefusesImage bytes slot old new said =
     ((error : ImageError) × (refusal_of bytes ≡ Some error) × (slot ≡ 0) × Fills old new said (image_text error))
-    ⊎ ((refusal : Refusal) × (program : Program) × (bytes ≡ image_bytes program) × IsRefused program refusal slot
-    × (is_memory refusal ≡ false) × ((told : List ℕ) × TellsProgram program refusal slot told × Fills old new said told))
+    ⊎ ((program : Program) × (bytes ≡ image_bytes program) × TellsRefusal program slot old new said)
+
+-- the bytes are an image, and the limit is one that a search can reach
+abbrev pub IsUndecided : List ℕ → ℕ → Type 0
+IsUndecided bytes limit = (program : Program) × (bytes ≡ image_bytes program) × (limit < max_explored)
 
 -- ---- texts
 

@@ -1,18 +1,20 @@
 //! Verdicts on images.
 
-ghost use Rattle.std.specs.Prelude.{◌≡◌, ◌≢◌, Err, IfOk};
+ghost use Rattle.std.specs.Prelude.{◌≡◌, ◌≢◌, ◌<◌, ◌↔◌, ◌⊎◌, Err, IfOk};
+ghost use Rattle.isa_model.specs.Code.Limits.{max_explored};
 ghost use Rattle.image.specs.Images.{image_bytes};
 ghost use Rattle.bounds.specs.Bounds.{IsVerified};
-ghost use Rattle.xdpvm_c.specs.Crossing.{IsVerdict, is_memory};
-ghost use Rattle.xdpvm_c.specs.Verdicts.{Accepts, IsRefusedImage, RefusesImage};
+ghost use Rattle.xdpvm_c.specs.Crossing.{IsDecision, is_memory};
+ghost use Rattle.xdpvm_c.specs.Verdicts.{Accepts, IsRefusedImage, RefusesImage, TellsRefusal, IsUndecided};
 ghost use Rattle.xdpvm_c.specs.declared.statuses.Failure.TheVariants as Failure;
 
 use crate::filling::fill;
-use crate::statuses::{Failure, MEMORY, OK, REFUSED};
+use crate::statuses::{Failure, MEMORY, OK, REFUSED, UNDECIDED, WRONG};
 use crate::texts::{image_text, program_text};
 use control_flow::FlowError;
-use explorer::{Refusal, Verified, verify};
+use explorer::{Refusal, Stop, Verified, verify, verify_within};
 use image::{Image, ImageError};
+use isa_model::MAX_EXPLORED;
 use std::alloc::Global;
 
 /// What is answered of an image: the most steps of a run if it is accepted, and else the slot of
@@ -55,41 +57,22 @@ pub fn verified_of(alloc: Global, image: &[u8]) -> Result<Verified, Failure>
     }
 }
 
-/// Verifies an image. Why it is refused goes to `why`, as far as there is room; what is known at the
-/// refused instruction is looked for only where there is some.
-#[unsafe(no_mangle)]
-pub extern "C" fn xdpvm_verify(
-    alloc: Global,
-    image: &[u8],
-    why: &mut [u8],
-    out: &mut Verdict,
-) -> u32
-    ensures accepted { result ≡ 0 → Accepts image.now out.new.bound }
-    ensures refused { result ≡ 2
-        → RefusesImage image.now out.new.slot why.old why.new out.new.said }
+// Judges a program, and tells why it is refused.
+fn judge(alloc: Global, program: Image, limit: u32, why: &mut [u8], out: &mut Verdict) -> u32
+    ensures accepted { result ≡ 0 → IsVerified (record {
+      program = program;
+      bound = out.new.bound;
+    }) }
+    ensures refused { result ≡ 2 → TellsRefusal program out.new.slot why.old why.new out.new.said }
     ensures why_kept { result ≢ 2 → why.new ≡ why.old }
     ensures memory { result ≡ 5 → out.new ≡ out.old }
-    ensures status { IsVerdict result }
+    ensures undecided { result ≡ 6 → (limit < max_explored) × (out.new ≡ out.old) }
+    ensures status { IsDecision result }
 {
-    let program = match Image::parse(alloc, image) {
-        Ok(program) => program,
-        Err(ImageError::Memory) => return MEMORY,
-        Err(error) => {
-            let Ok(text) = image_text(alloc, error) else {
-                return MEMORY;
-            };
-            *out = Verdict {
-                bound: 0,
-                slot: 0,
-                said: fill(why, text.as_bytes()),
-            };
-            return REFUSED;
-        }
-    };
     let Ok(copy) = program.copy(alloc) else {
         return MEMORY;
     };
-    match verify(alloc, program) {
+    match verify_within(alloc, program, limit) {
         Ok(verified) => {
             *out = Verdict {
                 bound: verified.bound(),
@@ -98,7 +81,8 @@ pub extern "C" fn xdpvm_verify(
             };
             OK
         }
-        Err((refusal, slot)) => {
+        Err(Stop::Limit) => UNDECIDED,
+        Err(Stop::Refused(refusal, slot)) => {
             if is_memory(refusal) {
                 return MEMORY;
             }
@@ -109,6 +93,46 @@ pub extern "C" fn xdpvm_verify(
                 bound: 0,
                 slot,
                 said: fill(why, text.as_slice()),
+            };
+            REFUSED
+        }
+    }
+}
+
+/// Verifies an image, exploring at most `limit` instructions (1 to 1,000,000). Why it is refused
+/// goes to `why`, as far as there is room; what is known at the refused instruction is looked for
+/// only where there is some.
+#[unsafe(no_mangle)]
+pub extern "C" fn xdpvm_verify(
+    alloc: Global,
+    image: &[u8],
+    limit: u32,
+    why: &mut [u8],
+    out: &mut Verdict,
+) -> u32
+    ensures accepted { result ≡ 0 → Accepts image.now out.new.bound }
+    ensures wrong { (result ≡ 1) ↔ ((limit ≡ 0) ⊎ (max_explored < limit)) }
+    ensures refused { result ≡ 2
+        → RefusesImage image.now out.new.slot why.old why.new out.new.said }
+    ensures undecided { result ≡ 6 → IsUndecided image.now limit }
+    ensures why_kept { result ≢ 2 → why.new ≡ why.old }
+    ensures out_kept { result ≢ 0 → result ≢ 2 → out.new ≡ out.old }
+    ensures status { (result ≡ 1) ⊎ IsDecision result }
+{
+    if limit == 0 || limit > MAX_EXPLORED {
+        return WRONG;
+    }
+    match Image::parse(alloc, image) {
+        Ok(program) => judge(alloc, program, limit, why, out),
+        Err(ImageError::Memory) => MEMORY,
+        Err(error) => {
+            let Ok(text) = image_text(alloc, error) else {
+                return MEMORY;
+            };
+            *out = Verdict {
+                bound: 0,
+                slot: 0,
+                said: fill(why, text.as_bytes()),
             };
             REFUSED
         }

@@ -12,6 +12,9 @@ pub const REFUSED: u32 = 2;
 /// Out of memory.
 pub const MEMORY: u32 = 5;
 
+/// Neither accepted nor refused: the caller's limit on explored instructions came first.
+pub const UNDECIDED: u32 = 6;
+
 /// Why there is no accepted program.
 #[derive(Clone, Copy, PartialEq, Eq, Debug)]
 pub enum Failure {

@@ -41,14 +41,14 @@ fn says_why_a_text_is_refused(rt: HostRuntime) {
     assert!(rt; why.starts_with(said) && image == [7, 7]);
 }
 
-/// The status, and the bound, the slot and the size of the text.
-fn verdict(alloc: Global, image: &[u8], why: &mut [u8]) -> (u32, u32, usize, usize) {
+/// The status, and the bound, the slot and the size of the text, within a limit.
+fn verdict(alloc: Global, image: &[u8], limit: u32, why: &mut [u8]) -> (u32, u32, usize, usize) {
     let mut out = Verdict {
         said: 9,
         slot: 9,
         bound: 9,
     };
-    let status = xdpvm_verify(alloc, image, why, &mut out);
+    let status = xdpvm_verify(alloc, image, limit, why, &mut out);
     (status, out.bound, out.slot, out.said)
 }
 
@@ -63,7 +63,8 @@ const REFUSED: [(&[u8], usize, &str); 3] = [
         &UNGUARDED,
         1,
         "refused V9 slot 1\nthe packet bytes are not proved to be there\n\
-         slot 1: r0 = *(u8 *)(r2 + 13)\nr2: packet pointer at 0, 0 bytes proved\n",
+         slot 1: r0 = *(u8 *)(r2 + 13)\nr2: packet pointer at 0, 0 bytes proved\n\
+         needs bytes 13 to 13; 0 are proved\n",
     ),
     (
         &ENDLESS,
@@ -76,15 +77,35 @@ const REFUSED: [(&[u8], usize, &str); 3] = [
 #[test]
 fn verifies(rt: HostRuntime) {
     let mut why = [7; 200];
-    assert!(rt; verdict(rt.alloc(), &PASS, &mut why) == (0, 2, 0, 0));
+    assert!(rt; verdict(rt.alloc(), &PASS, 1_000_000, &mut why) == (0, 2, 0, 0));
     for (image, slot, text) in REFUSED.iter() {
-        let answer = verdict(rt.alloc(), image, &mut why);
+        let answer = verdict(rt.alloc(), image, 1_000_000, &mut why);
         assert!(rt; answer == (2, 0, *slot, text.len()), "{text}");
         assert!(rt; why.starts_with(text.as_bytes()), "{text}");
     }
     // without room what is known at the instruction is not looked for
-    let answer = verdict(rt.alloc(), &ENDLESS, &mut []);
+    let answer = verdict(rt.alloc(), &ENDLESS, 1_000_000, &mut []);
     assert!(rt; answer == (2, 0, 1, REFUSED[2].2.len() - "way: 1 -> 1\n".len()));
+}
+
+/// An image, a limit, and what is answered within it: `PASS` has two instructions, of which each is
+/// explored once.
+const LIMITS: [(&[u8], u32, (u32, u32, usize, usize)); 6] = [
+    (&PASS, 0, (1, 9, 9, 9)),
+    (&PASS, 1, (6, 9, 9, 9)),
+    (&PASS, 2, (0, 2, 0, 0)),
+    (&PASS, 1_000_001, (1, 9, 9, 9)),
+    (&UNGUARDED, 1, (6, 9, 9, 9)),
+    (&OTHER, 1, (2, 0, 0, 52)),
+];
+
+#[test]
+fn keeps_limits(rt: HostRuntime) {
+    let mut why = [7; 200];
+    for (image, limit, wanted) in LIMITS.iter() {
+        let answer = verdict(rt.alloc(), image, *limit, &mut why);
+        assert!(rt; answer == *wanted, "limit {limit}");
+    }
 }
 
 /// An answer, and the number of the action that its low 32 bits name.
