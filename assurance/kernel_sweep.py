@@ -2,18 +2,20 @@
 """Compares many programs with the Linux kernel that runs here: verdicts, and runs of those that both accept.
 
 usage: python3 assurance/kernel_sweep.py SET [--program XDPVM] [--count N] [--seed S] [--plain] [--jobs J] [--keep FOLDER]
+       [--name CODE]
 
 SET is one of
   images PATH ..   images, or folders of images; with PATH.frames beside PATH.image if there is one
-  random           programs of examples/random_programs.py, N of them
-  attacks          programs of examples/attack_programs.py, N of each family
+  random           programs of assurance/random_programs.py, N of them
+  attacks          programs of assurance/attack_programs.py, N of each family
   arithmetic       each arithmetic instruction, width and operand form, with boundary numbers from the packet and as constants;
                    each byte swap and sign extension; each atomic instruction; each conditional jump
   maps             each call of helpers 1, 2 and 3 with each flag, on full and empty maps of both kinds
 
 A program runs on 20 frames (arithmetic: on each pair of boundary numbers). It is reported where `xdpvm run` and the kernel
 answer another action, leave other bytes in the packet, or other entries in the maps; its image and frames are kept in
-FOLDER. Programs that call helper 5 are not run. Verdicts that differ are counted by the last words of the refusal.
+FOLDER. Programs that call helper 5 are not run. Verdicts that differ are counted by the last words of the refusal. With
+--name each program that is refused here with that code and accepted by the kernel is named, and kept too.
 """
 import argparse
 import collections
@@ -28,7 +30,7 @@ import sys
 import tempfile
 
 HERE = os.path.dirname(os.path.abspath(__file__))
-sys.path[:0] = [f"{HERE}/../tools", f"{HERE}/../examples"]
+sys.path.insert(0, f"{HERE}/../tools")
 import kernel
 from attack_programs import FAMILIES
 from random_programs import Maker
@@ -215,8 +217,16 @@ def compared(item, program, folder):
         return ("ok", "ok"), found, both
 
 
+def keep(item, folder):
+    os.makedirs(folder, exist_ok=True)
+    kept = re.sub(r"\W+", "_", item[0])
+    for ending, content in (("image", item[1]), ("frames", kernel.stream_of(item[2]))):
+        with open(f"{folder}/{kept}.{ending}", "wb") as file:
+            file.write(content)
+
+
 def work(items, given, job):
-    counts, differing, frames = collections.Counter(), [], 0
+    counts, differing, frames, named = collections.Counter(), [], 0, []
     with tempfile.TemporaryDirectory() as folder:
         for number, item in enumerate(items):
             if number % given.jobs != job:
@@ -228,14 +238,13 @@ def work(items, given, job):
                 continue
             counts[verdicts] += 1
             frames += both
+            if verdicts == (f"refused {given.name}", "ok"):
+                named.append(item[0])
+                keep(item, given.keep)
             if found:
                 differing.append((item[0], found[:3]))
-                os.makedirs(given.keep, exist_ok=True)
-                kept = re.sub(r"\W+", "_", item[0])
-                for ending, content in (("image", item[1]), ("frames", kernel.stream_of(item[2]))):
-                    with open(f"{given.keep}/{kept}.{ending}", "wb") as file:
-                        file.write(content)
-    return [(list(key), number) for key, number in counts.items()], differing, frames
+                keep(item, given.keep)
+    return [(list(key), number) for key, number in counts.items()], differing, frames, named
 
 
 def items_of(given):
@@ -258,6 +267,7 @@ def main():
     words.add_argument("--plain", action="store_true")
     words.add_argument("--jobs", type=int, default=os.cpu_count())
     words.add_argument("--keep", default="found")
+    words.add_argument("--name", metavar="CODE")
     given = words.parse_args()
     if not shutil.which(given.program):
         sys.exit(f"kernel_sweep.py: there is no program {given.program}")
@@ -273,19 +283,22 @@ def main():
             os._exit(0)
         os.close(out)
         pipes.append(back)
-    counts, differing, frames = collections.Counter(), [], 0
+    counts, differing, frames, named = collections.Counter(), [], 0, []
     for back in pipes:
         with os.fdopen(back) as file:
-            said, found, both = json.load(file)
+            said, found, both, names = json.load(file)
+        named += names
         for key, number in said:
             counts[tuple(key)] += number
         differing += found
         frames += both
     print(f"{sum(counts.values())} programs, {counts[('ok', 'ok')]} accepted by both, {frames} frames run by both, {len(differing)} programs run differently")
-    for (ours, theirs), number in counts.most_common(60):
-        if (ours == "ok") != (theirs == "ok"):
-            print(f"{number:6} xdpvm {ours}, kernel {theirs}")
+    differing_verdicts = [(it, number) for it, number in counts.most_common() if (it[0] == "ok") != (it[1] == "ok")]
+    for (ours, theirs), number in differing_verdicts:
+        print(f"{number:6} xdpvm {ours}, kernel {theirs}")
     print(f"{sum(n for (a, b), n in counts.items() if a != 'ok' and b != 'ok')} refused by both")
+    for name in named:
+        print(f"{given.name} here, accepted by the kernel: {name}")
     for name, found in differing[:20]:
         print(f"{name}: {'; '.join(found)}")
     return 1 if differing else 0

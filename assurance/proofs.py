@@ -4,25 +4,29 @@
 usage: python3 assurance/proofs.py [--program XDPVM] [--random N] [--damages N] [--seed S] [IMAGE|FOLDER ..]
 
 Proved are the images and the folders of images that are given (those of examples/ if none is), N programs of
-examples/random_programs.py in either version, and programs that keep a value of each kind on the stack and have eight
+assurance/random_programs.py in either version, and programs that keep a value of each kind on the stack and have eight
 call frames. For each accepted one `prove`, `recheck` and `verify` have to say the same bound; where `verify` refuses
 one, `prove` has to say the same, and make no file.
 
-Of each table N times an entry is dropped, two entries are swapped, a number is lowered, or a register is widened or
-narrowed. A damaged table that `recheck` accepts has to be true: the program runs by it on six random frames as `trace`
-runs it, with no trap and no more steps than its bound. The last line counts; the exit status is 1 if anything was wrong.
+Of each table of up to 200,000 bytes N times an entry is dropped, two entries are swapped, a number is lowered or raised,
+a register or a slot of the stack is widened or narrowed, a successor leads to another entry, an identity is renamed, or
+registers, call frames or slots of another entry are taken; or the table is given to a program where one instruction
+differs. A table that `recheck` accepts then has to be true: the program runs by it on six random frames as `trace` runs
+it, with no trap and no more steps than its bound. So a table for a program that has to be refused is never accepted. The
+last line counts, also after an interrupt; the exit status is 1 if anything was wrong.
 """
 import argparse
 import collections
-import copy
+import itertools
 import os
 import random
+import struct
 import subprocess
 import sys
 import tempfile
 
 TOP = os.path.dirname(os.path.dirname(os.path.abspath(__file__)))
-sys.path[:0] = [os.path.join(TOP, "examples"), os.path.join(TOP, "tools")]
+sys.path.insert(0, os.path.join(TOP, "tools"))
 import table
 from fuzz import frames
 from random_programs import Maker
@@ -53,6 +57,26 @@ def read(path):
 
 # ---- damages of the entries of a table
 
+def copied(entry):
+    made = table.Entry(entry.number, entry.slot, entry.successors)
+    made.frames = []
+    for frame in entry.frames:
+        other = table.Frame.__new__(table.Frame)
+        other.leads, other.registers, other.slots = frame.leads, list(frame.registers), list(frame.slots)
+        made.frames.append(other)
+    return made
+
+
+def own(chance, entries, which=lambda entry: True):
+    """Some entry, which may be changed: it is a copy. None: there is no such one."""
+    places = [at for at, entry in enumerate(entries) if which(entry)]
+    if not places:
+        return None
+    at = chance.choice(places)
+    entries[at] = copied(entries[at])
+    return entries[at]
+
+
 def dropped(chance, entries):
     del entries[chance.randrange(len(entries))]
 
@@ -63,13 +87,13 @@ def swapped(chance, entries):
 
 
 def lowered(chance, entries):
-    entry = chance.choice(entries)
+    entry = own(chance, entries)
     entry.number = max(1, entry.number - chance.choice([1, 1, 2, 10, entry.number]))
 
 
 def register(chance, entries):
     """A register of some entry that is set: its entry's last frame, and its number."""
-    frame = chance.choice(entries).frames[-1]
+    frame = own(chance, entries).frames[-1]
     given = [at for at, value in enumerate(frame.registers) if value != table.UNSET]
     return (frame.registers, chance.choice(given)) if given else ([table.UNSET], 0)
 
@@ -93,36 +117,144 @@ def narrowed(chance, entries):
     registers[at] = tuple(value)
 
 
-DAMAGES = [dropped, swapped, lowered, widened, narrowed]
+def raised(chance, entries):
+    entry = own(chance, entries)
+    entry.number = min(table.MOST, entry.number + chance.choice([1, 1, 2, 10, 1000]))
+
+
+def redirected(chance, entries):
+    """A successor that is another entry, both exchanged, one dropped, or one twice."""
+    entry = own(chance, entries, lambda entry: entry.successors)
+    if entry:
+        at, form = chance.randrange(len(entry.successors)), chance.randrange(4)
+        if form < 2:
+            entry.successors[at] = chance.choice([chance.randrange(len(entries)), entry.successors[at] + 1, len(entries)])
+        elif form == 2:
+            entry.successors.reverse()
+        else:
+            entry.successors = chance.choice([entry.successors[:at], entry.successors[:1] * 2])
+
+
+def names(frame):
+    """The registers and slots of a call frame that name an identity: the list, the place, and where in the value it is."""
+    return [(values, at, 2) for values in (frame.registers, frame.slots) for at, value in enumerate(values)
+            if value[0] in ("packet", "null")]
+
+
+def renamed(chance, entries):
+    """An identity that is another one, in one place of an entry or in all."""
+    entry = own(chance, entries, lambda entry: any(names(frame) for frame in entry.frames))
+    places = [place for frame in (entry.frames if entry else []) for place in names(frame)]
+    if places:
+        values, at, field = chance.choice(places)
+        old, new = values[at][field], chance.choice([0, 1, 2, values[at][field] + 1, chance.randrange(8)])
+        for values, at, field in places if chance.random() < 0.5 else [(values, at, field)]:
+            if values[at][field] == old:
+                values[at] = (*values[at][:field], new, *values[at][field + 1:])
+
+
+def mixed(chance, entries):
+    """A register, a slot of the stack, a call frame or a slot of the code that is another entry's."""
+    other, entry = copied(chance.choice(entries)), own(chance, entries)
+    frame, given = chance.choice(entry.frames), chance.choice(other.frames)
+    at, form = chance.randrange(10), chance.randrange(6)
+    if form < 2:
+        frame.registers[at] = chance.choice([given.registers[at], chance.choice(given.registers)])
+    elif form == 2:
+        at = chance.randrange(64)
+        frame.slots[at] = given.slots[at]
+    elif form == 3:
+        entry.frames[-1] = other.frames[-1]
+    elif form == 4:
+        entry.frames = other.frames
+    else:
+        frame.leads = given.leads
+
+
+def respilled(chance, entries):
+    """A slot of the stack where something is known, that is blank, all bytes, or a number."""
+    frame = chance.choice(own(chance, entries).frames)
+    known = [at for at, slot in enumerate(frame.slots) if slot != table.BLANK]
+    if known:
+        frame.slots[chance.choice(known)] = chance.choice([table.BLANK, ("bytes", 255), ("bytes", 15), table.constant(0), table.any_number()])
+
+
+DAMAGES = [dropped, swapped, lowered, raised, widened, narrowed, redirected, renamed, mixed, respilled]
+
+
+def other_program(chance, image):
+    """The image with a field of an instruction changed, which a table of the first one may fit or not."""
+    maps, slots = struct.unpack_from("<HH", image, 4)
+    at, changed = 8 + 12 * maps + 8 * chance.randrange(slots), bytearray(image)
+    form = chance.randrange(4)
+    if form == 0:
+        changed[at + 1] = chance.choice([changed[at + 1] ^ 1 << chance.randrange(8), chance.randrange(11) | changed[at + 1] & 240])
+    elif form == 1:
+        struct.pack_into("<h", changed, at + 2, max(-2**15, min(2**15 - 1, struct.unpack_from("<h", image, at + 2)[0] + chance.choice([-8, -1, 1, 8]))))
+    elif form == 2:
+        number = struct.unpack_from("<i", image, at + 4)[0]
+        struct.pack_into("<i", changed, at + 4, max(-2**31, min(2**31 - 1, chance.choice([number - 1, number + 1, number + 8, 0, -1]))))
+    else:
+        changed[at] = chance.choice([changed[at] ^ 1 << chance.randrange(3, 8), changed[at] ^ 3])
+    return bytes(changed)
 
 
 # ---- what is wrong
 
-def is_true(chance, bound):
+def is_true(chance, image, bound):
     """Whether the program runs by the damaged table as it is traced, and within the bound that this shows."""
     write("frames", frames(chance, chance.choice([1, 2])))
-    ran, traced = run("run", "image", "frames", "sent", "--table", "damaged"), run("trace", "image", "frames", "traced")
+    ran, traced = run("run", image, "frames", "sent", "--table", "damaged"), run("trace", image, "frames", "traced")
     rows = [line.split() for line in ran.stdout.decode().splitlines()]
     within = all(row[1] not in ("TRAP", "LIMIT") and int(row[3]) <= bound for row in rows if row[0].isdigit())
     return within and ran.stdout == traced.stdout and read("sent") == read("traced")
 
 
-def damaged(chance, entries, counts):
-    """What is wrong with the answer to a damaged table."""
-    damage, entries = chance.choice(DAMAGES), copy.deepcopy(entries)
-    damage(chance, entries)
-    if not entries:
-        return None
-    write("damaged", table.table_bytes(entries))
-    answer = run("recheck", "image", "damaged")
+def judged(chance, image, what, counts):
+    """What is wrong with the answer to the damaged table for an image."""
+    answer = run("recheck", image, "damaged")
     said = answer.stdout.decode().split()
     if (answer.returncode, said[:1]) == (2, ["refused"]):
-        counts[damage.__name__, said[1]] += 1
+        counts[what, said[1]] += 1
         return None
-    counts[damage.__name__, "accepted"] += 1
-    if (answer.returncode, said[:2]) != (0, ["ok", "bound"]) or not is_true(chance, int(said[2])):
-        return f"{damage.__name__}: {answer}"
+    counts[what, "accepted"] += 1
+    if (answer.returncode, said[:2]) != (0, ["ok", "bound"]) or not is_true(chance, image, int(said[2])):
+        return f"{what}: {answer}"
     return None
+
+
+class Proof:
+    """A program with its table: the entries, and the bytes of each."""
+
+    def __init__(self, image, data):
+        self.image, self.data, self.entries = image, data, table.entries_of(data)
+        self.spelled = {id(entry): table.entry_bytes(entry) for entry in self.entries}
+
+    def bytes_of(self, entries):
+        parts = [self.spelled[id(entry)] if id(entry) in self.spelled else table.entry_bytes(entry) for entry in entries]
+        return table.MAGIC + struct.pack("<I", len(entries)) + b"".join(parts)
+
+    def damaged(self, chance, counts):
+        """What is wrong with the answer to a table that was damaged, once or twice, or that is of another program."""
+        if chance.random() < 0.15:
+            other = other_program(chance, self.image)
+            if other == self.image:
+                return None
+            write("other", other)
+            write("damaged", self.data)
+            return judged(chance, "other", "other_program", counts)
+        entries, damage = list(self.entries), chance.choice(DAMAGES)
+        damage(chance, entries)
+        if entries and chance.random() < 0.2:
+            chance.choice(DAMAGES)(chance, entries)
+        try:
+            data = self.bytes_of(entries)
+        except struct.error:
+            return None
+        if data == self.data:
+            return None
+        write("damaged", data)
+        return judged(chance, "image", damage.__name__, counts)
 
 
 def tried(chance, image, damages, counts):
@@ -141,12 +273,12 @@ def tried(chance, image, damages, counts):
         if (answer.returncode, answer.stdout, answer.stderr) != (0, verified.stdout, b""):
             return f"{verified.stdout}, {answer}"
     data = read("table")
-    if len(data) > 2_000_000:
+    if len(data) > 200_000:
         return None
-    entries = table.entries_of(data)
-    if table.table_bytes(entries) != data:
+    proof = Proof(image, data)
+    if table.table_bytes(proof.entries) != data:
         return "the table is not spelled as table.py spells it"
-    return next(filter(None, (damaged(chance, entries, counts) for _ in range(damages))), None)
+    return next(filter(None, (proof.damaged(chance, counts) for _ in range(damages))), None)
 
 
 def images_of(paths):
@@ -184,17 +316,21 @@ def main():
     counts, wrong = collections.Counter(), 0
     with tempfile.TemporaryDirectory() as folder:
         os.chdir(folder)
-        for source in assembled(), images_of(paths), random_images(chance, given.random):
-            for name, image in source:
+        try:
+            for name, image in itertools.chain(assembled(), images_of(paths), random_images(chance, given.random)):
                 what = tried(chance, image, given.damages, counts)
                 if what:
                     wrong += 1
                     print(f"{name}: {what}", flush=True)
+        except KeyboardInterrupt:
+            print("interrupted")
         os.chdir("/")
     for key, count in sorted(counts.items(), key=str):
         print(f"{count:7} {key if isinstance(key, str) else ': '.join(key)}")
-    print(f"{counts['proved']} programs proved, {wrong} wrong answers")
+    tables = sum(count for key, count in counts.items() if isinstance(key, tuple))
+    print(f"{counts['proved']} programs proved, {tables} damaged tables, {wrong} wrong answers")
     sys.exit(1 if wrong else 0)
 
 
-main()
+if __name__ == "__main__":
+    main()

@@ -1,13 +1,15 @@
 #!/usr/bin/env python3
 """Tries wrong bodies that the gate does not: each must be refused by the prover. Prints those that are still proved.
 
-usage: python3 assurance/run.py [CRATE ..]
+usage: python3 assurance/run.py [--fit] [CRATE ..]
 
 assurance/CRATE/NAME.edit is an edit of crates/CRATE in the form of the gate's must-fail edits. The edits of each named
 crate (no name: of every crate) are tried on a copy of the repository, so nothing here changes. The libraries below a
 crate are taken as `rt check` or `rt lib` left them in crates/*/out, and built first where they are missing.
-The exit status is 0 if every edit is refused, else 1.
+The exit status is 0 if every edit is refused, else 1. With --fit nothing is proved: an edit whose old text is not in its
+file once is printed, and the status is 1 if there is one. That is in the gate.
 """
+import argparse
 import os
 import shutil
 import subprocess
@@ -21,6 +23,29 @@ TOP = os.path.dirname(os.path.dirname(os.path.abspath(__file__)))
 def edits_of(crate):
     folder = f"{TOP}/assurance/{crate}"
     return sorted(name for name in os.listdir(folder) if name.endswith(".edit")) if os.path.isdir(folder) else []
+
+
+def unfit(crate, name):
+    """Why an edit cannot be made: None, or a text."""
+    file, old, texts = None, None, {}
+    with open(f"{TOP}/assurance/{crate}/{name}", encoding="utf-8") as edit:
+        lines = edit.read().splitlines()
+    for line in lines:
+        word, _, rest = line.partition(": ")
+        if word == "file":
+            file = f"{TOP}/crates/{crate}/{rest}"
+            if not os.path.isfile(file):
+                return f"there is no {rest}"
+            if file not in texts:
+                with open(file, encoding="utf-8") as code:
+                    texts[file] = code.read()
+        elif word == "old":
+            old = rest
+        elif word == "new":
+            if texts[file].count(old) != 1:
+                return f"its file has {texts[file].count(old)} times: {old.strip()}"
+            texts[file] = texts[file].replace(old, rest)
+    return None if texts else "it names no file"
 
 
 def copy_repository(room):
@@ -47,21 +72,35 @@ def try_crate(room, crate):
     return [line for line in said if line not in refused]
 
 
-def main():
-    known = sorted(crate for crate in os.listdir(f"{TOP}/assurance") if edits_of(crate))
-    crates = sys.argv[1:] or known
-    for crate in crates:
-        if crate not in known:
-            sys.exit(f"assurance/{crate} has no edits; there are: {' '.join(known)}")
+def tried(crates):
+    """What was said of the edits that were not refused."""
     survivors = []
     with tempfile.TemporaryDirectory(prefix="assurance-") as room:
         copy_repository(room)
         for crate in crates:
             survivors += try_crate(room, crate)
-    for line in survivors:
-        print(line)
-    print(f"{len(survivors)} not refused")
-    sys.exit(1 if survivors else 0)
+    return survivors
+
+
+def main():
+    words = argparse.ArgumentParser(description=__doc__.split("\n")[0])
+    words.add_argument("crates", nargs="*", metavar="CRATE")
+    words.add_argument("--fit", action="store_true", help="only see whether each edit can be made")
+    given = words.parse_args()
+    known = sorted(crate for crate in os.listdir(f"{TOP}/assurance") if edits_of(crate))
+    crates = given.crates or known
+    for crate in crates:
+        if crate not in known:
+            sys.exit(f"assurance/{crate} has no edits; there are: {' '.join(known)}")
+    if given.fit:
+        edits = [(crate, name, unfit(crate, name)) for crate in crates for name in edits_of(crate)]
+        wrong = [f"assurance/{crate}/{name}: {why}" for crate, name, why in edits if why]
+        last = f"{len(edits)} edits, {len(wrong)} that cannot be made"
+    else:
+        wrong = tried(crates)
+        last = f"{len(wrong)} not refused"
+    print("\n".join(wrong + [last]))
+    sys.exit(1 if wrong else 0)
 
 
 main()

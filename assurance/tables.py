@@ -6,7 +6,7 @@ usage: python3 assurance/tables.py PROGRAM [--random N] [--seed S] [--few N]
 PROGRAM is an optimized `xdpvm`. Each byte of the table of `r0 = 2; exit` is changed to each other value, and the table
 is cut after each byte: the answer must be the judge's, but for the step's own refusal after P7. Then N tables (20,000)
 of larger programs of tools/ and bench/ are damaged at random: by changed bytes, by bytes taken out or put in, by a cut,
-or by an entry that stands twice. Their form and fields are judged. Each table that is accepted must run its program as
+or by an entry that is there twice. Their form and fields are judged. Each table that is accepted must run its program as
 `run` does without a table, and its bound must not be below the steps that were made.
 With --few only every N-th of the changed tables is tried. The exit status is 0 if nothing differs.
 """

@@ -1,14 +1,16 @@
 #!/usr/bin/env python3
 """Attacks the verifier rule by rule: sums that wrap and signs mixed, tests of the packet before and after moves, what such
 moves leave proved, bytes reversed, parts of spilled numbers, signed quotients and remainders, pointers overwritten in part,
-values that are gone, pointers into frames that have ended, and answers that name no action.
+stack slots kept over joins, values that are gone, pointers into call frames that have ended, and answers that name no
+action.
 
-usage: python3 examples/attacks.py [PROGRAM] [--programs N] [--seed S] [--jobs J] [--keep FOLDER] [--family NAME]
+usage: python3 assurance/attacks.py [PROGRAM] [--programs N] [--seed S] [--jobs J] [--keep FOLDER] [--family NAME]
+       [--seconds N]
 
 N programs of each family are made, as texts. Reported is each that `verify` accepts and `trace` ends with a trap or after
-more steps than the bound, or that `run` and `trace` run differently, and each that takes more than a minute; its text
-and frames are kept in FOLDER. A line for each family says how many were accepted, and why the others were refused. The
-exit status is 1 if anything was reported.
+more steps than the bound, or that `run` and `trace` run differently, each that is refused for what its family does not do,
+and each that takes more than a minute; its text and frames are kept in FOLDER. A line for each family says how many were
+accepted, and why the others were refused. The exit status is 1 if anything was reported.
 """
 import argparse
 import collections
@@ -20,8 +22,8 @@ import subprocess
 import sys
 import tempfile
 
-from attack_programs import CORNERS, EDGES, FAMILIES
-from fuzz import HERE, REASONS, SECONDS, built, differs, record, runner
+from attack_programs import CORNERS, EDGES, FAMILIES, NEVER
+from fuzz import HERE, REASONS, SECONDS, built, differs, record, runner, wait
 
 
 def frames(chance, version):
@@ -52,7 +54,7 @@ def tried(program, family, seed, folder):
     verdict = run("verify", paths[0])
     said = verdict.stdout.decode().split()
     if (verdict.returncode, said[:1]) == (2, ["refused"]):
-        return None, said[1]
+        return (f"refused: {verdict.stderr}" if said[1] in NEVER.get(family, []) else None), said[1]
     if (verdict.returncode, said[:2]) != (0, ["ok", "bound"]):
         return f"verify: {verdict}", "no verdict"
     return differs(paths, int(said[2]), run), "accepted"
@@ -64,7 +66,7 @@ def worker(asked, family, first, out):
         try:
             wrong, code = tried(asked.program, family, seed, folder)
         except subprocess.TimeoutExpired as late:
-            wrong, code = f"no answer in {SECONDS} seconds: {late.cmd[1]}", "no answer"
+            wrong, code = f"no answer in {late.timeout} seconds: {late.cmd[1]}", "no answer"
         counts[code] += 1
         if wrong:
             found += 1
@@ -105,7 +107,9 @@ def main():
     words.add_argument("--jobs", type=int, default=os.cpu_count())
     words.add_argument("--keep", default="found", help="folder for what is found")
     words.add_argument("--family", choices=FAMILIES, action="append", help="only this family")
+    words.add_argument("--seconds", type=int, default=SECONDS, help="what a command may take; more on a busy machine")
     asked = words.parse_args()
+    wait(asked.seconds)
     every, findings = collections.Counter(), 0
     for family in asked.family or FAMILIES:
         counts, found = attacked(asked, family)

@@ -159,12 +159,12 @@ class Answer:
 
 
 def lacks_reason(found, good):
-    """What is known where a program or an entry of a table is refused is left away, and standard error has the sentence,
-    the place, and of P7 the sentence of its V code."""
+    """What is known where a text, a program or an entry of a table is refused is left away, and standard error has the
+    sentence, the place, and of P7 the sentence of its V code."""
     same = (found.status, found.out, found.made) == (good.status, good.out, good.made)
     lines = good.err.splitlines(keepends=True)
     kept = lines[:2] + (lines[3:4] if good.out.startswith(b"refused P7") else [])
-    return same and good.out.startswith((b"refused V", b"refused P7", b"refused P8")) and found.err == b"".join(kept)
+    return same and good.out.startswith((b"refused A", b"refused V", b"refused P7", b"refused P8")) and found.err == b"".join(kept)
 
 
 def of_memory(words, found, good):
@@ -179,7 +179,7 @@ def of_read(words, found, good):
     named = [words[1]] + ([words[-1]] if words[0] == "recheck" or "--table" in words else [])
     if found.status == 4 and found.message() in [f"cannot read {name}".encode() for name in named] and found.is_quiet():
         return "status 4"
-    if found.status != 3 or found.err:
+    if found.status != 3 or found.message() != b"the stream cannot be read":
         return None
     *lines, last = found.out.splitlines()
     of_frames = [line for line in lines if not line.startswith(b"map ")]

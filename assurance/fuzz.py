@@ -2,13 +2,14 @@
 """Looks for a program that `verify` accepts and should not: makes random programs over all forms of instruction, with
 maps, helpers and functions, and runs those that are accepted on random frames.
 
-usage: python3 examples/fuzz.py [PROGRAM] [--programs N] [--seed S] [--jobs J] [--keep FOLDER] [--ways]
+usage: python3 assurance/fuzz.py [PROGRAM] [--programs N] [--seed S] [--jobs J] [--keep FOLDER] [--ways] [--seconds N]
 
 Programs and frame streams are of both versions. Reported is each accepted program that `trace` ends with a trap or
 after more steps than the bound, that `run` and `trace` run differently, whose frames out have other reasons than the
-report says, or that answers no action though it is of version 2; each refusal whose way (the jumps on standard error) is none of the program; and each command
-that takes more than a minute. The program and its frames are kept in FOLDER. Most programs are right by construction up to one or two changes, such as a limit that
-is off by one, so that about half are accepted. The last line counts. The exit status is 1 if anything was reported.
+report says, or that answers no action though it is of version 2; each refusal whose way (the jumps on standard error) is
+not one of the program; and each command that takes more than a minute. The program and its frames are kept in FOLDER. Most
+programs are right by construction up to one or two changes, such as a limit that is off by one, so that about half are
+accepted. The last line counts. The exit status is 1 if anything was reported.
 """
 import argparse
 import collections
@@ -137,6 +138,12 @@ def built(path):
     return os.path.abspath(path)
 
 
+def wait(seconds):
+    """How long a command may take from now on."""
+    global SECONDS
+    SECONDS = seconds
+
+
 def runner(program):
     """Runs the program with these words, for a minute at most."""
     quiet = {"stdin": subprocess.DEVNULL, "stdout": subprocess.PIPE, "stderr": subprocess.PIPE}
@@ -169,7 +176,7 @@ def worker(program, seeds, keep, ways, out):
         try:
             wrong, code = tried(program, seed, folder, ways)
         except subprocess.TimeoutExpired as late:
-            wrong, code = f"no answer in {SECONDS} seconds: {late.cmd[1]}", "no answer"
+            wrong, code = f"no answer in {late.timeout} seconds: {late.cmd[1]}", "no answer"
         counts[code] += 1
         if wrong:
             found += 1
@@ -190,7 +197,9 @@ def main():
     words.add_argument("--jobs", type=int, default=os.cpu_count())
     words.add_argument("--keep", default="found", help="folder for what is found")
     words.add_argument("--ways", action="store_true", help="each refusal must say its way")
+    words.add_argument("--seconds", type=int, default=SECONDS, help="what a command may take; more on a busy machine")
     asked = words.parse_args()
+    wait(asked.seconds)
     children = []
     for job in range(asked.jobs):
         back, out = os.pipe()

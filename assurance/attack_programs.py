@@ -277,5 +277,48 @@ def divisions(chance):
     return reached(chance, lines, chance.choice([7, 15, 30, 31, 32, 63]))
 
 
+def stored(chance, at):
+    """Stores that write all eight bytes of a stack slot, at once or in parts."""
+    source = chance.choice(["r2", "r3", "r5", "7", "-1"])
+    size = chance.choice(["u64", "u64", "u64", "u32", "u16", "u8"])
+    return [f"*({size} *)(r10 - {at - part}) = {source}" for part in range(0, 8, SIZES[size])]
+
+
+def loaded(chance, at):
+    """Loads from a stack slot, through r10, another pointer, a function or a helper."""
+    size = chance.choice(list(SIZES))
+    place = at - SIZES[size] * chance.randrange(8 // SIZES[size])
+    through = [f"r4 = *({size} *)(r10 - {place})"]
+    pointer_to = ["r8 = r10", f"r8 += -{at}", f"r4 = *({size} *)(r8 + {at - place})"]
+    function = ["*(u64 *)(r10 - 80) = r2", "*(u64 *)(r10 - 88) = r3", "r1 = r10", f"r1 += -{at}", "call leaf", "r4 = r0",
+                "r2 = *(u64 *)(r10 - 80)", "r3 = *(u64 *)(r10 - 88)", "r5 = r9"]
+    helper = ["*(u64 *)(r10 - 80) = r2", "*(u64 *)(r10 - 88) = r3", "r1 = map_by_idx(0)", "r2 = r10", f"r2 += -{at}", "call 1", "r4 = 0",
+              "r2 = *(u64 *)(r10 - 80)", "r3 = *(u64 *)(r10 - 88)", "r5 = r9"]
+    return [*chance.choice([through, through, through, through, pointer_to, function, helper]), "r5 ^= r4", "r9 = r5"]
+
+
+def slots(chance):
+    """Stack slots that are written, kept over joins, loops and calls, and read again, all of them after they were written:
+    so none of these programs may be refused for bytes that were not written (V7, V15)."""
+    places = chance.sample(range(8, 73, 8), chance.choice([2, 3, 4]))
+    lines, joins = [*NUMBERS, "r5 = 0", "r9 = 0"], 0
+    for at in places:
+        lines += stored(chance, at)
+    loop = chance.random() < 0.4
+    lines += ["r7 = 0", "again: r7 += 1"] if loop else []
+    for _ in range(chance.choice([1, 2, 3])):
+        joins += 1
+        lines.append(f"if r{chance.choice([2, 3])} & {1 << chance.randrange(4)} goto join{joins}")
+        at = chance.choice(places)
+        lines += chance.choice([stored(chance, at), stored(chance, at)[:1], loaded(chance, at), [], loaded(chance, at) + stored(chance, at)])
+        lines.append(f"join{joins}: r4 = {joins}")
+        lines += sum((loaded(chance, chance.choice(places)) for _ in range(chance.choice([0, 0, 1, 2]))), [])
+    lines += [f"if r7 < {chance.choice([2, 3, 5])} goto again"] if loop else []
+    lines += loaded(chance, chance.choice(places))
+    return program(["map hash 8 8 4"], lines, {"leaf": ["r0 = *(u64 *)(r1 + 0)", "*(u64 *)(r10 - 8) = r0", "r0 = *(u32 *)(r10 - 8)"]})
+
+
 FAMILIES = {"sums": sums, "lengths": lengths, "moves": moves, "reversals": reversals, "parts": parts, "divisions": divisions,
-            "spills": spills, "freed": freed, "frames": frames, "answers": answers}
+            "spills": spills, "slots": slots, "freed": freed, "frames": frames, "answers": answers}
+# What programs of a family may not be refused for.
+NEVER = {"slots": ["V7", "V15"]}

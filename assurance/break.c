@@ -1,0 +1,62 @@
+/* Stands between the program and the C library, for break.py. BREAK names what is to fail, WHEN which call of that kind,
+   counted from 1, and MARK a file that is made when it happens. Without these the program runs as always. */
+#define _GNU_SOURCE
+#include <errno.h>
+#include <fcntl.h>
+#include <stdlib.h>
+#include <string.h>
+#include <sys/syscall.h>
+#include <unistd.h>
+
+extern void *__libc_malloc(size_t size);
+extern void *__libc_realloc(void *old, size_t size);
+
+static long calls;
+
+/* whether this call is the one that is to fail */
+static int breaks(const char *kind) {
+    const char *what = getenv("BREAK"), *when = getenv("WHEN"), *mark = getenv("MARK");
+    if (!what || !when || !mark || strcmp(what, kind) || ++calls != atol(when)) {
+        return 0;
+    }
+    syscall(SYS_close, syscall(SYS_openat, AT_FDCWD, mark, O_WRONLY | O_CREAT, 0600));
+    return 1;
+}
+
+/* whether a byte was written, standard error aside */
+static int has_written;
+
+/* whether an allocation is refused: one of them, or one and all after it, "late-allocs" from the first written byte on */
+static int refused(void) {
+    static int from_here;
+    from_here |= breaks("allocs") || (has_written && breaks("late-allocs"));
+    return from_here || breaks("alloc");
+}
+
+void *malloc(size_t size) {
+    return refused() ? NULL : __libc_malloc(size);
+}
+
+void *realloc(void *old, size_t size) {
+    return refused() ? NULL : __libc_realloc(old, size);
+}
+
+ssize_t read(int file, void *bytes, size_t count) {
+    if (breaks("read")) {
+        errno = EIO;
+        return -1;
+    }
+    return syscall(SYS_read, file, bytes, count > 1 && breaks("short-read") ? 1 : count);
+}
+
+ssize_t write(int file, const void *bytes, size_t count) {
+    if (breaks("write")) {
+        errno = ENOSPC;
+        return -1;
+    }
+    if (breaks("no-write")) {
+        return 0;
+    }
+    has_written |= file != STDERR_FILENO && count;
+    return syscall(SYS_write, file, bytes, count > 1 && breaks("short-write") ? 1 : count);
+}

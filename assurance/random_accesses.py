@@ -1,0 +1,210 @@
+"""The accesses of random programs, for random_programs.py: the packet, map values, helpers and their arguments."""
+TESTS = {"==": 1, ">": 2, ">=": 3, "&": 4, "!=": 5, "s>": 6, "s>=": 7, "<": 10, "<=": 11, "s<": 12, "s<=": 13}
+LOADS = [(0x71, 1), (0x69, 2), (0x61, 4), (0x79, 8), (0x91, 1), (0x89, 2), (0x81, 4)]
+STORES = {1: 0x73, 2: 0x6B, 4: 0x63, 8: 0x7B}
+FETCHES = [0x00, 0x40, 0x50, 0xA0, 0x01, 0x41, 0x51, 0xA1, 0xE1, 0xF1]
+MAPS = [(1, 4, 8, 2), (2, 4, 16, 3), (1, 8, 24, 4), (2, 4, 1, 1)]       # kind (1 hash, 2 array), key, value, entries
+CONTEXT, NUMBER, END = ("context",), ("number",), ("end",)
+
+
+class Accesses:
+    """Statements of a program that reach packet and maps; a part of Maker."""
+
+    def packet(self):
+        """The packet's two pointers, a variable part now and then, a test of its length, and accesses below it."""
+        context = self.state.having("context")
+        if not context:
+            return self.arithmetic()
+        context = context[0]
+        free = [r for r in range(10) if r != context]
+        self.random.shuffle(free)
+        begin, end, limit = free[:3]
+        self.put(0x61, begin, context, 0)
+        self.put(0x61, end, context, 4)
+        self.state.registers[end] = END
+        if self.random.random() < 0.5:
+            part = self.a_number((begin, end, context))
+            if part == limit:
+                limit = free[3]
+            self.put(self.random.choice([0x57, 0x57, 0x54]), part, imm=self.random.choice([1, 7, 15, 60, 255, 4095]))
+            if self.random.random() < 0.3:
+                self.put(self.random.choice([0x67, 0x77, 0x27, 0x07]), part, imm=self.random.choice([1, 2, 3]))
+            self.put(0x0F, begin, part)
+        length = self.random.choice([1, 2, 4, 8, 14, 15, 20, 34, 64, 255])
+        fixed = self.random.choice([0, 0, 0, 4, 14])
+        out = self.label()
+        if fixed:
+            self.put(0x07, begin, imm=fixed)
+        self.put(0xBF, limit, begin)
+        self.put(0x07, limit, imm=length)
+        if self.random.random() < 0.5:
+            self.compare(">", limit, out, end)
+        else:
+            self.compare("<", end, out, limit)
+        self.state.registers[begin], self.state.registers[limit] = ("packet", length, fixed), None
+        for _ in range(self.random.randrange(1, 4)):
+            known = self.state.registers[begin]
+            if self.random.random() < 0.2 and known and known[0] == "packet":
+                self.move_packet(begin, (begin, end, context))
+            self.packet_access()
+        self.leave(out)
+
+    def move_packet(self, begin, keep):
+        """The pointer moves by a number, and so much less is proved after it."""
+        _, length, fixed = self.state.registers[begin]
+        part, size = self.a_number(keep), self.random.choice([1, 3, 8, 64])
+        self.limit(part, size)
+        self.put(self.random.choice([0x0F, 0x0F, 0x0F, 0x1F]), begin, part)
+        left = length - size + 1
+        self.state.registers[begin] = ("packet", left, fixed) if left > 0 else None
+
+    def leave(self, out):
+        """Ends the program where a test leads to out, or joins there."""
+        if self.random.random() < 0.6:
+            after = self.label()
+            self.put(0x05, offset=after)
+            self.here(out)
+            self.set(0, self.random.randrange(5))
+            self.put(0x95)
+            self.here(after)
+            self.state.registers[0] = None
+        else:
+            self.here(out)
+            self.state.registers = [None if k and k[0] in ("packet", "value") else k for k in self.state.registers]
+            self.state.registers[0] = None
+            self.state.slots = [None] * 64
+
+    def packet_access(self):
+        pointers = self.state.having("packet")
+        if pointers:
+            r = self.random.choice(pointers)
+            _, length, fixed = self.state.registers[r]
+            self.access(r, -fixed if self.random.random() < 0.2 else 0, length, False)
+
+    def access(self, r, least, most, atomic):
+        """A load, a store or an atomic instruction within bytes from least to most of a pointer."""
+        opcode, size = self.random.choice(LOADS)
+        if most - least < size:
+            opcode, size = 0x71, 1
+        at = self.random.choice([least, most - size, self.random.randrange(least, most - size + 1)])
+        if self.slip():
+            at += self.random.choice([-size, -1, 1, size])
+        what = self.random.random()
+        if what < 0.6:
+            into = self.spare((r,))
+            self.put(opcode, into, r, at)
+            self.state.registers[into] = NUMBER
+        elif what < 0.75 or not atomic or size not in (4, 8):
+            self.put(STORES[size], r, self.a_number((r,)), at)
+        else:
+            self.put(0xC3 if size == 4 else 0xDB, r, self.a_number((r,)), at & -size, self.random.choice(FETCHES[:9]))
+
+    def argument(self, r, size):
+        """r points to written stack bytes."""
+        base = self.random.choice([-8, -16, -24, -32]) if size <= 8 else self.random.choice([-24, -32, -48])
+        for at in range(base, base + max(8, size), 8):
+            self.put(0x7A, 10, 0, at, self.random.choice([0, 1, 2, 3]))
+            self.state.slots[at // 8 + 64] = NUMBER
+        self.put(0xBF, r, 10)
+        self.put(0x07, r, imm=base)
+
+    def helper(self, number, index):
+        _, key, value, _ = self.maps[index]
+        if number != 5:
+            self.argument(2, key)
+            if number == 2:
+                self.argument(3, value)
+                self.put(0xB7, 4, imm=self.random.choice([0, 0, 1, 2, 3]))
+            self.put(0x18, 1, 5, 0, index)
+            self.put(0)
+        self.put(0x85, imm=number)
+        self.state.registers[:6] = [None] * 6
+        self.state.registers[0] = NUMBER
+
+    def keep_context(self):
+        """Before a call, the context goes to a register that is kept."""
+        context = self.state.having("context")
+        if context and context[0] < 6:
+            self.move(self.random.choice([6, 7, 8, 9]), context[0])
+
+    def map_call(self):
+        if not self.maps or self.random.random() < 0.1:
+            self.keep_context()
+            self.put(0x85, imm=5)
+            self.state.registers[:6] = [NUMBER] + [None] * 5
+            return
+        self.keep_context()
+        index = self.random.randrange(len(self.maps))
+        number = self.random.choice([1, 1, 1, 2, 2, 3])
+        self.helper(number, index)
+        if number != 1:
+            return
+        self.state.registers[0] = None
+        holder = self.random.choice([0, 0, 6, 7, 8])
+        if holder and self.state.registers[holder] != CONTEXT:
+            self.put(0xBF, holder, 0)
+        else:
+            holder = 0
+        out = self.label()
+        self.compare("==", self.random.choice([0, holder]), out)
+        size = self.maps[index][2]
+        self.state.registers[holder] = ("value", size, index)
+        for _ in range(self.random.randrange(1, 4)):
+            if self.random.random() < 0.25 and size > 1:
+                self.moved_value(holder, size)
+            elif self.random.random() < 0.1:
+                self.helper(self.random.choice([2, 3]), self.random.randrange(len(self.maps)))
+                if holder < 6:
+                    break
+            else:
+                self.access(holder, 0, size, True)
+        self.leave(out)
+
+    def limit(self, r, size):
+        """Makes a number less than size: by a mask, a remainder, or one or two tests of any sign and width."""
+        if self.random.random() < 0.2:
+            self.narrow(r, max(size // 2, 1))
+        elif self.random.random() < 0.3:
+            self.put(self.random.choice([0x57, 0x54]), r, imm=self.random.choice([1, 3, 7, size - 1]))
+        elif self.random.random() < 0.3:
+            self.put(self.random.choice([0x97, 0x94]), r, imm=size)
+        else:
+            for _ in range(self.random.randrange(1, 3)):
+                after = self.label()
+                name, imm = self.random.choice([("<", size), ("<=", size - 1), ("s<", size), ("s<=", size - 1), ("s>", -1), ("s>=", 0), ("==", 0)])
+                self.compare(name, r, after, imm=imm, wide=self.random.random() < 0.5)
+                self.set(0, self.random.randrange(5))
+                self.put(0x95)
+                self.here(after)
+            self.state.registers[0] = None if r != 0 else self.state.registers[0]
+
+    def narrow(self, r, size):
+        """The same by a signed remainder or quotient, by bytes in another order, or by a part of a spilled number."""
+        what, by = self.random.randrange(4), size + self.random.choice([0, 0, 0, 1])
+        if what == 0:
+            self.put(self.random.choice([0x97, 0x94]), r, 0, 1, by)
+            self.put(0x07, r, imm=size - 1)
+        elif what == 1:
+            self.put(0xBF, r, r, self.random.choice([8, 8, 16]))
+            self.put(0x37, r, 0, 1, 256 // size * self.random.choice([1, 1, 1, -1]))
+            self.put(0x07, r, imm=size // 2)
+        elif what == 2:
+            bits = self.random.choice([16, 32])
+            self.put(0x57, r, imm=(by - 1 << bits - 8) - (1 << 32 if by > 128 and bits == 32 else 0))
+            self.put(self.random.choice([0xDC, 0xD7]), r, imm=bits)
+        else:
+            byte = self.random.randrange(3)
+            self.put(0x57, r, imm=(by - 1) << 8 * byte)
+            self.put(0x7B, 10, r, -8)
+            self.put(0x71, r, 10, -8 + byte)
+            self.state.slots[63] = None
+
+    def moved_value(self, r, size):
+        """A copy of a value's pointer, moved by a number below the size."""
+        copy, part = self.spare((r,)), None
+        self.move(copy, r)
+        part = self.a_number((r, copy))
+        self.limit(part, size)
+        self.put(0x0F, copy, part)
+        self.put(0x71, part, copy, 0)
+        self.state.registers[copy] = None

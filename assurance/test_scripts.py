@@ -1,0 +1,223 @@
+#!/usr/bin/env python3
+"""Tests of laws.py and file_map.py on small repositories, and of what the attacks judge by and make. In the gate;
+`python3 assurance/test_scripts.py` runs them."""
+import os
+import random
+import struct
+import sys
+import tempfile
+import unittest
+
+sys.dont_write_bytecode = True
+import damage
+import file_map
+import laws
+import proofs
+import table
+from attack_programs import FAMILIES
+from definitions import TOP
+
+SPECS = """-- Some numbers.
+use Rattle.std.specs.Prelude.{ℕ}
+
+abbrev pub Small : ℕ → Type 0
+Small n = Bounded n limit
+
+abbrev pub Bounded : ℕ → ℕ → Type 0
+Bounded n m = n ≤ m
+
+abbrev pub limit : ℕ
+limit = 9
+
+-- cited by code
+pub small_enough : (n : ℕ) → n ≤ 3 → Small n
+small_enough n h = below n h
+
+below : (n : ℕ) → n ≤ 3 → n ≤ 9
+below n h = omega arith
+
+pub idle : (n : ℕ) → Small n → n ≤ 10
+idle n h = omega arith
+
+module _ (n : ℕ) (h : n ≤ 3) where
+  abbrev pub half : ℕ
+  half = n
+
+  pub half_small : Small half
+  half_small = small_enough n h
+"""
+CODE = """//! Code.
+ghost use Rattle.low.specs.Numbers.{Small, small_enough};
+
+pub fn three() -> u32
+    ensures { Small result }
+{
+    3
+}
+"""
+
+
+class Tree(unittest.TestCase):
+    """A repository of one crate, `low`, whose files a test changes."""
+
+    def setUp(self):
+        self.room = tempfile.TemporaryDirectory()
+        self.addCleanup(self.room.cleanup)
+        self.write("crates.txt", "# crates\nlow:\n")
+        self.write("crates/low/specs/Lib.antt", "pub mod Numbers\n")
+        self.write("crates/low/specs/Numbers.antt", SPECS)
+        self.write("crates/low/src/lib.rt", CODE)
+
+    def write(self, path, text):
+        full = os.path.join(self.room.name, path)
+        os.makedirs(os.path.dirname(full), exist_ok=True)
+        with open(full, "w", encoding="utf-8") as file:
+            file.write(text)
+
+
+class Laws(Tree):
+    def stray(self, each=False):
+        return {name for _, name, needed in laws.Cited(self.room.name, each).laws() if not needed}
+
+    def test_a_law_that_no_code_cites_is_found(self):
+        self.assertEqual(self.stray(), {"idle", "half_small"})
+
+    def test_what_a_cited_law_rests_on_stays(self):
+        self.write("crates/low/src/lib.rt", CODE.replace(", small_enough", ""))
+        self.assertEqual(self.stray(), {"small_enough", "below", "idle", "half_small"})
+
+    def test_a_module_with_parameters_counts_as_a_whole(self):
+        self.write("crates/low/src/lib.rt", CODE.replace("{ Small result }", "{ half }").replace("{Small", "{half, Small"))
+        self.assertEqual(self.stray(), {"idle"})
+        self.assertEqual(self.stray(each=True), {"idle", "half_small"})
+
+    def test_names_are_followed_through_lib_and_other_names(self):
+        self.write("crates/low/specs/Lib.antt", "pub mod Numbers\npub use Rattle.low.specs.Numbers.{idle}\n")
+        self.write("crates/low/src/more.rt", "ghost use Rattle.low.specs.{idle as lazy};\n")
+        self.assertEqual(self.stray(), {"half_small"})
+        self.write("crates/low/src/more.rt", "ghost use Rattle.low.specs.Numbers as numbers;\nensures { numbers.idle }\n")
+        self.assertEqual(self.stray(), {"half_small"})
+
+    def test_comments_cite_nothing(self):
+        self.write("crates/low/src/more.rt", "ghost use Rattle.low.specs.Numbers as numbers;\n// numbers.idle\n/// numbers.idle\n")
+        self.assertEqual(self.stray(), {"idle", "half_small"})
+
+    def test_operators_are_names(self):
+        self.write("crates/low/specs/Signs.antt", "use Rattle.low.specs.Numbers.{idle}\nabbrev pub ◌=<◌ : ℕ\na =< b = idle\n")
+        self.write("crates/low/src/more.rt", "ghost use Rattle.low.specs.Signs.{◌=<◌};\nensures { 1 =< 2 }\n")
+        self.assertEqual(self.stray(), {"half_small"})
+
+    def test_worked_examples_stay(self):
+        self.write("crates/low/specs/Worked/Examples.antt", "two : 1 + 1 ≡ 2\ntwo = refl\n")
+        self.assertEqual(self.stray(), {"idle", "half_small"})
+
+
+PAGE = """# Map
+
+| crate | has |
+|---|---|
+| `low` | numbers |
+
+## Low
+
+### low
+
+Its code is in `src/lib`.
+
+| file of `specs/` | defines |
+|---|---|
+| `Numbers` | numbers |
+"""
+
+
+class Map(Tree):
+    def wrong(self, page=PAGE):
+        self.write("docs/ARCHITECTURE.md", page)
+        return [line.split(":")[1].split()[0] for line in file_map.wrong(self.room.name)]
+
+    def test_a_page_that_fits(self):
+        self.assertEqual(self.wrong(PAGE.replace("Its code is in `src/lib`.", "")), [])
+        self.assertEqual(self.wrong(PAGE.replace("Its code is in `src/lib`.", "").replace("`Numbers`", "`Num*`")), [])
+        self.assertEqual(self.wrong("| `low` | numbers |\n# low\nHere `specs/Numbers` is all.\n"), [])
+
+    def test_what_is_missing_on_the_page(self):
+        page = PAGE.replace("Its code is in `src/lib`.", "")
+        self.assertEqual(self.wrong(page.replace("`Numbers`", "Numbers")), ["specs/Numbers"])
+        self.assertEqual(self.wrong(page.replace("### low", "### high")), ["specs/Numbers"])
+        self.assertEqual(self.wrong(page.replace("| `low` |", "| low |")), ["not"])
+        self.write("crates/low/src/sums.rt", "//! Sums.\n")
+        self.assertEqual(self.wrong(page), [])
+        table = "\n| file of `src/` | has |\n|---|---|\n| `products` | products |\n"
+        self.assertEqual(self.wrong(page + table), ["src/products", "src/sums"])
+        self.assertEqual(self.wrong(page + table.replace("`products`", "`sums`")), [])
+
+    def test_what_is_missing_in_the_tree(self):
+        self.assertEqual(self.wrong(PAGE.replace("| `Numbers` |", "| `Numbers`, `Sets` |")), ["src/lib", "specs/Sets"])
+
+    def test_files_that_pass_others_on_need_no_place(self):
+        self.write("crates/low/specs/Code.antt", "pub mod Sets\n")
+        self.write("crates/low/specs/Code/Sets.antt", "-- Sets.\n")
+        page = PAGE.replace("Its code is in `src/lib`.", "")
+        self.assertEqual(self.wrong(page), ["specs/Code/Sets"])
+        self.assertEqual(self.wrong(page.replace("`Numbers` |", "`Numbers`, `Code/Sets` |")), [])
+
+
+ONE = struct.pack("<QIII", 1000, 1, 0, 2) + b"\xca\xfe"
+FIRST, SKIPPED = struct.pack("<QIIII", 1000, 1, 0, 2, 0) + b"\xca\xfe", struct.pack("<QIIII", 2000, 1, 0, 0, 7)
+
+
+class Attacks(unittest.TestCase):
+    def test_the_judge_of_streams(self):
+        """The reports that docs/FORMATS.md wants."""
+        for stream, lines, sent in (
+            (b"", ["fault F1 at 0"], b"XPF1"),
+            (b"XPF3", ["fault F1 at 0"], b"XPF1"),
+            (b"XPF1", ["end 0"], b"XPF1"),
+            (b"XPF1" + ONE, ["0 PASS 2 2", "end 1"], b"XPF1" + ONE),
+            (b"XPF1" + ONE + b"\0", ["0 PASS 2 2", "fault F2 at 26"], b"XPF1" + ONE),
+            (b"XPF1" + ONE[:-1], ["fault F4 at 4"], b"XPF1"),
+            (b"XPF1" + struct.pack("<QIII", 0, 0, 0, 4097), ["fault F3 at 4"], b"XPF1"),
+            (b"XPF2" + FIRST + SKIPPED, ["0 PASS 2 2 0", "1 SKIP 0 0 7", "end 2"], b"XPF2" + FIRST + SKIPPED),
+            (b"XPF2" + struct.pack("<QIIII", 0, 0, 0, 9217, 1), ["fault F3 at 4"], b"XPF2"),
+        ):
+            with self.subTest(stream):
+                self.assertEqual(damage.judged(stream), (lines, sent))
+
+    def test_each_family_makes_texts(self):
+        for name, family in FAMILIES.items():
+            for seed in range(100):
+                text = family(random.Random(f"{name} {seed}"))
+                self.assertTrue(any("exit" in line for line in text), name)
+
+    def test_each_damage_of_a_table(self):
+        """Each makes another table, or none; the entries that it was made of stay as they are."""
+        with open(os.path.join(TOP, "examples/pass.table"), "rb") as file:
+            data = file.read()
+        proof = proofs.Proof(b"", data)
+        self.assertEqual(proof.bytes_of(proof.entries), data)
+        for damage_of in proofs.DAMAGES:
+            made = set()
+            for seed in range(40):
+                entries = list(proof.entries)
+                damage_of(random.Random(seed), entries)
+                made.add(proof.bytes_of(entries))
+            with self.subTest(damage_of.__name__):
+                self.assertTrue(made - {data} or damage_of in (proofs.renamed, proofs.respilled))
+        self.assertEqual(table.table_bytes(proof.entries), data)
+
+    def test_another_program_is_one(self):
+        with open(os.path.join(TOP, "examples/firewall.image"), "rb") as file:
+            image = file.read()
+        others = {proofs.other_program(random.Random(seed), image) for seed in range(50)}
+        self.assertGreater(len(others - {image}), 30)
+        self.assertTrue(all(len(other) == len(image) and other[:8] == image[:8] for other in others))
+
+
+class Here(unittest.TestCase):
+    def test_this_repository_has_laws_that_code_cites(self):
+        needed = [name for _, name, needed in laws.Cited(TOP, each=False).laws() if needed]
+        self.assertGreater(len(needed), 10)
+
+
+if __name__ == "__main__":
+    unittest.main()
