@@ -12,7 +12,7 @@ written frame by frame, so a capture may be of any size, or not yet at its end.
 A frame stream is of the first form, XPF1, with frames of up to 4,096 bytes. With --reasons it is of the second one,
 XPF2, with frames of up to 9,216 bytes and a reason for each: why it was dropped, or 0. Longer frames are left out of
 the first form, so that later ones have a smaller number than in the capture; in the second form an empty frame with the
-reason 4294967295 stands in the place of each, so that numbers stay. Both are said. A pcapng has a reason as a comment of
+reason 4294967295 takes the place of each, so that numbers stay. Both are said. A pcapng has a reason as a comment of
 its packet, `reason 7`, in and out.
 
 A capture that ends in the middle of a frame, as one that is still being written, gives its whole frames and a warning;
@@ -127,7 +127,7 @@ def write_stream(frames, magic, put):
         lost = lost or (frame.reason != 0 and not reason)
         if len(frame.body) > form.most:
             if reason:
-                tell(f"frame {number} has {len(frame.body)} bytes, more than {form.most}: an empty one with the reason {TOO_LONG} stands in its place")
+                tell(f"frame {number} has {len(frame.body)} bytes, more than {form.most}: an empty one with the reason {TOO_LONG} takes its place")
                 put(struct.pack(form.head, frame.time, frame.interface, frame.queue, 0, TOO_LONG))
             else:
                 tell(f"frame {number} is left out: it has {len(frame.body)} bytes, more than {form.most}")
@@ -413,6 +413,29 @@ def frames_of(source, words, state):
         state["ends"] = str(why)
 
 
+class Sink:
+    """A file that is written; what fails is said with its name."""
+
+    def __init__(self, path):
+        self.path, self.file = path, open(path, "wb")
+
+    def __enter__(self):
+        return self
+
+    def put(self, data):
+        self.named(lambda: self.file.write(data))
+
+    def __exit__(self, *_):
+        self.named(self.file.close)
+
+    def named(self, act):
+        try:
+            act()
+        except OSError as why:
+            why.filename = self.path
+            raise
+
+
 def convert(words, source, state):
     if words.show:
         write_text(frames_of(source, words, state), sys.stdout.buffer.write)
@@ -424,9 +447,9 @@ def convert(words, source, state):
         write(frames_of(source, words, state), sys.stdout.buffer.write)
         sys.stdout.buffer.flush()
     else:
-        with open(out, "wb") as file:
+        with Sink(out) as sink:
             try:
-                write(frames_of(source, words, state), file.write)
+                write(frames_of(source, words, state), sink.put)
             except Damaged:
                 if os.path.isfile(out):
                     os.remove(out)

@@ -7,7 +7,7 @@ The program is a function of the section xdp, or of the one that is named; where
 a program, that one. --program names the function where a section has several; --list prints what there is. Functions that
 the program calls, and those that they call, go into the image after it, and no others.
 
-Maps are those of the section .maps, as libbpf writes them; their sizes stand in the type information, so compile with -g.
+Maps are those of the section .maps, as libbpf writes them; their sizes are in the type information, so compile with -g.
 Global variables that begin as zeros (.bss) become one array of one entry, after the maps. Variables that begin with
 another value, and constant tables, cannot be in an image, since a map begins as zeros. --source is the file that messages
 name in place of the object.
@@ -136,7 +136,7 @@ class Types:
         return {self.text(name): self.plain(of)[2] for name, of, _ in struct.iter_unpack("<III", rest)}
 
     def number(self, pointed):
-        """The number that a member of a map's definition stands for: the length of an array."""
+        """The number that a member of a map's definition means: the length of an array."""
         return struct.unpack("<III", self.plain(pointed)[3])[2]
 
     def maps(self):
@@ -201,7 +201,7 @@ class Lines:
 # ---- the program
 
 def map_rows(it):
-    """The rows and the names of all maps in the order in which they stand in .maps, and the number of each by its place."""
+    """The rows and the names of all maps in the order of .maps, and the number of each by its place."""
     if it.section("maps") is not None:
         raise Refused('its maps are in the old section "maps": define them with SEC(".maps"), as libbpf does')
     section = it.section(".maps")

@@ -6,7 +6,7 @@ usage: python3 tools/kernel.py IMAGE FRAMES [--program XDPVM] [--plain] [--log L
 The image's maps are made in the kernel and its program is loaded there, by bpf(2); nothing is attached or pinned, and all
 is closed at the end. The program runs on each frame of FRAMES (a frame stream, or a capture that frames.py reads) by the
 kernel's test run, and by `xdpvm run`. Printed are both verdicts, and where they run alike or not: for each frame the action
-and the bytes after the run, and at the end the entries of the maps.
+and the bytes after the run, and at the end the contents of the maps.
 
 The kernel's test run takes frames of 14 to 3,520 bytes that came in on interface 1, queue 0: other lengths are left out,
 and all frames are given that interface and queue. Helper 5 reads another clock there, so programs that call it may differ.
@@ -152,6 +152,8 @@ class Kernel:
                 self.log = log.value
                 return result
         self.log = log.value
+        if not self.log and result in (-errno.EPERM, -errno.ENOSYS):
+            raise NoKernel(f"bpf(2): {os.strerror(-result)}")
         self.refusal = last_words(self.log) or os.strerror(-result)
         return None
 
@@ -274,7 +276,7 @@ def differences(kernel, ran, frames):
     ours, theirs = sorted(ran.entries), sorted(kernel.entries())
     if ours != theirs:
         one = next((it for it in ours + theirs if (it in ours) != (it in theirs)))
-        found.append(f"map {one[0]}: the entry {one[1].hex()} {one[2].hex()} is {'of xdpvm' if one in ours else 'of the kernel'} alone")
+        found.append(f"map {one[0]}: the key {one[1].hex()} with the value {one[2].hex()} is only {'of xdpvm' if one in ours else 'of the kernel'}")
     return found, both
 
 

@@ -1,21 +1,28 @@
 #!/usr/bin/env python3
-"""Tests of frames.py, image.py and xdp.py: forms, and what is damaged. In the gate; `python3 tools/test_tools.py` runs them.
+"""Tests of frames.py, image.py, xdp.py and kernel.py: forms, and what is damaged. In the gate; `python3 tools/test_tools.py`
+runs them.
 
-Captures and objects are cut at each byte and changed byte by byte: the answer is a message, never a traceback.
+Captures and objects are cut at each byte and changed byte by byte: the answer is a message, never a traceback. What
+kernel.py says is tested without bpf(2).
 """
 import collections
+import contextlib
+import errno
 import glob
 import io
 import os
 import struct
+import subprocess
 import sys
 import unittest
+import unittest.mock
 
 HERE = os.path.dirname(os.path.abspath(__file__))
 sys.path.insert(0, HERE)
 sys.dont_write_bytecode = True
 import frames
 import image
+import kernel
 import xdp
 
 EXAMPLES = os.path.join(HERE, "../examples")
@@ -172,6 +179,116 @@ class Sources(unittest.TestCase):
             maps, slots = struct.unpack_from("<HH", made, 4)
             with self.subTest(path):
                 self.assertEqual(len(xdp.Source.of_text(path).slots), slots)
+
+
+class Messages(unittest.TestCase):
+    """Messages name the files of the command line, and have no traceback."""
+
+    def said(self, *words, status=1):
+        ran = subprocess.run([sys.executable, *words], cwd=EXAMPLES, capture_output=True, text=True, timeout=100)
+        self.assertEqual(ran.returncode, status, ran.stderr)
+        self.assertNotIn("Traceback", ran.stderr)
+        return ran.stderr
+
+    def test_help_has_examples_and_statuses(self):
+        for name in ("frames", "image", "kernel", "table", "xdp"):
+            ran = subprocess.run([sys.executable, os.path.join(HERE, f"{name}.py"), "--help"], capture_output=True, text=True)
+            with self.subTest(name):
+                self.assertEqual(ran.returncode, 0)
+                self.assertRegex(ran.stdout, r"(?s)usage:.*\nexamples?:\n    .*exit status is ")
+
+    def test_frames(self):
+        tool = os.path.join(HERE, "frames.py")
+        self.assertEqual(self.said(tool, "none.pcap", "x.frames"), "none.pcap: No such file or directory\n")
+        self.assertEqual(self.said(tool, "filters", "x.frames"), "filters: Is a directory\n")
+        self.assertEqual(self.said(tool, "firewall.pcapng", "filters"), "filters: Is a directory\n")
+        self.assertEqual(self.said(tool, "firewall.pcapng", "firewall.pcapng"), "firewall.pcapng: it would be written over while it is read\n")
+        for number in ("-1", "4294967296", "x"):
+            self.assertIn("a number from 0 to 4294967295", self.said(tool, "--interface", number, "firewall.pcapng", "x", status=2))
+        if os.path.exists("/dev/full"):
+            self.assertEqual(self.said(tool, "firewall.pcapng", "/dev/full"), "/dev/full: No space left on device\n")
+
+    def test_xdp(self):
+        tool = [os.path.join(HERE, "xdp.py"), "--xdpvm", sys.executable]
+        self.assertIn("no.where: OUT has to end in", self.said(*tool, "pass.image", "firewall.pcapng", "no.where"))
+        self.assertEqual(self.said(*tool, "filters"), "xdp.py: filters: Is a directory\n")
+        self.assertEqual(self.said(*tool, "none.text"), "xdp.py: none.text: No such file or directory\n")
+        self.assertIn("the filter comes first", self.said(*tool, "firewall.pcapng"))
+        self.assertIn("there is no program nowhere", self.said(tool[0], "--xdpvm", "nowhere", "pass.image"))
+
+    def test_image(self):
+        tool = os.path.join(HERE, "image.py")
+        self.assertEqual(self.said(tool, "pass.image", "x.image"), "pass.image: this is no object file\n")
+        self.assertEqual(self.said(tool, "--source", "f.c", "pass.image", "x.image"), "f.c: this is no object file\n")
+        self.assertIn("IMAGE is missing", self.said(tool, "pass.image", status=2))
+
+    @unittest.skipUnless(os.path.exists("/proc/self/status"), "there is no /proc")
+    def test_a_long_capture_is_a_stream(self):
+        """100,000 frames through pipes, in less memory than they fill."""
+        frame = struct.pack("<IIII", 1, 2, 600, 600) + bytes(600)
+        code = ("import re, runpy, sys; sys.argv = ['frames.py', '--to', 'frames', '-', '-']\n"
+                f"runpy.run_path({os.path.join(HERE, 'frames.py')!r}, run_name='__main__')\n"
+                "sys.stderr.write(re.search(r'VmHWM:\\s*(\\d+)', open('/proc/self/status').read())[1])")
+        with subprocess.Popen([sys.executable, "-c", code], stdin=subprocess.PIPE, stdout=subprocess.DEVNULL, stderr=subprocess.PIPE) as child:
+            child.stdin.write(struct.pack("<IHHiIII", 0xa1b2c3d4, 2, 4, 0, 0, 65535, 1))
+            for _ in range(1000):
+                child.stdin.write(frame * 100)
+            child.stdin.close()
+            self.assertLess(int(child.stderr.read()), 30_000)
+            self.assertEqual(child.wait(), 0)
+
+
+class Answers:
+    """A kernel that answers each frame with an action and these bytes, and whose maps have these entries."""
+
+    def __init__(self, action, body, entries):
+        self.action, self.body, self.found = action, body, entries
+
+    def run(self, body):
+        return (self.action, self.body) if len(body) >= kernel.LEAST else None
+
+    def entries(self):
+        return self.found
+
+
+class Kernel(unittest.TestCase):
+    def test_without_leave_there_is_no_kernel(self):
+        for name in ("firewall", "allow"):                                       # without maps, and with one
+            for error in (errno.EPERM, errno.ENOSYS):
+                with self.subTest(name), unittest.mock.patch.object(kernel, "call", lambda *_: (-error, b"")):
+                    with self.assertRaises(kernel.NoKernel):
+                        kernel.Kernel(content(f"{name}.image"))
+
+    def test_a_refusal_with_a_log_is_a_refusal(self):
+        log = b"0: (b7) r0 = 1\n1: (0f) r1 += r0\nR1 pointer arithmetic prohibited\nprocessed 2 insns (limit 1000000) x\n"
+
+        def call(command, attributes):
+            room = struct.unpack_from("<Q", attributes, 32)[0]
+            if room:
+                kernel.ctypes.memmove(room, log, len(log))
+            return -errno.EPERM, b""
+
+        with unittest.mock.patch.object(kernel, "call", call), kernel.Kernel(content("firewall.image")) as there:
+            self.assertEqual(there.refusal, "R1 pointer arithmetic prohibited")
+            self.assertEqual(there.processed(), ", 2 instructions processed")
+
+    def test_what_differs_is_said(self):
+        ran = kernel.Ran.__new__(kernel.Ran)
+        ran.rows, ran.bodies, ran.entries = [["0", "PASS", "14", "2"]], [bytes(14)], [(0, b"\1", b"\2")]
+        frames_given = [(1, bytes(14))]
+        alike = Answers(2, bytes(14), [(0, b"\1", b"\2")])
+        self.assertEqual(kernel.differences(alike, ran, frames_given), ([], 1))
+        for other, words in ((Answers(1, bytes(14), alike.found), "frame 0: xdpvm PASS, the kernel DROP (1)"),
+                             (Answers(2, bytes(13) + b"\7", alike.found), "frame 0: the bytes differ at 13: xdpvm 00, the kernel 07"),
+                             (Answers(2, bytes(14), []), "map 0: the key 01 with the value 02 is only of xdpvm")):
+            self.assertEqual(kernel.differences(other, ran, frames_given)[0], [words])
+
+    def test_a_command_that_cannot_be_done(self):
+        program = sys.executable
+        for words, status in ((["none.image", "two.frames"], 2), (["firewall.image", "run.sh"], 2)):
+            given = ["kernel.py", *(os.path.join(EXAMPLES, word) for word in words), "--program", program]
+            with self.subTest(words), unittest.mock.patch.object(sys, "argv", given), contextlib.redirect_stderr(io.StringIO()):
+                self.assertEqual(kernel.main(), status)
 
 
 if __name__ == "__main__":

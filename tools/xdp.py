@@ -6,13 +6,13 @@ usage: python3 tools/xdp.py FILTER [CAPTURE [OUT]] [--trace] [--reasons] [--all]
 
 FILTER is C (NAME.c, compiled by clang, or by the COMPILER that is named, as bpf-gcc; the flags after `--` go to it), an
 object file, an image, or a text. CAPTURE is a capture (pcap, pcapng), a frame stream, or a text of frames; without one
-the filter is verified alone. OUT gets the frames that are sent on, in the form that its name ends in (.pcap, .pcapng,
+the filter is only verified. OUT gets the frames that are sent on, in the form that its name ends in (.pcap, .pcapng,
 .frames, .txt). With --reasons the frames carry reasons: why each was dropped, in and out.
 
-Printed are the verdict, how many frames had which action and reason, and the entries of the maps (the first ten of each,
-with 64 bytes of their values, or --all). Where the filter is refused, each slot that the refusal names is followed by its line of the source: of the
-text, or of the C file, as the object's type information has it (clang's -g; bpf-gcc 12 has no lines there). --trace prints each frame's line too, and takes a
-program that `verify` refuses.
+Printed are the verdict, how many frames had which action and reason, and what the maps hold (the first ten keys of each,
+with 64 bytes of their values, or --all). Where the filter is refused, each slot that the refusal names is followed by its
+line of the source: of the text, or of the C file, as the object's type information has it (clang's -g; bpf-gcc 12 has no
+lines there). --trace prints each frame's line too, and takes a program that `verify` refuses.
 
 examples:
     python3 tools/xdp.py examples/firewall.text examples/firewall.pcapng sent.pcapng
@@ -39,7 +39,7 @@ CAPTURES = (b"\xa1\xb2\xc3\xd4", b"\xd4\xc3\xb2\xa1", b"\xa1\xb2\x3c\x4d", b"\x4
 
 
 class Failed(Exception):
-    """A step before the program's own failed; its message is told."""
+    """A step before the program's own failed; its message is printed."""
 
 
 def begin_of(path):
@@ -121,15 +121,12 @@ def image_of(given, folder):
 
 
 def tell_place(path, ran):
-    """A refusal of the text, with its line and a mark below the column."""
+    """A refusal of the text, with its place as editors take it; the program shows the line."""
     print(ran.stdout, end="")
     sys.stderr.write(ran.stderr)
     place = re.search(r"line (\d+) column (\d+)", ran.stdout + ran.stderr)
     if place:
-        with open(path, encoding="utf-8", errors="replace") as file:
-            line = file.read().split("\n")[int(place[1]) - 1]
-        column = int(place[2])
-        print(f"{path}:{place[1]}:{column}\n  {line}\n  {''.join(it if it == chr(9) else ' ' for it in line[:column - 1])}^", file=sys.stderr)
+        print(f"{path}:{place[1]}:{place[2]}", file=sys.stderr)
 
 
 def tell_refusal(source, ran):
@@ -148,9 +145,16 @@ def tell_refusal(source, ran):
 
 # ---- the frames
 
-def converted(source, made, *words):
-    if subprocess.run([sys.executable, FRAMES, *words, source, made]).returncode:
-        raise Failed(f"{source} cannot be converted")
+def converted(source, made, name, *words):
+    """Converts frames. `name` is what messages call the source in place of a file that is nobody's."""
+    ran = subprocess.run([sys.executable, FRAMES, *words, source, made], stderr=subprocess.PIPE, text=True, errors="replace")
+    sys.stderr.write(ran.stderr.replace(source, name))
+    if ran.returncode:
+        raise Failed(f"{name} cannot be converted")
+
+
+def is_known_ending(path):
+    return path.endswith((".pcap", ".pcapng", ".frames", ".txt"))
 
 
 def plural(count, noun):
@@ -158,7 +162,7 @@ def plural(count, noun):
 
 
 def tell_report(lines, source, shows_all):
-    """What the lines of a report say, in counts. A line that is none of a report is told as it is."""
+    """What the lines of a report say, in counts. A line that is not of a report is printed as it is."""
     actions, reasons, entries, last = collections.Counter(), collections.Counter(), collections.defaultdict(list), ""
     for line in lines:
         words = line.split()
@@ -197,18 +201,18 @@ def run(given, image, source, folder):
     if begin_of(given.capture)[:3] == b"XPF":
         frames = given.capture
     else:
-        converted(given.capture, frames, *["--reasons"] * given.reasons)
+        converted(given.capture, frames, given.capture, *["--reasons"] * given.reasons)
     ran = subprocess.Popen([given.xdpvm, "trace" if given.trace else "run", image, frames, sent], stdout=subprocess.PIPE, text=True)
     lines = (line.rstrip("\n") for line in ran.stdout)
     tell_report(traced(lines) if given.trace else lines, source, given.all)
     status = ran.wait()
     if given.out and status in (0, 3):
-        converted(sent, given.out, *["--reasons"] * given.reasons)
+        converted(sent, given.out, "what is sent on", *["--reasons"] * given.reasons)
     return status
 
 
 def traced(lines):
-    """The lines, each told as it comes."""
+    """The lines, each printed as it comes."""
     for line in lines:
         if line[:1].isdigit():
             print(line)
@@ -247,6 +251,8 @@ def main():
     given = arguments()
     if not shutil.which(given.xdpvm):
         sys.exit(f"xdp.py: there is no program {given.xdpvm}; `bash install.sh FOLDER` makes one")
+    if given.out and not is_known_ending(given.out):
+        sys.exit(f"xdp.py: {given.out}: OUT has to end in .pcap, .pcapng, .frames or .txt, since that says what it becomes")
     try:
         with tempfile.TemporaryDirectory() as folder:
             image, source = image_of(given, folder)
@@ -255,7 +261,9 @@ def main():
             if given.capture is None or verdict.returncode and not given.trace:
                 return verdict.returncode
             return run(given, image, source, folder)
-    except (Failed, OSError, struct.error) as why:
+    except OSError as why:
+        sys.exit(f"xdp.py: {why.filename}: {why.strerror}" if why.filename else f"xdp.py: {why}")
+    except (Failed, struct.error) as why:
         sys.exit(f"xdp.py: {why}")
 
 

@@ -1,0 +1,10 @@
+# Completions of xdpvm for fish, made by tools/manual.py.
+complete -c xdpvm -n __fish_use_subcommand -f -a asm -d 'Makes the image of a program that is written as text'
+complete -c xdpvm -n __fish_use_subcommand -f -a dis -d 'Prints the text of an image'
+complete -c xdpvm -n __fish_use_subcommand -f -a verify -d 'Verifies a program and prints the most steps that a run takes'
+complete -c xdpvm -n __fish_use_subcommand -f -a run -d 'Verifies a program, runs it on each frame, and prints the report'
+complete -c xdpvm -n '__fish_seen_subcommand_from run' -l table -r -d 'A proof table, which is tested in place of verifying the program'
+complete -c xdpvm -n __fish_use_subcommand -f -a trace -d 'Runs a program with every access tested, verified or not'
+complete -c xdpvm -n '__fish_seen_subcommand_from trace' -l limit -r -d 'The most steps on one frame, from 1 to 1000000 [default: 1000000]'
+complete -c xdpvm -n __fish_use_subcommand -f -a prove -d 'Verifies a program and writes a proof table, which others can test'
+complete -c xdpvm -n __fish_use_subcommand -f -a recheck -d 'Tests a proof table and prints the most steps that a run takes'
