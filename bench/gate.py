@@ -5,7 +5,7 @@ usage: python3 bench/gate.py [--most N] [--to FILE] [COMMAND ..]      (the defau
 
 The seconds are those of the provers (user and system), by crate: its code, its tests, and its must-fail edits, and the
 greatest memory of one of them. They are read from /proc twice a second, so a prover loses half a second at most. The
-command's output goes through, and its status is the script's. --most: the N dearest crates alone; --to: the table goes
+command's output goes through, and its status is the script's. --most: only the N dearest crates; --to: the table goes
 into a file. With `taskset -c 0,1` in front it all runs on two cores. In the gate: `.ci/run` prints the ten dearest.
 """
 import argparse

@@ -5,12 +5,13 @@ usage: python3 examples/filters.py [PROGRAM] [--clang COMPILER] [--only WORD]
 
 The first line of a filter says what has to come of it, by its source and the frames:
 
-    ok: 6 PASS, 2 DROP      it is accepted, and so many frames have each action
+    ok: 6 PASS, 2 DROP      it is accepted, and this many frames have each action
     refused V4              it is refused so, and the slot's line of the source is shown
     says: PATTERN           it becomes no image, and the message is this one
 
-A line `flags: ..` has flags for the compiler, `words: ..` words for xdp.py, `gcc: ..` what has to come of it by bpf-gcc. Sources in C are left out where there is no
-compiler. A word about the kernel was tried by tools/kernel.py. The exit status is 1 if anything else came of a filter.
+A line `flags: ..` has flags for the compiler, `words: ..` words for xdp.py, `gcc: ..` what has to come of it by bpf-gcc.
+Sources in C are left out where there is no compiler. A word about the kernel was tried by tools/kernel.py. The exit status
+is 1 if anything else came of a filter.
 """
 import argparse
 import glob
@@ -23,6 +24,7 @@ import tempfile
 
 HERE = os.path.dirname(os.path.abspath(__file__))
 FOLDER = os.path.join(HERE, "filters")
+SECONDS = 600
 
 
 def line_of(text, name):
@@ -45,7 +47,10 @@ def wrong(path, given):
         words += ["--clang", given.clang, *["--xdpvm", os.path.abspath(given.program)] * bool(given.program)]
         words += (line_of(text, "words") or "").split()
         words += ["--", *(line_of(text, "flags") or "").split()]
-        ran = subprocess.run(words, cwd=FOLDER, capture_output=True, text=True, timeout=100)
+        try:
+            ran = subprocess.run(words, cwd=FOLDER, capture_output=True, text=True, timeout=SECONDS)
+        except subprocess.TimeoutExpired:
+            return f"no answer in {SECONDS} seconds"
         is_sent = os.path.exists(sent)
     told = f"status {ran.returncode}\n{ran.stdout}{ran.stderr}"
     by_gcc = line_of(text, "gcc") if "gcc" in given.clang else None

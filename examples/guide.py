@@ -20,8 +20,8 @@ The last six begin with a comment: the line of standard output, and after it wha
 `asm` counts as the answer. In hexadecimal `#` begins a comment. Blocks with any other word, or with none, are not
 tried. Each examples/NAME.text has to make NAME.image, each NAME.bpf.c too where clang 14 is installed, each NAME.table
 is what `prove` writes for NAME.image, and each NAME.report is what `run` prints for NAME.image and NAME.frames, into a
-pipe and into a file. The last rows read crates.txt and the crates: what `run` and `recheck` stand on, that the clauses
-which pages name are there, and that each crate has its row on the pages.
+pipe and into a file. The last rows read crates.txt, the crates and the pages: what `run` and `recheck` build on, that the
+clauses which pages name are there, that each crate has its row, and that each link leads somewhere.
 Each NAME.frames is what frames.py makes of NAME.pcapng, where there is one; frame streams of both forms become texts
 and captures, and those the same streams again. Each filter of examples/filters is answered as it says (filters.py).
 The exit status is 0 if every answer is the one wanted, else 1.
@@ -45,13 +45,13 @@ COMMAND = re.compile(r"^\$ (.*)\n((?:(?!\$ ).*\n)*)", re.M)
 
 def run(*words):
     """The status, the standard output and the standard error of the program."""
-    ran = subprocess.run([PROGRAM, *words], stdout=subprocess.PIPE, stderr=subprocess.PIPE, text=True, timeout=100)
+    ran = subprocess.run([PROGRAM, *words], stdout=subprocess.PIPE, stderr=subprocess.PIPE, text=True, timeout=600)
     return ran.returncode, ran.stdout, ran.stderr
 
 
 def shell(command):
     """The standard output of a command line."""
-    ran = subprocess.run(["bash", "-c", command], stdout=subprocess.PIPE, stderr=subprocess.DEVNULL, text=True, timeout=100)
+    ran = subprocess.run(["bash", "-c", command], stdout=subprocess.PIPE, stderr=subprocess.DEVNULL, text=True, timeout=600)
     return ran.stdout
 
 
@@ -106,7 +106,8 @@ def answer_of(kind, body):
     if kind in ("table", "entries"):
         return rechecked(kind, body)
     write_hex("example.frames", body)
-    return line(run("run", "examples/pass.image", "example.frames", "sent")[1], -1)
+    status, answer, why = run("run", "examples/pass.image", "example.frames", "sent")
+    return line(answer, -1) + why
 
 
 def tries(kind, body):
@@ -223,7 +224,7 @@ def reported():
 
 
 def below(name):
-    """The crates that this one stands on."""
+    """The crates that this one depends on."""
     with open(os.path.join(TOP, "crates.txt")) as rows:
         rows = [row.partition(":") for row in rows if row[:1] != "#"]
     stands_on = {head.strip(): names.split() for head, _, names in rows}
@@ -235,9 +236,9 @@ def below(name):
     return found
 
 
-def stands():
-    """`run` executes on words, with no test of an access: its machine stands on flatmem, and not on the checked one.
-    `recheck` stands on the step and the test of covering, and on nothing of the search for a bound."""
+def depends():
+    """`run` executes on words, with no test of an access: its machine depends on flatmem, and not on the checked one.
+    `recheck` depends on the step and the test of covering, and on nothing of the search for a bound."""
     found = below("machine")
     yield "crates below machine", "flatmem: True, checked_vm: False\n", f"flatmem: {'flatmem' in found}, checked_vm: {'checked_vm' in found}\n"
     search = {"explorer", "walks", "state_index", "explanations", "proof_table"}
@@ -247,7 +248,7 @@ def stands():
 
 
 def named_clauses():
-    """Each clause that PROOFS.md and README.md name stands at a function of that name; they write `function: clause`, or
+    """Each clause that PROOFS.md and ARCHITECTURE.md name is one of a function of that name; they write `function: clause`, or
     for several functions or clauses `function`: `clause`."""
     heads = {}
     for path in glob.glob(os.path.join(TOP, "crates/*/src/**/*.rt"), recursive=True):
@@ -255,7 +256,7 @@ def named_clauses():
             for name, head in re.findall(r"\bfn (\w+)(.*?)(?=\n\s*\{\n|\bfn |\Z)", file.read(), re.S):
                 heads[name] = heads.get(name, "") + head
     missing = []
-    for page in ("docs/PROOFS.md", "README.md"):
+    for page in ("docs/PROOFS.md", "docs/ARCHITECTURE.md"):
         with open(os.path.join(TOP, page)) as file:
             text = file.read()
         named = [it for it in re.findall(r"`([\w:]+): ([\w, ]+)`", text) if it != ("function", "clause")]
@@ -267,14 +268,33 @@ def named_clauses():
 
 
 def crates_on_pages():
-    """Each crate of crates.txt has a row in the README and in ARCHITECTURE.md, and no other one has."""
+    """Each crate of crates.txt has a row in ARCHITECTURE.md, and no other one has."""
     with open(os.path.join(TOP, "crates.txt")) as rows:
         crates = {row.split(":")[0].split()[0] for row in rows if row.strip() and row[0] != "#"}
-    for page in ("README.md", "docs/ARCHITECTURE.md"):
-        with open(os.path.join(TOP, page)) as file:
-            table = file.read().split("\n## Crates\n")[1].split("\n## ")[0]
-        named = {name for row in re.findall(r"^\| (`[^|]*) \|", table, re.M) for name in re.findall(r"`(\w+)`", row)}
-        yield f"crates that differ in {page}", "[]\n", f"{sorted(crates ^ named)}\n"
+    with open(os.path.join(TOP, "docs/ARCHITECTURE.md")) as file:
+        table = file.read().split("\n## Crates\n")[1].split("\n## ")[0]
+    named = {name for row in re.findall(r"^\| (`[^|]*) \|", table, re.M) for name in re.findall(r"`(\w+)`", row)}
+    yield "crates that differ in docs/ARCHITECTURE.md", "[]\n", f"{sorted(crates ^ named)}\n"
+
+
+def anchors(page):
+    """The anchors of a page's headings."""
+    with open(page) as file:
+        text = re.sub(r"^```.*?^```$", "", file.read(), flags=re.M | re.S)
+    heads = [re.sub(r"[^\w\- ]", "", head.strip().lower()) for head in re.findall(r"^#+ (.*)$", text, re.M)]
+    return text, {head.replace(" ", "-") for head in heads}
+
+
+def links(pages):
+    """Each link of a page leads to a file that is there, and to a heading."""
+    for page in pages:
+        wrong = []
+        for link in re.findall(r"\]\(([^)\s]+)\)", anchors(page)[0]):
+            file, _, anchor = link.partition("#")
+            there = os.path.join(os.path.dirname(page), file) if file else page
+            if ":" not in link and (not os.path.exists(there) or anchor and anchor not in anchors(there)[1]):
+                wrong.append(link)
+        yield f"links of {os.path.relpath(page, TOP)}", "[]\n", f"{wrong}\n"
 
 
 def filters_answer():
@@ -322,9 +342,10 @@ def main():
         count("frames.py", returned())
         count("examples", reported())
         count("filters", filters_answer())
-        count("crates.txt", stands())
+        count("crates.txt", depends())
         count("crates", named_clauses())
         count("crates.txt", crates_on_pages())
+        count("pages", links(pages + [os.path.join(TOP, it) for it in ("examples/README.md", "assurance/LOG.md", "bench/LOG.md")]))
         os.chdir("/")
     print(f"{runs} examples, {failures} differ")
     sys.exit(1 if failures else 0)

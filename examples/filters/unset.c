@@ -1,4 +1,5 @@
 /* refused V1 */
+/* gcc: says: it does not compile */
 /* A variable that one path does not set: clang leaves its register out there. */
 #include "filter.h"
 

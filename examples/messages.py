@@ -1,0 +1,136 @@
+#!/usr/bin/env python3
+"""What the program says of wrong texts, images, streams and words.
+
+usage: python3 examples/messages.py [PROGRAM]
+
+Each row has an input, the line of standard output (for words the first line of standard error), and a piece of the line
+of standard error that helps. PROGRAM is the program that `rt run` leaves in crates/xdpvm (the default:
+crates/xdpvm/out/xdpvm). The exit status is 0 if each row is answered so, else 1.
+"""
+import os
+import subprocess
+import sys
+import tempfile
+
+TOP = os.path.dirname(os.path.dirname(os.path.abspath(__file__)))
+PROGRAM = os.path.abspath(sys.argv[1] if len(sys.argv) > 1 else os.path.join(TOP, "crates/xdpvm/out/xdpvm"))
+
+# A text, its refusal by `asm`, and what helps.
+TEXTS = (
+    (b"r0 = 2\r\nexit\r\n", "A1 line 1 column 7", "a carriage return"),
+    (b"\xef\xbb\xbfr0 = 2\nexit\n", "A1 line 1 column 1", "a byte-order mark"),
+    (b"r0 = 2 // PASS\nexit\n", "A1 line 1 column 8", "a comment begins with #"),
+    (b"/* PASS */\nexit\n", "A1 line 1 column 1", "a comment begins with #"),
+    (b".section xdp\nexit\n", "A1 line 1 column 1", "there are no directives"),
+    (b"r0 = [r1]\nexit\n", "A1 line 1 column 6", "*(u32 *)(r1 + 4)"),
+    (b"r0 = 2u\nexit\n", "A1 line 1 column 7", "numbers with no letter behind them"),
+    (b"if !r1 goto +1\nexit\n", "A1 line 1 column 4", "only with = behind it"),
+    (b"\x7fELF\x02\x01\x01\n", "A1 line 1 column 1", "an ELF object: `tools/image.py`"),
+    (b"XBP1\0\0\x01\0\x95\0\0\0\0\0\0\0", "A1 line 1 column 5", "`xdpvm dis` prints its text"),
+    (b"XPF1\0\0\0\0", "A1 line 1 column 5", "a frame stream"),
+    (b"XPT1\0\0\0\0", "A1 line 1 column 5", "a proof table"),
+    (b"r11 = 2\nexit\n", "A2 line 1 column 1", "registers are r0 to r10"),
+    (b"w1 = be16 w1\nexit\n", "A2 line 1 column 1", "r1 = be16 r1"),
+    (b"r0 = *(u32 *)r1\nexit\n", "A2 line 1 column 1", "parentheses and an offset"),
+    (b"w0 = *(u32 *)(r1 + 0)\nexit\n", "A2 line 1 column 1", "r1 = *(u32 *)(r2 + 0)"),
+    (b"*(u32 *)(r10) = 1\nexit\n", "A2 line 1 column 1", "parentheses and an offset"),
+    (b"map hash 4, 8, 16\nexit\n", "A2 line 1 column 1", "no commas"),
+    (b"mov r0, 2\nexit\n", "A2 line 1 column 1", "in place of `mov r0, 2`"),
+    (b"r0 = PASS\nexit\n", "A2 line 1 column 1", "2 PASS"),
+    (b"lock *(u64 *)(r10 - 8) -= r1\nexit\n", "A2 line 1 column 1", "+= |= &= ^="),
+    (b"r0 = w1\nexit\n", "A2 line 1 column 1", "registers of one width"),
+    (b"r0 = r1 + 4\nexit\n", "A2 line 1 column 1", "one operation"),
+    (b"r0 = -r1\nexit\n", "A2 line 1 column 1", "both are one register"),
+    (b"if r1 goto +1\nexit\n", "A2 line 1 column 1", "a test is"),
+    (b"goto 3\nexit\n", "A2 line 1 column 1", "a jump is"),
+    (b"exit 2\n", "A2 line 1 column 1", "stands alone"),
+    (b"r1 = xchg_64(r10 - 8, r2)\nexit\n", "A2 line 1 column 1", "xchg_64(r10 - 8, r1)"),
+    (b"r0 = 3000000000\nexit\n", "A3 line 1 column 6", "3000000000 ll"),
+    (b"w0 *= 0x9e3779b1\nexit\n", "A3 line 1 column 7", "less 4294967296"),
+    (b"r0 = *(u8 *)(r1 + 40000)\nexit\n", "A3 line 1 column 17", "a larger offset is added"),
+    (b"goto +40000\nexit\n", "A3 line 1 column 6", "`gotol` goes farther"),
+    (b"version 3\nexit\n", "A3 line 1 column 9", "the version is 2"),
+    (b"a: r0 = 2\na: exit\n", "A4 line 2 column 1", "another name"),
+    (b"goto nowhere\nexit\n", "A5 line 1 column 6", "`name:` before it"),
+    (b"call bpf_map_lookup_elem\nexit\n", "A5 line 1 column 6", "helpers are numbers: `call 1`"),
+    (b"map array 8 8 16\nexit\n", "A7 line 1 column 1", "an array's keys have 4 bytes"),
+    (b"map hash 65 8 16\nexit\n", "A7 line 1 column 1", "keys of 1 to 64 bytes"),
+    (b"r1 = map_by_idx(0)\nexit\n", "A7 line 1 column 17", "counted from 0"),
+    (b"# nothing\n", "A9 line 1 column 1", "the least text"),
+    (b"map hash 4 8 1\nr1 = map_val(map_by_idx(0)) + 0\nexit\n", "A10 line 2 column 25", "a look-up finds the value"),
+    (b"map array 4 8 1\nversion 2\nexit\n", "A11 line 2 column 1", "move it to the front"),
+)
+
+# The bytes of an image, the line of `verify`, and what helps.
+IMAGES = (
+    (b"\x7fELF\x02\x01\x01\0", "refused I1", "it is an ELF object: image.py"),
+    (b"r0 = 2\nexit\n", "refused I1", "it looks like a text: xdpvm asm"),
+    (b"XPF1\0\0\0\0", "refused I1", "it is a frame stream"),
+    (b"XPT1\0\0\0\0", "refused I1", "it is a proof table"),
+    (b"\xd4\xc3\xb2\xa1\x02\0\x04\0", "refused I1", "it is a capture (pcap): frames.py"),
+    (b"\x0a\x0d\x0d\x0a\x1c\0\0\0", "refused I1", "it is a capture (pcapng): frames.py"),
+    (b"\x1f\x8b\x08\0\0\0\0\0", "refused I1", "gunzip unpacks it"),
+    (b"XBP9\0\0\0\0", "refused I1", ""),
+    (b"XBP1\0\0\x02\0\x95\0\0\0\0\0\0\0", "refused I2", "shorter"),
+    (b"XBP1\0\0\x01\0\x95\x01\0\0\0\0\0\0", "refused I8 slot 0 C4", "slot 0"),
+)
+
+# The bytes of a frame stream, the last line of the report, and what helps.
+STREAMS = (
+    (b"\xd4\xc3\xb2\xa1\x02\0\x04\0", "fault F1 at 0", "frames.py makes a stream of a capture"),
+    (b"", "fault F1 at 0", "frames.py makes a stream of a capture"),
+    (b"XPF1\0\0\0\0", "fault F2 at 4", "the file was cut"),
+    (b"XPF1" + bytes(16) + b"\x01\x10\0\0", "fault F3 at 4", "frames.py --reasons"),
+    (b"XPF1" + bytes(16) + b"\x02\0\0\0\0", "fault F4 at 4", "the file was cut"),
+)
+
+# Words, and the first line of standard error.
+WORDS = (
+    (("walk",), "error: unrecognized subcommand 'walk'"),
+    (("verify",), "error: the following required arguments were not provided:"),
+    (("trace", "a", "b", "c", "--limit", "0"), "error: the value of --limit is not a number from 1 to 1000000"),
+    (("verify", "--json", "a"), "error: unexpected argument '--json' found"),
+    (("verify", "missing.image"), "cannot read missing.image"),
+)
+
+
+def rows(folder):
+    """What is tried, what is wanted, and whether it is answered."""
+    def run(*words):
+        ran = subprocess.run([PROGRAM, *words], cwd=folder, stdout=subprocess.PIPE, stderr=subprocess.PIPE, timeout=60, check=False)
+        return ran.stdout.decode().splitlines() or [""], ran.stderr.decode().splitlines() or [""]
+
+    def write(name, content):
+        with open(os.path.join(folder, name), "wb") as file:
+            file.write(content)
+
+    for text, line, help_line in TEXTS:
+        write("text", text)
+        out, err = run("asm", "text", "image")
+        yield text, (f"refused {line}", help_line), (out[0], err[-1])
+    for content, line, help_line in IMAGES:
+        write("image", content)
+        out, err = run("verify", "image")
+        yield content, (line, help_line), (out[0], err[-1])
+    for content, line, help_line in STREAMS:
+        write("frames", content)
+        out, err = run("run", os.path.join(TOP, "examples/pass.image"), "frames", "sent")
+        yield content, (line, help_line), (out[-1], err[-1])
+    for words, line in WORDS:
+        out, err = run(*words)
+        yield words, (line, ""), (err[0], "")
+
+
+def main():
+    count = wrong = 0
+    with tempfile.TemporaryDirectory() as folder:
+        for tried, wanted, found in rows(folder):
+            count += 1
+            if found[0] != wanted[0] or wanted[1] not in found[1]:
+                wrong += 1
+                print(f"{tried!r}: wanted {wanted}, found {found}")
+    print(f"{count} messages, {wrong} differ")
+    sys.exit(1 if wrong else 0)
+
+
+main()
