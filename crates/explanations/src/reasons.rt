@@ -33,7 +33,8 @@ fn lines_of(
 
 /// What is known where a program is refused so, at this slot: the registers and the stack slots
 /// that concern its instruction, what it needs, the low half of an answer that has to name an
-/// action, and the last jumps on the way there. None: the refusal is one of control flow, or memory ran out.
+/// action, and the last jumps on the way there. None: the refusal is one of control flow, or memory
+/// ran out.
 pub fn reason(alloc: Global, image: &Image, refusal: Refusal, slot: usize) -> Option<String>
     ensures { IfSome result (λ text. IsReason image.now refusal slot (string_bytes text)) }
 {

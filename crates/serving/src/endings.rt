@@ -52,8 +52,8 @@ impl<'a> Ending<'a> {
         Ending { outcome, why }
     }
 
-    /// A task that read this text ended so. Where it was refused, the line is shown, and what helps;
-    /// nothing is where memory runs out.
+    /// A task that read this text ended so. Where it was refused, the line is shown, and what
+    /// helps; nothing is shown where memory runs out.
     pub fn of_text(alloc: Global, text: &[u8], outcome: Outcome<'a>) -> Self
         ensures outcome { result.outcome ≡ outcome.entry }
         ensures known { IsKnownOfText text.now result }

@@ -19,7 +19,7 @@ fn from_start(offset: i32, by: i16) -> i64
     i64::from(offset) + i64::from(by) + FRAME_SIZE as i64
 }
 
-/// The byte that far from a frame's start, if so many bytes from it on are in the frame.
+/// The byte at an offset from a frame's start, if the `count` bytes from there are in the frame.
 pub fn frame_bytes(from_start: i64, count: u32) -> Option<usize>
     ensures { FindsBytes from_start count result }
 {

@@ -145,7 +145,8 @@ fn pass_registers<'a>(
     Ok((both(both(values, slots), fits), rest))
 }
 
-/// An outer frame. Where r0 to r5 are unset, as they have to be, it has the form of an innermost one.
+/// An outer call frame. Where r0 to r5 are unset, as they have to be, it is read as an innermost
+/// one.
 fn pass_caller<'a>(
     rows: usize,
     holder: usize,

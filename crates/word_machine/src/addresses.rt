@@ -15,7 +15,7 @@ const REGION_MIDDLE: u64 = 0x8000_0000;
 // Bytes of a call frame.
 const FRAME_BYTES: u64 = FRAME_SIZE as u64;
 
-// Addresses for each byte of the block of all call frames, since each frame has a region of its own.
+// How many addresses there are for each byte of a call frame, since each has a region of its own.
 const FRAME_STEP: u64 = REGION_SIZE / FRAME_BYTES;
 
 /// The region of the context.

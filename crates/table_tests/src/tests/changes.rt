@@ -191,7 +191,7 @@ fn judges_changed_tables(rt: HostRuntime) -> Result<(), Fail> {
     Ok(())
 }
 
-/// Where an allocation is refused, the answer is out of memory, of the control flow or of the table.
+/// A refused allocation is reported as out of memory, by control flow or by the table.
 #[test]
 fn tells_refused_memory(rt: HostRuntime) -> Result<(), Fail> {
     let table = table_with(rt.alloc(), &TWO)?;
