@@ -1,3 +1,4 @@
 pub mod Numbers
 pub mod Comparing
 pub mod Refining
+pub mod Leaving

@@ -6,16 +6,21 @@ ghost use Rattle.isa_model.specs.Code.Numbers.{holds};
 ghost use Rattle.reg_state.specs.Scalars.{Has, IsConstant};
 ghost use Rattle.reg_state.specs.Shown.{Shows};
 ghost use Rattle.stack_state.specs.Places.{kind_of};
+ghost use Rattle.stack_state.specs.declared.states.State.{State as TheState};
+ghost use Rattle.isa_model.specs.declared.instructions.Cond.{Cond as TheCond};
 ghost use Rattle.branch_refine.specs.Refining.{IsJust, IsJustOperand, AreCompared, Keeps, Narrows, KeepsOthers, Refined, Leaves, Refines, IsRefined};
 ghost use Rattle.branch_refine.specs.Comparing.{same};
+ghost use Rattle.branch_refine.specs.Leaving.{goes, left_in, MayBePut};
 
 mod comparing;
 mod operands;
+mod outcomes;
 
 pub use crate::comparing::{Compared, compared_by};
-use crate::operands::{number_of, operand_numbers, set_operand};
-use isa_model::{Cond, Reg};
-use reg_state::{Domain, Kind, Scalar};
+use crate::operands::{number_of, operand_numbers};
+pub use crate::outcomes::Outcome;
+use isa_model::Cond;
+use reg_state::{Domain, Scalar};
 use stack_state::{Fact, State};
 
 /// What is left of a state on one way of a conditional jump.
@@ -30,27 +35,31 @@ pub enum Branch {
 pub fn refine(cond: Cond, taken: bool, state: &State) -> Branch
     ensures { IsRefined cond taken state.now result }
 {
-    let mut left = state.copy();
-    if refine_in_place(cond, taken, &mut left) {
-        Branch::Goes(left)
-    } else {
-        Branch::Never
+    let outcome = outcome_of(cond, taken, state);
+    if !outcome.goes() {
+        return Branch::Never;
     }
+    let mut left = state.copy();
+    outcome.put(cond, &mut left);
+    Branch::Goes(left)
 }
 
-/// Leaves of a state what goes this way. No: nothing does, and it stays as it is.
-pub fn refine_in_place(cond: Cond, taken: bool, state: &mut State) -> bool
-    ensures refines { Refines cond taken state.old result state.new }
+/// What the test shows of a state where it comes out this way.
+pub fn outcome_of(cond: Cond, taken: bool, state: &State) -> Outcome
+    ensures refines { Refines cond taken state.now (goes result) (left_in cond state.now result) }
+    ensures put { MayBePut cond result }
 {
     match compared_by(cond, state) {
-        Compared::Numbers => refine_numbers(cond, taken, state),
-        pointers => refine_pointers(pointers, taken, state),
+        Compared::Numbers => numbers_outcome(cond, taken, state),
+        pointers => pointers_outcome(pointers, taken),
     }
 }
 
 // The same, where pointers are compared.
-fn refine_pointers(compared: Compared, taken: bool, state: &mut State) -> bool
-    ensures { Leaves compared taken state.old result state.new }
+fn pointers_outcome(compared: Compared, taken: bool) -> Outcome
+    ensures leaves { (a : TheState) → (cond : TheCond)
+        → Leaves compared taken a (goes result) (left_in cond a result) }
+    ensures put { (cond : TheCond) → MayBePut cond result }
 {
     match compared {
         Compared::Packet {
@@ -59,20 +68,26 @@ fn refine_pointers(compared: Compared, taken: bool, state: &mut State) -> bool
             bytes,
         } => {
             if is_same(taken, shows) {
-                state.learn(Fact::Proved { identity, bytes });
+                Outcome::Learned(Fact::Proved { identity, bytes })
+            } else {
+                Outcome::Same
             }
-            true
         }
         Compared::OrNull { identity, null } => {
-            state.learn(Fact::Tested {
+            Outcome::Learned(Fact::Tested {
                 identity,
                 null: is_same(taken, null),
                 zero: Scalar::constant(0),
-            });
-            true
+            })
         }
-        Compared::Live { null } => !is_same(taken, null),
-        _ => true,
+        Compared::Live { null } => {
+            if is_same(taken, null) {
+                Outcome::Never
+            } else {
+                Outcome::Same
+            }
+        }
+        _ => Outcome::Same,
     }
 }
 
@@ -82,35 +97,32 @@ fn is_same(taken: bool, outcome: bool) -> bool
     if taken { outcome } else { !outcome }
 }
 
-// The same, where two numbers are compared; else the state stays as it is.
-fn refine_numbers(cond: Cond, taken: bool, state: &mut State) -> bool
-    ensures kept { Keeps cond taken state.old result state.new }
-    ensures narrowed { Narrows state.old state.new }
-    ensures others { KeepsOthers cond state.old state.new }
-    ensures shown { AreCompared state.old cond → IsTrue result
-        → Refined cond taken state.old state.new }
-    ensures constants { (x y : ℕ) → IsJust (kind_of state.old cond.register) x
-        → IsJustOperand state.old cond.width cond.operand y
-        → holds cond.comparison cond.width x y ≢ taken → result ≡ false }
-    ensures constants_go { (x y : ℕ) → IsJust (kind_of state.old cond.register) x
-        → IsJustOperand state.old cond.width cond.operand y
-        → holds cond.comparison cond.width x y ≡ taken → IsTrue result }
-    ensures not_numbers { (AreCompared state.old cond → ⊥)
-        → IsTrue result × (state.new ≡ state.old) }
-    ensures never { result ≡ false → state.new ≡ state.old }
+// The same, where two numbers are compared; else nothing is shown.
+fn numbers_outcome(cond: Cond, taken: bool, state: &State) -> Outcome
+    ensures kept { Keeps cond taken state.now (goes result) (left_in cond state.now result) }
+    ensures narrowed { Narrows state.now (left_in cond state.now result) }
+    ensures others { KeepsOthers cond state.now (left_in cond state.now result) }
+    ensures shown { AreCompared state.now cond → IsTrue (goes result)
+        → Refined cond taken state.now (left_in cond state.now result) }
+    ensures constants { (x y : ℕ) → IsJust (kind_of state.now cond.register) x
+        → IsJustOperand state.now cond.width cond.operand y
+        → holds cond.comparison cond.width x y ≢ taken → goes result ≡ false }
+    ensures constants_go { (x y : ℕ) → IsJust (kind_of state.now cond.register) x
+        → IsJustOperand state.now cond.width cond.operand y
+        → holds cond.comparison cond.width x y ≡ taken → IsTrue (goes result) }
+    ensures never { goes result ≡ false → left_in cond state.now result ≡ state.now }
+    ensures put { MayBePut cond result }
 {
     let Some(left) = number_of(state, cond.register) else {
-        return true;
+        return Outcome::Same;
     };
     let Some(right) = operand_numbers(state, cond.width, cond.operand) else {
-        return true;
+        return Outcome::Same;
     };
     let Some((new_left, new_right)) = narrowed(cond, taken, left, right) else {
-        return false;
+        return Outcome::Never;
     };
-    state.set_register(cond.register, Kind::Number(new_left));
-    set_operand(state, cond.operand, new_right);
-    true
+    Outcome::Narrowed(new_left, new_right)
 }
 
 // What the comparison leaves of two numbers.

@@ -16,9 +16,9 @@ use Rattle.control_flow.specs.Masks.{no_registers, Has, no_slots, HasSlot, no_ho
 
 -- ---- one register more
 
-with_bit : (old n k : ℕ) → n < 16 → (bit_at (bit_or old (1 * 2 ^ n % 65536)) k ≡ 1) ↔ ((bit_at old k ≡ 1) ⊎ (k ≡ n))
+with_bit : (old n k : ℕ) → n < 16 → (bit_at (bit_or old (1 * 2 ^ n % 2 ^ 16)) k ≡ 1) ↔ ((bit_at old k ≡ 1) ⊎ (k ≡ n))
 with_bit old n k within = elim (cases_eq k n) [
-  | inl e ↦ (λ h. inr e, λ w. ap (λ (i : ℕ). bit_at (bit_or old (1 * 2 ^ n % 65536)) i) e ∙ bit_at_set_same w16 old n within)
+  | inl e ↦ (λ h. inr e, λ w. ap (λ (i : ℕ). bit_at (bit_or old (1 * 2 ^ n % 2 ^ 16)) i) e ∙ bit_at_set_same w16 old n within)
   | inr other ↦ (
     λ h. inl (sym (bit_at_set_other w16 old n within k other) ∙ h),
     λ w. elim w [ inl h ↦ bit_at_set_other w16 old n within k other ∙ h | inr e ↦ absurd (other e) ],
@@ -27,7 +27,7 @@ with_bit old n k within = elim (cases_eq k n) [
 
 -- the mask with a register has it and those that it had
 pub with_has : (mask : RegisterMask) (register : Reg) (n : ℕ) → n ≡ reg_number register → (r : Reg)
-    → (bit_at (bit_or mask.bits (1 * 2 ^ n % 65536)) (reg_number r) ≡ 1) ↔ (Has mask r ⊎ (r ≡ register))
+    → (bit_at (bit_or mask.bits (1 * 2 ^ n % 2 ^ 16)) (reg_number r) ≡ 1) ↔ (Has mask r ⊎ (r ≡ register))
 with_has mask register n is r =
     let low = number_below register in
     let test = with_bit mask.bits n (reg_number r) (omega arith) in (

@@ -5,6 +5,7 @@ use Rattle.std.proofs.lemmas.Option.{same_Some}
 use Rattle.isa_model.specs.declared.registers.Reg.{Reg}
 use Rattle.isa_model.specs.declared.registers.Reg.TheVariants.{R10}
 use Rattle.isa_model.specs.declared.instructions.Place.{Place}
+use Rattle.isa_model.specs.Code.Limits.{frame_size}
 use Rattle.isa_model.specs.MustAccept.Determined.{slot_offset}
 use Rattle.control_flow.specs.StackUse.{IsByte, IsWithinSlot, IsWholeSlot}
 
@@ -16,7 +17,7 @@ abbrev OnlyByte : Place → Option ℕ → Type 0
 OnlyByte place o = (n : ℕ) → (o ≡ Some n) ↔ IsByte place n
 
 pub byte_below : (place : Place) (o : Option ℕ) (byte : ℕ) → o ≡ Some byte → OnlyByte place o
-    → byte < 512
+    → byte < frame_size
 byte_below place o byte is only = ((only byte).0 is).0
 
 pub within_some : (place : Place) (o : Option ℕ) (byte : ℕ) → o ≡ Some byte → OnlyByte place o
@@ -56,7 +57,7 @@ whole_some place o byte is only even j = (
       let same : byte / 8 ≡ j = same_Some (byte / 8) j e in
       let (below, base, offset) = (only byte).0 is in
       let at : byte ≡ 8 * j = omega (arith, same, even) in
-      (omega (arith, at, below), place_is place R10 (slot_offset j) base (offset ∙ ap (λ (n : ℕ). pos n -ℤ pos 512) at)),
+      (omega (arith, at, below), place_is place R10 (slot_offset j) base (offset ∙ ap (λ (n : ℕ). pos n -ℤ pos frame_size) at)),
   λ whole.
       let same : byte ≡ 8 * j = same_Some byte (8 * j) (sym is ∙ whole_byte place o j only whole) in
       let at : byte / 8 ≡ j = omega (arith, same) in

@@ -18,6 +18,9 @@ Has mask r = bit_at mask.bits (reg_number r) ≡ 1
 abbrev pub no_slots : SlotMask
 no_slots = record { bits = 0 }
 
+abbrev pub all_slots : SlotMask
+all_slots = record { bits = 0xffff_ffff_ffff_ffff }
+
 -- the slot of the stack is one of the set
 abbrev pub HasSlot : SlotMask → ℕ → Type 0
 HasSlot mask j = bit_at mask.bits j ≡ 1

@@ -6,6 +6,7 @@ use Rattle.isa_model.specs.declared.registers.Reg.TheVariants.{R10}
 use Rattle.isa_model.specs.declared.instructions.Place.{Place}
 use Rattle.isa_model.specs.declared.instructions.Insn.{Insn}
 use Rattle.isa_model.specs.declared.instructions.Insn.TheVariants.{Load, LoadSx, Store, StoreConstant}
+use Rattle.isa_model.specs.Code.Limits.{frame_size}
 use Rattle.isa_model.specs.Code.Instructions.{Program, fetch}
 use Rattle.isa_model.specs.MustAccept.Paths.{IsOneOf}
 use Rattle.isa_model.specs.MustAccept.Determined.{slot_place}
@@ -15,7 +16,7 @@ use Rattle.control_flow.specs.Accesses.{read_registers}
 
 -- the place is byte n of the frame, from r10
 abbrev pub IsByte : Place → ℕ → Type 0
-IsByte place n = (n < 512) × (place.base ≡ R10) × (place.offset ≡ pos n -ℤ pos 512)
+IsByte place n = (n < frame_size) × (place.base ≡ R10) × (place.offset ≡ pos n -ℤ pos frame_size)
 
 -- it is one of slot j
 abbrev pub IsWithinSlot : Place → ℕ → Type 0

@@ -1,6 +1,7 @@
 //! Sets of slots of a call frame's stack.
 
-ghost use Rattle.std.specs.Prelude.{◌≡◌, ℕ, ◌<◌, ◌≤◌, ◌↔◌, ◌⊎◌, IsTrue, Some};
+ghost use Rattle.std.specs.Prelude.{◌≡◌, ℕ, ◌*◌, ◌<◌, ◌≤◌, ◌↔◌, ◌⊎◌, IsTrue, Some};
+ghost use Rattle.isa_model.specs.Code.Limits.{frame_size};
 
 /// A set of slots of 8 bytes, the one at offset -512 from the frame's end in the lowest bit.
 #[derive(Clone, Copy, PartialEq, Eq, Debug)]
@@ -9,7 +10,7 @@ pub struct SlotMask {
 }
 
 impl SlotMask {
-    ghost use Rattle.control_flow.specs.Masks.{HasSlot, no_slots};
+    ghost use Rattle.control_flow.specs.Masks.{HasSlot, no_slots, all_slots};
 
     /// No slot.
     pub(crate) fn none() -> Self
@@ -36,9 +37,25 @@ impl SlotMask {
         }
     }
 
+    /// Whether there is none.
+    pub fn is_empty(self) -> bool
+        ensures exact { IsTrue result ↔ (self ≡ no_slots) }
+        ensures none { IsTrue result → (j : ℕ) → ¬ HasSlot self j }
+    {
+        self.bits == 0
+    }
+
+    /// Whether all 64 are.
+    pub fn is_full(self) -> bool
+        ensures exact { IsTrue result ↔ (self ≡ all_slots) }
+        ensures all { IsTrue result → (j : ℕ) → j < 64 → HasSlot self j }
+    {
+        self.bits == u64::MAX
+    }
+
     /// Whether a slot is one of them.
     pub fn has(self, slot: u8) -> bool
-        requires { slot < 64 }
+        requires { 8 * slot < frame_size }
         ensures { IsTrue result ↔ HasSlot self slot }
     {
         (self.bits >> slot) & 1 == 1

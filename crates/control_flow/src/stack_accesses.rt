@@ -11,14 +11,15 @@ use crate::accesses::{registers_read, registers_written};
 use crate::homes::HomeMask;
 use crate::slot_masks::SlotMask;
 use image::Image;
-use isa_model::{Insn, Place, Reg, Size};
+use isa_model::{FRAME_SIZE, Insn, Place, Reg, Size};
 
 /// The byte of the frame, from its lowest address on, at a place that r10 is the base of.
 fn byte_of(place: Place) -> Option<usize>
     ensures { (n : ℕ) → (result ≡ Some n) ↔ IsByte place n }
 {
-    let at = i32::from(place.offset) + 512;
-    if place.base == Reg::R10 && at >= 0 && at < 512 {
+    let size = FRAME_SIZE as i32;
+    let at = i32::from(place.offset) + size;
+    if place.base == Reg::R10 && at >= 0 && at < size {
         Some(at as usize)
     } else {
         None

@@ -3,6 +3,7 @@ pub mod CellLaws
 pub mod EffectLaws
 pub mod EndLaws
 pub mod ExitLaws
+pub mod FactLaws
 pub mod FillLaws
 pub mod FrameLaws
 pub mod FramePlaceLaws

@@ -3,7 +3,7 @@
 ghost use Rattle.std.specs.Prelude.{◌≡◌, map};
 ghost use Rattle.stack_state.specs.Effects.{proved_kind, tested_kind, with_spilled, with_kinds, map_kinds};
 ghost use Rattle.stack_state.specs.Calls.{without_frame};
-ghost use Rattle.stack_state.specs.Facts.{learned};
+ghost use Rattle.stack_state.specs.Facts.{learned, is_plain};
 
 use crate::slots::Slot;
 use crate::states::{AbstractFrame, State};
@@ -107,12 +107,34 @@ fn learned_kind(fact: Fact, kind: Kind) -> Kind
     }
 }
 
-fn learned_slot(fact: Fact, slot: Slot) -> Slot
-    ensures { result ≡ with_spilled (learned fact) slot }
+/// Whether no fact says anything of a value. Most values are such ones, and are not written again.
+#[inline(always)]
+fn is_plain(kind: &Kind) -> bool
+    ensures { result ≡ is_plain kind.now }
+{
+    match kind {
+        Kind::Packet { .. } | Kind::MapValueOrNull { .. } | Kind::Stack { .. } => false,
+        _ => true,
+    }
+}
+
+#[inline(always)]
+fn learn_kind(fact: Fact, kind: &mut Kind)
+    ensures { kind.new ≡ learned fact kind.old }
+{
+    if is_plain(kind) {
+        return;
+    }
+    *kind = learned_kind(fact, *kind);
+}
+
+#[inline(always)]
+fn learn_slot(fact: Fact, slot: &mut Slot)
+    ensures { slot.new ≡ with_spilled (learned fact) slot.old }
 {
     match slot {
-        Slot::Spilled(kind) => Slot::Spilled(learned_kind(fact, kind)),
-        slot => slot,
+        Slot::Spilled(kind) => learn_kind(fact, kind),
+        Slot::Written(_) => {}
     }
 }
 
@@ -120,7 +142,7 @@ fn learn_kinds(fact: Fact, kinds: &mut [Kind])
     ensures { kinds.new ≡ map (learned fact) kinds.old }
 {
     for index in 0..kinds.len() {
-        kinds[index] = learned_kind(fact, kinds[index]);
+        learn_kind(fact, &mut kinds[index]);
     }
 }
 
@@ -128,7 +150,7 @@ fn learn_slots(fact: Fact, slots: &mut [Slot])
     ensures { slots.new ≡ map (with_spilled (learned fact)) slots.old }
 {
     for index in 0..slots.len() {
-        slots[index] = learned_slot(fact, slots[index]);
+        learn_slot(fact, &mut slots[index]);
     }
 }
 

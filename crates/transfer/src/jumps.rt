@@ -2,13 +2,15 @@
 
 ghost use Rattle.std.specs.Prelude.{◌≡◌, ◌+◌, ◌<◌, ◌^◌, ◌↔◌, IsTrue, length};
 ghost use Rattle.isa_model.specs.Code.Instructions.{Program};
+ghost use Rattle.stack_state.specs.Places.{go_to};
 ghost use Rattle.branch_refine.specs.Comparing.{compared_by, IsDefined};
+ghost use Rattle.branch_refine.specs.Leaving.{goes, left_in, MayBePut};
 ghost use Rattle.transfer.specs.Refusing.{is_untested, is_untested_operand, comparison_refusal};
 ghost use Rattle.transfer.specs.Exact.{Sides, BranchesOr};
 
 use crate::Ways;
 use crate::refusals::Refusal;
-use branch_refine::{Compared, compared_by, refine_in_place};
+use branch_refine::{Compared, Outcome, compared_by, outcome_of};
 use isa_model::{Cond, Operand, destination};
 use reg_state::Kind;
 use stack_state::State;
@@ -52,16 +54,41 @@ fn comparison_refusal(cond: Cond, state: &State) -> Refusal
     }
 }
 
-/// Joins the two sides of a conditional jump: the fall-through in `stay`, the jump's target in
-/// `go`.
-fn joined(stays: bool, goes: bool, stay: &mut State, go: &State) -> Ways
-    ensures { Sides stays goes stay.old go.now result stay.new go.now }
+/// The two ways of a conditional jump: the fall-through goes on in `state` at `next`, the jump in
+/// `other` at `target`. Where one way is never gone, the other one goes on in `state`, and no
+/// state is copied.
+fn part(
+    cond: Cond,
+    ways: (Outcome, Outcome),
+    slots: (usize, usize),
+    state: &mut State,
+    other: &mut State,
+) -> Ways
+    requires stay { MayBePut cond ways.0 }
+    requires go { MayBePut cond ways.1 }
+    ensures { Sides (goes ways.0) (goes ways.1)
+        (go_to (left_in cond state.old ways.0) slots.0)
+        (go_to (left_in cond state.old ways.1) slots.1) result state.new other.new }
 {
-    match (stays, goes) {
-        (true, true) => Ways::Two,
-        (true, false) => Ways::One,
+    let (stay, go) = ways;
+    let (next, target) = slots;
+    match (stay.goes(), go.goes()) {
+        (true, true) => {
+            other.copy_from(state);
+            go.put(cond, other);
+            other.slot = target;
+            stay.put(cond, state);
+            state.slot = next;
+            Ways::Two
+        }
+        (true, false) => {
+            stay.put(cond, state);
+            state.slot = next;
+            Ways::One
+        }
         (false, true) => {
-            stay.copy_from(go);
+            go.put(cond, state);
+            state.slot = target;
             Ways::One
         }
         (false, false) => Ways::None,
@@ -83,13 +110,9 @@ pub fn jump_if(
     if !is_defined(cond, state) {
         return Err(comparison_refusal(cond, state));
     }
+    let stay = outcome_of(cond, false, state);
+    let go = outcome_of(cond, true, state);
     let next = state.slot + 1;
     let target = destination(state.slot, by, slots);
-    other.copy_from(state);
-    let goes = refine_in_place(cond, true, other);
-    let stays = refine_in_place(cond, false, state);
-    state.slot = next;
-    other.slot = target;
-    let ways = joined(stays, goes, state, other);
-    Ok(ways)
+    Ok(part(cond, (stay, go), (next, target), state, other))
 }

@@ -17,7 +17,7 @@ use Rattle.isa_model.proofs.SlotLaws.{Slots, Slots-start}
 use Rattle.stack_state.specs.declared.states.State.{State}
 use Rattle.stack_state.specs.Places.{kind_of}
 use Rattle.stack_state.specs.Starts.{start}
-use Rattle.stack_state.specs.Slots.{kind_in}
+use Rattle.stack_state.specs.Slots.{kind_in, frame_slots}
 use Rattle.branch_refine.specs.Refining.{IsJust}
 use Rattle.transfer.specs.declared.Ways.{Ways}
 use Rattle.transfer.specs.declared.Ways.TheVariants as ways
@@ -118,7 +118,7 @@ start_along p steps d =
     let serial = count_values d.run.contents in
     record {
       reached = progress-zero p d.run.clock (first p steps d);
-      mirrors = record { slot = refl; one = refl; room = refl; wide = refl; regs = λ r own live. start_mirrored serial r own; cells = length-replicate 64 (Written 0); stack = Slots-start (HoldsIf (λ h. IsHomeLive p h start.slot) start) d.run.head d.run.packet d.run.contents };
+      mirrors = record { slot = refl; one = refl; room = refl; wide = refl; regs = λ r own live. start_mirrored serial r own; cells = length-replicate frame_slots (Written 0); stack = Slots-start (HoldsIf (λ h. IsHomeLive p h start.slot) start) d.run.head d.run.packet d.run.contents };
       numbers = λ r own. elim (start_number serial r own) [
         | inl plain ↦ inl plain
         | inr argument ↦ inr (argument, λ w. let before = w.before in absurd (omega (arith, before)))

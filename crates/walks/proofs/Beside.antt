@@ -2,6 +2,7 @@
 use Rattle.std.proofs.Common.{◌≡◌, ◌<◌, ◌*◌, ℕ, arith, Some, Ok, Bool, true, false, length, set, refl, sym, ap, ◌∙◌, subst, inl, inr, ◌⊎◌}
 use Rattle.std.specs.Prelude.{◌≢◌, ◌^◌}
 use Rattle.std.specs.List.{list_any}
+use Rattle.stack_state.specs.Slots.{frame_slots}
 use Rattle.isa_model.specs.declared.sizes.Size.TheVariants.{U64}
 use Rattle.isa_model.specs.declared.sizes.Width.{Width}
 use Rattle.isa_model.specs.declared.sizes.Width.TheVariants.{Low32, Full64}
@@ -69,7 +70,7 @@ pub record Mirrors (alive : Home → Type 0) (s : State) (t : Machine.State) : T
   pub room : length (registers_of s) ≡ 10
   pub wide : length t.regs ≡ 11
   pub regs : (r : Reg) → r ≢ R10 → alive (InRegister r) → Mirrored (reg t r) (kind_of s r)
-  pub cells : length s.innermost.stack.slots ≡ 64
+  pub cells : length s.innermost.stack.slots ≡ frame_slots
   pub stack : Slots (HoldsIf alive s) t
 
 abbrev pub first : (p : Program) (steps : ℕ) → IsDetermined p steps → Machine.State

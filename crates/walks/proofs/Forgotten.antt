@@ -1,9 +1,9 @@
 -- What forgetting dead registers and slots of the stack does to a state: it means more, and all
 -- else stays.
-use Rattle.std.proofs.Common.{◌≡◌, ◌≢◌, ◌<◌, ◌≤◌, ◌+◌, ◌∷◌, ◌++◌, [], ℕ, List, length, get_or, set, refl, sym, ap, ◌∙◌, subst, arith, inl, inr}
+use Rattle.std.proofs.Common.{◌≡◌, ◌≢◌, ◌<◌, ◌≤◌, ◌+◌, ◌∷◌, ◌++◌, [], ℕ, List, length, replicate, get_or, set, refl, sym, ap, ◌∙◌, subst, arith, inl, inr}
 use Rattle.std.proofs.lemmas.Bool.{cases_lt, cases_eq}
 use Rattle.std.proofs.lemmas.Nat.Bits.{bit_at-zero}
-use Rattle.std.proofs.lemmas.List.{map-append, length-set, get_or-set_same, get_or-set_other, get_or_past}
+use Rattle.std.proofs.lemmas.List.{map-append, length-replicate, get_or-replicate, length-set, get_or-set_same, get_or-set_other, get_or_past}
 use Rattle.isa_model.specs.declared.registers.Reg.{Reg}
 use Rattle.isa_model.specs.declared.registers.Reg.TheVariants.{R10}
 use Rattle.isa_model.specs.declared.values.Value.{Value}
@@ -19,7 +19,7 @@ use Rattle.reg_state.specs.declared.kinds.Kind.TheVariants.{Unset}
 use Rattle.reg_state.specs.Kinds.{Assigned, Allows}
 use Rattle.stack_state.specs.declared.slots.Slot.{Slot}
 use Rattle.stack_state.specs.declared.slots.Slot.TheVariants.{Written}
-use Rattle.stack_state.specs.Slots.{slot_at}
+use Rattle.stack_state.specs.Slots.{slot_at, frame_slots}
 use Rattle.stack_state.specs.StackMeaning.{SlotMeans}
 use Rattle.stack_state.specs.declared.states.State.{State}
 use Rattle.stack_state.specs.Meaning.{frame_of, depth, registers_of, kind_at, no_frame, Means, Covers}
@@ -279,3 +279,17 @@ AreSlotsKept-below p slot n old new every m = record { all = m.all; each = λ j 
 pub slots_kept_alone : (p : Program) (slot : ℕ) (old : List Slot) → length old ≡ 64
     → (IsJoin p slot → ⊥) → AreSlotsKept p slot old old
 slots_kept_alone p slot old all alone = record { all = all; each = λ j below. inl (λ dead. alone dead.0, refl) }
+
+-- all of them are live
+pub slots_kept_full : (p : Program) (slot : ℕ) (old : List Slot) → length old ≡ 64
+    → ((j : ℕ) → j < 64 → IsSlotLive p j slot) → AreSlotsKept p slot old old
+slots_kept_full p slot old all live =
+    record { all = all; each = λ j below. inl (λ dead. dead.1 (live j below), refl) }
+
+-- and none of them
+pub slots_kept_empty : (p : Program) (slot : ℕ) (old : List Slot) → IsJoin p slot
+    → ((j : ℕ) → IsSlotLive p j slot → ⊥) → AreSlotsKept p slot old (replicate frame_slots (Written 0))
+slots_kept_empty p slot old join dead = record {
+  all = length-replicate frame_slots (Written 0);
+  each = λ j below. inr ((join, dead j), get_or-replicate frame_slots j (Written 0) (Written 0) below);
+}

@@ -23,7 +23,7 @@ use Rattle.isa_model.specs.declared.instructions.Place.{Place}
 use Rattle.isa_model.specs.declared.instructions.Insn.{Insn}
 use Rattle.isa_model.specs.declared.instructions.Insn.TheVariants.{Alu, Load, LoadSx, JumpIf}
 use Rattle.isa_model.specs.Code.Instructions.{Program, slots_of, writes}
-use Rattle.isa_model.specs.Code.Limits.{offset_limit}
+use Rattle.isa_model.specs.Code.Limits.{offset_limit, max_guarded_length}
 use Rattle.isa_model.specs.Machine.Steps.{destination}
 use Rattle.reg_state.specs.declared.kinds.Kind.{Kind}
 use Rattle.reg_state.specs.declared.kinds.Kind.TheVariants as kind
@@ -114,10 +114,10 @@ copy_goes rows s d r e h = absurd (cc (h.2))
 abbrev pointer_at : ℕ → ℕ → PacketPointer
 pointer_at fixed m = packet_pointer (pos fixed) 0 (pos 0) (pos 0) m
 
-moved_on : (n : ℕ) → n ≤ 4096 → signed Full64 (unsigned Full64 (pos n)) ≡ pos n
+moved_on : (n : ℕ) → n ≤ max_guarded_length → signed Full64 (unsigned Full64 (pos n)) ≡ pos n
 moved_on n most = to_z-of_z w64 (pos n) (record { sfits = omega (arith, ints, most) })
 
-moved_fixed : (s : State) (fixed m n : ℕ) (k : Kind) → fixed + n ≤ 4096
+moved_fixed : (s : State) (fixed m n : ℕ) (k : Kind) → fixed + n ≤ max_guarded_length
     → IsMovedBy s false (pointer_at fixed m) (pos n) k → k ≡ packet_from (fixed + n) m
 moved_fixed s fixed m n k most h = of h.pointer where
   of : IsMovedFixed false (pointer_at fixed m) (pos n) k
@@ -126,7 +126,7 @@ moved_fixed s fixed m n k most h = of h.pointer where
   of (inl moved) = moved.pointer ∙ ap (λ z. kind.Packet z 0 (pos 0) (pos 0) m) (omega (arith, ints))
   of (inr fresh) = absurd (fresh.0 (record { sfits = omega (arith, ints, most) }))
 
-moved_kind : (s : State) (fixed m n : ℕ) (by : Scalar) (k : Kind) → fixed + n ≤ 4096
+moved_kind : (s : State) (fixed m n : ℕ) (by : Scalar) (k : Kind) → fixed + n ≤ max_guarded_length
     → Has by (unsigned Full64 (pos n)) → IsConstant by (unsigned Full64 (pos n))
     → PacketMoves s false (pointer_at fixed m) by (Ok k) → k ≡ packet_from (fixed + n) m
 moved_kind s fixed m n by k most has is (inl h) =
@@ -135,12 +135,12 @@ moved_kind s fixed m n by k most has is (inl h) =
     moved_fixed s fixed m n k most (subst (λ z. IsMovedBy s false (pointer_at fixed m) z k) far h.moves)
 moved_kind s fixed m n by k most has is (inr h) = absurd (h.several (unsigned Full64 (pos n)) (inl is.0))
 
-offset_fits : (fixed n : ℕ) → fixed + n ≤ 4096 → unsigned_abs ((pos fixed +ℤ pos 0) +ℤ pos n) ≤ offset_limit
+offset_fits : (fixed n : ℕ) → fixed + n ≤ max_guarded_length → unsigned_abs ((pos fixed +ℤ pos 0) +ℤ pos n) ≤ offset_limit
 offset_fits fixed n most =
     let at : (pos fixed +ℤ pos 0) +ℤ pos n ≡ pos (fixed + n) = omega (arith, ints) in
     subst (λ z. unsigned_abs z ≤ offset_limit) (sym at) (omega (arith, most))
 
-moves_go : (s : State) (fixed m n : ℕ) (by : Scalar) (e : Refusal) → fixed + n ≤ 4096
+moves_go : (s : State) (fixed m n : ℕ) (by : Scalar) (e : Refusal) → fixed + n ≤ max_guarded_length
     → Has by (unsigned Full64 (pos n)) → IsConstant by (unsigned Full64 (pos n))
     → PacketMoves s false (pointer_at fixed m) by (Err e) → ⊥
 moves_go s fixed m n by e most has is (inl h) =
@@ -150,27 +150,27 @@ moves_go s fixed m n by e most has is (inl h) =
     fails.1 (record { from_is = offset_fits fixed n most; to_is = offset_fits fixed n most })
 moves_go s fixed m n by e most has is (inr h) = absurd (h.several (unsigned Full64 (pos n)) (inl is.0))
 
-ahead_kind : (s : State) (fixed m n : ℕ) (b k : Kind) → fixed + n ≤ 4096 → IsJust b (unsigned Full64 (pos n))
+ahead_kind : (s : State) (fixed m n : ℕ) (b k : Kind) → fixed + n ≤ max_guarded_length → IsJust b (unsigned Full64 (pos n))
     → Arithmetic s Add Full64 (packet_from fixed m) b (Ok k)
     → k ≡ packet_from (fixed + n) m
 ahead_kind s fixed m n (kind.Number by) k most just h = moved_kind s fixed m n by k most just.0 just.1 h
 ahead_kind s fixed m n b k most just h = absurd just
 
 pub ahead_gives : (p : Program) (s : State) (d : Reg) (fixed m n : ℕ) (w : Ways) (a c : State)
-    → kind_of s d ≡ packet_from fixed m → fixed + n ≤ 4096
+    → kind_of s d ≡ packet_from fixed m → fixed + n ≤ max_guarded_length
     → Makes p s (Alu Full64 Add d (Constant (pos n))) w a c → GivesKind s d (packet_from (fixed + n) m) w a
 ahead_gives p s d fixed m n w a c is most makes =
     let i = Alu Full64 Add d (Constant (pos n)) in
     gives_of p.maps s i d (packet_from (fixed + n) m) w a (Makes-performs p s i w a c makes) refl refl
     (λ k puts. ahead_kind s fixed m n puts.0 k most puts.1 (subst (λ x. Arithmetic s Add Full64 x puts.0 (Ok k)) is puts.2))
 
-ahead_fails : (s : State) (fixed m n : ℕ) (b : Kind) (e : Refusal) → fixed + n ≤ 4096
+ahead_fails : (s : State) (fixed m n : ℕ) (b : Kind) (e : Refusal) → fixed + n ≤ max_guarded_length
     → IsJust b (unsigned Full64 (pos n)) → Arithmetic s Add Full64 (packet_from fixed m) b (Err e) → ⊥
 ahead_fails s fixed m n (kind.Number by) e most just h = moves_go s fixed m n by e most just.0 just.1 h
 ahead_fails s fixed m n b e most just h = absurd just
 
 pub ahead_goes : (rows : List MapDef) (s : State) (d : Reg) (fixed m n : ℕ) (e : Refusal) → kind_of s d ≡ packet_from fixed m
-    → fixed + n ≤ 4096
+    → fixed + n ≤ max_guarded_length
     → Puts rows s (Alu Full64 Add d (Constant (pos n))) (Err e) → ⊥
 ahead_goes rows s d fixed m n e is most h =
     ahead_fails s fixed m n h.0 e most h.1 (subst (λ x. Arithmetic s Add Full64 x h.0 (Err e)) is h.2)

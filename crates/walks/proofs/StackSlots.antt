@@ -4,6 +4,7 @@ use Rattle.std.specs.Prelude.{◌≢◌, ◌/◌, pos, ◌+ℤ◌, ◌==◌, sli
 use Rattle.std.proofs.lemmas.Bool.Decides.{nat_tests}
 use Rattle.std.proofs.lemmas.Int.{ints}
 use Rattle.std.proofs.lemmas.List.{length-set, get_or-set_same, get_or-set_other}
+use Rattle.isa_model.specs.Code.Limits.{frame_size}
 use Rattle.isa_model.specs.declared.sizes.Size.TheVariants.{U64}
 use Rattle.isa_model.specs.declared.registers.Reg.{Reg}
 use Rattle.isa_model.specs.declared.registers.Reg.TheVariants.{R10}
@@ -37,7 +38,7 @@ innermost s = length s.callers.items
 slots_here : (s : State) → slots_of s (innermost s) ≡ s.innermost.stack.slots
 slots_here s = ap (λ f. f.stack.slots) (frame_of-innermost s)
 
-starts_at : (j : ℕ) → (pos 0 +ℤ slot_offset j) +ℤ pos 512 ≡ pos (8 * j)
+starts_at : (j : ℕ) → (pos 0 +ℤ slot_offset j) +ℤ pos frame_size ≡ pos (8 * j)
 starts_at j = omega (arith, ints)
 
 slot_of_place : (j at : ℕ) → IsPlace (pos 0 +ℤ slot_offset j) U64 at → at / 8 ≡ j

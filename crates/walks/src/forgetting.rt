@@ -1,11 +1,13 @@
 //! What is forgotten of a state when a path comes to it.
 
+ghost use Rattle.std.specs.Prelude.{◌≡◌, replicate};
+ghost use Rattle.stack_state.specs.Slots.{frame_slots};
 ghost use Rattle.walks.specs.Forgetting.{AreKept, AreSlotsKept, Forgets};
 
 use control_flow::Flow;
 use isa_model::Reg;
 use reg_state::Kind;
-use stack_state::{Slot, State};
+use stack_state::{FRAME_SLOTS, Slot, State};
 
 /// Forgets what is known of the registers that are dead at a slot, if it is a join.
 fn forget_registers(flow: &Flow<'_>, slot: usize, registers: &mut [Kind; 10])
@@ -25,18 +27,45 @@ fn forget_registers(flow: &Flow<'_>, slot: usize, registers: &mut [Kind; 10])
     }
 }
 
+/// Forgets what is known of a slot of the stack, which is written only if something is.
+#[inline(always)]
+fn clear(slot: &mut Slot)
+    ensures { slot.new ≡ Slot.Written 0 }
+{
+    if let Slot::Written(0) = slot {
+        return;
+    }
+    *slot = Slot::Written(0);
+}
+
+/// Forgets what is known of all slots of a frame's stack.
+pub fn clear_slots(slots: &mut [Slot; FRAME_SLOTS])
+    ensures { slots.new ≡ replicate frame_slots (Slot.Written 0) }
+{
+    for index in 0..FRAME_SLOTS {
+        clear(&mut slots[index]);
+    }
+}
+
 /// Forgets what is known of the slots of a frame's stack that are dead at a slot of the code, if it
 /// is a join.
-fn forget_slots(flow: &Flow<'_>, slot: usize, slots: &mut [Slot; 64])
+fn forget_slots(flow: &Flow<'_>, slot: usize, slots: &mut [Slot; FRAME_SLOTS])
     ensures { AreSlotsKept flow.now slot slots.old slots.new }
 {
     if !flow.is_join(slot) {
         return;
     }
     let live = flow.live_slots(slot);
-    for number in 0..64u8 {
+    if live.is_full() {
+        return;
+    }
+    if live.is_empty() {
+        clear_slots(slots);
+        return;
+    }
+    for number in 0..FRAME_SLOTS as u8 {
         if !live.has(number) {
-            slots[usize::from(number)] = Slot::Written(0);
+            clear(&mut slots[usize::from(number)]);
         }
     }
 }

@@ -1,4 +1,5 @@
 use Rattle.std.proofs.Common.{◌<◌, ◌≤◌, length, sym, arith, get_or, not, nat_eq}
+use Rattle.isa_model.specs.Code.Limits.{max_slots}
 use Rattle.control_flow.specs.Functions.{SameFunction}
 use Rattle.control_flow.proofs.TargetTests.{from_some, jump-inside}
 use Rattle.control_flow.proofs.Owners.{differ}
@@ -7,7 +8,7 @@ use Rattle.control_flow.proofs.functions.leaves_function.Goals as goal
 pub offset_bounds-functions-to : goal.offset_bounds-functions-to
 offset_bounds-functions-to c =
     let inside : c.in-Some.to < length c.args.image.now.insns = jump-inside c.args.image.now c.requires.targets c.args.slot c.in-Some.to (sym c.in-Some.ensures) in
-    let few : length c.args.image.now.insns ≤ 4096 = c.slots-slots.ensures.fits.few_slots in
+    let few : length c.args.image.now.insns ≤ max_slots = c.slots-slots.ensures.fits.few_slots in
     omega arith
 
 pub bounds-functions-to : goal.bounds-functions-to

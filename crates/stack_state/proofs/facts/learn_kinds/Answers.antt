@@ -1,4 +1,5 @@
-use Rattle.std.proofs.Common.{arith, ap, length-set, set, ◌∙◌}
+use Rattle.std.proofs.Common.{arith, ap, length-set, get_or, set, ◌∙◌}
+use Rattle.std.proofs.lemmas.List.{get_or_default}
 use Rattle.std.proofs.lemmas.List.Edits.{map_over_more}
 use Rattle.stack_state.specs.Facts.{learned}
 use Rattle.stack_state.proofs.facts.learn_kinds.Goals as goal
@@ -8,8 +9,9 @@ loop-index-preserved c =
     let xs = c.args.kinds.now in
     let ys = c.loop-index.kinds in
     let i = c.loop-index.index in
-    let x = c.index-kinds-index.result in
+    let x = get_or ys i c.index-kinds-index.result in
     record {
-      length = length-set ys i c.learned_kind.result ∙ c.loop-index.invariant.length;
-      done = ap (set ys i) c.learned_kind.ensures ∙ map_over_more (learned c.args.fact) xs ys i x (omega arith) c.loop-index.invariant.done c.index-kinds-index.is;
+      length = length-set ys i c.learn_kind.new.kind ∙ c.loop-index.invariant.length;
+      done = ap (set ys i) c.learn_kind.ensures ∙ map_over_more (learned c.args.fact) xs ys i x (omega arith) c.loop-index.invariant.done
+          (get_or_default ys i c.index-kinds-index.result x (omega arith));
     }

@@ -5,27 +5,28 @@ use mir.Syntax.{w32}
 use Rattle.isa_model.specs.Machine.Steps.{target, destination}
 use Rattle.stack_state.specs.declared.states.State.{State}
 use Rattle.stack_state.specs.Places.{go_to}
+use Rattle.branch_refine.specs.Leaving.{goes, left_in}
 use Rattle.transfer.specs.Exact.{Sides}
 use Rattle.transfer.proofs.jumps.jump_if.Goals as goal
 
 pub returns : goal.returns
 returns c = λ p count.
     let a : State = c.args.state.now in
-    let same = c.copy_from.ensures in
-    let g = c.refine_in_place-goes in
-    let h = c.refine_in_place-stays in
+    let cond = c.args.cond in
+    let g = c.outcome_of-go.result in
+    let h = c.outcome_of-stay.result in
     let fits : SFits w32 c.args.by = search rules in
     let found = simp to_z-of_z at c.destination-target.ensures in
     let leads : c.destination-target.result ≡ destination p a.slot c.args.by =
     found ∙ ap (λ n. unwrap_or (target a.slot c.args.by) n) (sym count) in
     record {
       compared = search rules;
-      stays = h.result;
-      stay = h.new.state;
-      left_there = h.ensures.refines;
-      goes = g.result;
-      go = g.new.state;
-      taken_there = rw same at g.ensures.refines;
-      sides = subst (λ n. Sides h.result g.result (go_to h.new.state (a.slot + 1)) (go_to g.new.state n) c.joined-ways.result c.joined-ways.new.stay (go_to g.new.state c.destination-target.result))
-          leads c.joined-ways.ensures;
+      stays = goes h;
+      stay = left_in cond a h;
+      left_there = c.outcome_of-stay.ensures.refines;
+      goes = goes g;
+      go = left_in cond a g;
+      taken_there = c.outcome_of-go.ensures.refines;
+      sides = subst (λ n. Sides (goes h) (goes g) (go_to (left_in cond a h) (a.slot + 1)) (go_to (left_in cond a g) n) c.part.result c.part.new.state c.part.new.other)
+          leads c.part.ensures;
     }

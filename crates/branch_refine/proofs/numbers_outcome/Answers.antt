@@ -1,7 +1,7 @@
 use Rattle.std.proofs.Common.{refl, sym, ◌∙◌}
 use Rattle.stack_state.specs.Places.{kind_of}
 use Rattle.branch_refine.proofs.Kept.{Keeps-same, Keeps-none, Keeps-compared, Narrows-compared, others_compared, no_number, no_operand, just_number, just_operand}
-use Rattle.branch_refine.proofs.refine_numbers.Goals as goal
+use Rattle.branch_refine.proofs.numbers_outcome.Goals as goal
 
 pub returns-in_default-clause-kept : goal.returns-in_default-clause-kept
 returns-in_default-clause-kept c = Keeps-same c.args.cond c.args.taken c.args.state.now
@@ -17,14 +17,12 @@ returns-in_default-narrowed-clause-kept c =
 
 pub returns-clause-kept : goal.returns-clause-kept
 returns-clause-kept c =
-    rw (c.set_operand.ensures, c.set_register.ensures)
     (Keeps-compared c.args.cond c.args.taken c.args.state.now c.in-Some.left c.in-Some-operand_numbers.right
     c.in-Some-narrowed.new_left c.in-Some-narrowed.new_right
     c.in-Some.ensures c.in-Some-operand_numbers.ensures (λ x y l r o. c.in-Some-narrowed.ensures.shows.common x y l r o))
 
 pub returns-clause-narrowed : goal.returns-clause-narrowed
 returns-clause-narrowed c =
-    rw (c.set_operand.ensures, c.set_register.ensures)
     (Narrows-compared c.args.state.now c.args.cond c.in-Some.left c.in-Some-operand_numbers.right
     c.in-Some-narrowed.new_left c.in-Some-narrowed.new_right
     c.in-Some.ensures c.in-Some-operand_numbers.ensures
@@ -33,7 +31,6 @@ returns-clause-narrowed c =
 
 pub returns-clause-others : goal.returns-clause-others
 returns-clause-others c =
-    rw (c.set_operand.ensures, c.set_register.ensures)
     (others_compared c.args.state.now c.args.cond c.in-Some-narrowed.new_left c.in-Some-narrowed.new_right)
 
 pub returns-in_default-narrowed-clause-constants_go : goal.returns-in_default-narrowed-clause-constants_go
@@ -67,5 +64,5 @@ returns-clause-shown c = λ compared some. record {
   left_is = c.in-Some.ensures;
   right_is = c.in-Some-operand_numbers.ensures;
   shows = c.in-Some-narrowed.ensures.shows;
-  new = rw (c.set_operand.ensures, c.set_register.ensures) refl;
+  new = refl;
 }
