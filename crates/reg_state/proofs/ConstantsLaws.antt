@@ -4,7 +4,6 @@ use Rattle.std.proofs.lemmas.Int.{ints}
 use Rattle.ranges.specs.declared.range.Range.{Range}
 use Rattle.ranges.specs.Ranges as R
 use Rattle.ranges.specs.Lows as L
-use Rattle.isa_model.specs.Code.Numbers.{low}
 use Rattle.isa_model.specs.declared.sizes.Width.TheVariants.{Low32, Full64}
 use Rattle.reg_state.specs.Limits.{range_limits, no_limits}
 use Rattle.reg_state.specs.Reach.{IsLimit, IsAlone}

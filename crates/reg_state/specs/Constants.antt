@@ -13,7 +13,6 @@ use Rattle.isa_model.specs.declared.sizes.Width.{Width}
 use Rattle.isa_model.specs.declared.sizes.Width.TheVariants.{Low32, Full64}
 use Rattle.reg_state.specs.Limits.{range_limits, no_limits}
 use Rattle.reg_state.specs.Reach.{IsInside}
-use Rattle.reg_state.specs.Scalars.{Has}
 
 one_has : (x : ℕ) → x < 2 ^ 64 → IsMember x 0 x
 one_has x h = record { below = h; known = and_mask x 64 ∙ omega arith }

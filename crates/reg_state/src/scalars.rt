@@ -3,11 +3,12 @@
 ghost use Rattle.std.specs.Prelude.{◌≡◌, ℕ, ◌+◌, ◌*◌, ◌%◌, ◌^◌, ◌<◌, ◌≤◌, pos, ◌-ℤ◌, ◌*ℤ◌, FitsSigned, ◌↔◌, Some, IsSomeAnd, IfSome, IsTrue};
 ghost use Rattle.std.specs.Int.{w32, w64, cast_signed, bit_at};
 ghost use Rattle.isa_model.specs.Code.Sizes.{width_bits};
+ghost use Rattle.ranges.specs.Ranges as R;
 
 use crate::domains::Domain;
 use isa_model::{AluOp, ByteOrder, Extension, Span, Width};
 use known_bits::Bits;
-use ranges::Range;
+use ranges::{Low, Range, Wide};
 
 /// The numbers that both parts have.
 #[derive(Clone, Copy, PartialEq, Eq, Debug)]
@@ -18,7 +19,6 @@ pub struct Scalar {
 
 impl Scalar {
     ghost use Rattle.known_bits.specs.Bits as B;
-    ghost use Rattle.ranges.specs.Ranges as R;
     ghost use Rattle.reg_state.specs.Scalars.{Has, IsConstant};
     ghost use Rattle.reg_state.specs.Arithmetic.{IsPart};
 
@@ -29,11 +29,37 @@ impl Scalar {
         requires count { count ≤ 64 }
         ensures { IsPart from count self result }
     {
-        let both = Scalar {
-            bits: self.bits.part(from, count),
-            range: self.range.part(from, count),
+        let limits = self.range.part(from, count).wide;
+        Scalar::limited(self.bits.part(from, count), limits.least, limits.greatest)
+    }
+
+    // The numbers with known bits between two limits: each takes up what the other shows.
+    fn limited(bits: Bits, least: u64, greatest: u64) -> Scalar
+        requires { least ≤ greatest }
+        ensures contains { (x : ℕ) → B.Has bits x → least ≤ x → x ≤ greatest → Has result x }
+        ensures narrower { (x : ℕ) → Has result x → B.Has bits x × (least ≤ x) × (x ≤ greatest) }
+    {
+        let Some(known) = bits.meet(Bits::between(least, greatest)) else {
+            let range = between(least, greatest);
+            return Scalar { bits, range };
         };
-        both.settled()
+        let from = least.max(known.least());
+        let to = greatest.min(known.greatest());
+        if from > to {
+            let range = between(least, greatest);
+            return Scalar { bits, range };
+        }
+        let narrow = Scalar {
+            bits: known,
+            range: between(from, to),
+        };
+        if from < to {
+            return narrow;
+        }
+        match narrow.alone(from) {
+            Some(constant) => constant,
+            None => narrow,
+        }
     }
 
     // Each part takes up what the other shows; a single number left is written as a constant.
@@ -124,6 +150,20 @@ impl Scalar {
     }
 }
 
+// The numbers between two limits. Those of 32 bits are their own low halves, which makes it quick.
+fn between(least: u64, greatest: u64) -> Range
+    requires { least ≤ greatest }
+    ensures members { (x : ℕ) → (R.Has result x ↔ ((least ≤ x) × (x ≤ greatest))) }
+{
+    if greatest > u64::from(u32::MAX) {
+        return Range::between(least, greatest);
+    }
+    Range {
+        wide: Wide::between(least, greatest),
+        low: Low::between(least as u32, greatest as u32),
+    }
+}
+
 impl Domain for Scalar {
     ghost use Rattle.isa_model.specs.Code.Numbers.{alu, shift};
     ghost use Rattle.ranges.specs.Wides as W;
@@ -135,7 +175,6 @@ impl Domain for Scalar {
     ghost use Rattle.isa_model.specs.Code.Numbers.{negated, sign_extended, reordered};
     ghost use Rattle.isa_model.specs.Code.Sizes.{span_bits};
     ghost use Rattle.isa_model.specs.Code.Sizes.{extension_bits, extension_width};
-    ghost use Rattle.ranges.specs.Ranges as R;
     ghost use Rattle.ranges.specs.Ranges.{ReadsLow};
     ghost use Rattle.ranges.specs.Keeps.{extension_signed};
     ghost use Rattle.reg_state.specs.Limits.{range_limits};
