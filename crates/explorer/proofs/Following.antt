@@ -1,5 +1,5 @@
 -- What a listener keeps of a path that it follows, move by move.
-use Rattle.std.proofs.Common.{◌≡◌, ◌∙◌, ℕ, zero, suc, ◌+◌, ◌-◌, ◌≤◌, List, [], ◌∷◌, ◌++◌, Option, Some, None, arith, refl, sym, ap, subst, length, append_assoc, length-append}
+use Rattle.std.proofs.Common.{◌≡◌, ◌∙◌, ℕ, ◌+◌, ◌-◌, ◌≤◌, List, [], ◌∷◌, ◌++◌, Some, arith, refl, sym, ap, subst, length, append_assoc, length-append}
 use Rattle.std.specs.Prelude.{slice_get}
 use Rattle.isa_model.specs.Code.Instructions.{Program}
 use Rattle.stack_state.specs.declared.states.State.{State}
@@ -11,7 +11,7 @@ use Rattle.walks.specs.Walks.{StepsTo}
 use Rattle.walks.specs.Refused.{StopsAt}
 use Rattle.explorer.specs.Explained.{IsLed, Explains}
 use Rattle.explorer.specs.Listening.{StopsIn, IsToStop, EndsIn}
-use Rattle.explorer.specs.Followed.{IsWalk, slots_along, HasFollowed}
+use Rattle.explorer.specs.Followed.{IsWalk, slots_along}
 use Rattle.explorer.proofs.Stores.{slice_get-push, slice_get-seam}
 use Rattle.explorer.proofs.Ways.{led_start}
 

@@ -1,22 +1,20 @@
 -- Parts in pieces, piece by piece.
-use Rattle.std.proofs.Common.{◌≡◌, ℕ, zero, suc, ◌+◌, ◌<◌, List, [], ◌∷◌, ◌++◌, length, get_or, take, drop, drop-cons, add-one, append_assoc, refl, sym, ap, ◌∙◌, arith, subst}
+use Rattle.std.proofs.Common.{◌≡◌, ℕ, zero, suc, ◌+◌, ◌<◌, ◌≤◌, List, [], ◌∷◌, ◌++◌, length, option_to_list, get_or, drop, drop-cons, add-one, append_assoc, sym, ap, ◌∙◌, arith, subst}
 use Rattle.std.specs.List.{All}
 use Rattle.std.proofs.Math.Seq.{take-append_seam, drop-append_seam}
-use Rattle.std.proofs.lemmas.List.{append-nil, take-append-drop, get_or_default}
+use Rattle.std.proofs.lemmas.List.{drop_all, append-nil, get_or_default}
 use Rattle.std.proofs.lemmas.List.Elements.{All-take, All-drop}
+use Rattle.reg_state.specs.declared.kinds.Kind.{Kind}
+use Rattle.stack_state.specs.declared.slots.Slot.{Slot}
 use Rattle.stack_state.specs.declared.states.AbstractFrame.{AbstractFrame}
 use Rattle.state_index.specs.declared.parts.Part.{Part}
-use Rattle.state_index.specs.Parts.{parts_of, IsPartOf, all_written}
+use Rattle.state_index.specs.Parts.{register_part, slot_part, register_parts, slot_parts, parts_of, IsPartOf, all_written}
 use Rattle.state_index.proofs.PartLaws.{all_written-append, part_at}
 use Rattle.explorer.specs.Pieces.{whole}
 
 pub whole-more : (ps : List (List Part)) (p : List Part) → whole (ps ++ p ∷ []) ≡ whole ps ++ p
 whole-more [] p = append-nil p
 whole-more (q ∷ qs) p = ap (λ l. q ++ l) (whole-more qs p) ∙ sym (append_assoc q (whole qs) p)
-
-pub cut_is : (xs first others : List Part) (n : ℕ) → first ≡ take n xs → others ≡ drop n xs → xs ≡ first ++ others
-cut_is xs first others n a b =
-    sym (take-append-drop n xs) ∙ ap (λ l. l ++ drop n xs) (sym a) ∙ ap (λ l. first ++ l) (sym b)
 
 pub whole_done : (ps : List (List Part)) (rest parts : List Part) → length rest ≡ 0 → whole ps ++ rest ≡ parts → whole ps ≡ parts
 whole_done ps [] parts none h = sym (append-nil (whole ps)) ∙ h
@@ -26,11 +24,6 @@ whole_done ps (p ∷ rest) parts none h = absurd (omega arith)
 pub whole_cut : (old new first rest more parts : List Part) → new ≡ old ++ first → rest ≡ first ++ more → old ++ rest ≡ parts → new ++ more ≡ parts
 whole_cut old new first rest more parts pushed cut before =
     ap (λ l. l ++ more) pushed ∙ append_assoc old first more ∙ ap (λ l. old ++ l) (sym cut) ∙ before
-
-pub whole-next : (ps : List (List Part)) (p rest more parts : List Part) → rest ≡ p ++ more → whole ps ++ rest ≡ parts
-    → whole (ps ++ p ∷ []) ++ more ≡ parts
-whole-next ps p rest more parts cut before =
-    ap (λ l. l ++ more) (whole-more ps p) ∙ append_assoc (whole ps) p more ∙ ap (λ l. whole ps ++ l) (sym cut) ∙ before
 
 -- the pieces from one on, written after the ones before it
 pub written-next : (f : AbstractFrame) (ps : List (List Part)) (i : ℕ) (p : List Part) → i < length ps → p ≡ get_or ps i p
@@ -56,3 +49,39 @@ piece_all P (p ∷ ps) (suc i) d inside h = piece_all P ps i d (omega arith) (Al
 
 pub parts_all : (f : AbstractFrame) (ps : List Part) → ps ≡ parts_of f → All (IsPartOf f) ps
 parts_all f ps is = λ i d inside. part_at f ps i (get_or ps i d) is inside (get_or_default ps i d (get_or ps i d) inside)
+
+-- ---- parts as they are read
+
+pub register_parts-next : (rest more ys : List Part) (ks : List Kind) (i : ℕ) (d : Kind) → i < length ks
+    → rest ≡ option_to_list (register_part i (get_or ks i d)) ++ more
+    → more ≡ register_parts (i + 1) (drop (i + 1) ks) ++ ys → rest ≡ register_parts i (drop i ks) ++ ys
+register_parts-next rest more ys ks i d inside here left =
+    let k : Kind = get_or ks i d in
+    let there : drop i ks ≡ k ∷ drop (suc i) ks = drop-cons ks i d inside in
+    let next : drop (i + 1) ks ≡ drop (suc i) ks = ap (λ n. drop n ks) (add-one i) in
+    here
+    ∙ ap (λ l. option_to_list (register_part i k) ++ l) left
+    ∙ ap (λ l. option_to_list (register_part i k) ++ (register_parts (i + 1) l ++ ys)) next
+    ∙ sym (append_assoc (option_to_list (register_part i k)) (register_parts (i + 1) (drop (suc i) ks)) ys)
+    ∙ ap (λ l. register_parts i l ++ ys) (sym there)
+
+pub register_parts-done : (rest : List Part) (ks : List Kind) (n : ℕ) → length ks ≤ n
+    → rest ≡ register_parts n (drop n ks) ++ rest
+register_parts-done rest ks n over = ap (λ l. register_parts n l ++ rest) (sym (drop_all n ks over))
+
+pub slot_parts-next : (rest more ys : List Part) (ts : List Slot) (i : ℕ) (d : Slot) → i < length ts
+    → rest ≡ option_to_list (slot_part i (get_or ts i d)) ++ more
+    → more ≡ slot_parts (i + 1) (drop (i + 1) ts) ++ ys → rest ≡ slot_parts i (drop i ts) ++ ys
+slot_parts-next rest more ys ts i d inside here left =
+    let t : Slot = get_or ts i d in
+    let there : drop i ts ≡ t ∷ drop (suc i) ts = drop-cons ts i d inside in
+    let next : drop (i + 1) ts ≡ drop (suc i) ts = ap (λ n. drop n ts) (add-one i) in
+    here
+    ∙ ap (λ l. option_to_list (slot_part i t) ++ l) left
+    ∙ ap (λ l. option_to_list (slot_part i t) ++ (slot_parts (i + 1) l ++ ys)) next
+    ∙ sym (append_assoc (option_to_list (slot_part i t)) (slot_parts (i + 1) (drop (suc i) ts)) ys)
+    ∙ ap (λ l. slot_parts i l ++ ys) (sym there)
+
+pub slot_parts-done : (rest : List Part) (ts : List Slot) (n : ℕ) → length ts ≤ n
+    → rest ≡ slot_parts n (drop n ts) ++ rest
+slot_parts-done rest ts n over = ap (λ l. slot_parts n l ++ rest) (sym (drop_all n ts over))

@@ -12,7 +12,7 @@ use Rattle.explorer.specs.declared.search.Search.{Search}
 use Rattle.explorer.specs.declared.trail.Visit.{Visit}
 use Rattle.explorer.specs.declared.moves.Move.{Move}
 use Rattle.explorer.specs.declared.moves.Move.TheVariants.{New, Covered, Finished}
-use Rattle.explorer.specs.Listening.{ComesTo, Begins, GoesInto, Steps, GoesAside, Returns, ComesBackAt, BeginFails, StepFails, ReturnFails, AreVisited, Follows, FollowsTo, IsToArrive, IsToFinish, IsToTell, IsTold, IsToRefuse}
+use Rattle.explorer.specs.Listening.{Begins, GoesInto, Steps, GoesAside, Returns, ComesBackAt, BeginFails, StepFails, ReturnFails, AreVisited, Follows, FollowsTo, IsToArrive, IsToTell, IsTold, IsToRefuse}
 
 -- ---- visits and their states
 

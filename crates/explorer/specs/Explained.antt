@@ -4,13 +4,11 @@ use Rattle.isa_model.specs.declared.instructions.Insn.{Insn}
 use Rattle.isa_model.specs.Code.Instructions.{Program, fetch, slots_of}
 use Rattle.stack_state.specs.declared.states.State.{State}
 use Rattle.stack_state.specs.Starts.{start}
-use Rattle.transfer.specs.Exact.{Refuses}
 use Rattle.walks.specs.Forgetting.{Forgets}
 use Rattle.explorer.specs.Listening.{StopsIn}
 use Rattle.walks.specs.Refused.{StopsAt}
 use Rattle.walks.specs.Walks.{StepsTo}
 use Rattle.walks.specs.declared.refusals.Refusal.{Refusal}
-use Rattle.walks.specs.declared.refusals.Refusal.TheVariants.{Flow, Step, Repeats, TooLong, Memory}
 use Rattle.explorer.specs.declared.explanations.Jump.{Jump}
 use Rattle.explorer.specs.declared.explanations.Explanation.{Explanation}
 use Rattle.explorer.specs.declared.explanations.TheConstants.{MOST_JUMPS}

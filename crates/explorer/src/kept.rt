@@ -28,7 +28,7 @@ fn keep_callers(
 {
     let kept = match other {
         Some(other) => {
-            if are_frames(other.callers.as_ref().as_slice(), frames, room)? {
+            if are_frames(other.callers.as_ref().as_slice(), frames) {
                 return other.callers.clone();
             }
             keep_all(alloc, frames, room, other.callers.as_ref().as_slice())?
@@ -57,11 +57,11 @@ fn own_words(innermost: &KeptFrame, callers: &Rc<Vec<KeptFrame>>) -> u32 {
 /// Contracts see the state.
 #[derive(Drop)]
 pub struct Kept {
-    slot: usize,
-    callers: Rc<Vec<KeptFrame>>,
-    innermost: KeptFrame,
+    slot: u32,
     /// How many words it took that it did not share when it was kept.
     words: u32,
+    callers: Rc<Vec<KeptFrame>>,
+    innermost: KeptFrame,
 }
 
 impl Model for Kept {
@@ -105,6 +105,9 @@ impl Kept {
         requires { AreParts parts.old.items state.now.innermost }
         ensures { IfOk result (λ kept. kept ≡ state.now) }
     {
+        let Ok(slot) = u32::try_from(state.slot) else {
+            return Err(AllocError);
+        };
         let like = match other {
             Some(other) => Some(&other.innermost),
             None => None,
@@ -113,10 +116,10 @@ impl Kept {
         let callers = keep_callers(alloc, state.callers.as_slice(), parts, other)?;
         let words = own_words(&innermost, &callers);
         Ok(Kept {
-            slot: state.slot,
+            slot,
+            words,
             callers,
             innermost,
-            words,
         })
     }
 
@@ -132,7 +135,7 @@ impl Kept {
         }
         key.parts.clear();
         self.innermost.put_parts(&mut key.parts)?;
-        let mut fingerprints = Fingerprints::of(self.slot);
+        let mut fingerprints = Fingerprints::of(self.slot as usize);
         for frame in self.callers.as_ref().as_slice() {
             fingerprints = frame.with_fingerprints(fingerprints);
         }
@@ -178,7 +181,7 @@ impl Kept {
     pub fn restore(&self, state: &mut State)
         ensures { state.new ≡ self.now }
     {
-        state.slot = self.slot;
+        state.slot = self.slot as usize;
         restore_all(
             self.callers.as_ref().as_slice(),
             &mut state.callers,

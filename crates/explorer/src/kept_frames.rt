@@ -1,12 +1,14 @@
 //! Frames in as little room as they need.
 
-ghost use Rattle.std.specs.Prelude.{◌≡◌, ◌≤◌, IfOk, IsTrue, length};
-ghost use Rattle.state_index.specs.Parts.{AreParts};
+ghost use Rattle.std.specs.Prelude.{◌≡◌, ◌≤◌, ◌++◌, IfOk, IsTrue, length};
+ghost use Rattle.stack_state.specs.Slots.{frame_slots};
+ghost use Rattle.state_index.specs.Parts.{AreParts, register_parts, slot_parts};
 
 use crate::blanks::clear_frame;
-use crate::pieces::{FEW, Piece, are_split, may_cover_all, split, words_of, write_all};
+use crate::pieces::{FEW, KeptParts, Rest, may_cover_all, words_of, write_all};
 use arrayvec::ArrayVec;
-use stack_state::AbstractFrame;
+use reg_state::Kind;
+use stack_state::{AbstractFrame, FRAME_SLOTS, MAX_CALLERS, Slot};
 use state_index::{Fingerprints, Limits, Part, add_limits, take_parts};
 use std::alloc::{AllocError, Global};
 use std::marker::Model;
@@ -17,25 +19,22 @@ use std::marker::Model;
 #[derive(Drop)]
 pub struct KeptFrame {
     return_slot: usize,
-    /// All parts, where they are few.
-    few: Vec<Part>,
-    /// And where they are more.
-    pieces: Vec<Piece>,
+    parts: KeptParts,
 }
 
 impl Model for KeptFrame {
     ghost use Rattle.std.specs.Prelude.{◌≡◌, ◌++◌};
     ghost use Rattle.stack_state.specs.declared.states.AbstractFrame.{AbstractFrame};
     ghost use Rattle.state_index.specs.Parts.{unset_frame, all_written, parts_of};
-    ghost use Rattle.explorer.specs.Pieces.{whole};
+    ghost use Rattle.explorer.specs.Pieces.{whole, few_of, pieces_of};
 
     ghost Value = { AbstractFrame };
 
     ghost view = { λ k. all_written (unset_frame k.return_slot)
-        (k.few.items ++ whole k.pieces.items) };
+        (few_of k.parts ++ whole (pieces_of k.parts)) };
 
     ghost invariant = { λ k. parts_of (all_written (unset_frame k.return_slot)
-        (k.few.items ++ whole k.pieces.items)) ≡ k.few.items ++ whole k.pieces.items };
+        (few_of k.parts ++ whole (pieces_of k.parts))) ≡ few_of k.parts ++ whole (pieces_of k.parts) };
 }
 
 impl KeptFrame {
@@ -50,36 +49,41 @@ impl KeptFrame {
         ensures { IfOk result (λ kept. kept ≡ frame.now) }
     {
         let others = match other {
-            Some(other) => other.pieces.as_slice(),
+            Some(other) => other.parts.pieces(),
             None => &[],
         };
-        let (few, pieces) = split(alloc, parts, others, FEW)?;
+        let parts = KeptParts::of(alloc, parts, others, FEW)?;
         Ok(KeptFrame {
             return_slot: frame.return_slot,
-            few,
-            pieces,
+            parts,
         })
     }
 
-    /// Whether it is the frame, which has these parts.
-    pub fn is_frame(&self, frame: &AbstractFrame, parts: &[Part]) -> bool
-        requires { AreParts parts.now frame.now }
+    /// Whether it is the frame: a no may be wrong.
+    pub fn is_frame(&self, frame: &AbstractFrame) -> bool
         ensures { IsTrue result → self.now ≡ frame.now }
     {
         if self.return_slot != frame.return_slot {
             return false;
         }
-        are_split(self.few.as_slice(), self.pieces.as_slice(), parts)
+        let mut rest = Rest::of(&self.parts);
+        if !are_registers(&mut rest, &frame.registers) {
+            return false;
+        }
+        if !are_slots(&mut rest, &frame.stack.slots) {
+            return false;
+        }
+        rest.is_empty()
     }
 
     /// A quick test whether the frame may be one that this one covers: a no says that it is not.
     pub fn may_cover(&self, frame: &AbstractFrame) -> bool
         ensures { self.now ≡ frame.now → IsTrue result }
     {
-        if !may_cover_all(self.few.as_slice(), frame) {
+        if !may_cover_all(self.parts.few(), frame) {
             return false;
         }
-        let pieces = self.pieces.as_slice();
+        let pieces = self.parts.pieces();
         for index in 0..pieces.len() {
             if !may_cover_all(pieces[index].parts(), frame) {
                 return false;
@@ -92,10 +96,10 @@ impl KeptFrame {
     pub fn restore(&self, frame: &mut AbstractFrame)
         ensures { frame.new ≡ self.now }
     {
-        let pieces = self.pieces.as_slice();
+        let pieces = self.parts.pieces();
         frame.return_slot = self.return_slot;
         clear_frame(frame);
-        write_all(frame, self.few.as_slice());
+        write_all(frame, self.parts.few());
         for index in 0..pieces.len() {
             write_all(frame, pieces[index].parts());
         }
@@ -103,8 +107,8 @@ impl KeptFrame {
 
     /// Puts its parts after others.
     pub fn put_parts(&self, parts: &mut Vec<Part>) -> Result<(), AllocError> {
-        parts.extend_from_slice(self.few.as_slice())?;
-        for piece in self.pieces.as_slice() {
+        parts.extend_from_slice(self.parts.few())?;
+        for piece in self.parts.pieces() {
             parts.extend_from_slice(piece.parts())?;
         }
         Ok(())
@@ -114,8 +118,8 @@ impl KeptFrame {
     pub fn with_fingerprints(&self, fingerprints: Fingerprints) -> Fingerprints {
         let mut fingerprints = fingerprints
             .with_frame(self.return_slot)
-            .with_parts(self.few.as_slice());
-        for piece in self.pieces.as_slice() {
+            .with_parts(self.parts.few());
+        for piece in self.parts.pieces() {
             fingerprints = fingerprints.with_parts(piece.parts());
         }
         fingerprints
@@ -123,8 +127,8 @@ impl KeptFrame {
 
     /// Puts its limits after those of the frames around it.
     pub fn put_limits(&self, limits: &mut Vec<Limits>, level: u32) -> Result<(), AllocError> {
-        add_limits(limits, level, self.few.as_slice())?;
-        for piece in self.pieces.as_slice() {
+        add_limits(limits, level, self.parts.few())?;
+        for piece in self.parts.pieces() {
             add_limits(limits, level, piece.parts())?;
         }
         Ok(())
@@ -132,8 +136,8 @@ impl KeptFrame {
 
     /// How many words it takes that no other state shares.
     pub fn own_words(&self) -> u32 {
-        let mut words = words_of(self.few.as_slice());
-        for piece in self.pieces.as_slice() {
+        let mut words = words_of(self.parts.few());
+        for piece in self.parts.pieces() {
             words = words.saturating_add(piece.own_words());
         }
         u32::try_from(words).unwrap_or(u32::MAX)
@@ -141,32 +145,53 @@ impl KeptFrame {
 
     /// How many of its parts name an identity.
     pub fn named(&self) -> usize {
-        let mut count = named_in(self.few.as_slice());
-        for piece in self.pieces.as_slice() {
+        let mut count = named_in(self.parts.few());
+        for piece in self.parts.pieces() {
             count = count.saturating_add(named_in(piece.parts()));
         }
         count
     }
 }
 
-/// Whether the frames are the ones that were kept. Their parts are taken in the room for them.
-pub fn are_frames(
-    kept: &[KeptFrame],
-    frames: &[AbstractFrame],
-    room: &mut Vec<Part>,
-) -> Result<bool, AllocError>
-    ensures { IfOk result (λ yes. IsTrue yes → kept.now ≡ frames.now) }
+/// Takes what is known of registers, if the next parts say just that.
+fn are_registers(rest: &mut Rest<'_>, registers: &[Kind; 10]) -> bool
+    ensures same { IsTrue result → rest.old ≡ register_parts 0 registers.now ++ rest.new }
+    ensures ten { length registers.now ≡ 10 }
 {
-    if kept.len() != frames.len() {
-        return Ok(false);
-    }
-    for index in 0..frames.len() {
-        take_parts(room, &frames[index])?;
-        if !kept[index].is_frame(&frames[index], room.as_slice()) {
-            return Ok(false);
+    for index in 0..10 {
+        if !rest.is_register(index as u8, &registers[index]) {
+            return false;
         }
     }
-    Ok(true)
+    true
+}
+
+/// Takes what is known of slots, if the next parts say just that.
+fn are_slots(rest: &mut Rest<'_>, slots: &[Slot; FRAME_SLOTS]) -> bool
+    ensures same { IsTrue result → rest.old ≡ slot_parts 0 slots.now ++ rest.new }
+    ensures wide { length slots.now ≡ frame_slots }
+{
+    for index in 0..FRAME_SLOTS {
+        if !rest.is_slot(index as u8, &slots[index]) {
+            return false;
+        }
+    }
+    true
+}
+
+/// Whether the frames are the ones that were kept: a no may be wrong.
+pub fn are_frames(kept: &[KeptFrame], frames: &[AbstractFrame]) -> bool
+    ensures { IsTrue result → kept.now ≡ frames.now }
+{
+    if kept.len() != frames.len() {
+        return false;
+    }
+    for index in 0..frames.len() {
+        if !kept[index].is_frame(&frames[index]) {
+            return false;
+        }
+    }
+    true
 }
 
 /// Keeps each frame.
@@ -189,7 +214,7 @@ pub fn keep_all(
 }
 
 /// Makes the frames as many as that, the last ones like this one where there are too few.
-fn resize(frames: &mut ArrayVec<AbstractFrame, 7>, count: usize, frame: &AbstractFrame)
+fn resize(frames: &mut ArrayVec<AbstractFrame, MAX_CALLERS>, count: usize, frame: &AbstractFrame)
     requires { count ≤ 7 }
     ensures { length frames.new.items ≡ count }
 {
@@ -202,7 +227,7 @@ fn resize(frames: &mut ArrayVec<AbstractFrame, 7>, count: usize, frame: &Abstrac
 /// Makes the frames like the ones that were kept, in their places.
 pub fn restore_all(
     kept: &[KeptFrame],
-    frames: &mut ArrayVec<AbstractFrame, 7>,
+    frames: &mut ArrayVec<AbstractFrame, MAX_CALLERS>,
     other: &AbstractFrame,
 )
     requires { length kept.now ≤ 7 }

@@ -1,11 +1,12 @@
 //! Parts in pieces, which kept states share with one another.
 
-ghost use Rattle.std.specs.Prelude.{◌≡◌, ◌++◌, IfOk, IsTrue, OnOk};
+ghost use Rattle.std.specs.Prelude.{◌≡◌, ◌++◌, [], IfOk, IsTrue, OnOk, option_to_list};
 ghost use Rattle.std.specs.List.{All};
-ghost use Rattle.state_index.specs.Parts.{IsPartOf, all_written};
-ghost use Rattle.explorer.specs.Pieces.{whole};
+ghost use Rattle.state_index.specs.Parts.{IsPartOf, all_written, register_part, slot_part};
+ghost use Rattle.explorer.specs.Pieces.{whole, few_of, pieces_of};
 
-use stack_state::AbstractFrame;
+use reg_state::Kind;
+use stack_state::{AbstractFrame, Slot};
 use state_index::{Part, are_same, may_cover_place, write};
 use std::alloc::{AllocError, Global};
 use std::marker::Model;
@@ -142,24 +143,57 @@ fn push_piece(
     Ok(())
 }
 
-/// The parts beside pieces, if they are not more than that, and else the pieces, of which some
-/// may be those of another state.
-pub fn split(
-    alloc: Global,
-    parts: &[Part],
-    others: &[Piece],
-    few: usize,
-) -> Result<(Vec<Part>, Vec<Piece>), AllocError>
-    ensures { IfOk result (λ r. r.0.items ++ whole r.1.items ≡ parts.now) }
-{
-    if parts.len() <= few {
-        return Ok((Vec::from_slice(alloc, parts)?, Vec::new(alloc)));
+/// The parts of a kept frame.
+#[derive(Drop)]
+pub enum KeptParts {
+    /// All of them, where they are few.
+    Few(Vec<Part>),
+    /// All of them in pieces, where they are more.
+    Many(Vec<Piece>),
+}
+
+impl KeptParts {
+    /// The parts, of which some pieces may be those of another state. They are put into pieces if
+    /// they are more than that.
+    pub fn of(
+        alloc: Global,
+        parts: &[Part],
+        others: &[Piece],
+        few: usize,
+    ) -> Result<Self, AllocError>
+        ensures { IfOk result (λ kept. few_of kept ++ whole (pieces_of kept) ≡ parts.now) }
+    {
+        if parts.len() <= few {
+            return Ok(KeptParts::Few(Vec::from_slice(alloc, parts)?));
+        }
+        Ok(KeptParts::Many(cut(alloc, parts, others)?))
     }
-    Ok((Vec::new(alloc), pieces_of(alloc, parts, others)?))
+
+    /// The parts that are in no piece.
+    #[inline(always)]
+    pub fn few(&self) -> &[Part]
+        ensures { result.now ≡ few_of self.now }
+    {
+        match self {
+            KeptParts::Few(parts) => parts.as_slice(),
+            KeptParts::Many(_) => &[],
+        }
+    }
+
+    /// The pieces.
+    #[inline(always)]
+    pub fn pieces(&self) -> &[Piece]
+        ensures { result.now ≡ pieces_of self.now }
+    {
+        match self {
+            KeptParts::Few(_) => &[],
+            KeptParts::Many(pieces) => pieces.as_slice(),
+        }
+    }
 }
 
 /// The parts in pieces, of which some may be those of another state.
-fn pieces_of(alloc: Global, parts: &[Part], others: &[Piece]) -> Result<Vec<Piece>, AllocError>
+fn cut(alloc: Global, parts: &[Part], others: &[Piece]) -> Result<Vec<Piece>, AllocError>
     ensures { IfOk result (λ pieces. whole pieces.items ≡ parts.now) }
 {
     let mut pieces = Vec::new(alloc);
@@ -176,33 +210,85 @@ fn pieces_of(alloc: Global, parts: &[Part], others: &[Piece]) -> Result<Vec<Piec
     Ok(pieces)
 }
 
-/// Whether these are all parts of the pieces.
-fn are_whole(pieces: &[Piece], parts: &[Part]) -> bool
-    ensures { IsTrue result → whole pieces.now ≡ parts.now }
-{
-    let mut rest = parts;
-    for index in 0..pieces.len() {
-        let piece = pieces[index].parts();
-        match rest.split_at_checked(piece.len()) {
-            Some((first, others)) => {
-                if !are_same(piece, first) {
-                    return false;
-                }
-                rest = others;
-            }
-            None => return false,
-        }
-    }
-    rest.is_empty()
+/// The parts of a kept frame that are still to be read.
+///
+/// Contracts see the parts.
+#[derive(Drop)]
+pub struct Rest<'a> {
+    parts: &'a [Part],
+    pieces: &'a [Piece],
 }
 
-/// Whether these are all parts: some, and then those of the pieces.
-pub fn are_split(few: &[Part], pieces: &[Piece], parts: &[Part]) -> bool
-    ensures { IsTrue result → few.now ++ whole pieces.now ≡ parts.now }
-{
-    match parts.split_at_checked(few.len()) {
-        Some((first, rest)) => are_same(few, first) && are_whole(pieces, rest),
-        None => false,
+impl<'a> Model for Rest<'a> {
+    ghost use Rattle.std.specs.Prelude.{List, ◌++◌};
+    ghost use Rattle.state_index.specs.declared.parts.Part.{Part};
+    ghost use Rattle.explorer.specs.Pieces.{whole};
+
+    ghost Value = { List Part };
+
+    ghost view = { λ rest. rest.parts.now ++ whole rest.pieces.now };
+}
+
+impl<'a> Rest<'a> {
+    /// All parts.
+    pub fn of(parts: &'a KeptParts) -> Self
+        ensures { result ≡ few_of parts.now ++ whole (pieces_of parts.now) }
+    {
+        Rest {
+            parts: parts.few(),
+            pieces: parts.pieces(),
+        }
+    }
+
+    /// Whether there is none: a no may be wrong.
+    pub fn is_empty(&self) -> bool
+        ensures { IsTrue result → self.now ≡ [] }
+    {
+        self.parts.is_empty() && self.pieces.is_empty()
+    }
+
+    /// Takes the next part, if it is found.
+    #[inline(always)]
+    fn next(&mut self) -> &'a [Part]
+        ensures { self.old ≡ result.now ++ self.new }
+    {
+        if self.parts.is_empty() {
+            let [piece, others @ ..] = self.pieces else {
+                return &[];
+            };
+            self.parts = piece.parts();
+            self.pieces = others;
+        }
+        match self.parts.split_at_checked(1) {
+            Some((first, others)) => {
+                self.parts = others;
+                first
+            }
+            None => &[],
+        }
+    }
+
+    /// Takes what is known of a register, if the next part says just that.
+    #[inline(always)]
+    pub fn is_register(&mut self, place: u8, kind: &Kind) -> bool
+        ensures { IsTrue result
+            → self.old ≡ option_to_list (register_part place kind.now) ++ self.new }
+    {
+        match kind {
+            Kind::Unset => true,
+            kind => are_same(self.next(), &[Part::InRegister(place, *kind)]),
+        }
+    }
+
+    /// Takes what is known of a slot, if the next part says just that.
+    #[inline(always)]
+    pub fn is_slot(&mut self, place: u8, slot: &Slot) -> bool
+        ensures { IsTrue result → self.old ≡ option_to_list (slot_part place slot.now) ++ self.new }
+    {
+        match slot {
+            Slot::Written(0) => true,
+            slot => are_same(self.next(), &[Part::InSlot(place, *slot)]),
+        }
     }
 }
 

@@ -11,7 +11,7 @@ use Rattle.stack_state.specs.declared.slots.Slot.{Slot}
 use Rattle.stack_state.specs.declared.slots.Slot.TheVariants.{Written, Spilled}
 use Rattle.stack_state.specs.declared.states.AbstractFrame.{AbstractFrame}
 use Rattle.stack_state.specs.Meaning.{kind_at}
-use Rattle.stack_state.specs.Slots.{slot_at}
+use Rattle.stack_state.specs.Slots.{slot_at, frame_slots}
 use Rattle.state_index.specs.declared.parts.Part.{Part}
 use Rattle.state_index.specs.declared.parts.Part.TheVariants.{InRegister, InSlot}
 use Rattle.state_index.specs.Parts.{register_part, slot_part, register_parts, slot_parts, parts_of, IsPartOf, unset_frame, written, all_written}
@@ -123,7 +123,7 @@ slots_made f n done (t ∷ ts) long same =
 
 -- ---- frames
 
-pub all_written-parts_of : (f : AbstractFrame) (ps : List Part) → length f.registers ≡ 10 → length f.stack.slots ≡ 64 → ps ≡ parts_of f
+pub all_written-parts_of : (f : AbstractFrame) (ps : List Part) → length f.registers ≡ 10 → length f.stack.slots ≡ frame_slots → ps ≡ parts_of f
     → all_written (unset_frame f.return_slot) ps ≡ f
 unfolding parts_of unset_frame
 all_written-parts_of f ps ten wide is =

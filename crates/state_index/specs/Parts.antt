@@ -7,7 +7,7 @@ use Rattle.stack_state.specs.declared.slots.Slot.TheVariants.{Written, Spilled}
 use Rattle.stack_state.specs.declared.states.AbstractFrame.{AbstractFrame}
 use Rattle.stack_state.specs.Meaning.{kind_at}
 use Rattle.stack_state.specs.Places.{with_kind}
-use Rattle.stack_state.specs.Slots.{slot_at}
+use Rattle.stack_state.specs.Slots.{slot_at, frame_slots}
 use Rattle.state_index.specs.declared.parts.Part.{Part}
 use Rattle.state_index.specs.declared.parts.Part.TheVariants.{InRegister, InSlot}
 
@@ -40,7 +40,7 @@ parts_of f = register_parts 0 f.registers ++ slot_parts 0 f.stack.slots
 pub record AreParts (parts : List Part) (f : AbstractFrame) : Type 0 where
   pub all : parts ≡ parts_of f
   pub ten : length f.registers ≡ 10
-  pub wide : length f.stack.slots ≡ 64
+  pub wide : length f.stack.slots ≡ frame_slots
 
 -- what is known there in the frame
 abbrev pub IsPartOf : AbstractFrame → Part → Type 0
@@ -52,7 +52,7 @@ IsPartOf f (InSlot n t) = slot_at f.stack.slots n ≡ t
 -- a frame of which nothing is known
 unfoldable pub unset_frame : ℕ → AbstractFrame
 unset_frame slot =
-    record { return_slot = slot; registers = replicate 10 Unset; stack = record { slots = replicate 64 (Written 0) } }
+    record { return_slot = slot; registers = replicate 10 Unset; stack = record { slots = replicate frame_slots (Written 0) } }
 
 abbrev pub with_slot : AbstractFrame → ℕ → Slot → AbstractFrame
 with_slot f n t = record f { stack = record { slots = slice_set f.stack.slots n t } }

@@ -4,7 +4,7 @@
 
 use crate::parts::Part;
 use reg_state::{Kind, Scalar};
-use stack_state::{AbstractFrame, Slot};
+use stack_state::{AbstractFrame, FRAME_SLOTS, Slot};
 
 /// Fingerprints of frames from the outermost on.
 #[derive(Clone, Copy, Drop)]
@@ -43,7 +43,7 @@ impl Fingerprints {
                 whole = with_register(whole, index as u8, kind);
             }
         }
-        for index in 0..64 {
+        for index in 0..FRAME_SLOTS {
             let slot = &frame.stack.slots[index];
             if !matches!(slot, Slot::Written(0)) {
                 whole = with_slot(whole, index as u8, slot);

@@ -6,11 +6,11 @@ ghost use Rattle.state_index.specs.Parts.{AreParts};
 use crate::fingerprints::Fingerprints;
 use crate::limits::{Limits, add_limits};
 use crate::parts::{Part, take_parts};
-use stack_state::State;
+use stack_state::{FRAME_SLOTS, State};
 use std::alloc::{AllocError, Global};
 
 /// How many places a frame has: its registers and its slots.
-const PLACES: usize = 74;
+const PLACES: usize = 10 + FRAME_SLOTS;
 
 /// The parts of a state's innermost frame, fingerprints of all its frames, and their limits if
 /// these are wanted.

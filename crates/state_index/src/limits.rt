@@ -141,6 +141,9 @@ fn of_marks(marks: u8) -> [u64; MEASURES] {
     ]
 }
 
+/// How far the places of one frame are from those of the next.
+const LEVEL: u32 = 1 << 9;
+
 impl Limits {
     /// Of a part of a frame, the outermost one being at level 0. There are none where all is
     /// allowed.
@@ -153,7 +156,7 @@ impl Limits {
             Part::InSlot(place, Slot::Spilled(kind)) => (16 + u32::from(*place), of_kind(kind)?),
         };
         Some(Limits {
-            place: level.wrapping_mul(512).wrapping_add(place),
+            place: level.wrapping_mul(LEVEL).wrapping_add(place),
             sort,
             measures,
         })

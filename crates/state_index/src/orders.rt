@@ -6,6 +6,9 @@ use std::alloc::{AllocError, Global};
 /// How many rows are looked at to see whether they differ in a column.
 const SAMPLE: usize = 16;
 
+/// How often a size is doubled or halved at most: once for each bit of its word.
+const WORD: usize = 64;
+
 /// A row, and its word by which it is put into order.
 #[derive(Clone, Copy, Drop)]
 struct Place {
@@ -90,12 +93,12 @@ impl Order {
     /// Puts rows of such a width into order.
     pub fn arrange(&mut self, rows: &[u64], width: usize) {
         let mut size = FAN;
-        for _doubled in 0..64 {
+        for _doubled in 0..WORD {
             if size < self.places.len() {
                 size = size.saturating_mul(2);
             }
         }
-        for turn in 0..64 {
+        for turn in 0..WORD {
             if size <= FAN {
                 return;
             }

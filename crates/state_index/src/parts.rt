@@ -1,10 +1,11 @@
 //! What is known of a frame, place by place.
 
 ghost use Rattle.std.specs.Prelude.{◌≡◌, ◌++◌, OnOk, IsTrue, length, slice_set, option_to_list};
+ghost use Rattle.stack_state.specs.Slots.{frame_slots};
 ghost use Rattle.state_index.specs.Parts.{register_part, slot_part, register_parts, slot_parts, AreParts, written, IsPartOf};
 
 use reg_state::{Domain, Kind};
-use stack_state::{AbstractFrame, Slot};
+use stack_state::{AbstractFrame, FRAME_SLOTS, Slot};
 use std::alloc::AllocError;
 
 /// What is known of one place of a frame.
@@ -57,11 +58,11 @@ fn push_registers(parts: &mut Vec<Part>, registers: &[Kind; 10]) -> Result<(), A
 }
 
 /// Puts the slots of which something is known after the parts.
-fn push_slots(parts: &mut Vec<Part>, slots: &[Slot; 64]) -> Result<(), AllocError>
+fn push_slots(parts: &mut Vec<Part>, slots: &[Slot; FRAME_SLOTS]) -> Result<(), AllocError>
     ensures pushed { OnOk result (parts.new.items ≡ parts.old.items ++ slot_parts 0 slots.now) }
-    ensures wide { length slots.now ≡ 64 }
+    ensures wide { length slots.now ≡ frame_slots }
 {
-    for index in 0..64 {
+    for index in 0..FRAME_SLOTS {
         push_slot(parts, index as u8, &slots[index])?;
     }
     Ok(())
@@ -89,11 +90,11 @@ fn set_register(registers: &mut [Kind; 10], place: u8, kind: Kind)
     registers[place] = kind;
 }
 
-fn set_slot(slots: &mut [Slot; 64], place: u8, slot: Slot)
+fn set_slot(slots: &mut [Slot; FRAME_SLOTS], place: u8, slot: Slot)
     ensures { slots.new ≡ slice_set slots.old place slot }
 {
     let place = usize::from(place);
-    if place >= 64 {
+    if place >= FRAME_SLOTS {
         return;
     }
     slots[place] = slot;
@@ -152,7 +153,7 @@ pub fn may_cover_place(part: &Part, frame: &AbstractFrame) -> bool
         }
         Part::InSlot(place, slot) => {
             let place = usize::from(place);
-            if place >= 64 {
+            if place >= FRAME_SLOTS {
                 return true;
             }
             may_hold(&slot, &frame.stack.slots[place])

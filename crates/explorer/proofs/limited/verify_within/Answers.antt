@@ -1,4 +1,4 @@
-use Rattle.std.proofs.Common.{◌≡◌, ℕ, rules}
+use Rattle.std.proofs.Common.{◌≡◌, ℕ}
 use Rattle.isa_model.specs.Code.Instructions.{Program}
 use Rattle.image.specs.Images.{IsImage}
 use Rattle.image.proofs.Programs.{IsProgram-IsImage}

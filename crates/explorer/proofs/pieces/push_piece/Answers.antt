@@ -1,4 +1,4 @@
-use Rattle.std.proofs.Common.{◌∙◌, ◌++◌, ◌∷◌, [], ap}
+use Rattle.std.proofs.Common.{◌∙◌, ◌++◌, ap}
 use Rattle.explorer.specs.Pieces.{whole}
 use Rattle.explorer.proofs.PieceLaws.{whole-more}
 use Rattle.explorer.proofs.pieces.push_piece.Goals as goal

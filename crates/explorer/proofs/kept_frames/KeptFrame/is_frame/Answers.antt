@@ -1,15 +1,22 @@
 use Rattle.std.proofs.Common.{rules, ◌≡◌, ◌++◌, ◌∙◌, ap, sym}
-use Rattle.state_index.specs.Parts.{unset_frame, all_written}
+use Rattle.std.proofs.lemmas.List.{append-nil}
+use Rattle.state_index.specs.Parts.{unset_frame, all_written, parts_of, register_parts, slot_parts}
 use Rattle.state_index.proofs.PartLaws.{all_written-parts_of}
-use Rattle.explorer.specs.Pieces.{whole}
+use Rattle.explorer.specs.Pieces.{whole, few_of, pieces_of}
 use Rattle.explorer.proofs.kept_frames.KeptFrame.is_frame.Goals as goal
 
 pub returns : goal.returns
+unfolding parts_of
 returns c = λ yes.
     let frame = c.args.frame.now in
     let slot : c.self.inside.return_slot ≡ frame.return_slot = search rules in
+    let all : few_of c.self.inside.parts ++ whole (pieces_of c.self.inside.parts) ≡ parts_of frame =
+    sym c.of-rest.ensures
+    ∙ c.are_registers.ensures.same c.if-not-are_registers.false
+    ∙ ap (λ l. register_parts 0 frame.registers ++ l)
+    (c.are_slots.ensures.same c.if-not-are_slots.false ∙ ap (λ l. slot_parts 0 frame.stack.slots ++ l) (c.is_empty.ensures yes)
+    ∙ append-nil (slot_parts 0 frame.stack.slots)) in
     sym c.self.view_is
-    ∙ ap (λ n. all_written (unset_frame n) (c.self.inside.few.items ++ whole c.self.inside.pieces.items)) slot
-    ∙ ap (all_written (unset_frame frame.return_slot))
-    (ap (λ l. l ++ whole c.self.inside.pieces.items) (sym c.as_slice.ensures.value) ∙ ap (λ l. c.as_slice.result.now ++ whole l) (sym c.as_slice-2.ensures.value) ∙ c.are_split.ensures yes)
-    ∙ all_written-parts_of frame c.args.parts.now c.requires.ten c.requires.wide c.requires.all
+    ∙ ap (λ n. all_written (unset_frame n) (few_of c.self.inside.parts ++ whole (pieces_of c.self.inside.parts))) slot
+    ∙ all_written-parts_of frame (few_of c.self.inside.parts ++ whole (pieces_of c.self.inside.parts))
+    c.are_registers.ensures.ten c.are_slots.ensures.wide all

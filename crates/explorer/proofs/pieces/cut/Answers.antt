@@ -1,7 +1,6 @@
-use Rattle.std.proofs.Common.{rules, ◌∙◌, ◌≡◌, length, arith}
 use Rattle.explorer.specs.Pieces.{whole}
-use Rattle.explorer.proofs.PieceLaws.{whole_cut, whole_done}
-use Rattle.explorer.proofs.pieces.pieces_of.Goals as goal
+use Rattle.explorer.proofs.PieceLaws.{whole_cut}
+use Rattle.explorer.proofs.pieces.cut.Goals as goal
 
 pub loop-piece-preserved : goal.loop-piece-preserved
 loop-piece-preserved c =

@@ -1,0 +1,80 @@
+//! The search for a bound, all of which a listener hears.
+
+ghost use Rattle.std.specs.Prelude.{◌≡◌, ◌≤◌, [], IfOk, IfErr};
+ghost use Rattle.isa_model.specs.Running.Outcomes.{StartsEnd};
+ghost use Rattle.bounds.specs.Bounds.{IsVerified};
+ghost use Rattle.walks.specs.Refused.{IsRefused};
+ghost use Rattle.walks.specs.Accepting.{AcceptsAll, BoundsAll};
+ghost use Rattle.walks.specs.Counts.{HasNumber};
+ghost use Rattle.stack_state.specs.declared.states.State.{State as TheState};
+ghost use Rattle.stack_state.specs.Starts.{start};
+ghost use Rattle.explorer.specs.Listening.{IfRefused};
+
+use crate::kept::Kept;
+use crate::listening::Listener;
+use crate::moves::Halt;
+use crate::search::Search;
+use bounds::Verified;
+use control_flow::Flow;
+use image::Image;
+use isa_model::MAX_EXPLORED;
+use std::alloc::Global;
+use walks::Refusal;
+
+// The bound of a program's runs, and what a listener has heard of the search for it.
+fn bound_with<L: Listener>(
+    alloc: Global,
+    image: &Image,
+    listener: &mut L,
+) -> Result<u32, Halt<L::Stop>>
+    requires untold { (last : TheState) × L.follows listener.old image.now [] last }
+    ensures ends { IfOk result (StartsEnd image.now) }
+    ensures number { IfOk result (λ n. HasNumber image.now start n) }
+    ensures some { IfOk result (λ n. 1 ≤ n) }
+    ensures most { IfOk result (λ n. n ≤ MAX_EXPLORED) }
+    ensures refused { IfErr result (λ h. IfRefused h (IsRefused image.now)) }
+{
+    let slots = image.slots();
+    let flow = match Flow::of(alloc, image) {
+        Ok(flow) => flow,
+        Err((error, slot)) => return Err(Halt::Refused(Refusal::Flow(error), slot)),
+    };
+    let Ok(mut search) = Search::new(alloc, slots) else {
+        return Err(Halt::Refused(Refusal::Memory, 0));
+    };
+    let mut room = Vec::new(alloc);
+    match search.explore(alloc, image, &flow, &mut room, listener) {
+        Ok(bound) => Ok(bound),
+        Err(halt) => Err(halt),
+    }
+}
+
+/// Verifies a program as `verify` does, and tells a listener of the search: of a program that is
+/// refused for its control flow, or where memory runs out before it, there is none. Unless the
+/// listener stops it, the answer has each clause of `verify`'s.
+pub fn verify_with<L: Listener>(
+    alloc: Global,
+    image: Image,
+    listener: &mut L,
+) -> Result<Verified, Halt<L::Stop>>
+    requires untold { (last : TheState) × L.follows listener.old image [] last }
+    ensures program { IfOk result (λ verified. verified.program ≡ image) }
+    ensures verified { IfOk result IsVerified }
+    ensures refused { IfErr result (λ h. IfRefused h (IsRefused image)) }
+    ensures number { IfOk result (λ verified. HasNumber image start verified.bound) }
+    ensures accepts { IfErr result (λ h. IfRefused h (λ e _. AcceptsAll image e)) }
+    ensures bounds { IfOk result (λ verified. BoundsAll image verified.bound) }
+{
+    // only for the proof: this call says that the program is an image's, which `verified` needs
+    let _slots = image.slots();
+    match bound_with(alloc, &image, listener) {
+        Ok(bound) => Ok(Verified::from_within(image, bound)),
+        Err(halt) => Err(halt),
+    }
+}
+
+/// How many words of 8 bytes a stored state took that it did not share with another one when it
+/// was kept.
+pub fn own_words(kept: &Kept) -> u32 {
+    kept.words()
+}
