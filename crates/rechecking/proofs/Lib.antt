@@ -1,3 +1,4 @@
 pub mod TableLaws
 pub mod CheckingLaws
+pub mod GrowingLaws
 pub mod RefusalLaws

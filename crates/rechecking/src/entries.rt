@@ -1,19 +1,20 @@
 //! Entries tested, one by one.
 
-ghost use Rattle.std.specs.Prelude.{◌≡◌, ◌<◌, ℕ, Some, None, IsSome, IsTrue, IfOk, IfErr, IfSome, false};
+ghost use Rattle.std.specs.Prelude.{◌≡◌, ◌<◌, ℕ, Some, None, IsSome, IsTrue, IfOk, IfErr, IfSome, Ok, true, false};
 ghost use Rattle.isa_model.specs.Code.Instructions.{Program};
 ghost use Rattle.stack_state.specs.declared.states.State.{State};
 ghost use Rattle.table_entries.specs.Entries.{Entry, list_of};
 ghost use Rattle.table_entries.specs.Tables.{entry_at, count_of};
+ghost use Rattle.table_entries.specs.Growing.{MayGrow, Grows, AllThere};
 ghost use Rattle.rechecking.specs.Tables.{EntryAt, IsFine};
-ghost use Rattle.rechecking.specs.Checking.{Enters, EntersClearly, FollowsBy, Covering, CoversClearly, IsFaultyAt, IsFirstFault};
+ghost use Rattle.rechecking.specs.Checking.{Enters, EntersClearly, FollowsBy, Covering, CoversClearly, AllFineBefore, IsFaultyAt, IsFirstFault};
 ghost use Rattle.rechecking.specs.Standing.{StandsAt, IsKnown};
 
 use crate::errors::TableError;
 use image::Image;
 use stack_state::State;
 use state_cover::covers;
-use table_entries::{Head, Named, Table};
+use table_entries::{Growing, Head, Named, Table};
 use transfer::{Ways, step_in_place};
 
 /// An entry whose state stands in one of two rooms, by its index: it is not read again.
@@ -132,29 +133,84 @@ fn follows(
     }
 }
 
+/// The entry that an entry names, if it is the next one to be placed, its bytes spell the only
+/// state to which the step leads, and its number is smaller. None says nothing.
+fn next_follows(
+    image: &Image,
+    growing: &mut Growing,
+    head: Head,
+    ways: Ways,
+    state: &State,
+) -> Option<Known>
+    requires { MayGrow image.now growing.old }
+    ensures grows { Grows image.now growing.old growing.new }
+    ensures yes { IfSome result
+        (λ _. (other : State) → FollowsBy (Enters (entry_at image.now growing.new.table) head.number)
+        (list_of head.named) ways state.now other) }
+    ensures known { IfSome result (λ known. (room : State)
+        → IsKnown image.now (entry_at image.now growing.new.table) state.now room known) }
+{
+    match (head.named, ways) {
+        (Named::One(only), Ways::One) => {
+            let index = only as usize;
+            let next = growing.take(image, index, state)?;
+            if next.number < head.number {
+                Some(Known::First(index, next))
+            } else {
+                None
+            }
+        }
+        _ => None,
+    }
+}
+
+/// Places the entries that an entry names.
+fn place_named(image: &Image, growing: &mut Growing, named: Named)
+    requires { MayGrow image.now growing.old }
+    ensures { Grows image.now growing.old growing.new }
+{
+    match named {
+        Named::None => {}
+        Named::One(first) => {
+            let _there = growing.reach(image, first as usize);
+        }
+        Named::Two(first, second) => {
+            let _there = growing.reach(image, first as usize);
+            let _other = growing.reach(image, second as usize);
+        }
+    }
+}
+
 /// Tests an entry whose state stands in its room: P7 and P8.
 fn test_standing(
     image: &Image,
-    table: &Table,
+    growing: &mut Growing,
     index: usize,
     head: Head,
     state: &mut State,
     other: &mut State,
     room: &mut State,
 ) -> Result<Known, TableError>
-    requires { StandsAt image.now (entry_at image.now table.now) index head state.old }
-    ensures fine { IfOk result (λ _. (e : Entry) → entry_at image.now table.now index ≡ Some e
-        → IsFine image.now (entry_at image.now table.now) e) }
+    requires may { MayGrow image.now growing.old }
+    requires there { StandsAt image.now (entry_at image.now growing.old.table) index head state.old }
+    ensures grows { Grows image.now growing.old growing.new }
+    ensures fine { IfOk result (λ _. (e : Entry)
+        → entry_at image.now growing.new.table index ≡ Some e
+        → IsFine image.now (entry_at image.now growing.new.table) e) }
     ensures known { IfOk result
-        (IsKnown image.now (entry_at image.now table.now) state.new room.new) }
+        (IsKnown image.now (entry_at image.now growing.new.table) state.new room.new) }
     ensures faulty { IfErr result
-        (IsFaultyAt image.now (entry_at image.now table.now) index) }
+        (IsFaultyAt image.now (entry_at image.now growing.new.table) index) }
 {
     let ways = match step_in_place(image, state, other) {
         Ok(ways) => ways,
         Err(refusal) => return Err(TableError::Step(index, refusal)),
     };
-    match follows(image, table, head, ways, state, other, room) {
+    if let Some(known) = next_follows(image, growing, head, ways, state) {
+        return Ok(known);
+    }
+    place_named(image, growing, head.named);
+    match follows(image, growing.placed(), head, ways, state, other, room) {
         Some(known) => Ok(known),
         None => Err(TableError::Successor(index)),
     }
@@ -163,56 +219,67 @@ fn test_standing(
 /// Tests an entry, which is read unless it is known: P7 and P8. What is known after it is told.
 fn test_entry(
     image: &Image,
-    table: &Table,
+    growing: &mut Growing,
     index: usize,
     known: Known,
     state: &mut State,
     other: &mut State,
     room: &mut State,
 ) -> Result<Known, TableError>
-    requires there { IsSome (entry_at image.now table.now index) }
-    requires known { IsKnown image.now (entry_at image.now table.now) state.old room.old known }
-    ensures fine { IfOk result (λ _. (e : Entry) → entry_at image.now table.now index ≡ Some e
-        → IsFine image.now (entry_at image.now table.now) e) }
+    requires may { MayGrow image.now growing.old }
+    requires there { IsSome (entry_at image.now growing.old.table index) }
+    requires known { IsKnown image.now (entry_at image.now growing.old.table)
+        state.old room.old known }
+    ensures grows { Grows image.now growing.old growing.new }
+    ensures fine { IfOk result (λ _. (e : Entry)
+        → entry_at image.now growing.new.table index ≡ Some e
+        → IsFine image.now (entry_at image.now growing.new.table) e) }
     ensures known { IfOk result
-        (IsKnown image.now (entry_at image.now table.now) state.new room.new) }
+        (IsKnown image.now (entry_at image.now growing.new.table) state.new room.new) }
     ensures faulty { IfErr result
-        (IsFaultyAt image.now (entry_at image.now table.now) index) }
+        (IsFaultyAt image.now (entry_at image.now growing.new.table) index) }
 {
     match known {
         Known::First(there, head) if there == index => {
-            test_standing(image, table, index, head, state, other, room)
+            test_standing(image, growing, index, head, state, other, room)
         }
         Known::Second(there, head) if there == index => {
-            match test_standing(image, table, index, head, room, other, state) {
+            match test_standing(image, growing, index, head, room, other, state) {
                 Ok(known) => Ok(turned(known)),
                 Err(error) => Err(error),
             }
         }
         _ => {
-            let Some(head) = table.read(image, index, state) else {
+            let Some(head) = growing.placed().read(image, index, state) else {
                 unreachable!()
             };
-            test_standing(image, table, index, head, state, other, room)
+            test_standing(image, growing, index, head, state, other, room)
         }
     }
 }
 
-/// Tests each entry, from the first on.
-pub fn test_all(image: &Image, table: &Table) -> Result<(), TableError>
-    requires { (k : ℕ) → k < count_of table.now → IsSome (entry_at image.now table.now k) }
-    ensures fine { IfOk result (λ _. (k : ℕ) (e : Entry) → entry_at image.now table.now k ≡ Some e
-        → IsFine image.now (entry_at image.now table.now) e) }
-    ensures faulty { IfErr result (IsFirstFault image.now (entry_at image.now table.now)) }
+/// Tests each entry, from the first on. False: one of them is not placed, and cannot be.
+pub fn test_all(image: &Image, growing: &mut Growing) -> Result<bool, TableError>
+    requires may { MayGrow image.now growing.old }
+    requires there { AllThere image.now growing.old }
+    ensures grows { Grows image.now growing.old growing.new }
+    ensures fine { result ≡ Ok true → AllFineBefore image.now
+        (entry_at image.now growing.new.table) growing.new.count }
+    ensures short { result ≡ Ok false → count_of growing.old.table < growing.old.count }
+    ensures faulty { IfErr result
+        (IsFirstFault image.now (entry_at image.now growing.new.table)) }
 {
     let mut state = State::start();
     let mut other = State::start();
     let mut room = State::start();
     let mut known = Known::None;
-    for index in 0..table.len() {
+    for index in 0..growing.count() {
+        if !growing.reach(image, index) {
+            return Ok(false);
+        }
         known = test_entry(
-            image, table, index, known, &mut state, &mut other, &mut room,
+            image, growing, index, known, &mut state, &mut other, &mut room,
         )?;
     }
-    Ok(())
+    Ok(true)
 }

@@ -1,6 +1,6 @@
 //! Tables tested.
 
-ghost use Rattle.std.specs.Prelude.{◌≡◌, ℕ, Some, None, IfOk, IfErr};
+ghost use Rattle.std.specs.Prelude.{◌≡◌, ℕ, Some, None, IfSome, IfOk, IfErr};
 ghost use Rattle.isa_model.specs.Machine.MachineStates.{IsProgram};
 ghost use Rattle.bounds.specs.Bounds.{IsVerified};
 ghost use Rattle.control_flow.specs.Flows.{IsFlow};
@@ -16,7 +16,7 @@ use image::Image;
 use stack_state::State;
 use state_cover::covers;
 use std::alloc::Global;
-use table_entries::Table;
+use table_entries::{Growing, Table};
 
 /// The number of entry 0, if that covers the start state: P6.
 fn first_number(image: &Image, table: &Table) -> Option<u32>
@@ -36,14 +36,37 @@ fn first_number(image: &Image, table: &Table) -> Option<u32>
     }
 }
 
-/// The bound that a table shows.
-fn bound_of(alloc: Global, image: &Image, bytes: &[u8]) -> Result<u32, TableError>
-    requires { IsFlow image.now }
+/// The bound that a table shows, whose entries are placed as they are tested. None says nothing.
+///
+/// An entry that is the next one, and spells the state to which a step leads, is read once.
+fn quick_bound(alloc: Global, image: &Image, bytes: &[u8]) -> Option<u32>
+    requires { IsProgram image.now }
+    ensures { IfSome result (Shows image.now bytes.now) }
+{
+    let mut growing = Growing::begin(alloc, bytes)?;
+    if !growing.reach(image, 0) {
+        return None;
+    }
+    let number = first_number(image, growing.placed())?;
+    match test_all(image, &mut growing) {
+        Ok(true) => {
+            if growing.is_whole() {
+                Some(number)
+            } else {
+                None
+            }
+        }
+        _ => None,
+    }
+}
+
+/// The bound that a table shows, or why it is refused. All entries are placed first.
+fn slow_bound(alloc: Global, image: &Image, bytes: &[u8]) -> Result<u32, TableError>
+    requires flow { IsFlow image.now }
+    requires program { IsProgram image.now }
     ensures shown { IfOk result (Shows image.now bytes.now) }
     ensures refused { IfErr result (IsRefused image.now bytes.now) }
 {
-    // only for the proof: this call says that the program is an image's
-    let _slots = image.slots();
     let table = match Table::of(alloc, image, bytes) {
         Ok(table) => table,
         Err(fault) => return Err(TableError::Fault(fault)),
@@ -51,8 +74,26 @@ fn bound_of(alloc: Global, image: &Image, bytes: &[u8]) -> Result<u32, TableErro
     let Some(number) = first_number(image, &table) else {
         return Err(TableError::Start);
     };
-    test_all(image, &table)?;
-    Ok(number)
+    let mut growing = Growing::of(table);
+    match test_all(image, &mut growing) {
+        Ok(true) => Ok(number),
+        Ok(false) => unreachable!(),
+        Err(error) => Err(error),
+    }
+}
+
+/// The same, the quick way where that finds a bound.
+fn bound_of(alloc: Global, image: &Image, bytes: &[u8]) -> Result<u32, TableError>
+    requires { IsFlow image.now }
+    ensures shown { IfOk result (Shows image.now bytes.now) }
+    ensures refused { IfErr result (IsRefused image.now bytes.now) }
+{
+    // only for the proof: this call says that the program is an image's
+    let _slots = image.slots();
+    if let Some(number) = quick_bound(alloc, image, bytes) {
+        return Ok(number);
+    }
+    slow_bound(alloc, image, bytes)
 }
 
 /// Tests a table of a program: where it passes, every run of the program meets no trap, and exits

@@ -6,7 +6,7 @@ use Rattle.reg_state.specs.declared.kinds.Kind.{Kind}
 use Rattle.reg_state.specs.KindCover.{KindCovers, KindEncloses}
 use Rattle.stack_state.specs.declared.slots.Slot.{Slot}
 use Rattle.stack_state.specs.declared.slots.Slot.TheVariants.{Written, Spilled}
-use Rattle.stack_state.specs.Slots.{slot_at, marks_of}
+use Rattle.stack_state.specs.Slots.{slot_at, marks_of, frame_slots}
 use Rattle.stack_state.specs.Meaning.{frames_of, kind_at, kinds_of, slots_of}
 use Rattle.stack_state.specs.declared.states.AbstractFrame.{AbstractFrame}
 use Rattle.stack_state.specs.declared.states.State.{State}
@@ -38,7 +38,7 @@ KindsCover packet null xs ys = (k : ℕ) → KindCovers packet null (kind_at xs 
 
 -- of each slot
 abbrev pub SlotsCover : (ℕ → ℕ) → (ℕ → ℕ) → List Slot → List Slot → Type 0
-SlotsCover packet null xs ys = (k : ℕ) → k < 64 → SlotCovers packet null (slot_at xs k) (slot_at ys k)
+SlotsCover packet null xs ys = (k : ℕ) → k < frame_slots → SlotCovers packet null (slot_at xs k) (slot_at ys k)
 
 pub record FrameCovers (packet null : ℕ → ℕ) (f g : AbstractFrame) : Type 0 where
   pub returns : f.return_slot ≡ g.return_slot

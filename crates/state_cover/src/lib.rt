@@ -13,7 +13,7 @@ mod names;
 
 use names::name_in;
 use reg_state::Kind;
-use stack_state::{AbstractFrame, Slot, State};
+use stack_state::{AbstractFrame, FRAME_SLOTS, Slot, State};
 
 /// A yes says that all that `b` means `a` means too.
 pub fn covers(a: &State, b: &State) -> bool
@@ -79,14 +79,19 @@ fn registers_cover(left: &[Kind; 10], right: &[Kind; 10], a: &State, b: &State) 
     true
 }
 
-fn slots_cover(left: &[Slot; 64], right: &[Slot; 64], a: &State, b: &State) -> bool
+fn slots_cover(
+    left: &[Slot; FRAME_SLOTS],
+    right: &[Slot; FRAME_SLOTS],
+    a: &State,
+    b: &State,
+) -> bool
     requires { length a.now.callers.items ≡ length b.now.callers.items }
     ensures yes { IsTrue result
         → SlotsCover (packet_name a.now b.now) (null_name a.now b.now) left.now right.now }
     ensures no { SlotsEnclose (packet_name a.now b.now) (null_name a.now b.now) left.now right.now
         → IsTrue result }
 {
-    for index in 0..64 {
+    for index in 0..FRAME_SLOTS {
         if !slot_covers(&left[index], &right[index], a, b) {
             return false;
         }

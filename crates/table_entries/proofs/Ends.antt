@@ -12,9 +12,7 @@ use Rattle.table_entries.specs.Reading.{Read, sized, then_read, joined, many}
 use Rattle.table_entries.specs.Values.{scalar_in, stack_in, packet_in, map_in, value_in, null_in, fields_in, kind_in, slot_in, marks_in, spilled}
 use Rattle.table_entries.specs.Frames.{frame_in, callers_in}
 use Rattle.table_entries.specs.Entries.{Entry, named_in, rest_in, entry_in}
-
-abbrev pub IsEnd : List ℕ → List ℕ → Type 0
-IsEnd bytes rest = (n : ℕ) × (rest ≡ drop n bytes)
+use Rattle.table_entries.specs.Growing.{IsEnd}
 
 pub IsEnd-more : (bytes rest after : List ℕ) → IsEnd bytes rest → IsEnd rest after → IsEnd bytes after
 IsEnd-more bytes rest after (n, e) (m, f) = (n + m, f ∙ ap (drop m) e ∙ drop-drop m n bytes)

@@ -10,3 +10,4 @@ pub mod BlankSlots
 pub mod UnsetCallers
 pub mod NumberSlots
 pub mod ValueLaws
+pub mod GrowingLaws

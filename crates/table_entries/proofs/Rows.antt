@@ -10,12 +10,8 @@ use Rattle.table_entries.specs.declared.faults.TableFault.TheVariants as fault
 use Rattle.table_entries.specs.declared.stops.Stop.{Stop}
 use Rattle.table_entries.specs.Entries.{Entry, entry_in}
 use Rattle.table_entries.specs.Tables.{before, fault_of, entries_in, to_the_end, earlier, first_none, all_of, entry_from, Kept, Holds}
-use Rattle.table_entries.proofs.Ends.{IsEnd, IsEnd-place}
-
--- what was read before, and what is still read
-abbrev pub with_entries : List (Option Entry) → Result (List (Option Entry) × List ℕ) TableFault → Result (List (Option Entry) × List ℕ) TableFault
-with_entries front (Ok x) = Ok (front ++ x.0, x.1)
-with_entries front (Err e) = Err e
+use Rattle.table_entries.specs.Growing.{with_entries, IsEnd}
+use Rattle.table_entries.proofs.Ends.{IsEnd-place}
 
 regroup : (front : List (Option Entry)) (e : Option Entry) (read : Result (List (Option Entry) × List ℕ) TableFault)
     → with_entries front (before e read) ≡ with_entries (front ++ e ∷ []) read

@@ -1,5 +1,5 @@
 -- Outer frames whose first six values are unset: they have the form of innermost ones.
-use Rattle.std.specs.Prelude.{◌≡◌, ℕ, zero, suc, ◌+◌, ◌<◌, ◌≤◌, nat_lt, Bool, true, false, if◌then◌else◌, List, [], ◌∷◌, length, drop, slice_index, Option, Some, None, Ok, Err, refl}
+use Rattle.std.specs.Prelude.{◌≡◌, ℕ, zero, suc, ◌+◌, ◌<◌, ◌≤◌, nat_lt, Bool, true, false, if◌then◌else◌, List, [], ◌∷◌, length, drop, Option, Some, None, Ok, Err, refl}
 use Rattle.std.proofs.Common.{ap, subst, sym, arith}
 use Rattle.byteorder.specs.Endian.{little_number}
 use Rattle.reg_state.specs.declared.kinds.Kind.{Kind}

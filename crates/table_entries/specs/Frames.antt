@@ -6,6 +6,7 @@ use Rattle.reg_state.specs.declared.kinds.Kind.TheVariants.{Unset}
 use Rattle.stack_state.specs.declared.slots.Slot.{Slot}
 use Rattle.stack_state.specs.declared.states.AbstractFrame.{AbstractFrame}
 use Rattle.stack_state.specs.Meaning.{kind_at}
+use Rattle.stack_state.specs.Slots.{frame_slots}
 use Rattle.table_entries.specs.declared.stops.Stop.TheVariants.{Short}
 use Rattle.table_entries.specs.Reading.{Read, then_read, many}
 use Rattle.table_entries.specs.Values.{kind_in, slot_in}
@@ -29,12 +30,12 @@ frame_of holder outer slot (Some kinds) (Some slots) =
     if frame_allowed holder outer slot kinds then Some (record { return_slot = slot; registers = kinds; stack = record { slots = slots } }) else None
 frame_of holder outer slot kinds slots = None
 
--- u16 return slot, ten values, 64 stack slots
+-- u16 return slot, ten values, the stack slots
 unfoldable pub frame_in : ℕ → ℕ → Bool → List ℕ → Read AbstractFrame
 frame_in rows holder outer bytes =
     if nat_lt (length bytes) 2 then Err Short
     else then_read (many (λ k. kind_in rows holder) 10 0 (drop 2 bytes)) (λ kinds rest.
-    then_read (many (λ k. slot_in rows holder) 64 0 rest) (λ slots after.
+    then_read (many (λ k. slot_in rows holder) frame_slots 0 rest) (λ slots after.
     Ok (frame_of holder outer (little_number 2 bytes) kinds slots, after)))
 
 -- n outer frames

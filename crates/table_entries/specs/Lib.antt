@@ -5,3 +5,4 @@ pub mod Values
 pub mod Frames
 pub mod Entries
 pub mod Tables
+pub mod Growing

@@ -1,10 +1,11 @@
 //! Stack slots of which nothing is known, as most of a table's are.
 
 ghost use Rattle.std.specs.Prelude.{◌≡◌, ◌*◌, ◌≤◌, IsTrue, take, drop, replicate};
+ghost use Rattle.stack_state.specs.Slots.{frame_slots};
 ghost use Rattle.table_entries.specs.Blanks.{AreZeros};
 
 use crate::slices::{skip, u16_at, u32_at, u64_at};
-use stack_state::Slot;
+use stack_state::{FRAME_SLOTS, Slot};
 
 // Whether the first 32 bytes are there, and are zeros.
 #[inline(always)]
@@ -32,7 +33,7 @@ fn begins_blank(bytes: &[u8]) -> bool
 // How many slots the bytes begin with of which nothing is known, by sixteens.
 #[inline(always)]
 fn blank_sixteens(bytes: &[u8]) -> usize
-    ensures most { result ≤ 64 }
+    ensures most { result ≤ frame_slots }
     ensures zeros { AreZeros (2 * result) bytes.now }
 {
     let mut rest = bytes;
@@ -42,7 +43,7 @@ fn blank_sixteens(bytes: &[u8]) -> usize
         }
         rest = skip(rest, 32);
     }
-    64
+    FRAME_SLOTS
 }
 
 // Whether the first 8 bytes are there, and are zeros.
@@ -62,7 +63,7 @@ fn begins_with_four(bytes: &[u8]) -> bool
 /// How many slots the bytes begin with of which nothing is known, by fours: there may be more.
 #[inline(always)]
 pub fn blank_slots(bytes: &[u8]) -> usize
-    ensures most { result ≤ 64 }
+    ensures most { result ≤ frame_slots }
     ensures zeros { AreZeros (2 * result) bytes.now }
 {
     let sixteens = blank_sixteens(bytes);
@@ -107,8 +108,8 @@ fn is_blank(slot: &Slot) -> bool
 }
 
 /// Whether nothing is known of the first slots.
-pub fn are_blank(slots: &[Slot; 64], count: usize) -> bool
-    requires { count ≤ 64 }
+pub fn are_blank(slots: &[Slot; FRAME_SLOTS], count: usize) -> bool
+    requires { count ≤ frame_slots }
     ensures { IsTrue result → take count slots.now ≡ replicate count (Slot.Written 0) }
 {
     for index in 0..count {

@@ -10,7 +10,7 @@ use crate::slices::{skip, u16_at};
 use crate::stops::Stop;
 use arrayvec::ArrayVec;
 use reg_state::Kind;
-use stack_state::AbstractFrame;
+use stack_state::{AbstractFrame, MAX_CALLERS};
 
 fn is_unset(kind: &Kind) -> bool
     ensures { result ≡ is_unset kind.now }
@@ -64,7 +64,7 @@ pub fn read_callers<'a>(
     rows: usize,
     count: usize,
     bytes: &'a [u8],
-    callers: &mut ArrayVec<AbstractFrame, 7>,
+    callers: &mut ArrayVec<AbstractFrame, MAX_CALLERS>,
     free: &mut AbstractFrame,
 ) -> Result<(bool, &'a [u8]), Stop>
     requires { count < max_call_frames }

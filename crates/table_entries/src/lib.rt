@@ -9,6 +9,7 @@ pub mod blanks;
 pub mod entries;
 pub mod faults;
 pub mod frames;
+pub mod growing;
 pub mod loops;
 pub mod passing;
 pub mod slices;
@@ -19,4 +20,5 @@ pub mod values;
 
 pub use entries::{Head, Named};
 pub use faults::TableFault;
+pub use growing::Growing;
 pub use tables::Table;

@@ -1,6 +1,7 @@
-//! Ten values and 64 slots in the bytes of a table, read into a frame.
+//! Ten values and the slots of a frame in the bytes of a table, read into a frame.
 
 ghost use Rattle.std.specs.Prelude.{◌≡◌, ◌≤◌, ◌&&◌, take, replicate};
+ghost use Rattle.stack_state.specs.Slots.{frame_slots};
 ghost use Rattle.table_entries.specs.Values.{kind_in, slot_in};
 ghost use Rattle.table_entries.specs.Reading.{Gives, kept, many};
 
@@ -9,7 +10,7 @@ use crate::slices::skip;
 use crate::stops::Stop;
 use crate::values::{kind_in, slot_in};
 use reg_state::Kind;
-use stack_state::Slot;
+use stack_state::{FRAME_SLOTS, Slot};
 
 /// Whether both are so.
 pub fn both(first: bool, second: bool) -> bool
@@ -111,8 +112,8 @@ pub fn read_registers<'a>(
 }
 
 // Marks no byte of the first slots.
-fn clear(slots: &mut [Slot; 64], count: usize)
-    requires { count ≤ 64 }
+fn clear(slots: &mut [Slot; FRAME_SLOTS], count: usize)
+    requires { count ≤ frame_slots }
     ensures { take count slots.new ≡ replicate count (Slot.Written 0) }
 {
     for index in 0..count {
@@ -120,22 +121,22 @@ fn clear(slots: &mut [Slot; 64], count: usize)
     }
 }
 
-/// 64 stack slots: whether all are allowed, and the bytes after them. Most have no value, and those
-/// that come first are read many at a time.
+/// The stack slots of a frame: whether all are allowed, and the bytes after them. Most have no
+/// value, and those that come first are read many at a time.
 pub fn read_slots<'a>(
     rows: usize,
     holder: usize,
     bytes: &'a [u8],
-    slots: &mut [Slot; 64],
+    slots: &mut [Slot; FRAME_SLOTS],
 ) -> Result<(bool, &'a [u8]), Stop>
     ensures { Gives (λ x. (kept x.0 slots.new, x.1.now)) result
-        (many (λ k. slot_in rows holder) 64 0 bytes.now) }
+        (many (λ k. slot_in rows holder) frame_slots 0 bytes.now) }
 {
     let blank = blank_slots(bytes);
     clear(slots, blank);
     let mut rest = skip(bytes, 2 * blank);
     let mut allowed = true;
-    for index in blank..64 {
+    for index in blank..FRAME_SLOTS {
         let (fits, after) = read_slot(rows, holder, rest, &mut slots[index])?;
         allowed = both(allowed, fits);
         rest = after;

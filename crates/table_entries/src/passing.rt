@@ -1,7 +1,9 @@
 //! Entries passed over: whether they are allowed, and where they end.
 
-ghost use Rattle.std.specs.Prelude.{◌≡◌, ◌==◌, ◌||◌, not, false, true};
-ghost use Rattle.table_entries.specs.Values.{kind_in, slot_in};
+ghost use Rattle.std.specs.Prelude.{◌≡◌, ◌==◌, ◌||◌, ◌≤◌, not, false, true, length};
+ghost use Rattle.std.specs.Option.{is_some};
+ghost use Rattle.stack_state.specs.Slots.{frame_slots};
+ghost use Rattle.table_entries.specs.Values.{kind_in, slot_in, stack_in};
 ghost use Rattle.table_entries.specs.Frames.{frame_in, callers_in};
 ghost use Rattle.table_entries.specs.Entries.{rest_in, entry_in};
 ghost use Rattle.table_entries.specs.Reading.{Gives, seen, many};
@@ -16,6 +18,7 @@ use crate::values::{kind_in, packet_in, scalar_in, slot_in};
 use image::Image;
 use isa_model::MAX_CALL_FRAMES;
 use reg_state::Kind;
+use stack_state::FRAME_SLOTS;
 
 // A value of a kind that is rare, or not allowed, or of no kind.
 #[inline(never)]
@@ -24,6 +27,20 @@ fn pass_other(rows: usize, holder: usize, bytes: &[u8]) -> Result<(bool, &[u8]),
 {
     let (kind, rest) = kind_in(rows, holder, bytes)?;
     Ok((kind.is_some(), rest))
+}
+
+// Whether the bytes begin with a frame up to the one that holds a pointer into it.
+#[inline(always)]
+#[tactic(auto, unfolding(crate::specs::Values::stack_in))]
+fn is_stack(holder: usize, bytes: &[u8]) -> bool
+    requires { 5 ≤ length bytes.now }
+    ensures { result ≡ is_some (stack_in holder bytes.now) }
+{
+    let frame = bytes[0];
+    if usize::from(frame) > holder {
+        return false;
+    }
+    true
 }
 
 #[inline(always)]
@@ -40,6 +57,12 @@ fn pass_kind(rows: usize, holder: usize, bytes: &[u8]) -> Result<(bool, &[u8]), 
             Ok((scalar_in(rest).is_some(), skip(rest, 64)))
         }
         [2, rest @ ..] => Ok((true, rest)),
+        [3, rest @ ..] => {
+            if rest.len() < 5 {
+                return Err(Stop::Short);
+            }
+            Ok((is_stack(holder, rest), skip(rest, 5)))
+        }
         [4, rest @ ..] => {
             if rest.len() < 20 {
                 return Err(Stop::Short);
@@ -95,12 +118,12 @@ fn pass_kinds(rows: usize, holder: usize, bytes: &[u8]) -> Result<(bool, &[u8]),
 
 fn pass_slots(rows: usize, holder: usize, bytes: &[u8]) -> Result<(bool, &[u8]), Stop>
     ensures { Gives (λ x. (x.0, x.1.now)) result
-        (seen (many (λ k. slot_in rows holder) 64 0 bytes.now)) }
+        (seen (many (λ k. slot_in rows holder) frame_slots 0 bytes.now)) }
 {
     let blank = blank_slots(bytes);
     let mut rest = skip(bytes, 2 * blank);
     let mut allowed = true;
-    for index in blank..64 {
+    for index in blank..FRAME_SLOTS {
         let (fits, after) = pass_slot(rows, holder, rest)?;
         allowed = both(allowed, fits);
         rest = after;

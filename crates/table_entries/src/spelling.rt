@@ -3,8 +3,9 @@
 //! Each function answers the bytes after what it was given, if the bytes begin with its spelling.
 //! No answer says nothing.
 
-ghost use Rattle.std.specs.Prelude.{◌≡◌, ◌≤◌, ℕ, List, Some, Ok, IfSome, IsTrue, length, drop};
-ghost use Rattle.table_entries.specs.Values.{bits_in, wide_in, low_in, scalar_in, kind_in, packet_in, slot_in};
+ghost use Rattle.std.specs.Prelude.{◌≡◌, ◌≤◌, Some, Ok, IfSome, IsTrue, length, drop};
+ghost use Rattle.stack_state.specs.Slots.{frame_slots};
+ghost use Rattle.table_entries.specs.Values.{bits_in, wide_in, low_in, scalar_in, kind_in, packet_in, slot_in, stack_in};
 ghost use Rattle.table_entries.specs.Frames.{frame_in, callers_in};
 ghost use Rattle.table_entries.specs.Entries.{entry_in, entry_of, rest_in};
 ghost use Rattle.table_entries.specs.Reading.{many};
@@ -13,12 +14,12 @@ use crate::blanks::{are_blank, blank_slots};
 use crate::entries::{Head, head_allowed, named_in};
 use crate::frames::frame_allowed;
 use crate::slices::{skip, u16_at, u32_at, u64_at};
-use crate::values::{kind_in, packet_in};
+use crate::values::{kind_in, packet_in, stack_in};
 use image::Image;
 use known_bits::Bits;
 use ranges::{Low, Wide};
 use reg_state::{Kind, Scalar};
-use stack_state::{AbstractFrame, Slot, State};
+use stack_state::{AbstractFrame, FRAME_SLOTS, Slot, State};
 
 #[inline(always)]
 fn are_bits(bytes: &[u8], bits: &Bits) -> bool
@@ -180,6 +181,34 @@ fn after_packet<'a>(bytes: &'a [u8], kind: &Kind) -> Option<&'a [u8]>
     }
 }
 
+// A pointer into a call frame.
+#[inline(always)]
+fn after_stack<'a>(holder: usize, bytes: &'a [u8], kind: &Kind) -> Option<&'a [u8]>
+    ensures { IfSome result
+        (λ rest. (5 ≤ length bytes.now) × (stack_in holder bytes.now ≡ Some kind.now)
+        × (rest.now ≡ drop 5 bytes.now)) }
+{
+    if bytes.len() < 5 {
+        return None;
+    }
+    match (stack_in(holder, bytes), kind) {
+        (
+            Some(Kind::Stack { frame, offset }),
+            Kind::Stack {
+                frame: a,
+                offset: b,
+            },
+        ) => {
+            if frame == *a && offset == *b {
+                Some(skip(bytes, 5))
+            } else {
+                None
+            }
+        }
+        _ => None,
+    }
+}
+
 // A value of a kind that is rare.
 #[inline(never)]
 fn after_other<'a>(rows: usize, holder: usize, bytes: &'a [u8], kind: &Kind) -> Option<&'a [u8]>
@@ -208,6 +237,7 @@ fn after_kind<'a>(rows: usize, holder: usize, bytes: &'a [u8], kind: &Kind) -> O
         (Kind::Unset, [0, rest @ ..]) => Some(rest),
         (Kind::Number(numbers), [1, rest @ ..]) => after_number(rest, numbers),
         (Kind::Context, [2, rest @ ..]) => Some(rest),
+        (Kind::Stack { .. }, [3, rest @ ..]) => after_stack(holder, rest, kind),
         (Kind::Packet { .. }, [4, rest @ ..]) => after_packet(rest, kind),
         (Kind::PacketEnd, [5, rest @ ..]) => Some(rest),
         _ => after_other(rows, holder, bytes, kind),
@@ -250,9 +280,9 @@ fn after_slots<'a>(
     rows: usize,
     holder: usize,
     bytes: &'a [u8],
-    slots: &[Slot; 64],
+    slots: &[Slot; FRAME_SLOTS],
 ) -> Option<&'a [u8]>
-    ensures { IfSome result (λ rest. many (λ k. slot_in rows holder) 64 0 bytes.now
+    ensures { IfSome result (λ rest. many (λ k. slot_in rows holder) frame_slots 0 bytes.now
         ≡ Ok (Some slots.now, rest.now)) }
 {
     let blank = blank_slots(bytes);
@@ -260,7 +290,7 @@ fn after_slots<'a>(
         return None;
     }
     let mut rest = skip(bytes, 2 * blank);
-    for index in blank..64 {
+    for index in blank..FRAME_SLOTS {
         rest = after_slot(rows, holder, rest, &slots[index])?;
     }
     Some(rest)
@@ -299,11 +329,16 @@ fn after_callers<'a>(rows: usize, bytes: &'a [u8], callers: &[AbstractFrame]) ->
     Some(rest)
 }
 
-// The frames, and then what the entry says beside its state.
-fn rest_of(image: &Image, number: u32, bytes: &[u8], state: &State) -> Option<Head>
-    ensures { IfSome result (λ head. (rest : List ℕ)
-        × (rest_in image.now number state.now.slot (length state.now.callers.items) bytes.now
-        ≡ Ok (Some (entry_of head state.now), rest))) }
+// The frames, and then what the entry says beside its state, and the bytes after it.
+fn after_rest<'a>(
+    image: &Image,
+    number: u32,
+    bytes: &'a [u8],
+    state: &State,
+) -> Option<(Head, &'a [u8])>
+    ensures { IfSome result (λ x. rest_in image.now number state.now.slot
+        (length state.now.callers.items) bytes.now
+        ≡ Ok (Some (entry_of x.0 state.now), x.1.now)) }
 {
     let rows = image.maps().len();
     let callers = state.callers.as_slice();
@@ -313,16 +348,21 @@ fn rest_of(image: &Image, number: u32, bytes: &[u8], state: &State) -> Option<He
         return None;
     }
     match named_in(rest) {
-        Ok((named, _)) => Some(Head { number, named }),
+        Ok((named, after)) => Some((Head { number, named }, after)),
         Err(_) => None,
     }
 }
 
-/// What the entry that the bytes begin with says beside its state, if they spell this one.
+/// What the entry that the bytes begin with says beside its state, if they spell this one, and the
+/// bytes after it.
 #[tactic(auto, unfolding(crate::specs::Entries::entry_in))]
-pub fn head_of(image: &Image, bytes: &[u8], state: &State) -> Option<Head>
-    ensures { IfSome result (λ head. (rest : List ℕ)
-        × (entry_in image.now bytes.now ≡ Ok (Some (entry_of head state.now), rest))) }
+pub(crate) fn after_entry<'a>(
+    image: &Image,
+    bytes: &'a [u8],
+    state: &State,
+) -> Option<(Head, &'a [u8])>
+    ensures { IfSome result (λ x. entry_in image.now bytes.now
+        ≡ Ok (Some (entry_of x.0 state.now), x.1.now)) }
 {
     if bytes.len() < 7 {
         return None;
@@ -334,5 +374,5 @@ pub fn head_of(image: &Image, bytes: &[u8], state: &State) -> Option<Head>
     if usize::from(u16_at(bytes, 4)) != state.slot {
         return None;
     }
-    rest_of(image, u32_at(bytes, 0), skip(bytes, 7), state)
+    after_rest(image, u32_at(bytes, 0), skip(bytes, 7), state)
 }

@@ -1,18 +1,19 @@
 //! Tables: their bytes, and where in them the entries begin.
 
-ghost use Rattle.std.specs.Prelude.{◌≡◌, ◌⊎◌, ◌≤◌, List, Some, None, Ok, Err, MatchResult, MatchOption, OnOk, IfErr, IfSome, length, drop, [], ◌∷◌, ◌++◌};
+ghost use Rattle.std.specs.Prelude.{◌≡◌, ◌⊎◌, ◌≤◌, ◌-◌, IsTrue, false, List, Some, None, Ok, Err, MatchResult, MatchOption, OnOk, IfErr, IfSome, length, drop, [], ◌∷◌, ◌++◌};
 ghost use Rattle.table_entries.specs.Reading.{seen};
 ghost use Rattle.isa_model.specs.Code.Instructions.{Program};
 ghost use Rattle.table_entries.specs.Entries.{Entry, IsAllowed, entry_in, entry_of};
 ghost use Rattle.table_entries.specs.declared.entries.Head.{Head};
 ghost use Rattle.table_entries.specs.declared.stops.Stop.{Stop};
+ghost use Rattle.table_entries.specs.Growing.{with_place};
 ghost use Rattle.table_entries.specs.Tables.{Kept, Holds, table_read, entry_at, count_of, ArePlaced, count_in, body_in, fault_of, earlier};
 
 use crate::entries::{Head, read_entry};
 use crate::faults::TableFault;
 use crate::passing::pass_entry;
 use crate::slices::{skip, u32_at};
-use crate::spelling::head_of;
+use crate::spelling::after_entry;
 use crate::stops::Stop;
 use image::Image;
 use isa_model::MAX_EXPLORED;
@@ -40,7 +41,7 @@ impl<'a> Model for Table<'a> {
 }
 
 // What is wrong with the first bytes, or how many entries there are.
-fn count_in(bytes: &[u8]) -> Result<usize, TableFault>
+pub(crate) fn count_in(bytes: &[u8]) -> Result<usize, TableFault>
     ensures { MatchResult result (λ count. count_in bytes.now ≡ Ok count)
         (λ fault. count_in bytes.now ≡ Err fault) }
 {
@@ -164,6 +165,29 @@ impl<'a> Table<'a> {
         }
     }
 
+    /// A table of those bytes, with no entries.
+    pub(crate) fn empty(alloc: Global, bytes: &'a [u8]) -> Table<'a>
+        ensures { result ≡ record { bytes = bytes.now; places = [] } }
+    {
+        Table {
+            bytes,
+            places: Vec::new(alloc),
+        }
+    }
+
+    /// Gives it an entry that begins where the last bytes do, if there is room for that.
+    pub(crate) fn place(&mut self, left: usize) -> bool
+        requires { left ≤ length self.old.bytes }
+        ensures placed { IsTrue result
+            → self.new ≡ with_place self.old (length self.old.bytes - left) }
+        ensures left { result ≡ false → self.new ≡ self.old }
+    {
+        match self.places.push(self.bytes.len() - left) {
+            Ok(()) => true,
+            Err(_) => false,
+        }
+    }
+
     /// How many entries there are.
     pub fn len(&self) -> usize
         ensures { result ≡ count_of self.now }
@@ -212,6 +236,7 @@ impl<'a> Table<'a> {
             (λ head. entry_at image.now self.now index ≡ Some (entry_of head state.now)) }
     {
         let place = *self.places.get(index)?;
-        head_of(image, bytes_from(self.bytes, place), state)
+        let (head, _) = after_entry(image, bytes_from(self.bytes, place), state)?;
+        Some(head)
     }
 }

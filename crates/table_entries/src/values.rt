@@ -194,7 +194,8 @@ pub fn packet_in(bytes: &[u8]) -> Option<Kind>
 }
 
 #[tactic(auto, unfolding(crate::specs::Values::stack_in))]
-fn stack_in(holder: usize, bytes: &[u8]) -> Option<Kind>
+#[inline(always)]
+pub fn stack_in(holder: usize, bytes: &[u8]) -> Option<Kind>
     requires { 5 ≤ length bytes.now }
     ensures { result ≡ stack_in holder bytes.now }
 {

@@ -1,0 +1,11 @@
+use Rattle.std.proofs.Common.{◌≡◌}
+use Rattle.table_entries.specs.Tables.{count_of}
+use Rattle.table_entries.specs.Growing.{Grows}
+use Rattle.table_entries.proofs.growing.Growing.pass_to.Given as goal
+
+-- as many entries are placed as were counted
+abbrev pub invariant-loop : goal.invariant-loop
+invariant-loop l = record {
+  grows : Grows l.image l.fn.self l.self;
+  placed : count_of l.self.table ≡ l.counter;
+}

@@ -1,0 +1,179 @@
+//! Tables whose entries are placed as they are asked for.
+//!
+//! An entry whose bytes spell a state that is at hand ends where its spelling does, so it is placed
+//! without a look at its fields. Others are passed over.
+
+ghost use Rattle.std.specs.Prelude.{◌≡◌, ◌<◌, ◌≤◌, ◌+◌, ◌-◌, IsTrue, IfSome, Some, false, length, [], drop};
+ghost use Rattle.isa_model.specs.Code.Instructions.{Program};
+ghost use Rattle.table_entries.specs.Entries.{IsAllowed, entry_of};
+ghost use Rattle.table_entries.specs.Tables.{entry_at, count_of};
+ghost use Rattle.table_entries.specs.Growing.{IsBegun, MayGrow, Grows, with_place};
+
+use crate::entries::Head;
+use crate::passing::pass_entry;
+use crate::slices::skip;
+use crate::spelling::after_entry;
+use crate::tables::{Table, count_in};
+use image::Image;
+use reg_state::Kind;
+use stack_state::State;
+use std::alloc::Global;
+use std::marker::Model;
+
+/// A table of which the first entries are placed: their bytes are of the form, with every field
+/// allowed. It asks for 8 bytes as an entry is placed.
+///
+/// Contracts see the table of those entries, the bytes after them, and how many entries the head
+/// says that there are.
+#[derive(Drop)]
+pub struct Growing<'a> {
+    table: Table<'a>,
+    rest: &'a [u8],
+    count: usize,
+}
+
+impl<'a> Model for Growing<'a> {
+    ghost use Rattle.table_entries.specs.Growing.{Grown};
+
+    ghost Value = { Grown };
+
+    ghost view = { λ g. record { table = g.table; rest = g.rest.now; count = g.count } };
+}
+
+impl<'a> Growing<'a> {
+    /// The table that the bytes say they are, with no entry placed yet. None: their head is not of
+    /// the form.
+    pub fn begin(alloc: Global, bytes: &'a [u8]) -> Option<Growing<'a>>
+        ensures bytes { IfSome result (λ growing. growing.table.bytes ≡ bytes.now) }
+        ensures begun { IfSome result (λ growing. (p : Program) → IsBegun p growing) }
+    {
+        match count_in(bytes) {
+            Ok(count) => Some(Growing {
+                table: Table::empty(alloc, bytes),
+                rest: skip(bytes, 8),
+                count,
+            }),
+            Err(_) => None,
+        }
+    }
+
+    /// The same of a table that is read: all its entries are placed.
+    pub fn of(table: Table<'a>) -> Growing<'a>
+        ensures { result ≡ record {
+          table = table.entry;
+          rest = [];
+          count = count_of table.entry;
+        } }
+    {
+        let count = table.len();
+        Growing {
+            table,
+            rest: &[],
+            count,
+        }
+    }
+
+    /// The table of the entries that are placed.
+    pub fn placed(&self) -> &Table<'a>
+        ensures { result.now ≡ self.now.table }
+    {
+        &self.table
+    }
+
+    /// How many entries the table says that it has.
+    pub fn count(&self) -> usize
+        ensures { result ≡ self.now.count }
+    {
+        self.count
+    }
+
+    /// Whether all entries are placed, and no bytes are left over.
+    pub fn is_whole(&self) -> bool
+        ensures { IsTrue result → (count_of self.now.table ≡ self.now.count)
+            × (length self.now.rest ≡ 0) }
+    {
+        self.table.len() == self.count && self.rest.is_empty()
+    }
+
+    // Places the next entry, before those bytes.
+    fn place(&mut self, after: &'a [u8]) -> bool
+        requires { length self.old.rest ≤ length self.old.table.bytes }
+        ensures placed { IsTrue result → self.new ≡ record {
+          table = with_place self.old.table (length self.old.table.bytes - length self.old.rest);
+          rest = after.now;
+          count = self.old.count;
+        } }
+        ensures left { result ≡ false → self.new ≡ self.old }
+    {
+        if self.table.place(self.rest.len()) {
+            self.rest = after;
+            true
+        } else {
+            false
+        }
+    }
+
+    // Passes over the next entry, if it is allowed.
+    fn pass_next(&mut self, image: &Image, room: &mut [Kind; 10]) -> bool
+        requires begun { IsBegun image.now self.old }
+        requires more { count_of self.old.table < self.old.count }
+        ensures grows { Grows image.now self.old self.new }
+        ensures next { IsTrue result → count_of self.new.table ≡ count_of self.old.table + 1 }
+    {
+        match pass_entry(image, self.rest, room) {
+            Ok((true, after)) => self.place(after),
+            _ => false,
+        }
+    }
+
+    // Passes over the entries up to one that is not placed yet.
+    fn pass_to(&mut self, image: &Image, index: usize) -> bool
+        requires begun { IsBegun image.now self.old }
+        requires later { count_of self.old.table ≤ index }
+        requires inside { index < self.old.count }
+        ensures grows { Grows image.now self.old self.new }
+        ensures there { IsTrue result → index < count_of self.new.table }
+    {
+        let mut room = [Kind::Unset; 10];
+        for _ in self.table.len()..index + 1 {
+            if !self.pass_next(image, &mut room) {
+                return false;
+            }
+        }
+        true
+    }
+
+    /// Places the entries up to that index: whether it is placed then.
+    ///
+    /// The image is the one with which other entries were placed.
+    pub fn reach(&mut self, image: &Image, index: usize) -> bool
+        requires { MayGrow image.now self.old }
+        ensures grows { Grows image.now self.old self.new }
+        ensures there { IsTrue result → index < count_of self.new.table }
+        ensures found { index < count_of self.old.table → IsTrue result }
+    {
+        if index < self.table.len() {
+            return true;
+        }
+        if index >= self.count {
+            return false;
+        }
+        self.pass_to(image, index)
+    }
+
+    /// What the entry of that index says beside its state, if it is the next one to be placed, and
+    /// its bytes spell this state: then it is placed. None says nothing.
+    pub fn take(&mut self, image: &Image, index: usize, state: &State) -> Option<Head>
+        requires { MayGrow image.now self.old }
+        ensures grows { Grows image.now self.old self.new }
+        ensures allowed { IfSome result (λ head. IsAllowed image.now head.number state.now.slot) }
+        ensures entry { IfSome result
+            (λ head. entry_at image.now self.new.table index ≡ Some (entry_of head state.now)) }
+    {
+        if index != self.table.len() || index >= self.count {
+            return None;
+        }
+        let (head, after) = after_entry(image, self.rest, state)?;
+        if self.place(after) { Some(head) } else { None }
+    }
+}
