@@ -6,9 +6,11 @@ ghost use Rattle.isa_model.specs.Code.Limits.{max_steps};
 ghost use Rattle.isa_model.specs.Running.Runs.{turn};
 ghost use Rattle.isa_model.specs.Reporting.Reports.{starting_contents};
 ghost use Rattle.maps.specs.Maps.{rows_of, contents_of};
+ghost use Rattle.checked_vm.specs.Stops.{stop_of};
 
 use crate::core_state::Core;
 use crate::errors::VmError;
+use crate::stops::Stop;
 use image::Image;
 use isa_model::{Clock, End, FrameHead, Version};
 use live_maps::LiveMaps;
@@ -107,6 +109,48 @@ impl Checked {
         let version = version_of(&self.image);
         self.core
             .run(self.image.code(), version, head, packet, clock, limit)
+    }
+
+    /// Runs the program as `run` does, and answers where the run stopped.
+    #[tactic(auto, unfolding(crate::specs::Stops::stop_of))]
+    pub fn run_to_stop<C: Clock>(
+        &mut self,
+        head: FrameHead,
+        packet: &mut [u8],
+        clock: &mut C,
+        limit: u32,
+    ) -> Stop
+        requires short { length packet.old ≤ max_packet }
+        requires some { 1 ≤ limit }
+        requires most { limit ≤ max_steps }
+        ensures stop { result
+            ≡ stop_of self.old.program limit (C.at clock.old) head packet.old self.old.contents }
+        ensures ends { result.end
+            ≡ (turn self.old.program limit (C.at clock.old) head packet.old
+            self.old.contents).ends }
+        ensures packet { packet.new
+            ≡ (turn self.old.program limit (C.at clock.old) head packet.old
+            self.old.contents).packet }
+        ensures contents { self.new.contents
+            ≡ (turn self.old.program limit (C.at clock.old) head packet.old
+            self.old.contents).contents }
+        ensures program { self.new.program ≡ self.old.program }
+        ensures clock { (k : ℕ) → C.at clock.new k
+            ≡ C.at clock.old ((turn self.old.program limit (C.at clock.old) head packet.old
+            self.old.contents).clock_calls + k) }
+    {
+        let _slots = self.image.slots();
+        let version = version_of(&self.image);
+        let end = self
+            .core
+            .run(self.image.code(), version, head, packet, clock, limit);
+        let slot = self.core.slot;
+        Stop {
+            end,
+            slot,
+            insn: self.image.at(slot).copied(),
+            registers: self.core.regs,
+        }
     }
 
     /// Gives the maps back.

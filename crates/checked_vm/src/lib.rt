@@ -19,7 +19,9 @@ mod places;
 mod reads;
 mod runs;
 mod steps;
+pub mod stops;
 mod values;
 
 pub use checked::Checked;
 pub use errors::VmError;
+pub use stops::Stop;

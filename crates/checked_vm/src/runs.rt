@@ -5,10 +5,11 @@ ghost use Rattle.isa_model.specs.Code.Instructions.{Program};
 ghost use Rattle.isa_model.specs.Machine.States.{entries_of};
 ghost use Rattle.isa_model.specs.Code.Limits.{max_call_frames};
 ghost use Rattle.isa_model.specs.Machine.Steps.{step};
-ghost use Rattle.isa_model.specs.Running.Runs.{progress, turn_of, left, turn};
+ghost use Rattle.isa_model.specs.Running.Runs.{progress, turn_of, left, turn, start_state};
 ghost use Rattle.checked_vm.specs.Machine.{state_of, NamesAllRows, IsRunning, StaysRunning};
 ghost use Rattle.checked_vm.specs.declared.steps.Stepped.{Stepped};
 ghost use Rattle.checked_vm.specs.Outcomes.{IsStep, Answers};
+ghost use Rattle.checked_vm.specs.Stops.{state_at};
 
 use crate::core_state::Core;
 use crate::steps::Stepped;
@@ -87,6 +88,10 @@ impl Core {
             → p.version ≡ version →
             turn_of (progress p (C.at clock.old) limit (state_of self.old packet.old))
             ≡ left result (state_of self.new packet.new) }
+        ensures stop { (p : Program) → p.insns ≡ insns.now → p.maps ≡ self.old.maps.rows
+            → p.version ≡ version →
+            state_at (progress p (C.at clock.old) limit (state_of self.old packet.old))
+            ≡ state_of self.new packet.new }
     {
         for done in 0..limit {
             match self.step_with(insns, version, packet, clock) {
@@ -121,6 +126,11 @@ impl Core {
               contents = map entries_of self.new.maps.contents;
               clock_calls = self.new.clock_calls;
             } }
+        ensures stop { (p : Program) → p.insns ≡ insns.now → p.maps ≡ self.old.maps.rows
+            → p.version ≡ version →
+            state_at (progress p (C.at clock.old) limit
+            (start_state head packet.old (map entries_of self.old.maps.contents)))
+            ≡ state_of self.new packet.new }
         ensures clock { (k : ℕ) → C.at clock.new k ≡ C.at clock.old (self.new.clock_calls + k) }
         ensures room { vec_capacity self.new.frames ≡ max_call_frames }
         ensures rows { self.new.maps.rows ≡ self.old.maps.rows }

@@ -1,5 +1,5 @@
 -- What the runs of a program write.
-use Rattle.std.proofs.Common.{◌≡◌, ℕ, ◌+◌, List, [], ◌∷◌, ◌++◌, length, Option, Result, Err, refl, sym, ap, ◌∙◌, subst, append_assoc, ◌⊎◌, inl, inr}
+use Rattle.std.proofs.Common.{◌≡◌, ℕ, ◌+◌, List, [], ◌∷◌, ◌++◌, length, Option, Result, Ok, Err, IfOk, refl, sym, ap, ◌∙◌, subst, append_assoc, ◌⊎◌, inl, inr}
 use Rattle.isa_model.specs.declared.frames.FrameHead.{FrameHead}
 use Rattle.isa_model.specs.declared.map_defs.MapDef.{MapDef}
 use Rattle.isa_model.specs.declared.ends.End.TheVariants.{Exit}
@@ -22,7 +22,10 @@ use Rattle.machine.specs.Running.{Running, Answers}
 use Rattle.checked_vm.specs.Machines.{Running as Checking}
 use Rattle.host.specs.declared.errors.HostError.{HostError}
 use Rattle.host.specs.declared.tallies.Tally.{Tally}
-use Rattle.host.specs.Writing.{Outputs, WroteBefore}
+use Rattle.host.specs.declared.traced.Traced.{Traced}
+use Rattle.host.specs.Stops.{Noted, Noting, nothing_noted, checked_notes, TellsNoted, TellsTraced}
+use Rattle.host.specs.Tallies.{tallied, TellsTally}
+use Rattle.host.specs.Writing.{Outputs, WroteBefore, Writes}
 use Rattle.host.specs.Reported.{Reports, ReportsBy, front_in}
 use Rattle.host.specs.Accepted.{ReportsRun, RunsWhole, RunsFront}
 use Rattle.host.proofs.Pieces.{WroteBefore-more}
@@ -59,8 +62,8 @@ front_goes_on limit program rows rule contents v frames more finish =
     )
 
 -- what a machine with checks writes is the checked report
-pub Reports-By : (p : Program) (limit : ℕ) (source : Option (List ℕ)) (old new : Outputs) (result : Result Tally HostError)
-    → ReportsBy source limit p.version p.maps (checked_rule p limit) (starting_contents p.maps) old new result → Reports source (checked_report p limit) old new result
+pub Reports-By : (p : Program) (limit : ℕ) (source : Option (List ℕ)) (old new : Outputs) (result : Result Traced HostError)
+    → ReportsBy source limit p.version p.maps (checked_rule p limit) (starting_contents p.maps) (TellsTraced p limit) old new result → Reports source (checked_report p limit) (TellsTraced p limit) old new result
 Reports-By p limit source old new result (inl r) = inl r
 Reports-By p limit source old new result (inr (error, is, r)) = inr (
   error,
@@ -77,13 +80,17 @@ Reports-By p limit source old new result (inr (error, is, r)) = inr (
 )
 
 -- the same of the checked machine that was made of the program and its maps as they start
-pub Reports-machine : (p : Program) (limit : ℕ) (source : Option (List ℕ)) (old new : Outputs) (result : Result Tally HostError) (program : Version) (m : Checking) → program ≡ p.version
-    → m ≡ record { program = p; contents = starting_contents p.maps }
-    → ReportsBy source limit program m.program.maps (checked_rule m.program limit) m.contents old new result → Reports source (checked_report p limit) old new result
-Reports-machine p limit source old new result program m version made r =
-    let versioned = subst (λ (v : Version). ReportsBy source limit v m.program.maps (checked_rule m.program limit) m.contents old new result) version r in
+abbrev TellsOf : Checking → ℕ → Noted → Stream → Traced → Type 0
+TellsOf m limit noted = TellsNoted (checked_notes m.program limit) (checked_rule m.program limit) noted m.contents
+
+pub Reports-machine : (p : Program) (limit : ℕ) (source : Option (List ℕ)) (old new : Outputs) (result : Result Traced HostError) (program : Version) (m : Checking) (noted : Noted) → program ≡ p.version
+    → m ≡ record { program = p; contents = starting_contents p.maps } → noted ≡ nothing_noted
+    → ReportsBy source limit program m.program.maps (checked_rule m.program limit) m.contents (TellsOf m limit noted) old new result → Reports source (checked_report p limit) (TellsTraced p limit) old new result
+Reports-machine p limit source old new result program m noted version made none r =
+    let versioned = subst (λ (v : Version). ReportsBy source limit v m.program.maps (checked_rule m.program limit) m.contents (TellsOf m limit noted) old new result) version r in
+    let nothing = subst (λ (x : Noted). ReportsBy source limit p.version m.program.maps (checked_rule m.program limit) m.contents (TellsOf m limit x) old new result) none versioned in
     Reports-By p limit source old new result
-    (subst (λ (q : Checking). ReportsBy source limit p.version q.program.maps (checked_rule q.program limit) q.contents old new result) made versioned)
+    (subst (λ (q : Checking). ReportsBy source limit p.version q.program.maps (checked_rule q.program limit) q.contents (TellsOf q limit nothing_noted) old new result) made nothing)
 
 -- the report of a stream, and the exits of its frames' runs
 reported : (a : Bounded) (found : Stream) → IsVerified a → AreOpen found.version found.frames
@@ -93,10 +100,10 @@ reported a found h open_here =
 
 -- what was written of an accepted program's turns is its report
 pub ReportsRun-By : (a : Bounded) (source : Option (List ℕ)) (old new : Outputs) (result : Result Tally HostError) → IsVerified a
-    → ReportsBy source a.bound a.program.version a.program.maps (checked_rule a.program a.bound) (starting_contents a.program.maps) old new result → ReportsRun a source old new result
+    → ReportsBy source a.bound a.program.version a.program.maps (checked_rule a.program a.bound) (starting_contents a.program.maps) TellsTally old new result → ReportsRun a source old new result
 ReportsRun-By a source old new result h r = record { some = h.some; most = h.most; reports = go r }
   where
-    go : ReportsBy source a.bound a.program.version a.program.maps (checked_rule a.program a.bound) (starting_contents a.program.maps) old new result
+    go : ReportsBy source a.bound a.program.version a.program.maps (checked_rule a.program a.bound) (starting_contents a.program.maps) TellsTally old new result
         → RunsWhole a source old new result ⊎ ((error : HostError) × (result ≡ Err error) × RunsFront a source old new error)
     go (inl r) =
         let (is_report, exits) = reported a r.found h r.are_open in
@@ -127,14 +134,36 @@ ReportsRun-By a source old new result h r = record { some = h.some; most = h.mos
           },
         )
 
+-- what is noted of frames aside
+Writes-tallied : (old new : Outputs) (result : Result Traced HostError) (pieces : List Piece) → Writes old new result pieces → Writes old new (tallied result) pieces
+Writes-tallied old new (Ok traced) pieces w = w
+Writes-tallied old new (Err e) pieces w = w
+
+tells-tallied : (notes : Noting) (rule : Rule) (noted : Noted) (contents : List Entries) (found : Stream) (result : Result Traced HostError)
+    → IfOk result (TellsNoted notes rule noted contents found) → IfOk (tallied result) (TellsTally found)
+tells-tallied notes rule noted contents found (Ok traced) h = h.0
+tells-tallied notes rule noted contents found (Err e) h = tt
+
+ReportsBy-tallied : (source : Option (List ℕ)) (limit : ℕ) (program : Version) (rows : List MapDef) (rule : Rule) (contents : List Entries) (notes : Noting) (noted : Noted) (old new : Outputs) (result : Result Traced HostError)
+    → ReportsBy source limit program rows rule contents (TellsNoted notes rule noted contents) old new result → ReportsBy source limit program rows rule contents TellsTally old new (tallied result)
+ReportsBy-tallied source limit program rows rule contents notes noted old new result (inl r) = inl (record {
+  found = r.found;
+  are_open = r.are_open;
+  read = r.read;
+  writes = Writes-tallied old new result _ r.writes;
+  tells = tells-tallied notes rule noted contents r.found result r.tells;
+})
+ReportsBy-tallied source limit program rows rule contents notes noted old new result (inr (error, is, r)) = inr (error, ap tallied is, r)
+
 -- the same of the machine that was made of the program and its maps as they start, with its bound as the limit
-pub ReportsRun-machine : (a : Bounded) (source : Option (List ℕ)) (old new : Outputs) (result : Result Tally HostError) (limit : ℕ) (program : Version) (contents : List Entries) (m : Running) → IsVerified a
+pub ReportsRun-machine : (a : Bounded) (source : Option (List ℕ)) (old new : Outputs) (result : Result Traced HostError) (limit : ℕ) (program : Version) (contents : List Entries) (m : Running) (notes : Noting) (noted : Noted) → IsVerified a
     → limit ≡ a.bound → program ≡ a.program.version → contents ≡ starting_contents a.program.maps → m ≡ record { program = a.program; bound = a.bound; contents = contents }
-    → ReportsBy source limit program m.program.maps (checked_rule m.program m.bound) m.contents old new result
-    → ReportsRun a source old new result
-ReportsRun-machine a source old new result limit program contents m h bound version start made r =
-    let bounded = subst (λ n. ReportsBy source n program m.program.maps (checked_rule m.program m.bound) m.contents old new result) bound r in
-    let versioned = subst (λ (v : Version). ReportsBy source a.bound v m.program.maps (checked_rule m.program m.bound) m.contents old new result) version bounded in
-    let by_program = subst (λ (q : Running). ReportsBy source a.bound a.program.version q.program.maps (checked_rule q.program q.bound) q.contents old new result) made versioned in
-    ReportsRun-By a source old new result h
-    (subst (λ (c : List Entries). ReportsBy source a.bound a.program.version a.program.maps (checked_rule a.program a.bound) c old new result) start by_program)
+    → ReportsBy source limit program m.program.maps (checked_rule m.program m.bound) m.contents (TellsNoted notes (checked_rule m.program m.bound) noted m.contents) old new result
+    → ReportsRun a source old new (tallied result)
+ReportsRun-machine a source old new result limit program contents m notes noted h bound version start made r =
+    let tallied_only = ReportsBy-tallied source limit program m.program.maps (checked_rule m.program m.bound) m.contents notes noted old new result r in
+    let bounded = subst (λ n. ReportsBy source n program m.program.maps (checked_rule m.program m.bound) m.contents TellsTally old new (tallied result)) bound tallied_only in
+    let versioned = subst (λ (v : Version). ReportsBy source a.bound v m.program.maps (checked_rule m.program m.bound) m.contents TellsTally old new (tallied result)) version bounded in
+    let by_program = subst (λ (q : Running). ReportsBy source a.bound a.program.version q.program.maps (checked_rule q.program q.bound) q.contents TellsTally old new (tallied result)) made versioned in
+    ReportsRun-By a source old new (tallied result) h
+    (subst (λ (c : List Entries). ReportsBy source a.bound a.program.version a.program.maps (checked_rule a.program a.bound) c TellsTally old new (tallied result)) start by_program)

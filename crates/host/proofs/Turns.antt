@@ -10,7 +10,7 @@ use Rattle.isa_model.specs.declared.versions.Version.TheVariants.{One, Two}
 use Rattle.isa_model.specs.Code.Versions.{stream_magic}
 use Rattle.isa_model.specs.Code.Limits.{max_body, max_packet}
 use Rattle.isa_model.specs.Machine.States.{Entries}
-use Rattle.isa_model.specs.Reporting.Streams.{Frame, max_frames, stream_with}
+use Rattle.isa_model.specs.Reporting.Streams.{Frame, Stream, max_frames, stream_with}
 use Rattle.isa_model.proofs.StreamLaws.{AreOpen-nil}
 use Rattle.isa_model.specs.Reporting.Reports.{Piece, Rule, Form, ToReport, ToFrames, turns_pieces, contents_after, turn_on, turn_pieces, contents_left, maps_pieces, last_line}
 use Rattle.frames.specs.Readers.{Position, Fresh}
@@ -19,7 +19,8 @@ use Rattle.frames.proofs.InputsLaws.{HasBegun, HasBegun-opens, HasBegun-open, Ha
 use Rattle.frames.specs.Inputs.{IsBegunVersion}
 use Rattle.host.specs.declared.errors.HostError.{HostError}
 use Rattle.host.specs.declared.errors.HostError.TheVariants as failure
-use Rattle.host.specs.declared.tallies.Tally.{Tally}
+use Rattle.host.specs.declared.traced.Traced.{Traced}
+use Rattle.host.specs.Stops.{Noted, Noting, noted_of, noted_after, TellsNoted}
 use Rattle.host.specs.Tallies.{tally_of}
 use Rattle.host.specs.Writing.{Outputs, Wrote, WroteBefore, Writes}
 use Rattle.host.specs.Reported.{front_in, ReportsBy}
@@ -106,17 +107,26 @@ module _ (form : Form) (rule : Rule) (start : List Entries) (source : Option (Li
 -- ---- the ends of a run
 
 -- pieces after pieces, of which one of the later may have failed
-Writes-append : (a b c : Outputs) (front more : List Piece) (result : Result Tally HostError) → Wrote a b front → Writes b c result more → Writes a c result (front ++ more)
-Writes-append a b c front more (Ok tally) v w = Wrote-append a b c front more v w
+Writes-append : (a b c : Outputs) (front more : List Piece) (result : Result Traced HostError) → Wrote a b front → Writes b c result more → Writes a c result (front ++ more)
+Writes-append a b c front more (Ok traced) v w = Wrote-append a b c front more v w
 Writes-append a b c front more (Err e) v w = WroteBefore-append a b c front more e v w
 
-module _ (limit : ℕ) (program : Version) (rows : List MapDef) (rule : Rule) (start : List Entries) (source : Option (List ℕ)) where
+-- two facts of what a run answers
+both : (result : Result Traced HostError) (n : ℕ) (stop : Finish) (noted : Noted) → IfOk result (λ t. t.tally ≡ tally_of n stop) → IfOk result (λ t. noted_of t.stops ≡ noted)
+    → IfOk result (λ t. (t.tally ≡ tally_of n stop) × (noted_of t.stops ≡ noted))
+both (Ok traced) n stop noted tally told = (tally, told)
+both (Err e) n stop noted tally told = tt
+
+module _ (limit : ℕ) (program : Version) (rows : List MapDef) (rule : Rule) (start : List Entries) (source : Option (List ℕ)) (notes : Noting) (none : Noted) where
+  abbrev Tells : Stream → Traced → Type 0
+  Tells = TellsNoted notes rule none start
+
   abbrev form_on : Version → Form
   form_on v = record { limit = limit; program = program; stream = v }
 
   -- the magic failed
   pub magic_failed : (v : Version) (known : Option (List ℕ)) (p : Position) (r f g : Option (List ℕ)) → HasBegun v [] source known p → AppendsBeginning f g (stream_magic v)
-      → ReportsBy source limit program rows rule start (record { report = r; frames = f }) (record { report = r; frames = g }) (Err failure.Frames)
+      → ReportsBy source limit program rows rule start Tells (record { report = r; frames = f }) (record { report = r; frames = g }) (Err failure.Frames)
   magic_failed v known p r f g (inl s) b = inr (
     failure.Frames,
     refl,
@@ -134,7 +144,7 @@ module _ (limit : ℕ) (program : Version) (rows : List MapDef) (rule : Rule) (s
     -- a turn's piece failed
     pub turn_failed : (now after : Outputs) (f : Frame) (error : HostError) → SoFar (form_on v) rule start source before frames known p number contents now → Finds p known new q (Found f)
         → WroteBefore now after (turn_pieces (form_on v) number f (turn_on rule contents f)) error
-        → ReportsBy source limit program rows rule start before after (Err error)
+        → ReportsBy source limit program rows rule start Tells before after (Err error)
     turn_failed now after f error so h w =
         let (found, early, fits) = HasBegun-found v frames source known new p q f so.begun h in
         inr (
@@ -151,12 +161,13 @@ module _ (limit : ℕ) (program : Version) (rows : List MapDef) (rule : Rule) (s
         )
 
     -- the stream stopped, and the lines of maps and the last line were written, or one of them failed
-    pub run_ended : (r s g : Option (List ℕ)) (stop : Finish) (result : Result Tally HostError)
+    pub run_ended : (r s g : Option (List ℕ)) (stop : Finish) (result : Result Traced HostError) (noted : Noted)
         → SoFar (form_on v) rule start source before frames known p number contents (record { report = r; frames = g }) → Finds p known new q (Stopped stop)
         → Writes (record { report = r; frames = g }) (record { report = s; frames = g }) result (maps_pieces 0 rows contents ++ ToReport (last_line number stop) ∷ [])
-        → IfOk result (λ tally. tally ≡ tally_of number stop)
-        → ReportsBy source limit program rows rule start before (record { report = s; frames = g }) result
-    run_ended r s g stop result so h written tally =
+        → IfOk result (λ traced. traced.tally ≡ tally_of number stop)
+        → IfOk result (λ traced. noted_of traced.stops ≡ noted) → noted ≡ noted_after notes rule none 0 start frames
+        → ReportsBy source limit program rows rule start Tells before (record { report = s; frames = g }) result
+    run_ended r s g stop result noted so h written tally told told_is =
         let now : Outputs = record { report = r; frames = g } in
         let after : Outputs = record { report = s; frames = g } in
         let front = front_in (form_on v) rule start frames in
@@ -167,5 +178,6 @@ module _ (limit : ℕ) (program : Version) (rows : List MapDef) (rule : Rule) (s
           are_open = HasBegun-open v frames source known p so.begun;
           read = HasBegun-stopped v frames source known new p q stop so.begun h;
           writes = subst (λ (c : List Entries). Writes before after result (front ++ (maps_pieces 0 rows c ++ ToReport (last_line (length frames) stop) ∷ []))) so.carried counted;
-          tells = subst (λ (n : ℕ). IfOk result (λ t. t ≡ tally_of n stop)) so.numbered tally;
+          tells = both result (length frames) stop (noted_after notes rule none 0 start frames)
+              (subst (λ (n : ℕ). IfOk result (λ t. t.tally ≡ tally_of n stop)) so.numbered tally) (subst (λ (x : Noted). IfOk result (λ t. noted_of t.stops ≡ x)) told_is told);
         })

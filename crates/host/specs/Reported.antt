@@ -9,19 +9,17 @@ use Rattle.isa_model.specs.Reporting.Streams.{Frame, Stream, stream_with, AreOpe
 use Rattle.isa_model.specs.Reporting.Reports.{Piece, ToFrames, Form, Rule, turns_pieces, report_of}
 use Rattle.frames.specs.Inputs.{AreReadFrom, IsBegunBy}
 use Rattle.host.specs.declared.errors.HostError.{HostError}
-use Rattle.host.specs.declared.tallies.Tally.{Tally}
-use Rattle.host.specs.Tallies.{tally_of}
 use Rattle.host.specs.Writing.{Outputs, Writes, WroteBefore}
 
 -- The stream was read to its end, or to a fault: it is the stream of the source's bytes, where they are known. The heads,
 -- the lengths of the bodies and the reasons fit, and the bodies are bytes. The stream's pieces were written, all of them
--- or those before one that failed, and the tally is what their last line shows.
-pub record ReportsWhole (source : Option (List ℕ)) (pieces : Stream → List Piece) (old new : Outputs) (result : Result Tally HostError) : Type 0 where
+-- or those before one that failed, and what the run answers tells of the stream what it is to tell.
+pub record ReportsWhole {X : Type 0} (source : Option (List ℕ)) (pieces : Stream → List Piece) (Tells : Stream → X → Type 0) (old new : Outputs) (result : Result X HostError) : Type 0 where
   pub found : Stream
   pub are_open : AreOpen found.version found.frames
   pub read : AreReadFrom source found
   pub writes : Writes old new result (pieces found)
-  pub tells : IfOk result (λ tally. tally ≡ tally_of (length found.frames) found.finish)
+  pub tells : IfOk result (Tells found)
 
 -- An output failed at the magic or at a frame, and no more was read: the source begins with these frames, where its bytes
 -- are known. However its stream goes on and ends, the outputs hold a beginning of that stream's report.
@@ -34,9 +32,9 @@ pub record ReportsFront (source : Option (List ℕ)) (pieces : Stream → List P
 
 -- What was written is the report of the source's stream. After a failed output it is a beginning of that report; only
 -- where the failed piece is the magic or one of a frame was the stream not read to its end or fault.
-abbrev pub Reports : Option (List ℕ) → (Stream → List Piece) → Outputs → Outputs → Result Tally HostError → Type 0
-Reports source pieces old new result =
-    ReportsWhole source pieces old new result ⊎ ((error : HostError) × (result ≡ Err error) × ReportsFront source pieces old new error)
+abbrev pub Reports : {X : Type 0} → Option (List ℕ) → (Stream → List Piece) → (Stream → X → Type 0) → Outputs → Outputs → Result X HostError → Type 0
+Reports source pieces Tells old new result =
+    ReportsWhole source pieces Tells old new result ⊎ ((error : HostError) × (result ≡ Err error) × ReportsFront source pieces old new error)
 
 -- ---- the same of a machine, which runs frames by a rule
 
@@ -52,7 +50,7 @@ pub record StopsAtFrame (source : Option (List ℕ)) (limit : ℕ) (program : Ve
   pub begun : IsBegunBy source version frames
   pub writes : WroteBefore old new (front_in (record { limit = limit; program = program; stream = version }) rule contents frames) error
 
-abbrev pub ReportsBy : Option (List ℕ) → ℕ → Version → List MapDef → Rule → List Entries → Outputs → Outputs → Result Tally HostError → Type 0
-ReportsBy source limit program rows rule contents old new result =
-    ReportsWhole source (λ found. report_of limit program rows rule contents found) old new result
+abbrev pub ReportsBy : {X : Type 0} → Option (List ℕ) → ℕ → Version → List MapDef → Rule → List Entries → (Stream → X → Type 0) → Outputs → Outputs → Result X HostError → Type 0
+ReportsBy source limit program rows rule contents Tells old new result =
+    ReportsWhole source (λ found. report_of limit program rows rule contents found) Tells old new result
     ⊎ ((error : HostError) × (result ≡ Err error) × StopsAtFrame source limit program rule contents old new error)

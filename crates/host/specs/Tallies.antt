@@ -1,9 +1,12 @@
 -- Tallies.
-use Rattle.std.specs.Prelude.{ℕ, Option, Some, None}
+use Rattle.std.specs.Prelude.{◌≡◌, ℕ, length, Option, Some, None, Result, Ok, Err}
 use Rattle.isa_model.specs.declared.streams.Fault.{Fault}
 use Rattle.isa_model.specs.declared.streams.Finish.{Finish}
 use Rattle.isa_model.specs.declared.streams.Finish.TheVariants as finish
+use Rattle.isa_model.specs.Reporting.Streams.{Stream}
+use Rattle.host.specs.declared.errors.HostError.{HostError}
 use Rattle.host.specs.declared.tallies.Tally.{Tally}
+use Rattle.host.specs.declared.traced.Traced.{Traced}
 
 -- the fault that ended a stream, and its offset
 abbrev pub fault_of : Finish → Option (Fault × ℕ)
@@ -13,3 +16,12 @@ fault_of (finish.Fault fault offset) = Some (fault, offset)
 -- what the last line shows, by the number of frames and how the stream ended
 abbrev pub tally_of : ℕ → Finish → Tally
 tally_of number stop = record { frames = number; fault = fault_of stop }
+
+-- the tally of a run with checks, if it came to its last line
+abbrev pub tallied : Result Traced HostError → Result Tally HostError
+tallied (Ok traced) = Ok traced.tally
+tallied (Err error) = Err error
+
+-- of a tally: it is what the last line of the stream's report shows
+abbrev pub TellsTally : Stream → Tally → Type 0
+TellsTally found tally = tally ≡ tally_of (length found.frames) found.finish

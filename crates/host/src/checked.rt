@@ -3,12 +3,14 @@ ghost use Rattle.std.specs.Prelude.{◌≡◌, ◌≢◌, ◌≤◌};
 ghost use Rattle.isa_model.specs.Code.Limits.{max_steps};
 ghost use Rattle.isa_model.specs.Reporting.Reports.{checked_report};
 ghost use Rattle.host.specs.Reported.{Reports};
+ghost use Rattle.host.specs.Stops.{TellsTraced};
 
 use super::clocks::FrameClock;
 use super::engine::run_frames;
 use super::errors::HostError;
 use super::runners::Runner;
-use super::tallies::Tally;
+use super::stops::Stops;
+use super::traced::Traced;
 use super::versions::version_of;
 use checked_vm::Checked;
 use image::Image;
@@ -17,17 +19,19 @@ use maps::Maps;
 use std::alloc::Global;
 use std::io::{Read, Write};
 
-// A checked machine, and the most steps of a run on one frame.
+// A checked machine, the most steps of a run on one frame, and what is noted of the frames so far.
 #[derive(Drop)]
 struct CheckedRunner {
     machine: Checked,
     limit: u32,
+    stops: Stops,
     ghost some: { 1 ≤ limit },
     ghost most: { limit ≤ max_steps },
 }
 
 impl Runner for CheckedRunner {
     ghost use Rattle.isa_model.specs.Reporting.Reports.{checked_rule};
+    ghost use Rattle.host.specs.Stops.{noted_of, checked_notes};
 
     ghost rows = { λ runner. runner.machine.program.maps };
 
@@ -35,14 +39,24 @@ impl Runner for CheckedRunner {
 
     ghost rule = { λ runner. checked_rule runner.machine.program runner.limit };
 
-    fn run(&mut self, head: FrameHead, body: &mut [u8]) -> End {
+    ghost noted = { λ runner. noted_of runner.stops };
+
+    ghost notes = { λ runner. checked_notes runner.machine.program runner.limit };
+
+    fn run(&mut self, number: u32, head: FrameHead, body: &mut [u8]) -> End {
         let mut clock = FrameClock { time: head.time };
-        self.machine.run(head, body, &mut clock, self.limit)
+        let stop = self.machine.run_to_stop(head, body, &mut clock, self.limit);
+        self.stops.note(number, stop);
+        stop.end
     }
 
-    fn into_maps(self) -> Maps {
-        let CheckedRunner { machine, limit: _ } = self;
-        machine.into_maps()
+    fn into_parts(self) -> (Maps, Stops) {
+        let CheckedRunner {
+            machine,
+            limit: _,
+            stops,
+        } = self;
+        (machine.into_maps(), stops)
     }
 }
 
@@ -50,7 +64,8 @@ impl Runner for CheckedRunner {
 /// gives, at most `limit` steps a frame. The report goes to one writer, and the frames that are
 /// sent on to the other.
 ///
-/// A frame with a reason is not run, and goes out as it came.
+/// A frame with a reason is not run, and goes out as it came. Where a run ends without an action,
+/// it is noted where it stopped.
 ///
 /// Every answer of a frame's clock is the frame's time. Memory is taken before the first byte is
 /// written, and none after that. Nothing is tried again, and after a failure nothing is written to
@@ -62,7 +77,7 @@ pub fn run_checked<R: Read + Drop, W1: Write, W2: Write>(
     source: R,
     report: &mut W1,
     out: &mut W2,
-) -> Result<Tally, HostError>
+) -> Result<Traced, HostError>
     requires some { 1 ≤ limit }
     requires most { limit ≤ max_steps }
     ensures report_untouched { result ≡ Err HostError.Memory
@@ -71,6 +86,7 @@ pub fn run_checked<R: Read + Drop, W1: Write, W2: Write>(
         → W2.contents out.new ≡ W2.contents out.old }
     ensures reports { result ≢ Err HostError.Memory
         → Reports (R.remaining source) (checked_report image limit)
+        (TellsTraced image limit)
         record { report = W1.contents report.old; frames = W2.contents out.old }
         record { report = W1.contents report.new; frames = W2.contents out.new } result }
 {
@@ -78,6 +94,10 @@ pub fn run_checked<R: Read + Drop, W1: Write, W2: Write>(
     let Ok(machine) = Checked::new(alloc, image) else {
         return Err(HostError::Memory);
     };
-    let runner = CheckedRunner { machine, limit };
+    let runner = CheckedRunner {
+        machine,
+        limit,
+        stops: Stops::new(),
+    };
     run_frames(runner, limit, program, source, report, out)
 }

@@ -3,6 +3,7 @@ ghost use Rattle.std.specs.Prelude.{◌≡◌, ◌≢◌, ◌≤◌, [], ◌∷�
 ghost use Rattle.isa_model.specs.Code.Limits.{max_body};
 ghost use Rattle.isa_model.specs.Reporting.Reports.{ToReport, maps_pieces, last_line, frame_pieces, skip_pieces, turn_pieces, turn_on, contents_left};
 ghost use Rattle.host.specs.Forms.{form_by};
+ghost use Rattle.host.specs.Stops.{noted_of, noted_on, TellsNoted};
 ghost use Rattle.host.specs.Tallies.{tally_of};
 ghost use Rattle.host.specs.Writing.{Writes, WritesReport};
 ghost use Rattle.host.specs.Reported.{ReportsBy};
@@ -15,6 +16,7 @@ use super::reasons::{end_reason, is_written};
 use super::records::write_magic;
 use super::runners::Runner;
 use super::tallies::Tally;
+use super::traced::Traced;
 use super::versions::version_begun;
 use frames::{FrameReader, Next, write_record, write_whole};
 use isa_model::{Finish, FrameHead, MAX_PACKET, Version};
@@ -45,12 +47,16 @@ fn run_frame<M: Runner, W1: Write, W2: Write>(
         (M.rule machine.old frame.head body.old (M.contents machine.old))) }
     ensures contents { M.contents machine.new
         ≡ (M.rule machine.old frame.head body.old (M.contents machine.old)).contents }
+    ensures noted { M.noted machine.new
+        ≡ M.notes machine.old (M.noted machine.old) frame.number frame.head body.old
+        (M.contents machine.old) }
+    ensures notes { M.notes machine.new ≡ M.notes machine.old }
     ensures rule { M.rule machine.new ≡ M.rule machine.old }
     ensures rows { M.rows machine.new ≡ M.rows machine.old }
     ensures made { result ≢ Err HostError.Memory }
 {
     let size = body.len();
-    let end = machine.run(frame.head, body);
+    let end = machine.run(frame.number, frame.head, body);
     let line = line_of_frame(form, frame.number, end, size);
     match write_whole(report, line.as_str().as_bytes()) {
         Ok(()) => {}
@@ -111,6 +117,11 @@ fn take_frame<M: Runner, W1: Write, W2: Write>(
     ensures contents { M.contents machine.new ≡ contents_left (M.contents machine.old)
         (turn_on (M.rule machine.old) (M.contents machine.old)
         record { head = frame.head; body = body.old; reason = frame.reason }) }
+    ensures noted { M.noted machine.new
+        ≡ noted_on (M.notes machine.old) (M.noted machine.old) frame.number
+        (M.contents machine.old)
+        record { head = frame.head; body = body.old; reason = frame.reason } }
+    ensures notes { M.notes machine.new ≡ M.notes machine.old }
     ensures rule { M.rule machine.new ≡ M.rule machine.old }
     ensures rows { M.rows machine.new ≡ M.rows machine.old }
     ensures made { result ≢ Err HostError.Memory }
@@ -128,33 +139,38 @@ fn end_run<M: Runner + Drop, W1: Write>(
     number: u32,
     finish: Finish,
     report: &mut W1,
-) -> Result<Tally, HostError>
+) -> Result<Traced, HostError>
     ensures writes { WritesReport (W1.contents report.old) (W1.contents report.new) result
         (maps_pieces 0 (M.rows machine) (M.contents machine)
         ++ ToReport (last_line number finish) ∷ []) }
-    ensures tally { IfOk result (λ tally. tally ≡ tally_of number finish) }
+    ensures tally { IfOk result (λ traced. traced.tally ≡ tally_of number finish) }
+    ensures noted { IfOk result (λ traced. noted_of traced.stops ≡ M.noted machine) }
     ensures made { result ≢ Err HostError.Memory }
 {
-    let mut maps = machine.into_maps();
+    let (mut maps, stops) = machine.into_parts();
     match write_maps(&mut maps, report) {
         Ok(()) => {}
         Err(error) => return Err(error),
     }
     let line = line_of_finish(number, finish);
     match write_whole(report, line.as_str().as_bytes()) {
-        Ok(()) => Ok(Tally {
-            frames: number,
-            fault: match finish {
-                Finish::End => None,
-                Finish::Fault(fault, offset) => Some((fault, offset)),
+        Ok(()) => Ok(Traced {
+            tally: Tally {
+                frames: number,
+                fault: match finish {
+                    Finish::End => None,
+                    Finish::Fault(fault, offset) => Some((fault, offset)),
+                },
             },
+            stops,
         }),
         Err(_) => Err(HostError::Report),
     }
 }
 
 /// Runs the frames of the stream that a source gives, by a program of this version. The report goes
-/// to one writer, and the frames out to the other, behind the magic that the stream has.
+/// to one writer, and the frames out to the other, behind the magic that the stream has. What the
+/// machine noted of the frames is answered.
 pub fn run_frames<M: Runner + Drop, R: Read + Drop, W1: Write, W2: Write>(
     mut machine: M,
     limit: u32,
@@ -162,9 +178,10 @@ pub fn run_frames<M: Runner + Drop, R: Read + Drop, W1: Write, W2: Write>(
     source: R,
     report: &mut W1,
     out: &mut W2,
-) -> Result<Tally, HostError>
+) -> Result<Traced, HostError>
     ensures reports { ReportsBy (R.remaining source) limit program
         (M.rows machine) (M.rule machine) (M.contents machine)
+        (TellsNoted (M.notes machine) (M.rule machine) (M.noted machine) (M.contents machine))
         record { report = W1.contents report.old; frames = W2.contents out.old }
         record { report = W1.contents report.new; frames = W2.contents out.new } result }
     ensures made { result ≢ Err HostError.Memory }

@@ -15,11 +15,15 @@ mod listings;
 mod reasons;
 mod records;
 mod runners;
+mod stops;
 mod tallies;
+mod traced;
 mod verified;
 mod versions;
 
 pub use checked::run_checked;
 pub use errors::HostError;
+pub use stops::{FrameStop, Stops};
 pub use tallies::Tally;
+pub use traced::{Traced, tally_in};
 pub use verified::run;

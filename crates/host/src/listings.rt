@@ -11,14 +11,14 @@ use super::entries::{EntryLine, put_entry};
 use super::errors::HostError;
 use exact_io::write_bytes;
 use isa_model::MapDef;
-use maps::{Maps, Ordered};
+use maps::{KEY_ROOM, Maps, Ordered};
 use std::io::Write;
 
 // Writes the line of an entry, whose key is the front of this size.
 fn write_entry<W1: Write>(
     line: &mut EntryLine,
     index: usize,
-    key: &[u8; 64],
+    key: &[u8; KEY_ROOM],
     size: usize,
     value: &[u8],
     report: &mut W1,
@@ -50,7 +50,7 @@ fn write_entries<W1: Write>(
 {
     let size = row.key_size as usize;
     let mut line = EntryLine::new();
-    let mut key = [0u8; 64];
+    let mut key = [0u8; KEY_ROOM];
     for k in 0..row.entries as usize {
         match entries.entry(k, &mut key) {
             Some(value) => match write_entry(&mut line, index, &key, size, value, report) {

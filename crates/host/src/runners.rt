@@ -4,7 +4,9 @@ ghost use Rattle.isa_model.specs.declared.map_defs.MapDef.{MapDef};
 ghost use Rattle.isa_model.specs.{Entries, max_packet};
 ghost use Rattle.isa_model.specs.Reporting.Reports.{Rule};
 ghost use Rattle.maps.specs.Maps.{rows_of, contents_of};
+ghost use Rattle.host.specs.Stops.{Noted, Noting, noted_of};
 
+use super::stops::Stops;
 use isa_model::{End, FrameHead};
 use maps::Maps;
 
@@ -19,18 +21,28 @@ pub trait Runner {
     /// What running a frame on map contents gives.
     ghost rule: { Self → Rule };
 
-    /// Runs a frame, and leaves in `body` its bytes after the run.
-    fn run(&mut self, head: FrameHead, body: &mut [u8]) -> End
+    /// What is noted of the frames that were run.
+    ghost noted: { Self → Noted };
+
+    /// What is noted of a frame that is run.
+    ghost notes: { Self → Noting };
+
+    /// Runs a frame with this number, and leaves in `body` its bytes after the run.
+    fn run(&mut self, number: u32, head: FrameHead, body: &mut [u8]) -> End
         requires { length body.old ≤ max_packet }
         ensures ends { result ≡ (rule self.old head body.old (contents self.old)).ends }
         ensures body { body.new ≡ (rule self.old head body.old (contents self.old)).packet }
         ensures contents { contents self.new
             ≡ (rule self.old head body.old (contents self.old)).contents }
+        ensures noted { noted self.new
+            ≡ notes self.old (noted self.old) number head body.old (contents self.old) }
+        ensures notes { notes self.new ≡ notes self.old }
         ensures rule { rule self.new ≡ rule self.old }
         ensures rows { rows self.new ≡ rows self.old };
 
-    /// Gives the maps back.
-    fn into_maps(self) -> Maps
-        ensures rows { rows_of result ≡ rows self }
-        ensures contents { contents_of result ≡ contents self };
+    /// Gives the maps back, and the frames that are noted.
+    fn into_parts(self) -> (Maps, Stops)
+        ensures rows { rows_of result.0 ≡ rows self }
+        ensures contents { contents_of result.0 ≡ contents self }
+        ensures noted { noted_of result.1 ≡ noted self };
 }

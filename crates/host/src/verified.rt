@@ -6,7 +6,9 @@ use super::clocks::FrameClock;
 use super::engine::run_frames;
 use super::errors::HostError;
 use super::runners::Runner;
+use super::stops::Stops;
 use super::tallies::Tally;
+use super::traced::tally_in;
 use super::versions::version_of;
 use bounds::Verified;
 use isa_model::{End, FrameHead};
@@ -23,6 +25,7 @@ struct MachineRunner {
 
 impl Runner for MachineRunner {
     ghost use Rattle.isa_model.specs.Reporting.Reports.{checked_rule};
+    ghost use Rattle.host.specs.Stops.{nothing_noted, no_notes};
 
     ghost rows = { λ runner. runner.machine.program.maps };
 
@@ -30,15 +33,19 @@ impl Runner for MachineRunner {
 
     ghost rule = { λ runner. checked_rule runner.machine.program runner.machine.bound };
 
-    fn run(&mut self, head: FrameHead, body: &mut [u8]) -> End {
+    ghost noted = { λ runner. nothing_noted };
+
+    ghost notes = { λ runner. no_notes };
+
+    fn run(&mut self, _number: u32, head: FrameHead, body: &mut [u8]) -> End {
         let mut clock = FrameClock { time: head.time };
         let exit = self.machine.run(head, body, &mut clock);
         End::Exit(exit.r0, exit.steps)
     }
 
-    fn into_maps(self) -> Maps {
+    fn into_parts(self) -> (Maps, Stops) {
         let MachineRunner { machine } = self;
-        machine.into_maps()
+        (machine.into_maps(), Stops::new())
     }
 }
 
@@ -79,5 +86,5 @@ pub fn run<R: Read + Drop, W1: Write, W2: Write>(
         return Err(HostError::Memory);
     };
     let runner = MachineRunner { machine };
-    run_frames(runner, bound, program, source, report, out)
+    tally_in(run_frames(runner, bound, program, source, report, out))
 }

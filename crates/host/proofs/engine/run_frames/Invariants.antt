@@ -1,6 +1,7 @@
 use Rattle.std.proofs.Common.{◌≡◌, ◌-◌, List}
 use Rattle.isa_model.specs.Reporting.Streams.{Frame}
 use Rattle.host.specs.Forms.{form_by}
+use Rattle.host.specs.Stops.{noted_after}
 use Rattle.host.proofs.SoFar.{SoFar}
 use Rattle.host.proofs.engine.run_frames.Given as goal
 
@@ -12,6 +13,9 @@ invariant-turns g l = (frames : List Frame) × SoFar (form_by l.form)
     (record { report = g.W1.Write.contents l.report; frames = g.W2.Write.contents l.out })
     × (g.M.Runner.rule l.machine ≡ g.M.Runner.rule l.fn.machine)
     × (g.M.Runner.rows l.machine ≡ g.M.Runner.rows l.fn.machine)
+    × (g.M.Runner.notes l.machine ≡ g.M.Runner.notes l.fn.machine)
+    × (g.M.Runner.noted l.machine
+    ≡ noted_after (g.M.Runner.notes l.fn.machine) (g.M.Runner.rule l.fn.machine) (g.M.Runner.noted l.fn.machine) 0 (g.M.Runner.contents l.fn.machine) frames)
 
 abbrev pub decreases-turns : goal.decreases-turns
 decreases-turns g l = 4294967295 - l.number

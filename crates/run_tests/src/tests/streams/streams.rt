@@ -2,7 +2,7 @@
 
 use crate::tests::programs::image_of;
 use explorer::verify;
-use host::{HostError, Tally, run, run_checked};
+use host::{HostError, Tally, run, run_checked, tally_in};
 use isa_model::Fault;
 use std::alloc::Global;
 use std::io::{ErrorKind, Read};
@@ -74,7 +74,7 @@ pub(super) fn checked<R: Read + Drop>(
         return Err("no limit".into());
     }
     let image = image_of(alloc, text)?;
-    Ok(run_checked(alloc, image, limit, frames, report, out))
+    Ok(tally_in(run_checked(alloc, image, limit, frames, report, out)))
 }
 
 // The room and the stumble of either output, what a run answers that passes each frame, and what it

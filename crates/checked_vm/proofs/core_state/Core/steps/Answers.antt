@@ -2,7 +2,7 @@ use Rattle.std.proofs.Common.{◌≡◌, ◌+◌, refl, sym, ap, ◌∙◌, arit
 use Rattle.isa_model.specs.declared.ends.End.TheVariants.{Exit, Trap}
 use Rattle.isa_model.specs.Running.Runs.{left}
 use Rattle.isa_model.proofs.RunLaws.{progress-zero}
-use Rattle.checked_vm.proofs.Turns.{progress-next, turn_of-finished, turn_of-trapped}
+use Rattle.checked_vm.proofs.Turns.{progress-next, turn_of-finished, turn_of-trapped, state_at-finished, state_at-trapped}
 use Rattle.checked_vm.proofs.core_state.Core.steps.Goals as goal
 
 pub loop-done-init : goal.loop-done-init
@@ -51,3 +51,17 @@ returns-in-Ended-clause-clock g c = c.in-Ended.ensures.clock (g.C.Clock.at c.arg
 
 pub returns-in-Stopped-clause-clock : goal.returns-in-Stopped-clause-clock
 returns-in-Stopped-clause-clock g c = c.in-Stopped.ensures.clock (g.C.Clock.at c.args.clock.now) c.loop-done.invariant.clock
+
+pub returns-in-Ended-clause-stop : goal.returns-in-Ended-clause-stop
+returns-in-Ended-clause-stop g c = λ p code rows version.
+    let inv = c.loop-done.invariant in
+    let clock = g.C.Clock.at c.args.clock.now in
+    let went = c.in-Ended.ensures.step p clock code (rows ∙ sym inv.rows) version inv.clock in
+    state_at-finished p clock c.loop-done.done c.args.limit c.in-Ended.number _ _ (inv.so_far p code rows version) went.0 (omega arith) ∙ sym went.1
+
+pub returns-in-Stopped-clause-stop : goal.returns-in-Stopped-clause-stop
+returns-in-Stopped-clause-stop g c = λ p code rows version.
+    let inv = c.loop-done.invariant in
+    let clock = g.C.Clock.at c.args.clock.now in
+    let went = c.in-Stopped.ensures.step p clock code (rows ∙ sym inv.rows) version inv.clock in
+    state_at-trapped p clock c.loop-done.done c.args.limit c.in-Stopped.reason _ _ (inv.so_far p code rows version) went.0 (omega arith) ∙ sym went.1

@@ -1,0 +1,22 @@
+-- Where a run stopped, and what its registers held there.
+use Rattle.std.specs.Prelude.{ℕ, List}
+use Rattle.isa_model.specs.declared.frames.FrameHead.{FrameHead}
+use Rattle.isa_model.specs.declared.ends.End.{End}
+use Rattle.isa_model.specs.Code.Instructions.{Program, fetch}
+use Rattle.isa_model.specs.Machine.States.{State, Entries}
+use Rattle.isa_model.specs.Running.Runs.{Progress, GoesOn, Ended, progress, start_state, turn}
+use Rattle.checked_vm.specs.declared.stops.Stop.{Stop}
+
+-- the state that a run has come to: after its last step, or before the instruction that ended it
+abbrev pub state_at : Progress → State
+state_at (GoesOn s) = s
+state_at (Ended e s) = s
+
+-- a run ended so in a state
+abbrev pub stop_in : Program → End → State → Stop
+stop_in p e s = record { end = e; slot = s.slot; insn = fetch p s.slot; registers = s.regs }
+
+-- where a run within a limit stopped
+unfoldable pub stop_of : Program → ℕ → (ℕ → ℕ) → FrameHead → List ℕ → List Entries → Stop
+stop_of p limit clock head packet contents =
+    stop_in p (turn p limit clock head packet contents).ends (state_at (progress p clock limit (start_state head packet contents)))

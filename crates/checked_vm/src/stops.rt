@@ -1,0 +1,15 @@
+//! Where a run stopped.
+
+use isa_model::{End, Insn, Value};
+
+/// Where a run stopped: at the instruction that trapped or was the last exit, or before the one
+/// that the limit kept from being done.
+#[derive(Clone, Copy)]
+pub struct Stop {
+    pub end: End,
+    pub slot: usize,
+    /// The instruction that begins there.
+    pub insn: Option<Insn>,
+    /// What r0 to r10 held there.
+    pub registers: [Value; 11],
+}

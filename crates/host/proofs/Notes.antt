@@ -1,0 +1,29 @@
+-- What is noted of the frames so far, and of one more.
+use Rattle.std.proofs.Common.{◌≡◌, ℕ, suc, ◌+◌, List, [], ◌∷◌, ◌++◌, length, sym, ap, ◌∙◌, add-zero, zero-add, arith}
+use Rattle.isa_model.specs.Machine.States.{Entries}
+use Rattle.isa_model.specs.Reporting.Streams.{Frame}
+use Rattle.isa_model.specs.Reporting.Reports.{Rule, turn_on, contents_left, contents_after}
+use Rattle.host.specs.Stops.{Noted, Noting, noted_on, noted_after}
+
+module _ (notes : Noting) (rule : Rule) where
+  noted_after-append : (none : Noted) (n : ℕ) (c : List Entries) (fs : List Frame) (f : Frame)
+      → noted_after notes rule none n c (fs ++ f ∷ []) ≡ noted_on notes (noted_after notes rule none n c fs) (n + length fs) (contents_after rule c fs) f
+  noted_after-append none n c [] f = ap (λ (m : ℕ). noted_on notes none m c f) (sym (add-zero n))
+  noted_after-append none n c (g ∷ fs) f =
+      let next = contents_left c (turn_on rule c g) in
+      let noted = noted_on notes none n c g in
+      let same : (n + 1) + length fs ≡ n + suc (length fs) = omega arith in
+      noted_after-append noted (n + 1) next fs f
+      ∙ ap (λ (m : ℕ). noted_on notes (noted_after notes rule noted (n + 1) next fs) m (contents_after rule next fs) f) same
+
+  -- a frame was taken after others
+  pub noted_more : (none : Noted) (start : List Entries) (frames : List Frame) (f : Frame) (held : Noting) (now after : Noted) (number : ℕ) (contents : List Entries)
+      → held ≡ notes → now ≡ noted_after notes rule none 0 start frames → number ≡ length frames → contents ≡ contents_after rule start frames
+      → after ≡ noted_on held now number contents f → after ≡ noted_after notes rule none 0 start (frames ++ f ∷ [])
+  noted_more none start frames f held now after number contents h k n m e =
+      let before = noted_after notes rule none 0 start frames in
+      e ∙ ap (λ (x : Noting). noted_on x now number contents f) h
+      ∙ ap (λ (x : Noted). noted_on notes x number contents f) k
+      ∙ ap (λ (x : ℕ). noted_on notes before x contents f) (n ∙ sym (zero-add (length frames)))
+      ∙ ap (λ (x : List Entries). noted_on notes before (0 + length frames) x f) m
+      ∙ sym (noted_after-append none 0 start frames f)

@@ -1,0 +1,86 @@
+-- What is noted of the frames whose runs end without an action.
+use Rattle.std.specs.Prelude.{◌≡◌, ℕ, ◌+◌, ◌-◌, ◌^◌, ◌==◌, nat_lt, min, Bool, true, false, if◌then◌else◌, List, [], ◌∷◌, ◌++◌, length}
+use Rattle.isa_model.specs.declared.frames.Action.{Action}
+use Rattle.isa_model.specs.declared.frames.Action.TheVariants as action
+use Rattle.isa_model.specs.declared.frames.FrameHead.{FrameHead}
+use Rattle.isa_model.specs.declared.ends.End.{End}
+use Rattle.isa_model.specs.declared.ends.End.TheVariants.{Exit, Trap, Limit}
+use Rattle.isa_model.specs.Reporting.Frames.{action_of}
+use Rattle.isa_model.specs.Reporting.Streams.{Frame, Stream}
+use Rattle.isa_model.specs.Reporting.Reports.{Rule, turn_on, contents_left, checked_rule, starting_contents}
+use Rattle.isa_model.specs.Code.Instructions.{Program}
+use Rattle.isa_model.specs.Machine.States.{Entries}
+use Rattle.checked_vm.specs.declared.stops.Stop.{Stop}
+use Rattle.checked_vm.specs.Stops.{stop_of}
+use Rattle.host.specs.declared.stops.FrameStop.{FrameStop}
+use Rattle.host.specs.declared.stops.Stops.{Stops}
+use Rattle.host.specs.declared.stops.TheConstants.{MOST_STOPS}
+use Rattle.host.specs.declared.traced.Traced.{Traced}
+use Rattle.host.specs.Tallies.{tally_of}
+
+-- the first of these frames, and how many there are
+pub record Noted : Type 0 where
+  pub first : List FrameStop
+  pub count : ℕ
+
+abbrev pub noted_of : Stops → Noted
+noted_of stops = record { first = stops.first.items; count = stops.count }
+
+abbrev pub nothing_noted : Noted
+nothing_noted = record { first = []; count = 0 }
+
+abbrev pub is_invalid : Action → Bool
+is_invalid action.Invalid = true
+is_invalid other = false
+
+-- whether a run ended without an action: it trapped, was stopped at the limit, or answered another number
+abbrev pub is_noted : End → Bool
+is_noted (Exit value steps) = is_invalid (action_of value)
+is_noted (Trap reason steps) = true
+is_noted Limit = true
+
+abbrev pub with_first : List FrameStop → FrameStop → List FrameStop
+with_first first stop = if nat_lt (length first) MOST_STOPS then first ++ stop ∷ [] else first
+
+-- the run of a frame with this number stopped; a stream has fewer frames than the count can be
+abbrev pub note : Noted → ℕ → Stop → Noted
+note noted number stop =
+    if is_noted stop.end
+    then record { first = with_first noted.first (record { frame = number; stop = stop }); count = min (noted.count + 1) (2 ^ 32 - 1) }
+    else noted
+
+-- ---- frames in a row
+
+-- what is noted of a frame that is run on map contents
+abbrev pub Noting : Type 0
+Noting = Noted → ℕ → FrameHead → List ℕ → List Entries → Noted
+
+-- a frame that is not run is not noted
+abbrev pub noted_on : Noting → Noted → ℕ → List Entries → Frame → Noted
+noted_on notes noted number contents f = if f.reason == 0 then notes noted number f.head f.body contents else noted
+
+-- frames by their numbers, the maps' contents carried along
+abbrev pub noted_after : Noting → Rule → Noted → ℕ → List Entries → List Frame → Noted
+noted_after notes rule noted number contents [] = noted
+noted_after notes rule noted number contents (f ∷ frames) =
+    noted_after notes rule (noted_on notes noted number contents f) (number + 1) (contents_left contents (turn_on rule contents f)) frames
+
+-- where each run with checks stopped; every answer of the clock is the frame's time
+abbrev pub checked_notes : Program → ℕ → Noting
+checked_notes p limit noted number head body contents = note noted number (stop_of p limit (λ k. head.time) head body contents)
+
+-- nothing is noted
+abbrev pub no_notes : Noting
+no_notes noted number head body contents = noted
+
+-- ---- whole runs
+
+-- what the last line shows, and what is noted of the stream's frames
+abbrev pub TellsNoted : Noting → Rule → Noted → List Entries → Stream → Traced → Type 0
+TellsNoted notes rule noted contents found traced =
+    (traced.tally ≡ tally_of (length found.frames) found.finish) × (noted_of traced.stops ≡ noted_after notes rule noted 0 contents found.frames)
+
+-- the same of a run with checks
+abbrev pub TellsTraced : Program → ℕ → Stream → Traced → Type 0
+TellsTraced p limit found traced =
+    TellsNoted (checked_notes p limit) (checked_rule p limit) nothing_noted (starting_contents p.maps) found traced

@@ -1,0 +1,87 @@
+//! The frames whose runs ended without an action.
+
+ghost use Rattle.std.specs.Prelude.{◌≡◌, [], ◌∷◌, ◌++◌};
+ghost use Rattle.host.specs.Stops.{nothing_noted, is_noted, with_first, note, noted_of};
+
+use arrayvec::ArrayVec;
+use checked_vm::Stop;
+use isa_model::{Action, End, Value};
+
+/// The most frames that are kept, the first ones.
+pub const MOST_STOPS: usize = 20;
+
+/// A frame by its number, and where its run stopped.
+#[derive(Clone, Copy)]
+pub struct FrameStop {
+    pub frame: u32,
+    pub stop: Stop,
+}
+
+impl Default for FrameStop {
+    fn default() -> Self {
+        FrameStop {
+            frame: 0,
+            stop: Stop {
+                end: End::Limit,
+                slot: 0,
+                insn: None,
+                registers: [Value::Unset; 11],
+            },
+        }
+    }
+}
+
+/// The frames whose runs trapped, were stopped at the limit, or answered a number that names no
+/// action.
+#[derive(Drop)]
+pub struct Stops {
+    /// The first ones.
+    pub first: ArrayVec<FrameStop, 20>,
+    /// How many there are.
+    pub count: u32,
+}
+
+// Whether a run ended without an action.
+fn is_noted(end: End) -> bool
+    ensures { result ≡ is_noted end }
+{
+    match end {
+        End::Exit(value, _) => matches!(Action::of(value), Action::Invalid),
+        End::Trap(_, _) | End::Limit => true,
+    }
+}
+
+// A frame comes after the first ones, while there is room.
+fn put_first(first: &mut ArrayVec<FrameStop, 20>, stop: FrameStop)
+    ensures { first.new.items ≡ with_first first.old.items stop }
+{
+    if first.len() < MOST_STOPS {
+        first.push(stop);
+    }
+}
+
+impl Stops {
+    /// No frame was run yet.
+    pub fn new() -> Self
+        ensures { noted_of result ≡ nothing_noted }
+    {
+        Stops {
+            first: ArrayVec::new(),
+            count: 0,
+        }
+    }
+
+    /// The run of a frame stopped.
+    pub fn note(&mut self, number: u32, stop: Stop)
+        ensures { noted_of self.new ≡ note (noted_of self.old) number stop }
+    {
+        if is_noted(stop.end) {
+            let frame = FrameStop {
+                frame: number,
+                stop,
+            };
+            put_first(&mut self.first, frame);
+            self.count = self.count.saturating_add(1);
+        }
+    }
+}

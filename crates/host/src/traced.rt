@@ -1,0 +1,25 @@
+//! What a run with checks comes to.
+
+ghost use Rattle.std.specs.Prelude.{◌≡◌};
+ghost use Rattle.host.specs.Tallies.{tallied};
+
+use super::errors::HostError;
+use super::stops::Stops;
+use super::tallies::Tally;
+
+/// What the report's last line shows, and the frames whose runs ended without an action.
+#[derive(Drop)]
+pub struct Traced {
+    pub tally: Tally,
+    pub stops: Stops,
+}
+
+/// The tally of a run, if it came to its last line.
+pub fn tally_in(ended: Result<Traced, HostError>) -> Result<Tally, HostError>
+    ensures { result ≡ tallied ended }
+{
+    match ended {
+        Ok(traced) => Ok(traced.tally),
+        Err(error) => Err(error),
+    }
+}
