@@ -167,12 +167,21 @@ def lacks_reason(found, good):
     return same and good.out.startswith((b"refused A", b"refused V", b"refused P7", b"refused P8")) and found.err == b"".join(kept)
 
 
+def lacks_stops(words, found, good):
+    """Where the frames of a trace stopped is left away, and standard error has why the stream ended early."""
+    same = (found.status, found.out, found.made) == (good.status, good.out, good.made)
+    lines = good.err.splitlines(keepends=True)
+    stops = [k for k, line in enumerate(lines) if line.startswith(b"frame ")]
+    return words[0] == "trace" and same and bool(stops) and found.err == b"".join(lines[:stops[0]])
+
+
 def of_memory(words, found, good):
     if found.status == 5 and found.err == b"out of memory\n" and found.is_quiet():
         return "status 5"
     if found.is_as(good):
         return "unchanged"
-    return "unchanged, what is known left away" if lacks_reason(found, good) else None
+    known = lacks_reason(found, good) or lacks_stops(words, found, good)
+    return "unchanged, what is known left away" if known else None
 
 
 def of_read(words, found, good):
@@ -208,9 +217,10 @@ ALLOWED = dict(zip(KINDS, (of_memory, of_memory, of_read, of_write, of_write, of
 
 def takes_memory_late(words, good):
     """Whether a run asks for memory once it has written a byte, or answers otherwise where all of it is refused then. What
-    is known of a program that is refused is looked for after the refusal is written, so that is no run."""
+    is known of a program that is refused is looked for after the refusal is written, so that is no run; and where the
+    frames of a trace stopped is put into words after the run."""
     found = Answer(words, "late-allocs", 1)
-    return found.reached or not found.is_as(good)
+    return not lacks_stops(words, found, good) and (found.reached or not found.is_as(good))
 
 
 def comes_at_once():

@@ -84,6 +84,19 @@ STREAMS = (
     (b"XPF1" + bytes(16) + b"\x02\0\0\0\0", "fault F4 at 4", "the file was cut"),
 )
 
+# A program text, the line of `trace` for its first frame of 14 bytes, and what standard error says of it.
+TRACES = (
+    (b"r0 = *(u64 *)(r10 - 8)\nexit\n", "0 TRAP unset 14 0", ("frame 0, slot 0: r0 = *(u64 *)(r10 - 8)", "r10: frame pointer at 0")),
+    (b"r2 = *(u32 *)(r1 + 0)\nr0 = *(u8 *)(r2 + 14)\nexit\n", "0 TRAP access 14 1",
+     ("frame 0, slot 1: r0 = *(u8 *)(r2 + 14)", "r2: packet pointer at 0")),
+    (b"r0 = 2\n", "0 TRAP code 14 1", ("frame 0, slot 1: no instruction begins there",)),
+    (b"r0 = 77\nexit\n", "0 INVALID 14 2", ("frame 0, slot 1: exit", "r0: number 77")),
+    (b"r0 = 0\ngoto -1\n", "0 LIMIT 14 1000000", ("frame 0, slot 1: goto -1",)),
+    (b"r2 = -1\nif r2 == r1 goto +0\nexit\n", "0 TRAP compare 14 1",
+     ("frame 0, slot 1: if r2 == r1 goto +0", "r2: number -1", "r1: context pointer at 0")),
+    (b"r0 = 2\nexit\n", "0 PASS 14 2", ()),
+)
+
 # Words, and the first line of standard error.
 WORDS = (
     (("walk",), "error: unrecognized subcommand 'walk'"),
@@ -116,6 +129,12 @@ def rows(folder):
         write("frames", content)
         out, err = run("run", os.path.join(TOP, "examples/pass.image"), "frames", "sent")
         yield content, (line, help_line), (out[-1], err[-1])
+    for text, line, lines in TRACES:
+        write("text", text)
+        run("asm", "text", "image")
+        out, err = run("trace", "image", os.path.join(TOP, "examples/cut.frames"), "sent")
+        # the stream is cut, which is said before
+        yield text, (line, "\n".join(lines)), (out[0], "\n".join(err[2:]))
     for words, line in WORDS:
         out, err = run(*words)
         yield words, (line, ""), (err[0], "")

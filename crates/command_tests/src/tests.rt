@@ -131,6 +131,21 @@ fn answers<R: Files + AllocGlobal + Abort>(
     Ok(())
 }
 
+// A command answers this status, and writes this to standard output.
+fn reports<R: Files + AllocGlobal + Abort>(
+    rt: &R,
+    texts: &[&str],
+    status: u8,
+    report: &str,
+) -> Result<(), Fail> {
+    let mut out = sink(rt.alloc());
+    let mut err = sink(rt.alloc());
+    let found = status_of(rt, texts, &mut out, &mut err)?;
+    let answer = (found, out.taken.as_slice());
+    assert_eq!(rt; answer, (status, report.as_bytes()), "{texts:?}");
+    Ok(())
+}
+
 // The words of a command, its status, and what standard output and standard error have.
 type Answer = (&'static [&'static str], u8, &'static str, &'static str);
 

@@ -1,5 +1,5 @@
 -- What a status says of how the program ended.
-use Rattle.std.proofs.Common.{◌≡◌, ◌≤◌, ℕ, List, Option, Some, None, String, true, refl, sym, inl, inr, arith}
+use Rattle.std.proofs.Common.{◌≡◌, ◌≤◌, ℕ, List, ◌++◌, subst, Option, Some, None, String, true, refl, sym, inl, inr, arith}
 use Rattle.std.specs.declared.alloc.Global.{Global}
 use Rattle.std.specs.String.{string_bytes}
 use Rattle.std.proofs.lemmas.Bool.{false≢true}
@@ -10,8 +10,12 @@ use Rattle.serving.specs.declared.outcomes.Outcome.TheVariants.{Done, WrongWords
 use Rattle.serving.specs.Statuses.{status_of, is_silent, is_unsaid, message_of}
 use Rattle.serving.specs.Saying.{AppendsPart}
 use Rattle.serving.specs.Known.{told}
-use Rattle.commands.specs.Executing.{IsTold, TellsFault}
-use Rattle.commands.proofs.Knowing.{Knows}
+use Rattle.host.specs.Stops.{noted_of}
+use Rattle.tasks.specs.Requests.{Request, RunFiles, Trace, Run, Verify, Prove, Recheck, Assemble, Disassemble}
+use Rattle.words.specs.Asked.{asked}
+use Rattle.serving.specs.Faults.{fault_lines}
+use Rattle.commands.specs.Executing.{IsTold, TellsDone, TellsFault}
+use Rattle.commands.proofs.Knowing.{Knows, KnowsBy, KnowsStops}
 
 pub silent_words : (o : Outcome) → status_of o ≡ 1 → is_silent o ≡ true
 silent_words Done e = absurd (omega arith)
@@ -117,7 +121,7 @@ pub told_faulted : (o : Outcome) (why : Option (String Global)) (old new : Optio
 told_faulted Done why old new k e h = absurd (omega arith)
 told_faulted (WrongWords text) why old new k e h = absurd (omega arith)
 told_faulted (Refused said) why old new k e h = absurd (omega arith)
-told_faulted (Faulted fault) None old new k e h = (fault, h)
+told_faulted (Faulted fault) None old new k e h = (fault, inl h)
 told_faulted (Faulted fault) (Some text) old new (inl none) e h = absurd (none-some text (sym none))
 told_faulted (Faulted fault) (Some text) old new (inr (inl (p, none))) e h = absurd (none-some text (sym none))
 told_faulted (Faulted fault) (Some text) old new (inr (inr (inl (p, bytes, none)))) e h = absurd (none-some text (sym none))
@@ -129,6 +133,79 @@ told_faulted NoMemory why old new k e h = absurd (omega arith)
 
 pub faulted_plain : (o : Outcome) (old new : Option (List ℕ)) → status_of o ≡ 3 → AppendsPart old new (message_of o) → TellsFault old new
 faulted_plain o old new e h = told_faulted o None old new (inl refl) e h
+
+-- ---- by what was asked for
+
+pub refused_by : (request : Request) (o : Outcome) (why : Option (String Global)) (old new : Option (List ℕ)) → KnowsBy request o why → status_of o ≡ 2 → AppendsPart old new (told o why) → IsTold old new
+refused_by (Trace files limit) o why old new (inl k) e h = told_refused o why old new k e h
+refused_by (Trace files limit) Done why old new (inr k) e h = absurd (omega arith)
+refused_by (Trace files limit) (Faulted fault) why old new (inr k) e h = absurd (omega arith)
+refused_by (Trace files limit) (WrongWords text) why old new (inr k) e h = absurd k.0
+refused_by (Trace files limit) (Refused said) why old new (inr k) e h = absurd k.0
+refused_by (Trace files limit) (CannotRead path kind) why old new (inr k) e h = absurd k.0
+refused_by (Trace files limit) (CannotWrite path cause) why old new (inr k) e h = absurd k.0
+refused_by (Trace files limit) (CannotReplace path) why old new (inr k) e h = absurd k.0
+refused_by (Trace files limit) NoMemory why old new (inr k) e h = absurd k.0
+refused_by (Run files table) o why old new k e h = told_refused o why old new k e h
+refused_by (Verify path) o why old new k e h = told_refused o why old new k e h
+refused_by (Prove files) o why old new k e h = told_refused o why old new k e h
+refused_by (Recheck files) o why old new k e h = told_refused o why old new k e h
+refused_by (Assemble text image) o why old new k e h = told_refused o why old new k e h
+refused_by (Disassemble path) o why old new k e h = told_refused o why old new k e h
+
+stopped_faulted : (o : Outcome) (why : Option (String Global)) (old new : Option (List ℕ)) → KnowsStops o why → status_of o ≡ 3 → AppendsPart old new (told o why) → TellsFault old new
+stopped_faulted (Faulted fault) None old new k e h = (fault, inl h)
+stopped_faulted (Faulted fault) (Some text) old new (end, (stops, is)) e h =
+    (fault, inr (noted_of stops, subst (λ (l : List ℕ). AppendsPart old new (fault_lines fault ++ l)) is h))
+stopped_faulted Done why old new k e h = absurd (omega arith)
+stopped_faulted (WrongWords text) why old new k e h = absurd k.0
+stopped_faulted (Refused said) why old new k e h = absurd k.0
+stopped_faulted (CannotRead path kind) why old new k e h = absurd k.0
+stopped_faulted (CannotWrite path cause) why old new k e h = absurd k.0
+stopped_faulted (CannotReplace path) why old new k e h = absurd k.0
+stopped_faulted NoMemory why old new k e h = absurd k.0
+
+pub faulted_by : (request : Request) (o : Outcome) (why : Option (String Global)) (old new : Option (List ℕ)) → KnowsBy request o why → status_of o ≡ 3 → AppendsPart old new (told o why) → TellsFault old new
+faulted_by (Trace files limit) o why old new (inl k) e h = told_faulted o why old new k e h
+faulted_by (Trace files limit) o why old new (inr k) e h = stopped_faulted o why old new k e h
+faulted_by (Run files table) o why old new k e h = told_faulted o why old new k e h
+faulted_by (Verify path) o why old new k e h = told_faulted o why old new k e h
+faulted_by (Prove files) o why old new k e h = told_faulted o why old new k e h
+faulted_by (Recheck files) o why old new k e h = told_faulted o why old new k e h
+faulted_by (Assemble text image) o why old new k e h = told_faulted o why old new k e h
+faulted_by (Disassemble path) o why old new k e h = told_faulted o why old new k e h
+
+-- a task that did all, of which standard error has nothing to say
+quiet : (words : List (List ℕ)) (o : Outcome) (why : Option (String Global)) (old new : Option (List ℕ)) → Knows o why → status_of o ≡ 0 → (is_unsaid o ≡ true → why ≡ None → new ≡ old) → TellsDone words old new
+quiet words o why old new k e unsaid = let none = unsaid_done o e in inl (unsaid none (unsaid_knows o why k none))
+
+stopped_done : (words : List (List ℕ)) (files : RunFiles) (limit : ℕ) (o : Outcome) (why : Option (String Global)) (old new : Option (List ℕ)) → asked words ≡ Some (Trace files limit) → KnowsStops o why → status_of o ≡ 0
+    → (is_unsaid o ≡ true → why ≡ None → new ≡ old) → AppendsPart old new (told o why) → TellsDone words old new
+stopped_done words files limit Done None old new is k e unsaid h = inl (unsaid refl refl)
+stopped_done words files limit Done (Some text) old new is (end, (stops, lines)) e unsaid h =
+    inr (record { files = files; limit = limit; is_asked = is; noted = noted_of stops; said = subst (AppendsPart old new) lines h })
+stopped_done words files limit (Faulted fault) why old new is k e unsaid h = absurd (omega arith)
+stopped_done words files limit (WrongWords text) why old new is k e unsaid h = absurd k.0
+stopped_done words files limit (Refused said) why old new is k e unsaid h = absurd k.0
+stopped_done words files limit (CannotRead path kind) why old new is k e unsaid h = absurd k.0
+stopped_done words files limit (CannotWrite path cause) why old new is k e unsaid h = absurd k.0
+stopped_done words files limit (CannotReplace path) why old new is k e unsaid h = absurd k.0
+stopped_done words files limit NoMemory why old new is k e unsaid h = absurd k.0
+
+pub done_by : (words : List (List ℕ)) (request : Request) (o : Outcome) (why : Option (String Global)) (old new : Option (List ℕ)) → asked words ≡ Some request → KnowsBy request o why → status_of o ≡ 0
+    → (is_unsaid o ≡ true → why ≡ None → new ≡ old) → AppendsPart old new (told o why) → TellsDone words old new
+done_by words (Trace files limit) o why old new is (inl k) e unsaid h = quiet words o why old new k e unsaid
+done_by words (Trace files limit) o why old new is (inr k) e unsaid h = stopped_done words files limit o why old new is k e unsaid h
+done_by words (Run files table) o why old new is k e unsaid h = quiet words o why old new k e unsaid
+done_by words (Verify path) o why old new is k e unsaid h = quiet words o why old new k e unsaid
+done_by words (Prove files) o why old new is k e unsaid h = quiet words o why old new k e unsaid
+done_by words (Recheck files) o why old new is k e unsaid h = quiet words o why old new k e unsaid
+done_by words (Assemble text image) o why old new is k e unsaid h = quiet words o why old new k e unsaid
+done_by words (Disassemble path) o why old new is k e unsaid h = quiet words o why old new k e unsaid
+
+-- words that ask for nothing
+pub done_plain : (words : List (List ℕ)) (o : Outcome) (old new : Option (List ℕ)) → status_of o ≡ 0 → (is_unsaid o ≡ true → new ≡ old) → TellsDone words old new
+done_plain words o old new e unsaid = inl (unsaid (unsaid_done o e))
 
 -- what each status says
 pub ruleset statuses = (silent_words, silent_memory, status_fits, unsaid_done, told_plain, faulted_plain)

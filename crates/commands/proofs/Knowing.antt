@@ -1,16 +1,24 @@
 -- What is known beside how a task ended.
-use Rattle.std.proofs.Common.{◌≡◌, ℕ, List, Option, Some, None, String, false, inl, inr, ◌⊎◌}
+use Rattle.std.proofs.Common.{◌≡◌, ℕ, List, Option, Some, None, String, Result, Ok, Err, false, subst, sym, inl, inr, ◌⊎◌}
+use Rattle.std.specs.Prelude.{IfSome}
+use Rattle.std.specs.String.{string_bytes}
 use Rattle.buffered_io.specs.declared.PromptWriter.{PromptWriter}
 use Rattle.buffered_io.specs.Waiting.{held}
 use Rattle.std.specs.declared.alloc.Global.{Global}
 use Rattle.isa_model.specs.{Program}
 use Rattle.tasks.specs.Requests.{Request, ProofFiles, Trace, Run, Verify, Prove, Recheck, Assemble, Disassemble}
+use Rattle.host.specs.declared.errors.HostError.{HostError}
+use Rattle.host.specs.declared.stops.Stops.{Stops}
+use Rattle.host.specs.declared.traced.Traced.{Traced}
+use Rattle.host.specs.Stops.{noted_of}
 use Rattle.serving.specs.declared.outcomes.Outcome.{Outcome}
+use Rattle.serving.specs.declared.outcomes.Outcome.TheVariants.{Done, WrongWords, Refused, Faulted, CannotRead, CannotWrite, CannotReplace, NoMemory}
 use Rattle.serving.specs.declared.endings.Ending.{Ending}
 use Rattle.serving.specs.Known.{Tells, TellsTable, TellsText}
 use Rattle.serving.specs.Commands.{Serves, ShowsNone}
 use Rattle.serving.specs.HandingOn.{HandsOn, IsHandedOn, TellsFailure}
 use Rattle.serving.specs.Statuses.{is_silent}
+use Rattle.serving.specs.Stopped.{TellsStopsOf, at_end, stop_lines}
 
 -- nothing, or what is known of some program, of some table of one, or of some text
 abbrev pub Knows : Outcome → Option (String Global) → Type 0
@@ -22,8 +30,53 @@ none_knows files old new r (inl h) = inl h.1
 none_knows files old new r (inr (p, is, inl h)) = inl h.1
 none_knows files old new r (inr (p, is, inr (bytes, refused, known))) = inr (inr (inl (p, bytes, known)))
 
-served_knows : (request : Request) (old new : Option (List ℕ)) (r : Ending) → Serves (Some request) old new r → Knows r.outcome r.why
-served_knows (Trace files limit) old new r h = inl h.1
+-- a run came to its end
+abbrev pub IsAtEnd : Outcome → Type 0
+IsAtEnd Done = Unit {0}
+IsAtEnd (Faulted fault) = Unit {0}
+IsAtEnd o = ⊥
+
+-- the frames of a trace that came to its end
+abbrev pub KnowsStops : Outcome → Option (String Global) → Type 0
+KnowsStops o why = IsAtEnd o × ((stops : Stops) × IfSome why (λ text. string_bytes text ≡ stop_lines (noted_of stops)))
+
+-- what is known where this was asked for
+abbrev pub KnowsBy : Request → Outcome → Option (String Global) → Type 0
+KnowsBy (Trace files limit) o why = Knows o why ⊎ KnowsStops o why
+KnowsBy (Run files table) o why = Knows o why
+KnowsBy (Verify path) o why = Knows o why
+KnowsBy (Prove files) o why = Knows o why
+KnowsBy (Recheck files) o why = Knows o why
+KnowsBy (Assemble text image) o why = Knows o why
+KnowsBy (Disassemble path) o why = Knows o why
+
+plain_knows : (request : Request) (o : Outcome) (why : Option (String Global)) → why ≡ None → KnowsBy request o why
+plain_knows (Trace files limit) o why h = inl (inl h)
+plain_knows (Run files table) o why h = inl h
+plain_knows (Verify path) o why h = inl h
+plain_knows (Prove files) o why h = inl h
+plain_knows (Recheck files) o why h = inl h
+plain_knows (Assemble text image) o why h = inl h
+plain_knows (Disassemble path) o why h = inl h
+
+lines_known : (ended : Result Traced HostError) (o : Outcome) (lines : Option (String Global)) → IsAtEnd o → TellsStopsOf ended lines → Knows o lines ⊎ KnowsStops o lines
+lines_known (Ok traced) o lines end tells = inr (end, (traced.stops, tells.1))
+lines_known (Err error) o lines end tells = inl (inl tells)
+
+stops_known : (ended : Result Traced HostError) (o : Outcome) (lines why : Option (String Global)) → TellsStopsOf ended lines → why ≡ at_end o lines → Knows o why ⊎ KnowsStops o why
+stops_known ended Done lines why tells is = subst (λ (w : Option (String Global)). Knows Done w ⊎ KnowsStops Done w) (sym is) (lines_known ended Done lines tt tells)
+stops_known ended (Faulted fault) lines why tells is = subst (λ (w : Option (String Global)). Knows (Faulted fault) w ⊎ KnowsStops (Faulted fault) w) (sym is) (lines_known ended (Faulted fault) lines tt tells)
+stops_known ended (WrongWords text) lines why tells is = inl (inl is)
+stops_known ended (Refused rejection) lines why tells is = inl (inl is)
+stops_known ended (CannotRead path kind) lines why tells is = inl (inl is)
+stops_known ended (CannotWrite path cause) lines why tells is = inl (inl is)
+stops_known ended (CannotReplace path) lines why tells is = inl (inl is)
+stops_known ended NoMemory lines why tells is = inl (inl is)
+
+served_knows : (request : Request) (old new : Option (List ℕ)) (r : Ending) → Serves (Some request) old new r → KnowsBy request r.outcome r.why
+served_knows (Trace files limit) old new r (inl h) = inl (inl h.1)
+served_knows (Trace files limit) old new r (inr (p, is, inl h)) = inl (inl h.1)
+served_knows (Trace files limit) old new r (inr (p, is, inr some)) = stops_known some.traces.ended r.outcome some.traces.lines r.why some.traces.tells some.traces.why
 served_knows (Run files None) old new r (inl h) = inl h.1
 served_knows (Run files None) old new r (inr (p, is, h)) = inr (inl (p, h.1))
 served_knows (Run files (Some table)) old new r (inl h) = none_knows _ old new r h
@@ -39,11 +92,11 @@ served_knows (Assemble text image) old new r (inr (source, ends, known)) = inr (
 served_knows (Disassemble path) old new r h = inl h.1
 
 -- where standard output failed in the end nothing is known beside that
-knows_then : {W : Type 0} (out : PromptWriter W) (ended r : Ending) → Knows ended.outcome ended.why
-    → ((is_silent ended.outcome ≡ false → IsHandedOn out) × (r ≡ ended)) ⊎ TellsFailure out r → Knows r.outcome r.why
-knows_then out ended r k (inl kept) = rw kept.1 k
-knows_then out ended r k (inr failed) = inl failed.plain
+knows_then : {W : Type 0} (request : Request) (out : PromptWriter W) (ended r : Ending) → KnowsBy request ended.outcome ended.why
+    → ((is_silent ended.outcome ≡ false → IsHandedOn out) × (r ≡ ended)) ⊎ TellsFailure out r → KnowsBy request r.outcome r.why
+knows_then request out ended r k (inl kept) = subst (λ (e : Ending). KnowsBy request e.outcome e.why) (sym kept.1) k
+knows_then request out ended r k (inr failed) = plain_knows request r.outcome r.why failed.plain
 
 pub whole_knows : {W : Type 0} (contents : W → Option (List ℕ)) (request : Request) (old : Option (List ℕ)) (given new : PromptWriter W) (ended r : Ending)
-    → Serves (Some request) old (held contents given) ended → HandsOn contents given new ended r → Knows r.outcome r.why
-whole_knows contents request old given new ended r h on = knows_then new ended r (served_knows request old (held contents given) ended h) on.ends
+    → Serves (Some request) old (held contents given) ended → HandsOn contents given new ended r → KnowsBy request r.outcome r.why
+whole_knows contents request old given new ended r h on = knows_then request new ended r (served_knows request old (held contents given) ended h) on.ends

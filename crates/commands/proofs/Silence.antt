@@ -1,5 +1,5 @@
 -- A task of which standard output has got nothing left it as it was.
-use Rattle.std.proofs.Common.{◌≡◌, ◌∙◌, ◌≤◌, ℕ, List, Option, Some, None, Result, Ok, Err, true, false, ap, refl, sym, inl, inr, ◌⊎◌, arith}
+use Rattle.std.proofs.Common.{◌≡◌, ◌∙◌, ◌≤◌, ℕ, List, Option, Some, None, Result, Ok, Err, Bool, true, false, ap, refl, sym, inl, inr, ◌⊎◌, arith}
 use Rattle.std.proofs.lemmas.Bool.{both_ways, false≢true}
 use Rattle.std.specs.declared.io.ErrorKind.{ErrorKind}
 use Rattle.std.specs.Io.KnownBytes.{Keeps}
@@ -11,6 +11,8 @@ use Rattle.bounds.specs.Bounds.{Bounded}
 use Rattle.host.specs.declared.errors.HostError.{HostError}
 use Rattle.host.specs.declared.errors.HostError.TheVariants as failure
 use Rattle.host.specs.declared.tallies.Tally.{Tally}
+use Rattle.host.specs.declared.traced.Traced.{Traced}
+use Rattle.host.specs.Tallies.{tallied}
 use Rattle.tasks.specs.Requests.{Request, RunFiles, ProofFiles, Trace, Run, Verify, Prove, Recheck, Assemble, Disassemble}
 use Rattle.tasks.specs.declared.WordsError.{WordsError}
 use Rattle.tasks.specs.declared.WordsError.TheVariants.{Wrong, Memory}
@@ -128,10 +130,25 @@ opens_silent : (files : RunFiles) (old new : Option (List ℕ)) (r : Outcome) �
 opens_silent files old new r (inl reads) = reads.1
 opens_silent files old new r (inr makes) = makes.1
 
-trace_silent : (files : RunFiles) (limit : ℕ) (old new : Option (List ℕ)) (r : Outcome) → TracesFile files limit old new r → is_silent r ≡ true → new ≡ old
-trace_silent files limit old new r (inl loads) e = loads_silent _ old new r loads e
-trace_silent files limit old new r (inr (p, is, inl opens)) e = opens_silent files old new r opens
-trace_silent files limit old new r (inr (p, is, inr some)) e = some.traces.report_untouched (stops_silent _ _ _ _ _ r some.traces.ends e)
+is_memory : Result Tally HostError → Bool
+is_memory (Ok tally) = false
+is_memory (Err failure.Memory) = true
+is_memory (Err failure.Report) = false
+is_memory (Err failure.Frames) = false
+
+-- a run with checks lacked memory, where its tally did
+traced_memory : (ended : Result Traced HostError) → tallied ended ≡ Err failure.Memory → ended ≡ Err failure.Memory
+unfolding is_memory
+traced_memory (Ok traced) e = absurd (false≢true (ap is_memory e))
+traced_memory (Err failure.Memory) e = refl
+traced_memory (Err failure.Report) e = absurd (false≢true (ap is_memory e))
+traced_memory (Err failure.Frames) e = absurd (false≢true (ap is_memory e))
+
+trace_silent : (files : RunFiles) (limit : ℕ) (old new : Option (List ℕ)) (r : Ending) → TracesFile files limit old new r → is_silent r.outcome ≡ true → new ≡ old
+trace_silent files limit old new r (inl (loads, none)) e = loads_silent _ old new r.outcome loads e
+trace_silent files limit old new r (inr (p, is, inl (opens, none))) e = opens_silent files old new r.outcome opens
+trace_silent files limit old new r (inr (p, is, inr some)) e =
+    some.traces.report_untouched (traced_memory some.traces.ended (stops_silent _ _ _ _ _ r.outcome some.traces.ends e))
 
 on_silent : (files : RunFiles) (v : Bounded) (old new : Option (List ℕ)) (r : Outcome) → RunsOn files v old new r → is_silent r ≡ true → new ≡ old
 on_silent files v old new r (inl opens) e = opens_silent files old new r opens
@@ -192,7 +209,7 @@ assemble_silent text image old new r (inr (source, inr (p, is, inl makes), known
 assemble_silent text image old new r (inr (source, inr (p, is, inr some), known)) e = stores_silent p _ image _ _ old new r.outcome some.stores e
 
 served_silent : (request : Request) (old new : Option (List ℕ)) (r : Ending) → Serves (Some request) old new r → is_silent r.outcome ≡ true → new ≡ old
-served_silent (Trace files limit) old new r h e = trace_silent files limit old new r.outcome h.0 e
+served_silent (Trace files limit) old new r h e = trace_silent files limit old new r h e
 served_silent (Run files None) old new r h e = run_silent files old new r h e
 served_silent (Run files (Some table)) old new r h e = shown_silent files table old new r h e
 served_silent (Verify path) old new r h e = verify_silent path old new r h e

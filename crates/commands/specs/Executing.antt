@@ -12,7 +12,8 @@ use Rattle.rechecking.specs.declared.errors.TableError.{TableError}
 use Rattle.explanations.specs.Reasons.{IsReason}
 use Rattle.explanations.specs.Entries.{IsEntryReason}
 use Rattle.tasks.specs.declared.WordsError.{WordsError}
-use Rattle.tasks.specs.Requests.{Request}
+use Rattle.tasks.specs.Requests.{Request, RunFiles, Trace}
+use Rattle.host.specs.Stops.{Noted}
 use Rattle.words.specs.Asked.{asked}
 use Rattle.serving.specs.declared.outcomes.Outcome.{Outcome}
 use Rattle.serving.specs.declared.endings.Ending.{Ending}
@@ -21,6 +22,7 @@ use Rattle.serving.specs.declared.rejections.Rejection.TheVariants as rejection
 use Rattle.serving.specs.Faults.{fault_lines}
 use Rattle.serving.specs.Messages.{reason_of}
 use Rattle.serving.specs.Statuses.{IsWordsEnd, message_of, status_of}
+use Rattle.serving.specs.Stopped.{stop_lines}
 use Rattle.serving.specs.Saying.{AppendsPart, LacksMemory}
 use Rattle.serving.specs.Known.{Plainly, told_of}
 use Rattle.serving.specs.Commands.{Serves}
@@ -86,6 +88,20 @@ pub record TellsShown (old new : Option (List ℕ)) : Type 0 where
 abbrev pub IsTold : Option (List ℕ) → Option (List ℕ) → Type 0
 IsTold old new = TellsReason old new ⊎ (TellsKnown old new ⊎ (TellsEntryKnown old new ⊎ TellsShown old new))
 
--- standard error got why a frame stream ended early, or a beginning of it
+-- standard error got why a frame stream ended early, and of a trace where the runs of frames stopped; or a beginning of it
 abbrev pub TellsFault : Option (List ℕ) → Option (List ℕ) → Type 0
-TellsFault old new = (fault : Fault) × AppendsPart old new (fault_lines fault)
+TellsFault old new =
+    (fault : Fault) × (AppendsPart old new (fault_lines fault) ⊎ ((noted : Noted) × AppendsPart old new (fault_lines fault ++ stop_lines noted)))
+
+-- the words ask for a trace, and standard error got where the runs of frames stopped that ended without an action, or a
+-- beginning of it
+pub record TellsTrace (words : List (List ℕ)) (old new : Option (List ℕ)) : Type 0 where
+  pub files : RunFiles
+  pub limit : ℕ
+  pub is_asked : asked words ≡ Some (Trace files limit)
+  pub noted : Noted
+  pub said : AppendsPart old new (stop_lines noted)
+
+-- where all is done standard error gets nothing, but of a trace
+abbrev pub TellsDone : List (List ℕ) → Option (List ℕ) → Option (List ℕ) → Type 0
+TellsDone words old new = (new ≡ old) ⊎ TellsTrace words old new

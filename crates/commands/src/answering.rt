@@ -4,7 +4,7 @@ ghost use Rattle.std.specs.Prelude.{◌≡◌, ◌≢◌, ◌≤◌, map, MatchR
 ghost use Rattle.std.specs.String.{string_bytes};
 ghost use Rattle.buffered_io.specs.Waiting.{held};
 ghost use Rattle.serving.specs.HandingOn.{IsHandedOn};
-ghost use Rattle.commands.specs.Executing.{Answers, AnswersError, IsTold, TellsFault};
+ghost use Rattle.commands.specs.Executing.{Answers, AnswersError, IsTold, TellsDone, TellsFault};
 
 use buffered_io::PromptWriter;
 use serving::{Outcome, serve};
@@ -22,9 +22,10 @@ use words::read_words;
 ///
 /// The first word is the program's name. `out` stands for standard output, behind its buffer, and
 /// `err` for standard error. At status 0, 2 and 3 all that standard output was given stands behind
-/// the buffer. At status 1 and 5 it gets no byte; at 0 standard error gets none. At 2 it gets why
-/// something was refused and where, of a program also what is known there, and of a text its line
-/// and what helps; at 3 why the frame stream ended early.
+/// the buffer. At status 1 and 5 it gets no byte; at 0 standard error gets none, but of a trace the
+/// frames whose runs ended without an action. At 2 it gets why something was refused and where, of
+/// a program also what is known there, and of a text its line and what helps; at 3 why the frame
+/// stream ended early.
 #[tactic(auto, using(crate::proofs::Endings::statuses))]
 pub fn execute<R: Files + AllocGlobal, W1: Write + Drop, W2: Write>(
     rt: &R,
@@ -38,7 +39,8 @@ pub fn execute<R: Files + AllocGlobal, W1: Write + Drop, W2: Write>(
     ensures wrong_words { result ≡ 1 → held W1.contents out.new ≡ held W1.contents out.old }
     ensures no_memory { result ≡ 5 → held W1.contents out.new ≡ held W1.contents out.old }
     ensures handed_on { result ≤ 3 → result ≢ 1 → IsHandedOn out.new }
-    ensures done { result ≡ 0 → W2.contents err.new ≡ W2.contents err.old }
+    ensures done { result ≡ 0 → TellsDone (map string_bytes words.now)
+        (W2.contents err.old) (W2.contents err.new) }
     ensures refused { result ≡ 2 → IsTold (W2.contents err.old) (W2.contents err.new) }
     ensures faulted { result ≡ 3 → TellsFault (W2.contents err.old) (W2.contents err.new) }
 {

@@ -9,7 +9,7 @@ use std::io;
 use std::io::Write;
 
 // How many bytes of standard output are written at once, where it is a file on a disk.
-const BUFFER: usize = 65536;
+const BUFFER: usize = 64 * 1024;
 
 // Standard output through which each write goes at once, and before which no memory is taken.
 fn watched<W: Write + Drop>(alloc: Global, out: W) -> io::Result<PromptWriter<W>>

@@ -16,9 +16,10 @@ use Rattle.reg_state.specs.declared.kinds.Kind.TheVariants as kind
 use Rattle.stack_state.specs.declared.states.State.{State}
 use Rattle.stack_state.specs.Places.{kind_of}
 use Rattle.transfer.specs.HelperCalls.{points_to_bytes}
-use Rattle.transfer.specs.declared.refusals.Refusal.TheVariants.{StackPlace, PacketBytes, MapValueBytes, HelperArgument, HelperBytes, ExitValue}
+use Rattle.transfer.specs.declared.refusals.Refusal.{Refusal as StepRefusal}
+use Rattle.transfer.specs.declared.refusals.Refusal.TheVariants.{UnsetRegister, ReadOnlyRegister, PointerOperand, PointerOffset, NotMemory, StackPlace, StackBytes, PacketBytes, MapValueBytes, NullNotTested, PointerStored, Comparison, HelperArgument, HelperBytes, TooManyFrames, ExitValue, PacketAtomic}
 use Rattle.walks.specs.declared.refusals.Refusal.{Refusal}
-use Rattle.walks.specs.declared.refusals.Refusal.TheVariants.{Step, TooLong}
+use Rattle.walks.specs.declared.refusals.Refusal.TheVariants.{Step, Repeats, TooLong}
 use Rattle.explorer.specs.declared.explanations.Jump.{Jump}
 
 -- ---- places
@@ -150,6 +151,22 @@ jump_line (Some jump) =
 abbrev pub loop_line : List Jump → List ℕ
 loop_line way = jump_line (slice_get way (length way - 1))
 
+-- ---- what helps, whatever the state is
+
+abbrev pub cure_line : StepRefusal → List ℕ
+cure_line UnsetRegister = codes "set it on every path that leads here\n"
+cure_line ReadOnlyRegister = codes "copy it and change the copy: r2 = r10\n"
+cure_line PointerOperand = codes "stack, packet and value pointers move by += and -= of a number, at 64 bits\n"
+cure_line PointerOffset = codes "a frame pointer moves by constants, any pointer by at most 536870912 bytes\n"
+cure_line NotMemory = codes "memory is reached by r1 of the start, r10, a packet or a value pointer\n"
+cure_line StackBytes = codes "write the bytes first; a stored pointer is read whole, with 8 bytes\n"
+cure_line NullNotTested = codes "test it first, as by if r0 == 0 goto .., and use it where it is not 0\n"
+cure_line PointerStored = codes "store it with 8 bytes into the function's own stack: *(u64 *)(r10 - 8) = r1\n"
+cure_line Comparison = codes "compare a packet pointer with the packet end, a value pointer with 0, at 64 bits\n"
+cure_line TooManyFrames = codes "write the function's instructions in place of the call\n"
+cure_line PacketAtomic = codes "load, compute and store instead\n"
+cure_line refusal = []
+
 -- ---- cases
 
 abbrev pub case_line : List MapDef → State → Insn → Refusal → List Jump → List ℕ
@@ -159,5 +176,7 @@ case_line rows a i (Step MapValueBytes) way = place_line rows a i
 case_line rows a i (Step HelperArgument) way = helper_line a i
 case_line rows a i (Step HelperBytes) way = sizes_line rows a
 case_line rows a i (Step ExitValue) way = exit_line (length a.callers.items)
+case_line rows a i (Step refusal) way = cure_line refusal
 case_line rows a i TooLong way = loop_line way
+case_line rows a i Repeats way = codes "change a register in the loop that its test reads\n"
 case_line rows a i e way = []

@@ -3,6 +3,7 @@ pub mod Kinds
 pub mod Slots
 pub mod Lines
 pub mod Cases
+pub mod Values
 pub mod Reasons
 pub mod Mismatches
 pub mod Entries

@@ -17,6 +17,7 @@ use Rattle.reg_state.specs.declared.kinds.Kind.TheVariants.{Number, Stack, Map}
 use Rattle.stack_state.specs.declared.states.State.{State}
 use Rattle.stack_state.specs.Meaning.{slots_of}
 use Rattle.stack_state.specs.Places.{kind_of}
+use Rattle.stack_state.specs.Slots.{frame_slots}
 use Rattle.transfer.specs.declared.refusals.Refusal.TheVariants.{NoAction}
 use Rattle.walks.specs.declared.refusals.Refusal.{Refusal}
 use Rattle.walks.specs.declared.refusals.Refusal.TheVariants.{Step}
@@ -69,7 +70,7 @@ open_line a frame (Some slot) = slot_line a frame slot
 
 abbrev pub bytes_from : State → ℕ → Option ℕ → ℕ → List ℕ
 bytes_from a frame None count = []
-bytes_from a frame (Some at) count = open_line a frame (first_open (slots_of a frame) (at / 8) (min ((at % 8 + count + 7) / 8) (64 - at / 8)))
+bytes_from a frame (Some at) count = open_line a frame (first_open (slots_of a frame) (at / 8) (min ((at % 8 + count + 7) / 8) (frame_slots - at / 8)))
 
 abbrev pub bytes_line : State → Kind → ℕ → List ℕ
 bytes_line a (Stack frame offset) count = bytes_from a frame (byte_at offset) count

@@ -3,7 +3,7 @@ use Rattle.std.specs.Prelude.{◌≡◌, ◌≢◌, ℕ, ◌+◌, ◌-◌, ◌<�
 use Rattle.std.specs.Fmt.{signed_decimal}
 use Rattle.stack_state.specs.declared.states.State.{State}
 use Rattle.stack_state.specs.Meaning.{depth, frame_of, kinds_of, slots_of, kind_at}
-use Rattle.stack_state.specs.Slots.{slot_at}
+use Rattle.stack_state.specs.Slots.{slot_at, frame_slots}
 use Rattle.table_entries.specs.Entries.{Entry}
 use Rattle.rechecking.specs.Tables.{EntryAt}
 use Rattle.explanations.specs.Kinds.{calls_up, kind_words}
@@ -17,7 +17,7 @@ use Rattle.explanations.specs.declared.mismatches.Mismatch.TheVariants.{Missing,
 abbrev pub IsInside : State → State → Mismatch → Type 0
 IsInside e a (Returns frame) = (frame < depth e) × (frame < depth a)
 IsInside e a (Register frame register) = (frame < depth e) × (frame < depth a)
-IsInside e a (Stack frame slot) = (frame < depth e) × (frame < depth a) × (slot < 64)
+IsInside e a (Stack frame slot) = (frame < depth e) × (frame < depth a) × (slot < frame_slots)
 IsInside e a m = Unit {0}
 
 -- the state of the entry, and one that the step leads to

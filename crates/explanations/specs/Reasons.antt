@@ -1,5 +1,5 @@
 -- What is said of a refusal beside its sentence and its place.
-use Rattle.std.specs.Prelude.{◌≡◌, ℕ, List, ◌++◌, Some}
+use Rattle.std.specs.Prelude.{◌≡◌, ℕ, Bool, if◌then◌else◌, List, ◌++◌, Some, codes}
 use Rattle.isa_model.specs.declared.instructions.Insn.{Insn}
 use Rattle.isa_model.specs.declared.map_defs.MapDef.{MapDef}
 use Rattle.isa_model.specs.Code.Instructions.{Program, fetch}
@@ -9,11 +9,16 @@ use Rattle.explorer.specs.Explained.{Explains}
 use Rattle.explanations.specs.Cases.{case_line}
 use Rattle.explanations.specs.Lines.{register_lines, answer_line, stack_lines, way_line}
 
+-- that the search had come to its limit of states that are alike, from which on it explored each as a new one
+abbrev pub cut_line : Bool → List ℕ
+cut_line cut = if cut then codes "states could not be told apart any more: too many that are alike were stored\n" else codes ""
+
 -- the registers, what is needed, an answer's low half and the stack slots that concern the instruction, in the state in which it is refused
--- so, and the last jumps
+-- so, the last jumps, and whether states were told apart
 abbrev pub lines_of : List MapDef → Insn → Refusal → Explanation → List ℕ
 lines_of rows i e x =
-    register_lines x.state i ++ (case_line rows x.state i e x.way.items ++ (answer_line x.state e ++ (stack_lines rows x.state i ++ way_line x.way.items)))
+    register_lines x.state i ++ (case_line rows x.state i e x.way.items ++ (answer_line x.state e ++ (stack_lines rows x.state i
+    ++ (way_line x.way.items ++ cut_line x.is_cut_off))))
 
 -- the lines of a state in which the program is refused so, at the slot
 pub record IsReason (p : Program) (e : Refusal) (slot : ℕ) (text : List ℕ) : Type 0 where

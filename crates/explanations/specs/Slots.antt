@@ -2,6 +2,7 @@
 use Rattle.std.specs.Prelude.{ℕ, zero, suc, ◌+◌, ◌-◌, ◌*◌, ◌/◌, ◌==◌, nat_lt, ℤ, pos, negsuc, ◌+ℤ◌, ◌-ℤ◌, List, [], ◌++◌, length, Option, Some, None, codes, if◌then◌else◌}
 use Rattle.std.specs.Fmt.{signed_decimal}
 use Rattle.std.specs.Int.{bit_at}
+use Rattle.isa_model.specs.Code.Limits.{frame_size}
 use Rattle.stack_state.specs.declared.slots.Slot.{Slot}
 use Rattle.stack_state.specs.declared.slots.Slot.TheVariants.{Written, Spilled}
 use Rattle.stack_state.specs.declared.states.State.{State}
@@ -11,7 +12,7 @@ use Rattle.explanations.specs.Kinds.{calls_up, kind_words}
 
 -- where a byte of the slot is, counted from the end of the frame
 abbrev pub place_of : ℕ → ℕ → ℤ
-place_of slot byte = pos (8 * slot + byte) -ℤ pos 512
+place_of slot byte = pos (8 * slot + byte) -ℤ pos frame_size
 
 -- the byte's place, if it is a written number byte
 abbrev pub byte_word : ℕ → ℕ → ℕ → List ℕ
@@ -38,11 +39,11 @@ slot_line a frame slot =
 
 -- the byte of a frame so far from its end
 abbrev pub in_frame : ℤ → Option ℕ
-in_frame (pos n) = if nat_lt n 512 then Some n else None
+in_frame (pos n) = if nat_lt n frame_size then Some n else None
 in_frame (negsuc n) = None
 
 abbrev pub byte_at : ℤ → Option ℕ
-byte_at z = in_frame (z +ℤ pos 512)
+byte_at z = in_frame (z +ℤ pos frame_size)
 
 -- the line of the slot in which a byte is
 abbrev pub byte_line : State → ℕ → Option ℕ → List ℕ

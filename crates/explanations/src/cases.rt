@@ -7,7 +7,7 @@ ghost use Rattle.isa_model.specs.Code.Helpers.{helper_numbered};
 ghost use Rattle.isa_model.specs.Code.Sizes.{narrow_size};
 ghost use Rattle.transfer.specs.HelperCalls.{points_to_bytes};
 ghost use Rattle.explanations.specs.Cases as spec;
-ghost use Rattle.explanations.specs.Cases.{access, needs_words, last_byte, span_words, behind_words, frame_line, packet_line, value_line, is_map, key_line, update_line, argument_line, row_size, exit_line};
+ghost use Rattle.explanations.specs.Cases.{access, needs_words, last_byte, span_words, behind_words, frame_line, packet_line, value_line, is_map, key_line, update_line, argument_line, row_size, exit_line, cure_line};
 
 use explorer::{Jump, Refusal};
 use isa_model::{Helper, Insn, MapDef, Narrow, Place, Reg, Size};
@@ -298,7 +298,34 @@ fn loop_line(alloc: Global, way: &[Jump]) -> Result<String, AllocError>
     }
 }
 
-/// What the instruction needs that is refused, where more can be said than its registers tell.
+// What helps, whatever the state is.
+fn cure_line(refusal: StepRefusal) -> &'static str
+    ensures { result.now ≡ cure_line refusal }
+{
+    match refusal {
+        StepRefusal::UnsetRegister => "set it on every path that leads here\n",
+        StepRefusal::ReadOnlyRegister => "copy it and change the copy: r2 = r10\n",
+        StepRefusal::PointerOperand =>
+            "stack, packet and value pointers move by += and -= of a number, at 64 bits\n",
+        StepRefusal::PointerOffset =>
+            "a frame pointer moves by constants, any pointer by at most 536870912 bytes\n",
+        StepRefusal::NotMemory =>
+            "memory is reached by r1 of the start, r10, a packet or a value pointer\n",
+        StepRefusal::StackBytes =>
+            "write the bytes first; a stored pointer is read whole, with 8 bytes\n",
+        StepRefusal::NullNotTested =>
+            "test it first, as by if r0 == 0 goto .., and use it where it is not 0\n",
+        StepRefusal::PointerStored =>
+            "store it with 8 bytes into the function's own stack: *(u64 *)(r10 - 8) = r1\n",
+        StepRefusal::Comparison =>
+            "compare a packet pointer with the packet end, a value pointer with 0, at 64 bits\n",
+        StepRefusal::TooManyFrames => "write the function's instructions in place of the call\n",
+        StepRefusal::PacketAtomic => "load, compute and store instead\n",
+        _ => "",
+    }
+}
+
+/// What the instruction needs that is refused, or what helps.
 pub fn case_line(
     alloc: Global,
     maps: &[MapDef],
@@ -319,7 +346,11 @@ pub fn case_line(
         Refusal::Step(StepRefusal::ExitValue) => {
             String::from_str(alloc, exit_line(state.callers.len()))
         }
+        Refusal::Step(step) => String::from_str(alloc, cure_line(step)),
         Refusal::TooLong => loop_line(alloc, way),
+        Refusal::Repeats => {
+            String::from_str(alloc, "change a register in the loop that its test reads\n")
+        }
         _ => Ok(String::new(alloc)),
     }
 }

@@ -3,6 +3,7 @@
 ghost use Rattle.std.specs.Prelude.{◌≡◌, ◌<◌, IfOk, decimal};
 ghost use Rattle.std.specs.String.{string_bytes};
 ghost use Rattle.stack_state.specs.Meaning.{depth};
+ghost use Rattle.stack_state.specs.Slots.{frame_slots};
 ghost use Rattle.explanations.specs.Mismatches.{IsInside, difference_lines, mismatch_lines, register_words, stack_words, stack_difference, returns_words, up_words};
 
 use crate::kinds::{calls_up, kind_words};
@@ -43,7 +44,7 @@ fn stack_words(
     slot: usize,
 ) -> Result<String, AllocError>
     requires frame { frame < depth state.now }
-    requires slot { slot < 64 }
+    requires slot { slot < frame_slots }
     ensures { IfOk result (λ text. string_bytes text ≡ stack_words state.now frame slot) }
 {
     let known = frame_of(state, frame)
@@ -76,7 +77,7 @@ fn stack_difference(
     frame: usize,
     slot: usize,
 ) -> Result<String, AllocError>
-    requires { slot < 64 }
+    requires { slot < frame_slots }
     ensures { IfOk result (λ text. string_bytes text ≡ stack_difference state.now frame slot) }
 {
     let up = up_words(alloc, state, frame)?;
@@ -207,7 +208,7 @@ fn stack_lines(
 ) -> Result<String, AllocError>
     requires entry { frame < depth entry.now }
     requires state { frame < depth state.now }
-    requires slot { slot < 64 }
+    requires slot { slot < frame_slots }
     ensures { IfOk result (λ text. string_bytes text
         ≡ mismatch_lines 0 nth index entry.now state.now (Mismatch.Stack frame slot)) }
 {

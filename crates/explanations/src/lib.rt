@@ -10,6 +10,10 @@ mod mismatches;
 mod numbers;
 mod reasons;
 mod slots;
+mod values;
 
 pub use entries::{EntryReason, entry_reason};
+pub use kinds::kind_words;
 pub use reasons::reason;
+pub use slots::slot_line;
+pub use values::value_lines;

@@ -14,17 +14,17 @@ use crate::slots::{byte_at, first_open, slot_line};
 use explorer::{Jump, Refusal};
 use isa_model::{Helper, Insn, MapDef, Place, Reg};
 use reg_state::Kind;
-use stack_state::State;
+use stack_state::{FRAME_SLOTS, State};
 use std::alloc::{AllocError, Global};
 use transfer::Refusal as StepRefusal;
 
 // ---- registers
 
 /// Four registers, or fewer.
-type Registers = (Option<Reg>, Option<Reg>, Option<Reg>, Option<Reg>);
+pub type Registers = (Option<Reg>, Option<Reg>, Option<Reg>, Option<Reg>);
 
 /// The registers that concern an instruction.
-fn concerned(insn: &Insn) -> Registers
+pub fn concerned(insn: &Insn) -> Registers
     ensures { option_to_list result.0 ++ option_to_list result.1 ++ option_to_list result.2
         ++ option_to_list result.3 ≡ concerned insn.now }
 {
@@ -106,7 +106,7 @@ fn bytes_line(alloc: Global, state: &State, kind: Kind, count: u32) -> Result<St
     };
     let slot = at / 8;
     let touched = (at % 8 + count as usize + 7) / 8;
-    match first_open(state, frame, slot, touched.min(64 - slot)) {
+    match first_open(state, frame, slot, touched.min(FRAME_SLOTS - slot)) {
         Some(slot) => slot_line(alloc, state, frame, slot),
         None => Ok(String::new(alloc)),
     }

@@ -2,12 +2,13 @@
 
 ghost use Rattle.std.specs.Prelude.{◌≡◌, ◌<◌, IfSome};
 ghost use Rattle.stack_state.specs.Meaning.{depth, frame_of};
+ghost use Rattle.stack_state.specs.Slots.{frame_slots};
 ghost use Rattle.table_entries.specs.Tables.{entry_at};
 ghost use Rattle.explanations.specs.Mismatches.{IsInside, Differs, IsMismatch};
 
 use image::Image;
 use reg_state::Kind;
-use stack_state::{AbstractFrame, Slot, StackState, State};
+use stack_state::{AbstractFrame, FRAME_SLOTS, Slot, StackState, State};
 use state_cover::covers;
 use table_entries::Table;
 
@@ -47,8 +48,8 @@ fn front_of(frame: &AbstractFrame, registers: usize, slots: usize) -> AbstractFr
     for index in 0..registers.min(10) {
         kinds[index] = frame.registers[index];
     }
-    let mut stack = [Slot::Written(0); 64];
-    for index in 0..slots.min(64) {
+    let mut stack = [Slot::Written(0); FRAME_SLOTS];
+    for index in 0..slots.min(FRAME_SLOTS) {
         stack[index] = frame.stack.slots[index];
     }
     AbstractFrame {
@@ -94,7 +95,7 @@ fn first_register(entry: &State, state: &State, frame: usize) -> Option<usize> {
 
 /// The first stack slot of a frame that is not covered.
 fn first_slot(entry: &State, state: &State, frame: usize) -> Option<usize>
-    ensures { IfSome result (λ slot. slot < 64) }
+    ensures { IfSome result (λ slot. slot < frame_slots) }
 {
     for slot in 0..64usize {
         if !covers(&part_of(entry, frame, 10, slot + 1), state) {

@@ -2,7 +2,7 @@
 
 ghost use Rattle.std.specs.Prelude.{◌≡◌, IfOk};
 ghost use Rattle.std.specs.String.{string_bytes};
-ghost use Rattle.explanations.specs.Numbers.{says_more, number_words, low_least, low_greatest, half_words};
+ghost use Rattle.explanations.specs.Numbers.{says_more, limit_words, number_words, low_least, low_greatest, half_words, is_half_known, low_part};
 
 use isa_model::numbers::low_word;
 use ranges::Wide;
@@ -17,17 +17,13 @@ fn says_more(limits: Wide) -> bool
         && (i64::MIN < limits.signed_least || limits.signed_greatest < i64::MAX)
 }
 
-/// The number, or its limits at 64 bits.
-pub fn number_words(alloc: Global, numbers: Scalar) -> Result<String, AllocError>
-    ensures { IfOk result (λ text. string_bytes text ≡ number_words numbers) }
+/// The limits at 64 bits.
+fn limit_words(alloc: Global, numbers: Scalar) -> Result<String, AllocError>
+    ensures { IfOk result (λ text. string_bytes text ≡ limit_words numbers) }
 {
     let limits = numbers.range.wide;
     let least = limits.least;
     let greatest = limits.greatest;
-    if least == greatest {
-        let number = least.cast_signed();
-        return format!(in alloc; "number {number}");
-    }
     if says_more(limits) {
         let least = limits.signed_least;
         let greatest = limits.signed_greatest;
@@ -66,4 +62,40 @@ pub fn half_words(alloc: Global, numbers: Scalar) -> Result<String, AllocError>
         return format!(in alloc; "{least}");
     }
     format!(in alloc; "{least} to {greatest}")
+}
+
+/// Whether bits and limits show more of the low half than that it has 32 bits.
+fn is_half_known(numbers: Scalar) -> bool
+    ensures { result ≡ is_half_known numbers }
+{
+    let least = low_least(numbers);
+    let greatest = low_greatest(numbers);
+    !(least == 0 && greatest == u64::from(u32::MAX))
+}
+
+/// The low half, where that is known and the limits at 64 bits do not show it.
+fn low_part(alloc: Global, numbers: Scalar) -> Result<String, AllocError>
+    ensures { IfOk result (λ text. string_bytes text ≡ low_part numbers) }
+{
+    if numbers.range.wide.greatest >= 1 << 32 && is_half_known(numbers) {
+        let half = half_words(alloc, numbers)?;
+        return format!(in alloc; ", low half {half}");
+    }
+    Ok(String::new(alloc))
+}
+
+// ---- numbers
+
+/// The number, or its limits, with those of the low half where they say more.
+pub fn number_words(alloc: Global, numbers: Scalar) -> Result<String, AllocError>
+    ensures { IfOk result (λ text. string_bytes text ≡ number_words numbers) }
+{
+    let least = numbers.range.wide.least;
+    if least == numbers.range.wide.greatest {
+        let number = least.cast_signed();
+        return format!(in alloc; "number {number}");
+    }
+    let limits = limit_words(alloc, numbers)?;
+    let low = low_part(alloc, numbers)?;
+    format!(in alloc; "{limits}{low}")
 }

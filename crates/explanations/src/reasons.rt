@@ -2,7 +2,7 @@
 
 ghost use Rattle.std.specs.Prelude.{◌≡◌, IfOk, IfSome};
 ghost use Rattle.std.specs.String.{string_bytes};
-ghost use Rattle.explanations.specs.Reasons.{lines_of, IsReason};
+ghost use Rattle.explanations.specs.Reasons.{cut_line, lines_of, IsReason};
 
 use crate::cases::case_line;
 use crate::lines::{answer_line, register_lines, stack_lines, way_line};
@@ -10,6 +10,17 @@ use explorer::{Explanation, Refusal, explain};
 use image::Image;
 use isa_model::Insn;
 use std::alloc::{AllocError, Global};
+
+/// That states were not told apart any more, where they were not.
+fn cut_line(is_cut_off: bool) -> &'static str
+    ensures { result.now ≡ cut_line is_cut_off }
+{
+    if is_cut_off {
+        "states could not be told apart any more: too many that are alike were stored\n"
+    } else {
+        ""
+    }
+}
 
 /// The lines of an explanation.
 fn lines_of(
@@ -28,13 +39,14 @@ fn lines_of(
     let answer = answer_line(alloc, &found.state, refusal)?;
     let stack = stack_lines(alloc, image.maps(), &found.state, insn)?;
     let way = way_line(alloc, way)?;
-    format!(in alloc; "{registers}{case}{answer}{stack}{way}")
+    let cut = cut_line(found.is_cut_off);
+    format!(in alloc; "{registers}{case}{answer}{stack}{way}{cut}")
 }
 
 /// What is known where a program is refused so, at this slot: the registers and the stack slots
 /// that concern its instruction, what it needs, the low half of an answer that has to name an
-/// action, and the last jumps on the way there. None: the refusal is one of control flow, or memory
-/// ran out.
+/// action, the last jumps on the way there, and whether states were not told apart. None: the
+/// refusal is one of control flow, or memory ran out.
 pub fn reason(alloc: Global, image: &Image, refusal: Refusal, slot: usize) -> Option<String>
     ensures { IfSome result (λ text. IsReason image.now refusal slot (string_bytes text)) }
 {

@@ -3,25 +3,27 @@
 ghost use Rattle.std.specs.Prelude.{◌≡◌, ◌<◌, ◌≤◌, IfOk, IfSome, ◌+◌};
 ghost use Rattle.std.specs.String.{string_bytes};
 ghost use Rattle.stack_state.specs.Meaning.{slots_of};
-ghost use Rattle.stack_state.specs.Slots.{slot_at};
+ghost use Rattle.isa_model.specs.Code.Limits.{frame_size};
+ghost use Rattle.stack_state.specs.Slots.{slot_at, frame_slots};
 ghost use Rattle.explanations.specs.Slots.{place_of, byte_word, written_words, slot_words, slot_line, byte_at, first_open};
 
 use crate::kinds::{calls_up, kind_words};
+use isa_model::FRAME_SIZE;
 use stack_state::{Slot, State};
 use std::alloc::{AllocError, Global};
 
 /// Where a byte of a slot is, counted from the end of the frame.
 pub fn place_of(slot: usize, byte: u8) -> i64
-    requires slot { slot < 64 }
+    requires slot { slot < frame_slots }
     requires byte { byte < 8 }
     ensures { result ≡ place_of slot byte }
 {
-    (8 * slot + usize::from(byte)) as i64 - 512
+    (8 * slot + usize::from(byte)) as i64 - FRAME_SIZE as i64
 }
 
 /// The byte's place, if it is a written number byte.
 fn byte_word(alloc: Global, slot: usize, marks: u8, byte: u8) -> Result<String, AllocError>
-    requires slot { slot < 64 }
+    requires slot { slot < frame_slots }
     requires byte { byte < 8 }
     ensures { IfOk result (λ text. string_bytes text ≡ byte_word slot marks byte) }
 {
@@ -34,7 +36,7 @@ fn byte_word(alloc: Global, slot: usize, marks: u8, byte: u8) -> Result<String, 
 
 /// The places of the written number bytes of a slot.
 fn written_words(alloc: Global, slot: usize, marks: u8) -> Result<String, AllocError>
-    requires { slot < 64 }
+    requires { slot < frame_slots }
     ensures { IfOk result (λ text. string_bytes text ≡ written_words slot marks 8) }
 {
     let mut text = String::new(alloc);
@@ -52,7 +54,7 @@ pub fn slot_words(
     slot: usize,
     known: Slot,
 ) -> Result<String, AllocError>
-    requires { slot < 64 }
+    requires { slot < frame_slots }
     ensures { IfOk result (λ text. string_bytes text ≡ slot_words innermost slot known) }
 {
     match known {
@@ -78,7 +80,7 @@ fn slot_of(state: &State, frame: u8, slot: usize) -> Slot
 
 /// The line of a slot of a frame.
 pub fn slot_line(alloc: Global, state: &State, frame: u8, slot: usize) -> Result<String, AllocError>
-    requires { slot < 64 }
+    requires { slot < frame_slots }
     ensures { IfOk result (λ text. string_bytes text ≡ slot_line state.now frame slot) }
 {
     let innermost = state.callers.len();
@@ -91,19 +93,20 @@ pub fn slot_line(alloc: Global, state: &State, frame: u8, slot: usize) -> Result
 /// The byte of a frame that is so far from its end.
 pub fn byte_at(from_end: i64) -> Option<usize>
     ensures found { result ≡ byte_at from_end }
-    ensures inside { IfSome result (λ at. at < 512) }
+    ensures inside { IfSome result (λ at. at < frame_size) }
 {
-    if from_end < -512 || from_end >= 0 {
+    let size = FRAME_SIZE as i64;
+    if from_end < -size || from_end >= 0 {
         return None;
     }
-    Some((from_end + 512) as usize)
+    Some((from_end + size) as usize)
 }
 
 /// The first slot among the first ones, not all of whose bytes are written number bytes.
 pub fn first_open(state: &State, frame: u8, slot: usize, count: usize) -> Option<usize>
-    requires { slot + count ≤ 64 }
+    requires { slot + count ≤ frame_slots }
     ensures found { result ≡ first_open (slots_of state.now frame) slot count }
-    ensures inside { IfSome result (λ at. at < 64) }
+    ensures inside { IfSome result (λ at. at < frame_slots) }
 {
     for at in slot..slot + count {
         if slot_of(state, frame, at).marks() != 255 {

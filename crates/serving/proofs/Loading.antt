@@ -19,10 +19,10 @@ use Rattle.serving.specs.Known.{IsKnown, IsKnownOfTable, IsKnownOfText, Tells, P
 use Rattle.serving.specs.Statuses.{IsReadFailure, IsMakeFailure}
 use Rattle.serving.specs.Lines.{bound_line, size_line}
 use Rattle.serving.specs.Judging.{Accepts, IsBoundOf, RefusesProgram, RefusesTable, Verifies, Stores}
-use Rattle.serving.specs.Streams.{RunsAccepted}
+use Rattle.serving.specs.Streams.{RunsAccepted, Traces}
 use Rattle.serving.specs.Proving.{StoresTable}
 use Rattle.tasks.specs.Requests.{RunFiles, ProofFiles}
-use Rattle.serving.specs.Commands.{LoadsNone, ShowsNone, IsShown, VerifiesFile, RechecksFile, ProvesFile, ProvesSome, RunsFile, RunsOn, RunsShown, RunsSome, OpensNone, Assembles, AssemblesFile, StoresSome}
+use Rattle.serving.specs.Commands.{LoadsNone, ShowsNone, TracesFile, TracesSome, IsShown, VerifiesFile, RechecksFile, ProvesFile, ProvesSome, RunsFile, RunsOn, RunsShown, RunsSome, OpensNone, Assembles, AssemblesFile, StoresSome}
 
 -- the streams were not opened
 opens-none : (files : RunFiles) (old new : Option (List ℕ)) (r : Outcome) → new ≡ old → IsReadFailure files.frames r ⊎ IsMakeFailure files.out r → OpensNone files old new r
@@ -57,6 +57,27 @@ run_unloaded files old new o r h same none = inl (unloaded files.image old new o
 pub image_verified : (path : List ℕ) (old mid new : Option (List ℕ)) (p : Program) (r : Ending) → mid ≡ old → IsImage p → Verifies p mid new r.outcome → IsKnown p r → VerifiesFile path old new r
 image_verified path old mid new p r e h v known =
     inr (p, h, (subst (λ (o : Option (List ℕ)). Verifies p o new r.outcome) e v, known))
+
+-- ---- runs with checks
+
+pub trace_unloaded : (files : RunFiles) (limit : ℕ) (old new : Option (List ℕ)) (o : Outcome) (r : Ending) → LoadsNone files.image old new o → r.outcome ≡ o → r.why ≡ None → TracesFile files limit old new r
+trace_unloaded files limit old new o r h same none = inl (unloaded files.image old new o r h same none)
+
+pub trace_unopened : (files : RunFiles) (limit : ℕ) (old new : Option (List ℕ)) (p : Program) (o : Outcome) (r : Ending) → new ≡ old → IsImage p → IsReadFailure files.frames o ⊎ IsMakeFailure files.out o
+    → r.outcome ≡ o → r.why ≡ None → TracesFile files limit old new r
+trace_unopened files limit old new p o r e h failed same none = inr (p, h, inl ((rw same (opens-none files old new o e failed)), none))
+
+pub image_traced : (files : RunFiles) (limit : ℕ) (old mid new before after source : Option (List ℕ)) (cause : Option ErrorKind) (p : Program) (r : Ending) → mid ≡ old → IsImage p
+    → Traces p limit source files.out cause (record { report = mid; frames = before }) (record { report = new; frames = after }) r → TracesFile files limit old new r
+image_traced files limit old mid new before after source cause p r e h traces =
+    let some : TracesSome p limit files.out old new r = record {
+      source = source;
+      before = before;
+      after = after;
+      cause = cause;
+      traces = subst (λ (x : Option (List ℕ)). Traces p limit source files.out cause (record { report = x; frames = before }) (record { report = new; frames = after }) r) e traces;
+    } in
+    inr (p, h, inr some)
 
 -- ---- runs of accepted programs
 

@@ -56,7 +56,7 @@ abbrev pub OpensNone : RunFiles → Option (List ℕ) → Option (List ℕ) → 
 OpensNone files old new result = ReadsNone files.frames old new result ⊎ MakesNone files.out old new result
 
 -- a run over some source, the frames out going to the file at the path
-pub record TracesSome (p : Program) (limit : ℕ) (out : List ℕ) (old new : Option (List ℕ)) (result : Outcome) : Type 0 where
+pub record TracesSome (p : Program) (limit : ℕ) (out : List ℕ) (old new : Option (List ℕ)) (result : Ending) : Type 0 where
   pub source : Option (List ℕ)
   pub before : Option (List ℕ)
   pub after : Option (List ℕ)
@@ -84,9 +84,11 @@ pub record ProvesSome (p : Program) (bound : ℕ) (path : List ℕ) (old new : O
 
 -- ---- the commands
 
-abbrev pub TracesFile : RunFiles → ℕ → Option (List ℕ) → Option (List ℕ) → Outcome → Type 0
+-- of the frames whose runs ended without an action it is told where they stopped
+abbrev pub TracesFile : RunFiles → ℕ → Option (List ℕ) → Option (List ℕ) → Ending → Type 0
 TracesFile files limit old new result =
-    LoadsNone files.image old new result ⊎ Loads (λ p. OpensNone files old new result ⊎ TracesSome p limit files.out old new result)
+    Plainly (LoadsNone files.image old new) result
+    ⊎ Loads (λ p. Plainly (OpensNone files old new) result ⊎ TracesSome p limit files.out old new result)
 
 -- a program with its bound is run
 abbrev pub RunsOn : RunFiles → Bounded → Option (List ℕ) → Option (List ℕ) → Outcome → Type 0
@@ -150,7 +152,7 @@ AssemblesFile text image old new result =
 -- what is done where this is asked for
 abbrev pub Serves : Option Request → Option (List ℕ) → Option (List ℕ) → Ending → Type 0
 Serves None old new result = Plainly (λ o. IsWrongWords o × (new ≡ old)) result
-Serves (Some (Trace files limit)) old new result = Plainly (TracesFile files limit old new) result
+Serves (Some (Trace files limit)) old new result = TracesFile files limit old new result
 Serves (Some (Run files None)) old new result = RunsFile files old new result
 Serves (Some (Run files (Some table))) old new result = RunsShown files table old new result
 Serves (Some (Verify path)) old new result = VerifiesFile path old new result

@@ -8,6 +8,7 @@ pub mod HandingOn
 pub mod Lines
 pub mod Saying
 pub mod Judging
+pub mod Stopped
 pub mod Streams
 pub mod Proving
 pub mod Commands

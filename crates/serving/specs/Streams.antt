@@ -1,5 +1,6 @@
 -- What a run over a stream writes, and how the task ends then.
-use Rattle.std.specs.Prelude.{◌≡◌, ◌≢◌, ℕ, List, Option, Some, None, Result, Ok, Err, ◌⊎◌}
+use Rattle.std.specs.Prelude.{◌≡◌, ◌≢◌, ℕ, List, Option, Some, None, String, Result, Ok, Err, ◌⊎◌}
+use Rattle.std.specs.declared.alloc.Global.{Global}
 use Rattle.std.specs.Io.KnownBytes.{Keeps, append_known}
 use Rattle.std.specs.declared.io.ErrorKind.{ErrorKind}
 use Rattle.isa_model.specs.declared.streams.Fault.{Fault}
@@ -9,12 +10,17 @@ use Rattle.bounds.specs.Bounds.{Bounded}
 use Rattle.host.specs.declared.errors.HostError.{HostError}
 use Rattle.host.specs.declared.errors.HostError.TheVariants as failure
 use Rattle.host.specs.declared.tallies.Tally.{Tally}
+use Rattle.host.specs.declared.traced.Traced.{Traced}
+use Rattle.host.specs.Stops.{TellsTraced}
+use Rattle.host.specs.Tallies.{tallied}
 use Rattle.host.specs.Writing.{Outputs}
 use Rattle.host.specs.Reported.{Reports}
 use Rattle.host.specs.Accepted.{ReportsRun}
+use Rattle.serving.specs.declared.endings.Ending.{Ending}
 use Rattle.serving.specs.declared.outcomes.Outcome.{Outcome}
 use Rattle.serving.specs.declared.outcomes.Outcome.TheVariants.{Done, Faulted, NoMemory}
 use Rattle.serving.specs.Statuses.{IsOutputFailure, IsWriteFailureBy}
+use Rattle.serving.specs.Stopped.{TellsStopsOf, at_end}
 
 -- a stream came to its end, or had a fault
 abbrev pub outcome_at : Option (Fault × ℕ) → Outcome
@@ -46,14 +52,17 @@ Ends name cause ended handed got result =
 
 -- A run with checks: what is written is exactly the checked report of the program and of the frames that were found,
 -- which are those that the source's bytes spell, where it tells them. Where the file of the frames out failed, `cause` is
--- why, and that is told.
-pub record Traces (p : Program) (limit : ℕ) (source : Option (List ℕ)) (name : List ℕ) (cause : Option ErrorKind) (old new : Outputs) (result : Outcome) : Type 0 where
-  pub ended : Result Tally HostError
+-- why, and that is told. Of the frames whose runs ended without an action it is told where they stopped.
+pub record Traces (p : Program) (limit : ℕ) (source : Option (List ℕ)) (name : List ℕ) (cause : Option ErrorKind) (old new : Outputs) (result : Ending) : Type 0 where
+  pub ended : Result Traced HostError
   pub handed : Option (List ℕ)
-  pub ends : Ends name cause ended handed new.frames result
+  pub ends : Ends name cause (tallied ended) handed new.frames result.outcome
   pub report_untouched : ended ≡ Err failure.Memory → new.report ≡ old.report
   pub frames_untouched : ended ≡ Err failure.Memory → handed ≡ old.frames
-  pub reports : ended ≢ Err failure.Memory → Reports source (checked_report p limit) old (record { report = new.report; frames = handed }) ended
+  pub lines : Option (String Global)
+  pub tells : TellsStopsOf ended lines
+  pub why : result.why ≡ at_end result.outcome lines
+  pub reports : ended ≢ Err failure.Memory → Reports source (checked_report p limit) (TellsTraced p limit) old (record { report = new.report; frames = handed }) ended
 
 -- A run of an accepted program: what is written is exactly the report of the program and of the frames that were found,
 -- which are those that the source's bytes spell, where it tells them; no run of a frame meets a trap, and each exits

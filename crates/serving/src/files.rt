@@ -26,7 +26,7 @@ use tasks::{Assembly, Paths, StepLimit};
 const PAST_ANY_IMAGE: u64 = 8 + 12 * MAX_MAPS as u64 + 8 * MAX_SLOTS as u64 + 1;
 
 /// How many bytes go to or from a file of frames or a table at once.
-pub const BUFFER: usize = 65536;
+pub const BUFFER: usize = 64 * 1024;
 
 // The length of the magic, with which frames out begin. It goes to the file at once, so that a file
 // that cannot be written is found before the report begins.
@@ -107,19 +107,19 @@ pub fn trace<'a, R: Files, W: Write>(
     paths: Paths<'a>,
     limit: StepLimit,
     out: &mut W,
-) -> Outcome<'a>
+) -> Ending<'a>
     ensures { TracesFile (files_of paths.entry) limit.steps (W.contents out.old)
         (W.contents out.new) result }
 {
     let image = match load_image(rt, alloc, paths.image, out) {
         Ok(image) => image,
-        Err(outcome) => return outcome,
+        Err(outcome) => return Ending::plain(outcome),
     };
     match open_streams(rt, alloc, paths, &[paths.image, paths.frames]) {
         Ok((source, mut file)) => {
             trace_stream(alloc, image, limit, source, paths.out, out, &mut file)
         }
-        Err(outcome) => outcome,
+        Err(outcome) => Ending::plain(outcome),
     }
 }
 

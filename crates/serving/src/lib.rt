@@ -14,6 +14,7 @@ mod rechecks;
 mod rejections;
 mod requests;
 mod same;
+mod stopped;
 mod streams;
 mod tables;
 mod texts;

@@ -40,10 +40,7 @@ pub fn serve<'a, R: Files, W: Write>(
         (W.contents out.old) (W.contents out.new) result }
 {
     match task {
-        Task::Trace(paths, limit) => Ending {
-            outcome: trace(rt, alloc, paths, limit, out),
-            why: None,
-        },
+        Task::Trace(paths, limit) => trace(rt, alloc, paths, limit, out),
         Task::Run(paths, table) => run(rt, alloc, paths, table, out),
         Task::Verify(path) => verify_file(rt, alloc, path, out),
         Task::Prove(proof) => prove_file(rt, alloc, proof, out),

@@ -4,11 +4,13 @@ ghost use Rattle.serving.specs.Judging.{Stores};
 ghost use Rattle.serving.specs.Streams.{Ends, Traces, RunsAccepted};
 ghost use Rattle.buffered_io.specs.Waiting.{behind, failure_of, held};
 
+use super::endings::Ending;
 use super::outcomes::{Outcome, STANDARD_OUTPUT};
+use super::stopped::{at_end, lines_of_stops};
 use super::verdicts::say_line;
 use buffered_io::PromptWriter;
 use explorer::Verified;
-use host::{HostError, Tally, run, run_checked};
+use host::{HostError, Tally, run, run_checked, tally_in};
 use image::Image;
 use std::alloc::Global;
 use std::io::{Read, Write};
@@ -43,7 +45,8 @@ fn outcome_of<'a, W: Write + Drop>(
 }
 
 /// Runs a program on a frame stream with checks. The report goes to `out` as it comes, and the
-/// frames out to a file that was opened by this path, behind a buffer.
+/// frames out to a file that was opened by this path, behind a buffer. Where the run came to its
+/// end, it is known where the runs of its first frames stopped that ended without an action.
 pub fn trace_stream<'a, R: Read + Drop, W1: Write, W2: Write + Drop>(
     alloc: Global,
     image: Image,
@@ -52,13 +55,18 @@ pub fn trace_stream<'a, R: Read + Drop, W1: Write, W2: Write + Drop>(
     path: &'a str,
     out: &mut W1,
     file: &mut PromptWriter<W2>,
-) -> Outcome<'a>
+) -> Ending<'a>
     ensures { Traces image limit.steps (R.remaining source) path.now (failure_of file.new)
         record { report = W1.contents out.old; frames = held W2.contents file.old }
         record { report = W1.contents out.new; frames = W2.contents (behind file.new) } result }
 {
     let ended = run_checked(alloc, image, limit.steps, source, out, file);
-    outcome_of(path, ended, file)
+    let lines = lines_of_stops(alloc, &ended);
+    let outcome = outcome_of(path, tally_in(ended), file);
+    Ending {
+        outcome,
+        why: at_end(outcome, lines),
+    }
 }
 
 /// Runs an accepted program on a frame stream. The report goes to `out` as it comes, and the frames

@@ -2,7 +2,7 @@
 //! `prove` writes is accepted with the same bound.
 
 use super::{
-    PROVE, RECHECK, RUN, RUN_BY_TABLE, TRACE, VERIFY, answers, holds, remove_files, sink,
+    PROVE, RECHECK, RUN, RUN_BY_TABLE, TRACE, VERIFY, answers, holds, remove_files, reports, sink,
     status_of, write_program,
 };
 use std::alloc::Global;
@@ -233,7 +233,7 @@ fn stream_of(alloc: Global, frames: &[Frame]) -> Result<Vec<u8>, Fail> {
 fn runs_as_it_traces<R: Files + AllocGlobal + Abort>(rt: &R, report: &str) -> Result<(), Fail> {
     answers(rt, RUN, 0, report, "")?;
     let sent = fs::read(rt, "sent")?;
-    answers(rt, TRACE, 0, report, "")?;
+    reports(rt, TRACE, 0, report)?;
     holds(rt, "sent", sent.as_slice())
 }
 
@@ -298,7 +298,9 @@ fn past_the_limit_of_exploration(rt: HostRuntime) -> Result<(), Fail> {
     let status = status_of(&rt, RUN, &mut out, &mut err)?;
     assert_eq!(rt; status, 2);
     assert_eq!(rt; out.taken.as_slice(), b"refused V19 slot 3939\n".as_slice());
-    answers(&rt, TRACE, 0, "0 LIMIT 0 1000000\nend 1\n", "")?;
+    let report = "0 LIMIT 0 1000000\nend 1\n";
+    let said = "frame 0, slot 3939: exit\nr0: number 2\n";
+    answers(&rt, TRACE, 0, report, said)?;
     remove_files(&rt)
 }
 
@@ -325,6 +327,7 @@ fn past_the_end_of_a_value(rt: HostRuntime) -> Result<(), Fail> {
     fs::write(&rt, "frames", bytes.as_slice())?;
     write_program(&rt, "image", text)?;
     let report = "0 TRAP access 0 1\nmap 0 00000000 0000000000000000\nend 1\n";
-    answers(&rt, TRACE, 0, report, "")?;
+    let said = "frame 0, slot 2: r0 = *(u64 *)(r1 + 0)\nr1: value of map 0 at 4\n";
+    answers(&rt, TRACE, 0, report, said)?;
     remove_files(&rt)
 }

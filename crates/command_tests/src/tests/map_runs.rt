@@ -102,13 +102,23 @@ fn maps_are_run(rt: HostRuntime) -> Result<(), Fail> {
     remove_files(&rt)
 }
 
-/// Programs that trap, and what `trace` writes: what a run put into a map stays.
-const TRAPPED: [(&str, &str); 4] = [
-    ("call 1; exit", "0 TRAP unset 0 0\nend 1\n"),
-    ("call 4; exit", "0 TRAP helper 0 0\nend 1\n"),
+/// Programs that trap, and what `trace` writes: what a run put into a map stays. And what is told
+/// of the trap.
+const TRAPPED: [(&str, &str, &str); 4] = [
+    (
+        "call 1; exit",
+        "0 TRAP unset 0 0\nend 1\n",
+        "frame 0, slot 0: call 1\nr1: context pointer at 0\nr2: unset\n",
+    ),
+    (
+        "call 4; exit",
+        "0 TRAP helper 0 0\nend 1\n",
+        "frame 0, slot 0: call 4\n",
+    ),
     (
         "map hash 4 8 1; r1 = map_by_idx(0); r2 = r10; r2 += -4; call 1; exit",
         "0 TRAP unset 0 3\nend 1\n",
+        "frame 0, slot 4: call 1\nr1: map 0\nr2: frame pointer at -4\n",
     ),
     (
         "map hash 1 1 1; *(u8 *)(r10 - 1) = 9; *(u8 *)(r10 - 2) = 7;
@@ -118,15 +128,16 @@ const TRAPPED: [(&str, &str); 4] = [
         r1 = map_by_idx(0); r2 = r10; r2 += -1; r3 = r10; r3 += -2; r4 = 0; call 2;
         r0 = *(u8 *)(r6 + 0); exit",
         "0 TRAP access 0 25\nmap 0 09 07\nend 1\n",
+        "frame 0, slot 29: r0 = *(u8 *)(r6 + 0)\nr6: value of map 0 at 0\n",
     ),
 ];
 
 #[test]
 fn maps_stay_after_a_trap(rt: HostRuntime) -> Result<(), Fail> {
     write_frames(&rt, EMPTY)?;
-    for (text, report) in TRAPPED.iter() {
+    for (text, report, said) in TRAPPED.iter() {
         write_program(&rt, "image", *text)?;
-        answers(&rt, TRACE, 0, *report, "")?;
+        answers(&rt, TRACE, 0, *report, *said)?;
     }
     remove_files(&rt)
 }

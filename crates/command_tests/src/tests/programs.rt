@@ -1,6 +1,6 @@
 //! Worked programs, each run on frames of zero bytes: how every frame ends, with its steps.
 
-use super::{TRACE, answers, remove_files, write_program};
+use super::{TRACE, answers, remove_files, reports, write_program};
 use std::fs;
 use std::process::Abort;
 use std::rt::Files;
@@ -49,7 +49,7 @@ pub fn write_frames<R: Files + AllocGlobal>(rt: &R, frames: &[(u8, u8)]) -> Resu
 
 fn trace<R: Files + AllocGlobal + Abort>(rt: &R, limit: &str, report: &str) -> Result<(), Fail> {
     let words = ["trace", "image", "frames", "sent", "--limit", limit];
-    answers(rt, &words, 0, report, "")
+    reports(rt, &words, 0, report)
 }
 
 /// What `trace` writes of each, always with status 0.
@@ -269,6 +269,7 @@ fn traces_local_calls(rt: HostRuntime) -> Result<(), Fail> {
 fn the_limit_where_none_is_given(rt: HostRuntime) -> Result<(), Fail> {
     write_program(&rt, "image", "r0 = 0; goto -1")?;
     write_frames(&rt, EMPTY)?;
-    answers(&rt, TRACE, 0, "0 LIMIT 0 1000000\nend 1\n", "")?;
+    let report = "0 LIMIT 0 1000000\nend 1\n";
+    answers(&rt, TRACE, 0, report, "frame 0, slot 1: goto -1\n")?;
     remove_files(&rt)
 }

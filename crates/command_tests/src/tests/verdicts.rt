@@ -1,7 +1,9 @@
 //! Programs that are verified and run.
 
 use super::programs::{EMPTY, write_frames};
-use super::{Answer, RUN, TRACE, VERIFY, all_answer, answers, holds, remove_files, write_program};
+use super::{
+    Answer, RUN, TRACE, VERIFY, all_answer, answers, holds, remove_files, reports, write_program,
+};
 use std::fs;
 use std::process::Abort;
 use std::rt::Files;
@@ -46,7 +48,7 @@ const ACCEPTED: [(&str, &str, &str); 7] = [
 fn runs_as_it_traces<R: Files + AllocGlobal + Abort>(rt: &R, report: &str) -> Result<(), Fail> {
     answers(rt, RUN, 0, report, "")?;
     let sent = fs::read(rt, "sent")?;
-    answers(rt, TRACE, 0, report, "")?;
+    reports(rt, TRACE, 0, report)?;
     holds(rt, "sent", sent.as_slice())
 }
 
@@ -67,12 +69,14 @@ const REFUSED: [(&str, &str, &str); 12] = [
     (
         "r0 = r2; exit",
         "refused V1 slot 0\n",
-        "a register is read that may be unset\nslot 0: r0 = r2\nr2: unset\n",
+        "a register is read that may be unset\nslot 0: r0 = r2\nr2: unset\n\
+             set it on every path that leads here\n",
     ),
     (
         "r10 = 0; exit",
         "refused V2 slot 0\n",
-        "r10 is written, and it is read-only\nslot 0: r10 = 0\n",
+        "r10 is written, and it is read-only\nslot 0: r10 = 0\n\
+             copy it and change the copy: r2 = r10\n",
     ),
     (
         "r0 = r10; exit",
@@ -100,20 +104,23 @@ const REFUSED: [(&str, &str, &str); 12] = [
         "r0 = 0; goto -1",
         "refused V18 slot 1\n",
         "a path comes back to a state that it was in: the loop has no end\nslot 1: goto -1\n\
-             way: 1 -> 1\n",
+             change a register in the loop that its test reads\nway: 1 -> 1\n",
     ),
     (
         "r6 = *(u32 *)(r1 + 12); if r6 != 0 goto -2; r0 = 2; exit",
         "refused V18 slot 0\n",
         "a path comes back to a state that it was in: the loop has no end\n\
-             slot 0: r6 = *(u32 *)(r1 + 12)\nr1: context\nway: 1 -> 0\n",
+             slot 0: r6 = *(u32 *)(r1 + 12)\nr1: context\n\
+             change a register in the loop that its test reads\nway: 1 -> 0\n",
     ),
     (
         "*(u32 *)(r10 - 8) = 5; r0 = *(u64 *)(r10 - 8); exit",
         "refused V7 slot 1\n",
         "stack bytes are read that may be unset, or a part of a stored pointer\n\
              slot 1: r0 = *(u64 *)(r10 - 8)\n\
-             r10: frame pointer at 0\nstack -8: written bytes -8 -7 -6 -5\n",
+             r10: frame pointer at 0\n\
+             write the bytes first; a stored pointer is read whole, with 8 bytes\n\
+             stack -8: written bytes -8 -7 -6 -5\n",
     ),
     (
         "r2 = *(u32 *)(r1 + 0); r3 = *(u32 *)(r1 + 16); r3 &= 15; r2 += r3; r2 += 4;
@@ -127,7 +134,8 @@ const REFUSED: [(&str, &str, &str); 12] = [
         "r3 = -7; r1 *= r3; r0 = 2; exit",
         "refused V3 slot 1\n",
         "the operation is not defined for a pointer\nslot 1: r1 *= r3\n\
-             r1: context\nr3: number -7\n",
+             r1: context\nr3: number -7\n\
+             stack, packet and value pointers move by += and -= of a number, at 64 bits\n",
     ),
     (
         "map hash 4 8 1; r1 = map_by_idx(0); r2 = r10; r2 += -6; call 1; exit",

@@ -2,7 +2,7 @@ use Rattle.std.proofs.Common.{◌∙◌, ◌≤◌, None, subst, sym}
 use Rattle.tasks.specs.Requests.{request_of}
 use Rattle.serving.specs.declared.endings.Ending.{Ending}
 use Rattle.commands.proofs.Knowing.{whole_knows}
-use Rattle.commands.proofs.Endings.{silent_words, silent_memory, unsaid_done, told_faulted, unsaid_knows, told_refused}
+use Rattle.commands.proofs.Endings.{silent_words, silent_memory, done_by, done_plain, faulted_by, refused_by}
 use Rattle.commands.proofs.Silence.{unasked_status, whole_handed_on, whole_silent}
 use Rattle.commands.proofs.Served.{asked-served, unasked}
 use Rattle.commands.proofs.answering.execute.Goals as goal
@@ -23,17 +23,17 @@ returns-in-Ok-clause-no_memory g c e = whole_silent _ (request_of c.in-Ok.task) 
 
 pub returns-in-Ok-clause-done : goal.returns-in-Ok-clause-done
 returns-in-Ok-clause-done g c e =
-    let unsaid = unsaid_done _ (sym c.tell.ensures.status ∙ e) in
-    c.tell.ensures.unsaid unsaid (unsaid_knows _ _ (whole_knows _ (request_of c.in-Ok.task) _ _ _ _ c.flushed.result c.serve.ensures c.flushed.ensures) unsaid)
+    done_by _ (request_of c.in-Ok.task) c.flushed.result.outcome c.flushed.result.why _ _ c.in-Ok.ensures (whole_knows _ (request_of c.in-Ok.task) _ _ _ _ c.flushed.result c.serve.ensures c.flushed.ensures)
+    (sym c.tell.ensures.status ∙ e) c.tell.ensures.unsaid c.tell.ensures.said
 
 pub returns-in-Ok-clause-faulted : goal.returns-in-Ok-clause-faulted
 returns-in-Ok-clause-faulted g c e =
-    told_faulted c.flushed.result.outcome c.flushed.result.why _ _ (whole_knows _ (request_of c.in-Ok.task) _ _ _ _ c.flushed.result c.serve.ensures c.flushed.ensures)
+    faulted_by (request_of c.in-Ok.task) c.flushed.result.outcome c.flushed.result.why _ _ (whole_knows _ (request_of c.in-Ok.task) _ _ _ _ c.flushed.result c.serve.ensures c.flushed.ensures)
     (sym c.tell.ensures.status ∙ e) c.tell.ensures.said
 
 pub returns-in-Ok-clause-refused : goal.returns-in-Ok-clause-refused
 returns-in-Ok-clause-refused g c e =
-    told_refused c.flushed.result.outcome c.flushed.result.why _ _ (whole_knows _ (request_of c.in-Ok.task) _ _ _ _ c.flushed.result c.serve.ensures c.flushed.ensures)
+    refused_by (request_of c.in-Ok.task) c.flushed.result.outcome c.flushed.result.why _ _ (whole_knows _ (request_of c.in-Ok.task) _ _ _ _ c.flushed.result c.serve.ensures c.flushed.ensures)
     (sym c.tell.ensures.status ∙ e) c.tell.ensures.said
 
 pub returns-in-Ok-clause-handed_on : goal.returns-in-Ok-clause-handed_on
@@ -48,3 +48,6 @@ pub returns-in-Err-clause-executes : goal.returns-in-Err-clause-executes
 returns-in-Err-clause-executes g c =
     let ending : Ending = record { outcome = c.of_words.result; why = None } in
     (ending, c.tell-in-Err.ensures.status, unasked _ _ c.in-Err.error _ _ c.in-Err.ensures c.of_words.ensures, c.tell-in-Err.ensures.said)
+
+pub returns-in-Err-clause-done : goal.returns-in-Err-clause-done
+returns-in-Err-clause-done g c e = done_plain _ _ _ _ (sym c.tell-in-Err.ensures.status ∙ e) c.tell-in-Err.ensures.unsaid
