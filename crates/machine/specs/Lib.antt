@@ -1,3 +1,4 @@
 pub mod Messages
 pub mod Running
 pub mod Ready
+pub mod Entries

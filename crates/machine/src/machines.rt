@@ -1,14 +1,17 @@
 //! Machines, and their runs.
 
-ghost use Rattle.std.specs.Prelude.{◌≡◌, ◌<◌, ◌≤◌, ◌^◌, length, IfOk};
+ghost use Rattle.std.specs.Prelude.{◌≡◌, ◌<◌, ◌≤◌, ◌^◌, length, IfOk, IfSome, option_copied};
+ghost use Rattle.std.specs.List.{slice_get};
 ghost use Rattle.isa_model.specs.{max_packet};
 ghost use Rattle.isa_model.specs.Machine.MachineStates.{AreBytes};
+ghost use Rattle.isa_model.specs.Machine.MapContents.{at_key};
 ghost use Rattle.maps.specs.Maps.{rows_of, contents_of};
 ghost use Rattle.machine.specs.Running.{Answers, IsRunning};
+ghost use Rattle.machine.specs.Entries.{row_at, content_at, ordered_at, Updates, Deletes, Copies};
 
 use super::errors::VmError;
 use bounds::Verified;
-use isa_model::{Clock, FrameHead};
+use isa_model::{Clock, FrameHead, MAX_KEY_SIZE, MapDef};
 use maps::Maps;
 use std::alloc::Global;
 use std::marker::Model;
@@ -107,6 +110,84 @@ impl Machine {
         ensures runs { IsRunning self.now }
     {
         self.bound
+    }
+
+    /// How many maps the program has.
+    pub fn map_count(&self) -> usize
+        ensures { result ≡ length self.now.program.maps }
+    {
+        self.memory.maps.count()
+    }
+
+    /// A map's row.
+    pub fn map_row(&self, map: usize) -> MapDef
+        requires { map < length self.now.program.maps }
+        ensures { result ≡ row_at self.now map }
+    {
+        self.memory.maps.row(map)
+    }
+
+    /// The value of a key between runs, if it has one.
+    pub fn lookup(&self, map: usize, key: &[u8]) -> Option<&[u8]>
+        requires map { map < length self.now.program.maps }
+        requires key_size { length key.now ≡ (row_at self.now map).key_size }
+        ensures found { option_copied result ≡ at_key key.now (content_at self.now map) }
+        ensures size { IfSome result (λ value. length value.now
+            ≡ (row_at self.now map).value_size) }
+    {
+        // only for the proof: this call says what is known of each map
+        let _count = self.memory.maps.count();
+        self.memory.maps.lookup(map, key)
+    }
+
+    /// Writes the value of a key between runs, or adds the key. The answer is 0, or the error of the
+    /// first test that fails, and then the machine stays as it is.
+    pub fn update(&mut self, map: usize, key: &[u8], value: &[u8], flags: u64) -> u64
+        requires map { map < length self.old.program.maps }
+        requires key_size { length key.now ≡ (row_at self.old map).key_size }
+        requires value_size { length value.now ≡ (row_at self.old map).value_size }
+        ensures { Updates map key.now value.now flags result self.old self.new }
+    {
+        // only for the proof: these calls say what is known of each map, before and after
+        let _count = self.memory.maps.count();
+        let answer = self.memory.maps.update(map, key, value, flags);
+        let _after = self.memory.maps.count();
+        answer
+    }
+
+    /// Removes a key between runs. The answer is 0, or an error, and then the machine stays as it is.
+    pub fn delete(&mut self, map: usize, key: &[u8]) -> u64
+        requires map { map < length self.old.program.maps }
+        requires key_size { length key.now ≡ (row_at self.old map).key_size }
+        ensures { Deletes map key.now result self.old self.new }
+    {
+        // only for the proof: these calls say what is known of each map, before and after
+        let _count = self.memory.maps.count();
+        let answer = self.memory.maps.delete(map, key);
+        let _after = self.memory.maps.count();
+        answer
+    }
+
+    /// Copies the k-th entry of a map between runs, from 0, in the order of the report, and answers
+    /// whether there is one. It takes no memory, but goes through all entries.
+    pub fn copy_entry(&mut self, map: usize, k: usize, key: &mut [u8], value: &mut [u8]) -> bool
+        requires map { map < length self.old.program.maps }
+        requires key_size { length key.old ≡ (row_at self.old map).key_size }
+        requires value_size { length value.old ≡ (row_at self.old map).value_size }
+        ensures copied { Copies (slice_get (ordered_at self.old map) k) result
+            key.old key.new value.old value.new }
+        ensures machine { self.new ≡ self.old }
+    {
+        // only for the proof: this call says what is known of each map
+        let _count = self.memory.maps.count();
+        let mut front = [0; MAX_KEY_SIZE as usize];
+        let entries = self.memory.maps.order(map);
+        let Some(found) = entries.entry(k, &mut front) else {
+            return false;
+        };
+        key.copy_from_slice(&front[..key.len()]);
+        value.copy_from_slice(found);
+        true
     }
 
     /// Runs the program on a packet from the start, to its exit. It takes no memory.
