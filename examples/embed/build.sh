@@ -1,9 +1,10 @@
 #!/bin/bash
 # Builds the library and its callers in C and Rust, and compares what they say of every image in examples/ with what
 # `xdpvm verify` says. Then refuses the library every request for memory, one after the other.
-# usage: bash examples/embed/build.sh [ARCHIVE [PROGRAM]]        (CC, CFLAGS and RUSTC are taken from the environment)
+# usage: bash examples/embed/build.sh [--built | ARCHIVE [PROGRAM]]    (CC, CFLAGS and RUSTC are taken from the environment)
 # Without ARCHIVE it takes crates/xdpvm_c/out/libxdpvm_c.a; if there is none, it proves and builds it first, which takes
-# half an hour. PROGRAM is crates/xdpvm/out/xdpvm; where it is not built, the callers are compared with each other.
+# half an hour; with --built it is done then, and says so. PROGRAM is crates/xdpvm/out/xdpvm; where it is not built, the
+# callers are compared with each other.
 # The callers stay in crates/xdpvm_c/out. The last line says how many images were compared.
 set -eu
 here=$(cd "$(dirname "$0")" && pwd)
@@ -11,6 +12,13 @@ top=$(dirname "$(dirname "$here")")
 rt=$(command -v rt) || { echo "build.sh: rt, the toolchain's command, is not on the path" >&2; exit 1; }
 heap=$(dirname "$(dirname "$(realpath "$rt")")")/c/liblibc_c.a
 out=$top/crates/xdpvm_c/out
+if [ "${1:-}" = --built ]; then
+    shift
+    if [ ! -f "$out/libxdpvm_c.a" ] || ! command -v "${CC:-cc}" > /dev/null; then
+        echo "build.sh: skipped, since the library is not built or there is no C compiler"
+        exit 0
+    fi
+fi
 archive=${1:-$out/libxdpvm_c.a}
 program=${2:-$top/crates/xdpvm/out/xdpvm}
 if [ ! -f "$archive" ]; then
@@ -20,6 +28,7 @@ fi
 mkdir -p "$out"
 read -ra flags <<< "${CFLAGS:--O2 -Wall -Wextra}"
 "${CC:-cc}" -std=c11 "${flags[@]}" -o "$out/embed" "$here/embed.c" "$archive" "$heap"
+"${CC:-cc}" -std=c11 "${flags[@]}" -o "$out/maps" "$here/maps.c" "$archive" "$heap"
 "${CC:-cc}" -std=c11 "${flags[@]}" -o "$out/fail" "$here/fail.c" "$archive"
 "${CC:-cc}" -std=c11 "${flags[@]}" -DDRIVE -o "$out/fuzz" "$here/fuzz.c" "$archive" "$heap"
 callers=(embed)
@@ -54,6 +63,9 @@ for image in "$top"/examples/*.image; do
         cmp -s "$work/answer" "$work/wanted" || { echo "xdpvm verify $image differs"; differ=$((differ + 1)); }
     fi
 done
+# A session whose map the host fills and reads.
+"$out/maps" > "$work/said" && printf 'interface %d: 3 packets\n' 1 2 | cmp -s - "$work/said" || { echo "maps differs"; differ=$((differ + 1)); }
+
 # The examples of the page, each a whole program.
 block() {
     sed -n "/^\`\`\`$1\$/,/^\`\`\`\$/p" "$top/docs/EMBEDDING.md" | sed '1d;$d'
@@ -68,6 +80,6 @@ if [ ${#callers[@]} = 2 ]; then
     "$work/page" > "$work/said" && [ "$(sed -n 3p "$work/said")" = "refused V7 slot 0" ] || { echo "the page's caller in Rust differs"; differ=$((differ + 1)); }
 fi
 
-"$out/fail" "$top"/examples/{filter,firewall,unguarded,damaged}.image > "$work/refused" || { cat "$work/refused"; differ=$((differ + 1)); }
+"$out/fail" "$top"/examples/{filter,firewall,unguarded,damaged,allow,talkers,pass}.image > "$work/refused" || { cat "$work/refused"; differ=$((differ + 1)); }
 echo "$images images, ${#callers[@]} callers, $(wc -l < "$work/refused") calls without memory, $differ differ"
 ((differ == 0))

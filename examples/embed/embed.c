@@ -37,17 +37,25 @@ static uint32_t judge(size_t size) {
     return status;
 }
 
-/* Runs the program on a packet of 64 bytes, and once more with every access tested: the two have to agree. */
+/* Runs the program on a packet of 64 bytes, once more with every access tested, and in a session: they have to agree. */
 static void run(size_t size, uint32_t bound) {
     struct xdpvm_head head = {.time = 1000, .interface = 2, .queue = 0};
-    struct xdpvm_ended ended;
+    struct xdpvm_ended ended, again;
     struct xdpvm_traced_end traced;
+    struct xdpvm_session session = {0};
     for (size_t i = 0; i < sizeof packet; i++) packet[i] = (uint8_t)i;
     uint32_t ran = xdpvm_run_once(image, size, &head, packet, sizeof packet, &ended);
     for (size_t i = 0; i < sizeof packet; i++) packet[i] = (uint8_t)i;
     uint32_t tested = xdpvm_trace_once(image, size, &head, packet, sizeof packet, bound, &traced);
     if (ran || tested || traced.kind != XDPVM_EXIT || traced.r0 != ended.r0 || traced.steps != ended.steps) {
         fprintf(stderr, "the machines differ\n");
+        exit(1);
+    }
+    for (size_t i = 0; i < sizeof packet; i++) packet[i] = (uint8_t)i;
+    uint32_t opened = xdpvm_open(image, size, &session), second = xdpvm_run(&session, &head, packet, sizeof packet, &again);
+    xdpvm_close(&session);
+    if (opened || second || again.r0 != ended.r0 || again.steps != ended.steps) {
+        fprintf(stderr, "the session differs\n");
         exit(1);
     }
     fprintf(stderr, "action %u, %u steps\n", xdpvm_action(ended.r0), ended.steps);

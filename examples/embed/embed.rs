@@ -4,7 +4,7 @@
 
 mod xdpvm;
 
-use xdpvm::{End, Error, Head};
+use xdpvm::{End, Error, Head, Session};
 
 /// Prints what the command prints, and answers the bound of an accepted program.
 fn judge(image: &[u8]) -> Result<Option<u32>, Error> {
@@ -23,7 +23,7 @@ fn judge(image: &[u8]) -> Result<Option<u32>, Error> {
     }
 }
 
-/// Runs the program, and once more with every access tested: the two have to agree.
+/// Runs the program, and once more with every access tested, and in a session: they have to agree.
 fn run(image: &[u8], bound: u32) -> Result<(), Error> {
     let head = Head {
         time: 1000,
@@ -35,9 +35,65 @@ fn run(image: &[u8], bound: u32) -> Result<(), Error> {
     let ended = xdpvm::run_once(image, &head, &mut packet)?;
     let end = xdpvm::trace_once(image, &head, &mut tested, bound)?;
     assert_eq!((end, tested), (End::Exit(ended), packet));
+    let mut again: [u8; 64] = std::array::from_fn(|i| i as u8);
+    let ran = Session::open(image)?.run(&head, &mut again)?;
+    assert_eq!((ran, again), (ended, packet));
     eprintln!("action {}, {} steps", xdpvm::action(ended.r0), ended.steps);
     Ok(())
 }
+
+/// A program that counts packets by interface, whose map the host fills and reads, and a session that changes threads.
+fn count() -> Result<(), Error> {
+    let image = xdpvm::assemble(COUNTS)?;
+    let mut session = Session::open(&image)?;
+    assert_eq!(session.update(0, &[2, 0, 0, 0], &[0; 8], 1)?, 0);
+    assert_eq!(session.update(0, &[2, 0, 0, 0], &[0; 8], 1)?, -17);
+    assert_eq!(session.delete(0, &[3, 0, 0, 0])?, -2);
+    let mut session = std::thread::spawn(move || {
+        for interface in [1, 2, 2, 3] {
+            let head = Head {
+                interface,
+                ..Head::default()
+            };
+            let ended = session.run(&head, &mut [0; 60])?;
+            assert_eq!(ended.r0, if interface == 2 { 2 } else { 1 });
+        }
+        Ok::<Session, Error>(session)
+    })
+    .join()
+    .expect("the thread")?;
+    let mut key = [0; 4];
+    let mut value = [0; 8];
+    assert!(session.lookup(0, &[2, 0, 0, 0], &mut value)? && value[0] == 2);
+    assert!(!session.lookup(0, &[1, 0, 0, 0], &mut value)?);
+    assert!(session.key_at(0, 0, &mut key, &mut value)? && key == [2, 0, 0, 0] && value[0] == 2);
+    assert!(!session.key_at(0, 1, &mut key, &mut value)?);
+    assert_eq!(
+        session.lookup(1, &[2, 0, 0, 0], &mut value),
+        Err(Error::Wrong)
+    );
+    assert_eq!(session.delete(0, &[2, 0, 0, 0])?, 0);
+    assert!(!session.lookup(0, &[2, 0, 0, 0], &mut value)?);
+    Ok(())
+}
+
+/// Counts a packet where the map has its interface.
+const COUNTS: &str = "map hash 4 8 8
+r2 = *(u32 *)(r1 + 12)
+*(u32 *)(r10 - 4) = r2
+r1 = map_by_idx(0)
+r2 = r10
+r2 += -4
+call 1
+if r0 == 0 goto other
+r1 = *(u64 *)(r0 + 0)
+r1 += 1
+*(u64 *)(r0 + 0) = r1
+r0 = 2
+exit
+other: r0 = 1
+exit
+";
 
 fn main() -> Result<(), Box<dyn std::error::Error>> {
     assert_eq!(xdpvm::version(), "0.1.0");
@@ -57,9 +113,16 @@ fn main() -> Result<(), Box<dyn std::error::Error>> {
         (&ran.report[..], &ran.sent[..]),
         (&b"end 0\n"[..], &b"XPF1"[..])
     );
-    assert!(matches!(
+    assert_eq!(
         xdpvm::recheck(&image, b"XPT1"),
+        Err(Error::Refused(
+            "refused P2\nthe table is shorter than its head, or than its entries\n".into()
+        ))
+    );
+    assert!(matches!(
+        Session::open_with_table(&image, b"XPT1"),
         Err(Error::Refused(_))
     ));
+    count()?;
     Ok(())
 }

@@ -1,8 +1,8 @@
 /* Every request for memory refused, one after the other, in every call that takes some: the answer is XDPVM_MEMORY, or what
-   it is with all memory; no memory is lost, and nothing is written. Linked with the library alone, whose three heap
-   functions are defined here.
+   it is with all memory; no memory is lost, and nothing is written. On an open session no call asks for any. Linked with
+   the library alone, whose three heap functions are defined here.
 
-   usage: fail IMAGE.. (with a text beside each image that is to be assembled, NAME.text) */
+   usage: fail IMAGE.. (with a text beside each image that is to be assembled, NAME.text, and a proof table, NAME.table) */
 #include "xdpvm.h"
 #include <stdio.h>
 #include <stdlib.h>
@@ -43,9 +43,10 @@ void rattle_dealloc(void *at) {
     free(at);
 }
 
-static uint8_t image[1 << 16], text[1 << 16], frames[4 + 20 + 64], table[384];
+static uint8_t image[1 << 16], text[1 << 16], frames[4 + 20 + 64], table[1 << 16];
 static uint8_t why[1 << 14], made[1 << 16], packet[64];
-static size_t image_size, text_size;
+static size_t image_size, text_size, table_size;
+static const struct xdpvm_head head = {7, 2, 0};
 
 static size_t read_file(const char *path, uint8_t *to, size_t room) {
     FILE *file = fopen(path, "rb");
@@ -55,7 +56,44 @@ static size_t read_file(const char *path, uint8_t *to, size_t room) {
     return size;
 }
 
-static const char *const CALLS[] = {"assemble", "verify", "run_once", "trace_once", "run_stream", "recheck"};
+enum { ASSEMBLE, VERIFY, RUN_ONCE, TRACE_ONCE, RUN_STREAM, RECHECK, OPEN, OPEN_WITH_TABLE, OPENED, CALLS };
+
+static const char *const NAMES[CALLS] = {"assemble", "verify", "run_once", "trace_once", "run_stream", "recheck", "open",
+                                         "open_with_table", "run, lookup, update, delete, next"};
+
+/* What opening a session is answered; where that is not XDPVM_OK, the session is still closed. */
+static uint32_t opened(int with_table, struct xdpvm_session *session) {
+    uint32_t status = with_table ? xdpvm_open_with_table(image, image_size, table, table_size, session)
+                                 : xdpvm_open(image, image_size, session);
+    return status != XDPVM_OK && session->at ? 99 : status;
+}
+
+/* Calls on a session that was opened with all memory. The image's first map row says which size its keys and values have.
+   Of the calls' statuses the greatest. */
+static uint32_t call_session(void) {
+    struct xdpvm_session session = {0};
+    struct xdpvm_ended ended;
+    struct xdpvm_changed changed;
+    static uint8_t key[64], value[1 << 12];
+    long some = left;
+    left = -1;
+    uint32_t most = opened(0, &session);
+    left = some, requests = 0;
+    if (most == XDPVM_OK) {
+        size_t key_size = image[10], value_size = image[12] | (size_t)image[13] << 8;
+        int maps = image[4] != 0;
+        uint32_t answers[5] = {
+            xdpvm_run(&session, &head, made, 64, &ended),
+            maps ? xdpvm_update(&session, 0, key, key_size, value, value_size, 0, &changed) : 0,
+            maps ? xdpvm_lookup(&session, 0, key, key_size, value, value_size) : 0,
+            maps ? xdpvm_next(&session, 0, 0, key, key_size, value, value_size) : 0,
+            maps ? xdpvm_delete(&session, 0, key, key_size, &changed) : 0,
+        };
+        for (int i = 0; i < 5; i++) most = answers[i] > most ? answers[i] : most;
+        xdpvm_close(&session);
+    }
+    return most;
+}
 
 /* One call, into buffers that are zero-filled before it; a status of 5 has to leave them so. */
 static uint32_t call(int which) {
@@ -64,15 +102,22 @@ static uint32_t call(int which) {
     struct xdpvm_ended ended = {0, 0};
     struct xdpvm_traced_end traced = {0, 0, 0, 0};
     struct xdpvm_streamed streamed = {0, 0, 0, 0, 0};
-    struct xdpvm_rechecked rechecked = {0, 0, 0};
-    struct xdpvm_head head = {7, 2, 0};
+    struct xdpvm_rechecked rechecked = {0, 0, 0, 0};
+    struct xdpvm_session session = {0};
+    uint32_t status;
     switch (which) {
-    case 0: return xdpvm_assemble(text, text_size, made, sizeof made, why, sizeof why, &assembled);
-    case 1: return xdpvm_verify(image, image_size, XDPVM_MAX_EXPLORED, why, sizeof why, &verdict);
-    case 2: return xdpvm_run_once(image, image_size, &head, packet, sizeof packet, &ended);
-    case 3: return xdpvm_trace_once(image, image_size, &head, packet, sizeof packet, 100000, &traced);
-    case 4: return xdpvm_run_stream(image, image_size, frames, sizeof frames, made, sizeof made, why, sizeof why, &streamed);
-    default: return xdpvm_recheck(image, image_size, table, sizeof table, &rechecked);
+    case ASSEMBLE: return xdpvm_assemble(text, text_size, made, sizeof made, why, sizeof why, &assembled);
+    case VERIFY: return xdpvm_verify(image, image_size, XDPVM_MAX_EXPLORED, why, sizeof why, &verdict);
+    case RUN_ONCE: return xdpvm_run_once(image, image_size, &head, packet, sizeof packet, &ended);
+    case TRACE_ONCE: return xdpvm_trace_once(image, image_size, &head, packet, sizeof packet, 100000, &traced);
+    case RUN_STREAM:
+        return xdpvm_run_stream(image, image_size, frames, sizeof frames, made, sizeof made, why, sizeof why, &streamed);
+    case RECHECK: return xdpvm_recheck(image, image_size, table, table_size, why, sizeof why, &rechecked);
+    case OPENED: return call_session();
+    default:
+        status = opened(which == OPEN_WITH_TABLE, &session);
+        xdpvm_close(&session);
+        return status;
     }
 }
 
@@ -85,13 +130,18 @@ int main(int words, char **word) {
     int failed = 0;
     memcpy(frames, "XPF1", 4);
     frames[4 + 16] = 64;
-    memcpy(table, "XPT1\2", 5);
     for (int i = 1; i < words; i++) {
         char path[512];
         image_size = read_file(word[i], image, sizeof image);
         snprintf(path, sizeof path, "%.*stext", (int)(strlen(word[i]) - 5), word[i]);
         text_size = read_file(path, text, sizeof text);
-        for (int which = 0; which < 6; which++) {
+        snprintf(path, sizeof path, "%.*stable", (int)(strlen(word[i]) - 5), word[i]);
+        table_size = read_file(path, table, sizeof table);
+        if (!table_size) {
+            memset(table, 0, table_size = 384);
+            memcpy(table, "XPT1\2", 5);
+        }
+        for (int which = 0; which < CALLS; which++) {
             left = -1;
             uint32_t wanted = call(which), status;
             long refusals = 0, others = 0, lost = 0, written = 0;
@@ -108,7 +158,7 @@ int main(int words, char **word) {
                     others += status != wanted;
                 }
             }
-            printf("%s %s: status %u, %ld requests refused; another status %ld, lost %ld, written %ld\n", word[i], CALLS[which],
+            printf("%s %s: status %u, %ld requests refused; another status %ld, lost %ld, written %ld\n", word[i], NAMES[which],
                    wanted, refusals, others, lost, written);
             failed |= status != wanted || others || lost || written;
         }

@@ -1,4 +1,5 @@
-/* What libFuzzer or AFL++ calls: an accepted program runs, its traced run agrees, and all calls agree in the verdict.
+/* What libFuzzer or AFL++ calls: an accepted program runs, its traced run and its session agree, and all calls agree in the
+   verdict.
 
    The input's first byte says by its lowest bit whether a text (1) or an image (0) is at byte 12; before that come the head
    and the length of the packet. With bit 1 the image ends after as many bytes as bytes 10 and 11 say, and what follows it is
@@ -10,7 +11,8 @@
 #include <stdlib.h>
 #include <string.h>
 
-static uint8_t image[XDPVM_MAX_IMAGE], why[1 << 14], one[XDPVM_MAX_PACKET], two[XDPVM_MAX_PACKET];
+static uint8_t image[XDPVM_MAX_IMAGE], why[1 << 14];
+static uint8_t one[XDPVM_MAX_PACKET], two[XDPVM_MAX_PACKET], three[XDPVM_MAX_PACKET];
 static unsigned long tried, accepted, traced_alone, undecided, rechecks, streams;
 
 /* No input takes seconds: what is explored up to here takes milliseconds. */
@@ -61,13 +63,25 @@ static void compare(const uint8_t *code, size_t size, const struct xdpvm_head *h
     check(tested == XDPVM_OK && traced.kind == XDPVM_EXIT, "an accepted program traps, or passes its bound");
     check(traced.r0 == ended.r0 && traced.steps == ended.steps, "r0 or steps");
     check(!memcmp(one, two, length), "the packets");
+    struct xdpvm_session session = {0};
+    uint32_t opened = xdpvm_open(code, size, &session);
+    if (opened == XDPVM_MEMORY) return;
+    uint32_t again = xdpvm_run(&session, head, three, length, &ended);
+    xdpvm_close(&session);
+    check(opened == XDPVM_OK && again == XDPVM_OK, "verify and open");
+    check(traced.r0 == ended.r0 && traced.steps == ended.steps && !memcmp(three, two, length), "a run in a session");
 }
 
 /* A table that passes shows what a verified program has: the traced run exits within its bound. */
 static void recheck(const uint8_t *code, size_t size, const uint8_t *table, size_t count, const struct xdpvm_head *head, size_t length) {
-    struct xdpvm_rechecked rechecked = {0, 0, 0};
+    struct xdpvm_rechecked rechecked = {0, 0, 0, 0};
     struct xdpvm_traced_end end = {0, 0, 9, 0};
-    if (xdpvm_recheck(code, size, table, count, &rechecked) != XDPVM_OK) return;
+    struct xdpvm_session session = {0};
+    uint32_t shown = xdpvm_recheck(code, size, table, count, why, sizeof why, &rechecked);
+    uint32_t opened = xdpvm_open_with_table(code, size, table, count, &session);
+    xdpvm_close(&session);
+    check(shown == opened || shown == XDPVM_MEMORY || opened == XDPVM_MEMORY, "recheck and open_with_table");
+    if (shown != XDPVM_OK) return;
     rechecks++;
     check(rechecked.bound >= 1 && rechecked.bound <= XDPVM_MAX_STEPS, "the bound of a table");
     uint32_t tested = xdpvm_trace_once(code, size, head, two, length, rechecked.bound, &end);
@@ -97,7 +111,7 @@ int LLVMFuzzerTestOneInput(const uint8_t *data, size_t count) {
     if (count < 12) return 0;
     struct xdpvm_head head = {data[1], data[2], data[3]};
     size_t length = (data[4] | (size_t)data[5] << 8) % (XDPVM_MAX_PACKET + 1);
-    for (size_t i = 0; i < length; i++) one[i] = two[i] = (uint8_t)(data[6 + i % 6] + i / 6);
+    for (size_t i = 0; i < length; i++) one[i] = two[i] = three[i] = (uint8_t)(data[6 + i % 6] + i / 6);
     const uint8_t *code = data + 12;
     size_t size = count - 12;
     if (data[0] & 2) {

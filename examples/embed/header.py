@@ -13,7 +13,7 @@ import re
 import sys
 
 TOP = os.path.dirname(os.path.dirname(os.path.dirname(os.path.abspath(__file__))))
-NUMBERS = {"u8": "uint8_t", "u32": "uint32_t", "u64": "uint64_t", "usize": "size_t"}
+NUMBERS = {"u8": "uint8_t", "u32": "uint32_t", "u64": "uint64_t", "usize": "size_t", "": "void"}
 
 
 def read(*names):
@@ -57,33 +57,42 @@ def listed(words, parameters):
 
 
 def exports(source):
-    """Each export, with its parameters and its result."""
-    return re.findall(r'#\[unsafe\(no_mangle\)\]\s+pub extern "C" fn (\w+)\((.*?)\) -> (\w+)', source, re.S)
+    """Each export, with its parameters and its result, which may be none."""
+    return re.findall(r'#\[unsafe\(no_mangle\)\]\s+pub extern "C" fn (\w+)\(([^)]*)\)(?: -> (\w+))?', source)
 
 
 def structs(source):
-    """Each struct that crosses, with its fields."""
+    """Each struct that crosses, with its fields; a pointer to what only the library reads is one to nothing known."""
     for name, body in re.findall(r"#\[repr\(C\)\]\s+(?:#\[.*?\]\s+)*(?:pub )?struct (\w+) \{(.*?)\n\}", source, re.S):
-        yield name, re.findall(r"^ *(?:pub )?(\w+): (\w+),", body, re.M)
+        if name != "Opaque":
+            yield name, re.findall(r"^ *(?:pub )?(\w+): (\w+|\*mut \w+),", body.replace("*mut Opaque", "*mut c_void"), re.M)
+
+
+def c_field(field, kind):
+    return f"void *{field};" if kind == "*mut c_void" else f"{NUMBERS[kind]} {field};"
 
 
 def c_wanted(source):
     functions = {name: f"{NUMBERS[result]} {name}({listed(words, c_parameters)})" for name, words, result in exports(source)}
     kinds = {}
     for name, fields in structs(source):
-        kinds[c_name(name)] = f"{c_name(name)} {{ {' '.join(f'{NUMBERS[kind]} {field};' for field, kind in fields)} }}"
+        kinds[c_name(name)] = f"{c_name(name)} {{ {' '.join(c_field(*field) for field in fields)} }}"
     return functions, kinds
 
 
+def rust_function(name, parameters, result):
+    return f"fn {name}({parameters})" + (f" -> {result}" if result else "")
+
+
 def rust_wanted(source):
-    functions = {name: f"fn {name}({listed(words, rust_parameters)}) -> {result}" for name, words, result in exports(source)}
+    functions = {name: rust_function(name, listed(words, rust_parameters), result) for name, words, result in exports(source)}
     return functions, {name: str(fields) for name, fields in structs(source)}
 
 
 def rust_declared(text):
     functions = {}
-    for name, words, result in re.findall(r"fn (xdpvm_\w+)\((.*?)\) -> (\w+);", text, re.S):
-        functions[name] = f"fn {name}({' '.join(words.split()).rstrip(',')}) -> {result}"
+    for name, words, result in re.findall(r"fn (xdpvm_\w+)\(([^)]*)\)(?: -> (\w+))?;", text):
+        functions[name] = rust_function(name, " ".join(words.split()).rstrip(","), result)
     return functions, {name: str(fields) for name, fields in structs(text)}
 
 
@@ -105,7 +114,7 @@ def constant(source, name):
 
 def limits(source):
     """The numbers of the header, by the constants of the crates."""
-    for name in ("OK", "WRONG", "REFUSED", "MEMORY", "UNDECIDED"):
+    for name in ("OK", "WRONG", "REFUSED", "MEMORY", "UNDECIDED", "ABSENT"):
         yield f"XDPVM_{name}", constant(source, name)
     below = read("crates/isa_model/src/limits.rt")
     for name in ("MAX_PACKET", "MAX_STEPS", "MAX_EXPLORED"):

@@ -9,9 +9,13 @@
    - The thread has 2 MiB of stack. Where `why_len` is 0, 256 KiB are enough for xdpvm_verify.
    - malloc, realloc and free are from one allocator. No call comes from a signal handler, or from the forked child of a
      process with threads.
+   - A struct xdpvm_session is all zero bytes at first, and from then on only calls change it. A copy of it is not one more
+     session: of the two only one may be used. It is in one call at a time. Another thread may make the next call, if it is
+     ordered after this one, by a lock or by the start or the join of a thread.
 
-   Nothing is kept between calls, so any number of threads may call at once, each with its own memory. All memory that a
-   call takes is given back before it returns. No call prints, opens a file, reads a clock, or ends the process.
+   Nothing else is kept between calls, so any number of threads may call at once, each with its own memory and sessions.
+   All memory that a call takes is given back before it returns, but for what a session holds, until xdpvm_close. No call
+   prints, opens a file, reads a clock, or ends the process.
 
    A text or an image goes into a buffer of yours as far as there is room, and its whole size is answered: if that is more
    than your buffer has, call again with more. No text ends in a zero byte.
@@ -34,6 +38,7 @@ extern "C" {
 #define XDPVM_WRONG 1   /* an argument is outside its limits: nothing was done */
 #define XDPVM_REFUSED 2 /* the text, the image, the program or the table is refused */
 #define XDPVM_MEMORY 5  /* out of memory: nothing was written */
+#define XDPVM_ABSENT 7  /* a map has no such key */
 #define XDPVM_UNDECIDED 6 /* neither accepted nor refused: the limit of xdpvm_verify came first. Nothing was written */
 
 /* An image never has more bytes: 8, 12 for each of 16 maps, 8 for each of 4,096 slots. */
@@ -99,12 +104,24 @@ struct xdpvm_streamed {
     uint32_t fault;
 };
 
-/* The bound that a proof table shows. Refused: the rule that is broken, 6 for P6, and for P5, P7 and P8 the entry. Rule 0
-   is an image or a control flow that is refused, which xdpvm_verify says too. */
+/* The bound that a proof table shows. Refused: the rule that is broken, 6 for P6, and for P5, P7 and P8 the entry; rule 0
+   is an image or a control flow that is refused; and the size of the text that says why. */
 struct xdpvm_rechecked {
+    size_t said;
     size_t entry;
     uint32_t bound;
     uint32_t rule;
+};
+
+/* A program that stays open, with its maps; or nothing, where it is closed. */
+struct xdpvm_session {
+    void *at;
+};
+
+/* What an update or a delete of a key is answered: 0; or a negative error in 64 bits, as a program's helper answers it,
+   and then nothing has changed. */
+struct xdpvm_changed {
+    uint64_t answer;
 };
 
 /* Writes the library's version, and answers its size. */
@@ -141,8 +158,45 @@ uint32_t xdpvm_run_stream(const uint8_t *image, size_t image_len, const uint8_t 
                           size_t report_len, uint8_t *sent, size_t sent_len, struct xdpvm_streamed *out);
 
 /* Tests a proof table of an image's program, with no trust in its maker. XDPVM_OK: the promise of xdpvm_verify, with the
-   bound of the table. */
-uint32_t xdpvm_recheck(const uint8_t *image, size_t image_len, const uint8_t *table, size_t table_len, struct xdpvm_rechecked *out);
+   bound of the table. XDPVM_REFUSED: `why` gets what `xdpvm recheck` prints: the code and the entry, a sentence, the slot
+   with its instruction, and what is known there, which is looked for only where why_len is not 0. */
+uint32_t xdpvm_recheck(const uint8_t *image, size_t image_len, const uint8_t *table, size_t table_len, uint8_t *why,
+                       size_t why_len, struct xdpvm_rechecked *out);
+
+/* Verifies an image, and opens a closed session on its program, with maps as they start. XDPVM_WRONG: the session is open.
+   XDPVM_REFUSED: xdpvm_verify says why. At each status but XDPVM_OK the session stays as it was. */
+uint32_t xdpvm_open(const uint8_t *image, size_t image_len, struct xdpvm_session *session);
+
+/* The same, shown by a proof table. XDPVM_REFUSED: xdpvm_recheck says why. */
+uint32_t xdpvm_open_with_table(const uint8_t *image, size_t image_len, const uint8_t *table, size_t table_len,
+                               struct xdpvm_session *session);
+
+/* Runs an open program on a packet, in place. The maps go on to the next run. It takes no memory. XDPVM_WRONG: the session
+   is closed, or the packet has more than 9,216 bytes. */
+uint32_t xdpvm_run(struct xdpvm_session *session, const struct xdpvm_head *head, uint8_t *packet, size_t packet_len,
+                   struct xdpvm_ended *out);
+
+/* Closes a session, and gives its memory back. A closed one stays as it is. */
+void xdpvm_close(struct xdpvm_session *session);
+
+/* Maps of an open program between runs, by their number from 0. None of these calls takes memory. XDPVM_WRONG: the session is
+   closed, there is no such map, or the key or the value has another size than the map's row says.
+
+   The value of a key; XDPVM_ABSENT where it has none. */
+uint32_t xdpvm_lookup(struct xdpvm_session *session, size_t map, const uint8_t *key, size_t key_len, uint8_t *value, size_t value_len);
+
+/* Writes the value of a key, or adds the key, by the flags of bpf_map_update_elem: 0 any, 1 only a new key, 2 only one that is
+   there. */
+uint32_t xdpvm_update(struct xdpvm_session *session, size_t map, const uint8_t *key, size_t key_len, const uint8_t *value,
+                      size_t value_len, uint64_t flags, struct xdpvm_changed *out);
+
+/* Removes a key. */
+uint32_t xdpvm_delete(struct xdpvm_session *session, size_t map, const uint8_t *key, size_t key_len, struct xdpvm_changed *out);
+
+/* The key at a rank, from 0, with its value: of an array by its index, of a hash map by the bytes of the keys. XDPVM_ABSENT
+   where the map has fewer keys. Each call goes through the whole map. */
+uint32_t xdpvm_next(struct xdpvm_session *session, size_t map, size_t rank, uint8_t *key, size_t key_len, uint8_t *value,
+                    size_t value_len);
 
 /* The action that r0 names at the last exit, by its low 32 bits: 0 aborted, 1 drop, 2 pass, 3 tx, 4 redirect; 5 for every
    other number. */

@@ -2,7 +2,9 @@
 //! build.sh does. header.py compares the declarations with the sources of the library.
 #![allow(dead_code)]
 
+use std::ffi::c_void;
 use std::fmt;
+use std::ptr::null_mut;
 
 /// The most bytes of an image.
 const MAX_IMAGE: usize = 32_968;
@@ -65,9 +67,23 @@ struct Streamed {
 #[repr(C)]
 #[derive(Default)]
 struct Rechecked {
+    said: usize,
     entry: usize,
     bound: u32,
     rule: u32,
+}
+
+#[repr(C)]
+#[derive(Default)]
+struct Changed {
+    answer: u64,
+}
+
+/// A program that stays open, with its maps, until it is dropped. Any thread may have it, one at a time.
+#[repr(C)]
+#[derive(Debug)]
+pub struct Session {
+    at: *mut c_void,
 }
 
 unsafe extern "C" {
@@ -122,8 +138,60 @@ unsafe extern "C" {
         image_len: usize,
         table: *const u8,
         table_len: usize,
+        why: *mut u8,
+        why_len: usize,
         out: &mut Rechecked,
     ) -> u32;
+    fn xdpvm_open(image: *const u8, image_len: usize, session: &mut Session) -> u32;
+    fn xdpvm_open_with_table(
+        image: *const u8,
+        image_len: usize,
+        table: *const u8,
+        table_len: usize,
+        session: &mut Session,
+    ) -> u32;
+    fn xdpvm_run(
+        session: &mut Session,
+        head: &Head,
+        packet: *mut u8,
+        packet_len: usize,
+        out: &mut Ended,
+    ) -> u32;
+    fn xdpvm_lookup(
+        session: &mut Session,
+        map: usize,
+        key: *const u8,
+        key_len: usize,
+        value: *mut u8,
+        value_len: usize,
+    ) -> u32;
+    fn xdpvm_update(
+        session: &mut Session,
+        map: usize,
+        key: *const u8,
+        key_len: usize,
+        value: *const u8,
+        value_len: usize,
+        flags: u64,
+        out: &mut Changed,
+    ) -> u32;
+    fn xdpvm_delete(
+        session: &mut Session,
+        map: usize,
+        key: *const u8,
+        key_len: usize,
+        out: &mut Changed,
+    ) -> u32;
+    fn xdpvm_next(
+        session: &mut Session,
+        map: usize,
+        rank: usize,
+        key: *mut u8,
+        key_len: usize,
+        value: *mut u8,
+        value_len: usize,
+    ) -> u32;
+    fn xdpvm_close(session: &mut Session);
     safe fn xdpvm_action(r0: u64) -> u32;
 }
 
@@ -332,22 +400,150 @@ pub fn run_stream(image: &[u8], frames: &[u8]) -> Result<Ran, Error> {
 /// The bound that a proof table shows of an image's program, whoever made the table.
 pub fn recheck(image: &[u8], table: &[u8]) -> Result<u32, Error> {
     let mut out = Rechecked::default();
-    // SAFETY: as above.
-    let status = unsafe {
-        xdpvm_recheck(
-            image.as_ptr(),
-            image.len(),
-            table.as_ptr(),
-            table.len(),
-            &mut out,
-        )
-    };
-    let why = match out.rule {
-        0 => String::new(),
-        5 | 7 | 8 => format!("refused P{} entry {}\n", out.rule, out.entry),
-        rule => format!("refused P{rule}\n"),
-    };
-    answer(status, out.bound, why.into_bytes())
+    let (status, why) = with_room(1024, |why| {
+        // SAFETY: as above.
+        let status = unsafe {
+            xdpvm_recheck(
+                image.as_ptr(),
+                image.len(),
+                table.as_ptr(),
+                table.len(),
+                why.as_mut_ptr(),
+                why.len(),
+                &mut out,
+            )
+        };
+        (status, if status == 2 { out.said } else { 0 })
+    });
+    answer(status, out.bound, why)
+}
+
+// SAFETY: the library proves that a session may go to another thread, and nothing can be done with a `&Session`.
+unsafe impl Send for Session {}
+
+impl Session {
+    fn closed() -> Session {
+        Session { at: null_mut() }
+    }
+
+    /// Verifies an image, and opens its program, with maps as they start.
+    pub fn open(image: &[u8]) -> Result<Session, Error> {
+        let mut session = Session::closed();
+        // SAFETY: as above; the session is closed.
+        let status = unsafe { xdpvm_open(image.as_ptr(), image.len(), &mut session) };
+        answer(status, session, Vec::new())
+    }
+
+    /// The same, shown by a proof table, whoever made it.
+    pub fn open_with_table(image: &[u8], table: &[u8]) -> Result<Session, Error> {
+        let mut session = Session::closed();
+        // SAFETY: as above; the session is closed.
+        let status = unsafe {
+            xdpvm_open_with_table(
+                image.as_ptr(),
+                image.len(),
+                table.as_ptr(),
+                table.len(),
+                &mut session,
+            )
+        };
+        answer(status, session, Vec::new())
+    }
+
+    /// Runs the program on a packet. The maps go on to the next run.
+    pub fn run(&mut self, head: &Head, packet: &mut [u8]) -> Result<Ended, Error> {
+        let mut out = Ended::default();
+        // SAFETY: as above; the session is one that `open` gave, and this call has it for itself.
+        let status = unsafe { xdpvm_run(self, head, packet.as_mut_ptr(), packet.len(), &mut out) };
+        answer(status, out, Vec::new())
+    }
+
+    /// Reads the value of a key in a map, and says whether it has one.
+    pub fn lookup(&mut self, map: usize, key: &[u8], value: &mut [u8]) -> Result<bool, Error> {
+        // SAFETY: as above.
+        found(unsafe {
+            xdpvm_lookup(
+                self,
+                map,
+                key.as_ptr(),
+                key.len(),
+                value.as_mut_ptr(),
+                value.len(),
+            )
+        })
+    }
+
+    /// Writes the value of a key in a map, or adds the key, by the flags of `bpf_map_update_elem`. Answers 0, or a
+    /// negative error, and then nothing has changed.
+    pub fn update(
+        &mut self,
+        map: usize,
+        key: &[u8],
+        value: &[u8],
+        flags: u64,
+    ) -> Result<i64, Error> {
+        let mut out = Changed::default();
+        // SAFETY: as above.
+        let status = unsafe {
+            xdpvm_update(
+                self,
+                map,
+                key.as_ptr(),
+                key.len(),
+                value.as_ptr(),
+                value.len(),
+                flags,
+                &mut out,
+            )
+        };
+        answer(status, out.answer as i64, Vec::new())
+    }
+
+    /// Removes a key from a map. Answers 0, or a negative error, and then nothing has changed.
+    pub fn delete(&mut self, map: usize, key: &[u8]) -> Result<i64, Error> {
+        let mut out = Changed::default();
+        // SAFETY: as above.
+        let status = unsafe { xdpvm_delete(self, map, key.as_ptr(), key.len(), &mut out) };
+        answer(status, out.answer as i64, Vec::new())
+    }
+
+    /// Reads the key at a rank, from 0, with its value, and says whether there is one: of an array by its index, of a hash
+    /// map by the bytes of the keys. Each call goes through the whole map.
+    pub fn key_at(
+        &mut self,
+        map: usize,
+        rank: usize,
+        key: &mut [u8],
+        value: &mut [u8],
+    ) -> Result<bool, Error> {
+        // SAFETY: as above.
+        found(unsafe {
+            xdpvm_next(
+                self,
+                map,
+                rank,
+                key.as_mut_ptr(),
+                key.len(),
+                value.as_mut_ptr(),
+                value.len(),
+            )
+        })
+    }
+}
+
+impl Drop for Session {
+    fn drop(&mut self) {
+        // SAFETY: as above, and nothing has the session after this.
+        unsafe { xdpvm_close(self) }
+    }
+}
+
+/// Whether a map has the key.
+fn found(status: u32) -> Result<bool, Error> {
+    match status {
+        7 => Ok(false),
+        _ => answer(status, true, Vec::new()),
+    }
 }
 
 /// The action that r0 names: 0 aborted, 1 drop, 2 pass, 3 tx, 4 redirect, 5 for every other number.

@@ -18,6 +18,14 @@ IsStatus status = (status ≡ 1) ⊎ IsVerdict status
 abbrev pub IsDecision : ℕ → Type 0
 IsDecision status = (status ≡ 6) ⊎ IsVerdict status
 
+-- of a key: done, an argument is outside its limits, or there is none
+abbrev pub IsLookUp : ℕ → Type 0
+IsLookUp status = (status ≡ 0) ⊎ ((status ≡ 1) ⊎ (status ≡ 7))
+
+-- of a run or a change: done, or an argument is outside its limits
+abbrev pub IsChange : ℕ → Type 0
+IsChange status = (status ≡ 0) ⊎ (status ≡ 1)
+
 -- a buffer after bytes were written to it, as far as there is room
 abbrev pub filled : List ℕ → List ℕ → List ℕ
 filled buffer bytes = take (length buffer) bytes ++ drop (length bytes) buffer

@@ -4,3 +4,5 @@ pub mod Verdicts
 pub mod Traces
 pub mod Streams
 pub mod Tables
+pub mod Ownership
+pub mod Sessions

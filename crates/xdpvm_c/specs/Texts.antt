@@ -8,10 +8,17 @@ use Rattle.image.specs.declared.errors.ImageError.{ImageError}
 use Rattle.image.specs.declared.errors.ImageError.TheVariants.{Code, MapRow, UnknownMap, ValuePointer}
 use Rattle.image.specs.Messages as image
 use Rattle.walks.specs.declared.refusals.Refusal.{Refusal}
+use Rattle.walks.specs.declared.refusals.Refusal.TheVariants as program
 use Rattle.walks.specs.Messages as walks
 use Rattle.explanations.specs.Reasons.{IsReason}
 use Rattle.assembler.specs.declared.errors.AsmError.{AsmError}
 use Rattle.assembler.specs.Messages as assembler
+use Rattle.transfer.specs.Messages as transfer
+use Rattle.table_entries.specs.declared.faults.TableFault.TheVariants as fault
+use Rattle.rechecking.specs.declared.errors.TableError.{TableError}
+use Rattle.rechecking.specs.declared.errors.TableError.TheVariants as table
+use Rattle.rechecking.specs.Messages as rechecking
+use Rattle.explanations.specs.Entries.{IsEntryReason}
 
 -- a code with its place, and then the sentence and the place again, a line each
 abbrev pub told_at : List ℕ → List ℕ → List ℕ → List ℕ → List ℕ
@@ -58,3 +65,40 @@ pub record TellsProgram (p : Program) (refusal : Refusal) (slot : ℕ) (text : L
   pub known : List ℕ
   pub is_known : (known ≡ []) ⊎ IsReason p refusal slot known
   pub text_is : text ≡ program_front refusal slot ++ (insn_end (fetch p slot) ++ known)
+
+abbrev pub entry_place : ℕ → List ℕ
+entry_place index = codes "entry " ++ decimal index
+
+-- a table is refused at an entry, or as a whole
+abbrev pub fault_front : TableError → List ℕ
+fault_front (table.Fault (fault.Entry index)) =
+    told_at (rechecking.code_of (table.Fault (fault.Entry index))) (entry_place index) [] (rechecking.sentence_of (table.Fault (fault.Entry index)))
+fault_front (table.Step index refusal) =
+    told_at (rechecking.code_of (table.Step index refusal)) (entry_place index) (codes " " ++ transfer.code_of refusal) (rechecking.sentence_of (table.Step index refusal))
+fault_front (table.Successor index) =
+    told_at (rechecking.code_of (table.Successor index)) (entry_place index) [] (rechecking.sentence_of (table.Successor index))
+fault_front error = codes "refused " ++ (rechecking.code_of error ++ (codes "\n" ++ (rechecking.sentence_of error ++ codes "\n")))
+
+-- or the control flow of its program is, at a slot
+abbrev pub table_front : Program → TableError → List ℕ
+table_front p (table.Flow error slot) = program_front (program.Flow error) slot ++ insn_end (fetch p slot)
+table_front p error = fault_front error
+
+-- why the step of an entry is refused
+abbrev pub step_sentence : TableError → List ℕ
+step_sentence (table.Step index refusal) = transfer.sentence_of refusal ++ codes "\n"
+step_sentence error = []
+
+-- what is known of the entry, if that was looked for: the slot of its step with the instruction, and what the step or its
+-- successors differ in
+abbrev pub TellsEntry : Program → List ℕ → TableError → List ℕ → Type 0
+TellsEntry p bytes error text =
+    (text ≡ step_sentence error)
+    ⊎ ((slot : ℕ) × (insn : Insn) × (known : List ℕ) × IsEntryReason p bytes error slot insn known
+    × (text ≡ slot_place slot ++ (codes ": " ++ (line_of insn ++ (step_sentence error ++ known)))))
+
+-- the same behind the front
+pub record TellsTable (p : Program) (bytes : List ℕ) (error : TableError) (text : List ℕ) : Type 0 where
+  pub entry : List ℕ
+  pub is_entry : TellsEntry p bytes error entry
+  pub text_is : text ≡ table_front p error ++ entry

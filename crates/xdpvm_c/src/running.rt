@@ -33,8 +33,8 @@ pub struct Ended {
     pub steps: u32,
 }
 
-// The machine of an accepted program, on maps as they start. None: memory ran out.
-fn machine_of(alloc: Global, verified: Verified) -> Option<Machine>
+/// The machine of an accepted program, on maps as they start. None: memory ran out.
+pub fn machine_of(alloc: Global, verified: Verified) -> Option<Machine>
     ensures made { IfSome result (λ machine. machine ≡ record {
       program = verified.program;
       bound = verified.bound;

@@ -15,6 +15,9 @@ pub const MEMORY: u32 = 5;
 /// Neither accepted nor refused: the caller's limit on explored instructions came first.
 pub const UNDECIDED: u32 = 6;
 
+/// The map has no such key.
+pub const ABSENT: u32 = 7;
+
 /// Why there is no accepted program.
 #[derive(Clone, Copy, PartialEq, Eq, Debug)]
 pub enum Failure {

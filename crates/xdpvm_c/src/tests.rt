@@ -2,5 +2,6 @@
 
 mod images;
 mod runs;
+mod sessions;
 mod tables;
 mod verdicts;

@@ -53,8 +53,8 @@ pub fn source_text(alloc: Global, error: AsmError) -> Result<String, AllocError>
     format!(in alloc; "refused {code} {place}{why}\n{place}")
 }
 
-// Why a program is refused, and at which slot.
-fn program_front(alloc: Global, refusal: Refusal, slot: usize) -> Result<String, AllocError>
+/// Why a program is refused, and at which slot.
+pub fn program_front(alloc: Global, refusal: Refusal, slot: usize) -> Result<String, AllocError>
     ensures { IfOk result (λ text. string_bytes text ≡ program_front refusal slot) }
 {
     let code = refusal.code();
@@ -62,8 +62,8 @@ fn program_front(alloc: Global, refusal: Refusal, slot: usize) -> Result<String,
     format!(in alloc; "refused {code} slot {slot}\n{why}\nslot {slot}")
 }
 
-// Ends the line that names a slot: with the instruction that begins there, if one does.
-fn end_line(text: &mut Vec<u8>, insn: Option<&Insn>) -> io::Result<()>
+/// Ends the line that names a slot: with the instruction that begins there, if one does.
+pub fn end_line(text: &mut Vec<u8>, insn: Option<&Insn>) -> io::Result<()>
     ensures { OnOk result (text.new.items ≡ text.old.items ++ insn_end (option_copied insn.entry)) }
 {
     match insn {

@@ -37,11 +37,12 @@ fn rechecked(
         *there = byte;
     }
     let mut out = Rechecked {
+        said: 9,
         entry: 9,
         bound: 9,
         rule: 9,
     };
-    let status = xdpvm_recheck(alloc, image, &bytes, &mut out);
+    let status = xdpvm_recheck(alloc, image, &bytes, &mut [], &mut out);
     Ok((status, out.bound, out.rule, out.entry))
 }
 
@@ -65,6 +66,43 @@ fn rechecks(rt: HostRuntime) -> Result<(), AllocError> {
     for (image, place, byte, wanted) in CHANGES.iter() {
         let answer = rechecked(rt.alloc(), image, *place, *byte)?;
         assert!(rt; answer == *wanted, "byte {place}");
+    }
+    Ok(())
+}
+
+/// The text of a refusal of the table with a byte changed, as docs/REFUSALS.md has it.
+const TEXTS: [(usize, u8, &str); 3] = [
+    (0, 0x59, "refused P1\nthe bytes do not begin with XPT1\n"),
+    (
+        166,
+        9,
+        "refused P5 entry 1\na field of the entry has a value that is not allowed\nentry 1\n",
+    ),
+    (
+        8,
+        1,
+        "refused P8 entry 0\nthe named entries do not cover its successors, or their numbers are \
+         not smaller\nentry 0\nslot 0: r0 = 2\nsuccessor 0: entry 1 has number 1, not smaller than 1\n",
+    ),
+];
+
+#[test]
+fn says_why_a_table_is_refused(rt: HostRuntime) -> Result<(), AllocError> {
+    for (place, byte, wanted) in TEXTS.iter() {
+        let mut bytes = table(rt.alloc())?;
+        if let Some(there) = bytes.get_mut(*place) {
+            *there = *byte;
+        }
+        let mut why = [7; 200];
+        let mut out = Rechecked {
+            said: 9,
+            entry: 9,
+            bound: 9,
+            rule: 9,
+        };
+        let status = xdpvm_recheck(rt.alloc(), &PASS, &bytes, &mut why, &mut out);
+        assert!(rt; status == 2 && out.said == wanted.len(), "{wanted}");
+        assert!(rt; why.starts_with(wanted.as_bytes()), "{wanted}");
     }
     Ok(())
 }

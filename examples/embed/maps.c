@@ -1,0 +1,75 @@
+/* A program whose map the host fills and reads: it counts the packets of each interface in a hash map, between two of which
+   the host looks. Prints each count that it finds.
+
+   usage: maps */
+#include "xdpvm.h"
+#include <stdio.h>
+#include <stdlib.h>
+#include <string.h>
+
+static const char TEXT[] = "map hash 4 8 8\n"
+                           "        r2 = *(u32 *)(r1 + 12)\n"
+                           "        *(u32 *)(r10 - 4) = r2\n"
+                           "        r1 = map_by_idx(0)\n"
+                           "        r2 = r10\n"
+                           "        r2 += -4\n"
+                           "        call 1\n"
+                           "        if r0 == 0 goto other\n"
+                           "        r1 = *(u64 *)(r0 + 0)\n"
+                           "        r1 += 1\n"
+                           "        *(u64 *)(r0 + 0) = r1\n"
+                           "        r0 = 2\n"
+                           "        exit\n"
+                           "other:  r0 = 1\n"
+                           "        exit\n";
+
+static void need(int holds, const char *what) {
+    if (!holds) {
+        fprintf(stderr, "maps: %s\n", what);
+        exit(1);
+    }
+}
+
+/* The packets of an interface that the program has seen. */
+static uint64_t count(struct xdpvm_session *session, uint32_t interface) {
+    uint64_t packets = 0;
+    uint32_t status = xdpvm_lookup(session, 0, (uint8_t *)&interface, 4, (uint8_t *)&packets, 8);
+    need(status == XDPVM_OK || status == XDPVM_ABSENT, "a look-up");
+    return packets;
+}
+
+int main(void) {
+    static uint8_t image[XDPVM_MAX_IMAGE], why[4096], packet[60];
+    struct xdpvm_assembled made;
+    struct xdpvm_session session = {0};
+    struct xdpvm_changed changed;
+    struct xdpvm_ended ended;
+    uint32_t status = xdpvm_assemble((const uint8_t *)TEXT, strlen(TEXT), image, sizeof image, why, sizeof why, &made);
+    if (status == XDPVM_REFUSED) fwrite(why, 1, made.size < sizeof why ? made.size : sizeof why, stderr);
+    need(status == XDPVM_OK && xdpvm_open(image, made.size, &session) == XDPVM_OK, "the program");
+
+    /* the host says which interfaces count */
+    for (uint32_t interface = 1; interface <= 2; interface++) {
+        uint64_t none = 0;
+        status = xdpvm_update(&session, 0, (uint8_t *)&interface, 4, (uint8_t *)&none, 8, 1, &changed);
+        need(status == XDPVM_OK && changed.answer == 0, "an update");
+    }
+    for (uint32_t i = 0; i < 9; i++) {
+        struct xdpvm_head head = {.time = i, .interface = i % 3, .queue = 0};
+        need(xdpvm_run(&session, &head, packet, sizeof packet, &ended) == XDPVM_OK, "a run");
+        need(xdpvm_action(ended.r0) == (i % 3 ? 2u : 1u), "an action");
+    }
+    need(count(&session, 0) == 0 && count(&session, 1) == 3 && count(&session, 2) == 3, "the counts");
+    uint32_t key;
+    uint64_t value;
+    for (size_t rank = 0; xdpvm_next(&session, 0, rank, (uint8_t *)&key, 4, (uint8_t *)&value, 8) == XDPVM_OK; rank++) {
+        printf("interface %u: %llu packets\n", key, (unsigned long long)value);
+    }
+    key = 1;
+    need(xdpvm_delete(&session, 0, (uint8_t *)&key, 4, &changed) == XDPVM_OK && changed.answer == 0, "a delete");
+    need(xdpvm_lookup(&session, 0, (uint8_t *)&key, 3, (uint8_t *)&value, 8) == XDPVM_WRONG, "a key of another size");
+    need(xdpvm_lookup(&session, 1, (uint8_t *)&key, 4, (uint8_t *)&value, 8) == XDPVM_WRONG, "a map that is not there");
+    xdpvm_close(&session);
+    need(xdpvm_run(&session, &(struct xdpvm_head){0, 0, 0}, packet, sizeof packet, &ended) == XDPVM_WRONG, "a closed session");
+    return 0;
+}
