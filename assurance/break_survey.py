@@ -1,0 +1,98 @@
+#!/usr/bin/env python3
+"""Breaks xdpvm_survey from outside: makes each allocation, each read and each write of some command lines fail in turn.
+
+usage: python3 assurance/break_survey.py [PROGRAM]
+
+PROGRAM is xdpvm_survey (the default: crates/xdpvm_survey/out/xdpvm_survey). Where an allocation fails the status is 5 and
+standard error says so, or a row says `memory`; or what is known of a refusal is left out. Where a read fails its file is
+named, with status 4 or more, and where a write fails the output is, or standard error got less. Never does it crash, and
+never is an image accepted that is not. It needs a C compiler (CC). The last line is 'N tried, M wrong'. In the gate.
+"""
+import os
+import re
+import shutil
+import subprocess
+import sys
+import tempfile
+
+HERE = os.path.dirname(os.path.abspath(__file__))
+TOP = os.path.dirname(HERE)
+RUNS = (
+    ["examples/filter.image", "examples/unguarded.image", "--format", "csv"],
+    ["few", "--sort", "bound"],
+    ["few", "--compare", "old.csv", "--format", "json"],
+    ["few", "--tables", "made"],
+    ["log", "examples/guarded.image"],
+    ["log", "examples/unguarded.image", "--slot", "1"],
+    ["dis", "examples/guarded.image"],
+    ["dis", "--dot", "examples/guarded.image"],
+    ["--sort", "nothing", "few"],
+)
+TIMES = re.compile(rb"\d+\.\d+|(?<=,)\d+\.\d+")
+
+
+class Answer:
+    """What the program wrote, its status, and whether the call that was to fail was reached. Times are left out."""
+
+    def __init__(self, program, words, kind=None, call=0):
+        env = {"LD_PRELOAD": os.path.abspath("between.so")}
+        if os.path.exists("mark"):
+            os.remove("mark")
+        if kind:
+            env.update({"BREAK": kind, "WHEN": str(call), "MARK": "mark"})
+        ran = subprocess.run([program, *words], env=env, stdin=subprocess.DEVNULL, stdout=subprocess.PIPE, stderr=subprocess.PIPE, timeout=60)
+        self.status, self.out, self.err = ran.returncode, TIMES.sub(b"T", ran.stdout), ran.stderr
+        self.broken = os.path.exists("mark")
+
+
+def is_shorter(answer, whole):
+    """Whether lines were left out at the end of what is known of a refusal."""
+    return (answer.status, answer.err) == (whole.status, whole.err) and b"refused" in answer.out and whole.out.startswith(answer.out)
+
+
+def is_right(kind, answer, whole):
+    if (answer.status, answer.out, answer.err) == (whole.status, whole.out, whole.err):
+        return True
+    if kind == "alloc":
+        says = answer.err.endswith(b"out of memory\n") or b"memory" in answer.out
+        return answer.status == 5 and says or is_shorter(answer, whole)
+    if kind == "read":
+        return answer.status in (4, 5) and b"cannot read" in answer.err or answer.status == whole.status and answer.out == whole.out
+    less_said = answer.status == whole.status and answer.out == whole.out and answer.err != whole.err
+    return answer.status == 4 and b"cannot write" in answer.err or less_said
+
+
+def prepare():
+    os.symlink(os.path.join(TOP, "examples"), "examples")
+    for name in ("few", "made"):
+        os.mkdir(name)
+    for name in ("filter", "talkers", "unguarded"):
+        shutil.copy(f"examples/{name}.image", "few")
+    with open("old.csv", "w", encoding="utf-8") as file:
+        file.write("file,bound,explored\nfew/filter.image,5,7\n")
+    compiler = os.environ.get("CC") or shutil.which("cc") or shutil.which("clang")
+    subprocess.run([compiler, "-O1", "-fPIC", "-shared", "-o", "between.so", os.path.join(HERE, "break.c")], check=True)
+
+
+def main():
+    program = os.path.abspath(sys.argv[1] if len(sys.argv) > 1 else os.path.join(TOP, "crates/xdpvm_survey/out/xdpvm_survey"))
+    tried = wrong = 0
+    with tempfile.TemporaryDirectory() as folder:
+        os.chdir(folder)
+        prepare()
+        for words in RUNS:
+            whole = Answer(program, words)
+            for kind in ("alloc", "read", "write"):
+                call = 1
+                while (answer := Answer(program, words, kind, call)).broken:
+                    tried += 1
+                    if not is_right(kind, answer, whole):
+                        wrong += 1
+                        print(f"{' '.join(words)}: {kind} {call}: {answer.status} {answer.out[-200:]} {answer.err[-200:]}")
+                    call += 1
+        os.chdir("/")
+    print(f"{tried} tried, {wrong} wrong")
+    sys.exit(1 if wrong else 0)
+
+
+main()

@@ -1,0 +1,86 @@
+//! What the program does with its words, and its status.
+
+ghost use Rattle.std.specs.Prelude.{◌≤◌, IfOk};
+
+use crate::failures::Failure;
+use crate::looks::{Look, look_at};
+use crate::surveying::survey;
+use buffered_io::PromptWriter;
+use std::io::Write;
+use std::rt::{Clock, Files};
+use survey_words::{Asked, read_words};
+use tasks::WordsError;
+
+/// Does what is asked for, and answers the status.
+fn serve<R: Files + Clock + AllocGlobal + Clone + Drop, W1: Write, W2: Write>(
+    rt: &R,
+    asked: &Asked<'_>,
+    has_progress: bool,
+    out: &mut W1,
+    err: &mut W2,
+) -> Result<u8, Failure>
+    ensures { IfOk result (λ status. status ≤ 5) }
+{
+    match asked {
+        Asked::Survey(wanted) => survey(rt, wanted, has_progress, out, err),
+        Asked::Log(path, slot) => look_at(rt, *path, Look::Log(*slot), out),
+        Asked::Listing(path) => look_at(rt, *path, Look::Listing, out),
+        Asked::Graph(path) => look_at(rt, *path, Look::Graph, out),
+    }
+}
+
+/// Flushes standard output after a task that ended so.
+fn flushed<R: AllocGlobal, W: Write + Drop>(
+    rt: &R,
+    ended: Result<u8, Failure>,
+    out: &mut PromptWriter<W>,
+) -> Result<u8, Failure>
+    requires { IfOk ended (λ status. status ≤ 5) }
+    ensures { IfOk result (λ status. status ≤ 5) }
+{
+    let status = ended?;
+    match out.flush() {
+        Ok(()) => Ok(status),
+        Err(error) => Err(Failure::of_output(rt.alloc(), &error)),
+    }
+}
+
+/// Does what the arguments ask for, and answers the program's status: 0 all images are accepted, 1
+/// invalid arguments, 2 one is refused, 4 a file or an output failed, 5 out of memory. How far a
+/// survey is goes to standard error where that is wanted.
+pub fn execute<R: Files + Clock + AllocGlobal + Clone + Drop, W1: Write + Drop, W2: Write>(
+    rt: &R,
+    words: &[String],
+    has_progress: bool,
+    out: &mut PromptWriter<W1>,
+    err: &mut W2,
+) -> u8
+    ensures { result ≤ 5 }
+{
+    let asked = match read_words(rt.alloc(), words) {
+        Ok(asked) => asked,
+        Err(error) => return Failure::of_words(error).tell(err),
+    };
+    let ended = serve(rt, &asked, has_progress, out, err);
+    match flushed(rt, ended, out) {
+        Ok(status) => status,
+        Err(failure) => failure.tell(err),
+    }
+}
+
+/// Does what the words that the program was given ask for, and answers its status; where they could
+/// not be got, standard error says why.
+pub fn answer<R: Files + Clock + AllocGlobal + Clone + Drop, W1: Write + Drop, W2: Write>(
+    rt: &R,
+    given: Result<Vec<String>, WordsError>,
+    has_progress: bool,
+    out: &mut PromptWriter<W1>,
+    err: &mut W2,
+) -> u8
+    ensures { result ≤ 5 }
+{
+    match given {
+        Ok(words) => execute(rt, words.as_slice(), has_progress, out, err),
+        Err(error) => Failure::of_words(error).tell(err),
+    }
+}

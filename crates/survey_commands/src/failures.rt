@@ -1,0 +1,94 @@
+//! Why the program ends early, and what it says then.
+
+ghost use Rattle.std.specs.Prelude.{◌≡◌, ◌≤◌};
+
+use exact_io::write_bytes;
+use std::alloc::{AllocError, Global};
+use std::io;
+use std::io::{ErrorKind, Write};
+use tasks::WordsError;
+
+const USAGE: &str = "usage: xdpvm_survey IMAGE|FOLDER .. | log IMAGE | dis IMAGE\n";
+
+/// Why the program ends early.
+#[derive(Drop)]
+pub enum Failure {
+    /// The words ask for nothing. The text says why, or is the help.
+    Words(String),
+    /// A file or an output failed, as the text says.
+    File(String),
+    Memory,
+}
+
+impl From<AllocError> for Failure {
+    ghost use Rattle.std.specs.Prelude.{◌≡◌};
+    ghost use Rattle.survey_commands.specs.declared.failures.Failure.TheVariants.{Memory};
+
+    ghost from_gives = { λ _ e. e ≡ Memory };
+
+    fn from(_error: AllocError) -> Failure {
+        Failure::Memory
+    }
+}
+
+/// The line for a file or an output that failed.
+pub fn file_line(
+    alloc: Global,
+    what: &str,
+    path: &str,
+    kind: ErrorKind,
+) -> Result<String, AllocError> {
+    format!(in alloc; "cannot {what} {path}: {kind}\n")
+}
+
+impl Failure {
+    /// The words ask for nothing, or memory ran out before that was known.
+    pub fn of_words(error: WordsError) -> Self {
+        match error {
+            WordsError::Wrong(text) => Failure::Words(text),
+            WordsError::Memory => Failure::Memory,
+        }
+    }
+
+    /// A file or an output failed.
+    pub fn of_file(alloc: Global, what: &str, path: &str, error: &io::Error) -> Self {
+        match error.kind() {
+            ErrorKind::OutOfMemory => Failure::Memory,
+            kind => match file_line(alloc, what, path, kind) {
+                Ok(line) => Failure::File(line),
+                Err(_) => Failure::Memory,
+            },
+        }
+    }
+
+    /// Standard output failed.
+    pub fn of_output(alloc: Global, error: &io::Error) -> Self {
+        Failure::of_file(alloc, "write", "standard output", error)
+    }
+
+    /// Says on standard error what went wrong, and answers the status. Nothing can be said of a
+    /// failure of standard error.
+    pub fn tell<W: Write>(self, err: &mut W) -> u8
+        ensures { result ≤ 5 }
+    {
+        match self {
+            Failure::Words(text) => {
+                let text = if text.is_empty() {
+                    USAGE
+                } else {
+                    text.as_str()
+                };
+                let _ = write_bytes(err, text.as_bytes());
+                1
+            }
+            Failure::File(line) => {
+                let _ = write_bytes(err, line.as_bytes());
+                4
+            }
+            Failure::Memory => {
+                let _ = write_bytes(err, b"out of memory\n");
+                5
+            }
+        }
+    }
+}

@@ -1,0 +1,14 @@
+//! The program `xdpvm_survey`, on any runtime and any outputs.
+#![tactic(auto)]
+
+mod answering;
+mod failures;
+mod files;
+mod folders;
+mod looks;
+mod progress;
+mod surveying;
+mod tables;
+mod writing;
+
+pub use answering::{answer, execute};

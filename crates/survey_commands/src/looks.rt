@@ -1,0 +1,111 @@
+//! Looks into one image.
+
+ghost use Rattle.std.specs.Prelude.{◌≤◌, IfOk};
+
+use crate::failures::Failure;
+use crate::files::read_image;
+use control_flow::FlowError;
+use exact_io::write_bytes;
+use explanations::reason;
+use explorer::Refusal;
+use image::{Image, ImageError};
+use std::alloc::{AllocError, Global};
+use std::io;
+use std::io::Write;
+use std::rt::Files;
+use surveys::{LookError, write_graph, write_listing, write_log};
+
+/// What is looked at.
+#[derive(Clone, Copy, Drop)]
+pub enum Look {
+    /// What was explored, all or at one slot.
+    Log(Option<usize>),
+    Listing,
+    Graph,
+}
+
+/// Says a line or more.
+fn say<W: Write>(alloc: Global, text: &str, out: &mut W) -> Result<(), Failure> {
+    match write_bytes(out, text.as_bytes()) {
+        Ok(()) => Ok(()),
+        Err(error) => Err(Failure::of_output(alloc, &error)),
+    }
+}
+
+/// The lines of bytes that are no image.
+fn malformed_text(alloc: Global, error: ImageError) -> Result<String, AllocError> {
+    let (code, why) = (error.code(), error.sentence());
+    format!(in alloc; "refused {code}\n{why}\n")
+}
+
+/// The lines of a program that is refused: the code and the slot, why, and what is known there.
+fn refused_text(
+    alloc: Global,
+    image: &Image,
+    refusal: Refusal,
+    slot: usize,
+) -> Result<String, AllocError> {
+    let (code, why) = (refusal.code(), refusal.sentence());
+    let mut text = format!(in alloc; "refused {code} slot {slot}\n{why}\n")?;
+    if let Some(known) = reason(alloc, image, refusal, slot) {
+        text.push_str(known.as_str())?;
+    }
+    Ok(text)
+}
+
+fn write_look<W: Write>(
+    alloc: Global,
+    image: &Image,
+    look: Look,
+    out: &mut W,
+) -> Result<(), LookError> {
+    match look {
+        Look::Log(slot) => write_log(alloc, image, slot, out),
+        Look::Listing => write_listing(alloc, image, out),
+        Look::Graph => write_graph(alloc, image, out),
+    }
+}
+
+/// Looks into an image, and answers the status: 2 where it is refused.
+fn look_into<W: Write>(alloc: Global, image: &Image, look: Look, out: &mut W) -> Result<u8, Failure>
+    ensures { IfOk result (λ status. status ≤ 2) }
+{
+    match write_look(alloc, image, look, out) {
+        Ok(()) => Ok(0),
+        Err(LookError::Memory) => Err(Failure::Memory),
+        Err(LookError::Refused(Refusal::Memory | Refusal::Flow(FlowError::Memory), _)) => Err(
+            Failure::Memory,
+        ),
+        Err(LookError::Writer(kind)) => { Err(Failure::of_output(alloc, &io::Error::from(kind))) }
+        Err(LookError::Refused(refusal, slot)) => {
+            let text = refused_text(alloc, image, refusal, slot)?;
+            say(alloc, text.as_str(), out)?;
+            Ok(2)
+        }
+    }
+}
+
+/// Looks into the image in a file, and answers the status.
+pub fn look_at<R: Files + AllocGlobal, W: Write>(
+    rt: &R,
+    path: &str,
+    look: Look,
+    out: &mut W,
+) -> Result<u8, Failure>
+    ensures { IfOk result (λ status. status ≤ 2) }
+{
+    let alloc = rt.alloc();
+    let bytes = match read_image(rt, alloc, path) {
+        Ok(bytes) => bytes,
+        Err(error) => return Err(Failure::of_file(alloc, "read", path, &error)),
+    };
+    match Image::parse(alloc, bytes.as_slice()) {
+        Ok(image) => look_into(alloc, &image, look, out),
+        Err(ImageError::Memory) => Err(Failure::Memory),
+        Err(error) => {
+            let text = malformed_text(alloc, error)?;
+            say(alloc, text.as_str(), out)?;
+            Ok(2)
+        }
+    }
+}

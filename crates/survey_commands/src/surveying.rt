@@ -1,0 +1,180 @@
+//! Surveys: the rows of all images.
+
+ghost use Rattle.std.specs.Prelude.{◌≤◌, IfOk};
+
+use crate::failures::{Failure, file_line};
+use crate::files::read_image;
+use crate::folders::{Named, add_folder, add_images, images};
+use crate::progress::Progress;
+use crate::tables::store_table;
+use crate::writing::{Sheet, sheet_of, write_head, write_row, write_waiting};
+use exact_io::write_bytes;
+use std::alloc::{AllocError, Global};
+use std::io::{ErrorKind, Write};
+use std::rt::{Clock, Files};
+use survey_rows::{Counts, Row, Summary, Verdict};
+use survey_words::Survey;
+use surveys::{Judged, judge};
+
+/// Says on standard error why a file cannot be read, and answers how its image is judged.
+fn unread<W: Write>(
+    alloc: Global,
+    path: &str,
+    kind: ErrorKind,
+    err: &mut W,
+) -> Result<Verdict, AllocError> {
+    if let ErrorKind::OutOfMemory = kind {
+        return Ok(Verdict::NoMemory);
+    }
+    let line = file_line(alloc, "read", path, kind)?;
+    let _ = write_bytes(err, line.as_bytes());
+    Ok(Verdict::Unreadable)
+}
+
+/// The row of a file or a folder that cannot be read.
+fn row_unread<W: Write>(
+    alloc: Global,
+    path: &str,
+    kind: ErrorKind,
+    err: &mut W,
+) -> Result<Row, AllocError> {
+    let verdict = unread(alloc, path, kind, err)?;
+    let file = String::from_str(alloc, path)?;
+    Ok(Row {
+        file,
+        verdict,
+        counts: Counts::default(),
+    })
+}
+
+/// How an image is judged. One that is accepted, but without the table that is wanted, is not judged
+/// to the end: memory ran out.
+fn verdict_of(judged: &Judged, has_table: bool) -> Verdict {
+    match judged.verdict {
+        Verdict::Accepted if has_table && judged.table.is_none() => Verdict::NoMemory,
+        verdict => verdict,
+    }
+}
+
+/// The row of a file.
+fn row_of<R: Files + Clock + AllocGlobal, W: Write>(
+    rt: &R,
+    path: &str,
+    tables: Option<&str>,
+    err: &mut W,
+) -> Result<Row, Failure> {
+    let alloc = rt.alloc();
+    let bytes = match read_image(rt, alloc, path) {
+        Ok(bytes) => bytes,
+        Err(error) => return Ok(row_unread(alloc, path, error.kind(), err)?),
+    };
+    let judged = judge(rt, alloc, bytes.as_slice(), tables.is_some());
+    if let (Some(folder), Some(table)) = (tables, &judged.table) {
+        store_table(rt, alloc, folder, path, table.as_slice())?;
+    }
+    let file = String::from_str(alloc, path)?;
+    Ok(Row {
+        file,
+        verdict: verdict_of(&judged, tables.is_some()),
+        counts: judged.counts,
+    })
+}
+
+/// The row of what a path names.
+fn row_named<R: Files + Clock + AllocGlobal, W: Write>(
+    rt: &R,
+    named: &Named,
+    tables: Option<&str>,
+    err: &mut W,
+) -> Result<Row, Failure> {
+    match named.failure {
+        Some(kind) => Ok(row_unread(rt.alloc(), named.path.as_str(), kind, err)?),
+        None => row_of(rt, named.path.as_str(), tables, err),
+    }
+}
+
+fn keep(rows: &mut Vec<Row>, row: Row) -> Result<(), AllocError> {
+    rows.push(row)?;
+    Ok(())
+}
+
+/// All images that the paths name, and the folders that cannot be read.
+fn all_named<R: Files + AllocGlobal + Clone + Drop>(
+    rt: &R,
+    survey: &Survey<'_>,
+) -> Result<Vec<Named>, Failure> {
+    let alloc = rt.alloc();
+    let mut all = Vec::new(alloc);
+    for path in survey.paths.as_slice() {
+        match images(rt, *path) {
+            Ok(paths) => add_images(alloc, paths.as_slice(), &mut all)?,
+            Err(error) => add_folder(alloc, *path, error.kind(), &mut all)?,
+        }
+    }
+    Ok(all)
+}
+
+/// The line that standard error gets at the end.
+fn summary_line(alloc: Global, summary: &Summary) -> Result<String, AllocError> {
+    let accepted = summary.accepted;
+    let refused = summary.refused;
+    let unreadable = summary.unreadable;
+    let unjudged = summary.unjudged;
+    format!(in alloc;
+        "{accepted} accepted, {refused} refused, {unreadable} unreadable, {unjudged} out of memory\n"
+    )
+}
+
+/// Judges images, and writes the row of each one where it need not wait. Answers the rows that wait
+/// for the others, and how the images were judged.
+fn judge_all<R: Files + Clock + AllocGlobal, W1: Write, W2: Write>(
+    rt: &R,
+    sheet: &Sheet<'_>,
+    named: &[Named],
+    progress: &mut Progress,
+    out: &mut W1,
+    err: &mut W2,
+) -> Result<(Vec<Row>, Summary), Failure> {
+    let alloc = rt.alloc();
+    let mut waiting = Vec::new(alloc);
+    let mut summary = Summary::default();
+    for one in named {
+        progress.show(alloc, err)?;
+        let row = row_named(rt, one, sheet.survey.tables, err)?;
+        summary.count(row.verdict);
+        progress.advance();
+        if sheet.has_to_wait() {
+            keep(&mut waiting, row)?;
+        } else {
+            progress.clear(err);
+            write_row(alloc, sheet, row, out)?;
+        }
+    }
+    progress.clear(err);
+    Ok((waiting, summary))
+}
+
+/// Surveys images: standard output gets a row for each as it is judged, or in the end all in their
+/// order, or what changed; standard error which files cannot be read, how far the survey is where
+/// that is wanted, and at the end how many images were judged in which way. Answers the status of
+/// those.
+pub fn survey<R: Files + Clock + AllocGlobal + Clone + Drop, W1: Write, W2: Write>(
+    rt: &R,
+    survey: &Survey<'_>,
+    has_progress: bool,
+    out: &mut W1,
+    err: &mut W2,
+) -> Result<u8, Failure>
+    ensures { IfOk result (λ status. status ≤ 5) }
+{
+    let alloc = rt.alloc();
+    let named = all_named(rt, survey)?;
+    let sheet = sheet_of(alloc, survey, named.as_slice())?;
+    write_head(alloc, &sheet, out)?;
+    let mut progress = Progress::of(named.len(), has_progress);
+    let (mut rows, summary) = judge_all(rt, &sheet, named.as_slice(), &mut progress, out, err)?;
+    write_waiting(rt, &sheet, &mut rows, out)?;
+    let line = summary_line(alloc, &summary)?;
+    let _ = write_bytes(err, line.as_bytes());
+    Ok(summary.status())
+}

@@ -1,0 +1,178 @@
+//! How the rows of a survey are written.
+
+use crate::failures::Failure;
+use crate::files::read_file;
+use crate::folders::Named;
+use exact_io::write_bytes;
+use std::alloc::{AllocError, Global};
+use std::io::Write;
+use std::rt::Files;
+use survey_rows::{
+    Column, EarlierError, Grid, Layout, Row, changes_since, csv_text, grid_of, json_text, sort,
+    table_text, width_of,
+};
+use survey_words::{Format, Survey};
+
+/// The columns of a survey without proof tables.
+const COLUMNS: [Column; 11] = [
+    Column::File,
+    Column::Verdict,
+    Column::Slot,
+    Column::Slots,
+    Column::Maps,
+    Column::Bound,
+    Column::Explored,
+    Column::Stored,
+    Column::Deepest,
+    Column::StoredBytes,
+    Column::Milliseconds,
+];
+
+/// Those that proof tables add.
+const TABLE_COLUMNS: [Column; 3] = [
+    Column::TableBytes,
+    Column::ProveMilliseconds,
+    Column::RecheckMilliseconds,
+];
+
+/// What is asked for, and how rows are laid out for it.
+#[derive(Drop)]
+pub struct Sheet<'a> {
+    pub survey: &'a Survey<'a>,
+    pub layout: Layout,
+}
+
+impl Sheet<'_> {
+    /// Whether a row has to wait for the others: where rows are sorted or compared.
+    pub fn has_to_wait(&self) -> bool {
+        self.survey.sort.is_some() || self.survey.earlier.is_some()
+    }
+}
+
+/// The columns of a survey.
+fn columns_of(alloc: Global, survey: &Survey<'_>) -> Result<Vec<Column>, AllocError> {
+    let mut columns = Vec::from_slice(alloc, &COLUMNS)?;
+    if survey.tables.is_some() {
+        columns.extend_from_slice(&TABLE_COLUMNS)?;
+    }
+    Ok(columns)
+}
+
+/// How many characters the longest path has; but no fewer than the name of its column.
+fn longest_of(named: &[Named]) -> usize {
+    let mut longest = Column::File.width();
+    for one in named {
+        longest = longest.max(width_of(one.path.as_str()));
+    }
+    longest
+}
+
+/// How the rows of these images are laid out.
+pub fn sheet_of<'a>(
+    alloc: Global,
+    survey: &'a Survey<'a>,
+    named: &[Named],
+) -> Result<Sheet<'a>, AllocError> {
+    let columns = columns_of(alloc, survey)?;
+    Ok(Sheet {
+        survey,
+        layout: Layout {
+            columns,
+            longest: longest_of(named),
+            only_refused: survey.only_refused,
+        },
+    })
+}
+
+/// The text of a grid.
+fn text_of(
+    alloc: Global,
+    format: Format,
+    has_header: bool,
+    grid: &Grid,
+) -> Result<Vec<u8>, AllocError> {
+    match format {
+        Format::Csv => csv_text(alloc, grid, has_header),
+        Format::Table => Ok(table_text(alloc, grid, has_header)?.into_bytes()),
+        Format::Json => Ok(json_text(alloc, grid)?.into_bytes()),
+    }
+}
+
+fn write_grid<W: Write>(
+    alloc: Global,
+    sheet: &Sheet<'_>,
+    has_header: bool,
+    grid: &Grid,
+    out: &mut W,
+) -> Result<(), Failure> {
+    let text = text_of(alloc, sheet.survey.format, has_header, grid)?;
+    match write_bytes(out, text.as_slice()) {
+        Ok(()) => Ok(()),
+        Err(error) => Err(Failure::of_output(alloc, &error)),
+    }
+}
+
+/// Writes the names of the columns, where rows need not wait.
+pub fn write_head<W: Write>(alloc: Global, sheet: &Sheet<'_>, out: &mut W) -> Result<(), Failure> {
+    if sheet.has_to_wait() {
+        return Ok(());
+    }
+    let grid = grid_of(alloc, &[], &sheet.layout)?;
+    write_grid(alloc, sheet, sheet.survey.has_header, &grid, out)
+}
+
+/// A list of one row.
+fn one(alloc: Global, row: Row) -> Result<Vec<Row>, AllocError> {
+    let mut rows = Vec::new(alloc);
+    rows.push(row)?;
+    Ok(rows)
+}
+
+/// Writes a row that need not wait.
+pub fn write_row<W: Write>(
+    alloc: Global,
+    sheet: &Sheet<'_>,
+    row: Row,
+    out: &mut W,
+) -> Result<(), Failure> {
+    let rows = one(alloc, row)?;
+    let grid = grid_of(alloc, rows.as_slice(), &sheet.layout)?;
+    write_grid(alloc, sheet, false, &grid, out)
+}
+
+/// What is other than in the earlier survey in a file.
+fn compared<R: Files>(rt: &R, alloc: Global, path: &str, rows: &[Row]) -> Result<Grid, Failure> {
+    let bytes = match read_file(rt, alloc, path) {
+        Ok(bytes) => bytes,
+        Err(error) => return Err(Failure::of_file(alloc, "read", path, &error)),
+    };
+    match changes_since(alloc, bytes.as_slice(), rows) {
+        Ok(grid) => Ok(grid),
+        Err(EarlierError::Memory) => Err(Failure::Memory),
+        Err(EarlierError::Form) => {
+            let line = format!(in alloc; "cannot compare with {path}: it is no survey as csv\n")?;
+            Err(Failure::File(line))
+        }
+    }
+}
+
+/// Writes the rows that waited, in their order, or what is other than in an earlier survey.
+pub fn write_waiting<R: Files + AllocGlobal, W: Write>(
+    rt: &R,
+    sheet: &Sheet<'_>,
+    rows: &mut Vec<Row>,
+    out: &mut W,
+) -> Result<(), Failure> {
+    if !sheet.has_to_wait() {
+        return Ok(());
+    }
+    let alloc = rt.alloc();
+    if let Some(column) = sheet.survey.sort {
+        sort(rows, column)?;
+    }
+    let grid = match sheet.survey.earlier {
+        Some(path) => compared(rt, alloc, path, rows.as_slice())?,
+        None => grid_of(alloc, rows.as_slice(), &sheet.layout)?,
+    };
+    write_grid(alloc, sheet, sheet.survey.has_header, &grid, out)
+}

@@ -1,0 +1,64 @@
+//! The cells of any table.
+
+use std::alloc::{AllocError, Global};
+
+/// What a row has under a head.
+#[derive(Drop)]
+pub enum Cell {
+    Text(String),
+    Number(u64),
+    /// A number of thousandths.
+    Thousandths(u64),
+    Nothing,
+}
+
+/// The head of a column.
+#[derive(Clone, Copy, Drop)]
+pub struct Head {
+    pub name: &'static str,
+    /// Whether a table begins its cells at the left, as those of texts.
+    pub is_left: bool,
+    /// How many characters a table leaves for a cell at least.
+    pub width: usize,
+}
+
+/// Rows of cells under heads, each row with as many cells as there are heads.
+#[derive(Drop)]
+pub struct Grid {
+    pub heads: Vec<Head>,
+    pub rows: Vec<Vec<Cell>>,
+}
+
+/// A cell as text.
+pub fn cell_text(alloc: Global, cell: &Cell) -> Result<String, AllocError> {
+    match cell {
+        Cell::Text(text) => String::from_str(alloc, text.as_str()),
+        Cell::Number(number) => {
+            let number = *number;
+            format!(in alloc; "{number}")
+        }
+        Cell::Thousandths(number) => {
+            let (whole, rest) = (*number / 1000, *number % 1000);
+            format!(in alloc; "{whole}.{rest:03}")
+        }
+        Cell::Nothing => Ok(String::new(alloc)),
+    }
+}
+
+/// The cells of a row as texts.
+pub fn row_texts(alloc: Global, row: &[Cell]) -> Result<Vec<String>, AllocError> {
+    let mut texts = Vec::new(alloc);
+    for cell in row {
+        texts.push(cell_text(alloc, cell)?)?;
+    }
+    Ok(texts)
+}
+
+/// The names in the heads.
+pub fn head_texts(alloc: Global, heads: &[Head]) -> Result<Vec<String>, AllocError> {
+    let mut texts = Vec::new(alloc);
+    for head in heads {
+        texts.push(String::from_str(alloc, head.name)?)?;
+    }
+    Ok(texts)
+}

@@ -1,0 +1,193 @@
+//! What is other than in an earlier survey.
+
+use crate::cells::{Cell, Grid, Head, cell_text};
+use crate::columns::Column;
+use crate::earlier::{Earlier, EarlierError};
+use crate::rows::Row;
+use csv::ByteRecord;
+use std::alloc::{AllocError, Global};
+
+/// The columns that are compared: those that another run repeats.
+const COMPARED: [Column; 10] = [
+    Column::Verdict,
+    Column::Slot,
+    Column::Slots,
+    Column::Maps,
+    Column::Bound,
+    Column::Explored,
+    Column::Stored,
+    Column::Deepest,
+    Column::StoredBytes,
+    Column::TableBytes,
+];
+
+const HEADS: [Head; 5] = [
+    Head {
+        name: "file",
+        is_left: true,
+        width: 0,
+    },
+    Head {
+        name: "column",
+        is_left: true,
+        width: 0,
+    },
+    Head {
+        name: "old",
+        is_left: false,
+        width: 0,
+    },
+    Head {
+        name: "new",
+        is_left: false,
+        width: 0,
+    },
+    Head {
+        name: "difference",
+        is_left: false,
+        width: 0,
+    },
+];
+
+/// The number that a field is, if it is one.
+fn number_of(field: &[u8]) -> Option<u64> {
+    match std::str::from_utf8(field) {
+        Ok(text) => text.parse::<u64>().ok(),
+        Err(_) => None,
+    }
+}
+
+/// A field as a cell.
+fn cell_of(alloc: Global, field: &[u8]) -> Result<Cell, AllocError> {
+    if let Some(number) = number_of(field) {
+        return Ok(Cell::Number(number));
+    }
+    match std::str::from_utf8(field) {
+        Ok("") => Ok(Cell::Nothing),
+        Ok(text) => Ok(Cell::Text(String::from_str(alloc, text)?)),
+        Err(_) => Ok(Cell::Nothing),
+    }
+}
+
+/// By how much a number changed, with its sign.
+fn difference(alloc: Global, old: &Cell, new: &Cell) -> Result<Cell, AllocError> {
+    match (old, new) {
+        (Cell::Number(old), Cell::Number(new)) => {
+            let (old, new) = (*old, *new);
+            let sign = if new < old { "-" } else { "+" };
+            let by = new.abs_diff(old);
+            Ok(Cell::Text(format!(in alloc; "{sign}{by}")?))
+        }
+        _ => Ok(Cell::Nothing),
+    }
+}
+
+/// A row that says what changed.
+fn change(
+    alloc: Global,
+    file: &str,
+    column: Column,
+    old: Cell,
+    new: Cell,
+) -> Result<Vec<Cell>, AllocError> {
+    let by = difference(alloc, &old, &new)?;
+    let file = Cell::Text(String::from_str(alloc, file)?);
+    let column = Cell::Text(String::from_str(alloc, column.name())?);
+    let mut cells = Vec::new(alloc);
+    cells.push(file)?;
+    cells.push(column)?;
+    cells.push(old)?;
+    cells.push(new)?;
+    cells.push(by)?;
+    Ok(cells)
+}
+
+/// Adds what changed in a column.
+fn add_column(
+    alloc: Global,
+    row: &Row,
+    column: Column,
+    old: &[u8],
+    rows: &mut Vec<Vec<Cell>>,
+) -> Result<(), AllocError> {
+    let new = row.cell(alloc, column)?;
+    let text = cell_text(alloc, &new)?;
+    if text.as_bytes() != old {
+        let old = cell_of(alloc, old)?;
+        rows.push(change(alloc, row.file.as_str(), column, old, new)?)?;
+    }
+    Ok(())
+}
+
+/// Adds what changed of an image.
+fn add_changes(
+    alloc: Global,
+    earlier: &Earlier,
+    record: &ByteRecord,
+    row: &Row,
+    rows: &mut Vec<Vec<Cell>>,
+) -> Result<(), AllocError> {
+    for column in COMPARED {
+        if let Some(old) = earlier.field(record, column) {
+            add_column(alloc, row, column, old, rows)?;
+        }
+    }
+    Ok(())
+}
+
+/// Adds that an image is new.
+fn add_new(alloc: Global, row: &Row, rows: &mut Vec<Vec<Cell>>) -> Result<(), AllocError> {
+    let verdict = row.cell(alloc, Column::Verdict)?;
+    let file = row.file.as_str();
+    rows.push(change(alloc, file, Column::Verdict, Cell::Nothing, verdict)?)?;
+    Ok(())
+}
+
+/// Adds that an image is gone.
+fn add_gone(
+    alloc: Global,
+    earlier: &Earlier,
+    record: &ByteRecord,
+    rows: &mut Vec<Vec<Cell>>,
+) -> Result<(), AllocError> {
+    let verdict = match earlier.field(record, Column::Verdict) {
+        Some(field) => cell_of(alloc, field)?,
+        None => Cell::Nothing,
+    };
+    let file = earlier.field(record, Column::File).unwrap_or(b"");
+    let file = std::str::from_utf8(file).unwrap_or("");
+    rows.push(change(alloc, file, Column::Verdict, verdict, Cell::Nothing)?)?;
+    Ok(())
+}
+
+/// Whether one of the rows is of this file.
+fn has_file(rows: &[Row], file: &[u8]) -> bool {
+    for row in rows {
+        if row.file.as_bytes() == file {
+            return true;
+        }
+    }
+    false
+}
+
+/// What is other than in an earlier survey, of which these are the bytes as CSV: a row for each
+/// value that changed, for each image that is new, and for each one that is gone. Times are not
+/// compared.
+pub fn changes_since(alloc: Global, bytes: &[u8], surveyed: &[Row]) -> Result<Grid, EarlierError> {
+    let earlier = Earlier::read(alloc, bytes)?;
+    let mut rows = Vec::new(alloc);
+    for row in surveyed {
+        match earlier.of_file(row.file.as_bytes()) {
+            Some(record) => add_changes(alloc, &earlier, record, row, &mut rows)?,
+            None => add_new(alloc, row, &mut rows)?,
+        }
+    }
+    for record in earlier.records() {
+        let file = earlier.field(record, Column::File).unwrap_or(b"");
+        if !has_file(surveyed, file) {
+            add_gone(alloc, &earlier, record, &mut rows)?;
+        }
+    }
+    let heads = Vec::from_slice(alloc, &HEADS)?;
+    Ok(Grid { heads, rows })
+}

@@ -1,0 +1,109 @@
+//! The columns of a survey.
+
+ghost use Rattle.std.specs.Prelude.{◌≡◌, IfSome};
+ghost use Rattle.survey_rows.specs.Columns.{name_of};
+
+/// A column of a survey.
+#[derive(Clone, Copy, PartialEq, Eq, Debug, Drop)]
+pub enum Column {
+    /// The path of the image.
+    File,
+    /// `ok`, the code of the refusal, `unreadable` or `memory`.
+    Verdict,
+    /// The slot at which it is refused.
+    Slot,
+    /// How many slots the code has.
+    Slots,
+    Maps,
+    /// The most instructions that a run executes.
+    Bound,
+    /// How many instructions were explored.
+    Explored,
+    /// In how many states that were stored.
+    Stored,
+    /// How many instructions the longest path of the search has.
+    Deepest,
+    /// How many bytes the stored states take that they do not share.
+    StoredBytes,
+    /// How long `verify` took.
+    Milliseconds,
+    /// The length of the proof table.
+    TableBytes,
+    /// How long it took to make.
+    ProveMilliseconds,
+    /// How long `recheck` took.
+    RecheckMilliseconds,
+}
+
+/// All of them, in their order.
+const COLUMNS: [Column; 14] = [
+    Column::File,
+    Column::Verdict,
+    Column::Slot,
+    Column::Slots,
+    Column::Maps,
+    Column::Bound,
+    Column::Explored,
+    Column::Stored,
+    Column::Deepest,
+    Column::StoredBytes,
+    Column::Milliseconds,
+    Column::TableBytes,
+    Column::ProveMilliseconds,
+    Column::RecheckMilliseconds,
+];
+
+impl Column {
+    /// Its name, which is in the first row.
+    pub fn name(self) -> &'static str
+        ensures { result.now ≡ name_of self }
+    {
+        match self {
+            Column::File => "file",
+            Column::Verdict => "verdict",
+            Column::Slot => "slot",
+            Column::Slots => "slots",
+            Column::Maps => "maps",
+            Column::Bound => "bound",
+            Column::Explored => "explored",
+            Column::Stored => "stored",
+            Column::Deepest => "deepest",
+            Column::StoredBytes => "stored_bytes",
+            Column::Milliseconds => "milliseconds",
+            Column::TableBytes => "table_bytes",
+            Column::ProveMilliseconds => "prove_milliseconds",
+            Column::RecheckMilliseconds => "recheck_milliseconds",
+        }
+    }
+
+    /// The column of a name.
+    pub fn named(name: &str) -> Option<Column>
+        ensures { IfSome result (λ column. name_of column ≡ name.now) }
+    {
+        for column in COLUMNS {
+            if column.name() == name {
+                return Some(column);
+            }
+        }
+        None
+    }
+
+    /// Whether it is a time, which another run need not repeat.
+    pub fn is_time(self) -> bool {
+        matches!(
+            self,
+            Column::Milliseconds | Column::ProveMilliseconds | Column::RecheckMilliseconds
+        )
+    }
+
+    /// How many characters a table leaves for it: enough for its name, and for all that it may have
+    /// but for a path.
+    pub fn width(self) -> usize {
+        match self {
+            Column::Verdict => "unreadable".len(),
+            Column::Slot | Column::Slots => "65535".len(),
+            Column::Bound => "1000000".len(),
+            _ => self.name().len(),
+        }
+    }
+}

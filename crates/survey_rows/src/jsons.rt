@@ -1,0 +1,41 @@
+//! Grids as JSON: a line with an object for each row.
+
+use crate::cells::{Cell, Grid, Head};
+use serde_json::{Map, Value};
+use std::alloc::{AllocError, Global};
+use std::num::nearest_u64_to_f64;
+
+/// A cell as a value.
+fn value_of(alloc: Global, cell: &Cell) -> Result<Value, AllocError> {
+    match cell {
+        Cell::Text(text) => Ok(Value::from(String::from_str(alloc, text.as_str())?)),
+        Cell::Number(number) => Ok(Value::from(*number)),
+        Cell::Thousandths(number) => Ok(Value::from(nearest_u64_to_f64(*number) / 1000.0)),
+        Cell::Nothing => Ok(Value::Null),
+    }
+}
+
+/// A row as an object, whose members have the names of the columns.
+fn object_of(alloc: Global, heads: &[Head], row: &[Cell]) -> Result<Value, AllocError> {
+    let mut members = Map::new(alloc);
+    for index in 0..heads.len() {
+        if let Some(cell) = row.get(index) {
+            let name = String::from_str(alloc, heads[index].name)?;
+            let value = value_of(alloc, cell)?;
+            members.insert(name, value)?;
+        }
+    }
+    Ok(Value::Object(members))
+}
+
+/// A grid as JSON, a line for each row.
+pub fn json_text(alloc: Global, grid: &Grid) -> Result<String, AllocError> {
+    let mut text = String::new(alloc);
+    for row in &grid.rows {
+        let object = object_of(alloc, grid.heads.as_slice(), row.as_slice())?;
+        let line = object.to_string(alloc)?;
+        text.push_str(line.as_str())?;
+        text.push('\n')?;
+    }
+    Ok(text)
+}

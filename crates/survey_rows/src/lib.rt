@@ -1,0 +1,22 @@
+//! The rows of a survey, and how they are written: as a table, as CSV and as JSON.
+#![tactic(auto)]
+
+mod cells;
+mod changes;
+mod columns;
+mod csvs;
+mod earlier;
+mod jsons;
+mod rows;
+mod summaries;
+mod tables;
+
+pub use cells::{Cell, Grid, Head};
+pub use changes::changes_since;
+pub use columns::Column;
+pub use csvs::csv_text;
+pub use earlier::EarlierError;
+pub use jsons::json_text;
+pub use rows::{Counts, Layout, Row, Verdict, grid_of, sort};
+pub use summaries::Summary;
+pub use tables::{table_text, width_of};

@@ -1,0 +1,159 @@
+//! The rows of a survey.
+
+ghost use Rattle.std.specs.Prelude.{◌≡◌, false, length, IfOk, IsPermutation};
+
+use crate::cells::{Cell, Grid, Head};
+use crate::columns::Column;
+use std::alloc::{AllocError, Global};
+
+/// How an image was judged.
+#[derive(Clone, Copy, Drop)]
+pub enum Verdict {
+    Accepted,
+    /// With the code of the refusal.
+    Refused(&'static str),
+    /// Its file cannot be read.
+    Unreadable,
+    /// Memory ran out, and nothing is known.
+    NoMemory,
+}
+
+impl Verdict {
+    /// Its word in a row.
+    pub fn name(self) -> &'static str {
+        match self {
+            Verdict::Accepted => "ok",
+            Verdict::Refused(code) => code,
+            Verdict::Unreadable => "unreadable",
+            Verdict::NoMemory => "memory",
+        }
+    }
+
+    /// Whether the image is refused.
+    pub fn is_refused(self) -> bool {
+        matches!(self, Verdict::Refused(_))
+    }
+}
+
+/// What was counted and measured of an image.
+#[derive(Clone, Copy, Default, Drop)]
+pub struct Counts {
+    pub slot: Option<u64>,
+    pub slots: Option<u64>,
+    pub maps: Option<u64>,
+    pub bound: Option<u64>,
+    pub explored: Option<u64>,
+    pub stored: Option<u64>,
+    pub deepest: Option<u64>,
+    pub stored_bytes: Option<u64>,
+    pub microseconds: Option<u64>,
+    pub table_bytes: Option<u64>,
+    pub prove_microseconds: Option<u64>,
+    pub recheck_microseconds: Option<u64>,
+}
+
+/// An image with its verdict.
+#[derive(Drop)]
+pub struct Row {
+    pub file: String,
+    pub verdict: Verdict,
+    pub counts: Counts,
+}
+
+impl Counts {
+    /// The number in a column, where there is one: of a time the microseconds.
+    pub fn number(&self, column: Column) -> Option<u64> {
+        match column {
+            Column::File | Column::Verdict => None,
+            Column::Slot => self.slot,
+            Column::Slots => self.slots,
+            Column::Maps => self.maps,
+            Column::Bound => self.bound,
+            Column::Explored => self.explored,
+            Column::Stored => self.stored,
+            Column::Deepest => self.deepest,
+            Column::StoredBytes => self.stored_bytes,
+            Column::Milliseconds => self.microseconds,
+            Column::TableBytes => self.table_bytes,
+            Column::ProveMilliseconds => self.prove_microseconds,
+            Column::RecheckMilliseconds => self.recheck_microseconds,
+        }
+    }
+}
+
+impl Row {
+    /// The cell in a column.
+    pub fn cell(&self, alloc: Global, column: Column) -> Result<Cell, AllocError> {
+        match column {
+            Column::File => Ok(Cell::Text(String::from_str(alloc, self.file.as_str())?)),
+            Column::Verdict => Ok(Cell::Text(String::from_str(alloc, self.verdict.name())?)),
+            _ => match self.counts.number(column) {
+                Some(number) if column.is_time() => Ok(Cell::Thousandths(number)),
+                Some(number) => Ok(Cell::Number(number)),
+                None => Ok(Cell::Nothing),
+            },
+        }
+    }
+
+    fn cells(&self, alloc: Global, columns: &[Column]) -> Result<Vec<Cell>, AllocError> {
+        let mut cells = Vec::new(alloc);
+        for column in columns {
+            cells.push(self.cell(alloc, *column)?)?;
+        }
+        Ok(cells)
+    }
+}
+
+/// The heads of columns, with room for paths of that many characters.
+fn heads_of(alloc: Global, columns: &[Column], longest: usize) -> Result<Vec<Head>, AllocError> {
+    let mut heads = Vec::new(alloc);
+    for column in columns {
+        let width = match *column {
+            Column::File => longest,
+            other => other.width(),
+        };
+        heads.push(Head {
+            name: column.name(),
+            is_left: matches!(*column, Column::File | Column::Verdict),
+            width,
+        })?;
+    }
+    Ok(heads)
+}
+
+/// How rows are chosen and laid out.
+#[derive(Drop)]
+pub struct Layout {
+    pub columns: Vec<Column>,
+    /// How many characters the longest path has.
+    pub longest: usize,
+    pub only_refused: bool,
+}
+
+/// The rows that are chosen: all, or those of refused images.
+pub fn grid_of(alloc: Global, rows: &[Row], layout: &Layout) -> Result<Grid, AllocError>
+    ensures all { IfOk result (λ grid. layout.now.only_refused ≡ false
+        → length grid.rows.items ≡ length rows.now) }
+{
+    let columns = layout.columns.as_slice();
+    let heads = heads_of(alloc, columns, layout.longest)?;
+    let mut cells = Vec::new(alloc);
+    for row in rows {
+        if !layout.only_refused || row.verdict.is_refused() {
+            cells.push(row.cells(alloc, columns)?)?;
+        }
+    }
+    Ok(Grid { heads, rows: cells })
+}
+
+/// Sorts rows: by a text from the first to the last, by numbers from the greatest to the least and
+/// those without one at the end. Rows that are alike there keep their order.
+pub fn sort(rows: &mut Vec<Row>, column: Column) -> Result<(), AllocError>
+    ensures all { IsPermutation rows.old.items rows.new.items }
+{
+    match column {
+        Column::File => rows.sort_by(|one, other| one.file.as_str().cmp(other.file.as_str())),
+        Column::Verdict => rows.sort_by(|one, other| one.verdict.name().cmp(other.verdict.name())),
+        _ => rows.sort_by(|one, other| other.counts.number(column).cmp(&one.counts.number(column))),
+    }
+}

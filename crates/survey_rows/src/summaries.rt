@@ -1,0 +1,46 @@
+//! How many images were accepted, and the status that says so.
+
+ghost use Rattle.std.specs.Prelude.{◌≡◌, ◌≤◌};
+ghost use Rattle.survey_rows.specs.Summaries.{IsCounted, status_of};
+
+use crate::rows::Verdict;
+
+/// How many images were judged in which way.
+#[derive(Clone, Copy, Default, Drop)]
+pub struct Summary {
+    pub accepted: u64,
+    pub refused: u64,
+    pub unreadable: u64,
+    pub unjudged: u64,
+}
+
+impl Summary {
+    /// The status: 5 where memory ran out, else 4 where a file was not read, else 2 where an image
+    /// is refused, else 0.
+    pub fn status(&self) -> u8
+        ensures says { result ≡ status_of self.now }
+        ensures most { result ≤ 5 }
+    {
+        if self.unjudged != 0 {
+            5
+        } else if self.unreadable != 0 {
+            4
+        } else if self.refused != 0 {
+            2
+        } else {
+            0
+        }
+    }
+
+    /// Counts an image.
+    pub fn count(&mut self, verdict: Verdict)
+        ensures { IsCounted self.old verdict self.new }
+    {
+        match verdict {
+            Verdict::Accepted => self.accepted = self.accepted.saturating_add(1),
+            Verdict::Refused(_) => self.refused = self.refused.saturating_add(1),
+            Verdict::Unreadable => self.unreadable = self.unreadable.saturating_add(1),
+            Verdict::NoMemory => self.unjudged = self.unjudged.saturating_add(1),
+        }
+    }
+}

@@ -1,0 +1,109 @@
+//! Grids as tables for people: columns of one width, numbers at the right.
+
+use crate::cells::{Cell, Grid, Head, head_texts, row_texts};
+use std::alloc::{AllocError, Global};
+
+/// How many characters a text has.
+pub fn width_of(text: &str) -> usize {
+    text.chars().count()
+}
+
+/// Makes each width at least that of the text under it.
+fn widen(widths: &mut [usize], texts: &[String]) {
+    for index in 0..widths.len() {
+        if let Some(text) = texts.get(index) {
+            widths[index] = widths[index].max(width_of(text.as_str()));
+        }
+    }
+}
+
+/// Adds spaces up to a width.
+fn pad(line: &mut String, from: usize, to: usize) -> Result<(), AllocError> {
+    for _ in from..to {
+        line.push(' ')?;
+    }
+    Ok(())
+}
+
+/// Adds one text of a row.
+fn put(line: &mut String, text: &str, is_left: bool, width: usize) -> Result<(), AllocError> {
+    if is_left {
+        line.push_str(text)?;
+        return pad(line, width_of(text), width);
+    }
+    pad(line, width_of(text), width)?;
+    line.push_str(text)
+}
+
+/// A row, two spaces between its texts.
+fn row_line(
+    alloc: Global,
+    heads: &[Head],
+    texts: &[String],
+    widths: &[usize],
+) -> Result<String, AllocError> {
+    let mut line = String::new(alloc);
+    for index in 0..heads.len() {
+        if index > 0 {
+            line.push_str("  ")?;
+        }
+        let width = widths.get(index).copied().unwrap_or(0);
+        if let Some(text) = texts.get(index) {
+            put(&mut line, text.as_str(), heads[index].is_left, width)?;
+        }
+    }
+    Ok(line)
+}
+
+/// Adds a row, without spaces at its end.
+fn put_row(
+    alloc: Global,
+    text: &mut String,
+    heads: &[Head],
+    texts: &[String],
+    widths: &[usize],
+) -> Result<(), AllocError> {
+    let line = row_line(alloc, heads, texts, widths)?;
+    text.push_str(line.as_str().trim_end())?;
+    text.push('\n')
+}
+
+/// The texts of all rows.
+fn all_texts(alloc: Global, rows: &[Vec<Cell>]) -> Result<Vec<Vec<String>>, AllocError> {
+    let mut texts = Vec::new(alloc);
+    for row in rows {
+        texts.push(row_texts(alloc, row.as_slice())?)?;
+    }
+    Ok(texts)
+}
+
+/// The widths that heads leave.
+fn least_widths(alloc: Global, heads: &[Head]) -> Result<Vec<usize>, AllocError> {
+    let mut widths = Vec::new(alloc);
+    for head in heads {
+        widths.push(head.width)?;
+    }
+    Ok(widths)
+}
+
+/// A grid as a table, with the names of its columns above it where they are wanted.
+pub fn table_text(alloc: Global, grid: &Grid, has_header: bool) -> Result<String, AllocError> {
+    let heads = grid.heads.as_slice();
+    let names = head_texts(alloc, heads)?;
+    let texts = all_texts(alloc, grid.rows.as_slice())?;
+    let mut widths = least_widths(alloc, heads)?;
+    if has_header {
+        widen(widths.as_mut_slice(), names.as_slice());
+    }
+    for row in &texts {
+        widen(widths.as_mut_slice(), row.as_slice());
+    }
+    let mut text = String::new(alloc);
+    if has_header {
+        put_row(alloc, &mut text, heads, names.as_slice(), widths.as_slice())?;
+    }
+    for row in &texts {
+        put_row(alloc, &mut text, heads, row.as_slice(), widths.as_slice())?;
+    }
+    Ok(text)
+}

@@ -1,0 +1,7 @@
+//! Tests of `xdpvm_survey`, on files that the tests write.
+//!
+//! They stand here, since a crate with tests is proved twice.
+#![tactic(auto)]
+
+#[cfg(test)]
+mod tests;

@@ -1,0 +1,127 @@
+//! The command line of the program, for clap.
+
+use clap::{Arg, ArgAction, Command};
+use std::alloc::{AllocError, Global};
+
+const NAME: &str = "xdpvm_survey";
+
+const VERSION: &str = "0.1.0";
+
+const ABOUT: &str = "Judges many images at once, a row for each, and looks into one";
+
+const AFTER: &str =
+    "Of a folder the files that end in .image are judged, in the order of their names. The status is 0 where all are accepted, 2 where one is refused, 4 where one cannot be read, 5 where memory runs out.";
+
+const LOG_ABOUT: &str = "Prints each explored instruction with the state that it was reached in";
+
+const DIS_ABOUT: &str =
+    "Prints slots, bytes, labels and text of an image, or its blocks as a graph";
+
+// An option that takes a value.
+#[derive(Clone, Copy)]
+struct Choice {
+    name: &'static str,
+    value: &'static str,
+    help: &'static str,
+}
+
+const CHOICES: [Choice; 5] = [
+    Choice {
+        name: "format",
+        value: "FORMAT",
+        help: "How rows are written: table, csv or json [default: table]",
+    },
+    Choice {
+        name: "sort",
+        value: "COLUMN",
+        help: "Sorts by a column: texts from a to z, numbers from the greatest to the least",
+    },
+    Choice {
+        name: "only",
+        value: "refused",
+        help: "Prints only the rows of refused images",
+    },
+    Choice {
+        name: "compare",
+        value: "OLD.csv",
+        help: "Prints what is other than in an earlier survey, written as csv",
+    },
+    Choice {
+        name: "tables",
+        value: "FOLDER",
+        help: "Writes a proof table of each accepted image there, and tests it",
+    },
+];
+
+const SLOT: Choice = Choice {
+    name: "slot",
+    value: "N",
+    help: "Prints only what was explored at this slot",
+};
+
+// An option that takes a value.
+fn option<'a>(alloc: Global, choice: Choice) -> Arg<'a> {
+    Arg::new(alloc, choice.name)
+        .long(choice.name)
+        .action(ArgAction::Set)
+        .value_name(choice.value)
+        .help(choice.help)
+}
+
+// An option that takes none.
+fn flag<'a>(alloc: Global, name: &'static str, help: &'static str) -> Arg<'a> {
+    Arg::new(alloc, name)
+        .long(name)
+        .action(ArgAction::SetTrue)
+        .help(help)
+}
+
+// A command that looks into one image.
+fn look<'a>(
+    alloc: Global,
+    name: &'static str,
+    about: &'static str,
+) -> Result<Command<'a>, AllocError> {
+    let image = Arg::new(alloc, "image")
+        .required(true)
+        .action(ArgAction::Set)
+        .help("The image of the program");
+    Command::new(alloc, name).about(about).arg(image)
+}
+
+// The options of a survey.
+fn with_options<'a>(alloc: Global, command: Command<'a>) -> Result<Command<'a>, AllocError> {
+    let mut command = command;
+    for choice in CHOICES {
+        command = command.arg(option(alloc, choice))?;
+    }
+    let header = flag(alloc, "no-header", "Leaves the names of the columns out");
+    command.arg(header)
+}
+
+// The images of a survey.
+fn with_paths<'a>(alloc: Global, command: Command<'a>) -> Result<Command<'a>, AllocError> {
+    let paths = Arg::new(alloc, "paths")
+        .required(true)
+        .num_args(1..)
+        .action(ArgAction::Append)
+        .value_name("IMAGE|FOLDER")
+        .help("Images, and folders of them");
+    command.arg(paths)
+}
+
+/// The program, whose arguments are those of a survey, with its two commands.
+pub fn program<'a>(alloc: Global) -> Result<Command<'a>, AllocError> {
+    let empty = Command::new(alloc, NAME)
+        .version(VERSION)
+        .about(ABOUT)
+        .after_help(AFTER)
+        .args_conflicts_with_subcommands(true)
+        .bin_name(NAME)?;
+    let log = look(alloc, "log", LOG_ABOUT)?.arg(option(alloc, SLOT))?;
+    let graph = flag(alloc, "dot", "Prints the blocks as a graph for dot -Tsvg");
+    let dis = look(alloc, "dis", DIS_ABOUT)?.arg(graph)?;
+    let with_paths = with_paths(alloc, empty)?;
+    let surveying = with_options(alloc, with_paths)?;
+    surveying.subcommand(log)?.subcommand(dis)
+}

@@ -1,0 +1,128 @@
+//! What the words on the command line ask for.
+
+use crate::asked::{Asked, Format, Survey};
+use crate::command_line::program;
+use clap::ArgMatches;
+use clap::error::ErrorKind;
+use std::alloc::{AllocError, Global};
+use survey_rows::Column;
+use tasks::WordsError;
+
+// What is wrong with the words, where clap takes them and a survey does not.
+const NO_FORMAT: &str = "error: the value of --format is not table, csv or json\n";
+
+const NO_COLUMN: &str = "error: the value of --sort is no column\n";
+
+const NO_ONLY: &str = "error: the value of --only is not refused\n";
+
+const NO_SLOT: &str = "error: the value of --slot is no number\n";
+
+fn wrong(alloc: Global, text: &str) -> WordsError {
+    match String::from_str(alloc, text) {
+        Ok(text) => WordsError::Wrong(text),
+        Err(_) => WordsError::Memory,
+    }
+}
+
+// The format that a word names.
+fn format_of(word: Option<&str>) -> Option<Format> {
+    match word {
+        None | Some("table") => Some(Format::Table),
+        Some("csv") => Some(Format::Csv),
+        Some("json") => Some(Format::Json),
+        Some(_) => None,
+    }
+}
+
+fn format_in(alloc: Global, matches: &ArgMatches<'_>) -> Result<Format, WordsError> {
+    match format_of(matches.get_str("format")) {
+        Some(format) => Ok(format),
+        None => Err(wrong(alloc, NO_FORMAT)),
+    }
+}
+
+fn sort_in(alloc: Global, matches: &ArgMatches<'_>) -> Result<Option<Column>, WordsError> {
+    match matches.get_str("sort") {
+        None => Ok(None),
+        Some(name) => match Column::named(name) {
+            Some(column) => Ok(Some(column)),
+            None => Err(wrong(alloc, NO_COLUMN)),
+        },
+    }
+}
+
+fn only_in(alloc: Global, matches: &ArgMatches<'_>) -> Result<bool, WordsError> {
+    match matches.get_str("only") {
+        None => Ok(false),
+        Some("refused") => Ok(true),
+        Some(_) => Err(wrong(alloc, NO_ONLY)),
+    }
+}
+
+fn slot_in(alloc: Global, matches: &ArgMatches<'_>) -> Result<Option<usize>, WordsError> {
+    match matches.get_str("slot") {
+        None => Ok(None),
+        Some(text) => match text.parse::<usize>() {
+            Ok(slot) => Ok(Some(slot)),
+            Err(_) => Err(wrong(alloc, NO_SLOT)),
+        },
+    }
+}
+
+fn survey_in<'a>(alloc: Global, matches: &ArgMatches<'a>) -> Result<Survey<'a>, WordsError> {
+    let format = format_in(alloc, matches)?;
+    let sort = sort_in(alloc, matches)?;
+    let only_refused = only_in(alloc, matches)?;
+    let paths = match matches.get_strs("paths") {
+        Some(paths) => Vec::from_slice(alloc, paths)?,
+        None => Vec::new(alloc),
+    };
+    Ok(Survey {
+        paths,
+        format,
+        sort,
+        only_refused,
+        has_header: !matches.get_flag("no-header"),
+        earlier: matches.get_str("compare"),
+        tables: matches.get_str("tables"),
+    })
+}
+
+// What a command asks for.
+fn look_in<'a>(
+    alloc: Global,
+    name: &str,
+    matches: &ArgMatches<'a>,
+) -> Result<Asked<'a>, WordsError> {
+    let Some(image) = matches.get_str("image") else {
+        return Err(WordsError::Wrong(String::new(alloc)));
+    };
+    match name {
+        "log" => Ok(Asked::Log(image, slot_in(alloc, matches)?)),
+        _ if matches.get_flag("dot") => Ok(Asked::Graph(image)),
+        _ => Ok(Asked::Listing(image)),
+    }
+}
+
+// Why clap refused the words, or the help that they ask for.
+fn refusal_of(alloc: Global, error: &clap::Error) -> WordsError {
+    match error.kind() {
+        ErrorKind::OutOfMemory => WordsError::Memory,
+        _ => match format!(in alloc; "{error}") {
+            Ok(text) => WordsError::Wrong(text),
+            Err(_) => WordsError::Memory,
+        },
+    }
+}
+
+/// What the words ask for. The first one is the program's name.
+pub fn read_words<'a>(alloc: Global, words: &'a [String]) -> Result<Asked<'a>, WordsError> {
+    let matches = match program(alloc)?.try_get_matches_from(words) {
+        Ok(matches) => matches,
+        Err(error) => return Err(refusal_of(alloc, &error)),
+    };
+    match matches.subcommand() {
+        Some((name, given)) => look_in(alloc, name, given),
+        None => Ok(Asked::Survey(survey_in(alloc, &matches)?)),
+    }
+}

@@ -1,0 +1,35 @@
+-- What a row says of a program.
+use Rattle.std.proofs.Common.{◌≡◌, ℕ, Option, Some, subst, sym}
+use Rattle.isa_model.specs.{Program}
+use Rattle.isa_model.specs.Running.Outcomes.{StartsEnd}
+use Rattle.stack_state.specs.Starts.{start}
+use Rattle.walks.specs.Counts.{HasNumber}
+use Rattle.survey_rows.specs.declared.rows.Counts.{Counts}
+use Rattle.survey_rows.specs.declared.rows.Verdict.{Verdict}
+use Rattle.survey_rows.specs.declared.rows.Verdict.TheVariants as verdict
+use Rattle.surveys.specs.Judging.{IfBound, Refuses, Says}
+
+-- where memory ran out nothing is said
+pub says_nothing : (p : Program) (v : Verdict) (c : Counts) → v ≡ verdict.NoMemory → Says p v c
+says_nothing p v c e = subst (λ (w : Verdict). Says p w c) (sym e) tt
+
+-- an accepted program's bound is the start's number
+pub says_bound : (p : Program) (n : ℕ) (c : Counts) → c.bound ≡ Some n → HasNumber p start n → StartsEnd p n → Says p verdict.Accepted c
+says_bound p n c e number ends = subst (λ (b : Option ℕ). IfBound p b) (sym e) (record { number = number; ends = ends })
+
+-- the same verdict with the same bound and slot says the same
+pub says_alike : (p : Program) (v : Verdict) (c d : Counts) → d.bound ≡ c.bound → d.slot ≡ c.slot → Says p v c → Says p v d
+says_alike p verdict.Accepted c d bound slot h = subst (λ (b : Option ℕ). IfBound p b) (sym bound) h
+says_alike p (verdict.Refused code) c d bound slot h = subst (λ (s : Option ℕ). Refuses p code.now s) (sym slot) h
+says_alike p verdict.Unreadable c d bound slot h = h
+says_alike p verdict.NoMemory c d bound slot h = tt
+
+pub says_same : (p : Program) (v w : Verdict) (c d : Counts) → w ≡ v → d.bound ≡ c.bound → d.slot ≡ c.slot → Says p v c → Says p w d
+says_same p v w c d same bound slot h = subst (λ (u : Verdict). Says p u d) (sym same) (says_alike p v c d bound slot h)
+
+-- what is said of one program is said of the other, where they are the same
+pub says_at : (p q : Program) (v : Verdict) (c : Counts) → q ≡ p → Says q v c → Says p v c
+says_at p q v c same says = subst (λ (r : Program). Says r v c) same says
+
+pub says_of : (p q : Program) (n : ℕ) (v : Verdict) (c : Counts) → q ≡ p → HasNumber p start n → (HasNumber q start n → Says q v c) → Says p v c
+says_of p q n v c same number says = says_at p q v c same (says (subst (λ (r : Program). HasNumber r start n) (sym same) number))

@@ -1,0 +1,36 @@
+-- What a row says of an image.
+use Rattle.std.specs.Prelude.{◌≡◌, ℕ, List, Option, Some, None}
+use Rattle.isa_model.specs.{Program}
+use Rattle.isa_model.specs.Running.Outcomes.{StartsEnd}
+use Rattle.stack_state.specs.Starts.{start}
+use Rattle.walks.specs.declared.refusals.Refusal.{Refusal}
+use Rattle.walks.specs.Counts.{HasNumber}
+use Rattle.walks.specs.Refused.{IsRefused}
+use Rattle.walks.specs.Messages.{code_of}
+use Rattle.survey_rows.specs.declared.rows.Counts.{Counts}
+use Rattle.survey_rows.specs.declared.rows.Verdict.{Verdict}
+use Rattle.survey_rows.specs.declared.rows.Verdict.TheVariants as verdict
+
+-- the bound that is given is the number of the start, within which every run exits
+pub record Bounds (p : Program) (bound : ℕ) : Type 0 where
+  pub number : HasNumber p start bound
+  pub ends : StartsEnd p bound
+
+abbrev pub IfBound : Program → Option ℕ → Type 0
+IfBound p None = ⊥
+IfBound p (Some bound) = Bounds p bound
+
+-- a program is refused with this code, at this slot
+pub record Refuses (p : Program) (code : List ℕ) (slot : Option ℕ) : Type 0 where
+  pub refusal : Refusal
+  pub at : ℕ
+  pub refused : IsRefused p refusal at
+  pub is_code : code ≡ code_of refusal
+  pub is_slot : slot ≡ Some at
+
+-- what a row says of a program: accepted with a bound, or refused with a code at a slot
+abbrev pub Says : Program → Verdict → Counts → Type 0
+Says p verdict.Accepted counts = IfBound p counts.bound
+Says p (verdict.Refused code) counts = Refuses p code.now counts.slot
+Says p verdict.Unreadable counts = ⊥
+Says p verdict.NoMemory counts = Unit {0}

@@ -1,0 +1,155 @@
+//! The blocks of a program as a graph, in the language of Graphviz.
+
+use crate::targets::{Mark, marks, target_of};
+use crate::texts::insn_text;
+use crate::writing::LookError;
+use exact_io::write_bytes;
+use image::Image;
+use isa_model::Insn;
+use std::alloc::{AllocError, Global};
+use std::io::Write;
+
+/// Whether a block ends with the instruction at a slot.
+fn is_end(image: &Image, slot: usize) -> bool {
+    matches!(
+        image.at(slot),
+        Some(Insn::Jump(_) | Insn::JumpLong(_) | Insn::JumpIf(_, _) | Insn::Exit)
+    )
+}
+
+/// Whether control goes on to the next instruction.
+fn falls_through(image: &Image, slot: usize) -> bool {
+    !matches!(
+        image.at(slot),
+        Some(Insn::Jump(_) | Insn::JumpLong(_) | Insn::Exit)
+    )
+}
+
+/// Whether something leads to a slot by a jump or a call.
+fn begins(marks: &[Mark], slot: usize) -> bool {
+    marks.get(slot).copied().unwrap_or(Mark::Nothing) != Mark::Nothing
+}
+
+/// Adds a text inside a quoted one.
+fn put_quoted(text: &str, out: &mut String) -> Result<(), AllocError> {
+    for letter in text.chars() {
+        match letter {
+            '"' | '\\' => {
+                out.push('\\')?;
+                out.push(letter)?;
+            }
+            '\n' => out.push_str("\\l")?,
+            _ => out.push(letter)?,
+        }
+    }
+    Ok(())
+}
+
+/// An edge between two blocks.
+fn edge(alloc: Global, from: usize, to: usize, style: &str) -> Result<String, AllocError> {
+    format!(in alloc; "  b{from} -> b{to}{style};\n")
+}
+
+/// The edges behind the last instruction of a block, which is at a slot; the next one is at `next`.
+fn edges(
+    alloc: Global,
+    image: &Image,
+    block: usize,
+    slot: usize,
+    next: usize,
+) -> Result<String, AllocError> {
+    let mut text = String::new(alloc);
+    if falls_through(image, slot) && next < image.slots() {
+        let fall = edge(alloc, block, next, "")?;
+        text.push_str(fall.as_str())?;
+    }
+    if is_end(image, slot) {
+        if let Some(target) = target_of(image, slot) {
+            let jump = edge(alloc, block, target, " [style=dashed]")?;
+            text.push_str(jump.as_str())?;
+        }
+    }
+    Ok(text)
+}
+
+/// Adds the edge of a call from a block.
+fn put_call(
+    alloc: Global,
+    image: &Image,
+    block: usize,
+    slot: usize,
+    behind: &mut String,
+) -> Result<(), AllocError> {
+    if let Some(Insn::CallLocal(_)) = image.at(slot) {
+        if let Some(target) = target_of(image, slot) {
+            let call = edge(alloc, block, target, " [style=dotted]")?;
+            behind.push_str(call.as_str())?;
+        }
+    }
+    Ok(())
+}
+
+/// The slot after an instruction.
+fn after(image: &Image, slot: usize) -> usize {
+    match image.at(slot) {
+        Some(insn) => slot.saturating_add(insn.slots()),
+        None => slot.saturating_add(1),
+    }
+}
+
+/// A graph as it is written: the block that goes on, and the edges, which stand behind all blocks.
+#[derive(Drop)]
+struct Graph {
+    block: usize,
+    edges: String,
+}
+
+/// Adds an instruction to its block, and ends the block where it is the last one there.
+fn insn_node(
+    alloc: Global,
+    image: &Image,
+    marks: &[Mark],
+    slot: usize,
+    graph: &mut Graph,
+) -> Result<String, AllocError> {
+    let next = after(image, slot);
+    let mut text = String::new(alloc);
+    if graph.block == slot {
+        let head = format!(in alloc; "  b{slot} [label=\"")?;
+        text.push_str(head.as_str())?;
+    }
+    let insn = insn_text(alloc, image, slot)?;
+    let line = format!(in alloc; "{slot}: {insn}")?;
+    put_quoted(line.as_str(), &mut text)?;
+    put_call(alloc, image, graph.block, slot, &mut graph.edges)?;
+    if is_end(image, slot) || begins(marks, next) || next >= image.slots() {
+        text.push_str("\"];\n")?;
+        let edges = edges(alloc, image, graph.block, slot, next)?;
+        graph.edges.push_str(edges.as_str())?;
+        graph.block = next;
+    }
+    Ok(text)
+}
+
+/// Writes the blocks of a program as a graph for `dot`: an edge on to the next block, a dashed one
+/// for each jump, and a dotted one for each call.
+pub fn write_graph<W: Write>(alloc: Global, image: &Image, out: &mut W) -> Result<(), LookError> {
+    let marks = marks(alloc, image)?;
+    let mut graph = Graph {
+        block: 0,
+        edges: String::new(alloc),
+    };
+    write_bytes(
+        out,
+        b"digraph program {\n  node [shape=box, fontname=monospace];\n",
+    )?;
+    for slot in 0..image.slots() {
+        if image.at(slot).is_some() {
+            let text = insn_node(alloc, image, marks.as_slice(), slot, &mut graph)?;
+            write_bytes(out, text.as_bytes())?;
+        }
+    }
+    write_bytes(out, graph.edges.as_bytes())?;
+    write_bytes(out, b"}\n")?;
+    Ok(())
+}

@@ -1,0 +1,207 @@
+//! An image judged: its verdict, what was counted, and how long it took.
+
+ghost use Rattle.std.specs.Prelude.{◌≡◌, Some};
+ghost use Rattle.isa_model.specs.{Program};
+ghost use Rattle.isa_model.specs.Running.Outcomes.{StartsEnd};
+ghost use Rattle.image.specs.Images.{IsImage, image_bytes};
+ghost use Rattle.stack_state.specs.Starts.{start};
+ghost use Rattle.walks.specs.Counts.{HasNumber};
+ghost use Rattle.walks.specs.Refused.{IsRefused};
+ghost use Rattle.surveys.specs.Judging.{Says};
+
+use crate::tallies::Tally;
+use bounds::Verified;
+use control_flow::FlowError;
+use explorer::{Halt, Refusal, verify_with};
+use image::{Image, ImageError};
+use proof_table::{WriteTableError, recheck, write_table};
+use std::alloc::Global;
+use std::time::{Clock, Instant};
+use survey_rows::{Counts, Verdict};
+
+/// How an image was judged, and what was counted and measured.
+#[derive(Drop)]
+pub struct Judged {
+    pub verdict: Verdict,
+    pub counts: Counts,
+    /// The proof table, where one was wanted and made.
+    pub table: Option<Vec<u8>>,
+}
+
+/// The microseconds since a start, where the clock could be read.
+fn microseconds_since<C: Clock>(clock: &C, start: Option<Instant>) -> Option<u64> {
+    let elapsed = start?.elapsed(clock).ok()?;
+    u64::try_from(elapsed.as_micros()).ok()
+}
+
+/// Nothing is known, since memory ran out.
+fn unjudged(counts: Counts) -> Judged
+    ensures { result.verdict ≡ Verdict.NoMemory }
+{
+    Judged {
+        verdict: Verdict::NoMemory,
+        counts,
+        table: None,
+    }
+}
+
+/// The slot that the refusal of an image names.
+fn slot_of(error: ImageError) -> Option<u64> {
+    match error {
+        ImageError::Code(slot, _) | ImageError::UnknownMap(slot) | ImageError::ValuePointer(slot) =>
+            { Some(slot as u64) }
+        _ => None,
+    }
+}
+
+/// Bytes that are no image.
+fn malformed(error: ImageError) -> Judged
+    ensures { error ≡ ImageError.Memory → result.verdict ≡ Verdict.NoMemory }
+{
+    match error {
+        ImageError::Memory => unjudged(Counts::default()),
+        _ => Judged {
+            verdict: Verdict::Refused(error.code()),
+            counts: Counts {
+                slot: slot_of(error),
+                ..Counts::default()
+            },
+            table: None,
+        },
+    }
+}
+
+/// What was counted of a search.
+fn counted(tally: Tally, counts: Counts) -> Counts
+    ensures explored { result.explored ≡ Some tally.explored }
+    ensures deepest { result.deepest ≡ Some tally.deepest }
+    ensures bound { result.bound ≡ counts.bound }
+    ensures slot { result.slot ≡ counts.slot }
+{
+    Counts {
+        explored: Some(tally.explored),
+        stored: Some(tally.stored),
+        deepest: Some(tally.deepest),
+        stored_bytes: Some(tally.stored_bytes),
+        ..counts
+    }
+}
+
+/// A program that is refused.
+fn refused(refusal: Refusal, slot: usize, counts: Counts) -> Judged
+    ensures { (p : Program) → IsRefused p refusal slot → Says p result.verdict result.counts }
+{
+    match refusal {
+        Refusal::Memory | Refusal::Flow(FlowError::Memory) => unjudged(counts),
+        _ => Judged {
+            verdict: Verdict::Refused(refusal.code()),
+            counts: Counts {
+                slot: Some(slot as u64),
+                ..counts
+            },
+            table: None,
+        },
+    }
+}
+
+/// The counts of an accepted program, with its bound.
+fn bounded(verified: &Verified, counts: Counts) -> Counts
+    ensures bound { result.bound ≡ Some verified.now.bound }
+    ensures ends { StartsEnd verified.now.program verified.now.bound }
+{
+    Counts {
+        bound: Some(u64::from(verified.bound())),
+        ..counts
+    }
+}
+
+/// A program that is accepted.
+fn accepted(verified: &Verified, counts: Counts) -> Judged
+    ensures { HasNumber verified.now.program start verified.now.bound
+        → Says verified.now.program result.verdict result.counts }
+{
+    Judged {
+        verdict: Verdict::Accepted,
+        counts: bounded(verified, counts),
+        table: None,
+    }
+}
+
+/// Makes the proof table of a verified program and tests it, and adds their sizes and times. A
+/// table that is not made, or that is refused, has no size.
+fn prove<C: Clock>(clock: &C, alloc: Global, verified: Verified, judged: &mut Judged)
+    ensures verdict { judged.new.verdict ≡ judged.old.verdict }
+    ensures bound { judged.new.counts.bound ≡ judged.old.counts.bound }
+    ensures slot { judged.new.counts.slot ≡ judged.old.counts.slot }
+{
+    let start = Instant::now(clock).ok();
+    let mut table = Vec::new(alloc);
+    if write_table(alloc, &verified, &mut table).is_err() {
+        return;
+    }
+    let prove_microseconds = microseconds_since(clock, start);
+    let start = Instant::now(clock).ok();
+    if recheck(alloc, verified.into_image(), table.as_slice()).is_err() {
+        return;
+    }
+    judged.counts.prove_microseconds = prove_microseconds;
+    judged.counts.recheck_microseconds = microseconds_since(clock, start);
+    judged.counts.table_bytes = Some(table.len() as u64);
+    judged.table = Some(table);
+}
+
+/// A verified program judged, with a proof table where one is wanted.
+fn judge_verified<C: Clock>(
+    clock: &C,
+    alloc: Global,
+    verified: Verified,
+    counts: Counts,
+    has_table: bool,
+) -> Judged
+    ensures { HasNumber verified.program start verified.bound
+        → Says verified.program result.verdict result.counts }
+{
+    let mut judged = accepted(&verified, counts);
+    if !has_table {
+        return judged;
+    }
+    prove(clock, alloc, verified, &mut judged);
+    judged
+}
+
+/// A program judged by `verify`.
+fn judge_image<C: Clock>(clock: &C, alloc: Global, image: Image, has_table: bool) -> Judged
+    ensures says { Says image result.verdict result.counts }
+{
+    let slots = image.slots() as u64;
+    let maps = image.maps().len() as u64;
+    let mut tally = Tally::default();
+    let start = Instant::now(clock).ok();
+    let answer = verify_with(alloc, image, &mut tally);
+    let counts = counted(
+        tally,
+        Counts {
+            slots: Some(slots),
+            maps: Some(maps),
+            microseconds: microseconds_since(clock, start),
+            ..Counts::default()
+        },
+    );
+    match answer {
+        Ok(verified) => judge_verified(clock, alloc, verified, counts, has_table),
+        Err(Halt::Refused(refusal, slot)) => refused(refusal, slot, counts),
+        Err(Halt::Stopped(never)) => match never {},
+    }
+}
+
+/// The bytes of an image judged: accepted by `verify` with its bound, or refused with the code and
+/// the slot; and what was counted of the search.
+pub fn judge<C: Clock>(clock: &C, alloc: Global, bytes: &[u8], has_table: bool) -> Judged
+    ensures says { (p : Program) → IsImage p → bytes.now ≡ image_bytes p
+        → Says p result.verdict result.counts }
+{
+    match Image::parse(alloc, bytes) {
+        Ok(image) => judge_image(clock, alloc, image, has_table),
+        Err(error) => malformed(error),
+    }
+}

@@ -1,0 +1,168 @@
+//! All that a search explores, as text.
+
+use crate::states::put_state;
+use crate::tallies::Tally;
+use crate::texts::insn_text;
+use crate::writing::LookError;
+use exact_io::write_bytes;
+use explorer::{Halt, Kept, Listener, Refusal, verify_with};
+use image::Image;
+use isa_model::MAX_EXPLORED;
+use stack_state::State;
+use std::alloc::{AllocError, Global};
+use std::io::Write;
+use transfer::Ways;
+
+/// Writes what it hears of a search.
+#[derive(Drop)]
+struct Log<'a, W: Write + Drop> {
+    alloc: Global,
+    image: &'a Image,
+    /// The slot at which instructions are wanted, if not all are.
+    only: Option<usize>,
+    out: W,
+    tally: Tally,
+    /// The slot of the state that arrived last.
+    arrived: usize,
+    /// The numbers of the path's instructions, and those of the stored states.
+    path: Vec<u64>,
+    stored: Vec<u64>,
+}
+
+/// Where a state comes from, if not from the instruction before it in the log.
+fn from_text(alloc: Global, path: &[u64], explored: u64) -> Result<String, AllocError> {
+    match path.last().copied() {
+        Some(from) if from.saturating_add(1) != explored => format!(in alloc; " from #{from}"),
+        _ => Ok(String::new(alloc)),
+    }
+}
+
+impl<W: Write + Drop> Log<'_, W> {
+    fn is_wanted(&self, slot: usize) -> bool {
+        self.only.is_none() || self.only == Some(slot)
+    }
+
+    /// The lines of an instruction: its number, its slot, and the state that it is reached in.
+    fn explored_text(&self, state: &State, is_stored: bool) -> Result<String, AllocError> {
+        let (number, slot) = (self.tally.explored, state.slot);
+        let from = from_text(self.alloc, self.path.as_slice(), number)?;
+        let stored = if is_stored { ", stored" } else { "" };
+        let insn = insn_text(self.alloc, self.image, slot)?;
+        let mut text = format!(in self.alloc; "#{number} slot {slot}{from}{stored}: {insn}")?;
+        put_state(self.alloc, state, &mut text)?;
+        Ok(text)
+    }
+
+    /// The line of a state that the stored one of an instruction covers.
+    fn covered_text(&self, place: usize, steps: u32) -> Result<String, AllocError> {
+        let slot = self.arrived;
+        let from = from_text(self.alloc, self.path.as_slice(), self.tally.explored)?;
+        let by = self.stored.get(place).copied().unwrap_or(0);
+        format!(in self.alloc; "slot {slot}{from}: covered by #{by}, at most {steps} to the exit\n")
+    }
+
+    /// Writes the lines of an instruction.
+    fn write_explored(&mut self, state: &State, is_stored: bool) -> Result<(), LookError> {
+        if self.is_wanted(state.slot) {
+            let text = self.explored_text(state, is_stored)?;
+            write_bytes(&mut self.out, text.as_bytes())?;
+        }
+        Ok(())
+    }
+
+    /// Numbers the instruction that is explored.
+    fn number(&mut self, is_stored: bool) -> Result<(), AllocError> {
+        if is_stored {
+            self.stored.push(self.tally.explored)?;
+        }
+        self.path.push(self.tally.explored)?;
+        Ok(())
+    }
+
+    /// Writes how much was explored, and the bound of a program that is accepted.
+    fn write_end(&mut self, bound: Option<u32>) -> Result<(), LookError> {
+        let (explored, stored) = (self.tally.explored, self.tally.stored);
+        let mut text = format!(in self.alloc;
+            "explored {explored} of {MAX_EXPLORED}, {stored} states stored"
+        )?;
+        if let Some(bound) = bound {
+            let end = format!(in self.alloc; ", bound {bound}")?;
+            text.push_str(end.as_str())?;
+        }
+        text.push('\n')?;
+        write_bytes(&mut self.out, text.as_bytes())?;
+        Ok(())
+    }
+}
+
+impl<W: Write + Drop> Listener for Log<'_, W> {
+    type Stop = LookError;
+
+    ghost follows = { λ _ _ _ _. Unit {0} };
+
+    fn arrives(&mut self, state: &State) -> Result<(), LookError> {
+        self.arrived = state.slot;
+        Ok(())
+    }
+
+    fn covered(&mut self, place: usize, number: u32) -> Result<(), LookError> {
+        if self.is_wanted(self.arrived) {
+            let text = self.covered_text(place, number)?;
+            write_bytes(&mut self.out, text.as_bytes())?;
+        }
+        Ok(())
+    }
+
+    fn explores(
+        &mut self,
+        state: &State,
+        stored: Option<usize>,
+        kept: Option<&Kept>,
+    ) -> Result<(), LookError> {
+        self.write_explored(state, stored.is_some())?;
+        self.number(stored.is_some())?;
+        self.tally.explore(stored, kept);
+        Ok(())
+    }
+
+    fn stepped(&mut self, _ways: Ways) -> Result<(), LookError> {
+        Ok(())
+    }
+
+    fn finished(&mut self, _number: u32) -> Result<(), LookError> {
+        let _last = self.path.pop();
+        Ok(())
+    }
+
+    fn refused(&mut self, _refusal: Refusal, _slot: usize) {}
+}
+
+/// Writes what the search explores of a program as it goes, all or at one slot: each instruction
+/// with the state that it is reached in, and where a stored state covers one; at the end how much
+/// was explored. Of a program that is refused this is all up to the refusal, which is then answered.
+pub fn write_log<W: Write>(
+    alloc: Global,
+    image: &Image,
+    only: Option<usize>,
+    out: &mut W,
+) -> Result<(), LookError> {
+    let mut log = Log {
+        alloc,
+        image,
+        only,
+        out: &mut *out,
+        tally: Tally::default(),
+        arrived: 0,
+        path: Vec::new(alloc),
+        stored: Vec::new(alloc),
+    };
+    let copy = image.copy(alloc)?;
+    match verify_with(alloc, copy, &mut log) {
+        Ok(verified) => log.write_end(Some(verified.bound())),
+        Err(Halt::Refused(refusal, slot)) => {
+            log.write_end(None)?;
+            Err(LookError::Refused(refusal, slot))
+        }
+        Err(Halt::Stopped(stop)) => Err(stop),
+    }
+}

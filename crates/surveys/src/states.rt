@@ -1,0 +1,70 @@
+//! Abstract states as lines.
+
+use explanations::{kind_words, slot_line};
+use isa_model::{FRAME_SIZE, MAX_CALL_FRAMES, Reg};
+use reg_state::Kind;
+use stack_state::{Slot, State};
+use std::alloc::{AllocError, Global};
+
+const REGISTERS: [Reg; 10] = [
+    Reg::R0,
+    Reg::R1,
+    Reg::R2,
+    Reg::R3,
+    Reg::R4,
+    Reg::R5,
+    Reg::R6,
+    Reg::R7,
+    Reg::R8,
+    Reg::R9,
+];
+
+/// Adds a line for each register of which something is known.
+fn put_registers(alloc: Global, state: &State, text: &mut String) -> Result<(), AllocError> {
+    let innermost = state.callers.len();
+    for register in REGISTERS {
+        let kind = state.kind_of(register);
+        if kind != Kind::Unset {
+            let number = register.number();
+            let words = kind_words(alloc, innermost, kind)?;
+            let line = format!(in alloc; "    r{number}: {words}\n")?;
+            text.push_str(line.as_str())?;
+        }
+    }
+    Ok(())
+}
+
+/// Whether something is known of a slot of a frame.
+fn is_known(state: &State, frame: u8, slot: usize) -> bool {
+    match state.stack_of(frame) {
+        Some(stack) => match stack.slots.get(slot) {
+            Some(known) => *known != Slot::Written(0),
+            None => false,
+        },
+        None => false,
+    }
+}
+
+/// Adds a line for each slot of a frame's stack of which something is known.
+fn put_frame(alloc: Global, state: &State, frame: u8, text: &mut String) -> Result<(), AllocError> {
+    for slot in 0..FRAME_SIZE / 8 {
+        if is_known(state, frame, slot) {
+            let line = slot_line(alloc, state, frame, slot)?;
+            text.push_str("    ")?;
+            text.push_str(line.as_str())?;
+        }
+    }
+    Ok(())
+}
+
+/// Adds the lines of a state: its registers, and the stacks of its frames, the innermost first.
+pub fn put_state(alloc: Global, state: &State, text: &mut String) -> Result<(), AllocError> {
+    put_registers(alloc, state, text)?;
+    let innermost = state.callers.len();
+    for up in 0..MAX_CALL_FRAMES {
+        if up <= innermost {
+            put_frame(alloc, state, (innermost - up) as u8, text)?;
+        }
+    }
+    Ok(())
+}

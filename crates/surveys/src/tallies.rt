@@ -1,0 +1,93 @@
+//! What is counted of a search.
+
+ghost use Rattle.std.specs.Prelude.{◌≡◌, ◌≤◌, ◌<◌, ◌+◌, ◌-◌};
+ghost use Rattle.isa_model.specs.Code.Limits.{max_explored};
+
+use explorer::{Kept, Listener, Refusal, own_words};
+use stack_state::State;
+use std::convert::Infallible;
+use transfer::Ways;
+
+/// How many bytes a word of a stored state has.
+const WORD: u64 = 8;
+
+/// What is counted of a search. Counts that do not fit stay at the greatest number.
+#[derive(Clone, Copy, Default, Drop)]
+pub struct Tally {
+    /// The explored instructions.
+    pub explored: u64,
+    /// How many of them were explored in a state that was stored, at a join.
+    pub stored: u64,
+    /// How many bytes the stored states take that they do not share. No stored state is dropped, so
+    /// this is their peak, too.
+    pub stored_bytes: u64,
+    /// How many instructions the path has.
+    pub depth: u64,
+    /// How many it had at most.
+    pub deepest: u64,
+}
+
+impl Tally {
+    /// An instruction is explored, in a state that is stored at this place, and then was kept last.
+    pub fn explore(&mut self, stored: Option<usize>, kept: Option<&Kept>)
+        ensures explored { self.old.explored < max_explored
+            → self.new.explored ≡ self.old.explored + 1 }
+        ensures depth { self.old.depth < max_explored → self.new.depth ≡ self.old.depth + 1 }
+        ensures deepest { self.new.depth ≤ self.new.deepest }
+    {
+        self.explored = self.explored.saturating_add(1);
+        self.depth = self.depth.saturating_add(1);
+        self.deepest = self.deepest.max(self.depth);
+        if stored.is_none() {
+            return;
+        }
+        self.stored = self.stored.saturating_add(1);
+        if let Some(kept) = kept {
+            let bytes = u64::from(own_words(kept)).saturating_mul(WORD);
+            self.stored_bytes = self.stored_bytes.saturating_add(bytes);
+        }
+    }
+
+    /// The last instruction of the path has its number.
+    pub fn finish(&mut self)
+        ensures explored { self.new.explored ≡ self.old.explored }
+        ensures depth { self.new.depth ≡ self.old.depth - 1 }
+    {
+        self.depth = self.depth.saturating_sub(1);
+    }
+}
+
+impl Listener for Tally {
+    type Stop = Infallible;
+
+    ghost follows = { λ _ _ _ _. Unit {0} };
+
+    fn arrives(&mut self, _state: &State) -> Result<(), Infallible> {
+        Ok(())
+    }
+
+    fn covered(&mut self, _place: usize, _number: u32) -> Result<(), Infallible> {
+        Ok(())
+    }
+
+    fn explores(
+        &mut self,
+        _state: &State,
+        stored: Option<usize>,
+        kept: Option<&Kept>,
+    ) -> Result<(), Infallible> {
+        self.explore(stored, kept);
+        Ok(())
+    }
+
+    fn stepped(&mut self, _ways: Ways) -> Result<(), Infallible> {
+        Ok(())
+    }
+
+    fn finished(&mut self, _number: u32) -> Result<(), Infallible> {
+        self.finish();
+        Ok(())
+    }
+
+    fn refused(&mut self, _refusal: Refusal, _slot: usize) {}
+}

@@ -1,0 +1,41 @@
+//! xdpvm_survey: judges many BPF programs at once, and looks into one.
+//!
+//! The program calls one function, `execute`, which says what is done and with which status.
+#![tactic(auto)]
+
+use commands::buffered;
+use exact_io::write_bytes;
+use std::fs;
+use std::os::unix::fs::FileTypeExt;
+use std::process::ExitCode;
+use std::rt::Files;
+use survey_commands::answer;
+use words::given_words;
+
+// Whether standard output is a file on a disk. Where the system has no such name it is taken for
+// something that is watched.
+fn is_stored<R: Files>(rt: &R) -> bool {
+    match fs::metadata(rt, "/dev/stdout") {
+        Ok(output) => output.is_file(),
+        Err(_) => false,
+    }
+}
+
+// Whether standard error is a terminal, or another device that takes characters.
+fn has_terminal<R: Files>(rt: &R) -> bool {
+    match fs::metadata(rt, "/dev/stderr") {
+        Ok(output) => output.file_type().is_char_device(),
+        Err(_) => false,
+    }
+}
+
+fn main(rt: HostRuntime) -> ExitCode {
+    let mut err = rt.stderr();
+    ExitCode::from(match buffered(rt.alloc(), is_stored(&rt), rt.stdout()) {
+        Ok(mut out) => answer(&rt, given_words(&rt), has_terminal(&rt), &mut out, &mut err),
+        Err(_) => {
+            let _ = write_bytes(&mut err, b"out of memory\n");
+            5
+        }
+    })
+}
