@@ -1,16 +1,17 @@
 #!/usr/bin/env python3
 """Runs every example of README.md and docs/*.md, and prints each that answers something else than the page says.
 
-usage: python3 examples/guide.py [PROGRAM]
+usage: python3 examples/guide.py [PROGRAM [SURVEY]]
 
-PROGRAM is the program that `rt run` leaves in crates/xdpvm (the default: crates/xdpvm/out/xdpvm).
+PROGRAM is the program that `rt run` leaves in crates/xdpvm (the default: crates/xdpvm/out/xdpvm), SURVEY the one that it
+leaves in crates/xdpvm_survey (crates/xdpvm_survey/out/xdpvm_survey). Without that one the blocks that call it are not tried.
 
 The first word after the backquotes of a code block says how the block is tried:
 
     console     commands after `$`, each followed by its standard output
     NAME.text   a program text; it is written to that file, for the commands that follow it on the page
     program     a program text; `asm` assembles it, and `verify` answers what the comment says
-    trace       a program text; the first frame of examples/two.frames, traced, has the line that the comment says
+    trace       a program text; the first frame of examples/two.frames, traced, has the lines that the comment says
     image       an image in hexadecimal; `verify` answers what the comment says
     stream      a frame stream in hexadecimal; the report of examples/pass.image ends in what the comment says
     table       a proof table of examples/pass.image in hexadecimal; `recheck` answers what the comment says
@@ -38,6 +39,7 @@ import filters
 
 TOP = os.path.dirname(os.path.dirname(os.path.abspath(__file__)))
 PROGRAM = os.path.abspath(sys.argv[1] if len(sys.argv) > 1 else os.path.join(TOP, "crates/xdpvm/out/xdpvm"))
+SURVEY = os.path.abspath(sys.argv[2] if len(sys.argv) > 2 else os.path.join(TOP, "crates/xdpvm_survey/out/xdpvm_survey"))
 BLOCK = re.compile(r"^```(\S+)\n(.*?)^```$", re.M | re.S)
 COMMENT = re.compile(r"(?:# .*\n)*")
 COMMAND = re.compile(r"^\$ (.*)\n((?:(?!\$ ).*\n)*)", re.M)
@@ -94,12 +96,18 @@ def rechecked(kind, body):
     return answer + why
 
 
+def traced():
+    """The line of the first frame, and what is told of it."""
+    status, report, why = run("trace", "example.image", "examples/two.frames", "sent")
+    return line(report, 0) + why.split("frame 1,")[0]
+
+
 def answer_of(kind, body):
     """What the program answers to a block whose first comment says what is wanted."""
     if kind == "program":
         return assembled(body) or verified()
     if kind == "trace":
-        return assembled(body) or line(run("trace", "example.image", "examples/two.frames", "sent")[1], 0)
+        return assembled(body) or traced()
     if kind == "image":
         write_hex("example.image", body)
         return verified()
@@ -114,7 +122,7 @@ def tries(kind, body):
     """The examples of a block: what is tried, what is wanted, and what is answered."""
     if kind.endswith(".text"):
         write(kind, body)
-    elif kind == "console":
+    elif kind == "console" and ("xdpvm_survey" not in body or os.path.exists(SURVEY)):
         for command, wanted in COMMAND.findall(body):
             yield command, wanted, shell(command)
     elif kind in ("program", "trace", "image", "stream", "table", "entries"):
@@ -329,6 +337,7 @@ def main():
         os.mkdir("bin")
         os.symlink(os.path.join(TOP, "tools"), "tools")
         os.symlink(PROGRAM, "bin/xdpvm")
+        os.symlink(SURVEY, "bin/xdpvm_survey")
         os.environ["XDPVM"] = PROGRAM
         os.environ["PATH"] = os.path.join(folder, "bin") + os.pathsep + os.environ["PATH"]
         for page in pages:
@@ -347,6 +356,8 @@ def main():
         count("crates.txt", crates_on_pages())
         count("pages", links(pages + [os.path.join(TOP, it) for it in ("examples/README.md", "assurance/LOG.md", "bench/LOG.md")]))
         os.chdir("/")
+    if not os.path.exists(SURVEY):
+        print(f"there is no program {SURVEY}: what calls it was not tried")
     print(f"{runs} examples, {failures} differ")
     sys.exit(1 if failures else 0)
 

@@ -1,11 +1,12 @@
 #!/usr/bin/env python3
-"""Makes the man page and the shells' completions of what `xdpvm --help` and `xdpvm COMMAND --help` say.
+"""Makes the man pages and the shells' completions of what `--help` and `COMMAND --help` of the programs say.
 
-usage: python3 tools/manual.py [--check] [PROGRAM]
+usage: python3 tools/manual.py [--check] [PROGRAM ..]
 
-It writes docs/xdpvm.1, tools/completions/xdpvm.bash, _xdpvm (zsh) and xdpvm.fish. With --check nothing is written:
-each file has to be what is made, `man -l` and the shells have to read it where they are, and the status is 1 where one
-does not. PROGRAM is the program that is asked (the default: crates/xdpvm/out/xdpvm).
+Of xdpvm it writes docs/xdpvm.1, tools/completions/xdpvm.bash, _xdpvm (zsh) and xdpvm.fish, and of xdpvm_survey the files
+of that name. With --check nothing is written: each file has to be what is made, `man -l` and the shells have to read it
+where they are, and the status is 1 where one does not. PROGRAM is a program that is asked, whose file has its name (the
+default: crates/xdpvm/out/xdpvm and crates/xdpvm_survey/out/xdpvm_survey).
 """
 import argparse
 import collections
@@ -37,13 +38,14 @@ def rows(text, title):
 
 
 def command_of(program, name, about):
-    text = help_of(program, name)
-    arguments = [Argument(left.strip("<>"), right) for left, right in rows(text, "Arguments")]
+    """A command, or what the program does without one: its name is empty."""
+    text = help_of(program, *name.split())
+    arguments = [Argument(left.strip("<>[]."), right) for left, right in rows(text, "Arguments")]
     options = []
     for left, right in rows(text, "Options"):
-        flag, value = re.fullmatch(r"--(\w+) <(\w+)>", left).groups() if "<" in left else (left.lstrip("-"), None)
+        flag, value = re.fullmatch(r"(?:-\w, )?--([\w-]+)(?: <([^>]+)>)?", left).groups()
         options.append(Option(flag, value, right))
-    return Command(name, about, arguments, [one for one in options if one.value])
+    return Command(name, about, arguments, [one for one in options if one.name not in ("help", "version")])
 
 
 def read(program):
@@ -52,19 +54,33 @@ def read(program):
     commands = [command_of(program, name, about) for name, about in rows(text, "Commands") if name != "help"]
     if not commands:
         raise SystemExit(f"manual.py: {program} names no commands")
-    return text.splitlines()[0], commands
+    about = text.splitlines()[0]
+    if rows(text, "Arguments"):
+        commands.insert(0, command_of(program, "", about))
+    return about, commands
 
 
 # ---- the man page
 
-STATUSES = (
-    (0, "done"),
-    (1, "invalid arguments, or help was asked for"),
-    (2, "the text, the image, the program or the proof table is refused; standard error says why and where"),
-    (3, "the report ends in a fault of the frame stream; standard error says which"),
-    (4, "a file or an output cannot be read or written"),
-    (5, "out of memory"),
-)
+STATUSES = {
+    "xdpvm": (
+        (0, "done"),
+        (1, "invalid arguments, or help was asked for"),
+        (2, "the text, the image, the program or the proof table is refused; standard error says why and where"),
+        (3, "the report ends in a fault of the frame stream; standard error says which"),
+        (4, "a file or an output cannot be read or written"),
+        (5, "out of memory"),
+    ),
+    "xdpvm_survey": (
+        (0, "all images are accepted"),
+        (1, "invalid arguments, or help was asked for"),
+        (2, "an image is refused"),
+        (4, "a file or an output cannot be read or written"),
+        (5, "out of memory"),
+    ),
+}
+PAGES = {"xdpvm": "docs/GUIDE.md and docs/REFUSALS.md", "xdpvm_survey": "docs/SURVEY.md and docs/REFUSALS.md"}
+OTHERS = {"xdpvm": "xdpvm_survey", "xdpvm_survey": "xdpvm"}
 
 
 def roff(text):
@@ -73,45 +89,56 @@ def roff(text):
     return re.sub(r"^([.'])", r"\\&\1", re.sub(r"`([^`]*)`", r"\\fB\1\\fR", text))
 
 
-def synopsis(command):
-    words = [f"[\\fB\\-\\-{one.name}\\fR \\fI{one.value}\\fR]" for one in command.options]
-    words += [f"\\fI{one.name.upper()}\\fR" for one in command.arguments]
-    return f"\\fBxdpvm {command.name}\\fR " + " ".join(words)
+def flag(option):
+    """An option with its value, if it takes one."""
+    return f"\\fB\\-\\-{roff(option.name)}\\fR" + (f" \\fI{roff(option.value)}\\fR" if option.value else "")
 
 
-def manual(about, commands):
-    lines = ['.\\" Made by tools/manual.py of what the program says as its help.', ".TH XDPVM 1", ".SH NAME",
-             f"xdpvm \\- {roff(about[0].lower() + about[1:])}", ".SH SYNOPSIS"]
+def upper(argument):
+    return roff(argument.name if "|" in argument.name else argument.name.upper())
+
+
+def synopsis(name, command):
+    words = [f"[{flag(one)}]" for one in command.options]
+    words += [f"\\fI{upper(one)}\\fR" for one in command.arguments]
+    return " ".join([f"\\fB{name} {command.name}".rstrip() + "\\fR", *words])
+
+
+def manual(name, about, commands):
+    lines = ['.\\" Made by tools/manual.py of what the program says as its help.', f".TH {name.upper()} 1", ".SH NAME",
+             f"{name} \\- {roff(about[0].lower() + about[1:])}", ".SH SYNOPSIS"]
     for command in commands:
-        lines += [synopsis(command), ".br"]
+        lines += [synopsis(name, command), ".br"]
     lines[-1:] = [".SH COMMANDS"]
     for command in commands:
-        lines += [".TP", f"\\fB{command.name}\\fR", roff(command.about) + "."]
+        lines += [".TP", f"\\fB{command.name or name}\\fR", roff(command.about) + "."]
         for one in command.arguments:
-            lines += [".RS", ".TP", f"\\fI{one.name.upper()}\\fR", roff(one.about) + ".", ".RE"]
+            lines += [".RS", ".TP", f"\\fI{upper(one)}\\fR", roff(one.about) + ".", ".RE"]
         for one in command.options:
-            lines += [".RS", ".TP", f"\\fB\\-\\-{one.name}\\fR \\fI{one.value}\\fR", roff(one.about) + ".", ".RE"]
+            lines += [".RS", ".TP", flag(one), roff(one.about) + ".", ".RE"]
     lines += [".SH FILES", "A path may be \\fI/dev/stdin\\fR for what is read, and \\fI/dev/stdout\\fR for what is written."]
     lines += [".SH EXIT STATUS"]
-    for status, meaning in STATUSES:
+    for status, meaning in STATUSES[name]:
         lines += [".TP", f"\\fB{status}\\fR", roff(meaning) + "."]
-    lines += [".SH SEE ALSO", "docs/GUIDE.md and docs/REFUSALS.md of the sources; \\fBbpf\\fR(2), \\fBbpf\\-helpers\\fR(7)"]
+    lines += [".SH SEE ALSO", f"{PAGES[name]} of the sources; \\fB{OTHERS[name]}\\fR(1), \\fBbpf\\fR(2), \\fBbpf\\-helpers\\fR(7)"]
     return "\n".join(lines) + "\n"
 
 
 # ---- completions
 
-def bash(commands):
-    lines = ["# Completions of xdpvm for bash, made by tools/manual.py.", "_xdpvm() {",
-             '    local word=${COMP_WORDS[COMP_CWORD]} command=${COMP_WORDS[1]}', "    COMPREPLY=()",
-             "    if ((COMP_CWORD == 1)); then",
-             f'        mapfile -t COMPREPLY < <(compgen -W "{" ".join(one.name for one in commands)} --help --version" -- "$word")',
-             "        return", "    fi", '    if [[ $word == -* ]]; then', "        case $command in"]
-    for command in commands:
+def bash(name, commands):
+    lines = [f"# Completions of {name} for bash, made by tools/manual.py.", f"_{name}() {{",
+             '    local word=${COMP_WORDS[COMP_CWORD]} command=${COMP_WORDS[1]}', "    COMPREPLY=()"]
+    own = [one for one in commands if not one.name]
+    first = [one.name for one in commands if one.name] + [f"--{it.name}" for one in own for it in one.options]
+    lines += ["    if ((COMP_CWORD == 1)); then",
+              f'        mapfile -t COMPREPLY < <(compgen -W "{" ".join(first)} --help --version" {"-f " if own else ""}-- "$word")',
+              "        return", "    fi", '    if [[ $word == -* ]]; then', "        case $command in"]
+    for command in commands[len(own):] + own:
         flags = " ".join([f"--{one.name}" for one in command.options] + ["--help"])
-        lines.append(f'        {command.name}) mapfile -t COMPREPLY < <(compgen -W "{flags}" -- "$word") ;;')
+        lines.append(f'        {command.name or "*"}) mapfile -t COMPREPLY < <(compgen -W "{flags}" -- "$word") ;;')
     lines += ["        esac", "        return", "    fi", '    mapfile -t COMPREPLY < <(compgen -f -- "$word")', "}",
-              "complete -o filenames -F _xdpvm xdpvm"]
+              f"complete -o filenames -F _{name} {name}"]
     return "\n".join(lines) + "\n"
 
 
@@ -119,43 +146,54 @@ def quoted(text):
     return text.replace("'", "'\\''")
 
 
-def zsh(commands):
-    lines = ["#compdef xdpvm", "# Completions of xdpvm for zsh, made by tools/manual.py.", "_xdpvm() {", "    local -a commands",
+def arguments_of(command):
+    """What zsh's _arguments is given for a command."""
+    words = ["_arguments '--help[Print help]'"]
+    for one in command.options:
+        about = quoted(one.about).replace("[", "\\[").replace("]", "\\]")
+        end = "_files" if one.value in ("TABLE", "FOLDER", "OLD.csv") else ""
+        words.append(f"'--{one.name}[{about}]" + (f":{one.value}:{end}'" if one.value else "'"))
+    many = len(command.arguments) == 1 and not command.name
+    words += [f"'{'*' if many else place}:{one.name}:_files'" for place, one in enumerate(command.arguments, 1)]
+    return " ".join(words)
+
+
+def zsh(name, commands):
+    lines = [f"#compdef {name}", f"# Completions of {name} for zsh, made by tools/manual.py.", f"_{name}() {{", "    local -a commands",
              "    commands=("]
-    lines += [f"        '{one.name}:{quoted(one.about)}'" for one in commands]
-    lines += ["    )", "    if ((CURRENT == 2)); then", "        _describe command commands", "        return", "    fi",
-              "    case $words[2] in"]
-    for command in commands:
-        lines.append(f"    {command.name})")
-        words = ["shift words; ((CURRENT--)); _arguments '--help[Print help]'"]
-        for one in command.options:
-            about = quoted(one.about).replace("[", "\\[").replace("]", "\\]")
-            end = "_files" if one.value == "TABLE" else ""
-            words.append(f"'--{one.name}[{about}]:{one.value}:{end}'")
-        words += [f"'{place}:{one.name}:_files'" for place, one in enumerate(command.arguments, 1)]
-        lines += ["        " + " ".join(words), "        ;;"]
-    lines += ["    esac", "}", '_xdpvm "$@"']
+    own = [one for one in commands if not one.name]
+    lines += [f"        '{one.name}:{quoted(one.about)}'" for one in commands if one.name]
+    lines += ["    )", "    if ((CURRENT == 2)); then", "        _describe command commands"]
+    lines += ["        _files"] if own else []
+    lines += ["        return", "    fi", "    case $words[2] in"]
+    for command in commands[len(own):] + own:
+        lines.append(f"    {command.name or '*'})")
+        lines += ["        " + ("shift words; ((CURRENT--)); " if command.name else "") + arguments_of(command), "        ;;"]
+    lines += ["    esac", "}", f'_{name} "$@"']
     return "\n".join(lines) + "\n"
 
 
-def fish(commands):
-    lines = ["# Completions of xdpvm for fish, made by tools/manual.py."]
+def fish(name, commands):
+    lines = [f"# Completions of {name} for fish, made by tools/manual.py."]
     for command in commands:
-        lines.append(f"complete -c xdpvm -n __fish_use_subcommand -f -a {command.name} -d '{quoted(command.about)}'")
+        when = f"'__fish_seen_subcommand_from {command.name}'" if command.name else "__fish_use_subcommand"
+        if command.name:
+            lines.append(f"complete -c {name} -n __fish_use_subcommand -f -a {command.name} -d '{quoted(command.about)}'")
         for one in command.options:
-            lines.append(f"complete -c xdpvm -n '__fish_seen_subcommand_from {command.name}' -l {one.name} -r -d '{quoted(one.about)}'")
+            lines.append(f"complete -c {name} -n {when} -l {one.name} {'-r ' if one.value else ''}-d '{quoted(one.about)}'")
     return "\n".join(lines) + "\n"
 
 
 # ---- all
 
 def made(program):
+    name = os.path.basename(program)
     about, commands = read(program)
     return {
-        "docs/xdpvm.1": manual(about, commands),
-        "tools/completions/xdpvm.bash": bash(commands),
-        "tools/completions/_xdpvm": zsh(commands),
-        "tools/completions/xdpvm.fish": fish(commands),
+        f"docs/{name}.1": manual(name, about, commands),
+        f"tools/completions/{name}.bash": bash(name, commands),
+        f"tools/completions/_{name}": zsh(name, commands),
+        f"tools/completions/{name}.fish": fish(name, commands),
     }
 
 
@@ -172,9 +210,12 @@ def is_read(name, *words):
 
 COMPLETES = """\
 source tools/completions/xdpvm.bash
+source tools/completions/xdpvm_survey.bash
 COMP_WORDS=(xdpvm ver) COMP_CWORD=1; _xdpvm; echo "${COMPREPLY[@]}"
 COMP_WORDS=(xdpvm trace --li) COMP_CWORD=2; _xdpvm; echo "${COMPREPLY[@]}"
 COMP_WORDS=(xdpvm verify install.s) COMP_CWORD=2; _xdpvm; echo "${COMPREPLY[@]}"
+COMP_WORDS=(xdpvm_survey log --sl) COMP_CWORD=2; _xdpvm_survey; echo "${COMPREPLY[@]}"
+COMP_WORDS=(xdpvm_survey --fo) COMP_CWORD=1; _xdpvm_survey; echo "${COMPREPLY[@]}"
 """
 
 
@@ -190,23 +231,26 @@ def check(files):
         script.write(COMPLETES)
         script.flush()
         found = subprocess.run(["bash", script.name], stdout=subprocess.PIPE, text=True, check=False).stdout.split()
-    if found != ["verify", "--limit", "install.sh"]:
-        print(f"tools/completions/xdpvm.bash: completes to {found}")
+    if found != ["verify", "--limit", "install.sh", "--slot", "--format"]:
+        print(f"tools/completions: the shell completes to {found}")
         good = False
-    good &= is_read("docs/xdpvm.1", "man", "--warnings", "-l", "docs/xdpvm.1")
-    good &= is_read("tools/completions/_xdpvm", "zsh", "-n", "tools/completions/_xdpvm")
-    good &= is_read("tools/completions/xdpvm.fish", "fish", "-n", "tools/completions/xdpvm.fish")
+    for name in files:
+        words = {".1": ("man", "--warnings", "-l"), ".fish": ("fish", "-n"), "": ("zsh", "-n")}.get(os.path.splitext(name)[1])
+        good &= not words or is_read(name, *words, name)
     return good
 
 
 def main():
     words = argparse.ArgumentParser(description=__doc__, formatter_class=argparse.RawDescriptionHelpFormatter)
-    words.add_argument("program", nargs="?", default=os.path.join(TOP, "crates/xdpvm/out/xdpvm"))
+    built = [os.path.join(TOP, f"crates/{name}/out/{name}") for name in ("xdpvm", "xdpvm_survey")]
+    words.add_argument("programs", nargs="*", metavar="PROGRAM", default=built)
     words.add_argument("--check", action="store_true")
     asked = words.parse_args()
-    if not os.path.exists(asked.program):
-        raise SystemExit(f"manual.py: there is no {asked.program}")
-    files = made(os.path.abspath(asked.program))
+    files = {}
+    for program in asked.programs:
+        if not os.path.exists(program):
+            raise SystemExit(f"manual.py: there is no {program}")
+        files.update(made(os.path.abspath(program)))
     if asked.check:
         sys.exit(0 if check(files) else 1)
     for name, text in files.items():

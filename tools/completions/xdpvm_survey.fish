@@ -1,0 +1,11 @@
+# Completions of xdpvm_survey for fish, made by tools/manual.py.
+complete -c xdpvm_survey -n __fish_use_subcommand -l format -r -d 'How rows are written: table, csv or json [default: table]'
+complete -c xdpvm_survey -n __fish_use_subcommand -l sort -r -d 'Sorts by a column: texts from a to z, numbers from the greatest to the least'
+complete -c xdpvm_survey -n __fish_use_subcommand -l only -r -d 'Prints only the rows of refused images'
+complete -c xdpvm_survey -n __fish_use_subcommand -l compare -r -d 'Prints what is other than in an earlier survey, written as csv'
+complete -c xdpvm_survey -n __fish_use_subcommand -l tables -r -d 'Writes a proof table of each accepted image there, and tests it'
+complete -c xdpvm_survey -n __fish_use_subcommand -l no-header -d 'Leaves the names of the columns out'
+complete -c xdpvm_survey -n __fish_use_subcommand -f -a log -d 'Prints each explored instruction with the state that it was reached in'
+complete -c xdpvm_survey -n '__fish_seen_subcommand_from log' -l slot -r -d 'Prints only what was explored at this slot'
+complete -c xdpvm_survey -n __fish_use_subcommand -f -a dis -d 'Prints slots, bytes, labels and text of an image, or its blocks as a graph'
+complete -c xdpvm_survey -n '__fish_seen_subcommand_from dis' -l dot -d 'Prints the blocks as a graph for dot -Tsvg'

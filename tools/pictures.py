@@ -1,0 +1,80 @@
+#!/usr/bin/env python3
+"""Makes the pictures of the pages: the blocks of stored programs, as Graphviz draws them.
+
+usage: python3 tools/pictures.py [--check] [PROGRAM]
+
+For each NAME below it writes docs/pictures/NAME.svg, of what `xdpvm_survey dis --dot examples/NAME.image` prints. With
+--check nothing is written, each picture has to be the one that is made, and the status is 1 where one is not. Where there
+is no `dot`, or one of another version than the one that drew a picture, only the labels of the blocks and the number of
+edges are compared. PROGRAM is xdpvm_survey (the default: crates/xdpvm_survey/out/xdpvm_survey).
+"""
+import argparse
+import html
+import os
+import re
+import shutil
+import subprocess
+import sys
+
+TOP = os.path.dirname(os.path.dirname(os.path.abspath(__file__)))
+NAMES = ("guarded",)
+
+
+def graph_of(program, name):
+    """The graph of a stored program, in dot's language."""
+    words = [program, "dis", "--dot", os.path.join(TOP, "examples", f"{name}.image")]
+    return subprocess.run(words, stdout=subprocess.PIPE, text=True, check=True).stdout
+
+
+def drawn(graph):
+    """The picture of a graph. None: there is no dot."""
+    if not shutil.which("dot"):
+        return None
+    return subprocess.run(["dot", "-Tsvg"], input=graph, stdout=subprocess.PIPE, text=True, check=True).stdout
+
+
+def version_of(picture):
+    return re.search(r"graphviz version (\S+)", picture)[1]
+
+
+def has_parts(picture, graph):
+    """Whether a picture has the lines of all blocks of a graph, in their order, and as many edges."""
+    labels = re.findall(r'label="((?:[^"\\]|\\.)*)"', graph)
+    lines = [re.sub(r"\\(.)", r"\1", one) for label in labels for one in label.split("\\l") if one]
+    texts = [html.unescape(one) for one in re.findall(r"<text[^>]*>(.*?)</text>", picture)]
+    return texts == lines and picture.count('class="edge"') == graph.count(" -> ")
+
+
+def is_made(picture, graph):
+    again = drawn(graph)
+    if again is None or version_of(again) != version_of(picture):
+        return has_parts(picture, graph)
+    return has_parts(picture, graph) and again == picture
+
+
+def main():
+    words = argparse.ArgumentParser(description=__doc__, formatter_class=argparse.RawDescriptionHelpFormatter)
+    words.add_argument("program", nargs="?", default=os.path.join(TOP, "crates/xdpvm_survey/out/xdpvm_survey"))
+    words.add_argument("--check", action="store_true")
+    asked = words.parse_args()
+    if not os.path.exists(asked.program):
+        raise SystemExit(f"pictures.py: there is no {asked.program}")
+    good = True
+    for name in NAMES:
+        path = os.path.join(TOP, "docs/pictures", f"{name}.svg")
+        graph = graph_of(os.path.abspath(asked.program), name)
+        if not asked.check:
+            picture = drawn(graph)
+            if picture is None:
+                raise SystemExit("pictures.py: there is no dot (Debian: graphviz)")
+            os.makedirs(os.path.dirname(path), exist_ok=True)
+            with open(path, "w", encoding="utf-8") as file:
+                file.write(picture)
+        elif not os.path.exists(path) or not is_made(open(path, encoding="utf-8").read(), graph):
+            print(f"docs/pictures/{name}.svg: it is not what tools/pictures.py makes")
+            good = False
+    sys.exit(0 if good else 1)
+
+
+if __name__ == "__main__":
+    main()
