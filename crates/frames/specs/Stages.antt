@@ -2,6 +2,7 @@
 use Rattle.std.specs.Prelude.{◌≡◌, ℕ, ◌+◌, ◌*◌, ◌<◌, ◌≤◌}
 use Rattle.isa_model.specs.declared.streams.Finish.TheVariants as finish
 use Rattle.isa_model.specs.declared.versions.Version.{Version}
+use Rattle.isa_model.specs.declared.versions.Version.TheVariants.{Two}
 use Rattle.isa_model.specs.Code.Versions.{head_size}
 use Rattle.isa_model.specs.Code.Limits.{max_packet}
 use Rattle.isa_model.specs.Reporting.Streams.{max_frames}
@@ -16,10 +17,13 @@ position_of stage.Fresh = Fresh
 position_of (stage.At version number offset) = At version number offset
 position_of (stage.Done version stop) = Done version stop
 
--- no record is longer than 9,240 bytes
+-- bytes of the longest record
+abbrev pub max_record : ℕ
+max_record = head_size Two + max_packet
+
 abbrev pub IsWithin : Stage → Type 0
 IsWithin stage.Fresh = Unit {0}
-IsWithin (stage.At version number offset) = offset ≤ 4 + 9240 * number
+IsWithin (stage.At version number offset) = offset ≤ 4 + max_record * number
 IsWithin (stage.Done version stop) = Unit {0}
 
 -- a record that was found has a number below the last, and a body that fits

@@ -3,7 +3,7 @@ ghost use Rattle.std.specs.Prelude.{◌≡◌, ◌≢◌, ◌+◌, ◌*◌, ◌�
 ghost use Rattle.isa_model.specs.Machine.MachineStates.{AreBytes};
 ghost use Rattle.frames.specs.Readers.{Position, Fresh, At};
 ghost use Rattle.frames.specs.Reading.{ReadsMagic, MayOpen, Opens, begun_at, Finds, finding_of, Reads, HasRoom, FitsBuffer, StaysDone};
-ghost use Rattle.frames.specs.Stages.{position_of, IsWithin, HasRoomFor, IsStageAfter};
+ghost use Rattle.frames.specs.Stages.{position_of, IsWithin, max_record, HasRoomFor, IsStageAfter};
 
 use super::filling::fill_at_once;
 use super::heads::decode_head;
@@ -133,7 +133,7 @@ fn stage_begun<R: Read>(source: &mut R, stage: Stage) -> Stage
 #[inline(always)]
 fn stage_after(version: Version, number: u32, offset: u64, next: &Next) -> Stage
     requires room { HasRoomFor number next.now }
-    requires bound { offset ≤ 4 + 9240 * number }
+    requires bound { offset ≤ 4 + max_record * number }
     ensures { IsStageAfter version number offset next.now result }
 {
     match next {
