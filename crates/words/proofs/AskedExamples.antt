@@ -2,6 +2,7 @@
 use Rattle.std.specs.Prelude.{◌≡◌, [], ◌∷◌, Some, None, codes}
 use Rattle.std.proofs.Common.{refl}
 use Rattle.clap.proofs.OnLiterals.{clap_on_literals}
+use Rattle.isa_model.specs.Code.Limits.{max_steps}
 use Rattle.words.specs.CommandLine.{program, asm, dis, verify, run, trace, prove, recheck}
 use Rattle.tasks.specs.Requests.{Trace, Run, Verify, Prove, Recheck}
 use Rattle.words.specs.Asked.{asked}
@@ -12,7 +13,7 @@ runs : asked (codes "xdpvm" ∷ codes "run" ∷ codes "a" ∷ codes "b" ∷ code
 unfolding clap_on_literals asked program asm dis verify run trace prove recheck
 runs = refl
 
-traces : asked (codes "xdpvm" ∷ codes "trace" ∷ codes "a" ∷ codes "b" ∷ codes "c" ∷ []) ≡ Some (Trace (record { image = codes "a"; frames = codes "b"; out = codes "c" }) 1000000)
+traces : asked (codes "xdpvm" ∷ codes "trace" ∷ codes "a" ∷ codes "b" ∷ codes "c" ∷ []) ≡ Some (Trace (record { image = codes "a"; frames = codes "b"; out = codes "c" }) max_steps)
 unfolding clap_on_literals asked program asm dis verify run trace prove recheck
 traces = refl
 
@@ -22,7 +23,7 @@ traces-limit : asked (codes "xdpvm" ∷ codes "trace" ∷ codes "a" ∷ codes "b
 unfolding clap_on_literals asked program asm dis verify run trace prove recheck
 traces-limit = refl
 
-traces-limit-first : asked (codes "xdpvm" ∷ codes "trace" ∷ codes "--limit" ∷ codes "1000000" ∷ codes "a" ∷ codes "b" ∷ codes "c" ∷ []) ≡ Some (Trace (record { image = codes "a"; frames = codes "b"; out = codes "c" }) 1000000)
+traces-limit-first : asked (codes "xdpvm" ∷ codes "trace" ∷ codes "--limit" ∷ codes "1000000" ∷ codes "a" ∷ codes "b" ∷ codes "c" ∷ []) ≡ Some (Trace (record { image = codes "a"; frames = codes "b"; out = codes "c" }) max_steps)
 unfolding clap_on_literals asked program asm dis verify run trace prove recheck
 traces-limit-first = refl
 

@@ -7,6 +7,7 @@ use Rattle.clap.specs.Simple.{App, Shape, argument_words, built, built_leaf, ent
 use Rattle.clap.specs.Kinds.{or_else}
 use Rattle.clap.specs.Faults.{built_fault, check_fault, defaults_fault, level_fault, settle_fault, walk_fault}
 use Rattle.clap.proofs.OnLiterals.{clap_on_literals}
+use Rattle.isa_model.specs.Code.Limits.{max_steps}
 use Rattle.words.specs.CommandLine.{program, asm, dis, verify, run, trace, prove, recheck}
 use Rattle.tasks.specs.Requests.{Assemble, Disassemble, Prove, Recheck, Run, Trace, Verify}
 use Rattle.words.specs.Asked.{asked, limit_of, request_by, request_met, unless_faulty}
@@ -126,13 +127,13 @@ unfolding trace defaults_fault
 trace-faults c d e cs ds es first second third = simp (walked-plain, walk_fault-plain, walk_fault-none)
 
 trace-request : (c d e : ℕ) (cs ds es : List ℕ) → (c == 45) ≡ false → (d == 45) ≡ false → (e == 45) ≡ false
-    → request_by (codes "trace") (rows_after (built_leaf trace.top).rules [] ((c ∷ cs) ∷ (d ∷ ds) ∷ (e ∷ es) ∷ [])) ≡ Some (Trace (record { image = c ∷ cs; frames = d ∷ ds; out = e ∷ es }) 1000000)
+    → request_by (codes "trace") (rows_after (built_leaf trace.top).rules [] ((c ∷ cs) ∷ (d ∷ ds) ∷ (e ∷ es) ∷ [])) ≡ Some (Trace (record { image = c ∷ cs; frames = d ∷ ds; out = e ∷ es }) max_steps)
 unfolding trace
 trace-request c d e cs ds es first second third = simp walked-plain
 
 -- `xdpvm trace IMAGE FRAMES OUT` asks for a run with checks, of at most 1,000,000 steps a frame
 pub asked-trace : (name image frames out : List ℕ) → is_plain image ≡ true → is_plain frames ≡ true → is_plain out ≡ true
-    → asked (name ∷ codes "trace" ∷ image ∷ frames ∷ out ∷ []) ≡ Some (Trace (record { image = image; frames = frames; out = out }) 1000000)
+    → asked (name ∷ codes "trace" ∷ image ∷ frames ∷ out ∷ []) ≡ Some (Trace (record { image = image; frames = frames; out = out }) max_steps)
 unfolding program asm dis verify run trace prove recheck
 asked-trace name [] frames out h i j = cc
 asked-trace name (c ∷ cs) [] out h i j = cc

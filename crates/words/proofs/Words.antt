@@ -9,6 +9,7 @@ use Rattle.std.proofs.lemmas.Str.Parse.{without_leading_plus_none}
 use Rattle.std.proofs.lemmas.Str.{digit_value_digit}
 use Rattle.std.proofs.lemmas.Bool.{leb-true, le-leb, lt-leb}
 use Rattle.std.proofs.Math.Bool.{and-false}
+use Rattle.isa_model.specs.Code.Limits.{max_steps}
 use Rattle.words.specs.Asked.{limit_of}
 use Rattle.std.specs.Borrow.{Bor}
 use Rattle.std.proofs.lemmas.List.Folds.{fold-map}
@@ -68,16 +69,16 @@ all-digits (c ∷ cs) h =
 
 -- what a text of digits is as a limit
 limit_of-digits : (text : List ℕ) → 0 < length text → list_all is_ascii_digit text ≡ true
-    → limit_of text ≡ cond (nat_le 1 (digits_value 10 text) && nat_le (digits_value 10 text) 1000000) (Some (digits_value 10 text)) None
+    → limit_of text ≡ cond (nat_le 1 (digits_value 10 text) && nat_le (digits_value 10 text) max_steps) (Some (digits_value 10 text)) None
 limit_of-digits text some digits = rw (lt-ltb 0 (length text) some, digits) refl
 
 -- a text that was read as a number in the range is a limit
 pub limit_of-read : (text : List ℕ) (steps : ℕ) → 0 < length text → list_all is_ascii_digit text ≡ true → steps ≡ digits_value 10 (without_leading_plus text)
-    → 1 ≤ steps → steps ≤ 1000000 → Some steps ≡ limit_of text
+    → 1 ≤ steps → steps ≤ max_steps → Some steps ≡ limit_of text
 limit_of-read text steps some digits read least most =
     let value : steps ≡ digits_value 10 text = read ∙ ap (digits_value 10) (no-sign text digits) in
     let low : nat_le 1 (digits_value 10 text) ≡ true = le-leb 1 (digits_value 10 text) (omega arith) in
-    let high : nat_le (digits_value 10 text) 1000000 ≡ true = le-leb (digits_value 10 text) 1000000 (omega arith) in
+    let high : nat_le (digits_value 10 text) max_steps ≡ true = le-leb (digits_value 10 text) max_steps (omega arith) in
     let is : limit_of text ≡ Some (digits_value 10 text) = limit_of-digits text some digits ∙ rw (low, high) refl in
     cc
 
@@ -87,7 +88,7 @@ pub limit_of-unread : (text : List ℕ) → 0 < length text → list_all is_asci
 limit_of-unread text some digits read =
     let numeral : IsNumeral 10 text = (some, all-digits text digits) in
     let large : digits_value 10 text < 2 ^ 32 → ⊥ = λ small. read (rw (no-sign text digits) (numeral, small)) in
-    let high : nat_le (digits_value 10 text) 1000000 ≡ false = lt-leb (digits_value 10 text) 1000000 (omega (arith, large)) in
+    let high : nat_le (digits_value 10 text) max_steps ≡ false = lt-leb (digits_value 10 text) max_steps (omega (arith, large)) in
     let is : limit_of text ≡ None = limit_of-digits text some digits ∙ rw (high, and-false) refl in
     cc
 
