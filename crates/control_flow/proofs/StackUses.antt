@@ -1,6 +1,7 @@
 -- What instructions do with the stack, by what the code finds.
-use Rattle.std.proofs.Common.{◌≡◌, ℕ, ◌<◌, Option, Some, None, refl, arith}
-use Rattle.std.specs.Prelude.{◌↔◌, ℤ, IsSome}
+use Rattle.std.proofs.Common.{◌≡◌, ℕ, ◌<◌, Some, true, false, refl, sym, ◌∙◌, subst, arith}
+use Rattle.std.specs.Prelude.{◌↔◌, ℤ, Bool, IsTrue}
+use Rattle.std.proofs.lemmas.Option.{same_Some}
 use Rattle.isa_model.specs.declared.sizes.Size.{Size}
 use Rattle.isa_model.specs.declared.sizes.Size.TheVariants.{U64}
 use Rattle.isa_model.specs.declared.sizes.Narrow.{Narrow}
@@ -9,11 +10,11 @@ use Rattle.isa_model.specs.declared.registers.Reg.TheVariants.{R10}
 use Rattle.isa_model.specs.declared.instructions.Place.{Place}
 use Rattle.isa_model.specs.declared.instructions.Insn.{Insn}
 use Rattle.isa_model.specs.declared.instructions.Insn.TheVariants.{Load, LoadSx, Store, StoreConstant}
-use Rattle.isa_model.specs.Code.Instructions.{Program}
+use Rattle.isa_model.specs.Code.Instructions.{Program, fetch}
 use Rattle.isa_model.specs.MustAccept.Paths.{IsOneOf}
 use Rattle.control_flow.specs.Accesses.{read_registers}
 use Rattle.control_flow.specs.StackUse.{ReadsSlot, WritesSlot, HandsOn, HandsOnAt, IsHandedOn}
-use Rattle.control_flow.specs.Flows.{IsLowest}
+use Rattle.control_flow.specs.Liveness.{InRegister, Reads}
 
 pub reads_below : (i : Insn) (j : ℕ) → ReadsSlot i j → j < 64
 reads_below (Load size d place) j (n, is, low, high) = let inside = is.0 in omega arith
@@ -39,8 +40,17 @@ others_hand_on (StoreConstant s q k) load signed constant store A B x y = absurd
 others_hand_on (Store s q r) load signed constant store A B x y = absurd (store s q r refl)
 others_hand_on i load signed constant store A B x y = (λ a. y.0 (x.0 a), λ h. x.1 (y.1 h))
 
--- r10 is handed on where a slot is found
-pub found_handed_on : (p : Program) (o : Option ℕ) → IsLowest (HandsOnAt p) o
-    → IsSome o ↔ IsHandedOn p
-found_handed_on p None none = (λ h. absurd cc, λ (k, at). absurd (none k at))
-found_handed_on p (Some k) found = (λ h. (k, found.0), λ h. refl)
+-- an instruction reads the registers that its slot reads
+pub reads_there : (p : Program) (slot : ℕ) (i : Insn) (r : Reg) → fetch p slot ≡ Some i
+    → Reads p (InRegister r) slot ↔ IsOneOf (read_registers i) r
+reads_there p slot i r here = (
+  λ (j, there, by). subst (λ (x : Insn). IsOneOf (read_registers x) r) (same_Some j i (sym there ∙ here)) by,
+  λ by. (i, here, by),
+)
+
+-- r10 is handed on as is said, if no slot hands it on where that is denied
+pub handed_on_as_said : (p : Program) (n : ℕ) (handed_on : Bool) → (IsTrue handed_on → IsHandedOn p)
+    → (handed_on ≡ false → (k : ℕ) → k < n → ¬ HandsOnAt p k)
+    → ((k : ℕ) → HandsOnAt p k → k < n) → IsTrue handed_on ↔ IsHandedOn p
+handed_on_as_said p n true is none inside = (is, λ h. refl)
+handed_on_as_said p n false is none inside = (is, λ (k, at). absurd (none refl k (inside k at) at))

@@ -1,11 +1,14 @@
 //! The code as a graph of slots: what each reads and writes, and where control goes on.
 
-ghost use Rattle.std.specs.Prelude.{◌<◌, ◌^◌, ℕ, ◌↔◌, IsTrue, IfOk};
+ghost use Rattle.std.specs.Prelude.{◌≡◌, ◌<◌, ◌^◌, ℕ, ◌↔◌, false, IsTrue, IfOk, MatchOption};
+ghost use Rattle.isa_model.specs.declared.registers.Reg.{Reg as TheReg};
+ghost use Rattle.control_flow.specs.Liveness.{InRegister, Reads};
+ghost use Rattle.control_flow.specs.Masks.{Has};
 ghost use Rattle.control_flow.specs.Nodes.{IsNode, AreNodes};
 ghost use Rattle.control_flow.specs.StackUse.{IsHandedOn};
 
 use crate::homes::HomeMask;
-use crate::stack_accesses::{first_handing_on, homes_read, homes_written};
+use crate::stack_accesses::{hands_on_at, homes_read, homes_written};
 use crate::targets::{fall_target, jump_target};
 use image::Image;
 use std::alloc::{AllocError, Global};
@@ -20,11 +23,12 @@ pub struct Node {
     pub jumps_to: Option<usize>,
 }
 
-/// The node of a slot.
+/// The node of a slot, if r10 is handed on as is said.
 fn node_of(image: &Image, slot: usize, handed_on: bool) -> Node
-    requires inside { slot < 2 ^ 63 }
-    requires handed_on { IsTrue handed_on ↔ IsHandedOn image.now }
-    ensures { IsNode image.now slot result }
+    requires { slot < 2 ^ 63 }
+    ensures node { (IsTrue handed_on ↔ IsHandedOn image.now) → IsNode image.now slot result }
+    ensures registers { (r : TheReg) → Has result.reads.registers r
+        ↔ Reads image.now (InRegister r) slot }
 {
     let falls_to = fall_target(image, slot);
     let jumps_to = jump_target(image, slot);
@@ -44,14 +48,32 @@ fn node_of(image: &Image, slot: usize, handed_on: bool) -> Node
     }
 }
 
+/// The nodes of all slots, if r10 is handed on as is said. None: it is, which was not said.
+fn nodes_if(alloc: Global, image: &Image, handed_on: bool) -> Result<Option<Vec<Node>>, AllocError>
+    requires { IsTrue handed_on → IsHandedOn image.now }
+    ensures { IfOk result (λ found. MatchOption found
+        (IsHandedOn image.now × (handed_on ≡ false)) (λ nodes. AreNodes image.now nodes.items)) }
+{
+    let mut nodes = Vec::with_capacity(alloc, image.slots())?;
+    for slot in 0..image.slots() {
+        let node = node_of(image, slot, handed_on);
+        if !handed_on && hands_on_at(image, slot, node.reads.registers) {
+            return Ok(None);
+        }
+        nodes.push(node)?;
+    }
+    Ok(Some(nodes))
+}
+
 /// The nodes of all slots.
 pub fn nodes_of(alloc: Global, image: &Image) -> Result<Vec<Node>, AllocError>
     ensures { IfOk result (λ nodes. AreNodes image.now nodes.items) }
 {
-    let handed_on = first_handing_on(image).is_some();
-    let mut nodes = Vec::with_capacity(alloc, image.slots())?;
-    for slot in 0..image.slots() {
-        nodes.push(node_of(image, slot, handed_on))?;
+    if let Some(nodes) = nodes_if(alloc, image, false)? {
+        return Ok(nodes);
     }
-    Ok(nodes)
+    match nodes_if(alloc, image, true)? {
+        Some(nodes) => Ok(nodes),
+        None => unreachable!(),
+    }
 }

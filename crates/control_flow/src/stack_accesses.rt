@@ -2,13 +2,16 @@
 //! instructions hand r10 itself on.
 
 ghost use Rattle.std.specs.Prelude.{◌≡◌, ℕ, ◌<◌, ◌^◌, ◌↔◌, ◌⊎◌, IsTrue, Some};
+ghost use Rattle.isa_model.specs.declared.registers.Reg.{Reg as TheReg};
+ghost use Rattle.isa_model.specs.MustAccept.Paths.{IsOneOf};
+ghost use Rattle.control_flow.specs.Accesses.{read_registers};
 ghost use Rattle.control_flow.specs.StackUse.{IsByte, IsWithinSlot, IsWholeSlot, ReadsSlot, WritesSlot, HandsOn, HandsOnAt};
-ghost use Rattle.control_flow.specs.Liveness.{Home, IsReadBy, IsWrittenBy};
-ghost use Rattle.control_flow.specs.Masks.{HasSlot, HasHome};
-ghost use Rattle.control_flow.specs.Flows.{IsLowest};
+ghost use Rattle.control_flow.specs.Liveness.{Home, InRegister, Reads, IsReadBy, IsWrittenBy};
+ghost use Rattle.control_flow.specs.Masks.{Has, HasSlot, HasHome};
 
 use crate::accesses::{registers_read, registers_written};
 use crate::homes::HomeMask;
+use crate::masks::RegisterMask;
 use crate::slot_masks::SlotMask;
 use image::Image;
 use isa_model::{FRAME_SIZE, Insn, Place, Reg, Size};
@@ -74,36 +77,28 @@ fn slot_written(insn: &Insn) -> Option<u8>
     }
 }
 
-/// Whether an instruction takes r10 for more than the base of a load or a store.
-fn hands_on(insn: &Insn) -> bool
+/// Whether an instruction takes r10 for more than the base of a load or a store, by the registers
+/// that it reads.
+fn hands_on(insn: &Insn, read: RegisterMask) -> bool
+    requires { Has read TheReg.R10 ↔ IsOneOf (read_registers insn.now) TheReg.R10 }
     ensures { IsTrue result ↔ HandsOn insn.now }
 {
     match insn {
         Insn::Load(_, _, _) | Insn::LoadSx(_, _, _) | Insn::StoreConstant(_, _, _) => false,
         Insn::Store(_, _, source) => *source == Reg::R10,
-        insn => registers_read(insn).has(Reg::R10),
+        _ => read.has(Reg::R10),
     }
 }
 
-fn hands_on_at(image: &Image, slot: usize) -> bool
+/// The same of the instruction at a slot of the code, which reads these registers.
+pub fn hands_on_at(image: &Image, slot: usize, read: RegisterMask) -> bool
+    requires { Has read TheReg.R10 ↔ Reads image.now (InRegister TheReg.R10) slot }
     ensures { IsTrue result ↔ HandsOnAt image.now slot }
 {
     match image.at(slot) {
-        Some(insn) => hands_on(insn),
+        Some(insn) => hands_on(insn, read),
         None => false,
     }
-}
-
-/// The lowest slot of the code at which r10 is handed on.
-pub fn first_handing_on(image: &Image) -> Option<usize>
-    ensures { IsLowest (HandsOnAt image.now) result }
-{
-    for slot in 0..image.slots() {
-        if hands_on_at(image, slot) {
-            return Some(slot);
-        }
-    }
-    None
 }
 
 /// The slots that an instruction reads: any one, where a frame's address is handed on.

@@ -9,6 +9,17 @@ use isa_model::Reg;
 use reg_state::Kind;
 use stack_state::{FRAME_SLOTS, Slot, State};
 
+/// Forgets what is known of a register, which is written only if something is.
+#[inline(always)]
+fn unset(kind: &mut Kind)
+    ensures { kind.new ≡ Kind.Unset }
+{
+    if let Kind::Unset = kind {
+        return;
+    }
+    *kind = Kind::Unset;
+}
+
 /// Forgets what is known of the registers that are dead at a slot, if it is a join.
 fn forget_registers(flow: &Flow<'_>, slot: usize, registers: &mut [Kind; 10])
     ensures { AreKept flow.now slot registers.old registers.new }
@@ -22,28 +33,32 @@ fn forget_registers(flow: &Flow<'_>, slot: usize, registers: &mut [Kind; 10])
             unreachable!()
         };
         if !live.has(register) {
-            registers[usize::from(number)] = Kind::Unset;
+            unset(&mut registers[usize::from(number)]);
         }
     }
 }
 
-/// Forgets what is known of a slot of the stack, which is written only if something is.
+/// Forgets what is known of a slot of the stack. It is written as a whole only if a value was
+/// spilled there.
 #[inline(always)]
 fn clear(slot: &mut Slot)
     ensures { slot.new ≡ Slot.Written 0 }
 {
-    if let Slot::Written(0) = slot {
-        return;
+    match slot {
+        Slot::Written(marks) => *marks = 0,
+        Slot::Spilled(_) => *slot = Slot::Written(0),
     }
-    *slot = Slot::Written(0);
 }
 
-/// Forgets what is known of all slots of a frame's stack.
+/// Forgets what is known of all slots of a frame's stack: eight in a turn, which the compiler
+/// writes out.
 pub fn clear_slots(slots: &mut [Slot; FRAME_SLOTS])
     ensures { slots.new ≡ replicate frame_slots (Slot.Written 0) }
 {
-    for index in 0..FRAME_SLOTS {
-        clear(&mut slots[index]);
+    for block in 0..FRAME_SLOTS / 8 {
+        for place in 0..8 {
+            clear(&mut slots[8 * block + place]);
+        }
     }
 }
 
@@ -63,9 +78,12 @@ fn forget_slots(flow: &Flow<'_>, slot: usize, slots: &mut [Slot; FRAME_SLOTS])
         clear_slots(slots);
         return;
     }
-    for number in 0..FRAME_SLOTS as u8 {
-        if !live.has(number) {
-            clear(&mut slots[usize::from(number)]);
+    for block in 0..(FRAME_SLOTS / 8) as u8 {
+        for place in 0..8u8 {
+            let number = 8 * block + place;
+            if !live.has(number) {
+                clear(&mut slots[usize::from(number)]);
+            }
         }
     }
 }

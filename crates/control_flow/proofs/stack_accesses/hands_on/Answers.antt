@@ -7,4 +7,4 @@ use Rattle.control_flow.proofs.stack_accesses.hands_on.Goals as goal
 pub returns-in_default : goal.returns-in_default
 returns-in_default c =
     others_hand_on c.args.insn.now c.in_default.not-Load c.in_default.not-LoadSx c.in_default.not-StoreConstant c.in_default.not-Store
-    (IsTrue c.has.result) (Has c.registers_read.result R10) c.has.ensures (c.registers_read.ensures R10)
+    (IsTrue c.has.result) (Has c.args.read R10) c.has.ensures c.requires

@@ -1,12 +1,12 @@
-use Rattle.std.proofs.Common.{◌≡◌, ◌∙◌, ℕ, replicate, ap, sym, arith}
+use Rattle.std.proofs.Common.{◌≡◌, ◌∙◌, ℕ, ◌*◌, replicate, ap, sym, arith}
 use Rattle.std.proofs.lemmas.List.{take_all}
 use Rattle.stack_state.specs.declared.slots.Slot.TheVariants.{Written}
 use Rattle.walks.proofs.forgetting.clear_slots.Goals as goal
 
 pub returns : goal.returns
 returns c =
-    let i : ℕ = c.loop-index.index in
+    let i : ℕ = 8 * c.loop-block.block in
     let all : i ≡ 64 = omega arith in
-    sym (take_all i c.loop-index.slots (omega (arith, all, c.loop-index.invariant.0)))
-    ∙ c.loop-index.invariant.1
+    sym (take_all i c.loop-block.slots (omega (arith, all, c.loop-block.invariant.0)))
+    ∙ c.loop-block.invariant.1
     ∙ ap (λ (n : ℕ). replicate n (Written 0)) all

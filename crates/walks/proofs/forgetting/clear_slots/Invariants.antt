@@ -1,8 +1,15 @@
-use Rattle.std.proofs.Common.{◌≡◌, length, take, replicate}
+use Rattle.std.proofs.Common.{◌≡◌, ℕ, ◌+◌, ◌*◌, List, length, take, replicate}
 use Rattle.stack_state.specs.Slots.{frame_slots}
+use Rattle.stack_state.specs.declared.slots.Slot.{Slot}
 use Rattle.stack_state.specs.declared.slots.Slot.TheVariants.{Written}
 use Rattle.walks.proofs.forgetting.clear_slots.Given as goal
 
--- the slots up to here are cleared
-abbrev pub invariant-loop-index : goal.invariant-loop-index
-invariant-loop-index l = (length l.slots ≡ frame_slots) × (take l.index l.slots ≡ replicate l.index (Written 0))
+-- the slots below n are cleared
+abbrev pub AreCleared : ℕ → List Slot → Type 0
+AreCleared n slots = (length slots ≡ frame_slots) × (take n slots ≡ replicate n (Written 0))
+
+abbrev pub invariant-loop-block : goal.invariant-loop-block
+invariant-loop-block l = AreCleared (8 * l.block) l.slots
+
+abbrev pub invariant-loop-place : goal.invariant-loop-place
+invariant-loop-place l = AreCleared (8 * l.block + l.place) l.slots

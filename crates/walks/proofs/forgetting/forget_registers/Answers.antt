@@ -16,7 +16,7 @@ loop-number-preserved c =
     let is = number_of n r (omega arith) found in
     elim c.if-not-has.branch [
       | then-not-has w ↦
-          rw (w.registers-is, w.from.ensures)
+          rw (w.registers-is, w.from.ensures, w.unset.ensures)
           (kept_more_dead p slot n r c.args.registers.now c.loop-number.registers is (omega arith) (c.is_join.ensures.join.0 c.if-not-is_join.false)
           (λ live. iff_false c.has.ensures w.if-not-has.true ((c.live-live.ensures r).1 live)) c.loop-number.invariant)
       | else-not-has w ↦

@@ -1,24 +1,45 @@
-use Rattle.std.proofs.Common.{arith, rules}
+use Rattle.std.proofs.Common.{◌≡◌, ℕ, ◌+◌, ◌*◌, List, arith, rules, subst}
 use Rattle.std.proofs.lemmas.Bool.{iff_false}
-use Rattle.walks.proofs.Forgotten.{slots_kept_live, slots_kept_dead, slots_kept_full, slots_kept_empty}
+use Rattle.isa_model.specs.Code.Instructions.{Program}
+use Rattle.stack_state.specs.declared.slots.Slot.{Slot}
+use Rattle.walks.proofs.Forgotten.{SlotsKeptBelow, slots_kept_live, slots_kept_dead, slots_kept_full, slots_kept_empty}
 use Rattle.walks.proofs.forgetting.forget_slots.Goals as goal
 use Rattle.walks.proofs.forgetting.forget_slots.Goals.{then-not-has, else-not-has}
 
-pub loop-number-preserved : goal.loop-number-preserved
-loop-number-preserved c =
+kept_to : (p : Program) (slot n m : ℕ) (old new : List Slot) → n ≡ m
+    → SlotsKeptBelow p slot n old new → SlotsKeptBelow p slot m old new
+kept_to p slot n m old new same kept = subst (λ k. SlotsKeptBelow p slot k old new) same kept
+
+pub loop-place-init : goal.loop-place-init
+loop-place-init c =
+    let b : ℕ = c.loop-block.block in
+    kept_to c.args.flow.now c.args.slot (8 * b) (8 * b + 0) c.args.slots.now c.loop-block.slots (omega arith) c.loop-block.invariant
+
+pub loop-place-preserved : goal.loop-place-preserved
+loop-place-preserved c =
     let p = c.args.flow.now in
     let slot = c.args.slot in
-    let n = c.loop-number.number in
+    let b : ℕ = c.loop-block.block in
+    let k : ℕ = c.loop-place.place in
+    let n : ℕ = 8 * b + k in
     elim c.if-not-has.branch [
       | then-not-has w ↦
           rw (w.slots-is, w.from.ensures, w.clear.ensures)
-          (slots_kept_dead p slot n c.args.slots.now c.loop-number.slots (omega arith) (c.is_join.ensures.join.0 c.if-not-is_join.false)
-          (λ live. iff_false c.has.ensures w.if-not-has.true ((c.live_slots-live.ensures n).1 live)) c.loop-number.invariant)
+          (kept_to p slot (n + 1) (8 * b + (k + 1)) c.args.slots.now _ (omega arith)
+          (slots_kept_dead p slot n c.args.slots.now c.loop-place.slots (omega arith) (c.is_join.ensures.join.0 c.if-not-is_join.false)
+          (λ live. iff_false c.has.ensures w.if-not-has.true ((c.live_slots-live.ensures n).1 live)) c.loop-place.invariant))
       | else-not-has w ↦
           rw w.slots-is
-          (slots_kept_live p slot n c.args.slots.now c.loop-number.slots
-          ((c.live_slots-live.ensures n).0 (c.has.ensures.0 w.if-not-has.false)) c.loop-number.invariant)
+          (kept_to p slot (n + 1) (8 * b + (k + 1)) c.args.slots.now _ (omega arith)
+          (slots_kept_live p slot n c.args.slots.now c.loop-place.slots
+          ((c.live_slots-live.ensures n).0 (c.has.ensures.0 w.if-not-has.false)) c.loop-place.invariant))
     ]
+
+pub loop-block-preserved : goal.loop-block-preserved
+loop-block-preserved c =
+    let b : ℕ = c.loop-block.block in
+    let k : ℕ = c.loop-place.place in
+    kept_to c.args.flow.now c.args.slot (8 * b + k) (8 * (b + 1)) c.args.slots.now c.loop-place.slots (omega arith) c.loop-place.invariant
 
 pub returns-then-is_full : goal.returns-then-is_full
 returns-then-is_full c =

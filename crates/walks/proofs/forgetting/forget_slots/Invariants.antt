@@ -1,5 +1,9 @@
+use Rattle.std.proofs.Common.{◌+◌, ◌*◌}
 use Rattle.walks.proofs.Forgotten.{SlotsKeptBelow}
 use Rattle.walks.proofs.forgetting.forget_slots.Given as goal
 
-abbrev pub invariant-loop-number : goal.invariant-loop-number
-invariant-loop-number l = SlotsKeptBelow l.flow l.slot l.number l.initial.slots l.slots
+abbrev pub invariant-loop-block : goal.invariant-loop-block
+invariant-loop-block l = SlotsKeptBelow l.flow l.slot (8 * l.block) l.fn.slots l.slots
+
+abbrev pub invariant-loop-place : goal.invariant-loop-place
+invariant-loop-place l = SlotsKeptBelow l.flow l.slot (8 * l.block + l.place) l.fn.slots l.slots
