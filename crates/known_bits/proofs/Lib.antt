@@ -2,6 +2,7 @@ pub mod Members
 pub mod Logic
 pub mod Carry
 pub mod Shift
+pub mod Splices
 pub mod Parts
 pub mod Sharp
 pub mod Precise

@@ -1,5 +1,5 @@
 -- What the contracts of `Bits` cite.
-use Rattle.std.specs.Prelude.{ℕ, ◌≡◌, ◌+◌, ◌*◌, ◌%◌, ◌^◌, ◌<◌, ◌≤◌, ⊤, bit_or}
+use Rattle.std.specs.Prelude.{ℕ, ◌≡◌, ◌+◌, ◌*◌, ◌/◌, ◌%◌, ◌^◌, ◌<◌, ◌≤◌, ⊤, bit_or}
 use Rattle.std.specs.Int.{bit_at}
 use Rattle.isa_model.specs.declared.instructions.AluOp.{AluOp}
 use Rattle.isa_model.specs.declared.instructions.AluOp.TheVariants.{Add, Sub, Or, And, Xor, Lsh, Rsh, Mov, Arsh}
@@ -50,3 +50,7 @@ pub record SomePair (a b : Bits) (R : ℕ → ℕ → Type 0) : Type 0 where
   pub first : Has a x
   pub second : Has b y
   pub is : R x y
+
+-- x with other bits from one on: the low bits of y, that many of them
+abbrev pub spliced : ℕ → ℕ → ℕ → ℕ → ℕ
+spliced from count x y = (x / 2 ^ (from + count) * 2 ^ count + y % 2 ^ count) * 2 ^ from + x % 2 ^ from

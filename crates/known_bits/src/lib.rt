@@ -7,7 +7,8 @@ mod limits;
 mod logical;
 mod products;
 mod relations;
-mod shifts;
+pub mod shifts;
 mod sums;
 
 pub use bits::Bits;
+pub use shifts::spliced;

@@ -1,8 +1,9 @@
-//! Low parts of numbers, and shifts by a known distance.
+//! Parts of numbers, and shifts by a known distance.
 
-ghost use Rattle.std.specs.Prelude.{◌≡◌, ℕ, ◌*◌, ◌/◌, ◌%◌, ◌^◌, ◌<◌, ◌≤◌};
+ghost use Rattle.std.specs.Prelude.{◌≡◌, ℕ, ◌+◌, ◌*◌, ◌/◌, ◌%◌, ◌^◌, ◌<◌, ◌≤◌};
 ghost use Rattle.isa_model.specs.Code.Sizes.{width_bits};
 ghost use Rattle.isa_model.specs.Code.Numbers.{result_of, shift};
+ghost use Rattle.known_bits.specs.Bits.{spliced};
 
 use crate::bits::{Bits, ones};
 use isa_model::{AluOp, Width, numbers};
@@ -36,6 +37,20 @@ impl Bits {
         ensures fits { (x : ℕ) → Has result x → x < 2 ^ count }
     {
         self.shift_right(from).low(count)
+    }
+
+    /// The numbers with other bits from one on: the low bits of other numbers, that many of them.
+    pub fn spliced(self, from: u64, count: u32, other: Self) -> Self
+        requires from { from < 64 }
+        requires inside { from + count ≤ 64 }
+        ensures contains { (x y : ℕ) → Has self x → Has other y → Has result (spliced from count x y) }
+        ensures value { result.value ≡ spliced from count self.value other.value }
+        ensures mask { result.mask ≡ spliced from count self.mask other.mask }
+    {
+        Bits {
+            value: spliced(from, count, self.value, other.value),
+            mask: spliced(from, count, self.mask, other.mask),
+        }
     }
 
     pub(crate) fn truncate(self, width: Width) -> Self
@@ -113,6 +128,16 @@ impl Bits {
             mask: numbers::compute(AluOp::Arsh, width, self.mask, other.value),
         }
     }
+}
+
+/// The number with other bits from one on: the low bits of another number, that many of them.
+pub fn spliced(from: u64, count: u32, number: u64, other: u64) -> u64
+    requires from { from < 64 }
+    requires inside { from + count ≤ 64 }
+    ensures { result ≡ spliced from count number other }
+{
+    let written = ones(count) << from;
+    (number & !written) | ((other << from) & written)
 }
 
 // How far a shift by a number goes.

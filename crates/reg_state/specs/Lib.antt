@@ -7,3 +7,4 @@ pub mod Limits
 pub mod Reach
 pub mod Arithmetic
 pub mod Shown
+pub mod Splices

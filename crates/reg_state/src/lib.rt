@@ -8,6 +8,7 @@ pub mod kinds;
 mod low_bits;
 mod range_domain;
 pub mod scalars;
+pub mod splices;
 
 pub use comparisons::refine;
 pub use domains::Domain;

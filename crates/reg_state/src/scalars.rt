@@ -39,26 +39,42 @@ impl Scalar {
         ensures contains { (x : ℕ) → B.Has bits x → least ≤ x → x ≤ greatest → Has result x }
         ensures narrower { (x : ℕ) → Has result x → B.Has bits x × (least ≤ x) × (x ≤ greatest) }
     {
+        let (bits, least, greatest) = Scalar::shown(bits, least, greatest);
+        let range = between(least, greatest);
+        let both = Scalar { bits, range };
+        both.single()
+    }
+
+    // What known bits and two limits show of each other.
+    pub(crate) fn shown(bits: Bits, least: u64, greatest: u64) -> (Bits, u64, u64)
+        requires { least ≤ greatest }
+        ensures contains { (x : ℕ) → B.Has bits x → least ≤ x → x ≤ greatest
+            → B.Has result.0 x × (result.1 ≤ x) × (x ≤ result.2) }
+        ensures bits { (x : ℕ) → B.Has result.0 x → B.Has bits x }
+        ensures limits { (least ≤ result.1) × (result.1 ≤ result.2) × (result.2 ≤ greatest) }
+    {
         let Some(known) = bits.meet(Bits::between(least, greatest)) else {
-            let range = between(least, greatest);
-            return Scalar { bits, range };
+            return (bits, least, greatest);
         };
         let from = least.max(known.least());
         let to = greatest.min(known.greatest());
         if from > to {
-            let range = between(least, greatest);
-            return Scalar { bits, range };
+            return (bits, least, greatest);
         }
-        let narrow = Scalar {
-            bits: known,
-            range: between(from, to),
+        (known, from, to)
+    }
+
+    // The same numbers. One that the limits leave alone is written as a constant.
+    pub(crate) fn single(self) -> Scalar
+        ensures contains { (x : ℕ) → Has self x → Has result x }
+        ensures narrower { (x : ℕ) → Has result x → Has self x }
+    {
+        let Some(number) = self.range.number() else {
+            return self;
         };
-        if from < to {
-            return narrow;
-        }
-        match narrow.alone(from) {
+        match self.alone(number) {
             Some(constant) => constant,
-            None => narrow,
+            None => self,
         }
     }
 
@@ -151,9 +167,10 @@ impl Scalar {
 }
 
 // The numbers between two limits. Those of 32 bits are their own low halves, which makes it quick.
-fn between(least: u64, greatest: u64) -> Range
+pub(crate) fn between(least: u64, greatest: u64) -> Range
     requires { least ≤ greatest }
     ensures members { (x : ℕ) → (R.Has result x ↔ ((least ≤ x) × (x ≤ greatest))) }
+    ensures limits { (result.wide.least ≡ least) × (result.wide.greatest ≡ greatest) }
 {
     if greatest > u64::from(u32::MAX) {
         return Range::between(least, greatest);
@@ -216,7 +233,7 @@ impl Domain for Scalar {
     {
         Scalar {
             bits: Bits::between(least, greatest),
-            range: Range::between(least, greatest),
+            range: between(least, greatest),
         }
     }
 

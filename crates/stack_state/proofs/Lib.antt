@@ -10,6 +10,8 @@ pub mod FramePlaceLaws
 pub mod HelperEffects
 pub mod MarksLaws
 pub mod MeaningLaws
+pub mod NumberStoreEffects
+pub mod NumberStoreLaws
 pub mod PacketEffects
 pub mod PlaceLaws
 pub mod SpliceLaws

@@ -8,5 +8,6 @@ pub mod StackMeaning
 pub mod Facts
 pub mod Effects
 pub mod FramePlaces
+pub mod NumberStores
 pub mod Calls
 pub mod Answers

@@ -6,6 +6,7 @@ pub mod facts;
 pub mod helpers;
 pub mod identities;
 pub mod live_frames;
+pub mod number_stores;
 pub mod slots;
 pub mod stacks;
 pub mod states;

@@ -61,7 +61,7 @@ fn greatest(size: Size) -> u64
 }
 
 /// All numbers that that many bytes may spell.
-fn all(size: Size) -> Scalar
+pub(crate) fn all(size: Size) -> Scalar
     ensures { AreAll size result }
 {
     Scalar::between(0, greatest(size))

@@ -1,0 +1,840 @@
+-- A number whose bytes are stored into a slot of number bytes: what the slot's eight bytes spell after it.
+use Rattle.std.specs.Prelude.{◌≡◌, ℕ, zero, suc, ◌+◌, ◌-◌, ◌*◌, ◌/◌, ◌%◌, ◌^◌, ◌<◌, ◌≤◌, true, List, [], ◌∷◌, map, length, slice_index_or, slice_set, All, bit_or, refl}
+use Rattle.std.specs.Int.{w64, to_le_bytes}
+use Rattle.std.proofs.Common.{slice_index, sym, ap, ◌∙◌, subst, inl, inr, arith}
+use Rattle.std.proofs.lemmas.Bool.{cases_eq, cases_lt}
+use Rattle.std.proofs.lemmas.Nat.{le_bytes_8}
+use Rattle.std.proofs.lemmas.Nat.Bits.{bit_at_ones}
+use Rattle.std.proofs.lemmas.List.{length-map, get_or_past}
+use Rattle.std.proofs.lemmas.List.Elements.{All-take, All-drop}
+use Rattle.std.proofs.Math.ListN.{get_or-map as get_or-map_default}
+use Rattle.isa_model.specs.Code.Limits.{frame_size}
+use Rattle.isa_model.specs.declared.sizes.Size.{Size}
+use Rattle.isa_model.specs.declared.sizes.Size.TheVariants.{U8, U16, U32, U64}
+use Rattle.isa_model.specs.declared.values.Value.TheVariants.{Num}
+use Rattle.isa_model.specs.declared.values.Cell.{Cell}
+use Rattle.isa_model.specs.declared.values.Cell.TheVariants.{Unwritten, Byte, Piece}
+use Rattle.isa_model.specs.Code.Sizes.{size_bytes}
+use Rattle.isa_model.specs.Code.Numbers.{bytes_of, number_from}
+use Rattle.isa_model.specs.Code.LittleEndian.{EachByte}
+use Rattle.isa_model.specs.Machine.Memory.{is_byte, byte_in, number_of}
+use Rattle.isa_model.specs.Machine.MachineStates.{IsCell}
+use Rattle.isa_model.proofs.ByteCells.{map-byte_in-Byte}
+use Rattle.isa_model.proofs.ValueLaws.{bytes_in_fit, bytes_of_fit, slice_index_fits, number_of_fits}
+use Rattle.known_bits.specs.Bits.{spliced}
+use Rattle.reg_state.specs.declared.scalars.Scalar.{Scalar}
+use Rattle.reg_state.specs.declared.kinds.Kind.TheVariants.{Number}
+use Rattle.reg_state.specs.Scalars.{Has}
+use Rattle.reg_state.specs.Kinds.{Assigned}
+use Rattle.stack_state.specs.declared.slots.Slot.{Slot}
+use Rattle.stack_state.specs.declared.slots.Slot.TheVariants.{Written, Spilled}
+use Rattle.stack_state.specs.Slots.{slot_at, marks_of, mask_of, frame_slots}
+use Rattle.stack_state.specs.StackMeaning.{chunk_of, written, stored, Marked, SlotMeans}
+use Rattle.stack_state.specs.NumberStores.{AreWhole, marks_after, IsSpliced, IsSlotStored, StoresNumber}
+use Rattle.stack_state.proofs.SpliceLaws.{chunk_kept, chunk_written, length-chunk, length-written}
+use Rattle.stack_state.proofs.CellLaws.{length-bytes_of, marked_after, marked_slot, number_of-stored, number_of-part}
+use Rattle.stack_state.proofs.StackLaws.{slot_changed, SlotMeans-spill}
+
+-- ---- eight bytes
+
+-- n bytes of one list in the places from r on of another
+pub record AreSpliced (r n : ℕ) (bs ys cs : List ℕ) : Type 0 where
+  pub below : (i : ℕ) → i < r → slice_index cs i ≡ slice_index bs i
+  pub there : (i : ℕ) → i < n → slice_index cs (r + i) ≡ slice_index ys i
+  pub above : (i : ℕ) → r + n ≤ i → i < 8 → slice_index cs i ≡ slice_index bs i
+
+spliced_U8_0 : (bs ys cs : List ℕ) (y : ℕ) → EachByte bs → EachByte ys → length ys ≡ 1
+    → number_from ys ≡ y % 2 ^ 8 → AreSpliced 0 1 bs ys cs → number_from cs ≡ spliced 0 8 (number_from bs) y
+spliced_U8_0 bs ys cs y each other long is h =
+    let b0 = each 0 in
+    let b1 = each 1 in
+    let b2 = each 2 in
+    let b3 = each 3 in
+    let b4 = each 4 in
+    let b5 = each 5 in
+    let b6 = each 6 in
+    let b7 = each 7 in
+    let y0 = other 0 in
+    let y1 = get_or_past ys 1 0 (omega arith) in
+    let y2 = get_or_past ys 2 0 (omega arith) in
+    let y3 = get_or_past ys 3 0 (omega arith) in
+    let y4 = get_or_past ys 4 0 (omega arith) in
+    let y5 = get_or_past ys 5 0 (omega arith) in
+    let y6 = get_or_past ys 6 0 (omega arith) in
+    let y7 = get_or_past ys 7 0 (omega arith) in
+    let c0 : slice_index cs 0 ≡ slice_index ys 0 = h.there 0 (omega arith) in
+    let c1 : slice_index cs 1 ≡ slice_index bs 1 = h.above 1 (omega arith) (omega arith) in
+    let c2 : slice_index cs 2 ≡ slice_index bs 2 = h.above 2 (omega arith) (omega arith) in
+    let c3 : slice_index cs 3 ≡ slice_index bs 3 = h.above 3 (omega arith) (omega arith) in
+    let c4 : slice_index cs 4 ≡ slice_index bs 4 = h.above 4 (omega arith) (omega arith) in
+    let c5 : slice_index cs 5 ≡ slice_index bs 5 = h.above 5 (omega arith) (omega arith) in
+    let c6 : slice_index cs 6 ≡ slice_index bs 6 = h.above 6 (omega arith) (omega arith) in
+    let c7 : slice_index cs 7 ≡ slice_index bs 7 = h.above 7 (omega arith) (omega arith) in
+    omega arith
+
+spliced_U8_1 : (bs ys cs : List ℕ) (y : ℕ) → EachByte bs → EachByte ys → length ys ≡ 1
+    → number_from ys ≡ y % 2 ^ 8 → AreSpliced 1 1 bs ys cs → number_from cs ≡ spliced 8 8 (number_from bs) y
+spliced_U8_1 bs ys cs y each other long is h =
+    let b0 = each 0 in
+    let b1 = each 1 in
+    let b2 = each 2 in
+    let b3 = each 3 in
+    let b4 = each 4 in
+    let b5 = each 5 in
+    let b6 = each 6 in
+    let b7 = each 7 in
+    let y0 = other 0 in
+    let y1 = get_or_past ys 1 0 (omega arith) in
+    let y2 = get_or_past ys 2 0 (omega arith) in
+    let y3 = get_or_past ys 3 0 (omega arith) in
+    let y4 = get_or_past ys 4 0 (omega arith) in
+    let y5 = get_or_past ys 5 0 (omega arith) in
+    let y6 = get_or_past ys 6 0 (omega arith) in
+    let y7 = get_or_past ys 7 0 (omega arith) in
+    let c0 : slice_index cs 0 ≡ slice_index bs 0 = h.below 0 (omega arith) in
+    let c1 : slice_index cs 1 ≡ slice_index ys 0 = h.there 0 (omega arith) in
+    let c2 : slice_index cs 2 ≡ slice_index bs 2 = h.above 2 (omega arith) (omega arith) in
+    let c3 : slice_index cs 3 ≡ slice_index bs 3 = h.above 3 (omega arith) (omega arith) in
+    let c4 : slice_index cs 4 ≡ slice_index bs 4 = h.above 4 (omega arith) (omega arith) in
+    let c5 : slice_index cs 5 ≡ slice_index bs 5 = h.above 5 (omega arith) (omega arith) in
+    let c6 : slice_index cs 6 ≡ slice_index bs 6 = h.above 6 (omega arith) (omega arith) in
+    let c7 : slice_index cs 7 ≡ slice_index bs 7 = h.above 7 (omega arith) (omega arith) in
+    omega arith
+
+spliced_U8_2 : (bs ys cs : List ℕ) (y : ℕ) → EachByte bs → EachByte ys → length ys ≡ 1
+    → number_from ys ≡ y % 2 ^ 8 → AreSpliced 2 1 bs ys cs → number_from cs ≡ spliced 16 8 (number_from bs) y
+spliced_U8_2 bs ys cs y each other long is h =
+    let b0 = each 0 in
+    let b1 = each 1 in
+    let b2 = each 2 in
+    let b3 = each 3 in
+    let b4 = each 4 in
+    let b5 = each 5 in
+    let b6 = each 6 in
+    let b7 = each 7 in
+    let y0 = other 0 in
+    let y1 = get_or_past ys 1 0 (omega arith) in
+    let y2 = get_or_past ys 2 0 (omega arith) in
+    let y3 = get_or_past ys 3 0 (omega arith) in
+    let y4 = get_or_past ys 4 0 (omega arith) in
+    let y5 = get_or_past ys 5 0 (omega arith) in
+    let y6 = get_or_past ys 6 0 (omega arith) in
+    let y7 = get_or_past ys 7 0 (omega arith) in
+    let c0 : slice_index cs 0 ≡ slice_index bs 0 = h.below 0 (omega arith) in
+    let c1 : slice_index cs 1 ≡ slice_index bs 1 = h.below 1 (omega arith) in
+    let c2 : slice_index cs 2 ≡ slice_index ys 0 = h.there 0 (omega arith) in
+    let c3 : slice_index cs 3 ≡ slice_index bs 3 = h.above 3 (omega arith) (omega arith) in
+    let c4 : slice_index cs 4 ≡ slice_index bs 4 = h.above 4 (omega arith) (omega arith) in
+    let c5 : slice_index cs 5 ≡ slice_index bs 5 = h.above 5 (omega arith) (omega arith) in
+    let c6 : slice_index cs 6 ≡ slice_index bs 6 = h.above 6 (omega arith) (omega arith) in
+    let c7 : slice_index cs 7 ≡ slice_index bs 7 = h.above 7 (omega arith) (omega arith) in
+    omega arith
+
+spliced_U8_3 : (bs ys cs : List ℕ) (y : ℕ) → EachByte bs → EachByte ys → length ys ≡ 1
+    → number_from ys ≡ y % 2 ^ 8 → AreSpliced 3 1 bs ys cs → number_from cs ≡ spliced 24 8 (number_from bs) y
+spliced_U8_3 bs ys cs y each other long is h =
+    let b0 = each 0 in
+    let b1 = each 1 in
+    let b2 = each 2 in
+    let b3 = each 3 in
+    let b4 = each 4 in
+    let b5 = each 5 in
+    let b6 = each 6 in
+    let b7 = each 7 in
+    let y0 = other 0 in
+    let y1 = get_or_past ys 1 0 (omega arith) in
+    let y2 = get_or_past ys 2 0 (omega arith) in
+    let y3 = get_or_past ys 3 0 (omega arith) in
+    let y4 = get_or_past ys 4 0 (omega arith) in
+    let y5 = get_or_past ys 5 0 (omega arith) in
+    let y6 = get_or_past ys 6 0 (omega arith) in
+    let y7 = get_or_past ys 7 0 (omega arith) in
+    let c0 : slice_index cs 0 ≡ slice_index bs 0 = h.below 0 (omega arith) in
+    let c1 : slice_index cs 1 ≡ slice_index bs 1 = h.below 1 (omega arith) in
+    let c2 : slice_index cs 2 ≡ slice_index bs 2 = h.below 2 (omega arith) in
+    let c3 : slice_index cs 3 ≡ slice_index ys 0 = h.there 0 (omega arith) in
+    let c4 : slice_index cs 4 ≡ slice_index bs 4 = h.above 4 (omega arith) (omega arith) in
+    let c5 : slice_index cs 5 ≡ slice_index bs 5 = h.above 5 (omega arith) (omega arith) in
+    let c6 : slice_index cs 6 ≡ slice_index bs 6 = h.above 6 (omega arith) (omega arith) in
+    let c7 : slice_index cs 7 ≡ slice_index bs 7 = h.above 7 (omega arith) (omega arith) in
+    omega arith
+
+spliced_U8_4 : (bs ys cs : List ℕ) (y : ℕ) → EachByte bs → EachByte ys → length ys ≡ 1
+    → number_from ys ≡ y % 2 ^ 8 → AreSpliced 4 1 bs ys cs → number_from cs ≡ spliced 32 8 (number_from bs) y
+spliced_U8_4 bs ys cs y each other long is h =
+    let b0 = each 0 in
+    let b1 = each 1 in
+    let b2 = each 2 in
+    let b3 = each 3 in
+    let b4 = each 4 in
+    let b5 = each 5 in
+    let b6 = each 6 in
+    let b7 = each 7 in
+    let y0 = other 0 in
+    let y1 = get_or_past ys 1 0 (omega arith) in
+    let y2 = get_or_past ys 2 0 (omega arith) in
+    let y3 = get_or_past ys 3 0 (omega arith) in
+    let y4 = get_or_past ys 4 0 (omega arith) in
+    let y5 = get_or_past ys 5 0 (omega arith) in
+    let y6 = get_or_past ys 6 0 (omega arith) in
+    let y7 = get_or_past ys 7 0 (omega arith) in
+    let c0 : slice_index cs 0 ≡ slice_index bs 0 = h.below 0 (omega arith) in
+    let c1 : slice_index cs 1 ≡ slice_index bs 1 = h.below 1 (omega arith) in
+    let c2 : slice_index cs 2 ≡ slice_index bs 2 = h.below 2 (omega arith) in
+    let c3 : slice_index cs 3 ≡ slice_index bs 3 = h.below 3 (omega arith) in
+    let c4 : slice_index cs 4 ≡ slice_index ys 0 = h.there 0 (omega arith) in
+    let c5 : slice_index cs 5 ≡ slice_index bs 5 = h.above 5 (omega arith) (omega arith) in
+    let c6 : slice_index cs 6 ≡ slice_index bs 6 = h.above 6 (omega arith) (omega arith) in
+    let c7 : slice_index cs 7 ≡ slice_index bs 7 = h.above 7 (omega arith) (omega arith) in
+    omega arith
+
+spliced_U8_5 : (bs ys cs : List ℕ) (y : ℕ) → EachByte bs → EachByte ys → length ys ≡ 1
+    → number_from ys ≡ y % 2 ^ 8 → AreSpliced 5 1 bs ys cs → number_from cs ≡ spliced 40 8 (number_from bs) y
+spliced_U8_5 bs ys cs y each other long is h =
+    let b0 = each 0 in
+    let b1 = each 1 in
+    let b2 = each 2 in
+    let b3 = each 3 in
+    let b4 = each 4 in
+    let b5 = each 5 in
+    let b6 = each 6 in
+    let b7 = each 7 in
+    let y0 = other 0 in
+    let y1 = get_or_past ys 1 0 (omega arith) in
+    let y2 = get_or_past ys 2 0 (omega arith) in
+    let y3 = get_or_past ys 3 0 (omega arith) in
+    let y4 = get_or_past ys 4 0 (omega arith) in
+    let y5 = get_or_past ys 5 0 (omega arith) in
+    let y6 = get_or_past ys 6 0 (omega arith) in
+    let y7 = get_or_past ys 7 0 (omega arith) in
+    let c0 : slice_index cs 0 ≡ slice_index bs 0 = h.below 0 (omega arith) in
+    let c1 : slice_index cs 1 ≡ slice_index bs 1 = h.below 1 (omega arith) in
+    let c2 : slice_index cs 2 ≡ slice_index bs 2 = h.below 2 (omega arith) in
+    let c3 : slice_index cs 3 ≡ slice_index bs 3 = h.below 3 (omega arith) in
+    let c4 : slice_index cs 4 ≡ slice_index bs 4 = h.below 4 (omega arith) in
+    let c5 : slice_index cs 5 ≡ slice_index ys 0 = h.there 0 (omega arith) in
+    let c6 : slice_index cs 6 ≡ slice_index bs 6 = h.above 6 (omega arith) (omega arith) in
+    let c7 : slice_index cs 7 ≡ slice_index bs 7 = h.above 7 (omega arith) (omega arith) in
+    omega arith
+
+spliced_U8_6 : (bs ys cs : List ℕ) (y : ℕ) → EachByte bs → EachByte ys → length ys ≡ 1
+    → number_from ys ≡ y % 2 ^ 8 → AreSpliced 6 1 bs ys cs → number_from cs ≡ spliced 48 8 (number_from bs) y
+spliced_U8_6 bs ys cs y each other long is h =
+    let b0 = each 0 in
+    let b1 = each 1 in
+    let b2 = each 2 in
+    let b3 = each 3 in
+    let b4 = each 4 in
+    let b5 = each 5 in
+    let b6 = each 6 in
+    let b7 = each 7 in
+    let y0 = other 0 in
+    let y1 = get_or_past ys 1 0 (omega arith) in
+    let y2 = get_or_past ys 2 0 (omega arith) in
+    let y3 = get_or_past ys 3 0 (omega arith) in
+    let y4 = get_or_past ys 4 0 (omega arith) in
+    let y5 = get_or_past ys 5 0 (omega arith) in
+    let y6 = get_or_past ys 6 0 (omega arith) in
+    let y7 = get_or_past ys 7 0 (omega arith) in
+    let c0 : slice_index cs 0 ≡ slice_index bs 0 = h.below 0 (omega arith) in
+    let c1 : slice_index cs 1 ≡ slice_index bs 1 = h.below 1 (omega arith) in
+    let c2 : slice_index cs 2 ≡ slice_index bs 2 = h.below 2 (omega arith) in
+    let c3 : slice_index cs 3 ≡ slice_index bs 3 = h.below 3 (omega arith) in
+    let c4 : slice_index cs 4 ≡ slice_index bs 4 = h.below 4 (omega arith) in
+    let c5 : slice_index cs 5 ≡ slice_index bs 5 = h.below 5 (omega arith) in
+    let c6 : slice_index cs 6 ≡ slice_index ys 0 = h.there 0 (omega arith) in
+    let c7 : slice_index cs 7 ≡ slice_index bs 7 = h.above 7 (omega arith) (omega arith) in
+    omega arith
+
+spliced_U8_7 : (bs ys cs : List ℕ) (y : ℕ) → EachByte bs → EachByte ys → length ys ≡ 1
+    → number_from ys ≡ y % 2 ^ 8 → AreSpliced 7 1 bs ys cs → number_from cs ≡ spliced 56 8 (number_from bs) y
+spliced_U8_7 bs ys cs y each other long is h =
+    let b0 = each 0 in
+    let b1 = each 1 in
+    let b2 = each 2 in
+    let b3 = each 3 in
+    let b4 = each 4 in
+    let b5 = each 5 in
+    let b6 = each 6 in
+    let b7 = each 7 in
+    let y0 = other 0 in
+    let y1 = get_or_past ys 1 0 (omega arith) in
+    let y2 = get_or_past ys 2 0 (omega arith) in
+    let y3 = get_or_past ys 3 0 (omega arith) in
+    let y4 = get_or_past ys 4 0 (omega arith) in
+    let y5 = get_or_past ys 5 0 (omega arith) in
+    let y6 = get_or_past ys 6 0 (omega arith) in
+    let y7 = get_or_past ys 7 0 (omega arith) in
+    let c0 : slice_index cs 0 ≡ slice_index bs 0 = h.below 0 (omega arith) in
+    let c1 : slice_index cs 1 ≡ slice_index bs 1 = h.below 1 (omega arith) in
+    let c2 : slice_index cs 2 ≡ slice_index bs 2 = h.below 2 (omega arith) in
+    let c3 : slice_index cs 3 ≡ slice_index bs 3 = h.below 3 (omega arith) in
+    let c4 : slice_index cs 4 ≡ slice_index bs 4 = h.below 4 (omega arith) in
+    let c5 : slice_index cs 5 ≡ slice_index bs 5 = h.below 5 (omega arith) in
+    let c6 : slice_index cs 6 ≡ slice_index bs 6 = h.below 6 (omega arith) in
+    let c7 : slice_index cs 7 ≡ slice_index ys 0 = h.there 0 (omega arith) in
+    omega arith
+
+spliced_U16_0 : (bs ys cs : List ℕ) (y : ℕ) → EachByte bs → EachByte ys → length ys ≡ 2
+    → number_from ys ≡ y % 2 ^ 16 → AreSpliced 0 2 bs ys cs → number_from cs ≡ spliced 0 16 (number_from bs) y
+spliced_U16_0 bs ys cs y each other long is h =
+    let b0 = each 0 in
+    let b1 = each 1 in
+    let b2 = each 2 in
+    let b3 = each 3 in
+    let b4 = each 4 in
+    let b5 = each 5 in
+    let b6 = each 6 in
+    let b7 = each 7 in
+    let y0 = other 0 in
+    let y1 = other 1 in
+    let y2 = get_or_past ys 2 0 (omega arith) in
+    let y3 = get_or_past ys 3 0 (omega arith) in
+    let y4 = get_or_past ys 4 0 (omega arith) in
+    let y5 = get_or_past ys 5 0 (omega arith) in
+    let y6 = get_or_past ys 6 0 (omega arith) in
+    let y7 = get_or_past ys 7 0 (omega arith) in
+    let c0 : slice_index cs 0 ≡ slice_index ys 0 = h.there 0 (omega arith) in
+    let c1 : slice_index cs 1 ≡ slice_index ys 1 = h.there 1 (omega arith) in
+    let c2 : slice_index cs 2 ≡ slice_index bs 2 = h.above 2 (omega arith) (omega arith) in
+    let c3 : slice_index cs 3 ≡ slice_index bs 3 = h.above 3 (omega arith) (omega arith) in
+    let c4 : slice_index cs 4 ≡ slice_index bs 4 = h.above 4 (omega arith) (omega arith) in
+    let c5 : slice_index cs 5 ≡ slice_index bs 5 = h.above 5 (omega arith) (omega arith) in
+    let c6 : slice_index cs 6 ≡ slice_index bs 6 = h.above 6 (omega arith) (omega arith) in
+    let c7 : slice_index cs 7 ≡ slice_index bs 7 = h.above 7 (omega arith) (omega arith) in
+    omega arith
+
+spliced_U16_1 : (bs ys cs : List ℕ) (y : ℕ) → EachByte bs → EachByte ys → length ys ≡ 2
+    → number_from ys ≡ y % 2 ^ 16 → AreSpliced 1 2 bs ys cs → number_from cs ≡ spliced 8 16 (number_from bs) y
+spliced_U16_1 bs ys cs y each other long is h =
+    let b0 = each 0 in
+    let b1 = each 1 in
+    let b2 = each 2 in
+    let b3 = each 3 in
+    let b4 = each 4 in
+    let b5 = each 5 in
+    let b6 = each 6 in
+    let b7 = each 7 in
+    let y0 = other 0 in
+    let y1 = other 1 in
+    let y2 = get_or_past ys 2 0 (omega arith) in
+    let y3 = get_or_past ys 3 0 (omega arith) in
+    let y4 = get_or_past ys 4 0 (omega arith) in
+    let y5 = get_or_past ys 5 0 (omega arith) in
+    let y6 = get_or_past ys 6 0 (omega arith) in
+    let y7 = get_or_past ys 7 0 (omega arith) in
+    let c0 : slice_index cs 0 ≡ slice_index bs 0 = h.below 0 (omega arith) in
+    let c1 : slice_index cs 1 ≡ slice_index ys 0 = h.there 0 (omega arith) in
+    let c2 : slice_index cs 2 ≡ slice_index ys 1 = h.there 1 (omega arith) in
+    let c3 : slice_index cs 3 ≡ slice_index bs 3 = h.above 3 (omega arith) (omega arith) in
+    let c4 : slice_index cs 4 ≡ slice_index bs 4 = h.above 4 (omega arith) (omega arith) in
+    let c5 : slice_index cs 5 ≡ slice_index bs 5 = h.above 5 (omega arith) (omega arith) in
+    let c6 : slice_index cs 6 ≡ slice_index bs 6 = h.above 6 (omega arith) (omega arith) in
+    let c7 : slice_index cs 7 ≡ slice_index bs 7 = h.above 7 (omega arith) (omega arith) in
+    omega arith
+
+spliced_U16_2 : (bs ys cs : List ℕ) (y : ℕ) → EachByte bs → EachByte ys → length ys ≡ 2
+    → number_from ys ≡ y % 2 ^ 16 → AreSpliced 2 2 bs ys cs → number_from cs ≡ spliced 16 16 (number_from bs) y
+spliced_U16_2 bs ys cs y each other long is h =
+    let b0 = each 0 in
+    let b1 = each 1 in
+    let b2 = each 2 in
+    let b3 = each 3 in
+    let b4 = each 4 in
+    let b5 = each 5 in
+    let b6 = each 6 in
+    let b7 = each 7 in
+    let y0 = other 0 in
+    let y1 = other 1 in
+    let y2 = get_or_past ys 2 0 (omega arith) in
+    let y3 = get_or_past ys 3 0 (omega arith) in
+    let y4 = get_or_past ys 4 0 (omega arith) in
+    let y5 = get_or_past ys 5 0 (omega arith) in
+    let y6 = get_or_past ys 6 0 (omega arith) in
+    let y7 = get_or_past ys 7 0 (omega arith) in
+    let c0 : slice_index cs 0 ≡ slice_index bs 0 = h.below 0 (omega arith) in
+    let c1 : slice_index cs 1 ≡ slice_index bs 1 = h.below 1 (omega arith) in
+    let c2 : slice_index cs 2 ≡ slice_index ys 0 = h.there 0 (omega arith) in
+    let c3 : slice_index cs 3 ≡ slice_index ys 1 = h.there 1 (omega arith) in
+    let c4 : slice_index cs 4 ≡ slice_index bs 4 = h.above 4 (omega arith) (omega arith) in
+    let c5 : slice_index cs 5 ≡ slice_index bs 5 = h.above 5 (omega arith) (omega arith) in
+    let c6 : slice_index cs 6 ≡ slice_index bs 6 = h.above 6 (omega arith) (omega arith) in
+    let c7 : slice_index cs 7 ≡ slice_index bs 7 = h.above 7 (omega arith) (omega arith) in
+    omega arith
+
+spliced_U16_3 : (bs ys cs : List ℕ) (y : ℕ) → EachByte bs → EachByte ys → length ys ≡ 2
+    → number_from ys ≡ y % 2 ^ 16 → AreSpliced 3 2 bs ys cs → number_from cs ≡ spliced 24 16 (number_from bs) y
+spliced_U16_3 bs ys cs y each other long is h =
+    let b0 = each 0 in
+    let b1 = each 1 in
+    let b2 = each 2 in
+    let b3 = each 3 in
+    let b4 = each 4 in
+    let b5 = each 5 in
+    let b6 = each 6 in
+    let b7 = each 7 in
+    let y0 = other 0 in
+    let y1 = other 1 in
+    let y2 = get_or_past ys 2 0 (omega arith) in
+    let y3 = get_or_past ys 3 0 (omega arith) in
+    let y4 = get_or_past ys 4 0 (omega arith) in
+    let y5 = get_or_past ys 5 0 (omega arith) in
+    let y6 = get_or_past ys 6 0 (omega arith) in
+    let y7 = get_or_past ys 7 0 (omega arith) in
+    let c0 : slice_index cs 0 ≡ slice_index bs 0 = h.below 0 (omega arith) in
+    let c1 : slice_index cs 1 ≡ slice_index bs 1 = h.below 1 (omega arith) in
+    let c2 : slice_index cs 2 ≡ slice_index bs 2 = h.below 2 (omega arith) in
+    let c3 : slice_index cs 3 ≡ slice_index ys 0 = h.there 0 (omega arith) in
+    let c4 : slice_index cs 4 ≡ slice_index ys 1 = h.there 1 (omega arith) in
+    let c5 : slice_index cs 5 ≡ slice_index bs 5 = h.above 5 (omega arith) (omega arith) in
+    let c6 : slice_index cs 6 ≡ slice_index bs 6 = h.above 6 (omega arith) (omega arith) in
+    let c7 : slice_index cs 7 ≡ slice_index bs 7 = h.above 7 (omega arith) (omega arith) in
+    omega arith
+
+spliced_U16_4 : (bs ys cs : List ℕ) (y : ℕ) → EachByte bs → EachByte ys → length ys ≡ 2
+    → number_from ys ≡ y % 2 ^ 16 → AreSpliced 4 2 bs ys cs → number_from cs ≡ spliced 32 16 (number_from bs) y
+spliced_U16_4 bs ys cs y each other long is h =
+    let b0 = each 0 in
+    let b1 = each 1 in
+    let b2 = each 2 in
+    let b3 = each 3 in
+    let b4 = each 4 in
+    let b5 = each 5 in
+    let b6 = each 6 in
+    let b7 = each 7 in
+    let y0 = other 0 in
+    let y1 = other 1 in
+    let y2 = get_or_past ys 2 0 (omega arith) in
+    let y3 = get_or_past ys 3 0 (omega arith) in
+    let y4 = get_or_past ys 4 0 (omega arith) in
+    let y5 = get_or_past ys 5 0 (omega arith) in
+    let y6 = get_or_past ys 6 0 (omega arith) in
+    let y7 = get_or_past ys 7 0 (omega arith) in
+    let c0 : slice_index cs 0 ≡ slice_index bs 0 = h.below 0 (omega arith) in
+    let c1 : slice_index cs 1 ≡ slice_index bs 1 = h.below 1 (omega arith) in
+    let c2 : slice_index cs 2 ≡ slice_index bs 2 = h.below 2 (omega arith) in
+    let c3 : slice_index cs 3 ≡ slice_index bs 3 = h.below 3 (omega arith) in
+    let c4 : slice_index cs 4 ≡ slice_index ys 0 = h.there 0 (omega arith) in
+    let c5 : slice_index cs 5 ≡ slice_index ys 1 = h.there 1 (omega arith) in
+    let c6 : slice_index cs 6 ≡ slice_index bs 6 = h.above 6 (omega arith) (omega arith) in
+    let c7 : slice_index cs 7 ≡ slice_index bs 7 = h.above 7 (omega arith) (omega arith) in
+    omega arith
+
+spliced_U16_5 : (bs ys cs : List ℕ) (y : ℕ) → EachByte bs → EachByte ys → length ys ≡ 2
+    → number_from ys ≡ y % 2 ^ 16 → AreSpliced 5 2 bs ys cs → number_from cs ≡ spliced 40 16 (number_from bs) y
+spliced_U16_5 bs ys cs y each other long is h =
+    let b0 = each 0 in
+    let b1 = each 1 in
+    let b2 = each 2 in
+    let b3 = each 3 in
+    let b4 = each 4 in
+    let b5 = each 5 in
+    let b6 = each 6 in
+    let b7 = each 7 in
+    let y0 = other 0 in
+    let y1 = other 1 in
+    let y2 = get_or_past ys 2 0 (omega arith) in
+    let y3 = get_or_past ys 3 0 (omega arith) in
+    let y4 = get_or_past ys 4 0 (omega arith) in
+    let y5 = get_or_past ys 5 0 (omega arith) in
+    let y6 = get_or_past ys 6 0 (omega arith) in
+    let y7 = get_or_past ys 7 0 (omega arith) in
+    let c0 : slice_index cs 0 ≡ slice_index bs 0 = h.below 0 (omega arith) in
+    let c1 : slice_index cs 1 ≡ slice_index bs 1 = h.below 1 (omega arith) in
+    let c2 : slice_index cs 2 ≡ slice_index bs 2 = h.below 2 (omega arith) in
+    let c3 : slice_index cs 3 ≡ slice_index bs 3 = h.below 3 (omega arith) in
+    let c4 : slice_index cs 4 ≡ slice_index bs 4 = h.below 4 (omega arith) in
+    let c5 : slice_index cs 5 ≡ slice_index ys 0 = h.there 0 (omega arith) in
+    let c6 : slice_index cs 6 ≡ slice_index ys 1 = h.there 1 (omega arith) in
+    let c7 : slice_index cs 7 ≡ slice_index bs 7 = h.above 7 (omega arith) (omega arith) in
+    omega arith
+
+spliced_U16_6 : (bs ys cs : List ℕ) (y : ℕ) → EachByte bs → EachByte ys → length ys ≡ 2
+    → number_from ys ≡ y % 2 ^ 16 → AreSpliced 6 2 bs ys cs → number_from cs ≡ spliced 48 16 (number_from bs) y
+spliced_U16_6 bs ys cs y each other long is h =
+    let b0 = each 0 in
+    let b1 = each 1 in
+    let b2 = each 2 in
+    let b3 = each 3 in
+    let b4 = each 4 in
+    let b5 = each 5 in
+    let b6 = each 6 in
+    let b7 = each 7 in
+    let y0 = other 0 in
+    let y1 = other 1 in
+    let y2 = get_or_past ys 2 0 (omega arith) in
+    let y3 = get_or_past ys 3 0 (omega arith) in
+    let y4 = get_or_past ys 4 0 (omega arith) in
+    let y5 = get_or_past ys 5 0 (omega arith) in
+    let y6 = get_or_past ys 6 0 (omega arith) in
+    let y7 = get_or_past ys 7 0 (omega arith) in
+    let c0 : slice_index cs 0 ≡ slice_index bs 0 = h.below 0 (omega arith) in
+    let c1 : slice_index cs 1 ≡ slice_index bs 1 = h.below 1 (omega arith) in
+    let c2 : slice_index cs 2 ≡ slice_index bs 2 = h.below 2 (omega arith) in
+    let c3 : slice_index cs 3 ≡ slice_index bs 3 = h.below 3 (omega arith) in
+    let c4 : slice_index cs 4 ≡ slice_index bs 4 = h.below 4 (omega arith) in
+    let c5 : slice_index cs 5 ≡ slice_index bs 5 = h.below 5 (omega arith) in
+    let c6 : slice_index cs 6 ≡ slice_index ys 0 = h.there 0 (omega arith) in
+    let c7 : slice_index cs 7 ≡ slice_index ys 1 = h.there 1 (omega arith) in
+    omega arith
+
+spliced_U32_0 : (bs ys cs : List ℕ) (y : ℕ) → EachByte bs → EachByte ys → length ys ≡ 4
+    → number_from ys ≡ y % 2 ^ 32 → AreSpliced 0 4 bs ys cs → number_from cs ≡ spliced 0 32 (number_from bs) y
+spliced_U32_0 bs ys cs y each other long is h =
+    let b0 = each 0 in
+    let b1 = each 1 in
+    let b2 = each 2 in
+    let b3 = each 3 in
+    let b4 = each 4 in
+    let b5 = each 5 in
+    let b6 = each 6 in
+    let b7 = each 7 in
+    let y0 = other 0 in
+    let y1 = other 1 in
+    let y2 = other 2 in
+    let y3 = other 3 in
+    let y4 = get_or_past ys 4 0 (omega arith) in
+    let y5 = get_or_past ys 5 0 (omega arith) in
+    let y6 = get_or_past ys 6 0 (omega arith) in
+    let y7 = get_or_past ys 7 0 (omega arith) in
+    let c0 : slice_index cs 0 ≡ slice_index ys 0 = h.there 0 (omega arith) in
+    let c1 : slice_index cs 1 ≡ slice_index ys 1 = h.there 1 (omega arith) in
+    let c2 : slice_index cs 2 ≡ slice_index ys 2 = h.there 2 (omega arith) in
+    let c3 : slice_index cs 3 ≡ slice_index ys 3 = h.there 3 (omega arith) in
+    let c4 : slice_index cs 4 ≡ slice_index bs 4 = h.above 4 (omega arith) (omega arith) in
+    let c5 : slice_index cs 5 ≡ slice_index bs 5 = h.above 5 (omega arith) (omega arith) in
+    let c6 : slice_index cs 6 ≡ slice_index bs 6 = h.above 6 (omega arith) (omega arith) in
+    let c7 : slice_index cs 7 ≡ slice_index bs 7 = h.above 7 (omega arith) (omega arith) in
+    omega arith
+
+spliced_U32_1 : (bs ys cs : List ℕ) (y : ℕ) → EachByte bs → EachByte ys → length ys ≡ 4
+    → number_from ys ≡ y % 2 ^ 32 → AreSpliced 1 4 bs ys cs → number_from cs ≡ spliced 8 32 (number_from bs) y
+spliced_U32_1 bs ys cs y each other long is h =
+    let b0 = each 0 in
+    let b1 = each 1 in
+    let b2 = each 2 in
+    let b3 = each 3 in
+    let b4 = each 4 in
+    let b5 = each 5 in
+    let b6 = each 6 in
+    let b7 = each 7 in
+    let y0 = other 0 in
+    let y1 = other 1 in
+    let y2 = other 2 in
+    let y3 = other 3 in
+    let y4 = get_or_past ys 4 0 (omega arith) in
+    let y5 = get_or_past ys 5 0 (omega arith) in
+    let y6 = get_or_past ys 6 0 (omega arith) in
+    let y7 = get_or_past ys 7 0 (omega arith) in
+    let c0 : slice_index cs 0 ≡ slice_index bs 0 = h.below 0 (omega arith) in
+    let c1 : slice_index cs 1 ≡ slice_index ys 0 = h.there 0 (omega arith) in
+    let c2 : slice_index cs 2 ≡ slice_index ys 1 = h.there 1 (omega arith) in
+    let c3 : slice_index cs 3 ≡ slice_index ys 2 = h.there 2 (omega arith) in
+    let c4 : slice_index cs 4 ≡ slice_index ys 3 = h.there 3 (omega arith) in
+    let c5 : slice_index cs 5 ≡ slice_index bs 5 = h.above 5 (omega arith) (omega arith) in
+    let c6 : slice_index cs 6 ≡ slice_index bs 6 = h.above 6 (omega arith) (omega arith) in
+    let c7 : slice_index cs 7 ≡ slice_index bs 7 = h.above 7 (omega arith) (omega arith) in
+    omega arith
+
+spliced_U32_2 : (bs ys cs : List ℕ) (y : ℕ) → EachByte bs → EachByte ys → length ys ≡ 4
+    → number_from ys ≡ y % 2 ^ 32 → AreSpliced 2 4 bs ys cs → number_from cs ≡ spliced 16 32 (number_from bs) y
+spliced_U32_2 bs ys cs y each other long is h =
+    let b0 = each 0 in
+    let b1 = each 1 in
+    let b2 = each 2 in
+    let b3 = each 3 in
+    let b4 = each 4 in
+    let b5 = each 5 in
+    let b6 = each 6 in
+    let b7 = each 7 in
+    let y0 = other 0 in
+    let y1 = other 1 in
+    let y2 = other 2 in
+    let y3 = other 3 in
+    let y4 = get_or_past ys 4 0 (omega arith) in
+    let y5 = get_or_past ys 5 0 (omega arith) in
+    let y6 = get_or_past ys 6 0 (omega arith) in
+    let y7 = get_or_past ys 7 0 (omega arith) in
+    let c0 : slice_index cs 0 ≡ slice_index bs 0 = h.below 0 (omega arith) in
+    let c1 : slice_index cs 1 ≡ slice_index bs 1 = h.below 1 (omega arith) in
+    let c2 : slice_index cs 2 ≡ slice_index ys 0 = h.there 0 (omega arith) in
+    let c3 : slice_index cs 3 ≡ slice_index ys 1 = h.there 1 (omega arith) in
+    let c4 : slice_index cs 4 ≡ slice_index ys 2 = h.there 2 (omega arith) in
+    let c5 : slice_index cs 5 ≡ slice_index ys 3 = h.there 3 (omega arith) in
+    let c6 : slice_index cs 6 ≡ slice_index bs 6 = h.above 6 (omega arith) (omega arith) in
+    let c7 : slice_index cs 7 ≡ slice_index bs 7 = h.above 7 (omega arith) (omega arith) in
+    omega arith
+
+spliced_U32_3 : (bs ys cs : List ℕ) (y : ℕ) → EachByte bs → EachByte ys → length ys ≡ 4
+    → number_from ys ≡ y % 2 ^ 32 → AreSpliced 3 4 bs ys cs → number_from cs ≡ spliced 24 32 (number_from bs) y
+spliced_U32_3 bs ys cs y each other long is h =
+    let b0 = each 0 in
+    let b1 = each 1 in
+    let b2 = each 2 in
+    let b3 = each 3 in
+    let b4 = each 4 in
+    let b5 = each 5 in
+    let b6 = each 6 in
+    let b7 = each 7 in
+    let y0 = other 0 in
+    let y1 = other 1 in
+    let y2 = other 2 in
+    let y3 = other 3 in
+    let y4 = get_or_past ys 4 0 (omega arith) in
+    let y5 = get_or_past ys 5 0 (omega arith) in
+    let y6 = get_or_past ys 6 0 (omega arith) in
+    let y7 = get_or_past ys 7 0 (omega arith) in
+    let c0 : slice_index cs 0 ≡ slice_index bs 0 = h.below 0 (omega arith) in
+    let c1 : slice_index cs 1 ≡ slice_index bs 1 = h.below 1 (omega arith) in
+    let c2 : slice_index cs 2 ≡ slice_index bs 2 = h.below 2 (omega arith) in
+    let c3 : slice_index cs 3 ≡ slice_index ys 0 = h.there 0 (omega arith) in
+    let c4 : slice_index cs 4 ≡ slice_index ys 1 = h.there 1 (omega arith) in
+    let c5 : slice_index cs 5 ≡ slice_index ys 2 = h.there 2 (omega arith) in
+    let c6 : slice_index cs 6 ≡ slice_index ys 3 = h.there 3 (omega arith) in
+    let c7 : slice_index cs 7 ≡ slice_index bs 7 = h.above 7 (omega arith) (omega arith) in
+    omega arith
+
+spliced_U32_4 : (bs ys cs : List ℕ) (y : ℕ) → EachByte bs → EachByte ys → length ys ≡ 4
+    → number_from ys ≡ y % 2 ^ 32 → AreSpliced 4 4 bs ys cs → number_from cs ≡ spliced 32 32 (number_from bs) y
+spliced_U32_4 bs ys cs y each other long is h =
+    let b0 = each 0 in
+    let b1 = each 1 in
+    let b2 = each 2 in
+    let b3 = each 3 in
+    let b4 = each 4 in
+    let b5 = each 5 in
+    let b6 = each 6 in
+    let b7 = each 7 in
+    let y0 = other 0 in
+    let y1 = other 1 in
+    let y2 = other 2 in
+    let y3 = other 3 in
+    let y4 = get_or_past ys 4 0 (omega arith) in
+    let y5 = get_or_past ys 5 0 (omega arith) in
+    let y6 = get_or_past ys 6 0 (omega arith) in
+    let y7 = get_or_past ys 7 0 (omega arith) in
+    let c0 : slice_index cs 0 ≡ slice_index bs 0 = h.below 0 (omega arith) in
+    let c1 : slice_index cs 1 ≡ slice_index bs 1 = h.below 1 (omega arith) in
+    let c2 : slice_index cs 2 ≡ slice_index bs 2 = h.below 2 (omega arith) in
+    let c3 : slice_index cs 3 ≡ slice_index bs 3 = h.below 3 (omega arith) in
+    let c4 : slice_index cs 4 ≡ slice_index ys 0 = h.there 0 (omega arith) in
+    let c5 : slice_index cs 5 ≡ slice_index ys 1 = h.there 1 (omega arith) in
+    let c6 : slice_index cs 6 ≡ slice_index ys 2 = h.there 2 (omega arith) in
+    let c7 : slice_index cs 7 ≡ slice_index ys 3 = h.there 3 (omega arith) in
+    omega arith
+
+spliced_U64_0 : (bs ys cs : List ℕ) (y : ℕ) → EachByte bs → EachByte ys → length ys ≡ 8
+    → number_from ys ≡ y % 2 ^ 64 → AreSpliced 0 8 bs ys cs → number_from cs ≡ spliced 0 64 (number_from bs) y
+spliced_U64_0 bs ys cs y each other long is h =
+    let b0 = each 0 in
+    let b1 = each 1 in
+    let b2 = each 2 in
+    let b3 = each 3 in
+    let b4 = each 4 in
+    let b5 = each 5 in
+    let b6 = each 6 in
+    let b7 = each 7 in
+    let y0 = other 0 in
+    let y1 = other 1 in
+    let y2 = other 2 in
+    let y3 = other 3 in
+    let y4 = other 4 in
+    let y5 = other 5 in
+    let y6 = other 6 in
+    let y7 = other 7 in
+    let c0 : slice_index cs 0 ≡ slice_index ys 0 = h.there 0 (omega arith) in
+    let c1 : slice_index cs 1 ≡ slice_index ys 1 = h.there 1 (omega arith) in
+    let c2 : slice_index cs 2 ≡ slice_index ys 2 = h.there 2 (omega arith) in
+    let c3 : slice_index cs 3 ≡ slice_index ys 3 = h.there 3 (omega arith) in
+    let c4 : slice_index cs 4 ≡ slice_index ys 4 = h.there 4 (omega arith) in
+    let c5 : slice_index cs 5 ≡ slice_index ys 5 = h.there 5 (omega arith) in
+    let c6 : slice_index cs 6 ≡ slice_index ys 6 = h.there 6 (omega arith) in
+    let c7 : slice_index cs 7 ≡ slice_index ys 7 = h.there 7 (omega arith) in
+    omega arith
+
+-- the number that they spell
+spliced_number : (size : Size) (r : ℕ) (bs ys cs : List ℕ) (y : ℕ) → r + size_bytes size ≤ 8 → EachByte bs → EachByte ys
+    → length ys ≡ size_bytes size → number_from ys ≡ y % 2 ^ (8 * size_bytes size) → AreSpliced r (size_bytes size) bs ys cs
+    → number_from cs ≡ spliced (8 * r) (8 * size_bytes size) (number_from bs) y
+spliced_number U8 zero bs ys cs y inside each other long is h = spliced_U8_0 bs ys cs y each other long is h
+spliced_number U8 (suc zero) bs ys cs y inside each other long is h = spliced_U8_1 bs ys cs y each other long is h
+spliced_number U8 (suc (suc zero)) bs ys cs y inside each other long is h = spliced_U8_2 bs ys cs y each other long is h
+spliced_number U8 (suc (suc (suc zero))) bs ys cs y inside each other long is h = spliced_U8_3 bs ys cs y each other long is h
+spliced_number U8 (suc (suc (suc (suc zero)))) bs ys cs y inside each other long is h = spliced_U8_4 bs ys cs y each other long is h
+spliced_number U8 (suc (suc (suc (suc (suc zero))))) bs ys cs y inside each other long is h = spliced_U8_5 bs ys cs y each other long is h
+spliced_number U8 (suc (suc (suc (suc (suc (suc zero)))))) bs ys cs y inside each other long is h = spliced_U8_6 bs ys cs y each other long is h
+spliced_number U8 (suc (suc (suc (suc (suc (suc (suc zero))))))) bs ys cs y inside each other long is h = spliced_U8_7 bs ys cs y each other long is h
+spliced_number U8 (suc (suc (suc (suc (suc (suc (suc (suc r)))))))) bs ys cs y inside each other long is h = absurd (omega arith)
+spliced_number U16 zero bs ys cs y inside each other long is h = spliced_U16_0 bs ys cs y each other long is h
+spliced_number U16 (suc zero) bs ys cs y inside each other long is h = spliced_U16_1 bs ys cs y each other long is h
+spliced_number U16 (suc (suc zero)) bs ys cs y inside each other long is h = spliced_U16_2 bs ys cs y each other long is h
+spliced_number U16 (suc (suc (suc zero))) bs ys cs y inside each other long is h = spliced_U16_3 bs ys cs y each other long is h
+spliced_number U16 (suc (suc (suc (suc zero)))) bs ys cs y inside each other long is h = spliced_U16_4 bs ys cs y each other long is h
+spliced_number U16 (suc (suc (suc (suc (suc zero))))) bs ys cs y inside each other long is h = spliced_U16_5 bs ys cs y each other long is h
+spliced_number U16 (suc (suc (suc (suc (suc (suc zero)))))) bs ys cs y inside each other long is h = spliced_U16_6 bs ys cs y each other long is h
+spliced_number U16 (suc (suc (suc (suc (suc (suc (suc r))))))) bs ys cs y inside each other long is h = absurd (omega arith)
+spliced_number U32 zero bs ys cs y inside each other long is h = spliced_U32_0 bs ys cs y each other long is h
+spliced_number U32 (suc zero) bs ys cs y inside each other long is h = spliced_U32_1 bs ys cs y each other long is h
+spliced_number U32 (suc (suc zero)) bs ys cs y inside each other long is h = spliced_U32_2 bs ys cs y each other long is h
+spliced_number U32 (suc (suc (suc zero))) bs ys cs y inside each other long is h = spliced_U32_3 bs ys cs y each other long is h
+spliced_number U32 (suc (suc (suc (suc zero)))) bs ys cs y inside each other long is h = spliced_U32_4 bs ys cs y each other long is h
+spliced_number U32 (suc (suc (suc (suc (suc r))))) bs ys cs y inside each other long is h = absurd (omega arith)
+spliced_number U64 zero bs ys cs y inside each other long is h = spliced_U64_0 bs ys cs y each other long is h
+spliced_number U64 (suc r) bs ys cs y inside each other long is h = absurd (omega arith)
+
+-- what the bytes of a number spell
+bytes_number : (size : Size) (y : ℕ) → y < 2 ^ 64 → number_from (bytes_of size y) ≡ y % 2 ^ (8 * size_bytes size)
+bytes_number U8 y fits = number_of-part y 0 U8 fits (omega arith) ∙ omega arith
+bytes_number U16 y fits = number_of-part y 0 U16 fits (omega arith) ∙ omega arith
+bytes_number U32 y fits = number_of-part y 0 U32 fits (omega arith) ∙ omega arith
+bytes_number U64 y fits = number_of-part y 0 U64 fits (omega arith) ∙ omega arith
+
+-- ---- cells
+
+byte_at_place : (cs : List Cell) (i : ℕ) → slice_index (map byte_in cs) i ≡ byte_in (slice_index_or cs i Unwritten)
+byte_at_place cs i = get_or-map_default byte_in cs i Unwritten
+
+-- cells that are all bytes are those of their bytes
+cells_of_bytes : (cs : List Cell) → ((i : ℕ) → i < length cs → is_byte (slice_index_or cs i Unwritten) ≡ true) → map Byte (map byte_in cs) ≡ cs
+cells_of_bytes [] h = refl
+cells_of_bytes (Byte b ∷ cs) h = ap (λ rest. Byte b ∷ rest) (cells_of_bytes cs (λ i below. h (suc i) (omega arith)))
+cells_of_bytes (Unwritten ∷ cs) h = absurd (let e = h 0 (omega arith) in cc)
+cells_of_bytes (Piece r z k ∷ cs) h = absurd (let e = h 0 (omega arith) in cc)
+
+-- eight of them are what a store of their number writes
+stored_bytes : (cs : List Cell) → length cs ≡ 8 → EachByte (map byte_in cs)
+    → ((i : ℕ) → i < 8 → is_byte (slice_index_or cs i Unwritten) ≡ true) → cs ≡ stored (Num (number_of cs))
+stored_bytes cs long each all =
+    let bytes : List ℕ = map byte_in cs in
+    let eight : length bytes ≡ 8 = length-map cs byte_in ∙ long in
+    let same : to_le_bytes w64 (number_of cs) ≡ bytes = le_bytes_8 bytes (number_of cs) eight each refl in
+    sym (ap (map Byte) same ∙ cells_of_bytes cs (λ i below. all i (omega arith)))
+
+-- a write inside a slot, by its bytes
+chunk_spliced : (cells : List Cell) (at : ℕ) (ys : List ℕ) → at % 8 + length ys ≤ 8 → at + length ys ≤ length cells
+    → AreSpliced (at % 8) (length ys) (map byte_in (chunk_of (at / 8) cells)) ys (map byte_in (chunk_of (at / 8) (written cells at (map Byte ys))))
+chunk_spliced cells at ys inside fits =
+    let k : ℕ = at / 8 in
+    let old : List Cell = chunk_of k cells in
+    let new : List Cell = chunk_of k (written cells at (map Byte ys)) in
+    let long : length (map Byte ys) ≡ length ys = length-map ys Byte in
+    record {
+      below = λ i lt. byte_at_place new i
+          ∙ ap byte_in (chunk_kept cells (map Byte ys) at k i Unwritten (omega arith) (inl (omega arith)) (omega arith))
+          ∙ sym (byte_at_place old i);
+      there = λ i lt.
+          let same : 8 * k + (at % 8 + i) - at ≡ i = omega arith in
+          byte_at_place new (at % 8 + i)
+          ∙ ap byte_in (chunk_written cells (map Byte ys) at k (at % 8 + i) Unwritten (omega arith) (omega arith) (omega arith) (omega arith))
+          ∙ ap (λ j. byte_in (slice_index_or (map Byte ys) j Unwritten)) same
+          ∙ sym (byte_at_place (map Byte ys) i) ∙ ap (λ bytes. slice_index bytes i) (map-byte_in-Byte ys);
+      above = λ i from lt. byte_at_place new i
+          ∙ ap byte_in (chunk_kept cells (map Byte ys) at k i Unwritten lt (inr (omega arith)) (omega arith))
+          ∙ sym (byte_at_place old i);
+    }
+
+-- the number of a slot's cells after the bytes of another were written inside it
+number_of-spliced : (rows next : ℕ) (cells : List Cell) (at y : ℕ) (size : Size) → at % 8 + size_bytes size ≤ 8 → at + size_bytes size ≤ length cells
+    → y < 2 ^ 64 → EachByte (bytes_of size y) → EachByte (map byte_in (chunk_of (at / 8) cells))
+    → number_of (chunk_of (at / 8) (written cells at (map Byte (bytes_of size y))))
+    ≡ spliced (8 * (at % 8)) (8 * size_bytes size) (number_of (chunk_of (at / 8) cells)) y
+number_of-spliced rows next cells at y size inside fits small new old =
+    let ys : List ℕ = bytes_of size y in
+    let long : length ys ≡ size_bytes size = length-bytes_of size y in
+    let places = chunk_spliced cells at ys (omega arith) (omega arith) in
+    spliced_number size (at % 8) (map byte_in (chunk_of (at / 8) cells)) ys (map byte_in (chunk_of (at / 8) (written cells at (map Byte ys)))) y
+    inside old new long (bytes_number size y small)
+    (subst (λ n. AreSpliced (at % 8) n (map byte_in (chunk_of (at / 8) cells)) ys (map byte_in (chunk_of (at / 8) (written cells at (map Byte ys))))) long places)
+
+-- each byte of a number is one
+each_byte_of : (size : Size) (y : ℕ) → EachByte (bytes_of size y)
+each_byte_of size y = slice_index_fits (bytes_of size y) (bytes_of_fit size y)
+
+-- and so are those of a list with bytes of another in it
+spliced_bytes : (r n : ℕ) (bs ys cs : List ℕ) → length cs ≡ 8 → EachByte bs → EachByte ys → AreSpliced r n bs ys cs → EachByte cs
+spliced_bytes r n bs ys cs long old new h i =
+    elim (cases_lt i 8) [
+      | inl within ↦ elim (cases_lt i r) [
+        | inl below ↦ let e = h.below i below in let b = old i in omega arith
+        | inr from ↦ elim (cases_lt i (r + n)) [
+          | inl before ↦
+              let place : r + (i - r) ≡ i = omega arith in
+              let e = h.there (i - r) (omega arith) in
+              let b = new (i - r) in
+              let same = ap (λ j. slice_index cs j) place in
+              omega arith
+          | inr above ↦ let e = h.above i (omega arith) within in let b = old i in omega arith
+        ]
+      ]
+      | inr past ↦ let none = get_or_past cs i 0 (omega arith) in omega arith
+    ]
+
+-- ---- slots
+
+-- what the cells of a slot spell is one of its numbers
+whole_has : (e : Assigned) (s : Slot) (cs : List Cell) (old : Scalar) → AreWhole s old → SlotMeans e s cs → number_of cs < 2 ^ 64 → Has old (number_of cs)
+whole_has e (Written marks) cs old whole h fits = whole (number_of cs) fits
+whole_has e (Spilled (Number numbers)) cs old whole h fits =
+    let same : number_of cs ≡ h.1.0 = ap number_of (h.2 ∙ ap stored h.1.1) ∙ number_of-stored h.1.0 h.1.2.0.below in
+    subst (λ (c : Scalar). Has c (number_of cs)) (sym whole) (subst (Has numbers) (sym same) h.1.2)
+whole_has e (Spilled k) cs old whole h fits = whole (number_of cs) fits
+
+-- the slot that is left stands for its cells
+slot_stored : (e : Assigned) (rows next : ℕ) (s t : Slot) (cells : List Cell) (at n : ℕ) (size : Size) (numbers : Scalar)
+    → at % 8 + size_bytes size ≤ 8 → at + size_bytes size ≤ length cells → 8 * (at / 8) + 8 ≤ length cells → All (IsCell rows next) cells
+    → Has numbers n → SlotMeans e s (chunk_of (at / 8) cells) → marks_after s (at % 8) size ≡ 255 → IsSpliced s (at % 8) size numbers t
+    → SlotMeans e t (chunk_of (at / 8) (written cells at (map Byte (bytes_of size n))))
+slot_stored e rows next s t cells at n size numbers inside fits eight fit has h all is =
+    let small : n < 2 ^ 64 = has.0.below in
+    let bytes : List ℕ = bytes_of size n in
+    let some : length bytes ≡ size_bytes size = length-bytes_of size n in
+    let long : length (map Byte bytes) ≡ length bytes = length-map bytes Byte in
+    let old : List Cell = chunk_of (at / 8) cells in
+    let new : List Cell = chunk_of (at / 8) (written cells at (map Byte bytes)) in
+    let wide = length-written cells (map Byte bytes) at (omega arith) in
+    let old_fit : All (IsCell rows next) old = All-take (IsCell rows next) 8 _ (All-drop (IsCell rows next) (8 * (at / 8)) cells fit) in
+    let old_bytes : EachByte (map byte_in old) = slice_index_fits (map byte_in old) (bytes_in_fit rows next old old_fit) in
+    let before : Marked (marks_of s) old = marked_slot e s old h in
+    let marked : Marked (bit_or (marks_of s) (mask_of (at % 8) (at % 8 + length bytes))) new =
+    marked_after (marks_of s) at cells bytes (omega arith) (omega arith) before in
+    let whole : Marked 255 new = subst (λ m. Marked m new) (ap (λ k. bit_or (marks_of s) (mask_of (at % 8) (at % 8 + k))) some ∙ all) marked in
+    let number = number_of-spliced rows next cells at n size inside fits small (each_byte_of size n) old_bytes in
+    let places = chunk_spliced cells at bytes (omega arith) (omega arith) in
+    let new_bytes : EachByte (map byte_in new) = spliced_bytes (at % 8) (length bytes) (map byte_in old) bytes (map byte_in new)
+    (length-map new byte_in ∙ length-chunk (at / 8) (written cells at (map Byte bytes)) (omega arith)) old_bytes (each_byte_of size n) places in
+    let same : new ≡ stored (Num (number_of new)) = stored_bytes new (length-chunk (at / 8) (written cells at (map Byte bytes)) (omega arith)) new_bytes
+    (λ i below. whole i below (bit_at_ones 8 i below)) in
+    let one : Has is.new (number_of new) = subst (Has is.new) (sym number)
+    (is.spliced.contains (number_of old) n (whole_has e s old is.old is.whole h (number_of_fits rows next old old_fit)) has) in
+    SlotMeans-spill e (Number is.new) t (Num (number_of new)) new is.left (number_of new, refl, one) same
+
+pub stores_number : (slots : List Slot) (at : ℕ) (size : Size) (numbers : Scalar) (t : Slot) → length slots ≡ frame_slots → at < frame_size
+    → at % 8 + size_bytes size ≤ 8 → IsSlotStored (slot_at slots (at / 8)) (at % 8) size numbers t
+    → StoresNumber slots at size numbers (slice_set slots (at / 8) t)
+unfolding StoresNumber
+stores_number slots at size numbers t count below inside is = λ e rows next cells n fit has m.
+    let wide : length cells ≡ frame_size = m.size in
+    let bytes : List ℕ = bytes_of size n in
+    let some : length bytes ≡ size_bytes size = length-bytes_of size n in
+    let long : length (map Byte bytes) ≡ length bytes = length-map bytes Byte in
+    let within : at / 8 < frame_slots = omega arith in
+    let s : Slot = slot_at slots (at / 8) in
+    let before = m.each (at / 8) within in
+    let marked : SlotMeans e (Written (marks_after s (at % 8) size)) (chunk_of (at / 8) (written cells at (map Byte bytes))) =
+    subst (λ k. Marked (bit_or (marks_of s) (mask_of (at % 8) (at % 8 + k))) (chunk_of (at / 8) (written cells at (map Byte bytes)))) some
+    (marked_after (marks_of s) at cells bytes (omega arith) (omega arith) (marked_slot e s (chunk_of (at / 8) cells) before)) in
+    let after : SlotMeans e t (chunk_of (at / 8) (written cells at (map Byte bytes))) = elim (cases_eq (marks_after s (at % 8) size) 255) [
+      | inl all ↦ elim (is.whole all) [
+        | inl known ↦ slot_stored e rows next s t cells at n size numbers inside (omega arith) (omega arith) fit has before all known
+        | inr blank ↦ subst (λ (u : Slot). SlotMeans e u (chunk_of (at / 8) (written cells at (map Byte bytes)))) (ap Written all ∙ sym blank.1) marked
+      ]
+      | inr other ↦ subst (λ (u : Slot). SlotMeans e u (chunk_of (at / 8) (written cells at (map Byte bytes)))) (sym (is.parts other)) marked
+    ] in
+    slot_changed e slots cells (map Byte bytes) at (at / 8) t count within (omega arith) (omega arith) m after
+
+-- a size is some bytes
+pub size_some : (size : Size) → 0 < size_bytes size
+size_some U8 = omega arith
+size_some U16 = omega arith
+size_some U32 = omega arith
+size_some U64 = omega arith
