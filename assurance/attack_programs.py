@@ -318,7 +318,104 @@ def slots(chance):
     return program(["map hash 8 8 4"], lines, {"leaf": ["r0 = *(u64 *)(r1 + 0)", "*(u64 *)(r10 - 8) = r0", "r0 = *(u32 *)(r10 - 8)"]})
 
 
-FAMILIES = {"sums": sums, "lengths": lengths, "moves": moves, "reversals": reversals, "parts": parts, "divisions": divisions,
-            "spills": spills, "slots": slots, "freed": freed, "frames": frames, "answers": answers}
+def copy_of(chance, number, by):
+    """A copy of r6 that is `by` bytes further on, in one move, in two, by a known number, or over the stack."""
+    r, way = f"r{number}", chance.randrange(6)
+    if way == 0:
+        return [f"{r} = {by}", f"{r} += r6"]
+    if way == 1:
+        return [f"r4 = {by}", f"{r} = r6", f"{r} += r4"]
+    if way == 2:
+        return [f"{r} = r6", f"{r} -= {-by}"]
+    if way == 3:
+        return [f"{r} = r6", f"{r} += {by + 9}", f"{r} += -9"]
+    over = ["*(u64 *)(r10 - 8) = " + r, f"{r} = *(u64 *)(r10 - 8)"]
+    return [f"{r} = r6", f"{r} += {by}", *chance.choice([over, []])]
+
+
+def fixed(chance):
+    """Copies of a packet pointer that differ by their fixed parts: a test of one proves bytes of the others, less or more.
+    Some have another variable part, which no test of theirs tells of."""
+    lines = ["r6 = *(u32 *)(r1 + 0)", "r3 = *(u32 *)(r1 + 4)", "r5 = *(u32 *)(r1 + 16)", "r2 = *(u32 *)(r1 + 12)"]
+    mask = chance.choice([1, 7, 31, 255])
+    by_some = [f"r5 &= {mask}", "r6 += r5"]
+    lines += chance.choice([[], by_some, by_some, by_some + ["r2 &= 7", "r6 += r2"]])
+    parts = {6: 0}
+    for number in (7, 8):
+        parts[number] = chance.choice([0, 1, 2, 4, 8, 8, 12, 16, 24, 64, -1, -4, -8, 300, 4096, 9216, 65535])
+        lines += copy_of(chance, number, parts[number])
+    other = chance.choice([6, 7, 8])
+    lines += chance.choice([[], [], [], [f"r{other} += r5", f"r{other} -= r5"], [f"r4 = r5", "r4 &= 3", f"r{other} += r4"],
+                            ["if r2 & 1 goto +1", f"r{other} += 1"]])
+    tested = chance.choice([6, 7, 7, 8, 8])
+    t = f"r{tested}"
+    lines += chance.choice([
+        [f"if {t} > r3 goto out"], [f"if r3 < {t} goto out"], [f"if {t} >= r3 goto out"], [f"if r3 <= {t} goto out"],
+        [f"if {t} <= r3 goto +1", "goto out"], [f"if r3 >= {t} goto +1", "goto out"], [f"if {t} < r3 goto +1", "goto out"],
+    ])
+    base = chance.choice([6, 7, 8])
+    later = chance.choice([0, 0, 0, 1, -4, 8])
+    lines += [f"r{base} += {later}"] * (later != 0)
+    size = chance.choice(list(SIZES))
+    last = parts[tested] - parts[base] - later - SIZES[size]
+    place = chance.choice([last, last, last, -parts[base] - later]) + chance.choice([0, 0, 0, 1, 1, -1])
+    at = f"*({size} *)(r{base} + {max(-2**15, min(2**15 - 1, place))})".replace("+ -", "- ")
+    return program([], [*lines, chance.choice([f"r0 = {at}", f"{at} = r2"])], {})
+
+
+def held(chance, kind):
+    """Instructions that put what is of this kind into r0; r3 is the packet's end, r6 is 8 proved bytes of it, and the key at
+    -96 was written."""
+    key = ["r2 = r10", "r2 += -96", "r1 = map_by_idx(0)", "call 1"]
+    return {
+        "small": [chance.choice(["r0 = 5", "r0 = r9", "r0 = 0"])], "any": ["r0 = r8"], "stack": ["r0 = r10", "r0 += -96"],
+        "lower": ["r0 = r10", f"r0 += {chance.choice([-104, -97, -100])}"], "value": ["r0 = map_val(map_by_idx(1)) + 0"],
+        "inside": [f"r0 = map_val(map_by_idx(1)) + {chance.choice([8, 56, 60])}"], "packet": ["r0 = r6"],
+        "further": ["r0 = r6", f"r0 += {chance.choice([1, 4])}"], "found": key, "context": ["r0 = r7"], "map": ["r0 = map_by_idx(0)"],
+    }[kind]
+
+
+def used(chance, kind):
+    """Instructions that use r4 as what is of this kind may be used, or a little more."""
+    size, near = chance.choice(list(SIZES)), chance.choice([0, 0, 0, 1])
+    at = lambda place: f"*({size} *)(r4 + {place})".replace("+ -", "- ")
+    moved = lambda room: ["r5 = r10", f"r5 += -{room + near + SIZES[size] - 1}", "r5 += r4", f"r0 = *({size} *)(r5 + 0)"]
+    if kind == "small":
+        return moved(104)
+    if kind == "found":
+        return ["if r4 == 0 goto out", f"r0 = {at(8 - SIZES[size] + near)}"]
+    if kind in ("stack", "value", "packet"):
+        return [f"r0 = {at({'stack': 8, 'value': 64, 'packet': 8}[kind] - SIZES[size] + near)}"]
+    return {"lower": [f"r0 = {at(0)}"], "inside": [f"r0 = {at(0)}"], "further": [f"r0 = {at(0)}"], "any": ["r0 = r4"],
+            "context": ["r0 = *(u32 *)(r4 + 12)"], "map": ["r1 = r4", "r2 = r10", "r2 += -96", "call 3"]}[kind]
+
+
+KINDS = ["small", "any", "stack", "lower", "value", "inside", "packet", "further", "found", "context", "map"]
+NEAR = {"small": ["any", "stack"], "stack": ["lower", "value"], "value": ["inside", "stack", "found"], "packet": ["further", "any"],
+        "found": ["small", "value"], "context": ["stack"], "map": ["value"], "any": ["small"]}
+
+
+def kinds(chance):
+    """Places that hold one kind of value along one way and perhaps another along the next, in this or in an outer function,
+    which join where the second one comes to a state that was stored; then they are used as the first."""
+    lines = ["r7 = r1", "r6 = *(u32 *)(r7 + 0)", "r3 = *(u32 *)(r7 + 4)", "r8 = *(u32 *)(r7 + 12)", "r9 = r8", "r9 &= 7", "r4 = r6", "r4 += 8",
+             "if r4 > r3 goto out"] + [f"*(u64 *)(r10 - {at}) = 0" for at in (88, 96, 104)]
+    places = chance.sample(["r10 - 8", "r10 - 16", "r10 - 24"], chance.choice([1, 2]))
+    for place in places:
+        kind = chance.choice(["small", "small", "stack", "value", "packet", "found", "context", "map", "any"])
+        second = chance.choice([kind, kind, chance.choice(NEAR[kind]), chance.choice(NEAR[kind]), chance.choice(KINDS)])
+        first, other = (held(chance, one) + [f"*(u64 *)({place}) = r0"] for one in (kind, second))
+        ways = chance.choice([(first, other), (first, other), (other, first)])
+        bit = 1 << chance.randrange(8, 12)
+        lines += [f"if r8 & {bit} goto +{len(ways[0]) + 1 + sum('map_' in line and '=' in line for line in ways[0])}", *ways[0],
+                  f"goto +{len(ways[1]) + sum('map_' in line and '=' in line for line in ways[1])}", *ways[1], "r0 = 0"]
+        last = kind, place
+    lines += chance.choice([[], [], ["r1 = r8", "call leaf"], ["if r8 & 4096 goto +1", "r8 += 1"], ["r0 = 0", "r0 += 1", "if r0 < 3 goto -2"]])
+    lines += [f"r4 = *(u64 *)({last[1]})", *used(chance, last[0])]
+    return program(["map hash 8 8 4", "map array 4 64 1"], lines, {"leaf": ["r0 = 1", "if r1 & 1 goto +1", "r0 = 2"]})
+
+
+FAMILIES = {"sums": sums, "lengths": lengths, "moves": moves, "fixed": fixed, "reversals": reversals, "parts": parts,
+            "divisions": divisions, "spills": spills, "slots": slots, "kinds": kinds, "freed": freed, "frames": frames, "answers": answers}
 # What programs of a family may not be refused for.
 NEVER = {"slots": ["V7", "V15"]}

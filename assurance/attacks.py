@@ -1,29 +1,26 @@
 #!/usr/bin/env python3
 """Attacks the verifier rule by rule: sums that wrap and signs mixed, tests of the packet before and after moves, what such
-moves leave proved, bytes reversed, parts of spilled numbers, signed quotients and remainders, pointers overwritten in part,
-stack slots kept over joins, values that are gone, pointers into call frames that have ended, and answers that name no
-action.
+moves leave proved, copies of a packet pointer that differ by fixed parts, bytes reversed, parts of spilled numbers, signed
+quotients and remainders, pointers overwritten in part, stack slots kept over joins, places that hold one kind of value
+along one way and another along the next, values that are gone, pointers into call frames that have ended, and answers that
+name no action.
 
 usage: python3 assurance/attacks.py [PROGRAM] [--programs N] [--seed S] [--jobs J] [--keep FOLDER] [--family NAME]
-       [--seconds N]
+       [--seconds N] [--library FILE]
 
 N programs of each family are made, as texts. Reported is each that `verify` accepts and `trace` ends with a trap or after
 more steps than the bound, or that `run` and `trace` run differently, each that is refused for what its family does not do,
 and each that takes more than a minute; its text and frames are kept in FOLDER. A line for each family says how many were
-accepted, and why the others were refused. The exit status is 1 if anything was reported.
+accepted, and why the others were refused. The exit status is 1 if anything was reported. --library is as for fuzz.py.
 """
 import argparse
 import collections
-import json
 import os
 import random
-import shutil
-import subprocess
 import sys
-import tempfile
 
 from attack_programs import CORNERS, EDGES, FAMILIES, NEVER
-from fuzz import HERE, REASONS, SECONDS, built, differs, record, runner, wait
+from fuzz import REASONS, differs, record, spread, wait, words_of, written
 
 
 def frames(chance, version):
@@ -36,18 +33,13 @@ def frames(chance, version):
     return out
 
 
-def tried(program, family, seed, folder):
+def tried(run, family, seed, folder):
     """What is wrong with the answers for one seed (None: nothing), and the verdict's code."""
     chance = random.Random(f"{family} {seed}")
     paths = [os.path.join(folder, name) for name in ("image", "frames", "sent", "resent")]
     text = os.path.join(folder, "text")
-    with open(text, "w") as file:
-        second = family == "answers" or chance.random() < 0.5
-        file.write("\n".join(["version 2"] * second + FAMILIES[family](chance)) + "\n")
-    with open(paths[1], "wb") as file:
-        file.write(frames(chance, chance.choice([1, 2])))
-
-    run = runner(program)
+    second = family == "answers" or chance.random() < 0.5
+    written(text, ("\n".join(["version 2"] * second + FAMILIES[family](chance)) + "\n").encode())
     made = run("asm", text, paths[0])
     if made.returncode != 0:
         return f"asm: {made}", "no image"
@@ -57,62 +49,20 @@ def tried(program, family, seed, folder):
         return (f"refused: {verdict.stderr}" if said[1] in NEVER.get(family, []) else None), said[1]
     if (verdict.returncode, said[:2]) != (0, ["ok", "bound"]):
         return f"verify: {verdict}", "no verdict"
+    written(paths[1], frames(chance, chance.choice([1, 2])))
     return differs(paths, int(said[2]), run), "accepted"
-
-
-def worker(asked, family, first, out):
-    folder, counts, found = tempfile.mkdtemp(), collections.Counter(), 0
-    for seed in range(first, asked.seed + asked.programs, asked.jobs):
-        try:
-            wrong, code = tried(asked.program, family, seed, folder)
-        except subprocess.TimeoutExpired as late:
-            wrong, code = f"no answer in {late.timeout} seconds: {late.cmd[1]}", "no answer"
-        counts[code] += 1
-        if wrong:
-            found += 1
-            os.makedirs(asked.keep, exist_ok=True)
-            for name in ("text", "frames"):
-                shutil.copy(os.path.join(folder, name), os.path.join(asked.keep, f"{family}-{seed}.{name}"))
-            print(f"{family} {seed}: {wrong}", flush=True)
-    shutil.rmtree(folder)
-    with os.fdopen(out, "w") as file:
-        json.dump((counts, found), file)
-
-
-def attacked(asked, family):
-    """The verdicts on the programs of a family, and how many were found."""
-    children = []
-    for job in range(asked.jobs):
-        back, out = os.pipe()
-        if os.fork() == 0:
-            os.close(back)
-            worker(asked, family, asked.seed + job, out)
-            os._exit(0)
-        os.close(out)
-        children.append(back)
-    counts, found = collections.Counter(), 0
-    for back in children:
-        with os.fdopen(back) as file:
-            part, some = json.load(file)
-        counts.update(part)
-        found += some
-    return counts, found
 
 
 def main():
     words = argparse.ArgumentParser(description=__doc__.split("\n")[0])
-    words.add_argument("program", nargs="?", type=built, default=os.path.join(HERE, "../crates/xdpvm/out/xdpvm"))
+    words_of(words)
     words.add_argument("--programs", type=int, default=2_000)
-    words.add_argument("--seed", type=int, default=1)
-    words.add_argument("--jobs", type=int, default=os.cpu_count())
-    words.add_argument("--keep", default="found", help="folder for what is found")
     words.add_argument("--family", choices=FAMILIES, action="append", help="only this family")
-    words.add_argument("--seconds", type=int, default=SECONDS, help="what a command may take; more on a busy machine")
     asked = words.parse_args()
     wait(asked.seconds)
     every, findings = collections.Counter(), 0
     for family in asked.family or FAMILIES:
-        counts, found = attacked(asked, family)
+        counts, found = spread(asked, family, lambda run, seed, folder: tried(run, family, seed, folder))
         print(f"{family}: " + ", ".join(f"{code} {count}" for code, count in counts.most_common()), flush=True)
         every.update(counts)
         findings += found

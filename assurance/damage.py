@@ -1,25 +1,24 @@
 #!/usr/bin/env python3
 """Damages inputs: cuts images and frame streams at every length, and changes every byte of an image.
 
-usage: python3 assurance/damage.py [PROGRAM] [--every N] [--versions]
+usage: python3 assurance/damage.py [PROGRAM] [--every N] [--versions] [--library FILE]
 
 Images and streams are those of examples/. A cut image is refused; of a changed one nothing is known beforehand, but
 where it is accepted, `run` and `trace` have to agree, with no trap and within the bound. A cut stream gives the lines
 and the frames out of the frames before the cut, and the fault that the cut makes. With --versions an image of version 2
 and small streams of both versions are taken instead, cut at each byte, and each byte with each other value; the report
 and the frames out are judged here. With --every N one in N bytes is taken. Each answer that is not right is printed; the
-last line counts, and the exit status is 1 if there was one.
+last line counts, and the exit status is 1 if there was one. --library is as for fuzz.py.
 """
 import argparse
 import glob
 import os
 import shutil
 import struct
-import subprocess
 import sys
 import tempfile
 
-from fuzz import built, differs
+from fuzz import built, differs, runner
 
 HERE = os.path.dirname(os.path.abspath(__file__))
 EXAMPLES = os.path.join(HERE, "../examples")
@@ -155,12 +154,9 @@ def main():
     words.add_argument("program", nargs="?", type=built, default=os.path.join(HERE, "../crates/xdpvm/out/xdpvm"))
     words.add_argument("--every", type=int, default=1)
     words.add_argument("--versions", action="store_true", help="each other value of each byte of small inputs")
+    words.add_argument("--library", type=os.path.abspath, help="a shared library that answers in this process")
     asked = words.parse_args()
-    program, folder, tally = asked.program, tempfile.mkdtemp(), Tally()
-
-    def run(*of):
-        return subprocess.run([program, *of], stdin=subprocess.DEVNULL, stdout=subprocess.PIPE, stderr=subprocess.PIPE)
-
+    folder, tally, run = tempfile.mkdtemp(), Tally(), runner(asked.program, asked.library)
     for damages in (changed_streams, changed_second_version) if asked.versions else (cut_streams, damaged_images):
         damages(run, folder, asked.every, tally)
     shutil.rmtree(folder)

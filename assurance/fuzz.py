@@ -3,13 +3,16 @@
 maps, helpers and functions, and runs those that are accepted on random frames.
 
 usage: python3 assurance/fuzz.py [PROGRAM] [--programs N] [--seed S] [--jobs J] [--keep FOLDER] [--ways] [--seconds N]
+       [--library FILE]
 
 Programs and frame streams are of both versions. Reported is each accepted program that `trace` ends with a trap or
 after more steps than the bound, that `run` and `trace` run differently, whose frames out have other reasons than the
 report says, or that answers no action though it is of version 2; each refusal whose way (the jumps on standard error) is
 not one of the program; and each command that takes more than a minute. The program and its frames are kept in FOLDER. Most
 programs are right by construction up to one or two changes, such as a limit that is off by one, so that about half are
-accepted. The last line counts. The exit status is 1 if anything was reported.
+accepted. The last line counts. The exit status is 1 if anything was reported. With --library a shared library
+(in_process.py says how to make one) answers in this process what it can, some ten times as fast; a job that dies is
+reported with the folder of its last input.
 """
 import argparse
 import collections
@@ -21,7 +24,9 @@ import struct
 import subprocess
 import sys
 import tempfile
+import zlib
 
+import in_process
 from random_programs import Maker
 
 HERE = os.path.dirname(os.path.abspath(__file__))
@@ -41,10 +46,10 @@ def frames(chance, version):
     out = b"XPF%d" % version
     for _ in range(6):
         length = chance.choice([0, 1, 2, 7, 8, 13, 14, 15, 19, 20, 33, 34, 60, 64, 255, 256, 300, 4096] + [4097, 9215, 9216] * (version - 1))
-        bytes_of = chance.choice([lambda: 0, lambda: 255, lambda: chance.choice([0, 1, 127, 128, 255]), lambda: chance.randrange(256)])
+        bytes_of = chance.choice([lambda: bytes(length), lambda: b"\xff" * length, lambda: bytes(chance.choices([0, 1, 127, 128, 255], k=length)),
+                                  lambda: chance.randbytes(length)])
         words = [chance.choice([0, 1, 2, 7, 8, 15, 2**31 - 1, 2**31, 2**32 - 1, chance.randrange(2**32)]) for _ in range(2)]
-        body = bytes(bytes_of() for _ in range(length))
-        out += record(version, (chance.randrange(2**64), *words), chance.choice(REASONS), body)
+        out += record(version, (chance.randrange(2**64), *words), chance.choice(REASONS), bytes_of())
     return out
 
 
@@ -119,7 +124,13 @@ def misled(code, verdict, ways):
 
 
 def differs(paths, bound, run):
-    """What is wrong with the runs of an accepted program: None, or a text."""
+    """What is wrong with the runs of an accepted program: None, or a text. In this process a program with maps is
+    traced on maps as they start; one in eight runs in processes of its own too, where maps go from frame to frame."""
+    image = read(paths[0])
+    if isinstance(run, in_process.Runner) and image[4:6] != b"\0\0":
+        wrong = in_process.differs_alone(run.library, image, read(paths[1]), bound)
+        if wrong or zlib.crc32(image) % 8:
+            return wrong
     traced, ran = run("trace", paths[0], paths[1], paths[2]), run("run", paths[0], paths[1], paths[3])
     rows = [line.split() for line in traced.stdout.decode().splitlines()]
     for row in rows:
@@ -128,7 +139,7 @@ def differs(paths, bound, run):
     sent = [read(path) for path in paths[2:]]
     if (traced.returncode, traced.stdout, sent[0]) != (ran.returncode, ran.stdout, sent[1]) or traced.returncode != 0:
         return f"run and trace differ: {ran.stdout} {traced.stdout}"
-    return misreported(read(paths[0]), rows, sent[0])
+    return misreported(image, rows, sent[0])
 
 
 def built(path):
@@ -144,77 +155,100 @@ def wait(seconds):
     SECONDS = seconds
 
 
-def runner(program):
-    """Runs the program with these words, for a minute at most."""
+def runner(program, library=None):
+    """Runs the program with these words, for a minute at most; with a library, what it can in this process."""
     quiet = {"stdin": subprocess.DEVNULL, "stdout": subprocess.PIPE, "stderr": subprocess.PIPE}
-    return lambda *words: subprocess.run([program, *words], timeout=SECONDS, **quiet)
+    process = lambda *words: subprocess.run([program, *words], timeout=SECONDS, **quiet)
+    return in_process.Runner(library, process) if library else process
 
 
-def tried(program, seed, folder, ways):
+def written(path, data):
+    with open(path, "wb") as file:
+        file.write(data)
+
+
+def tried(run, seed, folder, ways):
     """What is wrong with the answers for one seed (None: nothing), and the verdict's code."""
     maker = Maker(seed)
     paths = [os.path.join(folder, name) for name in ("image", "frames", "sent", "resent")]
     image = maker.program()
     versions = [maker.random.choice([1, 2]) for _ in range(2)]
-    for path, data in zip(paths, (b"XBP%d" % versions[0] + image[4:], frames(maker.random, versions[1]))):
-        with open(path, "wb") as file:
-            file.write(data)
-
-    run = runner(program)
+    written(paths[0], b"XBP%d" % versions[0] + image[4:])
     verdict = run("verify", paths[0])
     said = verdict.stdout.decode().split()
     if (verdict.returncode, said[:1]) == (2, ["refused"]):
         return misled(maker.code, verdict, ways), said[1]
     if (verdict.returncode, said[:2]) != (0, ["ok", "bound"]):
         return f"verify: {verdict}", "no verdict"
+    written(paths[1], frames(maker.random, versions[1]))
     return differs(paths, int(said[2]), run), "accepted"
 
 
-def worker(program, seeds, keep, ways, out):
-    folder, counts, found = tempfile.mkdtemp(), collections.Counter(), 0
+def worker(asked, name, seeds, one, folder):
+    """The verdicts on these seeds, and how many were found; `one` answers for a seed in a folder."""
+    counts, found, run = collections.Counter(), 0, runner(asked.program, asked.library)
     for seed in seeds:
         try:
-            wrong, code = tried(program, seed, folder, ways)
+            wrong, code = one(run, seed, folder)
         except subprocess.TimeoutExpired as late:
             wrong, code = f"no answer in {late.timeout} seconds: {late.cmd[1]}", "no answer"
         counts[code] += 1
         if wrong:
             found += 1
-            os.makedirs(keep, exist_ok=True)
-            for name in ("image", "frames"):
-                shutil.copy(os.path.join(folder, name), os.path.join(keep, f"{seed}.{name}"))
-            print(f"seed {seed}: {wrong}", flush=True)
-    shutil.rmtree(folder)
-    with os.fdopen(out, "w") as file:
-        json.dump((counts, found), file)
+            os.makedirs(asked.keep, exist_ok=True)
+            for kept in os.listdir(folder):
+                if "sent" not in kept:
+                    shutil.copy(os.path.join(folder, kept), os.path.join(asked.keep, f"{name}-{seed}.{kept}"))
+            print(f"{name} {seed}: {wrong}", flush=True)
+    return counts, found
+
+
+def spread(asked, name, one):
+    """The verdicts on all seeds that are asked for, and how many were found, in processes of their own."""
+    children = []
+    for job in range(asked.jobs):
+        (back, out), folder = os.pipe(), tempfile.mkdtemp()
+        if os.fork() == 0:
+            os.close(back)
+            told = worker(asked, name, range(asked.seed + job, asked.seed + asked.programs, asked.jobs), one, folder)
+            with os.fdopen(out, "w") as file:
+                json.dump(told, file)
+            os._exit(0)
+        os.close(out)
+        children.append((back, folder))
+    counts, found = collections.Counter(), 0
+    for back, folder in children:
+        with os.fdopen(back) as file:
+            told = file.read()
+        if not told:
+            found += 1
+            print(f"{name}: a job died, its last input is in {folder}", flush=True)
+            continue
+        part, some = json.loads(told)
+        counts.update(part)
+        found += some
+        shutil.rmtree(folder)
+    return counts, found
+
+
+def words_of(parser):
+    """The words that fuzz.py and attacks.py share."""
+    parser.add_argument("program", nargs="?", type=built, default=os.path.join(HERE, "../crates/xdpvm/out/xdpvm"))
+    parser.add_argument("--seed", type=int, default=1)
+    parser.add_argument("--jobs", type=int, default=os.cpu_count())
+    parser.add_argument("--keep", default="found", help="folder for what is found")
+    parser.add_argument("--seconds", type=int, default=SECONDS, help="what a command may take; more on a busy machine")
+    parser.add_argument("--library", type=os.path.abspath, help="a shared library that answers in this process")
 
 
 def main():
     words = argparse.ArgumentParser(description=__doc__.split("\n")[0])
-    words.add_argument("program", nargs="?", type=built, default=os.path.join(HERE, "../crates/xdpvm/out/xdpvm"))
+    words_of(words)
     words.add_argument("--programs", type=int, default=20_000)
-    words.add_argument("--seed", type=int, default=1)
-    words.add_argument("--jobs", type=int, default=os.cpu_count())
-    words.add_argument("--keep", default="found", help="folder for what is found")
     words.add_argument("--ways", action="store_true", help="each refusal must say its way")
-    words.add_argument("--seconds", type=int, default=SECONDS, help="what a command may take; more on a busy machine")
     asked = words.parse_args()
     wait(asked.seconds)
-    children = []
-    for job in range(asked.jobs):
-        back, out = os.pipe()
-        if os.fork() == 0:
-            os.close(back)
-            worker(asked.program, range(asked.seed + job, asked.seed + asked.programs, asked.jobs), asked.keep, asked.ways, out)
-            os._exit(0)
-        os.close(out)
-        children.append(back)
-    counts, found = collections.Counter(), 0
-    for back in children:
-        with os.fdopen(back) as file:
-            part, some = json.load(file)
-        counts.update(part)
-        found += some
+    counts, found = spread(asked, "seed", lambda run, seed, folder: tried(run, seed, folder, asked.ways))
     print(", ".join(f"{code} {count}" for code, count in counts.most_common()))
     print(f"{asked.programs} programs, {counts['accepted']} accepted, {found} findings")
     sys.exit(1 if found else 0)

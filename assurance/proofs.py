@@ -1,7 +1,7 @@
 #!/usr/bin/env python3
 """Sees that `recheck` accepts what `prove` writes, with the bound of `verify`, and that damaged tables are refused or true.
 
-usage: python3 assurance/proofs.py [--program XDPVM] [--random N] [--damages N] [--seed S] [IMAGE|FOLDER ..]
+usage: python3 assurance/proofs.py [--program XDPVM] [--random N] [--damages N] [--seed S] [--library FILE] [IMAGE|FOLDER ..]
 
 Proved are the images and the folders of images that are given (those of examples/ if none is), N programs of
 assurance/random_programs.py in either version, and programs that keep a value of each kind on the stack and have eight
@@ -9,11 +9,13 @@ call frames. For each accepted one `prove`, `recheck` and `verify` have to say t
 one, `prove` has to say the same, and make no file.
 
 Of each table of up to 200,000 bytes N times an entry is dropped, two entries are swapped, a number is lowered or raised,
-a register or a slot of the stack is widened or narrowed, a successor leads to another entry, an identity is renamed, or
-registers, call frames or slots of another entry are taken; or the table is given to a program where one instruction
-differs. A table that `recheck` accepts then has to be true: the program runs by it on six random frames as `trace` runs
-it, with no trap and no more steps than its bound. So a table for a program that has to be refused is never accepted. The
-last line counts, also after an interrupt; the exit status is 1 if anything was wrong.
+a register or a slot of the stack is widened or narrowed, alone or wherever it holds the same value, a successor leads to
+another entry, an identity is renamed, an entry is there twice and half of its predecessors lead to a changed copy, a call
+frame is there twice or gone, or registers, call frames, slots or whole entries of another entry or of another program's
+table are taken; or the table is given to a program where one instruction differs. A table that `recheck` accepts then has
+to be true: the program runs by it on six random frames as `trace` runs it, with no trap and no more steps than its bound.
+Where the program is refused by `verify`, each table that is accepted is told too. The last line counts, also after an
+interrupt; the exit status is 1 if anything was wrong. --library is as for fuzz.py.
 """
 import argparse
 import collections
@@ -21,14 +23,14 @@ import itertools
 import os
 import random
 import struct
-import subprocess
 import sys
 import tempfile
 
 TOP = os.path.dirname(os.path.dirname(os.path.abspath(__file__)))
 sys.path.insert(0, os.path.join(TOP, "tools"))
 import table
-from fuzz import frames
+from fuzz import frames, runner, wait
+from in_process import read, records, write
 from random_programs import Maker
 
 EIGHT_FRAMES = "r1 = 1; call a; exit; a: if r1 > 6 goto last; r6 = r1; r1 += 1; call a; r0 += r6; exit; last: r0 = 0; exit"
@@ -39,20 +41,6 @@ EACH_KIND = """map hash 4 8 2; map array 4 8 1; *(u64 *)(r10 - 8) = r1; *(u64 *)
     none: r2 = *(u64 *)(r10 - 24); r3 = *(u64 *)(r10 - 32); r4 = r2; r5 = *(u64 *)(r10 - 40); r5 &= 31; r4 += r5; r4 += 4
     *(u64 *)(r10 - 72) = r4; if r4 > r3 goto short; r4 = *(u64 *)(r10 - 72); r0 = *(u32 *)(r4 - 4); r0 &= 1; exit
     short: r0 = 1; exit"""
-
-
-def run(*words):
-    return subprocess.run([PROGRAM, *words], stdin=subprocess.DEVNULL, capture_output=True, timeout=600)
-
-
-def write(path, data):
-    with open(path, "wb") as file:
-        file.write(data)
-
-
-def read(path):
-    with open(path, "rb") as file:
-        return file.read()
 
 
 # ---- damages of the entries of a table
@@ -91,30 +79,87 @@ def lowered(chance, entries):
     entry.number = max(1, entry.number - chance.choice([1, 1, 2, 10, entry.number]))
 
 
-def register(chance, entries):
-    """A register of some entry that is set: its entry's last frame, and its number."""
-    frame = own(chance, entries).frames[-1]
-    given = [at for at, value in enumerate(frame.registers) if value != table.UNSET]
-    return (frame.registers, chance.choice(given)) if given else ([table.UNSET], 0)
+def places(entry):
+    """The registers and slots of an entry that hold a value: the list, and the place."""
+    return [(values, at) for frame in entry.frames for values in (frame.registers, frame.slots) for at, value in enumerate(values)
+            if value[0] not in ("unset", "bytes")]
+
+
+def changed_value(chance, entries, change, alone=0.6):
+    """A value of some entry that is changed there, or in all entries that hold it in this place."""
+    entry = own(chance, entries)
+    given = places(entry)
+    if not given:
+        return
+    values, at = chance.choice(given)
+    spilled = all(values is not frame.registers for frame in entry.frames)
+    old, new = values[at], change(values[at])
+    new = table.BLANK if spilled and new == table.UNSET else new
+    values[at] = new
+    for index in range(len(entries) if chance.random() > alone else 0):
+        lists = [frame.slots if spilled else frame.registers for frame in entries[index].frames]
+        if any(there[at] == old for there in lists):
+            entries[index] = copied(entries[index])
+            for frame in entries[index].frames:
+                there = frame.slots if spilled else frame.registers
+                there[at] = new if there[at] == old else there[at]
 
 
 def widened(chance, entries):
-    registers, at = register(chance, entries)
-    registers[at] = table.any_number() if registers[at][0] == "number" and chance.random() < 0.7 else table.UNSET
+    changed_value(chance, entries, lambda value: table.any_number() if value[0] == "number" and chance.random() < 0.7 else table.UNSET)
 
 
-def narrowed(chance, entries):
-    registers, at = register(chance, entries)
-    value = list(registers[at])
+def narrower(chance, value):
+    value = list(value)
     if value[0] == "number":
         value = table.constant(chance.choice([value[1], value[1] + 1, value[3], value[4]]))
     elif value[0] == "packet":
-        value[5] += chance.choice([1, 8, 4096])
+        value[chance.choice([5, 5, 3, 4])] += chance.choice([1, 8, 4096, -1])
+        value[5] %= 2**32
     elif value[0] in ("value", "stack"):
         value[-1] -= chance.choice([1, 8])
     elif value[0] == "null":
         value = ["value", value[1], 0, 0]
-    registers[at] = tuple(value)
+    return tuple(value)
+
+
+def narrowed(chance, entries):
+    changed_value(chance, entries, lambda value: narrower(chance, value))
+
+
+def doubled(chance, entries):
+    """An entry that is there twice; one successor of another entry, or those of half of the entries, lead to a changed copy."""
+    at = chance.randrange(len(entries))
+    entries.append(copied(entries[at]))
+    before = [index for index, entry in enumerate(entries) if at in entry.successors]
+    for index in chance.sample(before, (len(before) + 1) // 2):
+        entries[index] = copied(entries[index])
+        entries[index].successors = [len(entries) - 1 if to == at else to for to in entries[index].successors]
+    last = entries[-1:]
+    chance.choice([widened, narrowed, lowered, raised, renamed, respilled])(chance, last)
+    entries[-1] = last[0]
+
+
+def deepened(chance, entries):
+    """A call frame that is there twice, or gone, in one entry or in all."""
+    for index in range(len(entries)) if chance.random() < 0.2 else [chance.randrange(len(entries))]:
+        entry = entries[index] = copied(entries[index])
+        at = chance.randrange(len(entry.frames))
+        if len(entry.frames) > 1 and chance.random() < 0.5:
+            del entry.frames[at]
+        elif len(entry.frames) < 8:
+            entry.frames.insert(at, copied(entry).frames[at])
+
+
+OTHERS = []                     # entries of other programs' tables
+
+
+def borrowed(chance, entries):
+    """A state of another program's table, at this one's slot or at its own."""
+    if OTHERS:
+        entry, other = own(chance, entries), copied(chance.choice(OTHERS))
+        entry.frames = other.frames
+        entry.slot = chance.choice([entry.slot, entry.slot, other.slot])
 
 
 def raised(chance, entries):
@@ -179,7 +224,7 @@ def respilled(chance, entries):
         frame.slots[chance.choice(known)] = chance.choice([table.BLANK, ("bytes", 255), ("bytes", 15), table.constant(0), table.any_number()])
 
 
-DAMAGES = [dropped, swapped, lowered, raised, widened, narrowed, redirected, renamed, mixed, respilled]
+DAMAGES = [dropped, swapped, lowered, raised, widened, narrowed, redirected, renamed, mixed, respilled, doubled, deepened, borrowed]
 
 
 def other_program(chance, image):
@@ -201,10 +246,26 @@ def other_program(chance, image):
 
 # ---- what is wrong
 
+def runs_alike(image, stream, bound):
+    """The same in this process; of a program with maps each frame on maps as they start, in a session of its own."""
+    frames_of = list(records(stream))
+    streams = [frames_of] if image[4:6] == b"\0\0" else [[frame] for frame in frames_of]
+    by_table = sum((RUN.library.runs_by_table(image, read("damaged"), part) or [None] for part in streams), [])
+    traced = [RUN.library.trace(image, head, packet) for head, _, packet in frames_of]
+    exits = all(kind == 0 and steps <= bound for _, steps, kind, _, _ in traced)
+    return exits and by_table == [(r0, steps, after) for r0, steps, _, _, after in traced]
+
+
 def is_true(chance, image, bound):
-    """Whether the program runs by the damaged table as it is traced, and within the bound that this shows."""
-    write("frames", frames(chance, chance.choice([1, 2])))
-    ran, traced = run("run", image, "frames", "sent", "--table", "damaged"), run("trace", image, "frames", "traced")
+    """Whether the program runs by the damaged table as it is traced, and within the bound that this shows. With a library
+    one in eight programs with maps runs in processes too, where maps go from frame to frame."""
+    stream, program = frames(chance, chance.choice([1, 2])), read(image)
+    if LIBRARY:
+        alike = runs_alike(program, stream, bound)
+        if not alike or program[4:6] == b"\0\0" or chance.random() > 1 / 8:
+            return alike
+    write("frames", stream)
+    ran, traced = RUN("run", image, "frames", "sent", "--table", "damaged"), RUN("trace", image, "frames", "traced")
     rows = [line.split() for line in ran.stdout.decode().splitlines()]
     within = all(row[1] not in ("TRAP", "LIMIT") and int(row[3]) <= bound for row in rows if row[0].isdigit())
     return within and ran.stdout == traced.stdout and read("sent") == read("traced")
@@ -212,7 +273,7 @@ def is_true(chance, image, bound):
 
 def judged(chance, image, what, counts):
     """What is wrong with the answer to the damaged table for an image."""
-    answer = run("recheck", image, "damaged")
+    answer = RUN("recheck", image, "damaged")
     said = answer.stdout.decode().split()
     if (answer.returncode, said[:1]) == (2, ["refused"]):
         counts[what, said[1]] += 1
@@ -220,6 +281,9 @@ def judged(chance, image, what, counts):
     counts[what, "accepted"] += 1
     if (answer.returncode, said[:2]) != (0, ["ok", "bound"]) or not is_true(chance, image, int(said[2])):
         return f"{what}: {answer}"
+    if what == "other_program" and RUN("verify", image).returncode:
+        counts["refused by verify, shown by a table"] += 1
+        print(f"a refused program is shown by a table: {read(image).hex()}", flush=True)
     return None
 
 
@@ -262,13 +326,14 @@ def tried(chance, image, damages, counts):
     write("image", image)
     if os.path.exists("table"):
         os.remove("table")
-    verified, proved = run("verify", "image"), run("prove", "image", "table")
+    verified, proved = RUN("verify", "image"), RUN("prove", "image", "table")
     if verified.returncode:
         counts["refused"] += 1
-        same = (verified.returncode, verified.stdout, verified.stderr) == (proved.returncode, proved.stdout, proved.stderr)
+        # What helps with files that are something else only the program says, not the library.
+        same = (verified.returncode, verified.stdout) == (proved.returncode, proved.stdout) and proved.stderr.startswith(verified.stderr)
         return None if same and not os.path.exists("table") else f"prove of a refused program: {proved}"
     counts["proved"] += 1
-    rechecked = run("recheck", "image", "table")
+    rechecked = RUN("recheck", "image", "table")
     for answer in proved, rechecked:
         if (answer.returncode, answer.stdout, answer.stderr) != (0, verified.stdout, b""):
             return f"{verified.stdout}, {answer}"
@@ -278,7 +343,10 @@ def tried(chance, image, damages, counts):
     proof = Proof(image, data)
     if table.table_bytes(proof.entries) != data:
         return "the table is not spelled as table.py spells it"
-    return next(filter(None, (proof.damaged(chance, counts) for _ in range(damages))), None)
+    wrong = next(filter(None, (proof.damaged(chance, counts) for _ in range(damages))), None)
+    OTHERS.extend(chance.sample(proof.entries, min(len(proof.entries), 20)))
+    del OTHERS[:-2000]
+    return wrong
 
 
 def images_of(paths):
@@ -299,19 +367,22 @@ def random_images(chance, count):
 def assembled():
     for name, text in ("eight frames", EIGHT_FRAMES), ("each kind", EACH_KIND):
         write("text", text.encode())
-        run("asm", "text", "made")
+        RUN("asm", "text", "made")
         yield name, read("made")
 
 
 def main():
-    global PROGRAM
+    global RUN, LIBRARY
     parser = argparse.ArgumentParser(usage=__doc__.split("\n\n")[1][7:])
     parser.add_argument("--program", default=os.path.join(TOP, "crates/xdpvm/out/xdpvm"))
     for name, number in ("--random", 200), ("--damages", 20), ("--seed", 1):
         parser.add_argument(name, type=int, default=number)
+    parser.add_argument("--library", type=os.path.abspath)
     parser.add_argument("paths", nargs="*", default=[os.path.join(TOP, "examples")])
     given = parser.parse_args()
-    PROGRAM, chance = os.path.abspath(given.program), random.Random(given.seed)
+    LIBRARY, chance = given.library, random.Random(given.seed)
+    wait(600)
+    RUN = runner(os.path.abspath(given.program), LIBRARY)
     paths = [os.path.abspath(path) for path in given.paths]
     counts, wrong = collections.Counter(), 0
     with tempfile.TemporaryDirectory() as folder:

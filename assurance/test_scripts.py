@@ -1,16 +1,22 @@
 #!/usr/bin/env python3
 """Tests of laws.py and file_map.py on small repositories, and of what the attacks judge by and make. In the gate;
 `python3 assurance/test_scripts.py` runs them."""
+import argparse
 import os
 import random
+import re
 import struct
 import sys
 import tempfile
 import unittest
 
 sys.dont_write_bytecode = True
+sys.path.append(os.path.join(os.path.dirname(os.path.abspath(__file__)), "../bench"))
 import damage
 import file_map
+import fuzz
+import hostile_inputs
+import in_process
 import laws
 import proofs
 import table
@@ -195,6 +201,7 @@ class Attacks(unittest.TestCase):
             data = file.read()
         proof = proofs.Proof(b"", data)
         self.assertEqual(proof.bytes_of(proof.entries), data)
+        proofs.OTHERS[:] = [table.Entry(1, 0)]
         for damage_of in proofs.DAMAGES:
             made = set()
             for seed in range(40):
@@ -211,6 +218,54 @@ class Attacks(unittest.TestCase):
         others = {proofs.other_program(random.Random(seed), image) for seed in range(50)}
         self.assertGreater(len(others - {image}), 30)
         self.assertTrue(all(len(other) == len(image) and other[:8] == image[:8] for other in others))
+
+
+class Traced:
+    """Stands for the library: each traced run ends with one of these, and turns the packet's first byte."""
+
+    def __init__(self, *ends):
+        self.ends = list(ends)
+
+    def trace(self, image, head, packet):
+        return *self.ends.pop(0), bytes([packet[0] ^ 255]) + packet[1:]
+
+
+class InProcess(unittest.TestCase):
+    def test_the_report_of_traced_runs(self):
+        """What docs/FORMATS.md says of actions, reasons and frames out."""
+        turned = b"\x35\xfe"
+        record = lambda reason: struct.pack("<QIIII", 1000, 1, 0, 2, reason)
+        first = struct.pack("<QIII", 1000, 1, 0, 2)
+        for image, stream, ends, lines, sent in (
+            (b"XBP1", b"XPF1" + ONE * 3, [(2, 5, 0, 0), (1, 6, 0, 0), (9, 7, 0, 0)],
+             ["0 PASS 2 5", "1 DROP 2 6", "2 INVALID 2 7", "end 3"], b"XPF1" + first + turned),
+            (b"XBP1", b"XPF2" + FIRST + SKIPPED + FIRST, [(3 | 7 << 32, 5, 0, 0), (1 | 7 << 32, 5, 0, 0)],
+             ["0 TX 2 5 0", "1 SKIP 0 0 7", "2 DROP 2 5 1", "end 3"], b"XPF2" + record(0) + turned + SKIPPED + record(1) + turned),
+            (b"XBP2", b"XPF2" + FIRST + FIRST, [(1 | 7 << 32, 5, 0, 0), (4, 5, 0, 0)],
+             ["0 DROP 2 5 7", "1 REDIRECT 2 5 1", "end 2"], b"XPF2" + record(7) + turned + record(1) + turned),
+            (b"XBP1", b"XPF1" + ONE * 2, [(0, 5, 1, 4), (0, 9, 2, 0)], ["0 TRAP 4 5", "1 LIMIT 0 9", "end 2"], b"XPF1"),
+        ):
+            with self.subTest(lines=lines):
+                self.assertEqual(in_process.traced(Traced(*ends), image, stream), ("\n".join([*lines, ""]).encode(), sent))
+
+    def test_a_job_that_dies_is_found(self):
+        asked = argparse.Namespace(jobs=2, seed=1, programs=4, program="", library=None, keep="")
+        self.assertEqual(fuzz.spread(asked, "seed", lambda run, seed, folder: (None, "V1")), ({"V1": 4}, 0))
+        out, sys.stdout = sys.stdout, open(os.devnull, "w")
+        with sys.stdout:
+            told = fuzz.spread(asked, "seed", lambda run, seed, folder: os._exit(1) if seed == 2 else (None, "V1"))
+        sys.stdout = out
+        self.assertEqual(told, ({"V1": 2}, 1))
+
+
+class Hostile(unittest.TestCase):
+    def test_keys_of_one_hash(self):
+        with open(os.path.join(TOP, "crates/map_indexes/src/hashing.rt"), encoding="utf-8") as file:
+            spread = re.search("SPREAD: u64 = (0x[0-9a-f_]+)", file.read())
+        self.assertEqual(int(spread[1].replace("_", ""), 16), hostile_inputs.SPREAD)
+        keys = hostile_inputs.one_chain_keys(300, 16)
+        self.assertEqual((len(set(keys)), len({hostile_inputs.hash_of(key) for key in keys})), (300, 1))
+        self.assertTrue(all(len(key) == 16 for key in keys))
 
 
 class Here(unittest.TestCase):
