@@ -1,10 +1,11 @@
 #!/usr/bin/env python3
 """Compares a step of `run` and of `trace` with one of a plain interpreter in C (bench/switch.c, gcc -O2), on nine
-programs: by processor seconds, less the start and those of a program that exits at once, on the same frames.
+programs: by processor seconds, less the start and those of a program that exits at once, on the same frames. The same
+interpreter is also built with computed goto, as a column of its own.
 
 usage: python3 bench/speed.py PROGRAM [PROGRAM ..]
 
-Where code lies in memory moves a loop by 10 to 30 %, so the interpreter in C is built four times, its code further on by
+Where code lies in memory moves a loop by 10 to 30 %, so each interpreter in C is built four times, its code further on by
 16 bytes each, and several builds of xdpvm can be given. Each figure is the least of TIMES runs, in turn, over
 all builds.
 """
@@ -20,6 +21,8 @@ HERE = os.path.dirname(os.path.abspath(__file__))
 PROGRAMS = [os.path.abspath(path) for path in sys.argv[1:]]
 TIMES = int(os.environ.get("TIMES", "8"))
 PADS = [0, 16, 32, 48]
+# How each interpreter in C is built. Without the two flags gcc makes one jump of many of the computed ones.
+INTERPRETERS = {"switch": ["-O2"], "goto": ["-O2", "-fno-gcse", "-fno-crossjumping", "-DGOTO"]}
 
 IDLE = "r0 = 1\nexit\n"
 
@@ -248,10 +251,11 @@ def compared(name, text, stream):
         best[key] = min(best.get(key, 1e9), seconds)
 
     for _ in range(TIMES):
-        for pad in PADS:
-            steps, seconds, _ = processor([f"./switch{pad}", "p.image", "p.frames", "1"])[1].split()
-            took("C", float(seconds))
-            counts.add(int(steps))
+        for kind in INTERPRETERS:
+            for pad in PADS:
+                steps, seconds, _ = processor([f"./{kind}{pad}", "p.image", "p.frames", "1"])[1].split()
+                took(kind, float(seconds))
+                counts.add(int(steps))
         for way in [(command, program) for program in PROGRAMS for command in ["run", "trace"]]:
             for part in PARTS:
                 seconds, report = processor([way[1], way[0], *part, "sent"])
@@ -262,8 +266,9 @@ def compared(name, text, stream):
         sys.exit(f"{name}: steps {counts}")
     runs = [frames_of(best, ("run", program)) for program in PROGRAMS]
     traced = min(frames_of(best, ("trace", program)) for program in PROGRAMS)
-    each = " ".join(f"{run / best['C']:.2f}" for run in runs)
-    print(f"{name:<44}{best['C'] * 1e9 / counts.pop():>7.2f}{min(runs) / best['C']:>9.2f}{traced / min(runs):>11.1f}   {each}", flush=True)
+    plain_step, jumped = best["switch"] * 1e9 / counts.pop(), best["goto"] / best["switch"]
+    each = " ".join(f"{run / best['switch']:.2f}" for run in runs)
+    print(f"{name:<44}{plain_step:>7.2f}{jumped:>9.2f}{min(runs) / best['switch']:>9.2f}{traced / min(runs):>11.1f}   {each}", flush=True)
 
 
 def main():
@@ -280,12 +285,14 @@ def main():
     ]
     with tempfile.TemporaryDirectory() as folder:
         os.chdir(folder)
-        for pad in PADS:
-            subprocess.run(["gcc", "-O2", f"-DPAD={pad + 1}", "-o", f"switch{pad}", os.path.join(HERE, "switch.c")], check=True)
+        for kind, flags in INTERPRETERS.items():
+            for pad in PADS:
+                words = ["gcc", *flags, f"-DPAD={pad + 1}", "-o", f"{kind}{pad}", os.path.join(HERE, "switch.c")]
+                subprocess.run(words, check=True)
         assembled("idle", IDLE)
         with open("none.frames", "wb") as file:
             file.write(plain(0))
-        print(f"{'program':<44}{'C ns':>7}{'run/C':>9}{'trace/run':>11}   run/C of each build")
+        print(f"{'program':<44}{'C ns':>7}{'goto/C':>9}{'run/C':>9}{'trace/run':>11}   run/C of each build")
         for name, text, stream in rows:
             compared(name, text, stream)
         os.chdir("/")
