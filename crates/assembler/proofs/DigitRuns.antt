@@ -16,7 +16,7 @@ use Rattle.lexer.specs.Lexing.{is_word_byte, number_at, number_after, number_fro
 use Rattle.assembler.proofs.PlainTexts.{Progress, assembled}
 use Rattle.assembler.proofs.Turns.{token}
 
--- digits up to the first byte that is none
+-- digits up to the first byte that is not a digit
 prefix-digits : (base c : ℕ) (ds rest : List ℕ) → AllDigits base ds → is_digit c base ≡ false → prefix_len (λ b. is_digit b base) (ds ++ c ∷ rest) ≡ length ds
 prefix-digits base c [] rest h e = rw e refl
 prefix-digits base c (d ∷ ds) rest h e =
@@ -49,7 +49,7 @@ number-found base skipped c bs (d ∷ ds) rest e at h small w g p =
     let some : (suc (length ds) == 0) ≡ false = ne_eqb (suc (length ds)) 0 (λ q. omega (arith, q)) in
     ap (number_after base skipped bs) many ∙ rw some (rw word (rw taken (rw value refl)))
 
--- ---- a byte below the digits stands after them
+-- ---- a byte below the digits follows them
 
 low-word : (c : ℕ) → c < 48 → is_word_byte c ≡ false
 low-word c h = let t : nat_lt c 48 ≡ true = lt-ltb c 48 h in let u : (c == 95) ≡ false = ne_eqb c 95 (λ e. omega arith) in rw t u

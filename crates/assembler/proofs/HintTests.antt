@@ -1,4 +1,4 @@
--- What stands somewhere in bytes, a byte at a time.
+-- Whether bytes occur in others, byte by byte.
 use Rattle.std.proofs.Common.{◌≡◌, ℕ, zero, suc, ◌+◌, ◌-◌, false, Bool, List, [], ◌∷◌, length, take, drop, refl, sym, subst, arith, length-drop}
 use Rattle.std.proofs.lemmas.List.{take_all}
 use Rattle.std.specs.Prelude.{◌||◌}
@@ -16,7 +16,7 @@ behind (suc n) (b ∷ bs) part e = behind n bs part e
 whole : (n : ℕ) (bs : List ℕ) → take (length bs - n) (drop n bs) ≡ drop n bs
 whole n bs = take_all (length bs - n) (drop n bs) (let e : length (drop n bs) ≡ length bs - n = length-drop n bs in omega arith)
 
--- where bytes do not begin so, what stands in them stands behind the first one
+-- if bytes do not begin so, what occurs in them occurs after the first one
 pub has_behind : (bs part : List ℕ) (n : ℕ) → begins (take (length bs - n) (drop n bs)) part ≡ false → has (drop n bs) part ≡ has (drop (n + 1) bs) part
 has_behind bs part n e =
     let one : suc n ≡ n + 1 = omega arith in

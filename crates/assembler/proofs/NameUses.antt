@@ -9,7 +9,7 @@ use Rattle.assembler.specs.declared.names.Use.{Use}
 use Rattle.assembler.specs.Naming.{NameUse, use_of, aim, aim_used, put, resolved}
 use Rattle.assembler.specs.Operands.{◌>>=◌}
 
--- what the use makes of the instruction that stands at its index, and the uses after it of that
+-- what the use makes of the instruction at its index, and what the uses after it make of that
 abbrev turn : (List ℕ → Option ℕ) → List Use → List Insn → ℕ → NameUse → Option Insn → Result (List Insn) Refusal
 turn f us is k u found = put u is (aim_used f u found) >>= λ next. resolved f (drop (k + 1) (map use_of us)) next
 
@@ -19,7 +19,7 @@ turned f us is k d h =
     ap (λ l. resolved f l is) (drop_more (map use_of us) k (use_of d) within)
     ∙ ap (λ (u : NameUse). turn f us is k u (slice_get is u.index)) (get_or-map use_of us k d (use_of d) h)
 
--- no instruction stands there
+-- there is no instruction
 pub use_missing : (f : List ℕ → Option ℕ) (us : List Use) (is : List Insn) (k : ℕ) (d : Use) → k < length us → slice_get is (get_or us k d).index ≡ None → resolved f (drop k (map use_of us)) is ≡ Err (record { kind = NotDefined; offset = (get_or us k d).offset })
 use_missing f us is k d h none = turned f us is k d h ∙ ap (λ found. turn f us is k (use_of (get_or us k d)) found) none
 

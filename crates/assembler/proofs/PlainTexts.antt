@@ -95,7 +95,7 @@ accept s Blank = Some s
 accept s End = closed s
 accept s (Solid t) = Some (record { tokens = s.tokens ++ t ∷ []; parts = s.parts })
 
--- what a text makes, the first bytes of which are passed over
+-- what a text makes after its first bytes
 abbrev pub assembled : List ℕ → ℕ → Progress → Option Progress
 assembled [] k s = closed s
 assembled (b ∷ bs) (suc k) s = assembled bs k s

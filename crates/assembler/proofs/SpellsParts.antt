@@ -1,4 +1,4 @@
--- Readers of places, targets and names from their answers: what stands where they have read.
+-- Readers of places, targets and names from their answers: which tokens they have read.
 use Rattle.std.proofs.Common.{◌≡◌, ℕ, suc, ◌+◌, ◌-◌, ◌<◌, ◌≤◌, ◌^◌, length, List, [], ◌∷◌, refl, sym, ap, ◌∙◌, subst, inl, inr, arith}
 use Rattle.std.specs.Prelude.{◌≢◌, Bool, Option, Some, None, Ok, Err, true, false, ◌==◌, if◌then◌else◌, slice_get, nat_lt, nat_le, ℤ, pos}
 use Rattle.isa_model.specs.declared.sizes.Width.{Width}

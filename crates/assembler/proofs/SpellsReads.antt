@@ -44,7 +44,7 @@ same-width w = eq-eqb (width_bits w) (width_bits w) refl
 same-register : (r : Reg) → (reg_number r == reg_number r) ≡ true
 same-register r = eq-eqb (reg_number r) (reg_number r) refl
 
--- a sign and a number, of which the sign stands at that index
+-- a sign at that index, and a number
 signed-reads : (half at : ℕ) (s : Sign) (n : ℕ) (k : ℤ) → IsSigned half s n k → (is_minus s >>= λ minus. signed_within half at minus n) ≡ Ok k
 signed-reads half at s n k (inl h) = rw (h.0, h.2, lt-ltb n half h.1) refl
 signed-reads half at s n k (inr h) = rw (h.0, h.2, le-leb n half h.1) refl

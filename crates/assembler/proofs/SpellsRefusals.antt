@@ -147,7 +147,7 @@ accept_refused rest s Blank n place e each h = absurd (cc)
 accept_refused rest s End n place e each h = closed_refused s (label_length s.tokens) e each.0 h
 accept_refused rest s (Solid t) n place e each h = absurd (cc)
 
--- what is left, behind what was accepted
+-- what is left after what was accepted
 accept_left : (rest : ℕ → List Token → Type 0) (s : Progress) (x : Lexeme) (n : ℕ) (place : TokenPlace) (u : Progress) → AtLexeme rest IsSpelled s.tokens x n → accept s x place ≡ Ok u → rest (n - 1) u.tokens
 accept_left rest s Blank n place u each h = let same : s ≡ u = cc in subst (λ (v : Progress). rest (n - 1) v.tokens) same each
 accept_left rest s End n place u each h =

@@ -30,7 +30,7 @@ use Rattle.assembler.proofs.SpellsLaws.{statement_of-Spells}
 
 -- ---- statements
 
--- a number of a map line; one past the greatest of its field stands for that
+-- a number of a map line; a number past the greatest of its field counts as the greatest
 abbrev pub limited : ℕ → ℕ → ℕ
 limited most n = if nat_le n most then n else most
 
@@ -40,7 +40,7 @@ SpellsRow ts row =
     (k : ℕ) × (v : ℕ) × (e : ℕ) × (row.key_size ≡ limited 65535 k) × (row.value_size ≡ limited 4294967295 v) × (row.entries ≡ limited 4294967295 e)
     × (ts ≡ Named word.Map ∷ Named (word.Kind row.kind) ∷ Number k ∷ Number v ∷ Number e ∷ [])
 
--- nothing, the version where no label stands before it, a map row, or an instruction
+-- nothing, the version if no label comes before it, a map row, or an instruction
 abbrev pub SpellsSome : ℕ → List Token → Type 0
 SpellsSome label ts =
     (ts ≡ []) ⊎ (((label ≡ 0) × (ts ≡ Named word.Version ∷ Number 2 ∷ [])) ⊎ (((row : MapDef) × SpellsRow ts row) ⊎ ((i : Insn) × (name : Option ℕ) × Spells ts i name)))
@@ -171,7 +171,7 @@ abbrev pub OnLexeme : (ℕ → List Token → Type 0) → (List Token → Type 0
 OnLexeme rest P ts None = ⊥
 OnLexeme rest P ts (Some p) = AtLexeme rest P ts p.0 p.1
 
--- P holds of the tokens of each statement of a text, the first k bytes of which are passed over; ts were read before
+-- P holds of the tokens of each statement of a text after its first k bytes; ts were read before
 unfoldable pub EachStatement : (List Token → Type 0) → List ℕ → ℕ → List Token → Type 0
 EachStatement P [] k ts = P ts
 EachStatement P (b ∷ bs) (suc k) ts = EachStatement P bs k ts

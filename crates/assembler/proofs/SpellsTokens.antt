@@ -1,4 +1,4 @@
--- Readers of tokens from their answers: what stands where they have read.
+-- Readers of tokens from their answers: which tokens they have read.
 use Rattle.std.proofs.Common.{◌≡◌, ℕ, suc, ◌+◌, ◌<◌, ◌≤◌, ◌^◌, length, List, [], ◌∷◌, ◌++◌, refl, sym, ap, ◌∙◌, subst, inl, inr, ◌⊎◌, arith}
 use Rattle.std.proofs.lemmas.Bool.Decides.{nat_tests}
 use Rattle.std.specs.Prelude.{Bool, Option, Some, None, Result, Ok, Err, ok_or, true, false, ◌==◌, if◌then◌else◌, slice_get, nat_lt, nat_le, ℤ, pos, neg_ℤ}
@@ -47,7 +47,7 @@ below a b h = grind (arith, nat_tests, h)
 pub within : (a b : ℕ) → nat_le a b ≡ true → a ≤ b
 within a b h = grind (arith, nat_tests, h)
 
--- ---- what stands at an index
+-- ---- the token at an index
 
 abbrev pub At : List Token → ℕ → Token → Type 0
 At ts i t = slice_get ts i ≡ Some t

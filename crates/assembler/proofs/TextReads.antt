@@ -59,13 +59,13 @@ version-read Two rest = refl
 
 -- ---- code
 
--- what stands before more instructions fits if all of them do
+-- the instructions before others fit if all of them do
 room-before : (is js : List Insn) → length (slots (is ++ js)) ≤ 4096 → has_room is ≡ true
 room-before is js h =
     let e : length (slots (is ++ js)) ≡ length (slots is) + length (slots js) = ap (λ l. length l) (slots-append is js) ∙ length-append (slots is) (slots js) in
     ap not (le-ltb 4096 (length (slots is)) (omega (arith, h, e)))
 
--- the instructions behind others, after map rows
+-- instructions after others, after map rows
 abbrev behind : Version → List MapDef → List Insn → Parts
 behind v maps is = record { version = v; maps = maps; insns = is }
 
@@ -117,7 +117,7 @@ program_of-instructions p h =
     ap (λ (b : Bool). let r : Result Program Refusal = if b then Ok (program_of p.version p.maps is) else Err (record { kind = SlotCount; offset = 0 }) in r) few
     ∙ ap (λ (q : Program). let r : Result Program Refusal = Ok q in r) (image-again p h)
 
--- what was read without names is a program as it stands
+-- what was read without names is a program already
 finished-unused : (s : Progress) (parts : Parts) → (shadow s).parts ≡ parts → s.uses ≡ [] → finished s ≡ text.program_of parts.version parts.maps parts.insns
 finished-unused s parts e unused =
     ap (λ us. resolved (slot_in s.labels) us s.insns >>= text.program_of s.version s.maps) unused ∙ ap (λ (ps : Parts). text.program_of ps.version ps.maps ps.insns) e

@@ -23,7 +23,7 @@ anywhere bs m n s (inr e) = ap (λ at. read_on bs 0 at s) e
 anywhere [] m n s (inl e) = refl
 anywhere (b ∷ bs) m n s (inl e) = absurd (omega (arith, e))
 
--- what stands after that many bytes of a text of that length, and at least one
+-- what follows that many bytes of a text of that length, at least one
 behind : (bs : List ℕ) (n all : ℕ) → 0 < length bs → length bs ≤ all → (length (drop (n - 1) (drop 1 bs)) ≡ 0) ⊎ (((all - length bs) + 1) + (n - 1) ≡ all - length (drop (n - 1) (drop 1 bs)))
 behind bs n all more few =
     let one : length (drop 1 bs) ≡ length bs - 1 = length-drop 1 bs in
@@ -41,7 +41,7 @@ turn : (bs : List ℕ) (at : ℕ) (s : Progress) → 0 < length bs → read_on b
 turn [] at s more = absurd (omega (arith, more))
 turn (b ∷ bs) at s more = refl
 
--- no lexeme stands there
+-- there is no lexeme
 pub turn-none : (bs : List ℕ) (at : ℕ) (s : Progress) → 0 < length bs → lexeme_at bs ≡ None → read_on bs 0 at s ≡ Err (record { kind = UnknownByte; offset = at + fault_at bs })
 turn-none bs at s more e = turn bs at s more ∙ ap (λ found. from_lexeme bs at s (ok_or found (record { kind = UnknownByte; offset = at + fault_at bs }))) e
 

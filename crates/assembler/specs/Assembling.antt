@@ -35,7 +35,7 @@ TokenPlace = ℕ × List ℕ
 
 -- what was read so far
 pub record Progress : Type 0 where
-  -- the tokens of the statement, and where they stand
+  -- the tokens of the statement, and where they are
   pub tokens : List Token
   pub places : List TokenPlace
   -- the version, the map rows and the instructions before it
@@ -63,7 +63,8 @@ abbrev pub refused_at : {A : Type 0} → ℕ → Result A AsmErrorKind → Resul
 refused_at at (Ok x) = Ok x
 refused_at at (Err kind) = Err (record { kind = kind; offset = at })
 
--- why the tokens after that many others are no instruction: a number out of range counts where all else fits
+-- why the tokens after that many others are no instruction: a number out of range is the reason if
+-- all else fits
 abbrev pub refusal_of : Progress → ℕ → Wrong → Refusal
 refusal_of s k Form = record { kind = NoForm; offset = begins_at s }
 refusal_of s k (Range at) =
@@ -93,7 +94,7 @@ has_room insns = not (nat_lt max_slots (length (slots insns)))
 abbrev pub with_insn : List Insn → Insn → Result (List Insn) AsmErrorKind
 with_insn insns i = if has_room (insns ++ i ∷ []) then Ok (insns ++ i ∷ []) else Err SlotCount
 
--- the next instruction uses the name that stands there
+-- the next instruction uses the name there
 abbrev pub with_use : Progress → Option TokenPlace → List NameUse
 with_use s None = s.uses
 with_use s (Some place) =
@@ -112,7 +113,7 @@ added s k r =
 
 -- ---- labels
 
--- that name stands for the next slot
+-- the name is defined as the next slot
 abbrev pub named_by : Progress → Option TokenPlace → Result Progress Refusal
 named_by s None = Ok s
 named_by s (Some place) =
@@ -153,7 +154,7 @@ closed_behind s k =
 abbrev pub closed : Progress → Result Progress Refusal
 closed s = closed_behind s (label_length s.tokens)
 
--- what stands next in the text, at that place
+-- the next lexeme of the text, at that place
 abbrev pub accept : Progress → Lexeme → TokenPlace → Result Progress Refusal
 accept s Blank place = Ok s
 accept s End place = closed s
@@ -162,11 +163,11 @@ accept s (Solid t) place =
 
 -- ---- texts
 
--- what stands at the front of the text after that many bytes
+-- the lexeme after that many bytes of the text
 abbrev pub next_lexeme : ℕ → List ℕ → Result (Lexeme × ℕ) Refusal
 next_lexeme at bs = ok_or (lexeme_at bs) (record { kind = UnknownByte; offset = at + fault_at bs })
 
--- what the bytes at that offset of a text make, the first k of which are passed over
+-- what the bytes at that offset of a text make, after the first k of them
 abbrev pub read_on : List ℕ → ℕ → ℕ → Progress → Result Progress Refusal
 read_on [] k at s = closed s
 read_on (b ∷ bs) (suc k) at s = read_on bs k (at + 1) s
@@ -174,7 +175,8 @@ read_on (b ∷ bs) zero at s =
     next_lexeme at (b ∷ bs)
     >>= λ (p : Lexeme × ℕ). accept s p.0 (at, take p.1 (b ∷ bs)) >>= λ t. read_on bs (p.1 - 1) (at + 1) t
 
--- the program of this version, these map rows and instructions; that there is none is refused where the text begins
+-- the program of this version, these map rows and instructions; if there is no instruction, the
+-- refusal is at the start of the text
 abbrev pub program_of : Version → List MapDef → List Insn → Result Program Refusal
 program_of version maps insns =
     if is_none (count_refusal (length (slots insns))) then Ok (image.program_of version maps insns)

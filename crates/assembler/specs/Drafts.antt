@@ -1,4 +1,4 @@
--- What a draft stands for.
+-- What a draft means.
 use Rattle.std.specs.Prelude.{map}
 use Rattle.assembler.specs.declared.draft.Draft.{Draft}
 use Rattle.assembler.specs.declared.draft.Span.{Span}

@@ -1,5 +1,5 @@
--- What helps where a text is refused: a sentence for each case. The front has the bytes of the line before the column, the
--- back those from there on.
+-- The hint for a text that is refused: a sentence for each case. The front has the bytes of the
+-- line before the column, the back those from there on.
 use Rattle.std.specs.Prelude.{ℕ, false, Bool, ◌&&◌, ◌||◌, nat_le, List, [], ◌∷◌, length, take, bytes_eq, codes, if◌then◌else◌}
 use Rattle.assembler.specs.declared.errors.AsmErrorKind.{AsmErrorKind}
 use Rattle.assembler.specs.declared.errors.AsmErrorKind.TheVariants.{UnknownByte, NoForm, OutOfRange, DefinedTwice, NotDefined, TooFar, MapLine, NoMap, NotOneValue, PastValue, LateVersion, Memory, SlotCount}
@@ -8,7 +8,7 @@ use Rattle.assembler.specs.declared.errors.AsmErrorKind.TheVariants.{UnknownByte
 abbrev pub begins : List ℕ → List ℕ → Bool
 begins bs front = nat_le (length front) (length bs) && bytes_eq (take (length front) bs) front
 
--- these stand somewhere in bytes
+-- these occur somewhere in the bytes
 abbrev pub has : List ℕ → List ℕ → Bool
 has [] part = false
 has (b ∷ bs) part = begins (b ∷ bs) part || has bs part

@@ -11,7 +11,7 @@ use Rattle.assembler.specs.declared.wrong.Wrong.TheVariants.{Form, Range}
 use Rattle.assembler.specs.Operands.{◌>>=◌, keep, is_name, number_at}
 use Rattle.assembler.specs.Statements.{statement_of, map_line}
 
--- ---- what stands after a label
+-- ---- what follows a label
 
 -- whether a map line begins with that token
 abbrev pub begins_map_line : Option Token → Bool
@@ -38,7 +38,8 @@ spelled ts =
     else if begins_map_line (slice_get ts 0) then (map_line ts >>= λ row. Ok (Row row))
     else (statement_of ts >>= λ r. Ok (Instruction r))
 
--- what the tokens of a statement spell, behind a label of that many; a version line has none
+-- what the tokens of a statement spell after a label of that many tokens; a version line has no
+-- label
 abbrev pub spelled_behind : ℕ → List Token → Result Statement Wrong
 spelled_behind k ts =
     if begins_version_line (slice_get ts 0) then (if k == 0 then version_line ts else Err Form) else spelled ts

@@ -1,4 +1,4 @@
--- Map lines, loads of maps and version lines that a program has no place for.
+-- Map lines, loads of maps and version lines that are not allowed where they are.
 use Rattle.std.specs.Prelude.{ℕ, ◌+◌, ◌==◌, ◌&&◌, nat_lt, nat_le, Bool, if◌then◌else◌, List, length, slice_get, sum_by, Option, Some, None}
 use Rattle.isa_model.specs.declared.map_defs.MapDef.{MapDef}
 use Rattle.isa_model.specs.declared.instructions.Insn.{Insn}
@@ -13,8 +13,8 @@ use Rattle.assembler.specs.declared.wrong.Objection.{Objection}
 
 -- ---- map lines
 
--- whether the row may stand behind these: no instruction comes before it, it is one of the 16, and it is within the limits
--- of a row and of all rows
+-- whether the row may follow these: no instruction comes before it, it is one of the 16, and it is
+-- within the limits of a row and of all rows
 abbrev pub takes_row : List Insn → List MapDef → MapDef → Bool
 takes_row insns maps row =
     (length insns == 0) && (nat_lt (length maps) MAX_MAPS && (row_fits row && nat_le (sum_by room_of maps + room_of row) MAX_MAP_ROOM))
@@ -40,7 +40,7 @@ objection_to_load maps i = None
 
 -- ---- statements
 
--- what is wrong with the statement, the first of all or not, behind these instructions and map rows
+-- what is wrong with the statement, the first of all or not, after these instructions and map rows
 abbrev pub objection : Bool → List Insn → List MapDef → Statement → Option Objection
 objection first insns maps Empty = None
 objection first insns maps Version = if first then None else Some (record { kind = LateVersion; token = 0 })

@@ -8,7 +8,8 @@ use Rattle.assembler.specs.declared.refusals.Refusal.{Refusal}
 use Rattle.assembler.specs.declared.names.Use.{Use}
 use Rattle.assembler.specs.Operands.{◌>>=◌}
 
--- an instruction that jumps to a name: its place among the instructions, its slot, the name, and where it stands in the text
+-- an instruction that jumps to a name: its index among the instructions, its slot, the name, and
+-- the name's offset in the text
 pub record NameUse : Type 0 where
   pub index : ℕ
   pub slot : ℕ
@@ -41,7 +42,7 @@ abbrev pub or_too_far : Option Insn → Result Insn AsmErrorKind
 or_too_far None = Err TooFar
 or_too_far (Some i) = Ok i
 
--- an instruction at a slot, over the distance to where its name stands
+-- an instruction at a slot, with the distance to the slot of its name
 abbrev pub aim : Option ℕ → ℕ → Insn → Result Insn AsmErrorKind
 aim None from i = Err NotDefined
 aim (Some to) from i = or_too_far (aimed i (distance from to))

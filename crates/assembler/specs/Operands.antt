@@ -68,7 +68,7 @@ number_at ts i = token_at ts i >>= as_number
 abbrev pub word_at : List Token → ℕ → Result Word Wrong
 word_at ts i = token_at ts i >>= as_word
 
--- the signs that stand between other tokens
+-- the signs between other tokens
 abbrev pub is_sign : Sign → Sign → Bool
 is_sign sign.Open sign.Open = true
 is_sign sign.Close sign.Close = true
@@ -139,7 +139,7 @@ extension_of Full64 S8 = Ok Full8
 extension_of Full64 S16 = Ok Full16
 extension_of Full64 S32 = Ok Full32
 
--- ---- numbers in their ranges; `at` is the token at which the number or its minus stands
+-- ---- numbers in their ranges; `at` is the index of the number or of its minus
 
 -- from -half up to below half
 abbrev pub signed_within : ℕ → ℕ → Bool → ℕ → Result ℤ Wrong
@@ -218,7 +218,7 @@ abbrev pub as_narrow : Word → Result Narrow Wrong
 as_narrow (word.SignExtended size) = Ok size
 as_narrow x = Err Form
 
--- ---- targets: a distance, and where a name stands in its place
+-- ---- targets: a distance, or the index of a name in its place
 
 -- all words but pc are names
 abbrev pub is_name : Word → Bool
@@ -236,7 +236,8 @@ target_at half ts i = token_at ts i >>= target_token half ts i
 
 -- ---- maps
 
--- a number without a sign; one past the greatest stands as that, which is out of a map's limits as well
+-- a number without a sign; a number past the greatest counts as the greatest, which is out of a
+-- map's limits as well
 abbrev pub field_at : ℕ → List Token → ℕ → Result ℕ Wrong
 field_at most ts i = number_at ts i >>= λ n. Ok (if nat_le n most then n else most)
 

@@ -5,7 +5,7 @@ use Rattle.lexer.specs.Lexing.{is_line_byte}
 use Rattle.assembler.specs.declared.errors.AsmError.{AsmError}
 use Rattle.assembler.specs.declared.refusals.Refusal.{Refusal}
 
--- the line of the byte that stands after these
+-- the line of the byte after these
 abbrev pub line_behind : List ℕ → ℕ
 line_behind front = count_by (λ b. b == 10) front + 1
 

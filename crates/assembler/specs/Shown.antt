@@ -7,11 +7,11 @@ use Rattle.assembler.specs.Hints.{hint}
 
 -- ---- the line
 
--- what stands behind the first line feed
+-- what follows the first line feed
 abbrev pub after_line : List ℕ → List ℕ
 after_line bs = drop 1 (drop (prefix_len is_line_byte bs) bs)
 
--- what stands behind that many lines
+-- what follows that many lines
 abbrev pub after_lines : ℕ → List ℕ → List ℕ
 after_lines zero bs = bs
 after_lines (suc n) bs = after_line (after_lines n bs)
@@ -29,7 +29,7 @@ from column bs = drop (column - 1) bs
 
 -- ---- what is shown of it
 
--- tabs and what ASCII prints stand for themselves, and a question mark for every other byte
+-- tabs and printable ASCII as they are, and a question mark for every other byte
 abbrev pub shown_byte : ℕ → ℕ
 shown_byte b = if (b == 9) || (nat_le 32 b && nat_lt b 127) then b else 63
 

@@ -91,12 +91,12 @@ reg w r = Named (word.Register w r)
 abbrev pub IsSigned : ℕ → Sign → ℕ → ℤ → Type 0
 IsSigned half s n k = ((s ≡ sign.Plus) × (n < half) × (k ≡ pos n)) ⊎ ((s ≡ sign.Minus) × (n ≤ half) × (k ≡ neg_ℤ (pos n)))
 
--- N: a number of 32 bits, after a minus or alone
+-- N: a number of 32 bits, with or without a minus
 abbrev pub IsConstant : List Token → ℤ → Type 0
 IsConstant ts k =
     ((n : ℕ) × (ts ≡ Number n ∷ []) × (n < 2 ^ 31) × (k ≡ pos n)) ⊎ ((n : ℕ) × (ts ≡ Signed sign.Minus ∷ Number n ∷ []) × (n ≤ 2 ^ 31) × (k ≡ neg_ℤ (pos n)))
 
--- N of 64 bits, as it stands in a register
+-- N of 64 bits, as a register holds it
 abbrev pub IsWide : List Token → ℕ → Type 0
 IsWide ts k =
     ((n : ℕ) × (ts ≡ Number n ∷ []) × (n < 2 ^ 64) × (k ≡ n))
@@ -107,15 +107,15 @@ abbrev pub IsOperand : Width → List Token → Operand → Type 0
 IsOperand w ts (Register r) = ts ≡ reg w r ∷ []
 IsOperand w ts (Constant k) = IsConstant ts k
 
--- a number without a sign; one past the greatest of its field stands for that
+-- a number without a sign; a number past the greatest of its field counts as the greatest
 abbrev pub field : ℕ → ℕ
 field n = if nat_le n 4294967295 then n else 4294967295
 
--- R + n or R - n, with what stands behind it
+-- R + n or R - n, with what follows it
 abbrev pub place : Reg → Sign → ℕ → List Token → List Token
 place base s n rest = reg Full64 base ∷ Signed s ∷ Number n ∷ rest
 
--- *(size *)(P), with what stands behind it
+-- *(size *)(P), with what follows it
 abbrev pub memory : Word → Reg → Sign → ℕ → List Token → List Token
 memory size base s n rest = Signed sign.Star ∷ Signed sign.Open ∷ Named size ∷ Signed sign.Star ∷ Signed sign.Close ∷ Signed sign.Open ∷ place base s n (Signed sign.Close ∷ rest)
 

@@ -49,11 +49,11 @@ abbrev pub wide : Width → Reg → List Token → Bool → ℕ → Result Readi
 wide w d ts minus i =
     if is_full w then (number_at ts i >>= wide_within 2 minus >>= λ n. plain (insn.LoadNumber d n) ts (i + 2)) else Err Form
 
--- a number at index i, alone or with `ll`
+-- a number at index i, with or without `ll`
 abbrev pub number_or_wide : Width → Reg → List Token → Bool → ℕ → Result Reading Wrong
 number_or_wide w d ts minus i = if wide_at ts (i + 1) then wide w d ts minus i else arithmetic op.Mov w d ts
 
--- what stands after `R = -`
+-- what follows `R = -`
 abbrev pub negated : Width → Reg → List Token → Token → Result Reading Wrong
 negated w d ts (Named x) = again_at w d ts 3 >>= λ u. plain (insn.Neg w d) ts 4
 negated w d ts t = number_or_wide w d ts true 3
@@ -112,7 +112,7 @@ moved_word Full64 d ts word.MapByIndex = map_loaded d ts
 moved_word Full64 d ts word.MapValue = map_value_loaded d ts
 moved_word w d ts x = arithmetic op.Mov w d ts
 
--- what stands after `R =`
+-- what follows `R =`
 abbrev pub moved : Width → Reg → List Token → Token → Result Reading Wrong
 moved w d ts (Number n) = number_or_wide w d ts false 2
 moved w d ts (Named x) = moved_word w d ts x
@@ -158,7 +158,7 @@ is_goto x = false
 abbrev pub goto_at : List Token → ℕ → Result (ℤ × Option ℕ) Wrong
 goto_at ts i = word_at ts i >>= λ x. if is_goto x then target_at (2 ^ 15) ts (i + 1) else Err Form
 
--- what stands after `if R`
+-- what follows `if R`
 abbrev pub condition : Width → Reg → List Token → Result Reading Wrong
 condition w d ts =
     sign_at ts 2 >>= comparison_of >>= λ c. operand_at w ts 3 >>= λ (x : Operand × ℕ). goto_at ts x.1 >>= λ (t : ℤ × Option ℕ).
@@ -168,12 +168,12 @@ abbrev pub tested : List Token → Word → Result Reading Wrong
 tested ts (word.Register w d) = condition w d ts
 tested ts x = Err Form
 
--- a word after `call`: pc with a distance behind it, or a name
+-- a word after `call`: pc and a distance, or a name
 abbrev pub called_word : List Token → Word → Result Reading Wrong
 called_word ts word.Pc = signed_at (2 ^ 31) ts 2 >>= λ by. plain (insn.CallLocal by) ts 4
 called_word ts x = keep (length ts == 2) (record { insn = insn.CallLocal (pos 0); name = Some 1 })
 
--- what stands after `call`: a word, or the number of a helper
+-- what follows `call`: a word, or the number of a helper
 abbrev pub called : List Token → Token → Result Reading Wrong
 called ts (Named x) = called_word ts x
 called ts t = constant_at ts 1 >>= λ (k : ℤ × ℕ). plain (insn.CallHelper k.0) ts k.1

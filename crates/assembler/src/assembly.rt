@@ -17,7 +17,7 @@ use isa_model::{Insn, MapDef, Version};
 use lexer::lexeme_at;
 use std::alloc::Global;
 
-// What stands after that many bytes, and at least one.
+// What follows that many bytes, at least one.
 fn after(bytes: &[u8], count: usize) -> &[u8]
     requires { 0 < length bytes.now }
     ensures value { result.now ≡ drop (count - 1) (drop 1 bytes.now) }
@@ -62,8 +62,8 @@ fn read<'a>(alloc: Global, text: &'a [u8]) -> Result<Draft<'a>, Refusal>
     }
 }
 
-// The image of this version, these map rows and instructions, of which all else that is refused was
-// so statement by statement.
+// The image of this version, these map rows and instructions. All other refusals were made
+// statement by statement.
 fn image_with(
     alloc: Global,
     version: Version,

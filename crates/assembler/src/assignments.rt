@@ -33,7 +33,7 @@ fn arithmetic(op: AluOp, width: Width, register: Reg, tokens: &[Token]) -> Resul
     plain(Insn::Alu(width, op, register, operand), tokens, end)
 }
 
-// Whether `ll` stands at the index.
+// Whether the token at the index is `ll`.
 fn wide_at(tokens: &[Token], i: usize) -> bool
     ensures { result ≡ wide_at tokens.now i }
 {
@@ -79,7 +79,7 @@ fn number_or_wide(
     }
 }
 
-// What stands after `R = -`.
+// What follows `R = -`.
 fn negated(width: Width, register: Reg, tokens: &[Token], token: Token) -> Result<Reading, Wrong>
     ensures { result ≡ negated width register tokens.now token }
 {
@@ -207,7 +207,7 @@ fn moved_word(width: Width, register: Reg, tokens: &[Token], word: Word) -> Resu
     }
 }
 
-// What stands after `R =`.
+// What follows `R =`.
 fn moved(width: Width, register: Reg, tokens: &[Token], token: Token) -> Result<Reading, Wrong>
     ensures { result ≡ moved width register tokens.now token }
 {

@@ -68,7 +68,7 @@ impl<'a> Draft<'a> {
         }
     }
 
-    /// Takes what stands next in the text.
+    /// Takes the next lexeme of the text.
     pub fn accept(&mut self, lexeme: Lexeme, span: Span<'a>) -> Result<(), Refusal>
         ensures { Answers (λ _. progress_of self.new) result
             (accept (progress_of self.old) lexeme (place_of span.entry)) }

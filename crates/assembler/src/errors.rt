@@ -38,7 +38,7 @@ pub enum AsmErrorKind {
 }
 
 impl AsmErrorKind {
-    /// Its number in the documents, such as `A1`.
+    /// Its code in docs/REFUSALS.md, such as `A1`.
     pub fn code(self) -> &'static str
         ensures { result.now ≡ code_of self }
     {

@@ -12,7 +12,7 @@ fn begins(bytes: &[u8], front: &[u8]) -> bool
     front.len() <= bytes.len() && &bytes[..front.len()] == front
 }
 
-// Whether these stand somewhere in bytes.
+// Whether these occur somewhere in the bytes.
 fn has(bytes: &[u8], part: &[u8]) -> bool
     ensures { result ≡ has bytes.now part.now }
 {

@@ -104,8 +104,8 @@ fn objection_to_load(maps: &[MapDef], insn: Insn) -> Option<Objection>
     }
 }
 
-/// What is wrong with the statement behind these instructions and map rows: a map line that they do
-/// not take, or the load of a map that they do not have; or a version line that is not the first
+/// What is wrong with the statement after these instructions and map rows: a map line that may not
+/// follow them, or the load of a map that they do not have; or a version line that is not the first
 /// statement.
 pub fn objection(
     first: bool,

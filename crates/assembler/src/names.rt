@@ -9,10 +9,10 @@ use super::refusals::Refusal;
 use indexmap::IndexMap;
 use isa_model::Insn;
 
-/// The names and the slot that each stands for, in the order of their definitions.
+/// The names with their slots, in the order of their definitions.
 pub type Labels<'a> = IndexMap<&'a [u8], u16>;
 
-/// An instruction that jumps to a name: where it stands, and where the name stands in the text.
+/// An instruction that jumps to a name: where it is, and where the name is in the text.
 #[derive(Clone, Copy)]
 pub struct Use<'a> {
     pub index: usize,
@@ -21,7 +21,7 @@ pub struct Use<'a> {
     pub offset: usize,
 }
 
-// The slot that the name stands for.
+// The slot that the name means.
 #[tactic(auto, using(crate::proofs::LabelLookups::lookup_label))]
 fn slot_of(labels: &Labels<'_>, name: &[u8]) -> Option<u16>
     ensures { result ≡ slot_in (map label_of labels.now.entries) name.now }

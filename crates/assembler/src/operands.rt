@@ -75,7 +75,7 @@ pub fn signed_imm(tokens: &[Token], i: usize) -> Result<i32, Wrong>
     Ok(signed_at(1 << 31, tokens, i)? as i32)
 }
 
-// Whether a minus stands at this token, and where the number then stands.
+// Whether this token is a minus, and the index of the number.
 fn number_index(i: usize, token: Token) -> Result<(bool, usize), Wrong>
     requires { i < 16 }
     ensures index { result ≡ number_index i token }
@@ -252,7 +252,7 @@ fn target_token(
     }
 }
 
-/// The target of `goto` and `if`, up to the end: a distance, or 0 and where a name stands.
+/// The target of `goto` and `if`, up to the end: a distance, or 0 and the index of a name.
 pub fn near_target_at(tokens: &[Token], i: usize) -> Result<(i16, Option<usize>), Wrong>
     requires { i < 8 }
     ensures { result ≡ target_at (2 ^ 15) tokens.now i }
@@ -261,7 +261,7 @@ pub fn near_target_at(tokens: &[Token], i: usize) -> Result<(i16, Option<usize>)
     Ok((by as i16, name))
 }
 
-/// The target of `gotol`, up to the end: a distance, or 0 and where a name stands.
+/// The target of `gotol`, up to the end: a distance, or 0 and the index of a name.
 pub fn far_target_at(tokens: &[Token], i: usize) -> Result<(i32, Option<usize>), Wrong>
     requires { i < 8 }
     ensures { result ≡ target_at (2 ^ 31) tokens.now i }

@@ -66,7 +66,7 @@ fn is_sign(sign: Sign, wanted: Sign) -> bool
     }
 }
 
-/// The wanted sign stands at the index: one of `(`, `)`, `*`, `,`, `=` and `+`.
+/// The wanted sign is at the index: one of `(`, `)`, `*`, `,`, `=` and `+`.
 pub fn expect_at(tokens: &[Token], i: usize, wanted: Sign) -> Result<(), Wrong>
     ensures { result ≡ expect_at tokens.now i wanted }
 {

@@ -1,4 +1,4 @@
-//! Refusals, and the lines and columns that they stand at.
+//! Refusals with their lines and columns.
 
 ghost use Rattle.std.specs.Prelude.{◌≡◌};
 ghost use Rattle.assembler.specs.Positions.{line_behind, column_behind, error_at};

@@ -12,7 +12,7 @@ use std::alloc::{AllocError, Global};
 /// The most bytes of a line that is shown.
 const MAX_SHOWN: usize = 160;
 
-// What stands behind the first line feed.
+// What follows the first line feed.
 fn after_line(text: &[u8]) -> &[u8]
     ensures { result.now ≡ after_line text.now }
 {
@@ -22,7 +22,7 @@ fn after_line(text: &[u8]) -> &[u8]
     }
 }
 
-// What stands behind that many lines.
+// What follows that many lines.
 fn after_lines(text: &[u8], count: usize) -> &[u8]
     ensures { result.now ≡ after_lines count text.now }
 {
@@ -91,7 +91,7 @@ fn shown_bytes(alloc: Global, line: &[u8]) -> Result<String, AllocError>
     Ok(text)
 }
 
-// What stands below these bytes in front of the caret.
+// What is written below these bytes, before the caret.
 fn padding(alloc: Global, front: &[u8]) -> Result<String, AllocError>
     ensures { IfOk result (λ text. string_bytes text ≡ map padding_byte front.now) }
 {
@@ -115,8 +115,8 @@ fn shown_line(alloc: Global, line: &[u8], column: usize) -> Result<String, Alloc
     format!(in alloc; "{shown}\n{padding}^\n")
 }
 
-/// What is told of a text that is refused, after the sentence and the place: the line with a caret
-/// under the column, and what helps.
+/// The message about a text that is refused, after the sentence and the place: the line with a
+/// caret under the column, and a hint.
 pub fn shown(alloc: Global, text: &[u8], error: AsmError) -> Result<String, AllocError>
     ensures { IfOk result (λ told. string_bytes told ≡ shown text.now error) }
 {

@@ -94,7 +94,7 @@ fn goto_at(tokens: &[Token], i: usize) -> Result<(i16, Option<usize>), Wrong>
     }
 }
 
-// What stands after `if R`.
+// What follows `if R`.
 fn condition(width: Width, register: Reg, tokens: &[Token]) -> Result<Reading, Wrong>
     ensures { result ≡ condition width register tokens.now }
 {
@@ -122,7 +122,7 @@ fn tested(tokens: &[Token], word: Word) -> Result<Reading, Wrong>
     }
 }
 
-// A word after `call`: `pc` with a distance behind it, or a name.
+// A word after `call`: `pc` and a distance, or a name.
 fn called_word(tokens: &[Token], word: Word) -> Result<Reading, Wrong>
     ensures { result ≡ called_word tokens.now word }
 {
@@ -144,7 +144,7 @@ fn called_word(tokens: &[Token], word: Word) -> Result<Reading, Wrong>
     }
 }
 
-// What stands after `call`: a word, or the number of a helper.
+// What follows `call`: a word, or the number of a helper.
 fn called(tokens: &[Token], token: Token) -> Result<Reading, Wrong>
     ensures { result ≡ called tokens.now token }
 {
@@ -185,8 +185,8 @@ fn by_token(tokens: &[Token], token: Token) -> Result<Reading, Wrong>
 
 /// The instruction that the tokens of a statement without a label spell.
 ///
-/// Forms are tried from left to right. `Wrong::Range` may come of tokens that no form fits whatever
-/// their numbers are.
+/// Forms are tried from left to right. `Wrong::Range` is also possible for tokens that fit no form,
+/// whatever their numbers are.
 #[tactic(auto, unfolding(crate::specs::Statements::statement_of))]
 pub fn statement_of(tokens: &[Token]) -> Result<Reading, Wrong>
     ensures { result ≡ statement_of tokens.now }
@@ -246,7 +246,7 @@ pub fn fits_form(tokens: &[Token]) -> bool
         || statement_of(tokens).is_ok()
 }
 
-/// What the tokens of a statement spell, behind a label of that many.
+/// What the tokens of a statement spell after a label of that many tokens.
 pub fn spelled_behind(label: usize, tokens: &[Token]) -> Result<Statement, Wrong>
     ensures { result ≡ spelled_behind label tokens.now }
 {

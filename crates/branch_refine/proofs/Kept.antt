@@ -53,7 +53,7 @@ holder_operand : (a : State) (w : Width) (operand : Operand) (numbers : Scalar) 
 holder_operand a w (Constant k) numbers h = λ end. absurd (cc)
 holder_operand a w (Register r) numbers h = λ end. holder a r numbers h (cc)
 
--- a constant as it stands in a register, or as an operand
+-- a constant in a register, or as an operand
 pub just_number : (k : Kind) (numbers : Scalar) (x : ℕ) → Some numbers ≡ numbers_in k → IsJust k x
     → Has numbers x × IsConstant numbers x
 just_number k numbers x h just = subst (λ k. IsJust k x) (kind_is k numbers h) just

@@ -16,7 +16,7 @@ abbrev pub numbers_in : Kind → Option Scalar
 numbers_in (Number numbers) = Some numbers
 numbers_in k = None
 
--- the numbers of an operand; a constant is one alone
+-- the numbers of an operand; a constant is only one
 abbrev pub AreNumbersOf : State → Width → Operand → Option Scalar → Type 0
 AreNumbersOf a w (Constant k) (Some numbers) = Has numbers (unsigned w k) × IsConstant numbers (unsigned w k)
 AreNumbersOf a w (Constant k) None = ⊥

@@ -54,7 +54,8 @@ AreCompared a cond = IsNumber (kind_of a cond.register) × IsNumberOperand a con
 
 -- ---- what is kept
 
--- each machine state that goes this way is still meant, under the same assignment; so there is none if none is kept
+-- each member that goes this way is still one, under the same assignment; if the state has no
+-- members left, no member goes this way
 unfoldable pub Keeps : Cond → Bool → State → Bool → State → Type 0
 Keeps cond taken a some b =
     (p : Program) (e : Assigned) (s : Machine.State) → MeansBy p e a s → test_of s cond ≡ Ok taken
@@ -77,7 +78,7 @@ pub record Narrows (a b : State) : Type 0 where
 abbrev pub KeepsOthers : Cond → State → State → Type 0
 KeepsOthers cond a b = (r : Reg) → (Names cond r → ⊥) → kind_of b r ≡ kind_of a r
 
--- two numbers are compared, and in their place in b stand those that the comparison leaves of them
+-- two numbers are compared, and b has in their place those that the comparison leaves of them
 pub record Refined (cond : Cond) (taken : Bool) (a b : State) : Type 0 where
   pub left : Scalar
   pub right : Scalar

@@ -17,7 +17,7 @@ pub enum Outcome {
     Same,
     /// These numbers are left of the two that are compared.
     Narrowed(Scalar, Scalar),
-    /// This holds of all values that it speaks of.
+    /// This holds of all values that it is about.
     Learned(Fact),
 }
 

@@ -1,4 +1,4 @@
--- What a writer with a buffer holds, and whether it has failed.
+-- The bytes of a buffered writer, and whether it has failed.
 use Rattle.std.specs.Prelude.{◌≡◌, ℕ, List, Option, Result, Ok, Err}
 use Rattle.std.specs.IoError.{error_kind}
 use Rattle.std.specs.Io.Buffered.{writer_buffer, writer_inner}
@@ -11,11 +11,11 @@ use Rattle.buffered_io.specs.declared.PromptWriter.{PromptWriter}
 abbrev pub behind : {W : Type 0} → PromptWriter W → W
 behind w = writer_inner w.buffered
 
--- what waits in the buffer
+-- the bytes in the buffer, which are not written yet
 abbrev pub waiting : {W : Type 0} → PromptWriter W → List ℕ
 waiting w = writer_buffer w.buffered
 
--- how many bytes are still to go through at once
+-- how many more bytes are written through without waiting in the buffer
 abbrev pub prompt_left : {W : Type 0} → PromptWriter W → ℕ
 prompt_left w = w.prompt
 
@@ -23,7 +23,7 @@ prompt_left w = w.prompt
 abbrev pub failure_of : {W : Type 0} → PromptWriter W → Option ErrorKind
 failure_of w = w.failure
 
--- what the writer behind the buffer holds, where it tells, and then what waits
+-- what the inner writer has taken, where that is known, and then the bytes in the buffer
 abbrev pub held : {W : Type 0} → (W → Option (List ℕ)) → PromptWriter W → Option (List ℕ)
 held contents w = append_known (contents (behind w)) (waiting w)
 

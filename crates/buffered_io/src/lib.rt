@@ -1,4 +1,4 @@
-//! A writer with a buffer, through which the first bytes go at once, and which says why it failed.
+//! A buffered writer that writes its first bytes through at once, and remembers why it failed.
 //!
 //! std's `BufWriter` keeps all bytes until it is full. A file that cannot be written is then found
 //! only when much else has been done.
@@ -13,10 +13,10 @@ use std::alloc::Global;
 use std::io;
 use std::io::{BufWriter, ErrorKind, Write};
 
-/// A writer with a buffer. What waits in the buffer when this is dropped is not written.
+/// A buffered writer. Bytes that are in the buffer when it is dropped are not written.
 ///
 /// A write or a flush that fails is the last one: each later one fails for the same reason, and
-/// nothing is tried again. A write that the writer behind answers by no byte fails with
+/// nothing is tried again. A write of which the inner writer takes no byte fails with
 /// `ErrorKind::WriteZero`.
 pub struct PromptWriter<W: Write + Drop> {
     buffered: BufWriter<W>,
@@ -29,7 +29,7 @@ pub struct PromptWriter<W: Write + Drop> {
 impl<W: Write + Drop> PromptWriter<W> {
     ghost use Rattle.buffered_io.specs.Waiting.{behind, failure_of, held, prompt_left, waiting};
 
-    /// Puts a buffer in front of a writer. The first `prompt` bytes go through it at once.
+    /// Puts a buffer in front of a writer. The first `prompt` bytes are written through at once.
     pub fn new(alloc: Global, capacity: usize, prompt: usize, writer: W) -> io::Result<Self>
         ensures behind { IfOk result (λ w. behind w ≡ writer) }
         ensures empty { IfOk result (λ w. waiting w ≡ []) }

@@ -1,4 +1,4 @@
--- What the checked machine's fields stand for.
+-- The state that the checked machine's fields mean.
 use Rattle.std.specs.Prelude.{◌≡◌, ℕ, ◌+◌, ◌≤◌, List, length, slice_index_or, Option, Some, None, Result, Ok, Err, MatchResult, vec_len, vec_capacity}
 use Rattle.isa_model.specs.declared.instructions.Insn.{Insn}
 use Rattle.isa_model.specs.declared.map_defs.MapDef.{MapDef}

@@ -7,7 +7,7 @@ use std::alloc::AllocError;
 use std::error::Error;
 use std::fmt;
 
-/// Why a machine was not made. The documents give it no code.
+/// Why a machine was not made. It has no code.
 #[derive(Clone, Copy, PartialEq, Eq, Debug)]
 pub enum VmError {
     /// Out of memory.

@@ -1,11 +1,11 @@
 //! A machine with tagged values: it runs any program, and stops at the first undefined use with its
 //! reason.
 //!
-//! `checked` is the machine that callers see. Under it stand whole runs (`runs`), single steps with
+//! `checked` is the machine that callers see. Under it are whole runs (`runs`), single steps with
 //! the tests before them (`steps`), one function for each form of instruction (`forms`), what these
-//! do to memory (`memory`), and the machine's registers and call frames (`core_state`).
-//! `values`, `comparisons`, `cells` and `places` compute on values only. Each function answers what
-//! the definition of its name in `isa_model` says.
+//! do to memory (`memory`), and the machine's registers and call frames (`core_state`). `values`,
+//! `comparisons`, `cells` and `places` compute on values only. Each function answers what the
+//! definition of its name in `isa_model` says.
 #![tactic(auto)]
 
 mod cells;

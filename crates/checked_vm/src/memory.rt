@@ -158,7 +158,7 @@ impl Core {
         }
     }
 
-    /// The number at a place, of which a pointer is none.
+    /// The number at a place; a pointer there is a trap.
     pub fn load_number(
         &self,
         packet: &[u8],

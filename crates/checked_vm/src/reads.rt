@@ -52,7 +52,7 @@ fn bytes_at(bytes: &[u8], at: Option<usize>, n: usize) -> Result<&[u8], TrapReas
 }
 
 impl Core {
-    /// Where n cells stand in a live frame: the frame's place and the first cell's index.
+    /// Where n cells of a live frame are: the frame's index and the first cell's.
     pub fn place_in_frame(
         &self,
         serial: u64,

@@ -118,7 +118,7 @@ pub fn arithmetic(op: AluOp, width: Width, a: Value, b: Value) -> Result<Value, 
     }
 }
 
-/// The number that an operation on a number alone takes.
+/// The number that an operation takes which is defined on numbers only.
 fn number_alone(value: Value) -> Result<u64, TrapReason>
     ensures { (f : ℕ → ℕ) → on_number f value ≡ and_then result (λ n. Ok (Value.Num (f n))) }
 {

@@ -1,6 +1,6 @@
 //! Tests of the program's commands, on files that the tests write.
 //!
-//! They stand here, since a crate with tests is proved twice.
+//! They are here, since a crate with tests is proved twice.
 #![tactic(auto)]
 
 #[cfg(test)]

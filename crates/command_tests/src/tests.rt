@@ -170,7 +170,7 @@ fn are_equal<R: Files + AllocGlobal + Abort>(rt: &R, one: &str, other: &str) -> 
 }
 
 // The same where standard output breaks after some bytes: the status is 4, the output has the front
-// of the report, and the reason is told.
+// of the report, and standard error says the reason.
 fn breaks<R: Files + AllocGlobal + Abort>(
     rt: &R,
     texts: &[&str],

@@ -91,7 +91,7 @@ told_refused NoMemory why old new k e h = absurd (omega arith)
 pub told_plain : (o : Outcome) (old new : Option (List ℕ)) → status_of o ≡ 2 → AppendsPart old new (message_of o) → IsTold old new
 told_plain o old new e h = told_refused o None old new (inl refl) e h
 
--- a task of which standard error has nothing to say has nothing known beside its end
+-- a task without a message on standard error has nothing known beside its end
 pub unsaid_knows : (o : Outcome) (why : Option (String Global)) → Knows o why → is_unsaid o ≡ true → why ≡ None
 unsaid_knows o why (inl none) e = none
 unsaid_knows Done why (inr (inl (p, none))) e = none
@@ -175,7 +175,7 @@ faulted_by (Recheck files) o why old new k e h = told_faulted o why old new k e 
 faulted_by (Assemble text image) o why old new k e h = told_faulted o why old new k e h
 faulted_by (Disassemble path) o why old new k e h = told_faulted o why old new k e h
 
--- a task that did all, of which standard error has nothing to say
+-- a task that did everything, without a message on standard error
 quiet : (words : List (List ℕ)) (o : Outcome) (why : Option (String Global)) (old new : Option (List ℕ)) → Knows o why → status_of o ≡ 0 → (is_unsaid o ≡ true → why ≡ None → new ≡ old) → TellsDone words old new
 quiet words o why old new k e unsaid = let none = unsaid_done o e in inl (unsaid none (unsaid_knows o why k none))
 

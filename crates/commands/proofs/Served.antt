@@ -27,7 +27,7 @@ pub asked-served : {W : Type 0} (contents : W → Option (List ℕ)) (words : Li
 asked-served contents words request old given new ended r is h on =
     inr (record { given = given; ended = ended; serves = subst (λ (x : Option Request). Serves x (held contents old) (held contents given) ended) (sym is) h; hands_on = on })
 
--- what is told to be wrong for some reason is wrong
+-- what is said to be wrong for some reason is wrong
 wrong : (text : List ℕ) (o : Outcome) → IsWrong text o → IsWrongWords o
 wrong text (WrongWords said) h = tt
 wrong text Done h = absurd h

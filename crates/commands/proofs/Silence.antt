@@ -1,4 +1,4 @@
--- A task of which standard output has got nothing left it as it was.
+-- A task that wrote nothing to standard output left it as it was.
 use Rattle.std.proofs.Common.{◌≡◌, ◌∙◌, ◌≤◌, ℕ, List, Option, Some, None, Result, Ok, Err, Bool, true, false, ap, refl, sym, inl, inr, ◌⊎◌, arith}
 use Rattle.std.proofs.lemmas.Bool.{both_ways, false≢true}
 use Rattle.std.specs.declared.io.ErrorKind.{ErrorKind}
@@ -62,7 +62,7 @@ at_loud : (fault : Option (Fault × ℕ)) → is_silent (outcome_at fault) ≡ f
 at_loud None = refl
 at_loud (Some (fault, at)) = refl
 
--- a run of which standard output has got nothing lacked memory
+-- a run that wrote nothing to standard output lacked memory
 ends_silent : (name : List ℕ) (cause : Option ErrorKind) (ended : Result Tally HostError) (r : Outcome) → EndsBy name cause ended r → is_silent r ≡ true → ended ≡ Err failure.Memory
 ends_silent name cause (Ok tally) r h e = absurd (both_ways (is_silent r) (ap is_silent h ∙ at_loud tally.fault) e)
 ends_silent name cause (Err failure.Memory) r h e = refl

@@ -41,12 +41,13 @@ abbrev pub Executes : {W : Type 0} → (W → Option (List ℕ)) → List (List 
 Executes contents words old new result =
     Plainly (LacksMemory (held contents old) (held contents new)) result ⊎ ServesWhole contents (asked words) old new result
 
--- the program does what the words ask for, answers how that ended, and says on standard error what there is to say
+-- the program does what the words ask for, answers how that ended, and writes its messages to
+-- standard error
 abbrev pub Answers : {W : Type 0} → (W → Option (List ℕ)) → List (List ℕ) → PromptWriter W → PromptWriter W → Option (List ℕ) → Option (List ℕ) → ℕ → Type 0
 Answers contents words old new before after status =
     (e : Ending) × (status ≡ status_of e.outcome) × Executes contents words old new e × AppendsPart before after (told_of e)
 
--- the words could not be got: standard error is told why, and nothing is done
+-- the words could not be read: standard error says why, and nothing is done
 abbrev pub AnswersError : {W : Type 0} → WordsError → PromptWriter W → PromptWriter W → Option (List ℕ) → Option (List ℕ) → ℕ → Type 0
 AnswersError error old new before after status =
     (o : Outcome) × IsWordsEnd error o × (status ≡ status_of o) × (new ≡ old) × AppendsPart before after (message_of o)

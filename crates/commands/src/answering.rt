@@ -20,12 +20,11 @@ use words::read_words;
 /// `Executes` what that command writes to standard output: the report of some frames by the program
 /// of some image, the verdict on it, its text, or its size. No contract can say what a file holds.
 ///
-/// The first word is the program's name. `out` stands for standard output, behind its buffer, and
-/// `err` for standard error. At status 0, 2 and 3 all that standard output was given stands behind
-/// the buffer. At status 1 and 5 it gets no byte; at 0 standard error gets none, but of a trace the
-/// frames whose runs ended without an action. At 2 it gets why something was refused and where, of
-/// a program also what is known there, and of a text its line and what helps; at 3 why the frame
-/// stream ended early.
+/// The first word is the program's name. `out` is standard output with its buffer, and `err` is
+/// standard error. At status 0, 2 and 3 all output has been written through the buffer. At status 1
+/// and 5 it gets no byte; at 0 standard error gets none, but of a trace the frames whose runs ended
+/// without an action. At 2 it gets why something was refused and where, of a program also what is
+/// known there, and of a text its line and what helps; at 3 why the frame stream ended early.
 #[tactic(auto, using(crate::proofs::Endings::statuses))]
 pub fn execute<R: Files + AllocGlobal, W1: Write + Drop, W2: Write>(
     rt: &R,
@@ -51,8 +50,8 @@ pub fn execute<R: Files + AllocGlobal, W1: Write + Drop, W2: Write>(
     }
 }
 
-/// Does what the words that the program was given ask for, and answers its status; where they could
-/// not be got, standard error is told why.
+/// Does what the program's words ask for, and answers its status; if they could not be read,
+/// standard error says why.
 pub fn answer<R: Files + AllocGlobal, W1: Write + Drop, W2: Write>(
     rt: &R,
     given: Result<Vec<String>, WordsError>,

@@ -8,7 +8,7 @@ use std::alloc::Global;
 use std::io;
 use std::io::Write;
 
-// How many bytes of standard output are written at once, where it is a file on a disk.
+// How many bytes of standard output are written at a time, if it is a file on a disk.
 const BUFFER: usize = 64 * 1024;
 
 // Standard output through which each write goes at once, and before which no memory is taken.
@@ -21,8 +21,8 @@ fn watched<W: Write + Drop>(alloc: Global, out: W) -> io::Result<PromptWriter<W>
     PromptWriter::new(alloc, 0, usize::MAX, out)
 }
 
-/// Puts the buffer in front of standard output. Where that is a file on a disk, it is written in
-/// parts of 64 KiB, and else each write goes through at once, for whoever watches.
+/// Puts the buffer in front of standard output. If that is a file on a disk, it is written in parts
+/// of 64 KiB; otherwise each write goes through immediately, for whoever watches.
 pub fn buffered<W: Write + Drop>(
     alloc: Global,
     is_stored: bool,

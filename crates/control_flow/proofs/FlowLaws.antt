@@ -68,7 +68,7 @@ fall_to-behind p slot to h = of (fetch p slot) h where
   of (Some i) e = (i, refl, (cond_some (falls_through i) (slot + slots_of i) to e).1)
   of None e = absurd cc
 
--- what follows an instruction in its function is led to
+-- a successor within the function is an edge of the graph
 pub Leads-Follows : (p : Program) (slot next : ℕ) → Follows p slot next → Leads p slot next
 Leads-Follows p slot next (i, e, inl (falls, at)) = Falls (fall_to-insn p slot i e falls ∙ ap some_slot (sym at))
 Leads-Follows p slot next (i, e, inr (by, jump, at)) = Jumps (jump_to-insn p slot i by e jump ∙ ap some_slot (sym at))

@@ -19,7 +19,7 @@ GoesTo-Follows p slot next (i, e, inr (by, jump, at)) = inr (jump_to-insn p slot
 pub IsLive-read : (p : Program) (r : Reg) (slot : ℕ) (i : Insn) → fetch p slot ≡ Some i → IsOneOf (read_registers i) r → IsLive p r slot
 IsLive-read p r slot i here reads = (zero, (i, here, reads))
 
--- what is live behind an instruction that does not write it is live before it
+-- what is live after an instruction that does not write it is live before it
 pub IsHomeLive-back : (p : Program) (h : Home) (slot next : ℕ) (i : Insn) → fetch p slot ≡ Some i
     → (IsWrittenBy i h → ⊥)
     → Follows p slot next → IsHomeLive p h next → IsHomeLive p h slot

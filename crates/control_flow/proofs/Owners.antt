@@ -99,7 +99,7 @@ same_to p slot to f g a b same =
     let down : g ≤ f = a.last g b.begins ((same.none g b.begins).1 b.before) in
     omega arith
 
--- they are told apart by their slots
+-- they differ in their slots
 pub differ : (p : Program) (slot to f g : ℕ) → IsFunctionOf p slot f → IsFunctionOf p to g → IsTrue (not (nat_eq f g)) ↔ (SameFunction p slot to → ⊥)
 differ p slot to f g a b = (
   λ h same. eqb-false f g (not-true (nat_eq f g) h) (same_to p slot to f g a b same),

@@ -31,7 +31,7 @@ pub number_below : (r : Reg) → reg_number r < 11
 number_below R10 = omega arith
 number_below r = omega arith
 
--- registers are told apart by their numbers
+-- different registers have different numbers
 pub same_number : (q r : Reg) → reg_number q ≡ reg_number r → q ≡ r
 same_number q r e =
     same_Some q r (back q ∙ ap reg_numbered e ∙ sym (back r)) where

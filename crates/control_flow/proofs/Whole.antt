@@ -60,7 +60,7 @@ leads-inside p a f slot to (Calls h) = call-inside p a slot to h
 leads-inside p a f slot to (Falls h) =
     elim (cases_lt to (length p.insns)) [ inl inside ↦ inside | inr past ↦ absurd (f slot (to, h, inl past)) ]
 
--- functions are told apart by numbers, so what is not refuted holds
+-- equality of functions is decidable, by their numbers, so what is not refuted holds
 stable : (p : Program) (slot to : ℕ) → ((SameFunction p slot to → ⊥) → ⊥) → SameFunction p slot to
 stable p slot to twice = record {
   none = λ f b. (

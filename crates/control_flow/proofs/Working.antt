@@ -25,7 +25,7 @@ use Rattle.control_flow.proofs.Graphs.{node_at, node-fall_from, node-jump_from}
 
 -- ---- one slot
 
--- what is live behind an instruction is live behind it by one of its ways
+-- what is live after an instruction is live at one of its successors
 behind_to : (p : Program) (masks : List HomeMask) (o : Option ℕ) (r : Home) → AreSound p masks
     → HasBehind masks o r → (to : ℕ) × (o ≡ Some to) × IsHomeLive p r to
 behind_to p masks None r sound h = absurd h
@@ -176,7 +176,7 @@ pub working_inside : (p : Program) (nodes : List Node) (masks : List HomeMask) (
     → frontier ≡ rest ++ slot ∷ [] → IsWorking p nodes masks found frontier → slot < length nodes
 working_inside p nodes masks found frontier rest slot popped m = m.inside slot (on_top slot frontier rest popped)
 
--- what is live behind by masks that are the same there
+-- what is live after it, by masks that are the same there
 behind_same : (old new : List HomeMask) (o : Option ℕ) (r : Home)
     → ((to : ℕ) → o ≡ Some to → mask_at new to ≡ mask_at old to) → HasBehind new o r
     → HasBehind old o r

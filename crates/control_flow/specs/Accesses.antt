@@ -8,7 +8,8 @@ use Rattle.isa_model.specs.declared.instructions.Insn.TheVariants.{CallHelper, C
 use Rattle.isa_model.specs.Code.Instructions.{writes}
 use Rattle.isa_model.specs.MustAccept.Paths.{needs}
 
--- the registers that an instruction reads: an exit reads r0, and a local call hands r1 to r5 over
+-- the registers that an instruction reads: an exit reads r0, and a local call reads its arguments
+-- r1 to r5
 abbrev pub read_registers : Insn → List Reg
 read_registers (CallLocal by) = R1 ∷ R2 ∷ R3 ∷ R4 ∷ R5 ∷ []
 read_registers i = needs i

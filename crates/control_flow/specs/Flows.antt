@@ -11,8 +11,8 @@ use Rattle.control_flow.specs.Liveness.{Home, IsHomeLive}
 
 -- ---- good programs
 
--- a jump leads to an instruction of its own function, a call to an instruction, at which a function begins, what falls
--- through goes on in its function, and every instruction can be reached
+-- a jump goes to an instruction of its own function, a call to an instruction, at which a function
+-- begins, what falls through stays in its function, and every instruction can be reached
 pub record IsFlow (p : Program) : Type 0 where
   pub jumps : (slot to : ℕ) → jump_to p slot ≡ Some to → BeginsInsn p to × SameFunction p slot to
   pub calls : (slot to : ℕ) → call_to p slot ≡ Some to → BeginsInsn p to

@@ -18,7 +18,7 @@ call_distance i = None
 abbrev pub BeginsInsn : Program → ℕ → Type 0
 BeginsInsn p slot = IsSome (fetch p slot)
 
--- the slot is the second half of a wide load: nothing else in the code begins no instruction
+-- the slot is the second half of a wide load: every other slot of the code begins an instruction
 abbrev pub IsSecondHalf : Program → ℕ → Type 0
 IsSecondHalf p slot = (slot < length p.insns) × (fetch p slot ≡ None)
 
@@ -33,12 +33,12 @@ call_to p slot = option_map (destination p slot) (option_and_then call_distance 
 abbrev pub slot_behind : ℕ → Insn → Option ℕ
 slot_behind slot i = if falls_through i then Some (slot + slots_of i) else None
 
--- the slot after the instruction at a slot, if it goes on there
+-- the slot after the instruction at a slot, if it falls through
 unfoldable pub fall_to : Program → ℕ → Option ℕ
 fall_to p slot = option_and_then (slot_behind slot) (fetch p slot)
 
--- control goes from a slot to another one. A function's return goes on after its call: that slot counts as one to which
--- the call itself leads, whether or not the function can return.
+-- control goes from a slot to another one. A function returns to the slot after its call: that slot
+-- counts as a successor of the call itself, whether or not the function can return.
 pub data Leads (p : Program) (slot to : ℕ) : Type 0 where
   Falls : fall_to p slot ≡ Some to → Leads p slot to
   Jumps : jump_to p slot ≡ Some to → Leads p slot to
@@ -46,7 +46,7 @@ pub data Leads (p : Program) (slot to : ℕ) : Type 0 where
 
 -- ---- paths
 
--- a path of n steps leads from slot 0 to the slot
+-- a path of n steps goes from slot 0 to the slot
 abbrev pub ReachedIn : Program → ℕ → ℕ → Type 0
 ReachedIn p zero slot = slot ≡ 0
 ReachedIn p (suc n) slot = (from : ℕ) × ReachedIn p n from × Leads p from slot

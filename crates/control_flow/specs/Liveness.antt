@@ -15,7 +15,7 @@ pub data Home : Type 0 where
   InRegister : Reg → Home
   InSlot : ℕ → Home
 
--- the instruction reads it. Where a frame's address is handed on, any instruction may read any slot
+-- the instruction reads it. If a frame's address is taken, any instruction may read any slot
 abbrev pub IsReadBy : Type 0 → Insn → Home → Type 0
 IsReadBy handed_on i (InRegister r) = IsOneOf (read_registers i) r
 IsReadBy handed_on i (InSlot j) = ReadsSlot i j ⊎ ((j < 64) × handed_on)
@@ -38,7 +38,7 @@ Writes p h slot = (i : Insn) × (fetch p slot ≡ Some i) × IsWrittenBy i h
 abbrev pub GoesTo : Program → ℕ → ℕ → Type 0
 GoesTo p slot to = (fall_to p slot ≡ Some to) ⊎ (jump_to p slot ≡ Some to)
 
--- a path of n steps leads from a slot to one that reads it, and nothing before writes it
+-- a path of n steps goes from a slot to one that reads it, and no instruction before writes it
 abbrev pub IsReadAfter : Program → Home → ℕ → ℕ → Type 0
 IsReadAfter p h zero slot = Reads p h slot
 IsReadAfter p h (suc n) slot = (next : ℕ) × GoesTo p slot next × (¬ Writes p h slot) × IsReadAfter p h n next

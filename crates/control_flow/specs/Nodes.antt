@@ -11,7 +11,7 @@ use Rattle.control_flow.specs.Liveness.{Home, Reads, Writes, IsHomeLive}
 
 -- ---- nodes
 
--- what the instruction at a slot reads and writes, and where control goes from it
+-- what the instruction at a slot reads and writes, and its successors
 pub record IsNode (p : Program) (slot : ℕ) (node : Node) : Type 0 where
   pub reads : (r : Home) → HasHome node.reads r ↔ Reads p r slot
   pub writes : (r : Home) → HasHome node.writes r ↔ Writes p r slot
@@ -32,7 +32,7 @@ fall_from nodes slot = option_and_then (λ (node : Node). node.falls_to) (slice_
 abbrev pub jump_from : List Node → ℕ → Option ℕ
 jump_from nodes slot = option_and_then (λ (node : Node). node.jumps_to) (slice_get nodes slot)
 
--- control comes to a slot from another one
+-- control goes to a slot from another one
 abbrev pub ComesFrom : List Node → ℕ → ℕ → Type 0
 ComesFrom nodes to slot = (fall_from nodes slot ≡ Some to) ⊎ (jump_from nodes slot ≡ Some to)
 
@@ -47,7 +47,7 @@ abbrev pub HasBehind : List HomeMask → Option ℕ → Home → Type 0
 HasBehind masks None r = ⊥
 HasBehind masks (Some to) r = HasHome (mask_at masks to) r
 
--- the instruction reads it, or leaves it to one behind it that has it
+-- the instruction reads it, or does not write it and it is live after the instruction
 abbrev pub IsLiveBefore : List HomeMask → Node → Home → Type 0
 IsLiveBefore masks node r = HasHome node.reads r ⊎ ((HasBehind masks node.falls_to r ⊎ HasBehind masks node.jumps_to r) × (¬ HasHome node.writes r))
 
@@ -57,7 +57,7 @@ IsLiveBefore masks node r = HasHome node.reads r ⊎ ((HasBehind masks node.fall
 abbrev pub AreSound : Program → List HomeMask → Type 0
 AreSound p masks = (r : Home) (slot : ℕ) → HasHome (mask_at masks slot) r → IsHomeLive p r slot
 
--- the mask of a slot has what is live before its instruction by what the masks have behind it
+-- the mask of a slot has what is live before its instruction, by the masks of its successors
 abbrev pub IsClosedAt : List HomeMask → ℕ → Node → Type 0
 IsClosedAt masks slot node = (r : Home) → IsLiveBefore masks node r → HasHome (mask_at masks slot) r
 
@@ -79,6 +79,6 @@ pub record AddsAt (nodes : List Node) (slot : ℕ) (old new : List HomeMask) (gr
   pub still : grown ≡ false → new ≡ old
   pub less : grown ≡ true → room_left new < room_left old
 
--- all slots of the code are found, and the search has not gone on from any
+-- all slots of the code are found, and all are in the frontier
 abbrev pub HasAll : ℕ → List Bool → List ℕ → Type 0
 HasAll size found frontier = Extends (λ k. k < size) (replicate size false) [] found frontier

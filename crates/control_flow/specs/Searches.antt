@@ -1,12 +1,14 @@
--- A search so far: the slots that it found are marked, and its frontier are those from which it has not gone on.
+-- The state of a search: the slots that it found are marked, and those whose successors it has not
+-- marked yet are its frontier.
 use Rattle.std.specs.Prelude.{◌≡◌, ℕ, ◌+◌, ◌*◌, ◌≤◌, ◌⊎◌, Bool, not, List, length, count_by, Contains}
 use Rattle.control_flow.specs.Flows.{IsMarked}
 
--- how much the search can still do: two for each slot that it has not found, and one for each of the frontier
+-- what is left of the search: two steps for each slot that it has not found, and one for each of
+-- the frontier
 abbrev pub room_of : List Bool → List ℕ → ℕ
 room_of found frontier = 2 * count_by not found + length frontier
 
--- what is wanted is found, and nothing else is added; the frontier grows by what is new
+-- the wanted slots are found, and nothing else is added; the new ones are added to the frontier
 pub record Extends (Wanted : ℕ → Type 0) (found : List Bool) (frontier : List ℕ) (found' : List Bool) (frontier' : List ℕ) : Type 0 where
   pub same : length found' ≡ length found
   pub all : (k : ℕ) → Wanted k → IsMarked found' k

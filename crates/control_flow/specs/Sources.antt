@@ -1,4 +1,5 @@
--- The jumps of a graph of slots by where they lead: for each target a chain of slots that fall.
+-- The jumps of a graph of slots by their targets: for each target a chain of slots, the highest
+-- first.
 use Rattle.std.specs.Prelude.{◌≡◌, ℕ, ◌<◌, List, length, slice_index_or, Option, Some, None}
 use Rattle.control_flow.specs.declared.nodes.Node.{Node}
 use Rattle.control_flow.specs.Nodes.{jump_from}
@@ -8,7 +9,7 @@ abbrev pub IsLastBelow : (ℕ → Type 0) → ℕ → Option ℕ → Type 0
 IsLastBelow Passes n None = (k : ℕ) → k < n → ¬ Passes k
 IsLastBelow Passes n (Some last) = (last < n) × Passes last × ((k : ℕ) → last < k → k < n → ¬ Passes k)
 
--- a jump leads from one slot to another one
+-- a jump goes from one slot to another
 abbrev pub JumpsTo : List Node → ℕ → ℕ → Type 0
 JumpsTo nodes to slot = jump_from nodes slot ≡ Some to
 

@@ -40,8 +40,8 @@ WritesSlot i j = ⊥
 
 -- ---- r10 itself
 
--- the instruction takes r10 for more than the base of a load or a store: another register may point
--- into the frame then
+-- the instruction uses r10 other than as the base of a load or a store, so another register may
+-- point into the frame then
 abbrev pub HandsOn : Insn → Type 0
 HandsOn (Load size d place) = ⊥
 HandsOn (LoadSx size d place) = ⊥

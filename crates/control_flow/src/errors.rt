@@ -7,25 +7,25 @@ use std::error::Error;
 use std::fmt;
 
 /// Why the control flow is refused: the first of these that is found, in this order and for each at
-/// the lowest slot. G6 may come at any of these, with slot 0.
+/// the lowest slot. G6 is possible at any of these tests, with slot 0.
 #[derive(Clone, Copy, PartialEq, Eq, Debug)]
 pub enum FlowError {
     /// The target of a jump or a call is outside the code.
     TargetOutside,
     /// The target of a jump or a call is the second half of a wide load.
     SecondHalf,
-    /// A jump leads from one function into another.
+    /// A jump goes from one function into another.
     OtherFunction,
     /// The last instruction of a function falls through.
     FallsOff,
-    /// No path leads from slot 0 to the instruction.
+    /// No path goes from slot 0 to the instruction.
     Unreachable,
     /// Out of memory.
     Memory,
 }
 
 impl FlowError {
-    /// Its number in the documents, such as `G1`.
+    /// Its code in docs/REFUSALS.md, such as `G1`.
     pub fn code(self) -> &'static str
         ensures { result.now ≡ code_of self }
     {

@@ -19,7 +19,7 @@ use image::Image;
 use std::alloc::Global;
 use std::marker::Model;
 
-/// An image whose control flow is good: jumps stay in their functions, calls lead to instructions,
+/// An image whose control flow is good: jumps stay in their functions, calls go to instructions,
 /// nothing falls off an end, and each instruction can be reached.
 ///
 /// Contracts see its program.
@@ -75,7 +75,7 @@ fn test_all(alloc: Global, image: &Image) -> Result<(), (FlowError, usize)>
 impl<'a> Flow<'a> {
     /// The control flow of an image, or why it is refused and at which slot.
     pub fn of(alloc: Global, image: &'a Image) -> Result<Self, (FlowError, usize)>
-        // A good program is accepted, running out of memory aside, and no other one.
+        // Good programs are accepted, unless memory runs out, and no others.
         ensures found { IfOk result (λ flow. flow ≡ image.now) }
         ensures good { IfOk result (λ _. IsFlow image.now) }
         ensures only { IsFlow image.now → IfErr result (λ refusal. refusal.0 ≡ FlowError.Memory) }
@@ -110,8 +110,8 @@ impl<'a> Flow<'a> {
     }
 
     /// The slots of its frame's stack that may still be read from this slot of the code on: some
-    /// path of jumps and fall-throughs reads them before it writes them wholly. Where an
-    /// instruction hands r10 on, these are all. A verifier may forget the other ones.
+    /// path of jumps and fall-throughs reads them before it writes them wholly. If an instruction
+    /// takes the address of a frame, these are all slots. A verifier may forget the others.
     pub fn live_slots(&self, slot: usize) -> SlotMask
         ensures { (j : ℕ) → HasSlot result j ↔ IsSlotLive self.now j slot }
     {

@@ -1,4 +1,4 @@
-//! The functions of a program, and the tests of what stays in them.
+//! The functions of a program, and the tests that control stays in them.
 
 ghost use Rattle.std.specs.Prelude.{◌≡◌, ◌<◌, ◌↔◌, ℕ, IsTrue, length, IfOk};
 ghost use Rattle.control_flow.specs.Functions.{MarksFunctions, HasFunctions};
@@ -67,7 +67,7 @@ fn falls_off(image: &Image, functions: &[usize], slot: usize) -> bool
     }
 }
 
-/// The lowest slot from which a jump leads into another function.
+/// The lowest slot with a jump into another function.
 pub fn first_leaving(image: &Image, functions: &[usize]) -> Option<usize>
     requires targets { (k : ℕ) → ¬ Fails image.now FlowError.TargetOutside k }
     requires functions { HasFunctions image.now functions.now }

@@ -1,4 +1,4 @@
-//! Sets of what a frame keeps values in: registers, and slots of its stack.
+//! Sets of the places where a frame keeps values: registers, and slots of its stack.
 
 ghost use Rattle.std.specs.Prelude.{◌≡◌, ◌≤◌, ◌↔◌, ◌⊎◌, IsTrue};
 ghost use Rattle.control_flow.specs.Liveness.{Home};
@@ -50,7 +50,7 @@ impl HomeMask {
     }
 }
 
-/// The mask of a slot of the code. Outside the list it has nothing.
+/// The mask of a slot of the code; empty outside the list.
 pub fn mask_of(masks: &[HomeMask], slot: usize) -> HomeMask
     ensures { result ≡ mask_at masks.now slot }
 {

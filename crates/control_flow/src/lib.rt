@@ -1,4 +1,4 @@
-//! The control flow of programs: which slots follow which, in which functions.
+//! The control flow of programs: the successors of slots, and the functions that slots belong to.
 //!
 //! `specs/Graph.antt` has the graph, `specs/Functions.antt` the functions, and `specs/Flows.antt`
 //! which programs are good.

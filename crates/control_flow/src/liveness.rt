@@ -16,7 +16,7 @@ use crate::sources::{Sources, sources_of};
 use image::Image;
 use std::alloc::{AllocError, Global};
 
-/// What the slot has to which control goes, if it does.
+/// What is live at a successor, if there is one.
 fn mask_behind(masks: &[HomeMask], to: Option<usize>) -> HomeMask
     ensures { (h : Home) → HasHome result h ↔ HasBehind masks.now to h }
 {
@@ -26,7 +26,7 @@ fn mask_behind(masks: &[HomeMask], to: Option<usize>) -> HomeMask
     }
 }
 
-/// What is live before an instruction, by what is live behind it.
+/// What is live before an instruction, by what is live after it.
 fn live_before(node: &Node, masks: &[HomeMask]) -> HomeMask
     ensures { (h : Home) → HasHome result h ↔ IsLiveBefore masks.now node.now h }
 {
@@ -35,7 +35,7 @@ fn live_before(node: &Node, masks: &[HomeMask]) -> HomeMask
     node.reads.or(fallen.or(jumped).without(node.writes))
 }
 
-/// Adds what is live before the instruction at a slot. Says whether there was something to add.
+/// Adds what is live before the instruction at a slot, and returns whether the mask grew.
 fn add_live(nodes: &[Node], masks: &mut [HomeMask], slot: usize) -> bool
     requires inside { slot < length nodes.now }
     requires same { length masks.old ≡ length nodes.now }
@@ -50,7 +50,7 @@ fn add_live(nodes: &[Node], masks: &mut [HomeMask], slot: usize) -> bool
     true
 }
 
-/// The slot so far back, if the instruction there falls through to this one.
+/// The slot that many slots before, if the instruction there falls through to this one.
 fn falling(nodes: &[Node], slot: usize, back: usize) -> Option<usize>
     requires { slot < length nodes.now }
     ensures { (k : ℕ) → (result ≡ Some k)
@@ -64,7 +64,7 @@ fn falling(nodes: &[Node], slot: usize, back: usize) -> Option<usize>
     if to == slot { Some(from) } else { None }
 }
 
-/// Finds the slots from which control comes to a slot.
+/// Finds the predecessors of a slot.
 fn go_back(
     work: &mut Search,
     nodes: &[Node],
@@ -89,7 +89,7 @@ fn go_back(
     Ok(())
 }
 
-/// A search that has found all slots, and goes on from the last one first.
+/// A search that has found all slots, and continues from the last one first.
 fn all_slots(alloc: Global, slots: usize) -> Result<Search, AllocError>
     ensures { IfOk result (λ work. HasAll slots work.found.items work.frontier.items) }
 {
@@ -102,9 +102,9 @@ fn all_slots(alloc: Global, slots: usize) -> Result<Search, AllocError>
 
 /// For each slot the registers that are live there.
 ///
-/// The work that is left is a list of slots, at first all of them, the last one on top. Where a
-/// mask grows, the slots from which control comes there go on the list again. A mask grows at most
-/// once for each register, so the time is linear in slots times registers.
+/// The work that is left is a list of slots, at first all of them, the last one on top. When a mask
+/// grows, the predecessors of its slot are put on the list again. A mask grows at most once for
+/// each register, so the time is linear in slots times registers.
 pub fn live_homes(alloc: Global, image: &Image) -> Result<Vec<HomeMask>, AllocError>
     requires { (slot : ℕ) → ¬ Fails image.now FlowError.TargetOutside slot }
     ensures { IfOk result (λ masks. MarksLive image.now masks.items) }

@@ -1,4 +1,4 @@
-//! The code as a graph of slots: what each reads and writes, and where control goes on.
+//! The code as a graph of slots: what each reads and writes, and its successors.
 
 ghost use Rattle.std.specs.Prelude.{◌≡◌, ◌<◌, ◌^◌, ℕ, ◌↔◌, false, IsTrue, IfOk, MatchOption};
 ghost use Rattle.isa_model.specs.declared.registers.Reg.{Reg as TheReg};
@@ -14,7 +14,7 @@ use image::Image;
 use std::alloc::{AllocError, Global};
 
 /// A slot: the registers and the slots of the stack that the instruction there reads and writes,
-/// and the slots of the code to which control goes from it.
+/// and its successors.
 #[derive(Clone, Copy)]
 pub struct Node {
     pub reads: HomeMask,

@@ -1,4 +1,4 @@
-//! Which slots paths from slot 0 lead to.
+//! Which slots can be reached from slot 0.
 
 ghost use Rattle.std.specs.Prelude.{◌≡◌, ◌<◌, ◌≤◌, ◌↔◌, ℕ, length, IfOk, OnOk};
 ghost use Rattle.control_flow.specs.Graph.{Leads, Reached};
@@ -12,7 +12,7 @@ use crate::targets::{begins_insn, call_target, fall_target, jump_target};
 use image::Image;
 use std::alloc::{AllocError, Global};
 
-/// Finds the slots to which control goes from a slot.
+/// Finds the successors of a slot.
 fn go_on(search: &mut Search, image: &Image, slot: usize) -> Result<(), AllocError>
     requires inside { slot < length image.now.insns }
     requires leads { (to : ℕ) → Leads image.now slot to → to < length search.old.found.items }
@@ -28,7 +28,7 @@ fn go_on(search: &mut Search, image: &Image, slot: usize) -> Result<(), AllocErr
     Ok(())
 }
 
-/// Marks the slots that paths from slot 0 lead to.
+/// Marks the slots that can be reached from slot 0.
 pub fn reached(alloc: Global, image: &Image) -> Result<Vec<bool>, AllocError>
     requires { (slot to : ℕ) → Leads image.now slot to → to < length image.now.insns }
     ensures { IfOk result (λ marks. (slot : ℕ) → IsMarked marks.items slot

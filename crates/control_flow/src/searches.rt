@@ -4,7 +4,8 @@ ghost use Rattle.std.specs.Prelude.{◌≡◌, ◌<◌, ℕ, Some, length, OnOk,
 
 use std::alloc::{AllocError, Global};
 
-/// A search so far: the slots that were found, and those of them from which it has not gone on.
+/// The state of a search: the slots that were found, and those of them whose successors it has not
+/// looked at yet.
 #[derive(Drop)]
 pub struct Search {
     pub found: Vec<bool>,

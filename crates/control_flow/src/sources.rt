@@ -1,4 +1,4 @@
-//! From which slots jumps lead to a slot.
+//! From which slots jumps go to a slot.
 
 ghost use Rattle.std.specs.Prelude.{◌≡◌, ◌<◌, ℕ, Some, length, IfOk};
 ghost use Rattle.control_flow.specs.Nodes.{jump_from};
@@ -7,12 +7,12 @@ ghost use Rattle.control_flow.specs.Sources.{AreSources};
 use crate::nodes::Node;
 use std::alloc::{AllocError, Global};
 
-/// For each slot the jumps that lead to it, as a chain from the last one back.
+/// For each slot the jumps to it, as a chain from the last one back.
 #[derive(Drop)]
 pub struct Sources {
-    /// For each slot the last one from which a jump leads to it.
+    /// For each slot the last slot with a jump to it.
     pub last: Vec<Option<usize>>,
-    /// For each jump's slot the last one below it from which a jump leads to the same target.
+    /// For each jump's slot the last slot below it with a jump to the same target.
     pub before: Vec<Option<usize>>,
 }
 

@@ -1,5 +1,5 @@
 //! Which slots of its frame's stack an instruction reads and writes through r10, and which
-//! instructions hand r10 itself on.
+//! instructions take the address of the frame.
 
 ghost use Rattle.std.specs.Prelude.{◌≡◌, ℕ, ◌<◌, ◌^◌, ◌↔◌, ◌⊎◌, IsTrue, Some};
 ghost use Rattle.isa_model.specs.declared.registers.Reg.{Reg as TheReg};

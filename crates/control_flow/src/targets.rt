@@ -1,4 +1,4 @@
-//! Where jumps and calls lead, and the tests of that.
+//! The targets of jumps and calls, and their tests.
 
 ghost use Rattle.std.specs.Prelude.{◌≡◌, ◌<◌, ◌^◌, ◌↔◌, ℕ, IsTrue, length, IfOk};
 ghost use Rattle.isa_model.specs.Machine.Steps.{destination};
@@ -33,7 +33,7 @@ fn call_distance(insn: &Insn) -> Option<i32>
     }
 }
 
-/// Whether control may go on at the instruction after it.
+/// Whether control may go to the next instruction.
 fn falls_through(insn: &Insn) -> bool
     ensures { result ≡ falls_through insn.now }
 {
@@ -67,7 +67,7 @@ pub fn call_target(image: &Image, slot: usize) -> Option<usize>
     Some(destination(slot, by, image.slots()))
 }
 
-/// The slot after the instruction at a slot, if it goes on there.
+/// The slot after the instruction at a slot, if it falls through.
 #[tactic(auto, unfolding(crate::specs::Graph::fall_to))]
 pub fn fall_target(image: &Image, slot: usize) -> Option<usize>
     requires { slot < 2 ^ 63 }
@@ -119,7 +119,7 @@ fn leads_into_half(image: &Image, slot: usize) -> bool
     }
 }
 
-/// The lowest slot from which a jump or a call leads outside the code.
+/// The lowest slot with a jump or a call to outside the code.
 pub fn first_outside(image: &Image) -> Option<usize>
     ensures { IsLowest (Fails image.now FlowError.TargetOutside) result }
 {
@@ -131,7 +131,7 @@ pub fn first_outside(image: &Image) -> Option<usize>
     None
 }
 
-/// The lowest slot from which a jump or a call leads to the second half of a wide load.
+/// The lowest slot with a jump or a call into the second half of a wide load.
 pub fn first_into_half(image: &Image) -> Option<usize>
     ensures { IsLowest (Fails image.now FlowError.SecondHalf) result }
 {

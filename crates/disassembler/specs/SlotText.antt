@@ -9,6 +9,6 @@ abbrev pub slot_text : Option Insn → List ℕ
 slot_text None = []
 slot_text (Some i) = line_of i
 
--- the lines of a program behind its version's
+-- the lines of a program after its version line
 abbrev pub program_text : Program → List ℕ
 program_text p = rows_text p.maps ++ code_text (instructions p.insns)

@@ -1,8 +1,8 @@
 //! Reads and writes that say exactly what was read and written, also where they fail.
 //!
 //! std's `write_all` and `read_exact` say nothing of a failure, and try again where a call was
-//! interrupted. Here an error of any kind is the failure, nothing is tried again, and what was
-//! moved before it is known.
+//! interrupted. Here an error of any kind is the failure, nothing is tried again, and it is known
+//! what was moved before it.
 #![tactic(auto)]
 
 mod reading;

@@ -3,14 +3,14 @@ ghost use Rattle.exact_io.specs.Transfers.{Fills};
 
 use std::io::Read;
 
-/// What came of filling a buffer.
+/// How filling a buffer ended.
 #[derive(Clone, Copy, PartialEq, Eq, Debug)]
 pub enum Filled {
     /// All of the buffer.
     Whole,
-    /// So many bytes, fewer than the buffer has, and then the reader's end.
+    /// This many bytes, fewer than the buffer has, and then the reader's end.
     Ended(usize),
-    /// So many bytes, fewer than the buffer has, and then the reader's error.
+    /// This many bytes, fewer than the buffer has, and then the reader's error.
     Failed(usize),
 }
 

@@ -8,9 +8,8 @@ use std::io::{ErrorKind, Write};
 
 /// Writes all the bytes.
 ///
-/// The writer's first error, of any kind, is the failure and is handed on; a write of no byte is
-/// the failure
-/// `ErrorKind::WriteZero`. Nothing is tried again.
+/// The writer's first error, of any kind, is the failure and is returned; a write of no byte is the
+/// failure `ErrorKind::WriteZero`. Nothing is tried again.
 pub fn write_bytes<W: Write>(writer: &mut W, bytes: &[u8]) -> io::Result<()>
     ensures ok { OnOk result (Appends (W.contents writer.old) (W.contents writer.new) bytes.now) }
     ensures err { OnErr result

@@ -22,7 +22,7 @@ use Rattle.explanations.specs.Mismatches.{IsMismatch, mismatch_lines}
 abbrev pub step_lines : List MapDef → State → Insn → transfer.Refusal → List ℕ
 step_lines rows a i r = register_lines a i ++ (answer_line a (refusal.Step r) ++ stack_lines rows a i)
 
--- the states that a step leads to, the fall-through first
+-- the successors of a step, the fall-through first
 abbrev pub states_of : Ways → State → State → List State
 states_of ways.None a b = []
 states_of ways.One a b = a ∷ []

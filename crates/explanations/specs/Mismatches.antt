@@ -1,4 +1,4 @@
--- Why a named entry of a table does not pass for a state that a step leads to, in words.
+-- Why a named entry of a table does not cover a successor, in words.
 use Rattle.std.specs.Prelude.{◌≡◌, ◌≢◌, ℕ, ◌+◌, ◌-◌, ◌<◌, ◌≤◌, List, ◌++◌, length, Option, Some, None, codes, decimal}
 use Rattle.std.specs.Fmt.{signed_decimal}
 use Rattle.stack_state.specs.declared.states.State.{State}
@@ -20,7 +20,7 @@ IsInside e a (Register frame register) = (frame < depth e) × (frame < depth a)
 IsInside e a (Stack frame slot) = (frame < depth e) × (frame < depth a) × (slot < frame_slots)
 IsInside e a m = Unit {0}
 
--- the state of the entry, and one that the step leads to
+-- the state of the entry, and a successor
 abbrev pub Differs : State → State → Mismatch → Type 0
 Differs e a Missing = ⊥
 Differs e a (NotSmaller number) = ⊥
@@ -74,8 +74,8 @@ stack_difference a frame slot = codes "does not cover stack " ++ (signed_decimal
 abbrev pub returns_words : State → ℕ → List ℕ
 returns_words a frame = codes "slot " ++ decimal (frame_of a frame).return_slot
 
--- of the nth state a that a step of an entry of that number leads to, for which the entry with that index and the state e
--- is named
+-- about the nth successor a of an entry with that number, for which the entry with that index and
+-- the state e is named
 abbrev pub mismatch_lines : ℕ → ℕ → ℕ → State → State → Mismatch → List ℕ
 mismatch_lines number nth index e a Missing =
     codes "successor " ++ (decimal nth ++ (codes ": there is no entry " ++ (decimal index ++ codes "\n")))

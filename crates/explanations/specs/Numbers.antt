@@ -45,7 +45,7 @@ low_part numbers =
 
 -- ---- numbers
 
--- a constant as a signed number, or the limits; of its bits nothing else is told
+-- a constant as a signed number, or the limits; other known bits are not written
 abbrev pub number_words : Scalar → List ℕ
 number_words numbers =
     if numbers.range.wide.least == numbers.range.wide.greatest then codes "number " ++ signed_decimal (cast_signed w64 numbers.range.wide.least)

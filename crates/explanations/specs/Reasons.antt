@@ -9,12 +9,14 @@ use Rattle.explorer.specs.Explained.{Explains}
 use Rattle.explanations.specs.Cases.{case_line}
 use Rattle.explanations.specs.Lines.{register_lines, answer_line, stack_lines, way_line}
 
--- that the search had come to its limit of states that are alike, from which on it explored each as a new one
+-- that the search had reached its limit of similar states, and explored each as a new one from then
+-- on
 abbrev pub cut_line : Bool → List ℕ
 cut_line cut = if cut then codes "states could not be told apart any more: too many that are alike were stored\n" else codes ""
 
--- the registers, what is needed, an answer's low half and the stack slots that concern the instruction, in the state in which it is refused
--- so, the last jumps, and whether states were told apart
+-- the registers, what is needed, an answer's low half and the stack slots that concern the
+-- instruction, in the state in which it is refused so, the last jumps, and whether states were
+-- compared
 abbrev pub lines_of : List MapDef → Insn → Refusal → Explanation → List ℕ
 lines_of rows i e x =
     register_lines x.state i ++ (case_line rows x.state i e x.way.items ++ (answer_line x.state e ++ (stack_lines rows x.state i

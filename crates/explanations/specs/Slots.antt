@@ -37,7 +37,7 @@ slot_line a frame slot =
     codes "stack " ++ (signed_decimal (place_of slot 0) ++ (calls_up (length a.callers.items - frame)
     ++ (codes ": " ++ (slot_words (length a.callers.items) slot (slot_at (slots_of a frame) slot) ++ codes "\n"))))
 
--- the byte of a frame so far from its end
+-- the byte of a frame at that distance from its end
 abbrev pub in_frame : ℤ → Option ℕ
 in_frame (pos n) = if nat_lt n frame_size then Some n else None
 in_frame (negsuc n) = None

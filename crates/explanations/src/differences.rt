@@ -225,8 +225,7 @@ fn stack_lines(
     )
 }
 
-/// Of the nth state that a step of an entry of that number leads to, why the entry of that index
-/// does not pass for it.
+/// Why the entry with that index does not cover the nth successor of an entry with that number.
 pub fn mismatch_lines(
     alloc: Global,
     number: u32,

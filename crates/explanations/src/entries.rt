@@ -69,8 +69,8 @@ fn step_reason(
     })
 }
 
-/// Why the entry that is named for the nth state that a step leads to does not pass for it. None:
-/// it passes, or memory ran out.
+/// Why the entry that is named for the nth successor does not cover it. None: it does, or memory
+/// ran out.
 fn named_lines(
     alloc: Global,
     image: &Image,
@@ -94,7 +94,7 @@ fn count_line(alloc: Global, successors: usize, named: usize) -> Option<String>
     format!(in alloc; "successors: {successors}; entries named: {named}\n").ok()
 }
 
-/// Why the entries that an entry names do not pass for the states that its step leads to.
+/// Why the entries that an entry names do not cover its successors.
 fn successor_lines(
     alloc: Global,
     image: &Image,
@@ -125,7 +125,7 @@ fn successor_lines(
     }
 }
 
-/// How many states a step leads to.
+/// How many successors a step has.
 fn ways_in(ways: Ways) -> usize
     ensures { result ≡ spec.ways_in ways }
 {
@@ -147,7 +147,7 @@ fn named_in(named: Named) -> usize
     }
 }
 
-/// Where the entries that are named do not pass for what the step of an entry leads to.
+/// Where the named entries do not cover the successors of an entry.
 fn successor_reason(
     alloc: Global,
     image: &Image,
@@ -167,9 +167,9 @@ fn successor_reason(
     Some(EntryReason { slot, insn, text })
 }
 
-/// What is known of the entry of which a table is refused: for P7 what concerns its instruction,
-/// and for P8 in what its successors and the entries that it names differ. None: the refusal is of
-/// no entry's step, or memory ran out.
+/// What is known of the entry for which a table is refused: for P7 what concerns its instruction,
+/// and for P8 how its successors differ from the entries that it names. None: the refusal is not of
+/// an entry's step, or memory ran out.
 pub fn entry_reason(
     alloc: Global,
     image: &Image,

@@ -1,4 +1,4 @@
-//! Why a named entry of a table does not pass for a state that a step leads to.
+//! Why a named entry of a table does not cover a successor.
 
 ghost use Rattle.std.specs.Prelude.{◌≡◌, ◌<◌, IfSome};
 ghost use Rattle.stack_state.specs.Meaning.{depth, frame_of};
@@ -42,7 +42,7 @@ pub fn frame_of(state: &State, frame: usize) -> &AbstractFrame
     }
 }
 
-/// The first so many registers and slots of a frame; of all others nothing is known.
+/// The first registers and slots of a frame, as many as given; about all others nothing is known.
 fn front_of(frame: &AbstractFrame, registers: usize, slots: usize) -> AbstractFrame {
     let mut kinds = [Kind::Unset; 10];
     for index in 0..registers.min(10) {
@@ -59,7 +59,8 @@ fn front_of(frame: &AbstractFrame, registers: usize, slots: usize) -> AbstractFr
     }
 }
 
-/// All before a frame, and its first so many registers and slots; of all others nothing is known.
+/// All before a frame, and its first registers and slots, as many as given; about all others
+/// nothing is known.
 fn part_of(state: &State, frame: usize, registers: usize, slots: usize) -> State {
     let mut part = State::start();
     part.slot = state.slot;

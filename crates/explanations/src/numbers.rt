@@ -1,4 +1,4 @@
-//! Numbers of which something is known, in words.
+//! Numbers about which something is known, in words.
 
 ghost use Rattle.std.specs.Prelude.{◌≡◌, IfOk};
 ghost use Rattle.std.specs.String.{string_bytes};

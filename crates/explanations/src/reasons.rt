@@ -11,7 +11,7 @@ use image::Image;
 use isa_model::Insn;
 use std::alloc::{AllocError, Global};
 
-/// That states were not told apart any more, where they were not.
+/// That states were no longer compared, if they were not.
 fn cut_line(is_cut_off: bool) -> &'static str
     ensures { result.now ≡ cut_line is_cut_off }
 {
@@ -45,7 +45,7 @@ fn lines_of(
 
 /// What is known where a program is refused so, at this slot: the registers and the stack slots
 /// that concern its instruction, what it needs, the low half of an answer that has to name an
-/// action, the last jumps on the way there, and whether states were not told apart. None: the
+/// action, the last jumps on the way there, and whether states were no longer compared. None: the
 /// refusal is one of control flow, or memory ran out.
 pub fn reason(alloc: Global, image: &Image, refusal: Refusal, slot: usize) -> Option<String>
     ensures { IfSome result (λ text. IsReason image.now refusal slot (string_bytes text)) }

@@ -68,7 +68,7 @@ pub fn slot_words(
     }
 }
 
-/// A slot of a frame; where there is none, nothing is known of it.
+/// A slot of a frame; if there is no such slot, one about which nothing is known.
 fn slot_of(state: &State, frame: u8, slot: usize) -> Slot
     ensures { result ≡ slot_at (slots_of state.now frame) slot }
 {
@@ -90,7 +90,7 @@ pub fn slot_line(alloc: Global, state: &State, frame: u8, slot: usize) -> Result
     format!(in alloc; "stack {start}{up}: {words}\n")
 }
 
-/// The byte of a frame that is so far from its end.
+/// The byte of a frame at that distance from its end.
 pub fn byte_at(from_end: i64) -> Option<usize>
     ensures found { result ≡ byte_at from_end }
     ensures inside { IfSome result (λ at. at < frame_size) }

@@ -35,7 +35,7 @@ slot_in : (rest before : List State) (s : State) → slice_get (slots_along (res
 slot_in [] before s = slot_here before s
 slot_in (c ∷ rest) before s = slice_get-push (slots_along (rest ++ s ∷ before)) c.slot (length before) s.slot (slot_in rest before s)
 
--- the way leads to the state behind which that count of states is
+-- the jumps lead to the state that is number `count` of the path
 pub record LedAt (p : Program) (path : List State) (count : ℕ) (way : List Jump) : Type 0 where
   pub led : (rest before : List State) (s : State) → path ≡ rest ++ s ∷ before → length before + 1 ≡ count → IsLed p s way
 

@@ -1,4 +1,4 @@
--- What a listener is told along a search.
+-- The calls of a listener during a search.
 use Rattle.std.proofs.Common.{◌≡◌, ◌∙◌, ℕ, suc, ◌+◌, ◌<◌, List, [], ◌∷◌, ◌++◌, Option, Some, None, ◌⊎◌, inl, inr, arith, refl, sym, ap, subst}
 use Rattle.std.specs.Prelude.{reverse}
 use Rattle.std.proofs.lemmas.List.{reverse-append}
@@ -56,7 +56,7 @@ step_fails p s current now Repeats slot same steps h = (ap (λ (x : State). x.sl
 step_fails p s current now TooLong slot same steps h = absurd h
 step_fails p s current now Memory slot same steps h = tt
 
--- ---- before a listener is told of a move
+-- ---- before a listener is called for a move
 
 pub told_begin : (p : Program) (tale : List State → State → Type 0) (path : List Visit) (current last : State) (made : Move) → Begins p made path current → tale [] last → IsToTell p tale path current made
 told_begin p tale path current last (New stored) h told = record { states = []; last = last; visited = AreVisited-none p path h.0; comes = h.1; told = told }
@@ -92,7 +92,7 @@ told_back p tale old new current (Finished n) h back =
     let last = AreVisited-pop p new old back.0 h.states back.1 h.visited in
     record { state = last.state; states = last.before; last = h.last; visited = last.visited; told = subst (λ x. tale x h.last) last.is h.told }
 
--- ---- after it was told of a move that ends a path
+-- ---- after the call for a move that ends a path
 
 abbrev pub EndsWith : Move → ℕ → Type 0
 EndsWith made n = ((k : ℕ) × (made ≡ Covered k n)) ⊎ (made ≡ Finished n)
@@ -105,7 +105,7 @@ pub follows_end : (p : Program) (tale : List State → State → Type 0) (path :
 follows_end p tale path current made n (inl h) told = subst (IsTold p tale path current) h.1 told
 follows_end p tale path current made n (inr h) told = subst (IsTold p tale path current) h told
 
--- ---- before it is told of a refusal
+-- ---- before the call for a refusal
 
 pub refused_begin : (p : Program) (tale : List State → State → Type 0) (current last : State) (e : Refusal) (slot : ℕ) → BeginFails p current e slot → tale [] last → IsToRefuse p tale current e slot
 refused_begin p tale current last (Flow e) slot h told = absurd h

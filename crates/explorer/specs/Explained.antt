@@ -13,11 +13,11 @@ use Rattle.explorer.specs.declared.explanations.Jump.{Jump}
 use Rattle.explorer.specs.declared.explanations.Explanation.{Explanation}
 use Rattle.explorer.specs.declared.explanations.TheConstants.{MOST_JUMPS}
 
--- the jump of a step that does not go on to the next instruction
+-- the jump of a step, if it does not go to the next instruction
 abbrev pub jump_of : State → Insn → State → List Jump
 jump_of a i b = if b.slot == a.slot + slots_of i then [] else record { from = a.slot; to = b.slot } ∷ []
 
--- a walk from the start comes to the state, and these are all its jumps
+-- a walk from the start reaches the state, and these are all its jumps
 pub data ComesBy (p : Program) : State → List Jump → Type 0 where
   IsStart : (s : State) (jumps : List Jump) → Forgets p start s → jumps ≡ [] → ComesBy p s jumps
   OneMore : (a s : State) (i : Insn) (before jumps : List Jump) → ComesBy p a before → fetch p a.slot ≡ Some i → StepsTo p a s
@@ -27,13 +27,14 @@ pub data ComesBy (p : Program) : State → List Jump → Type 0 where
 unfoldable pub last : ℕ → List Jump → List Jump
 last count jumps = drop (length jumps - count) jumps
 
--- a walk from the start comes to the state, and these are its last jumps
+-- a walk from the start reaches the state, and these are its last jumps
 pub record IsLed (p : Program) (s : State) (way : List Jump) : Type 0 where
   pub jumps : List Jump
   pub comes : ComesBy p s jumps
   pub last_are : way ≡ last MOST_JUMPS jumps
 
--- the program is refused so, at the slot; the state in which it is, and the last jumps on a way there
+-- the program is refused so, at the slot; the abstract state there, and the last jumps of a path to
+-- it
 pub record Explains (p : Program) (e : Refusal) (slot : ℕ) (x : Explanation) : Type 0 where
   pub refused : StopsAt p e slot
   pub led : IsLed p x.state x.way.items

@@ -4,7 +4,7 @@ use Rattle.isa_model.specs.Code.Instructions.{Program}
 use Rattle.stack_state.specs.declared.states.State.{State}
 use Rattle.explorer.specs.Listening.{ComesTo}
 
--- the states of a path, the last one first, each of which leads to the one after it
+-- the states of a path, the last one first; each is a successor of the one before it on the path
 abbrev pub IsWalk : Program → List State → Type 0
 IsWalk p [] = Unit {0}
 IsWalk p (s ∷ before) = ComesTo p before s × IsWalk p before

@@ -1,4 +1,4 @@
--- What a search tells a listener, and what a listener knows of it.
+-- The calls that a search makes to a listener, and what a listener then knows of it.
 use Rattle.std.specs.Prelude.{◌≡◌, ℕ, List, [], ◌∷◌, ◌++◌, reverse, Option, Some, None}
 use Rattle.isa_model.specs.declared.instructions.Insn.{Insn}
 use Rattle.isa_model.specs.Code.Instructions.{Program, fetch}
@@ -18,14 +18,14 @@ use Rattle.explorer.specs.declared.moves.Move.TheVariants.{New, Covered, Finishe
 use Rattle.explorer.specs.declared.moves.Turn.{Turn}
 use Rattle.explorer.specs.declared.moves.Turn.TheVariants.{Explore, Done}
 
--- a fact of the refusal, if the search came to one
+-- a fact of the refusal, if the search ended with one
 abbrev pub IfRefused : {S : Type 0} → Halt S → (Refusal → ℕ → Type 0) → Type 0
 IfRefused (Refused e slot) fact = fact e slot
 IfRefused (Stopped stop) fact = Unit {0}
 
 -- ---- what a search does, as its path and its current state show it
 
--- a path with these states, the last one first, goes on to the state
+-- a path with these states, the last one first, continues with the state
 abbrev pub ComesTo : Program → List State → State → Type 0
 ComesTo p [] s = Forgets p start s
 ComesTo p (a ∷ before) s = StepsTo p a s
@@ -36,20 +36,21 @@ Begins p (New stored) path current = (path ≡ []) × ComesTo p [] current
 Begins p (Covered k n) path current = (path ≡ []) × ComesTo p [] current
 Begins p (Finished n) path current = ⊥
 
--- a visit was put after the path: that of a state which leads to the current one, and to what is pending
+-- a visit was appended to the path: that of a state whose successors are the current one and what
+-- is pending
 pub record GoesInto (p : Program) (s : State) (old new : List Visit) (current : State) : Type 0 where
   pub visit : Visit
   pub pushed : new ≡ old ++ visit ∷ []
   pub steps : StepsTo p s current
   pub aside : IfStepsTo p s visit.pending
 
--- the step of a state leads nowhere, or to the current one
+-- the step of a state has no successor, or the current one
 abbrev pub Steps : Program → State → List Visit → Move → List Visit → State → Type 0
 Steps p s old (Finished n) new current = new ≡ old
 Steps p s old (New stored) new current = GoesInto p s old new current
 Steps p s old (Covered k n) new current = GoesInto p s old new current
 
--- the last visit waited for the current state, and waits for nothing more
+-- the last visit was waiting for the current state, and has nothing else pending
 pub record GoesAside (old new : List Visit) (current : State) : Type 0 where
   pub path : List Visit
   pub visit : Visit
@@ -59,7 +60,7 @@ pub record GoesAside (old new : List Visit) (current : State) : Type 0 where
   pub is_pending : visit.pending ≡ Some current
   pub nothing : rest.pending ≡ None
 
--- the last visit ends, or goes on with what was pending
+-- the last visit ends, or continues with what was pending
 abbrev pub Returns : List Visit → Move → List Visit → State → Type 0
 Returns old (Finished n) new current = (visit : Visit) × (old ≡ new ++ visit ∷ [])
 Returns old (New stored) new current = GoesAside old new current
@@ -91,7 +92,7 @@ BeginFails p current Repeats slot = (current.slot ≡ slot) × ComesTo p [] curr
 BeginFails p current Memory slot = Unit {0}
 BeginFails p current e slot = ⊥
 
--- the step of a state is refused, or leads to the current one, to which the path comes back
+-- the step of a state is refused, or its successor is the current one, to which the path comes back
 abbrev pub StepFails : Program → State → State → Refusal → ℕ → Type 0
 StepFails p s current (Step e) slot = (s.slot ≡ slot) × StopsIn p s (Step e)
 StepFails p s current Repeats slot = (current.slot ≡ slot) × StepsTo p s current
@@ -113,16 +114,18 @@ ReturnFails old current e slot = ⊥
 
 -- ---- what a listener knows
 --
--- `tale`: what it was told leads along a path with these states, the last one first, and this state arrived last
+-- `tale`: the calls so far describe a path with these states, the last one first, and this state
+-- arrived last
 
--- the states are those of the visits, the last one's first, and lead to what is pending there
+-- the states are those of the visits, the last one's first, and what is pending there is a
+-- successor of them
 abbrev pub AreVisited : Program → List Visit → List State → Type 0
 AreVisited p [] [] = Unit {0}
 AreVisited p [] (s ∷ states) = ⊥
 AreVisited p (visit ∷ visits) [] = ⊥
 AreVisited p (visit ∷ visits) (s ∷ states) = IfStepsTo p s visit.pending × AreVisited p visits states
 
--- it was told of all visits of the path
+-- the listener was called for all visits of the path
 pub record Follows (p : Program) (tale : List State → State → Type 0) (path : List Visit) : Type 0 where
   pub states : List State
   pub last : State
@@ -135,7 +138,7 @@ pub record FollowsTo (p : Program) (tale : List State → State → Type 0) (pat
   pub visited : AreVisited p (reverse path) states
   pub told : tale (current ∷ states) current
 
--- it is still to be told that the path comes to the current state
+-- the call is still to come that says that the path arrives at the current state
 pub record IsToArrive (p : Program) (tale : List State → State → Type 0) (path : List Visit) (current : State) : Type 0 where
   pub states : List State
   pub last : State
@@ -143,7 +146,7 @@ pub record IsToArrive (p : Program) (tale : List State → State → Type 0) (pa
   pub comes : ComesTo p states current
   pub told : tale states last
 
--- it is still to be told that a state after the path has its number
+-- the call is still to come that says that a state after the path has its number
 pub record IsToFinish (p : Program) (tale : List State → State → Type 0) (path : List Visit) : Type 0 where
   pub state : State
   pub states : List State
@@ -151,7 +154,7 @@ pub record IsToFinish (p : Program) (tale : List State → State → Type 0) (pa
   pub visited : AreVisited p (reverse path) states
   pub told : tale (state ∷ states) last
 
--- what it knows before it is told of a move, and after
+-- what the listener knows before and after the call for a move
 abbrev pub IsToTell : Program → (List State → State → Type 0) → List Visit → State → Move → Type 0
 IsToTell p tale path current (New stored) = IsToArrive p tale path current
 IsToTell p tale path current (Covered k n) = IsToArrive p tale path current
@@ -167,7 +170,7 @@ abbrev pub FollowsTurn : Program → (List State → State → Type 0) → List 
 FollowsTurn p tale path current (Explore stored) = FollowsTo p tale path current
 FollowsTurn p tale path current (Done n) = Unit {0}
 
--- before it is told of a refusal
+-- before the call for a refusal
 pub record IsToStop (p : Program) (tale : List State → State → Type 0) (e : Refusal) (slot : ℕ) : Type 0 where
   pub state : State
   pub before : List State

@@ -53,20 +53,20 @@ TurnsBack p entries s e slot = ⊥
 
 -- ---- what is known of the stored states and of the path
 
--- the state ends within the number that it has
+-- each run from the state ends within the state's number of steps
 pub record Settles (p : Program) (s : State) (n : ℕ) : Type 0 where
   pub within : Within p s n
   pub number : HasNumber p s n
 
--- the state of an entry with a number ends within it, no number is above the count of finished instructions, and a walk
--- from the start comes to the state
+-- runs from the state of an entry with a number end within that number, no number is above the
+-- count of finished instructions, and a walk from the start reaches the state
 abbrev pub IsFine : Program → ℕ → Stored → Type 0
 IsFine p finished e = 0 < e.number → Settles p e.state e.number × (e.number ≤ finished) × ((steps : ℕ) × WalksTo p steps e.state)
 
 unfoldable pub AllFine : Program → ℕ → List Stored → Type 0
 AllFine p finished entries = All (IsFine p finished) entries
 
--- an instruction begins at the state's slot, and at each slot to which the exit of a live frame leads
+-- an instruction begins at the state's slot, and at each slot to which a live frame returns
 pub record IsReady (p : Program) (s : State) : Type 0 where
   pub begins : BeginsInsn p s.slot
   pub returns : All (BeginsInsn p) (returns_of s)
@@ -83,7 +83,8 @@ abbrev pub MeantBy : Program → Option State → Machine.State → Type 0
 MeantBy p None w = ⊥
 MeantBy p (Some s) w = Means p s w
 
--- the step of each machine state that s stands for ends the run, or leads to the child, to what is pending, or to what ends in time
+-- the step of each machine state that s means ends the run, or goes to the child, to what is
+-- pending, or to what ends in time
 unfoldable pub Waits : Program → Visit → State → State → Type 0
 Waits p visit s child = (clock : ℕ → ℕ) → IsClock clock → (w : Machine.State) → Means p s w
     → After (λ v. Means p child v ⊎ (MeantBy p visit.pending v ⊎ Ends p clock v visit.best)) (step p clock w)
@@ -107,7 +108,7 @@ pub record Waiting (p : Program) (finished : ℕ) (entries : List Stored) (visit
   pub stored : StoredAt entries visit.stored s
   pub ready : IfReady p visit.pending
 
--- the path leads from one state to another, with a visit for each instruction
+-- the path goes from one state to another, with a visit for each instruction
 unfoldable pub Path : Program → ℕ → List Stored → State → List Visit → State → Type 0
 Path p finished entries from [] to = to ≡ from
 Path p finished entries from (visit ∷ path) to =
@@ -115,22 +116,22 @@ Path p finished entries from (visit ∷ path) to =
 
 -- ---- how many instructions were explored
 
--- n instructions are explored from the state once what is pending takes its own
+-- n instructions are explored from the state, those of its pending state included
 abbrev pub TakesBoth : Program → Option State → State → ℕ → Type 0
 TakesBoth p None s n = Takes p s n
 TakesBoth p (Some other) s n = (y : ℕ) → Takes p other y → Takes p s (n + y)
 
--- and once the child takes its own; `own` were explored already
+-- and those of the child included; `own` were explored already
 unfoldable pub Spends : Program → Visit → State → State → ℕ → Type 0
 Spends p visit s child own = (x : ℕ) → Takes p child x → TakesBoth p visit.pending s (own + x)
 
--- the path leads from one state to another, and n instructions were explored before the last one
+-- the path goes from one state to another, and n instructions were explored before the last one
 unfoldable pub CountsTo : Program → State → List Visit → State → ℕ → Type 0
 CountsTo p from [] to n = (to ≡ from) × (n ≡ 0)
 CountsTo p from (visit ∷ path) to n =
     (child : State) × (own : ℕ) × (rest : ℕ) × Spends p visit from child own × CountsTo p child path to rest × (n ≡ own + rest)
 
--- the path leads to a state all of which is explored, and `total` instructions were explored
+-- the path goes to a state that is explored in full, and `total` instructions were explored
 pub record HasSpent (p : Program) (from : State) (path : List Visit) (total : ℕ) : Type 0 where
   pub state : State
   pub before : ℕ
@@ -141,7 +142,7 @@ pub record HasSpent (p : Program) (from : State) (path : List Visit) (total : �
 
 -- ---- the entries without a number
 
--- where zeros stand, in a list that begins at place k
+-- the indexes of zeros in a list whose first index is k
 abbrev pub zeros_from : ℕ → List ℕ → List ℕ
 zeros_from k [] = []
 zeros_from k (zero ∷ numbers) = k ∷ zeros_from (suc k) numbers
@@ -178,7 +179,7 @@ pub record IsNew (search : Search) : Type 0 where
   pub path : search.path.items ≡ []
   pub finished : search.finished ≡ 0
 
--- the search is at this state, to which its path leads from the start
+-- the search is at this state, and its path goes there from the start
 pub record IsAt (p : Program) (search : Search) (s : State) : Type 0 where
   pub fine : AllFine p search.finished search.stored.entries.items
   pub first : State
@@ -203,7 +204,7 @@ pub record Explores (p : Program) (search : Search) (stored : Option ℕ) : Type
   pub spent : CountsTo p at.first search.path.items search.current (search.finished + length search.path.items)
   pub ready : IsReady p search.current
 
--- the path comes to the current state, of which nothing is known yet
+-- the path comes to the current state, which is not explored yet
 pub record Comes (p : Program) (search : Search) : Type 0 where
   pub at : IsAt p search search.current
   pub on_path : OnPath search.stored.entries.items search.path.items None
@@ -216,7 +217,7 @@ Moves p search (New stored) = Explores p search stored
 Moves p search (Covered k n) = HasEnded p search n
 Moves p search (Finished n) = HasEnded p search n
 
--- as many instructions were explored as may be, and the next one is at this slot
+-- the limit of explored instructions is reached, and the next one is at this slot
 pub record IsFull (search : Search) (slot : ℕ) : Type 0 where
   pub explored : search.finished + length search.path.items ≡ MAX_EXPLORED
   pub next : slot ≡ search.current.slot
@@ -225,7 +226,7 @@ abbrev pub Goes : Program → Search → Turn → Type 0
 Goes p search (Explore stored) = Explores p search stored
 Goes p search (Done n) = Settles p start n × (0 < n) × (n ≤ search.finished)
 
--- where the path is empty, the state that it has come to is the first, and all is explored
+-- if the path is empty, its state is the start, and all is explored
 abbrev pub MovesOrEnds : Program → Search → ℕ → Option Move → Type 0
 MovesOrEnds p search n None = Goes p search (Done n)
 MovesOrEnds p search n (Some made) = Moves p search made

@@ -1,4 +1,4 @@
--- The path as it is kept: pending states apart from the rest of their visits.
+-- The path as it is stored: pending states in a list of their own.
 use Rattle.std.specs.Prelude.{ℕ, ◌+◌, List, [], ◌∷◌, Option, Some, None, Bool, true, false}
 use Rattle.stack_state.specs.declared.states.State.{State}
 use Rattle.explorer.specs.declared.trail.Visit.{Visit}
@@ -8,7 +8,7 @@ use Rattle.explorer.specs.declared.trail.Step.{Step}
 pub record Visits : Type 0 where
   pub items : List Visit
 
--- a step that waits does so for the first of the states
+-- a step with a pending state has the first of the states
 abbrev pub pending_of : Bool → List State → Option State
 pending_of false states = None
 pending_of true [] = None
@@ -29,7 +29,7 @@ abbrev pub one_if : Bool → ℕ
 one_if false = 0
 one_if true = 1
 
--- how many steps wait
+-- how many steps have a pending state
 abbrev pub waiting : List Step → ℕ
 waiting [] = 0
 waiting (step ∷ steps) = one_if step.waits + waiting steps

@@ -1,4 +1,4 @@
-//! What is known where a program is refused, and the way there.
+//! What is known where a program is refused, and the path there.
 
 ghost use Rattle.std.specs.Prelude.{◌≡◌, ◌<◌, [], ◌∷◌, ◌++◌, drop, length, List, IfSome, IsTrue};
 ghost use Rattle.isa_model.specs.Code.Instructions.{Program};
@@ -19,11 +19,10 @@ use std::alloc::{AllocError, Global};
 use transfer::Ways;
 use walks::Refusal;
 
-/// The most jumps of a way that are kept, the last ones.
+/// How many jumps of a path are kept at most: the last ones.
 pub const MOST_JUMPS: usize = 8;
 
-/// A step that does not go on to the next instruction: the slot where it is taken, and that to
-/// which it leads.
+/// A step that does not go to the next instruction: its slot and its target.
 #[derive(Clone, Copy, PartialEq, Eq, Debug, Default, Drop)]
 pub struct Jump {
     pub from: usize,
@@ -37,12 +36,12 @@ pub struct Explanation {
     pub state: State,
     /// The last jumps on the way there.
     pub way: ArrayVec<Jump, 8>,
-    /// Whether looking up states, or storing them, had come to its limit: from then on states were
-    /// not told apart, and each was explored as a new one.
+    /// Whether the limit of look-ups or of stored states was reached: from then on states were not
+    /// compared, and each was explored as a new one.
     pub is_cut_off: bool,
 }
 
-/// A jump comes after the others.
+/// Adds a jump after the others; a full list loses its first one.
 fn note(way: &mut ArrayVec<Jump, 8>, jump: Jump)
     ensures room { length way.old.items < MOST_JUMPS
         → way.new.items ≡ way.old.items ++ jump ∷ [] }
@@ -55,7 +54,8 @@ fn note(way: &mut ArrayVec<Jump, 8>, jump: Jump)
     way.push(jump);
 }
 
-/// A way goes on from one slot to another. None: it does not.
+/// Extends a way by the step from one slot to another, which is noted if it is a jump. None: no
+/// instruction begins at `from`.
 fn go_on(image: &Image, way: &mut ArrayVec<Jump, 8>, from: usize, to: usize) -> Option<()>
     ensures { IfSome result (λ _. (a s : TheState) → a.slot ≡ from → s.slot ≡ to
         → StepsTo image.now a s → IsLed image.now a way.old.items
@@ -82,7 +82,7 @@ struct Follower<'a> {
 }
 
 impl<'a> Follower<'a> {
-    /// Has followed nothing yet.
+    /// A follower before the search.
     fn new(alloc: Global, image: &'a Image, slot: usize) -> Self
         ensures slot { result.slot ≡ slot }
         ensures image { result.image.now ≡ image.now }
@@ -97,8 +97,8 @@ impl<'a> Follower<'a> {
         }
     }
 
-    /// What is known at the end of the path, which is at this slot, and whether states were not
-    /// told apart any more. None: another one was asked for.
+    /// What is known at the end of the path, which is at this slot, and whether states were no
+    /// longer compared. None: another path was asked for.
     fn into_explanation(self, slot: usize, is_cut_off: bool) -> Option<Explanation>
         ensures { IfSome result (λ x. (p : Program) (before : List TheState) (s : TheState)
             → HasFollowed self.entry.image.now self.entry.slots.items self.entry.slot

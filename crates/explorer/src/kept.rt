@@ -1,4 +1,4 @@
-//! Abstract states in as little room as they need.
+//! Abstract states, stored compactly.
 
 ghost use Rattle.std.specs.Prelude.{◌≡◌, IfOk, IsTrue};
 ghost use Rattle.state_index.specs.Parts.{AreParts};
@@ -80,8 +80,8 @@ impl Model for Kept {
 }
 
 impl Kept {
-    /// Keeps a state, the parts of whose frames are taken in the room for them. It shares what it
-    /// can with another one.
+    /// Keeps a state. The parts of its frames are computed in scratch space, and it shares what it
+    /// can with another state.
     pub(crate) fn of(
         alloc: Global,
         state: &State,
@@ -94,8 +94,8 @@ impl Kept {
         Kept::of_parts(alloc, state, room, other)
     }
 
-    /// Keeps a state, of whose innermost frame these are the parts. Those of the others are taken
-    /// in the same room.
+    /// Keeps a state whose innermost frame has these parts. The parts of its other frames are
+    /// computed in the same scratch space.
     pub(crate) fn of_parts(
         alloc: Global,
         state: &State,
@@ -157,8 +157,8 @@ impl Kept {
         self.innermost.put_limits(limits, level)
     }
 
-    /// How many places are compared at most where the state is compared with another one: those of
-    /// all frames, and once more for each identity that is named.
+    /// How many places are compared at most when the state is compared with another one: those of
+    /// all frames, and once more for each identity that it uses.
     pub(crate) fn places(&self) -> usize {
         let mut named = self.innermost.named();
         for frame in self.callers.as_ref().as_slice() {
@@ -170,7 +170,7 @@ impl Kept {
             .saturating_mul(named.saturating_add(1))
     }
 
-    /// A quick test whether the state may be one that this one covers: a no says that it is not.
+    /// A quick test whether this may cover the state: false means that it does not.
     pub(crate) fn may_cover(&self, state: &State) -> bool
         ensures { self.now ≡ state.now → IsTrue result }
     {

@@ -1,4 +1,4 @@
-//! Frames in as little room as they need.
+//! Frames, stored compactly.
 
 ghost use Rattle.std.specs.Prelude.{◌≡◌, ◌≤◌, ◌++◌, IfOk, IsTrue, length};
 ghost use Rattle.stack_state.specs.Slots.{frame_slots};
@@ -38,7 +38,7 @@ impl Model for KeptFrame {
 }
 
 impl KeptFrame {
-    /// Keeps a frame that has these parts, in pieces of which some may be those of another frame.
+    /// Keeps a frame with these parts, in pieces, some of which it may share with another frame.
     pub fn with_parts(
         alloc: Global,
         frame: &AbstractFrame,
@@ -59,7 +59,7 @@ impl KeptFrame {
         })
     }
 
-    /// Whether it is the frame: a no may be wrong.
+    /// Whether this is the frame; a wrong false is possible.
     pub fn is_frame(&self, frame: &AbstractFrame) -> bool
         ensures { IsTrue result → self.now ≡ frame.now }
     {
@@ -76,7 +76,7 @@ impl KeptFrame {
         rest.is_empty()
     }
 
-    /// A quick test whether the frame may be one that this one covers: a no says that it is not.
+    /// A quick test whether this may cover the frame: false means that it does not.
     pub fn may_cover(&self, frame: &AbstractFrame) -> bool
         ensures { self.now ≡ frame.now → IsTrue result }
     {
@@ -179,7 +179,7 @@ fn are_slots(rest: &mut Rest<'_>, slots: &[Slot; FRAME_SLOTS]) -> bool
     true
 }
 
-/// Whether the frames are the ones that were kept: a no may be wrong.
+/// Whether the frames are the kept ones; a wrong false is possible.
 pub fn are_frames(kept: &[KeptFrame], frames: &[AbstractFrame]) -> bool
     ensures { IsTrue result → kept.now ≡ frames.now }
 {
@@ -213,7 +213,7 @@ pub fn keep_all(
     Ok(kept)
 }
 
-/// Makes the frames as many as that, the last ones like this one where there are too few.
+/// Makes the list this long; new frames are copies of this one.
 fn resize(frames: &mut ArrayVec<AbstractFrame, MAX_CALLERS>, count: usize, frame: &AbstractFrame)
     requires { count ≤ 7 }
     ensures { length frames.new.items ≡ count }

@@ -1,4 +1,4 @@
-//! The search for a bound, all of which a listener hears.
+//! The search for a bound, which calls a listener for each move.
 
 ghost use Rattle.std.specs.Prelude.{◌≡◌, ◌≤◌, [], IfOk, IfErr};
 ghost use Rattle.isa_model.specs.Running.Outcomes.{StartsEnd};
@@ -21,7 +21,7 @@ use isa_model::MAX_EXPLORED;
 use std::alloc::Global;
 use walks::Refusal;
 
-// The bound of a program's runs, and what a listener has heard of the search for it.
+// The bound of a program's runs, and the listener after the search for it.
 fn bound_with<L: Listener>(
     alloc: Global,
     image: &Image,
@@ -49,9 +49,9 @@ fn bound_with<L: Listener>(
     }
 }
 
-/// Verifies a program as `verify` does, and tells a listener of the search: of a program that is
-/// refused for its control flow, or where memory runs out before it, there is none. Unless the
-/// listener stops it, the answer has each clause of `verify`'s.
+/// Verifies a program as `verify` does, and calls a listener during the search. There is no search
+/// if the program is refused for its control flow, or if memory runs out before it. Unless the
+/// listener stops the search, the answer has each clause of `verify`'s.
 pub fn verify_with<L: Listener>(
     alloc: Global,
     image: Image,

@@ -1,4 +1,4 @@
-//! What a search tells, and who listens.
+//! Listeners, which a search calls for each move.
 
 ghost use Rattle.std.specs.Prelude.{◌≡◌, ◌∷◌, List, OnOk};
 ghost use Rattle.isa_model.specs.Code.Instructions.{Program};
@@ -13,18 +13,18 @@ use std::convert::Infallible;
 use transfer::Ways;
 use walks::Refusal;
 
-/// Listens to a search, which tells of all that it does, in its order.
+/// A listener. A search calls it for all that it does, in order.
 ///
 /// The states of the path are those that arrived, but for those that are covered or have a number.
 pub trait Listener {
-    /// Why it stops a search.
+    /// Why it stopped a search.
     type Stop: Drop;
 
-    // What it was told leads along a path with these states, the last one first, and of all states
-    // that arrived, this one came last.
+    // The calls so far describe a path with these states, the last one first, and this state
+    // arrived last.
     ghost follows: { Self → Program → List TheState → TheState → Type 0 };
 
-    /// The path comes to a state.
+    /// The path arrives at a state.
     fn arrives(&mut self, state: &State) -> Result<(), Self::Stop>
         ensures { (p : Program) (path : List TheState) (last : TheState) → ComesTo p path state.now
             → follows self.old p path last
@@ -47,7 +47,7 @@ pub trait Listener {
         ensures { (p : Program) (path : List TheState) (last : TheState)
             → follows self.old p path last → OnOk result (follows self.new p path last) };
 
-    /// The step of the last state of the path goes these ways.
+    /// The step of the path's last state has these ways.
     fn stepped(&mut self, ways: Ways) -> Result<(), Self::Stop>
         ensures { (p : Program) (path : List TheState) (last : TheState)
             → follows self.old p path last → OnOk result (follows self.new p path last) };
@@ -63,7 +63,7 @@ pub trait Listener {
             → follows self.old p path last → follows self.new p path last };
 }
 
-/// Tells of a move that leads to this state, and of the state that was stored last.
+/// Reports a move to this state, and the state that was stored last.
 #[inline(always)]
 pub fn tell<L: Listener>(
     listener: &mut L,
@@ -88,8 +88,8 @@ pub fn tell<L: Listener>(
     }
 }
 
-/// Why a search stops with a refusal at this state: it is told first of a state to which the path
-/// comes back.
+/// Why a search stops with a refusal at this state; the listener is called first for a state to
+/// which the path comes back.
 #[inline(always)]
 pub fn halt<L: Listener>(listener: &mut L, state: &State, refused: Refused) -> Halt<L::Stop>
     ensures same { IfRefused result (λ e slot. (e ≡ refused.0) × (slot ≡ refused.1)) }

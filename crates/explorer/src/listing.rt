@@ -28,8 +28,8 @@ pub struct Entry {
     pub number: u32,
     /// The state in which it is explored.
     pub state: Kept,
-    /// The places of the entries to which its step leads, the fall-through's first. Where a state
-    /// that was stored covers the one that it leads to, the place is that of the stored one.
+    /// The places of the entries for its successors, the fall-through's first. If a stored state
+    /// covers a successor, the place is that of the stored state.
     pub successors: ArrayVec<u32, 2>,
 }
 
@@ -78,8 +78,8 @@ struct Lister {
     path: Vec<u32>,
     /// For the parts of a frame.
     room: Vec<Part>,
-    /// A state of which nothing is known. It stands in the entries of stored states, which get
-    /// those states in the end.
+    /// A state about which nothing is known: a placeholder in the list of stored states until their
+    /// values are restored.
     blank: State,
     kept_blank: Option<Kept>,
 }
@@ -99,7 +99,7 @@ impl Lister {
         }
     }
 
-    /// The last state of the path leads to an entry.
+    /// The entry is a successor of the path's last state.
     fn lead_to(&mut self, place: u32) {
         let Some(last) = self.path.last() else {
             return;
@@ -114,7 +114,7 @@ impl Lister {
         }
     }
 
-    /// Keeps a state of which nothing is known, in as little room as there is for it.
+    /// A state about which nothing is known, in as little room as possible.
     fn keep_blank(&mut self) -> Result<Kept, AllocError> {
         let like = self.kept_blank.as_ref();
         let blank = Kept::of(self.alloc, &self.blank, &mut self.room, like)?;

@@ -1,4 +1,4 @@
-//! What a search does next to the other, and why it stops.
+//! The moves of a search, and why it stops.
 
 use walks::Refusal;
 
@@ -8,14 +8,14 @@ pub type Refused = (Refusal, usize);
 /// The refusal where memory runs out.
 pub const NO_MEMORY: Refused = (Refusal::Memory, 0);
 
-/// What a search does next to the other.
+/// A move of a search.
 #[derive(Clone, Copy, Drop)]
 pub enum Move {
-    /// The path comes to the current state, which is to be explored. At a join it is stored, at
+    /// The path arrives at the current state, which is to be explored. At a join it is stored, at
     /// this place.
     New(Option<usize>),
-    /// The path comes to the current state, which the stored state at this place covers: it has
-    /// that one's number.
+    /// The path arrives at the current state, which the stored state at this place covers: it has
+    /// the same number.
     Covered(usize, u32),
     /// The last state of the path is explored, and this is its number.
     Finished(u32),
@@ -28,7 +28,7 @@ pub enum Turn {
     Done(u32),
 }
 
-/// Why a search comes to no number.
+/// Why a search finds no number.
 #[derive(Clone, Copy, Drop)]
 pub enum Halt<S> {
     /// The program is refused so, at this slot.

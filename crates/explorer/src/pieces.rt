@@ -15,7 +15,7 @@ use std::rc::Rc;
 /// How many parts of a frame are not put into pieces, if these are all.
 pub const FEW: usize = 4;
 
-/// How many registers may stand in one piece, and how many slots.
+/// How many registers or slots a piece has at most.
 const REGISTERS: u8 = 3;
 
 const SLOTS: u8 = 8;
@@ -30,7 +30,7 @@ pub fn words_of(parts: &[Part]) -> usize {
     parts.len().saturating_mul(PART_WORDS)
 }
 
-/// Parts that stand beside one another in a frame. States that know the same there share them.
+/// Adjacent parts of a frame. States that know the same there share the piece.
 ///
 /// Contracts see the parts.
 #[derive(Drop)]
@@ -83,7 +83,7 @@ impl Piece {
     }
 }
 
-/// What tells pieces apart: registers and slots by their places.
+/// The key of a piece: the places of its registers or slots.
 fn group_of(part: &Part) -> u8 {
     match part {
         Part::InRegister(place, _) => *place / REGISTERS,
@@ -91,7 +91,7 @@ fn group_of(part: &Part) -> u8 {
     }
 }
 
-/// How many parts stand in the first piece of some parts.
+/// How many of some parts the first piece has.
 fn first_piece(parts: &[Part]) -> usize {
     let mut count: usize = 0;
     let mut group = 0;
@@ -146,15 +146,15 @@ fn push_piece(
 /// The parts of a kept frame.
 #[derive(Drop)]
 pub enum KeptParts {
-    /// All of them, where they are few.
+    /// All of them, if they are few.
     Few(Vec<Part>),
-    /// All of them in pieces, where they are more.
+    /// All of them in pieces, if they are more.
     Many(Vec<Piece>),
 }
 
 impl KeptParts {
-    /// The parts, of which some pieces may be those of another state. They are put into pieces if
-    /// they are more than that.
+    /// The parts, some of whose pieces may be shared with another state. They are split into pieces
+    /// if they are more than that.
     pub fn of(
         alloc: Global,
         parts: &[Part],
@@ -192,7 +192,7 @@ impl KeptParts {
     }
 }
 
-/// The parts in pieces, of which some may be those of another state.
+/// The parts in pieces, some of which may be shared with another state.
 fn cut(alloc: Global, parts: &[Part], others: &[Piece]) -> Result<Vec<Piece>, AllocError>
     ensures { IfOk result (λ pieces. whole pieces.items ≡ parts.now) }
 {
@@ -240,7 +240,7 @@ impl<'a> Rest<'a> {
         }
     }
 
-    /// Whether there is none: a no may be wrong.
+    /// Whether there are no parts; a wrong false is possible.
     pub fn is_empty(&self) -> bool
         ensures { IsTrue result → self.now ≡ [] }
     {
@@ -301,7 +301,8 @@ pub fn write_all(frame: &mut AbstractFrame, parts: &[Part])
     }
 }
 
-/// Whether what is known of places may cover what a frame knows of them: a no says that it does not.
+/// Whether what is known of places may cover what a frame knows of them: false means that it does
+/// not.
 pub fn may_cover_all(parts: &[Part], frame: &AbstractFrame) -> bool
     ensures { All (IsPartOf frame.now) parts.now → IsTrue result }
 {

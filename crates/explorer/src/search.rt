@@ -34,11 +34,11 @@ pub struct Search {
     /// How many instructions have their number.
     pub finished: u32,
     pub current: State,
-    /// A state for passing use.
+    /// Scratch space for a state.
     pub scratch: State,
 }
 
-/// A path comes to a state, which may have been kept already.
+/// A path arrives at a state, which may have been kept already.
 fn arrive(
     alloc: Global,
     flow: &Flow<'_>,
@@ -92,7 +92,7 @@ impl Search {
         })
     }
 
-    /// The path comes to the current state, which may have been kept already.
+    /// The path arrives at the current state, which may have been kept already.
     #[inline(always)]
     fn come(&mut self, alloc: Global, flow: &Flow<'_>, kept: Option<Kept>) -> Result<Move, Refused>
         requires comes { Comes flow.now self.old }
@@ -115,7 +115,7 @@ impl Search {
         )
     }
 
-    /// The path comes to the start.
+    /// The path arrives at the start.
     fn begin(&mut self, alloc: Global, flow: &Flow<'_>) -> Result<Move, Refused>
         requires whole { IsImage flow.now }
         requires new { IsNew self.old }
@@ -130,8 +130,8 @@ impl Search {
         self.come(alloc, flow, None)
     }
 
-    /// Explores the instruction at the current state, which is stored there. What is dead where it
-    /// leads is forgotten, and what is then pending is kept by way of the room for its parts.
+    /// Explores the instruction at the current state, which is stored there. What is dead at its
+    /// successors is forgotten, and the pending state is stored compactly; `room` is scratch space.
     #[inline(always)]
     fn step(
         &mut self,
@@ -187,8 +187,8 @@ impl Search {
         Ok((ways, made))
     }
 
-    /// The path has come to a state with this number: its last visit ends, or goes on with what
-    /// was pending. None: there is no visit, and this is the number of the start.
+    /// The path has arrived at a state with this number: its last visit ends, or continues with
+    /// what was pending. None: there is no visit, and this is the number of the start.
     #[inline(always)]
     fn back(&mut self, alloc: Global, flow: &Flow<'_>, ended: u32) -> Result<Option<Move>, Refused>
         requires at { HasEnded flow.now self.old ended }
@@ -230,7 +230,7 @@ impl Search {
         Ok(Some(made))
     }
 
-    /// Tells of a move, and goes back along the path to what comes next.
+    /// Reports a move, and goes back along the path to what is next.
     #[inline(always)]
     fn settle<L: Listener>(
         &mut self,
@@ -270,7 +270,7 @@ impl Search {
         }
     }
 
-    /// Explores the instruction at the current state, and goes on to what comes next.
+    /// Explores the instruction at the current state, and moves to what is next.
     #[inline(always)]
     fn advance<L: Listener>(
         &mut self,
@@ -307,7 +307,7 @@ impl Search {
         self.settle(alloc, flow, made, listener)
     }
 
-    /// Explores all that the start leads to.
+    /// Explores all that can be reached from the start.
     fn run<L: Listener>(
         &mut self,
         alloc: Global,
@@ -348,8 +348,8 @@ impl Search {
         }
     }
 
-    /// Explores all that the start leads to, and answers its number. States are kept by way of the
-    /// room for their parts.
+    /// Explores all that can be reached from the start, and answers its number. `room` is scratch
+    /// space for the parts of states.
     pub fn explore<L: Listener>(
         &mut self,
         alloc: Global,

@@ -26,7 +26,7 @@ struct Scan {
     count: usize,
 }
 
-/// How many words of 8 bytes the stored states may take, of what they do not share with others.
+/// How many words of 8 bytes the stored states may take, shared ones not counted.
 const MOST_WORDS: u64 = 15_000_000;
 
 /// How many words a state takes in a tree.
@@ -40,17 +40,17 @@ const CALLER_READINGS: usize = 3;
 pub struct StoredStates {
     pub entries: Vec<Stored>,
     index: Index,
-    /// Of the state that is looked for.
+    /// The key of the state that is looked up.
     key: Key,
     /// The longest scan when a state was looked for last.
     longest: Scan,
     /// What looking up has cost.
     effort: Effort,
-    /// Whether it has cost all that it may: then no state is looked up or stored any more.
+    /// Whether the limit of that cost is reached: then no state is looked up or stored any more.
     pub is_over: bool,
     /// How many words the states take.
     words: u64,
-    /// Whether they take all that they may: then no other is stored.
+    /// Whether the limit of that room is reached: then no other state is stored.
     pub is_full: bool,
 }
 
@@ -123,7 +123,7 @@ impl StoredStates {
         Ok(rows)
     }
 
-    /// Turns to a state, which is then looked for and stored. It may have been kept already.
+    /// Takes a state to be looked up and stored next. It may have been kept already.
     pub fn turn_to(
         &mut self,
         alloc: Global,
@@ -306,7 +306,7 @@ impl StoredStates {
         false
     }
 
-    /// Stores the state that was turned to, and answers its place.
+    /// Stores the state that was taken, and answers its place.
     pub fn store(
         &mut self,
         alloc: Global,

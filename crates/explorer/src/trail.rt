@@ -7,9 +7,9 @@ use crate::kept::Kept;
 use std::alloc::{AllocError, Global};
 use std::marker::Model;
 
-/// How many words of 8 bytes the pending states of a path may take, of what they do not share with
-/// others. A path that takes more is out of memory, however much the machine has, so that every
-/// machine gives the same answer.
+/// How many words of 8 bytes the pending states of a path may take, shared ones not counted. A path
+/// that takes more is out of memory, however much the machine has, so that every machine gives the
+/// same answer.
 const MOST_WORDS: u64 = 18_000_000;
 
 /// An instruction on the path, and what is still to be explored after it.
@@ -17,13 +17,13 @@ const MOST_WORDS: u64 = 18_000_000;
 pub struct Visit {
     /// The state after the taken jump, until it is explored.
     pub pending: Option<Kept>,
-    /// The greatest number of the states after it so far, 0 where there is none yet.
+    /// The greatest number so far of the states after it, 0 if there is none yet.
     pub best: u32,
     /// Where its own state is stored.
     pub stored: Option<usize>,
 }
 
-/// A visit but for its pending state.
+/// A visit without its pending state.
 #[derive(Clone, Copy, Drop)]
 struct Step {
     best: u32,
@@ -32,8 +32,8 @@ struct Step {
     waits: bool,
 }
 
-/// The visits of a path, the first instruction's first. Most visits of a long path wait for
-/// nothing, so pending states stand apart.
+/// The visits of a path, the first instruction's first. Most visits of a long path have nothing
+/// pending, so pending states are in a list of their own.
 ///
 /// Contracts see the visits.
 #[derive(Drop)]

@@ -45,8 +45,8 @@ fn bound_of(alloc: Global, image: &Image) -> Result<u32, (Refusal, usize)>
 /// Looks for a bound on the steps of each run, or refuses, with the slot at which it does.
 ///
 /// Control flow is tested first. Then states are explored from the start; a state's number is 1
-/// more than the greatest of those after it, and the bound is the number of the start. No more than
-/// `MAX_EXPLORED` instructions are explored.
+/// more than the greatest of its successors', and the bound is the number of the start. No more
+/// than `MAX_EXPLORED` instructions are explored.
 pub fn verify(alloc: Global, image: Image) -> Result<Verified, (Refusal, usize)>
     ensures program { IfOk result (λ verified. verified.program ≡ image) }
     ensures verified { IfOk result IsVerified }

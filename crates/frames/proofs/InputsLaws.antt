@@ -16,14 +16,14 @@ use Rattle.frames.specs.Readers.{Position, Fresh, At, Done}
 use Rattle.frames.specs.Reading.{ReadsMagic, MayOpen, Opens, position_opened, begun_at, Found, Stopped, Stops, Reads, IsOpen, CanStop, next_position, Finds}
 use Rattle.frames.specs.Inputs.{AreReadFrom, IsBegunBy, IsBegunVersion}
 
--- Frames of a stream of this version were found, from a fresh reader on, of which the source had the bytes `old` at the
--- start and has `known` now.
+-- Frames of a stream of this version were found by a reader that was fresh at first. Its source had
+-- the bytes `old` then, and has `known` now.
 pub record HasFound (v : Version) (frames : List Frame) (old known : Option (List ℕ)) (position : Position) : Type 0 where
   pub stands : position ≡ At v (length frames) (offset_after v frames)
   pub are_open : AreOpen v frames
   pub lost : Consumes old known (stream_bytes v frames)
 
--- a reader that has read the magic alone has found no frame
+-- a reader that has read only the magic has found no frame
 pub HasFound-opened : (v : Version) (old known : Option (List ℕ)) → ReadsMagic old known (Ok v) → HasFound v [] old known (At v 0 4)
 HasFound-opened v old known r = record { stands = refl; are_open = AreOpen-nil v; lost = lost old known r }
   where
@@ -32,7 +32,7 @@ HasFound-opened v old known r = record { stands = refl; are_open = AreOpen-nil v
     lost (Some bytes) None r = absurd r
     lost (Some bytes) (Some rest) r = r ∙ ap (λ (l : List ℕ). l ++ rest) (sym (append-nil (stream_magic v)))
 
--- the stream in which a fault stands in the place of the magic
+-- the stream with a fault in place of the magic
 abbrev pub unopened : Fault → Stream
 unopened fault = stream_with One ([], finish.Fault fault 0)
 
@@ -206,12 +206,12 @@ HasBegun-opens v old new after opens is = go opens.0 opens.1 opens.2 opens.3
       read = unopened_from old new fault reads may;
     })
 
--- these frames may stand in the stream
+-- these frames are allowed in the stream
 pub HasBegun-open : (v : Version) (frames : List Frame) (old known : Option (List ℕ)) (p : Position) → HasBegun v frames old known p → AreOpen v frames
 HasBegun-open v frames old known p (inl s) = s.are_open
 HasBegun-open v frames old known p (inr u) = subst (AreOpen v) (sym u.none) (AreOpen-nil v)
 
--- a call that finds one more frame, of which there is room for
+-- a call that finds one more frame, for which there is room
 pub HasBegun-found : (v : Version) (frames : List Frame) (old known new : Option (List ℕ)) (p q : Position) (f : Frame) → HasBegun v frames old known p → Finds p known new q (Found f)
     → HasFound v (frames ++ f ∷ []) old new q × (length frames < max_frames) × IsFrame v f
 HasBegun-found v frames old known new p q f (inl s) h =

@@ -16,13 +16,14 @@ use Rattle.frames.specs.declared.reader.Next.TheVariants as next
 
 -- ---- the magic
 
--- where a reader stands after the magic, or what stands in its place
+-- a reader's position after the magic, or after a fault in its place
 abbrev pub position_opened : Result Version Fault → Position
 position_opened (Ok version) = At version 0 4
 position_opened (Err fault) = Done One (finish.Fault fault 0)
 
--- The magic of a version was read from a source with these bytes left before and those after; or it is the fault that
--- stands in its place, and only for ReadFailed did the source answer an error, after the bytes that it lost.
+-- The magic of a version was read from a source with these bytes left before and those after; or it
+-- is the fault in its place, and only for ReadFailed did the source return an error, after the
+-- bytes that were read.
 abbrev pub ReadsMagic : Option (List ℕ) → Option (List ℕ) → Result Version Fault → Type 0
 ReadsMagic None new answer = Unit {0}
 ReadsMagic (Some bytes) new (Err ReadFailed) = (read : List ℕ) × Consumes (Some bytes) new read × (opened read ByError ≡ Err ReadFailed)
@@ -30,18 +31,18 @@ ReadsMagic (Some bytes) new (Err fault) = opened bytes ByEnd ≡ Err fault
 ReadsMagic (Some bytes) None (Ok version) = ⊥
 ReadsMagic (Some bytes) (Some rest) (Ok version) = bytes ≡ stream_magic version ++ rest
 
--- there are bytes, and an end of them, in which this fault stands in the place of the magic
+-- there are bytes, and a way in which they end, with this fault in place of the magic
 abbrev pub MayOpen : Result Version Fault → Type 0
 MayOpen (Ok version) = Unit {0}
 MayOpen (Err fault) = (bytes : List ℕ) × (ending : Ending) × (opened bytes ending ≡ Err fault)
 
--- the magic is read once: a reader that stands behind it reads nothing and stays there
+-- the magic is read once: a reader after it reads nothing and stays there
 abbrev pub Opens : Position → Option (List ℕ) → Option (List ℕ) → Position → Type 0
 Opens Fresh old new after = (answer : Result Version Fault) × ReadsMagic old new answer × MayOpen answer × (after ≡ position_opened answer)
 Opens (At version number offset) old new after = (after ≡ At version number offset) × (new ≡ old)
 Opens (Done version stop) old new after = (after ≡ Done version stop) × (new ≡ old)
 
--- the version of the stream in which a reader stands, or the fault by which it is done
+-- the version of the stream that is read, or the fault that ended it
 abbrev pub begun_at : Position → Result ℕ (Fault × ℕ)
 begun_at Fresh = Err (BadMagic, 0)
 begun_at (At version number offset) = Ok (version_number version)
@@ -69,19 +70,19 @@ abbrev pub after_stop : Position → Finish → Position
 after_stop (At version number offset) stop = Done version stop
 after_stop position stop = position
 
--- where the reader stands after it
+-- the reader's position after it
 abbrev pub next_position : Position → Finding → Position
 next_position position (Found f) = after_frame position f
 next_position position (Stopped stop) = after_stop position stop
 
--- why no record follows at a position behind the magic, if none does
+-- why no record follows at a position after the magic, if none does
 abbrev pub stop_from : Position → List ℕ → Ending → Option Finish
 stop_from Fresh bytes ending = None
 stop_from (At version number offset) bytes ending = stop_at version number offset bytes ending
 stop_from (Done version stop) bytes ending = Some stop
 
--- The stream stops at a position, where the source has these bytes left before the call and those after it. Only
--- for ReadFailed did the source answer an error, after the bytes that it lost.
+-- The stream stops at a position, where the source has these bytes left before the call and those
+-- after it. Only for ReadFailed did the source return an error, after the bytes that were read.
 abbrev pub Stops : Position → List ℕ → Option (List ℕ) → Finish → Type 0
 Stops position bytes new (finish.Fault ReadFailed offset) =
     (read : List ℕ) × Consumes (Some bytes) new read × (stop_from position read ByError ≡ Some (finish.Fault ReadFailed offset))
@@ -100,23 +101,24 @@ Reads position (Some bytes) new (Stopped stop) = Stops position bytes new stop
 Reads position (Some bytes) None (Found f) = ⊥
 Reads position (Some bytes) (Some rest) (Found f) = Begins position bytes f rest
 
--- this record may stand at the position
+-- this record is allowed at the position
 abbrev pub IsOpen : Position → Frame → Type 0
 IsOpen (At version number offset) f = (number < max_frames) × IsFrame version f
 IsOpen position f = ⊥
 
--- there are bytes, and an end of them, at which a stream stops so at the position
+-- there are bytes, and a way in which they end, with which a stream stops so at the position
 pub record CanStop (position : Position) (stop : Finish) : Type 0 where
   pub bytes : List ℕ
   pub ending : Ending
   pub stops : stop_from position bytes ending ≡ Some stop
 
--- a record that is found may stand at the position, and a stream may stop there as it does
+-- the position allows what is found: the record, or the end or fault of the stream
 abbrev pub HasRoom : Position → Finding → Type 0
 HasRoom position (Found f) = IsOpen position f
 HasRoom position (Stopped stop) = CanStop position stop
 
--- What a call of `next` finds, and where it leaves the reader. The magic is read first, where it was not.
+-- What a call of `next` finds, and where it leaves the reader. The magic is read first, if it was
+-- not read before.
 pub record Finds (before : Position) (old new : Option (List ℕ)) (after : Position) (finding : Finding) : Type 0 where
   pub begun : Position
   pub left : Option (List ℕ)

@@ -6,8 +6,7 @@ ghost use Rattle.exact_io.specs.Transfers.{Fills};
 use exact_io::{Filled, fill};
 use std::io::Read;
 
-/// Fills the buffer from its front, as `fill` does; nearly always by one read, which stands in the
-/// caller's code.
+/// Fills the buffer from its front, as `fill` does; nearly always by one read, which is inlined.
 #[inline(always)]
 pub fn fill_at_once<R: Read>(source: &mut R, buffer: &mut [u8]) -> Filled
     ensures { Fills (R.remaining source.old) (R.remaining source.new) result buffer.new }

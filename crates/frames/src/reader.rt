@@ -15,7 +15,7 @@ use std::marker::Model;
 /// What a call of `FrameReader::next` found.
 #[derive(Clone, Copy, PartialEq, Eq, Debug)]
 pub enum Next {
-    /// A record: its head, the length of its body, which stands at the front of the buffer, and its
+    /// A record: its head, the length of its body, which is at the front of the buffer, and its
     /// reason, which is 0 in an `XPF1` stream.
     Frame(FrameHead, usize, u32),
     /// The end of the stream.
@@ -25,7 +25,7 @@ pub enum Next {
     Fault(Fault, u64),
 }
 
-// Where a reader stands: before the magic, before a record with this number and offset, or past all
+// A reader's position: before the magic, before a record with this number and offset, or after all
 // that it will read.
 #[derive(Clone, Copy)]
 enum Stage {
@@ -36,7 +36,7 @@ enum Stage {
 
 /// Reads the records of a stream one by one.
 ///
-/// Contracts see its source, and where it stands.
+/// Contracts see its source and its position.
 #[derive(Drop)]
 pub struct FrameReader<R> {
     source: R,
@@ -55,7 +55,7 @@ impl<R> Model for FrameReader<R> {
 }
 
 impl<R: Read> FrameReader<R> {
-    /// A reader of the stream that begins where the source stands. It reads nothing yet.
+    /// A reader of the stream that begins at the source's next byte. It reads nothing yet.
     pub fn new(source: R) -> Self
         ensures { result ≡ record { source = source; position = Fresh } }
     {
@@ -65,9 +65,8 @@ impl<R: Read> FrameReader<R> {
         }
     }
 
-    /// Reads the magic, and answers the stream's version, 1 or 2, or the fault that stands in its
-    /// place. Where the magic was read before, it reads nothing, and answers the version, or after
-    /// a fault that fault.
+    /// Reads the magic, and answers the stream's version, 1 or 2, or the fault in its place. If the
+    /// magic was read before, it reads nothing, and answers the same again.
     pub fn begin(&mut self) -> Result<u8, (Fault, u64)>
         ensures opens { Opens self.old.position (R.remaining self.old.source)
             (R.remaining self.new.source) self.new.position }
@@ -85,7 +84,7 @@ impl<R: Read> FrameReader<R> {
 
     /// Finds the next record, and puts its body at the front of the buffer. The rest of the buffer,
     /// and all of it where no record was found, may then hold any bytes. The magic is read first,
-    /// where it was not.
+    /// if it was not read before.
     ///
     /// The source's first error, of any kind, is the fault `ReadFailed`, and nothing is tried
     /// again. After the end or a fault each further call answers the same and reads nothing.
@@ -110,7 +109,7 @@ impl<R: Read> FrameReader<R> {
     }
 }
 
-// Where a reader stands when the magic is read, if it was not.
+// The position after the magic is read, if it was not read before.
 #[inline(always)]
 fn stage_begun<R: Read>(source: &mut R, stage: Stage) -> Stage
     requires within { IsWithin stage }
@@ -129,7 +128,7 @@ fn stage_begun<R: Read>(source: &mut R, stage: Stage) -> Stage
     }
 }
 
-// Where a reader stands after what it found at a record's place.
+// The position after what was found where a record may begin.
 #[inline(always)]
 fn stage_after(version: Version, number: u32, offset: u64, next: &Next) -> Stage
     requires room { HasRoomFor number next.now }
@@ -146,7 +145,7 @@ fn stage_after(version: Version, number: u32, offset: u64, next: &Next) -> Stage
     }
 }
 
-// Reads the magic, or says what stands in its place.
+// Reads the magic, or says which fault is in its place.
 #[cold]
 #[inline(never)]
 fn read_magic<R: Read>(source: &mut R) -> Result<Version, Fault>

@@ -75,10 +75,10 @@ fn write_parts<W: Write>(writer: &mut W, front: &[u8], rest: &[u8]) -> Result<()
     }
 }
 
-/// Writes a record of a stream of this version, without the magic that stands before the first one;
-/// the first version has no reasons, so there the reason does not show.
+/// Writes a record of a stream of this version, without the magic before the first one. Version 1
+/// has no reasons, so there the reason is not written.
 ///
-/// The body has at most as many bytes as a reader takes: a caller must see to that. Nothing is
+/// The body has at most as many bytes as a reader takes: the caller has to ensure that. Nothing is
 /// tried again after a failure.
 pub fn write_record<W: Write>(
     writer: &mut W,
@@ -100,12 +100,12 @@ pub fn write_record<W: Write>(
     }
 }
 
-/// Writes a record of an `XPF1` stream, without the magic that stands before the first one.
+/// Writes a record of an `XPF1` stream, without the magic before the first one.
 ///
-/// The body has at most 4,096 bytes: a caller must see to that, as by a buffer of that size, since
-/// no reader takes a record with a longer one (`TooLong`).
+/// The body has at most 4,096 bytes: the caller has to ensure that, for example by a buffer of that
+/// size, since no reader takes a record with a longer one (`TooLong`).
 ///
-/// The writer's first error, of any kind, is handed on; a write of no byte is the error
+/// The writer's first error, of any kind, is returned; a write of no byte is the error
 /// `ErrorKind::WriteZero`. Nothing is tried again.
 pub fn write_frame<W: Write>(writer: &mut W, head: &FrameHead, body: &[u8]) -> io::Result<()>
     requires { length body.now ≤ max_body One }
@@ -118,11 +118,10 @@ pub fn write_frame<W: Write>(writer: &mut W, head: &FrameHead, body: &[u8]) -> i
     write_bytes(writer, body)
 }
 
-/// Writes a record of an `XPF2` stream, with its reason, without the magic that stands before the
-/// first one.
+/// Writes a record of an `XPF2` stream, with its reason, without the magic before the first one.
 ///
-/// The body has at most 9,216 bytes: a caller must see to that. A writer's failure is handed on as
-/// by `write_frame`.
+/// The body has at most 9,216 bytes: the caller has to ensure that. A writer's failure is returned
+/// as by `write_frame`.
 pub fn write_frame2<W: Write>(
     writer: &mut W,
     head: &FrameHead,

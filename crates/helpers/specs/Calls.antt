@@ -40,7 +40,7 @@ abbrev pub IsNumber : Answer → (ℕ → Type 0) → Type 0
 IsNumber (Number n) P = P n
 IsNumber (Value place) P = ⊥
 
--- A look-up and the time leave the maps as they are. An update and a delete change their map alone.
+-- A look-up and the time leave the maps as they are. An update and a delete change only their map.
 abbrev pub AnswersAt : (clock : ℕ → ℕ) → Helper → (map : ℕ) → (key value : List ℕ) → (flags : ℕ) → (old : List MapState) → Answer → (new : List MapState) → Type 0
 AnswersAt clock MapLookupElem m key value flags old answer new = (answer ≡ found (get (map_at old m).places key)) × (new ≡ old)
 AnswersAt clock MapUpdateElem m key value flags old answer new =

@@ -43,7 +43,7 @@ module _ (p : Program) (n : ℕ) where
           leaves ∙ ap (λ (t : Turn). t.contents) (sym same),
         )
 
-  -- the pieces of frames whose runs exit, wherever they stand first
+  -- the pieces of frames whose runs exit, from any number on
   first_frames : (form : Form) (number : ℕ) (contents : List Entries) (fs gs : List Frame) (turns : List Piece) (last : List Entries) → AllExit p n contents fs
       → ReportsFrames form p number contents (fs ++ gs) turns last → (rest : List Piece) × (turns ≡ turns_pieces (limited form) (checked_rule p n) number contents fs ++ rest)
   first_frames form number contents [] gs turns last exits h = (turns, refl)

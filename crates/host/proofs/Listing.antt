@@ -80,13 +80,13 @@ module _ (line : List ℕ × List ℕ → Piece) (es : Entries) where
   pub all_lines : (k : ℕ) (r s : Option (List ℕ)) → length es ≤ k → WroteReport r s (map line (take k es)) → WroteReport r s (map line es)
   all_lines k r s past v = subst (λ (l : Entries). WroteReport r s (map line l)) (take_all k es past) v
 
--- where no entry is found, there is none
+-- if no entry is found, there is none
 pub none_past : (es : Entries) (k : ℕ) → None ≡ option_map (λ e. e.1) (slice_get es k) → length es ≤ k
 none_past [] k e = omega arith
 none_past (x ∷ es) zero e = absurd (cc)
 none_past (x ∷ es) (suc k) e = let h = none_past es k e in omega arith
 
--- the entry of which the value was found
+-- the entry whose value was found
 pub entry_of : (es : Entries) (k : ℕ) (value : List ℕ) → Some value ≡ option_map (λ e. e.1) (slice_get es k)
     → (e : List ℕ × List ℕ) × (slice_get es k ≡ Some e) × (e.1 ≡ value)
 entry_of [] k value e = absurd (cc)

@@ -1,4 +1,4 @@
--- Pieces that were written, one after another, and of which one may have failed.
+-- Pieces that were written one after another; one of them may have failed.
 use Rattle.std.proofs.Common.{◌≡◌, ℕ, zero, suc, true, false, List, [], ◌∷◌, ◌++◌, length, take, Option, refl, sym, ap, ◌∙◌, subst, append-nil, append_assoc}
 use Rattle.std.specs.List.{flat_map}
 use Rattle.std.specs.Io.KnownBytes.{Appends}
@@ -28,7 +28,7 @@ Wrote-append a b c p q first second = record {
   frames = rw (flat_map-append _ p q) (Appends-trans a.frames b.frames c.frames _ _ first.frames second.frames);
 }
 
--- pieces after pieces, of which a later one failed
+-- pieces after pieces, where a later one failed
 pub WroteBefore-append : (a b c : Outputs) (p q : List Piece) (e : HostError) → Wrote a b p → WroteBefore b c q e → WroteBefore a c (p ++ q) e
 WroteBefore-append a b c p q e first second = record {
   before = p ++ second.before;

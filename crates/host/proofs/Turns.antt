@@ -27,7 +27,7 @@ use Rattle.host.specs.Reported.{front_in, ReportsBy}
 use Rattle.host.proofs.Pieces.{Wrote-append, WroteBefore-append, wrote_frames, frames_failed}
 use Rattle.host.proofs.SoFar.{SoFar}
 
--- a body that may stand in a stream is a packet
+-- a body that a stream may have is a packet
 pub body_short : (v : Version) (n : ℕ) → n ≤ max_body v → n ≤ max_packet
 body_short One n h = omega arith
 body_short Two n h = h
@@ -106,7 +106,7 @@ module _ (form : Form) (rule : Rule) (start : List Entries) (source : Option (Li
 
 -- ---- the ends of a run
 
--- pieces after pieces, of which one of the later may have failed
+-- pieces after pieces, where one of the later ones may have failed
 Writes-append : (a b c : Outputs) (front more : List Piece) (result : Result Traced HostError) → Wrote a b front → Writes b c result more → Writes a c result (front ++ more)
 Writes-append a b c front more (Ok traced) v w = Wrote-append a b c front more v w
 Writes-append a b c front more (Err e) v w = WroteBefore-append a b c front more e v w

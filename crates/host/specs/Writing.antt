@@ -41,7 +41,7 @@ pub record WroteBefore (old new : Outputs) (pieces : List Piece) (error : HostEr
 abbrev pub Writes : {X : Type 0} → Outputs → Outputs → Result X HostError → List Piece → Type 0
 Writes old new result pieces = MatchResult result (λ _. Wrote old new pieces) (λ error. WroteBefore old new pieces error)
 
--- the same of pieces that go to the report alone, whatever the frames out hold
+-- the same of pieces for the report only, whatever the frames out have
 abbrev pub WritesReport : {X : Type 0} → Option (List ℕ) → Option (List ℕ) → Result X HostError → List Piece → Type 0
 WritesReport old new result pieces =
     (frames : Option (List ℕ)) → Writes (record { report = old; frames = frames }) (record { report = new; frames = frames }) result pieces

@@ -19,7 +19,7 @@ use maps::Maps;
 use std::alloc::Global;
 use std::io::{Read, Write};
 
-// A checked machine, the most steps of a run on one frame, and what is noted of the frames so far.
+// A checked machine, the most steps of a run on one frame, and what was noted of the frames so far.
 #[derive(Drop)]
 struct CheckedRunner {
     machine: Checked,
@@ -64,8 +64,8 @@ impl Runner for CheckedRunner {
 /// gives, at most `limit` steps a frame. The report goes to one writer, and the frames that are
 /// sent on to the other.
 ///
-/// A frame with a reason is not run, and goes out as it came. Where a run ends without an action,
-/// it is noted where it stopped.
+/// A frame with a reason is not run, and is sent on unchanged. If a run ends without an action, the
+/// place where it stopped is noted.
 ///
 /// Every answer of a frame's clock is the frame's time. Memory is taken before the first byte is
 /// written, and none after that. Nothing is tried again, and after a failure nothing is written to

@@ -169,8 +169,8 @@ fn end_run<M: Runner + Drop, W1: Write>(
 }
 
 /// Runs the frames of the stream that a source gives, by a program of this version. The report goes
-/// to one writer, and the frames out to the other, behind the magic that the stream has. What the
-/// machine noted of the frames is answered.
+/// to one writer, and the frames out to the other, after the same magic as the stream's. Answers
+/// what the machine noted of the frames.
 pub fn run_frames<M: Runner + Drop, R: Read + Drop, W1: Write, W2: Write>(
     mut machine: M,
     limit: u32,

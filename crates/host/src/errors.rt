@@ -18,7 +18,7 @@ pub enum HostError {
 }
 
 impl HostError {
-    /// Its number in the documents, such as `H1`.
+    /// Its code in docs/REFUSALS.md, such as `H1`.
     pub fn code(self) -> &'static str
         ensures { result.now ≡ code_of self }
     {

@@ -16,7 +16,7 @@ pub fn is_written(stream: Version, end: End) -> bool
     }
 }
 
-/// Why a frame for which a program of this version answers so is not sent on; 0 where it is.
+/// The reason why a frame with this answer of a program of this version is not sent on; 0 if it is.
 pub fn reason_of(program: Version, value: u64) -> u32
     ensures { result ≡ reason_of program value }
 {

@@ -1,4 +1,4 @@
-//! What a whole run comes to.
+//! The result of a whole run.
 
 use isa_model::Fault;
 

@@ -1,4 +1,4 @@
-//! What a run with checks comes to.
+//! The result of a run with checks.
 
 ghost use Rattle.std.specs.Prelude.{◌≡◌};
 ghost use Rattle.host.specs.Tallies.{tallied};

@@ -17,7 +17,7 @@ use maps::Maps;
 use std::alloc::Global;
 use std::io::{Read, Write};
 
-// A machine, every run of which exits.
+// A machine whose every run exits.
 #[derive(Drop)]
 struct MachineRunner {
     machine: Machine,

@@ -101,7 +101,7 @@ tested index (Some row) = if row_fits row then Ok row else Err (MapRow index)
 abbrev pub row_at : ℕ → List ℕ → Result MapDef ImageError
 row_at index bytes = tested index (option_map (with_kind bytes) (kind_numbered (little_number 2 bytes)))
 
--- the rows from this index on, of which there are n
+-- the n rows from this index on
 unfoldable pub rows_from : ℕ → ℕ → List ℕ → Result (List MapDef) ImageError
 rows_from zero index bytes = Ok []
 rows_from (suc n) index bytes =
@@ -158,7 +158,7 @@ at_slot slot (Err e) = Err (Code slot e)
 abbrev pub insn_at : List MapDef → ℕ → List ℕ → Result Insn ImageError
 insn_at rows slot bytes = at_slot slot (decoded bytes) >>= λ i. unless (map_refusal rows slot i) i
 
--- the slots from this one on, of which there are n; the first is a second half or not
+-- the n slots from this one on; `half` says whether the first is the second half of a wide load
 unfoldable pub code_from : List MapDef → ℕ → Bool → ℕ → List ℕ → Result (List (Option Insn)) ImageError
 code_from rows zero half slot bytes = Ok []
 code_from rows (suc n) true slot bytes = code_from rows n false (slot + 1) (drop 8 bytes) >>= λ xs. Ok (None ∷ xs)
@@ -183,7 +183,7 @@ program_read bytes =
 unfoldable pub refusal_of : List ℕ → Option ImageError
 refusal_of bytes = option_or (size_refusal bytes) (result_err (program_read bytes))
 
--- what a function returned, seen by view, is what reading gives, unless memory ran out
+-- the view of what a function returned is what reading gives, unless memory ran out
 abbrev pub Gives : {X Y : Type 0} → (X → Y) → Result X ImageError → Result Y ImageError → Type 0
 Gives view (Ok x) read = read ≡ Ok (view x)
 Gives view (Err e) read = (e ≡ Memory) ⊎ (read ≡ Err e)

@@ -10,7 +10,7 @@ use std::fmt;
 
 /// Why the bytes are no image: the first of these that is found, in the order I2, I1, I4, I6 for
 /// the 8 bytes of the head, I2, I3 for the whole length, I5 row by row, I7, and then slot by slot
-/// I8, I10, I11. I9 may come at any of these.
+/// I8, I10, I11. I9 is possible at any of these tests.
 #[derive(Clone, Copy, PartialEq, Eq, Debug)]
 pub enum ImageError {
     /// Another magic than `XBP1` and `XBP2`.
@@ -33,14 +33,14 @@ pub enum ImageError {
     /// The instruction that begins at a slot names a map that has no row.
     UnknownMap(usize),
     /// The instruction that begins at a slot points into the value of a map that is no array of one
-    /// entry, or behind its value.
+    /// entry, or past its value.
     ValuePointer(usize),
     /// Out of memory.
     Memory,
 }
 
 impl ImageError {
-    /// Its number in the documents, such as `I1`. That of the codec is not part of it.
+    /// Its code in docs/REFUSALS.md, such as `I1`, without the codec's own.
     pub fn code(self) -> &'static str
         ensures { result.now ≡ code_of self }
     {

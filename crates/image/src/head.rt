@@ -1,4 +1,4 @@
-//! The 8 bytes that stand at its front.
+//! The 8 bytes at its front.
 
 ghost use Rattle.std.specs.Prelude.{◌≡◌, ◌≤◌, ◌++◌, length};
 ghost use Rattle.byteorder.specs.Endian.{little_bytes};

@@ -115,7 +115,7 @@ impl Image {
     /// The image of this version, these map rows and instructions.
     ///
     /// The refusals come in the order I4, I6, I5 row by row, I7, and then slot by slot I10, I11; I9
-    /// may come at any of these. Jump targets are not tested.
+    /// is possible at any of these tests. Jump targets are not tested.
     pub fn of(
         alloc: Global,
         version: Version,
@@ -160,9 +160,8 @@ impl Image {
 
     /// Writes the bytes of the image.
     ///
-    /// The writer's first error, of any kind, is the failure and is handed on; a write of no byte
-    /// is the failure
-    /// `ErrorKind::WriteZero`. Nothing is tried again.
+    /// The writer's first error, of any kind, is the failure and is returned; a write of no byte is
+    /// the failure `ErrorKind::WriteZero`. Nothing is tried again.
     pub fn write<W: Write>(&self, writer: &mut W) -> io::Result<()>
         ensures ok { OnOk result
             (Appends (W.contents writer.old) (W.contents writer.new) (image_bytes self.now)) }

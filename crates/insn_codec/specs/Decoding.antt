@@ -1,5 +1,6 @@
--- What bytes are decoded to. The tests stand in their order: length, opcode, registers, unused fields, selectors,
--- and then the second slot of a wide load. RFC 9669, sections 3 to 5; that an unused field is zero is this project's own.
+-- What bytes are decoded to. The tests are in this order: length, opcode, registers, unused fields,
+-- selectors, and then the second slot of a wide load. RFC 9669, sections 3 to 5; that an unused
+-- field is zero is this project's own.
 use Rattle.std.specs.Prelude.{ℕ, ◌+◌, ◌*◌, ◌/◌, ◌%◌, ◌^◌, ◌==◌, true, false, not, nat_lt, ℤ, if◌then◌else◌, List, length, take, drop, slice_index, Option, Some, None, Result, Ok, Err}
 use Rattle.std.specs.Option.{option_map, ok_or}
 use Rattle.std.specs.Int.{w16, w32, cast_signed}
@@ -101,7 +102,7 @@ atomic w t =
     else if t.imm == 0xa1 then Ok (Atomic w atomics.Xor true at t.src)
     else Err UnknownSelector
 
--- next_imm, where the second slot is there and its reserved bits are zero
+-- next_imm, if the second slot is there and its reserved bits are zero
 abbrev pub second_slot : List ℕ → Result ℕ CodecError
 second_slot rest =
     if nat_lt (length rest) 8 then Err SecondSlot

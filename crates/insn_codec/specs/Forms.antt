@@ -69,7 +69,7 @@ comparison_numbered c =
     else if c == 0xd then Some SignedLessEqual
     else None
 
--- CALL and EXIT stand in class JMP only, with a clear source bit
+-- CALL and EXIT are of class JMP only, with a clear source bit
 abbrev pub full_only : Width → Bool → Form → Option Form
 full_only Low32 register f = None
 full_only Full64 register f = if register then None else Some f

@@ -1,4 +1,4 @@
-//! What forms mean with their fields.
+//! The instruction of a form and its fields.
 
 ghost use Rattle.std.specs.Prelude.{◌≡◌};
 ghost use Rattle.insn_codec.specs.Decoding.{op_selected, extension_selected, span_selected, arithmetic, moved, swapped, atomic, wide, called, second_slot, meaning, slot_meaning, jump_if};

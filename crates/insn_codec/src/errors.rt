@@ -25,7 +25,7 @@ pub enum CodecError {
 }
 
 impl CodecError {
-    /// Its number in the documents, such as `C1`.
+    /// Its code in docs/REFUSALS.md, such as `C1`.
     pub fn code(self) -> &'static str
         ensures { result.now ≡ code_of self }
     {

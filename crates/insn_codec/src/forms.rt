@@ -5,8 +5,7 @@ ghost use Rattle.insn_codec.specs.Forms.{alu_code_numbered, has_selector, compar
 
 use isa_model::{ByteOrder, Comparison, Narrow, Size, Width};
 
-/// The operations by their codes in an opcode. A selector tells the signed divisions from the
-/// others.
+/// The operations by their codes in an opcode. A selector says whether a division is signed.
 #[derive(Clone, Copy, PartialEq, Eq, Debug)]
 pub enum AluCode {
     Add,
@@ -152,7 +151,7 @@ fn arithmetic_form(width: Width, register: bool, code: u8) -> Option<Form>
     }
 }
 
-/// A form that stands in class JMP only, with a clear source bit.
+/// A form of class JMP only, with a clear source bit.
 fn full_only(width: Width, register: bool, form: Form) -> Option<Form>
     ensures { result ≡ full_only width register form }
 {

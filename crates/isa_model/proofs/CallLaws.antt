@@ -59,7 +59,7 @@ frame_serial_given p s j k here =
     subst (λ n. n < s.next_serial) found
     (All-get_or (λ n. n < s.next_serial) (map serial_of s.frames) j (serial_of d) (omega arith) (frame_serials_given p s k))
 
--- the serial that a call gives is none of the live ones
+-- the serial that a call gives is not the serial of a live frame
 serials_push : (xs : List ℕ) (next : ℕ) → All (λ n. n < next) xs → AllPairs (λ m n. m ≢ n) xs
     → All (λ n. n < next + 1) (xs ++ next ∷ []) × AllPairs (λ m n. m ≢ n) (xs ++ next ∷ [])
 serials_push xs next given once = (

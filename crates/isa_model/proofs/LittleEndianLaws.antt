@@ -39,7 +39,7 @@ little_bytes-little_from (suc n) i xs small fits =
     let split = drop-cons xs i 0 (omega arith) in
     rw (low, bytes_low_first-suc 0 n (b + 256 * rest), high, more, split) refl
 
--- the place of a number that stands after the first j bytes
+-- where the number after the first j bytes is
 pub little_from-drop : (n i j : ℕ) (xs : List ℕ) → little_from i n (drop j xs) ≡ little_from (j + i) n xs
 little_from-drop zero i j xs = refl
 little_from-drop (suc n) i j xs =

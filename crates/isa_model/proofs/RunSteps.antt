@@ -96,7 +96,7 @@ step_unset p clock t i here unset =
     let traps : (e : TrapReason) × (performed p clock t i ≡ Trapped e) = rw unset (UnsetRead, refl) in
     (traps.0, ap (performed_at p clock t) here ∙ traps.1)
 
--- ---- exits alone finish
+-- ---- only exits end a run
 
 sets_on : (s : State) (i : Insn) (d : Reg) (r : Result Value TrapReason) (b : ℕ) → sets s i d r ≡ Finished b → ⊥
 sets_on s i d (Ok v) b h = absurd (cc)

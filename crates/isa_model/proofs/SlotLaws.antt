@@ -163,7 +163,7 @@ Slots-store old known t h j y below fits there others =
     other h j y k new inside here apart (inr known) keeps =
         inr (known.0, known.1, splice_other h.frame.cells new (8 * j) (8 * k) 8 inside here apart ∙ known.2, keeps known.0 known.3)
 
--- a step that leaves the frame alone
+-- a step that does not change the frame
 pub Slots-keep : (old new : ℕ → ℕ → Type 0) (t v : State) → Slots old t → v.frames ≡ t.frames → reg v R10 ≡ reg t R10 → ((k z : ℕ) → old k z → new k z)
     → Slots new v
 Slots-keep old new t v h frames pointer keeps = record {

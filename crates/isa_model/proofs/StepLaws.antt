@@ -53,7 +53,7 @@ IfNext (Next t) P = P t
 IfNext (Finished a) P = Unit {0}
 IfNext (Trapped e) P = Unit {0}
 
--- a number alone goes on
+-- only a number goes on
 pub with_number : {A : Type 0} (P : A → Type 0) (v : Value) (go : ℕ → Result A TrapReason) → ((n : ℕ) → IfOk (go n) P)
     → IfOk (and_then (atomic_number v) go) P
 with_number P (Num n) go h = h n

@@ -27,7 +27,7 @@ unfolding head_bytes
 reason_field-frame_bytes One f rest ok = sym ok.reason
 reason_field-frame_bytes Two f rest ok = little_number-reads_back 4 f.reason [] ok.reason
 
--- what stands after a record's head
+-- what follows a record's head
 pub drop-head_bytes : (v : Version) (f : Frame) (rest : List ℕ) → drop (head_size v) (frame_bytes v f ++ rest) ≡ f.body ++ rest
 unfolding head_bytes
 drop-head_bytes One f rest = refl
@@ -45,7 +45,7 @@ frame_of-frame_bytes v f rest ok =
     rw (length_field-frame_bytes v f rest ok.short, drop-head_bytes v f rest) (take_at f.body rest (length f.body) refl) in
     rw (time, interface, queue, body, reason) refl
 
--- what stands after a record
+-- what follows a record
 pub drop-frame_bytes : (v : Version) (f : Frame) (rest : List ℕ) → drop (record_size v f) (frame_bytes v f ++ rest) ≡ rest
 drop-frame_bytes v f rest =
     sym (drop-drop (length f.body) (head_size v) (frame_bytes v f ++ rest))
@@ -62,20 +62,20 @@ pub some_head : (v : Version) → 20 ≤ head_size v
 some_head One = omega arith
 some_head Two = omega arith
 
--- so many bytes has its own list
+-- a record has as many bytes as its size says
 pub size-frame_bytes : (v : Version) (f : Frame) → length (frame_bytes v f) ≡ record_size v f
 unfolding head_bytes
 size-frame_bytes One f = omega arith
 size-frame_bytes Two f = omega arith
 
--- nothing stops where the head and all of its body stand
+-- the stream does not stop where a head and all of its body are there
 stop_at-none : (v : Version) (number offset : ℕ) (bytes : List ℕ) (e : Ending) → number ≢ max_frames → head_size v ≤ length bytes → length_field bytes ≤ max_body v
     → head_size v + length_field bytes ≤ length bytes → stop_at v number offset bytes e ≡ None
 unfolding stop_at
 stop_at-none v number offset [] e n p q r = let some = some_head v in absurd (omega arith)
 stop_at-none v number offset (b ∷ bytes) e n p q r = grind (arith, nat_tests)
 
--- nothing stops where a record stands
+-- the stream does not stop where a record is there
 pub stop_at-frame_bytes : (v : Version) (number offset : ℕ) (f : Frame) (rest : List ℕ) (e : Ending) → number < max_frames → IsFrame v f
     → stop_at v number offset (frame_bytes v f ++ rest) e ≡ None
 stop_at-frame_bytes v number offset f rest e early ok =
@@ -155,7 +155,7 @@ frames_from-frame_bytes (suc fuel) more v number offset f rest e early ok a b =
 pub AreOpen-nil : (v : Version) → AreOpen v []
 AreOpen-nil v = record { few = omega arith; fit = All-nil (IsFrame v) }
 
--- one more frame may stand there, while there are not too many
+-- one more frame is allowed there, while there are not too many
 pub AreOpen-push : (v : Version) (frames : List Frame) (f : Frame) → AreOpen v frames → length frames < max_frames → IsFrame v f → AreOpen v (frames ++ f ∷ [])
 AreOpen-push v frames f h more ok = record {
   few = omega (arith, length-append frames (f ∷ []));
@@ -193,7 +193,7 @@ unfolding opened
 opened-magic One rest e = let long : nat_lt (length (stream_magic One ++ rest)) 4 ≡ false = le-ltb _ _ (omega (arith, length-append (stream_magic One) rest)) in rw long refl
 opened-magic Two rest e = let long : nat_lt (length (stream_magic Two ++ rest)) 4 ≡ false = le-ltb _ _ (omega (arith, length-append (stream_magic Two) rest)) in rw long refl
 
--- what stands after the magic
+-- what follows the magic
 pub drop-magic : (v : Version) (rest : List ℕ) → drop 4 (stream_magic v ++ rest) ≡ rest
 drop-magic One rest = refl
 drop-magic Two rest = refl
@@ -207,7 +207,7 @@ stream_of-magic v rest e =
     ap (stream_opened input) (opened-magic v rest e)
     ∙ ap (λ (l : List ℕ). stream_with v (frames_from (suc (length (stream_magic v ++ rest))) v 0 4 l e)) (drop-magic v rest)
 
--- where a stream stands after these records
+-- the position in a stream after these records
 abbrev pub offset_after : Version → List Frame → ℕ
 offset_after v frames = 4 + length (records_bytes v frames)
 

@@ -1,4 +1,4 @@
-//! Packet frames: what a program is run on, and what becomes of it.
+//! Packet frames: what a program is run on, and what is done with it.
 
 ghost use Rattle.std.specs.Prelude.{◌≡◌, ◌≤◌, length};
 ghost use Rattle.isa_model.specs.Reporting.Frames.{action_of};
@@ -13,7 +13,7 @@ pub struct FrameHead {
     pub queue: u32,
 }
 
-/// What is done with a frame. Linux, `enum xdp_action`; `Invalid` stands for every other result.
+/// What is done with a frame. Linux, `enum xdp_action`; `Invalid` is every other result.
 #[derive(Clone, Copy, PartialEq, Eq, Debug)]
 pub enum Action {
     Aborted,

@@ -2,7 +2,7 @@
 //! numbers, and in
 //! `specs/` the definitions that every other crate's contracts cite.
 //!
-//! `docs/MEANING.md` tells the same in prose, with the sections of RFC 9669.
+//! `docs/MEANING.md` says the same in prose, with the sections of RFC 9669.
 #![tactic(auto)]
 
 pub mod clocks;

@@ -32,7 +32,7 @@ impl Reg {
         self as usize
     }
 
-    /// The register of that number; there is none from 11 up.
+    /// The register with that number, if it is below 11.
     pub fn numbered(number: u8) -> Option<Self>
         ensures { result ≡ reg_numbered number }
     {

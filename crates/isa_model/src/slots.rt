@@ -1,7 +1,7 @@
 //! The 8-byte slots that programs are stored in. RFC 9669, section 3.1.
 
-/// The fields of a slot, as they stand in its bytes: `offset` and `imm` are here the unsigned
-/// numbers of their two's complement.
+/// The fields of a slot, as its bytes have them: `offset` and `imm` are the unsigned numbers of
+/// their two's complement.
 #[derive(Clone, Copy, PartialEq, Eq, Debug)]
 pub struct Slot {
     pub opcode: u8,

@@ -24,7 +24,7 @@ pub enum Fault {
 }
 
 impl Fault {
-    /// Its number in the documents and in reports, such as `F1`.
+    /// Its code in docs/REFUSALS.md and in reports, such as `F1`.
     pub fn code(self) -> &'static str
         ensures code { result.now ≡ code_of self }
         ensures short { length result.now ≤ 8 }

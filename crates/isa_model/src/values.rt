@@ -3,7 +3,7 @@
 use crate::limits::FRAME_SIZE;
 
 /// What a pointer points into. The serials of call frames and of map values are never used again,
-/// so a pointer to one that is gone is dead for ever.
+/// so a pointer to one that has ended is dead for ever.
 #[derive(Clone, Copy, PartialEq, Eq, Debug)]
 pub enum Region {
     /// The context, `struct xdp_md`.
@@ -38,12 +38,12 @@ pub enum Cell {
     Piece(Region, i64, u8),
 }
 
-/// A live call frame. Its cells stand at offsets -512 to -1 from its frame pointer.
+/// A live call frame. Its cells are at offsets -512 to -1 from its frame pointer.
 #[derive(Clone, Copy)]
 pub struct CallFrame {
     pub serial: u64,
     pub cells: [Cell; FRAME_SIZE],
-    /// Where its exit leads; 0 in the first frame.
+    /// The slot to which it returns; 0 in the first frame.
     pub return_slot: usize,
     /// The caller's r6 to r9; unset in the first frame.
     pub saved: [Value; 4],

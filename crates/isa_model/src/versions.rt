@@ -25,7 +25,7 @@ impl Version {
         }
     }
 
-    /// How many bytes stand before a record's body in a stream of this version.
+    /// How many bytes come before a record's body in a stream of this version.
     pub fn head_size(self) -> usize
         ensures size { result ≡ head_size self }
         ensures bounded { result ≤ 24 }

@@ -21,7 +21,7 @@ use Rattle.known_bits.proofs.Order.{low_fits}
 use Rattle.known_bits.proofs.Sharp.{both_values, least_member, most_member}
 use Rattle.known_bits.proofs.Shift.{right_bit}
 
--- f gives n bits, each of which is its argument's at a place
+-- f gives n bits, each a copy of its argument's bit at a place
 pub record Copies (n : ℕ) (place : ℕ → ℕ) (f : ℕ → ℕ) : Type 0 where
   pub fits : 2 ^ n ≤ 2 ^ 64
   pub below : (x : ℕ) → f x < 2 ^ n

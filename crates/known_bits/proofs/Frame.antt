@@ -71,7 +71,7 @@ mod-trailing_zeros n n_in =
       | inr none ↦ let l = mod_le n (trailing_zeros w64 n) in omega arith
     ]
 
--- they tell of each power of which it is a multiple
+-- the trailing zeros of a number show each power of 2 of which it is a multiple
 pub trailing_zeros-multiple : (n j : ℕ) → n < 2 ^ 64 → j ≤ 64 → n % 2 ^ j ≡ 0 → j ≤ trailing_zeros w64 n
 trailing_zeros-multiple n j n_in j_in h =
     elim (cases_lt 0 n) [
@@ -91,7 +91,7 @@ trailing_zeros-multiple n j n_in j_in h =
 
 -- ---- members
 
--- a member is a multiple of each power of which the greatest is one
+-- a member is a multiple of each power of 2 that divides the greatest member
 pub member-multiple : {v m x : ℕ} → Known v m → IsMember v m x → (j : ℕ) → bit_or v m % 2 ^ j ≡ 0 → x % 2 ^ j ≡ 0
 member-multiple {v} {m} {x} k h j z =
     let e : x % 2 ^ j ≡ bit_and (x % 2 ^ j) (bit_or v m % 2 ^ j) = ap (λ t. t % 2 ^ j) (sym (member_and_most k h)) ∙ and_mod x (bit_or v m) j in

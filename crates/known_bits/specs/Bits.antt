@@ -20,7 +20,8 @@ IsSharp a b f mask =
     (i : ℕ) → bit_at mask i ≡ 1
     → Occurs a.value a.mask b.value b.mask f i 0 × Occurs a.value a.mask b.value b.mask f i 1
 
--- the operations that leave no bit unknown of which they could know more: shifts, by a distance that is known
+-- the operations whose result is the best one: no bit is unknown that is the same for all members;
+-- of shifts, those by a known distance
 abbrev pub IsPrecise : AluOp → Bits → Type 0
 IsPrecise Add b = ⊤
 IsPrecise Sub b = ⊤

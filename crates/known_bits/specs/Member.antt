@@ -1,4 +1,4 @@
--- The numbers that a value and a mask stand for. Linux, `struct tnum`.
+-- The numbers that a value and a mask mean. Linux, `struct tnum`.
 use Rattle.std.specs.Prelude.{ℕ, ◌≡◌, ◌^◌, ◌<◌, bit_and}
 use Rattle.std.specs.Int.{w64, bit_not, bit_at}
 

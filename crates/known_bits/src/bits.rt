@@ -55,7 +55,7 @@ impl Bits {
         }
     }
 
-    /// The numbers that both stand for.
+    /// The common members.
     pub fn meet(self, other: Self) -> Option<Self>
         ensures common { (x : ℕ) → Has self x → Has other x → IsSomeAnd result (λ m. Has m x) }
         ensures left { IfSome result (λ m. (x : ℕ) → Has m x → Has self x) }
@@ -71,7 +71,7 @@ impl Bits {
         })
     }
 
-    /// Whether each number that `other` stands for is one of these.
+    /// Whether each member of `other` is a member of this.
     pub fn covers(self, other: Self) -> bool
         ensures inclusion { IsTrue result ↔ ((x : ℕ) → Has other x → Has self x) }
         ensures equal { self ≡ other → IsTrue result }

@@ -77,7 +77,7 @@ impl Bits {
         limited.with(self.product_zeros(other))
     }
 
-    // The common numbers; where there are none, any answer will do.
+    // The common members; if there are none, any answer will do.
     fn with(self, other: Self) -> Self
         ensures common { (x : ℕ) → Has self x → Has other x → Has result x }
         ensures within { (x y : ℕ) → Has self x → Has other x → Has result y

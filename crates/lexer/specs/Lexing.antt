@@ -1,4 +1,4 @@
--- What stands at a place of the text, and how many bytes it has.
+-- The token, blank or comment at an offset of the text, and its length.
 use Rattle.std.specs.Prelude.{ℕ, ◌+◌, ◌*◌, ◌^◌, ◌==◌, nat_lt, ◌&&◌, ◌||◌, not, Bool, if◌then◌else◌, List, [], ◌∷◌, take, drop, slice_index, Option, Some, None}
 use Rattle.std.specs.List.{prefix_len}
 use Rattle.std.specs.Char.{digit_value, is_digit}
@@ -36,7 +36,8 @@ number_at base skip bs = number_after base skip bs (prefix_len (λ c. is_digit c
 abbrev pub number_from : List ℕ → Option (Lexeme × ℕ)
 number_from bs = if (slice_index bs 0 == 48) && (slice_index bs 1 == 120) then number_at 16 2 bs else number_at 10 0 bs
 
--- where a number with n digits after the skipped bytes is none; `0x` without a digit is the number 0 with an x after it
+-- the offset at which a number with n digits after the skipped bytes is wrong; `0x` without a digit
+-- is the number 0 with an x after it
 abbrev pub number_fault : ℕ → ℕ → ℕ
 number_fault skip n = if n == 0 then 1 else skip + n
 
@@ -76,6 +77,6 @@ word_or_sign bs b =
 abbrev pub lexeme_at : List ℕ → Option (Lexeme × ℕ)
 lexeme_at bs = let b = slice_index bs 0 in if is_digit b 10 then number_from bs else word_or_sign bs b
 
--- where no lexeme stands, the first byte that begins no token
+-- where there is no lexeme: the offset of the first byte that begins no token
 abbrev pub fault_at : List ℕ → ℕ
 fault_at bs = if is_digit (slice_index bs 0) 10 then number_fault_from bs else 0

@@ -1,4 +1,4 @@
--- What words stand for.
+-- What each word means.
 use Rattle.std.specs.Prelude.{ℕ, ◌==◌, if◌then◌else◌, List, [], ◌∷◌, codes, Option, Some, None}
 use Rattle.std.specs.Str.{bytes_eq}
 use Rattle.isa_model.specs.declared.registers.Reg.{Reg}

@@ -1,4 +1,4 @@
-//! What stands at a place of the text.
+//! The token, blank or comment at the front of a text.
 
 ghost use Rattle.std.specs.Prelude.{◌≡◌, IfErr};
 ghost use Rattle.std.specs.Result.{result_ok};
@@ -46,8 +46,8 @@ fn word_or_sign(text: &[u8], b: u8) -> Option<(Lexeme, usize)>
     word_at(text)
 }
 
-/// What stands at the text's front and its length: the longest that fits, and a sign that begins
-/// with `s` before a word. Else the place of the first byte that begins no token.
+/// What the text begins with, and its length: the longest token that fits, and a sign that begins
+/// with `s` rather than a word. Otherwise the offset of the first byte that begins no token.
 pub fn lexeme_at(text: &[u8]) -> Result<(Lexeme, usize), usize>
     ensures found { result_ok result ≡ lexeme_at text.now }
     ensures fault { IfErr result (λ at. at ≡ fault_at text.now) }

@@ -1,4 +1,4 @@
-//! The tokens of program text, of which docs/TEXT.md tells.
+//! The tokens of program text, as docs/TEXT.md describes them.
 //!
 //! A text begins with a word, a number, a sign, a blank, a comment or the end of a statement.
 //! `specs/Lexing.antt` defines which, and how long it is.

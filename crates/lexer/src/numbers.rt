@@ -27,7 +27,7 @@ pub fn is_digit(c: u8, base: u8) -> bool
     digit_value(c) < base
 }
 
-/// Whether the byte may stand in a word: a letter, a digit or `_`.
+/// Whether the byte can be part of a word: a letter, a digit or `_`.
 pub fn is_word_byte(c: u8) -> bool
     ensures { result ≡ is_word_byte c }
 {
@@ -66,7 +66,7 @@ pub fn word_len(text: &[u8]) -> usize
     text.len()
 }
 
-/// How many bytes stand before the first line feed.
+/// How many bytes come before the first line feed.
 pub fn line_len(text: &[u8]) -> usize
     ensures value { result ≡ prefix_len is_line_byte text.now }
     ensures most { result ≤ length text.now }
@@ -104,8 +104,8 @@ fn digits_number(digits: &[u8], base: u8) -> u128
     n
 }
 
-// The number whose `n` digits stand after the skipped bytes, and its length; or the place of a byte
-// that cannot stand after a number.
+// The number whose `n` digits follow the skipped bytes, and its length; or the offset of a byte
+// that cannot follow a number.
 fn number_after(base: u8, skip: usize, text: &[u8], n: usize) -> Result<(Lexeme, usize), usize>
     requires within { skip + n ≤ length text.now }
     requires base { base ≤ 16 }

@@ -2,8 +2,7 @@
 
 use isa_model::{AtomicOp, ByteOrder, MapKind, Narrow, Reg, Size, Span, Width};
 
-/// What a word stands for in an instruction. As a name of a place a word is known by its letters
-/// only.
+/// What a word means in an instruction. As a label, a word is only its letters.
 #[derive(Clone, Copy)]
 pub enum Word {
     /// `r0` to `r10`, `w0` to `w10`.
@@ -83,12 +82,12 @@ pub enum Sign {
 #[derive(Clone, Copy)]
 pub enum Token {
     Named(Word),
-    /// A number; one of 2^64 and more stands for all that are as large.
+    /// A number; all numbers from 2^64 up are one.
     Number(u128),
     Signed(Sign),
 }
 
-/// What stands at a place of the text.
+/// What a text begins with.
 #[derive(Clone, Copy)]
 pub enum Lexeme {
     /// A blank or a comment.

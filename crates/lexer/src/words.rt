@@ -1,4 +1,4 @@
-//! What words stand for.
+//! What each word means.
 
 ghost use Rattle.std.specs.Prelude.{◌≡◌, bytes_eq};
 ghost use Rattle.lexer.specs.Words.{reg_of, register_word, word_of, key_word, size_word, swap_word, atomic_word, map_word};
@@ -164,7 +164,7 @@ fn key_word(word: &[u8]) -> Word
     }
 }
 
-/// What the word stands for.
+/// What the word means.
 pub fn word_of(word: &[u8]) -> Word
     ensures { result ≡ word_of word.now }
 {

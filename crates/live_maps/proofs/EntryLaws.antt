@@ -1,4 +1,5 @@
--- Entries by their places, and the contents that they stand for: values found by serial, written, put and removed.
+-- Entries by their places, and the contents that they mean: values found by serial, written, put
+-- and removed.
 use Rattle.std.proofs.Common.{◌≡◌, ℕ, suc, ◌+◌, List, [], ◌∷◌, length, Option, Some, None, Bool, true, false, cond, refl, sym, ap, subst, ◌∙◌, arith}
 use Rattle.std.specs.Prelude.{◌≢◌, ◌==◌, T, ◌&&◌, nat_lt, not, All, slice_get, slice_index_or}
 use Rattle.std.specs.List.{position, position_or_len, splice}

@@ -5,7 +5,7 @@ use Rattle.std.proofs.Math.ListN.{get_or-map}
 use Rattle.std.proofs.lemmas.List.{get_or_default, length-map}
 use Rattle.live_maps.specs.Live.{Serials, serials_at}
 
--- of serials that stand in other things
+-- of serials that other things name
 pub serials_at-map : {V : Type 0} (f : V → Serials) (vs : List V) (m : ℕ) (d : V) → m < length vs
     → serials_at (map f vs) m ≡ f (slice_index_or vs m d)
 serials_at-map f vs m d h =

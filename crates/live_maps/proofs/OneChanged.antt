@@ -1,4 +1,4 @@
--- What is known of maps of which one may have changed.
+-- What is known of maps when one of them may have changed.
 use Rattle.std.proofs.Common.{◌≡◌, ◌∙◌, ℕ, ◌<◌, ◌≤◌, List, length, Option, Some, sym, ap, subst, arith}
 use Rattle.std.specs.Prelude.{All, IsSomeAnd, slice_get, slice_set}
 use Rattle.std.specs.List.{position}
@@ -23,7 +23,7 @@ one_changed P next maps all now view m sizes new others are =
     let inside = known.0 in
     record { inside = known.0; row = known.1; count = count; is = are m _ (omega arith) }
 
--- what holds of the row that is told and of the maps as they were holds where contracts see them
+-- what holds of the given row and of the maps before the change holds as contracts see them
 pub row_told : (Q : Live → MapDef → Type 0) (next : ℕ) (maps : List MapState) (all : List Serials) (now : Live) → live_of maps all next ≡ now → (m : ℕ)
     → m < length maps → Q (live_of maps all next) (map_at maps m).row → IsSomeAnd (slice_get now.rows m) (Q now)
 row_told Q next maps all now view m inside h =

@@ -18,7 +18,7 @@ pub record NumbersFirst (n : ℕ) (places : List ℕ) (count : ℕ) (serials : S
 abbrev pub Numbers : ℕ → List ℕ → Serials → Type 0
 Numbers n places serials = NumbersFirst n places (length places) serials
 
--- no place stands twice in a list
+-- no place is twice in a list
 abbrev pub AreDistinct : List ℕ → Type 0
 AreDistinct places = (i j : ℕ) → i < length places → j < length places → place_in places i ≡ place_in places j → i ≡ j
 

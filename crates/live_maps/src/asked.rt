@@ -1,4 +1,4 @@
-//! Requests to the helpers on maps, none of which asks the clock.
+//! Requests to the helpers on maps. None asks the clock.
 
 ghost use Rattle.std.specs.Prelude.{◌≡◌, ◌<◌, length, slice_set};
 ghost use Rattle.std.specs.FinMap.{get};

@@ -1,4 +1,5 @@
--- The maps of a machine between runs: the row and the content of each, and what a caller's look-ups, updates and deletes come to.
+-- The maps of a machine between runs: the row and the content of each, and the results of a
+-- caller's look-ups, updates and deletes.
 use Rattle.std.specs.Prelude.{◌≡◌, ℕ, Bool, List, [], Option, Some, None, is_some, slice_set, slice_index_or}
 use Rattle.isa_model.specs.declared.map_defs.MapKind.TheVariants.{Hash}
 use Rattle.isa_model.specs.declared.map_defs.MapDef.{MapDef}
@@ -35,7 +36,7 @@ pub record Updates (m : ℕ) (key value : List ℕ) (flags result : ℕ) (old ne
   pub answer : result ≡ update_answer (row_at old m) (content_at old m) key flags
   pub machine : new ≡ with_content old m (after_update (row_at old m) (content_at old m) key value flags)
 
--- a delete from one map, likewise
+-- a delete from one map, in the same way
 pub record Deletes (m : ℕ) (key : List ℕ) (result : ℕ) (old new : Running) : Type 0 where
   pub answer : result ≡ delete_answer (row_at old m) (content_at old m) key
   pub machine : new ≡ with_content old m (after_delete (row_at old m) (content_at old m) key)

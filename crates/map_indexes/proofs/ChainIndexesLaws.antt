@@ -245,7 +245,7 @@ module _ (slots : Slots) (free : List ℕ) (chains : ℕ) (links : ℕ → Optio
       let q = link_sound k l.0 l.1 in
       (l.0, l.1, l.2, q.0, q.1)
 
-  -- a link with the key stands in the key's chain
+  -- a link with the key is in the key's chain
   in_its_chain : (j : ℕ) → HasKey slots links key j → in_chain links (chain_of key chains) j ≡ true
   in_its_chain j h =
       let r = link_sound j h.link h.there in

@@ -9,12 +9,12 @@ use Rattle.map_indexes.proofs.SlotLaws.{same_or_not}
 use Rattle.slab.specs.Slab.{Slab, get, Updates}
 use Rattle.map_indexes.specs.Chains.{is_in, in_chain, IsChained, StandsBehind, spot, height, heads_led, next_led, link_led}
 
--- the number of the link, or the room where there is none
+-- the number of the link, or the size of the room if there is no link
 abbrev pub limit : ℕ → Option ℕ → ℕ
 limit room None = room
 limit room (Some k) = k
 
--- a link that is led elsewhere stays in its chain
+-- a link that gets another next link stays in its chain
 pub is_in-led : (from to : Option ℕ) (j chain : ℕ) (o : Option Link) → is_in chain (link_led from to j o) ≡ is_in chain o
 is_in-led from to j chain None = refl
 is_in-led from to j chain (Some l) = refl
@@ -59,7 +59,7 @@ pub length-heads_led : (from : Option ℕ) (chain : ℕ) (to : Option ℕ) (head
 length-heads_led None chain to heads = length-head_set heads chain to
 length-heads_led (Some k) chain to heads = refl
 
--- ---- where a link stands
+-- ---- where a link is
 
 module _ (room : ℕ) (links : ℕ → Option Link) (chain at : ℕ) where
   -- the links above `at` were passed, down to this one
@@ -313,7 +313,7 @@ spot-led : (from to : Option ℕ) (j : ℕ) (o : Option Link) → spot (link_led
 spot-led from to j None = refl
 spot-led from to j (Some l) = refl
 
--- the link behind which another one stands is there
+-- the link before another one is there
 pub behind_there : (links : ℕ → Option Link) (chain at : ℕ) (from : Option ℕ) → StandsBehind (in_chain links chain) at from
     → (k : ℕ) → from ≡ Some k → (at < k) × (l : Link) × (links k ≡ Some l) × (l.chain ≡ chain)
 behind_there links chain at from s k e =
@@ -330,7 +330,7 @@ led_itself test at (Some k) to next s =
 
 module _ (heads : List (Option ℕ)) (old mid new : Slab Link) (is : IsChained heads old.capacity (get old)) (at : ℕ) (link : Link) (from : Option ℕ)
     (behind : StandsBehind (in_chain (get old) link.chain) at from) where
-  -- what a link that is led was
+  -- what a link was whose next link is changed
   led_was : (to : Option ℕ) (slot : Option Link) → Updates old mid at slot → ((j : ℕ) → get new j ≡ link_led from to j (get mid j))
       → (j : ℕ) → (j ≡ at → ⊥) → get new j ≡ link_led from to j (get old j)
   led_was to slot u led j d = led j ∙ ap (link_led from to j) (u.others j d)

@@ -1,4 +1,5 @@
--- Chains: links by number, and the first link of each chain. The links of a chain stand in the order of falling numbers.
+-- Chains: links by number, and the first link of each chain. The links of a chain are in descending
+-- order of their numbers.
 use Rattle.std.specs.Prelude.{◌≡◌, ℕ, ◌<◌, List, length, slice_index_or, slice_set, Option, Some, None, Bool, true, false, nat_eq, ◌+◌, if◌then◌else◌}
 use Rattle.map_indexes.specs.declared.chains.Link.{Link}
 use Rattle.map_indexes.specs.LastBelow.{last_below}
@@ -17,7 +18,7 @@ pub record IsChained (heads : List (Option ℕ)) (room : ℕ) (links : ℕ → O
   pub within : (k : ℕ) (link : Link) → links k ≡ Some link → k < room
   pub known : (k : ℕ) (link : Link) → links k ≡ Some link → link.chain < length heads
 
--- the link of a chain behind which a link with the number `at` stands; none where it stands first
+-- the link of a chain before the link with the number `at`; none if that is the first one
 abbrev pub StandsBehind : (ℕ → Bool) → ℕ → Option ℕ → Type 0
 StandsBehind test at None = (j : ℕ) → at < j → test j ≡ false
 StandsBehind test at (Some k) = (at < k) × (test k ≡ true) × ((j : ℕ) → at < j → j < k → test j ≡ false)

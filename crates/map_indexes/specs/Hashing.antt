@@ -1,4 +1,5 @@
--- Which chain a key stands in. The multiplier spreads keys that count up, and addresses of one network with ports.
+-- Which chain a key is in. The multiplier spreads keys that count up, and addresses of one network
+-- with ports.
 use Rattle.std.specs.Prelude.{ℕ, ◌+◌, ◌*◌, ◌/◌, ◌%◌, ◌^◌, List, fold}
 
 abbrev pub spread : ℕ

@@ -1,4 +1,4 @@
--- The places of keys in the order of the keys: they are the values of the map that the slots stand for.
+-- The places of keys in the order of the keys: they are the values of the slots' finite map.
 use Rattle.std.proofs.Common.{ℕ, List, [], map, unwrap_or}
 use Rattle.map_indexes.specs.Slots.{Slots, slot, entries_from}
 

@@ -1,4 +1,4 @@
--- Places, each of which may have a key, and the finite map from keys to places that they stand for.
+-- Places, each of which may have a key, and the finite map from keys to places that they are.
 use Rattle.std.specs.Prelude.{◌≡◌, ◌≢◌, ℕ, ◌+◌, List, [], ◌∷◌, length, Option, Some, None, Bool, true, false, slice_index_or}
 use Rattle.std.specs.FinMap.{FinMap, from_entries, get, insert, len}
 use Rattle.isa_model.specs.Machine.MapContents.{key_order}

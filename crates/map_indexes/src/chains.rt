@@ -10,7 +10,7 @@ use crate::rooms::exact;
 use slab::Slab;
 use std::alloc::{AllocError, Global};
 
-/// A place in a chain, and the number of the link behind it.
+/// A place in a chain, and the number of the next link.
 #[derive(Clone, Copy)]
 pub struct Link {
     pub chain: u32,
@@ -40,7 +40,7 @@ fn lead(
     }
 }
 
-/// Chains of links. The links of a chain stand in the order of falling numbers.
+/// Chains of links. The links of a chain are in descending order of their numbers.
 #[derive(Drop)]
 pub struct Chains {
     count: u32,
@@ -97,7 +97,7 @@ impl Chains {
         self.links[at]
     }
 
-    // The link of a chain behind which a number stands.
+    // The link of a chain after which a number belongs.
     fn behind(&self, chain: u32, at: usize) -> Option<usize>
         requires { chain < self.now.count }
         ensures { StandsBehind (in_chain (get self.now.links) chain) at result }

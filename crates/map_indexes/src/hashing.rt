@@ -1,4 +1,4 @@
-//! Which chain a key stands in.
+//! Which chain a key is in.
 
 ghost use Rattle.std.specs.Prelude.{◌≡◌, ◌<◌};
 ghost use Rattle.map_indexes.specs.Hashing.{hash_of as the_hash_of, chain_of as the_chain_of};

@@ -67,7 +67,7 @@ module _ (maps : List MapState) (stores : List EitherStore) (view : map state st
   pub others-set : (x : EitherStore) → map state (slice_set stores i x) ≡ slice_set maps i (map_at (map state (slice_set stores i x)) i)
   others-set x = map-set state stores i x ∙ (λ k. slice_set (view k) i (sym (map_at-set x) k))
 
-  -- and so does one of which the block alone is written
+  -- and so does one with only its block written
   pub block-set : (x t : EitherStore) → x ≡ slice_index_or stores i x → t.row ≡ x.row → t.index ≡ x.index → (change : List ℕ → List ℕ)
       → t.values.items ≡ change x.values.items → map state (slice_set stores i t) ≡ with_block maps i (change (map_at maps i).block)
   block-set x t e row index change block =

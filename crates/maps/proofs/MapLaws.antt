@@ -154,7 +154,7 @@ length-rows_of maps = length-map maps (λ m. m.row)
 pub contents_of-at : (maps : List MapState) (i : ℕ) (d : Entries) → i < length maps → slice_index_or (contents_of maps) i d ≡ content_in (map_at maps i)
 contents_of-at maps i d inside = get_or-map content_in maps i _ d inside
 
--- one map changed changes its content alone
+-- a change of one map changes only its content
 pub contents_of-set : (maps : List MapState) (i : ℕ) (m : MapState) → contents_of (slice_set maps i m) ≡ slice_set (contents_of maps) i (content_in m)
 contents_of-set maps i m = map-set content_in maps i m
 

@@ -115,7 +115,7 @@ module _ (slots : Slots) (k p : ℕ) (there : slice_get (values (places slots)) 
   pub listed-some : is_some (slot slots p) ≡ true
   listed-some = ap is_some slot_there
 
-  -- and stands with it
+  -- and its entry is that key with the place
   pub listed-key : (key : List ℕ) → slot slots p ≡ Some key → slice_get (entries (places slots)) k ≡ Some (key, p)
   listed-key key e =
       let same : listed.0.0 ≡ key = let f = slot_there in cc in

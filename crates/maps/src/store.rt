@@ -41,8 +41,7 @@ pub trait MapStore {
         ensures { result ≡ nat_le (row_of self.now).entries (map.len (places self.now)) };
 
     /// Writes a key's value, and answers its place: a present key keeps its own, and a new one is
-    /// given a free one. There is none where the key is new and the map is full, as an array always
-    /// is.
+    /// given a free one. None if the key is new and the map is full, as an array always is.
     fn put(&mut self, key: &[u8], value: &[u8]) -> Option<usize>
         requires key_size { length key.now ≡ (row_of self.old).key_size }
         requires value_size { length value.now ≡ (row_of self.old).value_size }

@@ -1,6 +1,6 @@
 //! Tests of programs as bytes and as texts, and of the verifier.
 //!
-//! They stand here, since a crate with tests is proved twice.
+//! They are here, since a crate with tests is proved twice.
 #![tactic(auto)]
 
 #[cfg(test)]

@@ -62,7 +62,7 @@ OnErr-holds P (Err e) h = h
 
 -- ---- entries
 
--- an entry whose state was restored, spelled alone
+-- an entry whose state was restored, spelled by itself
 pub SpellsEntry-said : (p : Program) (n : ℕ) (a b : State) (xs ys zs before after : List ℕ) → b ≡ a → ys ≡ xs → zs ≡ xs
     → (let e : Entry = record { number = n; state = b; successors = ys } in EntryFits p (entry_said e)) → before ≡ []
     → (let e : Entry = record { number = n; state = b; successors = zs } in after ≡ before ++ entry_bytes e)

@@ -103,7 +103,8 @@ pub record EntryFits (p : Program) (e : Entry) : Type 0 where
   pub named : length e.successors ≤ 2
   pub indexes : All (λ i. i < 2 ^ 32) e.successors
 
--- ---- what a table says of a state: where a value was spilled of which nothing is known, that no byte is marked
+-- ---- what a table says of a state: where a value was spilled about which nothing is known, that
+-- no byte is marked
 
 abbrev pub slot_said : Slot → Slot
 slot_said (Spilled Unset) = Written 0

@@ -57,7 +57,7 @@ abbrev pub IsWriters : WriteTableError → Type 0
 IsWriters (Writer kind) = Unit {0}
 IsWriters error = ⊥
 
--- why an entry is not spelled: memory ran out, or a table cannot say what it has
+-- why an entry is not spelled: memory ran out, or a table has no spelling for it
 abbrev pub Lacks : Program → Entry → WriteTableError → Type 0
 Lacks p e Memory = Unit {0}
 Lacks p e Explored = EntryFits p e → ⊥

@@ -21,7 +21,7 @@ pub enum WriteTableError {
 }
 
 impl WriteTableError {
-    /// Its number in the documents, such as `P11`.
+    /// Its code in docs/REFUSALS.md, such as `P11`.
     pub fn code(self) -> &'static str
         ensures { result.now ≡ code_of self }
     {

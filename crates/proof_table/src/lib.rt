@@ -1,7 +1,7 @@
 //! Proof tables: written for a verified program, and tested.
 //!
-//! A table says of each abstract state that the verifier came to how many more steps a run makes
-//! from it at most, and which entries its step leads to. `recheck` tests a table with no trust in
+//! A table says of each abstract state that the verifier reached how many more steps a run makes
+//! from it at most, and which entries are its successors. `recheck` tests a table with no trust in
 //! who made it. `write_table` makes one, which is read as the entries that it spells; that
 //! `recheck` accepts it is only tested.
 #![tactic(auto)]

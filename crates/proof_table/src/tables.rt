@@ -75,7 +75,7 @@ fn spell_explored(
     }
 }
 
-/// Writes that many of the entries that were explored, each by way of the buffer.
+/// Writes that many of the entries that were explored, each through the buffer.
 fn write_entries<W: Write>(
     image: &Image,
     explored: &Explored,
@@ -111,7 +111,7 @@ fn error_of(refusal: Refusal) -> WriteTableError
 }
 
 /// Writes a table of a verified program: an entry for each instruction that the verifier explored,
-/// in its state, with its number and the entries to which its step leads.
+/// in its state, with its number and the entries of its successors.
 ///
 /// The verifier explores the program again, which takes as much memory as it took before. Each
 /// entry is one write, so a writer to a file is to have a buffer. The writer's first error, of any

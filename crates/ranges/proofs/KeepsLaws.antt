@@ -107,7 +107,7 @@ signed_fits : (w : Width) (x : ℕ) → x < 2 ^ width_bits w → FitsSigned (sig
 signed_fits Low32 x h = sfits_to_z (record { fits = h })
 signed_fits Full64 x h = cast_fits x h
 
--- a signed number that fits is what it stands for
+-- a signed number that fits is the reading of its own bits
 signed_back : (w : Width) (z : ℤ) → FitsSigned (signed_of w) z → signed w (unsigned w z) ≡ z
 signed_back Low32 z f = to_z-of_z w32 z f
 signed_back Full64 z f = to_z-of_z w64 z f

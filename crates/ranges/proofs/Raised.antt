@@ -13,7 +13,7 @@ use Rattle.isa_model.specs.Code.Numbers.{alu, shift}
 use Rattle.isa_model.specs.Code.NumberLemmas.{signed_equation, low_same}
 use Rattle.ranges.proofs.LowLaws.{low_signed_equation}
 
--- a shift to the left by 32 and more leaves the low half alone
+-- a shift to the left by 32 or more depends on the low half only
 pub raised_low : (x k : ℕ) → 32 ≤ k → (x * 2 ^ k) % 2 ^ 64 ≡ (x % 2 ^ 32 * 2 ^ k) % 2 ^ 64
 raised_low x k h =
     let e : k ≡ (k - 32) + 32 = omega arith in

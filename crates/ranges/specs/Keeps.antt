@@ -35,8 +35,8 @@ KeepsQuotient al ag bl bg keeps = keeps 0 ag × (0 < bl → keeps (al / bg) (ag 
 abbrev pub KeepsRemainder : ℕ → ℕ → ℕ → ℕ → (ℕ → ℕ → Type 0) → Type 0
 KeepsRemainder al ag bl bg keeps = keeps 0 ag × (0 < bl → keeps 0 (bg - 1))
 
--- the limits of signed quotients by a number that is known: those of the dividend, divided, where they are signed numbers
--- of the type. Only the least one by -1 is none
+-- the limits of signed quotients by a known number: those of the dividend, divided, if they are
+-- signed numbers of the type. Only the least number divided by -1 is not
 abbrev pub KeepsSignedQuotient : IntWidth → ℤ → ℤ → ℤ → (ℤ → ℤ → Type 0) → Type 0
 KeepsSignedQuotient w al ag (pos by) keeps = keeps (int_div al (pos by)) (int_div ag (pos by))
 KeepsSignedQuotient w al ag (negsuc by) keeps =

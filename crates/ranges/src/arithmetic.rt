@@ -78,7 +78,7 @@ impl Range {
         }
     }
 
-    // A shift to the left by 32 and more leaves the low half alone.
+    // A shift to the left by 32 or more depends on the low half only.
     fn shifted_left(width: Width, a: Self, b: Self) -> Wide
         ensures contains { (x y : ℕ) → Has a x → Has b y → W.Has result (alu AluOp.Lsh width x y) }
         ensures fits { result.greatest < 2 ^ width_bits width }

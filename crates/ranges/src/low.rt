@@ -101,7 +101,7 @@ impl Low {
         }
     }
 
-    /// The low halves that both stand for. Each limit is one of them.
+    /// The common low halves. Each limit is one of them.
     pub fn meet(self, other: Self) -> Option<Self>
         ensures common { (e : ℕ) → Has self e → Has other e → IsSomeAnd result (λ m. Has m e) }
         ensures enclosed { IfSome result (λ m. Encloses self m × Encloses other m) }
@@ -111,8 +111,8 @@ impl Low {
         both.tightened()
     }
 
-    // The same low halves, by the narrowest limits: those of the two parts, in each of which both
-    // readings have one order.
+    // The same low halves, by the narrowest limits: those of the two parts in which the signed and
+    // the unsigned order agree.
     pub(crate) fn tightened(self) -> Option<Self>
         ensures common { (e : ℕ) → Has self e → IsSomeAnd result (λ m. Has m e) }
         ensures enclosed { IfSome result (Encloses self) }
@@ -188,7 +188,7 @@ impl Low {
         })
     }
 
-    // The common low halves; where there are none, any answer will do.
+    // The common low halves; if there are none, any answer will do.
     pub(crate) fn with(self, other: Self) -> Self
         ensures common { (e : ℕ) → Has self e → Has other e → Has result e }
         ensures enclosed { Encloses self result }
@@ -216,7 +216,7 @@ impl Low {
         }
     }
 
-    /// Whether the limits show that each low half that `other` stands for is one of these.
+    /// Whether the limits show that each low half of `other` is one of this.
     pub fn covers(self, other: Self) -> bool
         ensures { IsTrue result ↔ Encloses self other }
     {

@@ -97,7 +97,7 @@ impl Range {
         }
     }
 
-    /// The numbers that both stand for. Each limit is one of them, or the low half of one.
+    /// The common members. Each limit is one of them, or the low half of one.
     pub fn meet(self, other: Self) -> Option<Self>
         ensures common { (x : ℕ) → Has self x → Has other x → IsSomeAnd result (λ m. Has m x) }
         ensures left { IfSome result (λ m. (x : ℕ) → Has m x → Has self x) }
@@ -235,7 +235,7 @@ impl Range {
         }
     }
 
-    // The common numbers by the narrowest limits; where there are none, any answer will do.
+    // The common members by the narrowest limits; if there are none, any answer will do.
     pub(crate) fn settled(self) -> Self
         ensures contains { (x : ℕ) → Has self x → Has result x }
         ensures enclosed { Encloses self result }
@@ -247,7 +247,7 @@ impl Range {
         }
     }
 
-    /// Whether the limits show that each number that `other` stands for is one of these.
+    /// Whether the limits show that each member of `other` is one of this.
     pub fn covers(self, other: Self) -> bool
         ensures limits { IsTrue result ↔ Encloses self other }
         ensures yes { IsTrue result → (x : ℕ) → Has other x → Has self x }

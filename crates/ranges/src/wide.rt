@@ -160,7 +160,7 @@ impl Wide {
         })
     }
 
-    // The common numbers; where there are none, any answer will do.
+    // The common members; if there are none, any answer will do.
     pub(crate) fn with(self, other: Self) -> Self
         ensures common { (x : ℕ) → Has self x → Has other x → Has result x }
         ensures enclosed { Encloses self result }
@@ -172,7 +172,7 @@ impl Wide {
         }
     }
 
-    /// Whether the limits show that each number that `other` stands for is one of these.
+    /// Whether the limits show that each member of `other` is one of this.
     pub fn covers(self, other: Self) -> bool
         ensures limits { IsTrue result ↔ Encloses self other }
         ensures yes { IsTrue result → (x : ℕ) → Has other x → Has self x }

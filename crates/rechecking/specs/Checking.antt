@@ -24,7 +24,7 @@ pub record Enters (t : EntryAt) (number index : ℕ) (a : State) : Type 0 where
   pub smaller : entry.number < number
   pub covers : (p : Program) → Covers p entry.state a
 
--- the same, where registers and slots show it, whatever the identities are called
+-- the same, if registers and slots show it, under any names of identities
 pub record EntersClearly (t : EntryAt) (number index : ℕ) (a : State) : Type 0 where
   pub entry : Entry
   pub there : t index ≡ Some entry
@@ -47,7 +47,7 @@ pub record CoversClearly (t : EntryAt) (index : ℕ) (a : State) : Type 0 where
   pub null : ℕ → ℕ
   pub covers : Encloses packet null entry.state a
 
--- as many entries are named as the step has successors, and each has this relation to its one
+-- as many entries are named as there are successors, and each has this relation to its successor
 abbrev pub FollowsBy : (ℕ → State → Type 0) → List ℕ → Ways → State → State → Type 0
 FollowsBy R [] ways.None a b = Unit {0}
 FollowsBy R (i ∷ []) ways.One a b = R i a

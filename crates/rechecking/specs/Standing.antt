@@ -1,4 +1,4 @@
--- Entries whose states stand in a room.
+-- Entries whose states were read into one of two rooms.
 use Rattle.std.specs.Prelude.{◌≡◌, ℕ, Some}
 use Rattle.isa_model.specs.Code.Instructions.{Program}
 use Rattle.stack_state.specs.declared.states.State.{State}
@@ -13,7 +13,7 @@ pub record StandsAt (p : Program) (t : EntryAt) (index : ℕ) (head : Head) (a :
   pub allowed : IsAllowed p head.number a.slot
   pub there : t index ≡ Some (entry_of head a)
 
--- the entry that is known stands in the first room or in the second
+-- the state of the known entry is in the first room or in the second
 abbrev pub IsKnown : Program → EntryAt → State → State → Known → Type 0
 IsKnown p t a b known.None = Unit {0}
 IsKnown p t a b (known.First index head) = StandsAt p t index head a

@@ -26,7 +26,7 @@ pub record GoesInto (p : Program) (t : EntryAt) (e : Entry) (s : Machine.State) 
   pub smaller : entry.number < e.number
   pub member : Means p entry.state s
 
--- no machine state of the entry traps at its next step, and each that goes on goes into a named entry of a smaller number
+-- no member traps at its next step, and each that goes on enters a named entry of a smaller number
 pub record IsFine (p : Program) (t : EntryAt) (e : Entry) : Type 0 where
   pub some : 1 ≤ e.number
   pub most : e.number ≤ MAX_STEPS

@@ -17,7 +17,7 @@ use state_cover::covers;
 use table_entries::{Growing, Head, Named, Table};
 use transfer::{Ways, step_in_place};
 
-/// An entry whose state stands in one of two rooms, by its index: it is not read again.
+/// An entry whose state is in one of two rooms, by its index: it is not read again.
 #[derive(Clone, Copy, PartialEq, Eq, Debug, Drop)]
 pub enum Known {
     None,
@@ -73,8 +73,8 @@ fn read_covering(
     }
 }
 
-/// Whether the entry of that index covers a state, and its number is smaller, tested first.
-/// Its own state is read into the room for it only where its bytes do not spell this one.
+/// Whether the entry of that index covers a state, and its number is smaller, tested first. Its own
+/// state is read into its room only if its bytes do not spell this one.
 fn enters(
     image: &Image,
     table: &Table,
@@ -100,8 +100,8 @@ fn enters(
     Some(Known::Second(index, head))
 }
 
-/// Whether an entry names as many entries as its step has successors, and each covers its one.
-/// The first successor's entry is what is known then.
+/// Whether an entry names as many entries as it has successors, and each covers its successor. The
+/// first successor's entry is then the known one.
 fn follows(
     image: &Image,
     table: &Table,
@@ -134,7 +134,7 @@ fn follows(
 }
 
 /// The entry that an entry names, if it is the next one to be placed, its bytes spell the only
-/// state to which the step leads, and its number is smaller. None says nothing.
+/// successor, and its number is smaller. None says nothing.
 fn next_follows(
     image: &Image,
     growing: &mut Growing,
@@ -181,7 +181,7 @@ fn place_named(image: &Image, growing: &mut Growing, named: Named)
     }
 }
 
-/// Tests an entry whose state stands in its room: P7 and P8.
+/// Tests an entry whose state is in its room: P7 and P8.
 fn test_standing(
     image: &Image,
     growing: &mut Growing,
@@ -216,7 +216,8 @@ fn test_standing(
     }
 }
 
-/// Tests an entry, which is read unless it is known: P7 and P8. What is known after it is told.
+/// Tests an entry, which is read unless it is known: P7 and P8. Returns which entry is known after
+/// it.
 fn test_entry(
     image: &Image,
     growing: &mut Growing,

@@ -51,7 +51,7 @@ fn fault_sentence(fault: TableFault) -> &'static str
 }
 
 impl TableError {
-    /// Its number in the documents, such as `P7`.
+    /// Its code in docs/REFUSALS.md, such as `P7`.
     pub fn code(self) -> &'static str
         ensures { result.now ≡ code_of self }
     {

@@ -38,7 +38,7 @@ fn first_number(image: &Image, table: &Table) -> Option<u32>
 
 /// The bound that a table shows, whose entries are placed as they are tested. None says nothing.
 ///
-/// An entry that is the next one, and spells the state to which a step leads, is read once.
+/// An entry that is the next one, and spells a successor, is read once.
 fn quick_bound(alloc: Global, image: &Image, bytes: &[u8]) -> Option<u32>
     requires { IsProgram image.now }
     ensures { IfSome result (Shows image.now bytes.now) }

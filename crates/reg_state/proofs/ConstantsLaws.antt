@@ -27,7 +27,7 @@ pub IsNumber-only : (s : Scalar) (n x : ℕ) → IsNumber s n → Has s x → x 
 IsNumber-only s n x (inl bits) h = bits_constant_only s.bits n x bits h.0
 IsNumber-only s n x (inr alone) h = let from = h.1.0.from in let to = h.1.0.to in let limits = alone.1 in omega arith
 
--- no number leaves such limits alone
+-- no number is the only member between such limits
 pub no_limits-IsAlone : (n : ℕ) → IsAlone no_limits n → ⊥
 no_limits-IsAlone n alone = let least = alone.0 in omega (arith, ints)
 

@@ -10,7 +10,7 @@ use Rattle.reg_state.specs.declared.kinds.Kind.{Kind}
 use Rattle.reg_state.specs.declared.kinds.Kind.TheVariants.{Unset, Number, Context, Stack, Packet, PacketEnd, Map, MapValue, MapValueOrNull}
 use Rattle.reg_state.specs.Scalars.{Has}
 
--- what the identities of an abstract state stand for, and what its kinds speak of
+-- the values of an abstract state's identities, and what its kinds refer to
 pub record Assigned : Type 0 where
   -- of each packet identity, the variable part of its pointers
   pub offset : ℕ → ℤ
@@ -21,7 +21,7 @@ pub record Assigned : Type 0 where
   pub frames : List ℕ
   pub maps : List Content
 
--- a value of the map is live while its serial stands in the map's content
+-- a value of the map is live while its serial is in the map's content
 abbrev pub IsLive : List Content → ℕ → ℕ → Type 0
 IsLive maps m n = Contains (value_serials (slice_index_or maps m [])) n
 

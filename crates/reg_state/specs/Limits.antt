@@ -44,7 +44,7 @@ no_limits = record {
   signed_greatest = pos (2 ^ 63);
 }
 
--- known bits tell nothing of low halves alone
+-- known bits exclude numbers at 64 bits only
 abbrev pub bits_allows : Width → Bits → ℕ → Type 0
 bits_allows Full64 b x = B.Has b x
 bits_allows Low32 b x = ⊤

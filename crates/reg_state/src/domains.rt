@@ -12,8 +12,8 @@ ghost use Rattle.reg_state.specs.Reach.{IsInside, IsLimit, IsAlone};
 use isa_model::{AluOp, ByteOrder, Extension, Span, Width};
 
 /// Sets of numbers below 2^64, each of which a register may hold. `has` says which numbers are
-/// members; `is_constant` that a set is written as the one of a single number, `encloses` that what
-/// is written of one set shows that it contains the other, `limits` between which limits the
+/// members; `is_constant` that a set is represented as a single number, `encloses` that the
+/// representation of one set shows that it contains the other, `limits` between which limits the
 /// members are known to be, `ones` which bits each of them is known to have, and `possible` which
 /// bits any of them may have.
 pub trait Domain: Copy {
@@ -80,7 +80,7 @@ pub trait Domain: Copy {
         ensures exact { (u : ℕ) → is_constant a u → is_constant result (reordered order span u) }
         ensures fits { (x : ℕ) → has result x → x < 2 ^ span_bits span };
 
-    /// The common members. None: there is none.
+    /// The common members. None: there are none.
     fn meet(self, other: Self) -> Option<Self>
         ensures common { (x : ℕ) → has self x → has other x → IsSomeAnd result (λ m. has m x) }
         ensures left { IfSome result (λ m. (x : ℕ) → has m x → has self x) }

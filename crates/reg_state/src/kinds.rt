@@ -7,8 +7,8 @@ use crate::scalars::Scalar;
 
 /// What is known of the value of a register or of a stack slot. Offsets are in bytes.
 ///
-/// An identity ties together values that were copied from one another: what a test shows of one of
-/// them holds of all. Identity 0 of a packet pointer is none: its variable part is 0.
+/// An identity is shared by values that were copied from one another: what a test shows of one of
+/// them holds of all. Identity 0 of a packet pointer means no identity: its variable part is 0.
 #[derive(Clone, Copy, PartialEq, Eq, Debug, Default)]
 pub enum Kind {
     /// Nothing: it may be unset.

@@ -33,7 +33,7 @@ impl Scalar {
         Scalar::limited(self.bits.part(from, count), limits.least, limits.greatest)
     }
 
-    // The numbers with known bits between two limits: each takes up what the other shows.
+    // The numbers with known bits between two limits: each part is narrowed by the other.
     fn limited(bits: Bits, least: u64, greatest: u64) -> Scalar
         requires { least ≤ greatest }
         ensures contains { (x : ℕ) → B.Has bits x → least ≤ x → x ≤ greatest → Has result x }
@@ -78,7 +78,7 @@ impl Scalar {
         }
     }
 
-    // Each part takes up what the other shows; a single number left is written as a constant.
+    // Each part is narrowed by the other; if one number is left, it is represented as a constant.
     fn tightened(self) -> Option<Scalar>
         ensures common { (x : ℕ) → Has self x → IsSomeAnd result (λ s. Has s x) }
         ensures narrower { IfSome result (λ s. (x : ℕ) → Has s x → Has self x) }

@@ -1,6 +1,6 @@
 //! Tests of maps, of the two machines, and of streams and reports.
 //!
-//! They stand here, since a crate with tests is proved twice.
+//! They are here, since a crate with tests is proved twice.
 #![tactic(auto)]
 
 #[cfg(test)]

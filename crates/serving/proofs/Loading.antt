@@ -1,4 +1,4 @@
--- What is done with an image that was read, of which standard output got nothing.
+-- What is done with an image that was read, if standard output got nothing.
 use Rattle.std.proofs.Common.{◌≡◌, ℕ, List, Option, None, String, Result, Ok, Err, subst, sym, inl, inr, ◌⊎◌, ◌∙◌}
 use Rattle.std.specs.Prelude.{IfOk, IfErr}
 use Rattle.std.specs.declared.alloc.Global.{Global}

@@ -1,4 +1,4 @@
--- Texts that were written one after another, and of which one failed.
+-- Texts that were written one after another, until one failed.
 use Rattle.std.proofs.Common.{◌≡◌, ℕ, List, ◌++◌, Option, Result, Ok, Err, subst}
 use Rattle.std.specs.Prelude.{OnOk, OnErr}
 use Rattle.std.specs.Io.KnownBytes.{Appends}

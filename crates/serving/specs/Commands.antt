@@ -1,4 +1,4 @@
--- What each command does to standard output, on files of which no contract can say what they hold.
+-- What each command does to standard output. No contract can say what the files hold.
 use Rattle.std.specs.Prelude.{◌≡◌, ℕ, List, Option, Some, None, Ok, ◌⊎◌}
 use Rattle.std.specs.declared.io.ErrorKind.{ErrorKind}
 use Rattle.isa_model.specs.{Program}
@@ -36,7 +36,8 @@ LoadsNone path old new result = ReadsNone path old new result ⊎ ((bytes : List
 abbrev pub Loads : (Program → Type 0) → Type 0
 Loads P = (p : Program) × IsImage p × P p
 
--- the image, or then the table, could not be read; or one of them is refused, and what is told of that beside is known
+-- the image, or then the table, could not be read; or one of them is refused, and what else the
+-- message says is known
 abbrev pub ShowsNone : ProofFiles → Option (List ℕ) → Option (List ℕ) → Ending → Type 0
 ShowsNone files old new result =
     Plainly (LoadsNone files.image old new) result
@@ -84,7 +85,7 @@ pub record ProvesSome (p : Program) (bound : ℕ) (path : List ℕ) (old new : O
 
 -- ---- the commands
 
--- of the frames whose runs ended without an action it is told where they stopped
+-- standard error says where the runs stopped that ended without an action
 abbrev pub TracesFile : RunFiles → ℕ → Option (List ℕ) → Option (List ℕ) → Ending → Type 0
 TracesFile files limit old new result =
     Plainly (LoadsNone files.image old new) result
@@ -99,7 +100,7 @@ abbrev pub AcceptsAndRuns : RunFiles → Program → Option (List ℕ) → Optio
 AcceptsAndRuns files p old new result =
     (bound : ℕ) × IsBoundOf p bound × RunsOn files (record { program = p; bound = bound }) old new result
 
--- where the program is refused, what is told of that beside is known
+-- if the program is refused, what else the message says is known
 abbrev pub RunsFile : RunFiles → Option (List ℕ) → Option (List ℕ) → Ending → Type 0
 RunsFile files old new result =
     Plainly (LoadsNone files.image old new) result
@@ -132,7 +133,7 @@ ProvesFile files old new result =
 abbrev pub DisassemblesFile : List ℕ → Option (List ℕ) → Option (List ℕ) → Outcome → Type 0
 DisassemblesFile path old new result = LoadsNone path old new result ⊎ Loads (λ p. Says old new (canonical_text p) outcome.Done result)
 
--- a text was read, and it spells a program, of which P holds
+-- a text was read, and it spells a program with the property P
 abbrev pub Spells : List ℕ → (Program → Type 0) → Type 0
 Spells source P = (p : Program) × (assembled source ≡ Ok p) × P p
 

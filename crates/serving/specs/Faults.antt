@@ -4,7 +4,7 @@ use Rattle.isa_model.specs.declared.streams.Fault.{Fault}
 use Rattle.isa_model.specs.declared.streams.Fault.TheVariants.{BadMagic, TruncatedHead, TooLong, TruncatedBody, ReadFailed, TooManyRecords}
 use Rattle.isa_model.specs.Reporting.Messages as streams
 
--- the end of the line with the sentence, and then a line with what helps
+-- the end of the line with the sentence, and then a line with a hint
 abbrev pub fault_help : Fault → List ℕ
 fault_help BadMagic = codes "\nframes.py makes a stream of a capture (pcap, pcapng); the frames out are a magic alone\n"
 fault_help TruncatedHead = codes "\nthe file was cut: make it again\n"

@@ -1,4 +1,4 @@
--- How a task ends where standard output hands on what it was given only then.
+-- How a task ends that flushes standard output last.
 use Rattle.std.specs.Prelude.{◌≡◌, ℕ, true, false, List, [], Option, Some, None, ◌⊎◌}
 use Rattle.std.specs.Io.KnownBytes.{Keeps}
 use Rattle.std.specs.declared.io.ErrorKind.{ErrorKind}
@@ -12,16 +12,16 @@ pub record IsHandedOn {W : Type 0} (out : PromptWriter W) : Type 0 where
   pub all : waiting out ≡ []
   pub sound : failure_of out ≡ None
 
--- the output has failed, and the reason that it remembers is told; nothing is known beside that
+-- the output has failed, and the message says the reason that it remembers, and nothing else
 pub record TellsFailure {W : Type 0} (out : PromptWriter W) (result : Ending) : Type 0 where
   pub kind : ErrorKind
   pub failed : failure_of out ≡ Some kind
   pub told : IsOutputFailureBy kind result.outcome
   pub plain : result.why ≡ None
 
--- A task ended so. Then standard output handed on all that it was given, to what stands behind its buffer, and the task
--- ended as it had; or it failed, at that or before, which is how the task ended. Where it was given nothing it is left as
--- it is.
+-- A task ended so. Then standard output is flushed: its buffer was written in full, and the task
+-- ended as it had; or it failed, then or before, and so the task ended in that failure. If nothing
+-- was written to it, it is left as it is.
 pub record HandsOn {W : Type 0} (contents : W → Option (List ℕ)) (given out : PromptWriter W) (ended result : Ending) : Type 0 where
   pub kept : Keeps (held contents given) (held contents out)
   pub silent : is_silent ended.outcome ≡ true → (out ≡ given) × (result ≡ ended)

@@ -1,4 +1,4 @@
--- What is said of images, programs, tables and texts that are judged.
+-- The verdicts on images, programs, tables and texts.
 use Rattle.std.specs.Prelude.{◌≡◌, ◌≢◌, ℕ, false, List, Option, Some, Err, ◌⊎◌}
 use Rattle.std.specs.Io.KnownBytes.{Appends}
 use Rattle.exact_io.specs.Transfers.{AppendsBeginning}
@@ -68,19 +68,20 @@ Verifies p old new result = AcceptsSome p old new result ⊎ RefusesProgram p ol
 
 -- ---- tables
 
--- The bound that a table shows, whoever made it: its bytes are a closed table of the program, of which this is the first
--- number, and so every run exits within it.
+-- The bound that a table shows, whoever made it: its bytes are a closed table of the program with
+-- this number first, and so every run exits within it.
 pub record IsBoundShown (p : Program) (bytes : List ℕ) (bound : ℕ) : Type 0 where
   pub verified : IsVerified (record { program = p; bound = bound })
   pub shows : Shows p bytes bound
 
--- standard output says that a table is refused; of an entry whose step was tested the place may be known. Or memory ran out
+-- standard output says that a table is refused; the place of an entry whose step was tested may be
+-- known. Or memory ran out
 abbrev pub SaysTable : TableError → Option (ℕ × Insn) → Option (List ℕ) → Option (List ℕ) → Outcome → Type 0
 SaysTable error place old new result =
     LacksMemory old new result ⊎ Says old new (table_line error) (Refused (rejection.Table error place)) result
 
--- the same, where this is the refusal of the program with those bytes as its table; of control flow that is not good the
--- program is told to be refused
+-- the same, where this is the refusal of the program with those bytes as its table; if the control
+-- flow is not good, the message says that the program is refused
 abbrev pub SaysOfTable : Program → TableError → Option (List ℕ) → Option (List ℕ) → Outcome → Type 0
 SaysOfTable p (table.Flow error slot) old new result = SaysRefused (Flow error) slot (fetch p slot) old new result
 SaysOfTable p error old new result =

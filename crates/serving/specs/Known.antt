@@ -1,4 +1,4 @@
--- What is known of a program or a table that was refused, and told after why and where.
+-- What is known of a program or a table that was refused; the message says it after why and where.
 use Rattle.std.specs.Prelude.{◌≡◌, ℕ, List, ◌++◌, Option, Some, None, String, IfSome, IsSomeAnd, option_map}
 use Rattle.std.specs.declared.alloc.Global.{Global}
 use Rattle.std.specs.String.{string_bytes}
@@ -23,8 +23,8 @@ Tells p outcome why = why ≡ None
 abbrev pub IsKnown : Program → Ending → Type 0
 IsKnown p ending = Tells p ending.outcome ending.why
 
--- The same of a task on these bytes as a table of the program: where the step of an entry was tested, its slot and its
--- instruction may be told, and then this is what is known there.
+-- The same of a task on these bytes as a table of the program: if the step of an entry was tested,
+-- the message may name its slot and its instruction, and then this is what is known there.
 abbrev pub TellsTable : Program → List ℕ → Outcome → Option (String Global) → Type 0
 TellsTable p bytes (Refused (rejection.Table error (Some (slot, insn)))) why =
     IsSomeAnd why (λ text. IsEntryReason p bytes error slot insn (string_bytes text))
@@ -50,7 +50,7 @@ place_found found = option_map (λ f. (f.slot, f.insn)) found
 abbrev pub why_found : Option EntryReason → Option (String Global)
 why_found found = option_map (λ f. f.text) found
 
--- it is told with a refusal alone
+-- it is said only with a refusal
 abbrev pub with_refusal : Outcome → Option (String Global) → Option (String Global)
 with_refusal (Refused rejection) why = why
 with_refusal outcome why = None
@@ -61,7 +61,7 @@ with_refusal outcome why = None
 abbrev pub Plainly : (Outcome → Type 0) → Ending → Type 0
 Plainly P ending = P ending.outcome × (ending.why ≡ None)
 
--- what standard error is told: the message, and then what is known
+-- what standard error gets: the message, and then what is known
 abbrev pub told : Outcome → Option (String Global) → List ℕ
 told outcome None = message_of outcome
 told outcome (Some text) = message_of outcome ++ string_bytes text

@@ -1,4 +1,4 @@
--- What standard error is told of what is refused: why, in a sentence, and where.
+-- The message on standard error for a refusal: why, in a sentence, and where.
 use Rattle.std.specs.Prelude.{ℕ, List, [], ◌++◌, Option, Some, None, codes, decimal}
 use Rattle.isa_model.specs.declared.instructions.Insn.{Insn}
 use Rattle.isa_model.specs.Text.CanonicalText.{line_of}
@@ -58,7 +58,8 @@ table_place (table.Step index refusal) place = step_place index place ++ (transf
 table_place (table.Successor index) place = step_place index place
 table_place error place = []
 
--- an image is refused at a slot, at a map row, or as a whole; of what has another magic, what it looks like
+-- an image is refused at a slot, at a map row, or as a whole; for another magic, what the file
+-- looks like
 abbrev pub image_place : ImageError → Form → List ℕ
 image_place Magic form = form_line form
 image_place (Code slot error) form = slot_place slot None

@@ -46,7 +46,7 @@ is_unsaid NoMemory = false
 abbrev pub usage : List ℕ
 usage = codes "usage: xdpvm asm|dis|verify|run|trace|prove|recheck\n"
 
--- what standard error is told
+-- what standard error gets
 abbrev pub message_of : Outcome → List ℕ
 message_of Done = []
 message_of (WrongWords text) = text.now ++ usage
@@ -80,7 +80,7 @@ abbrev pub IsWriteFailure : List ℕ → Outcome → Type 0
 IsWriteFailure name (CannotWrite path cause) = path.now ≡ name
 IsWriteFailure name outcome = ⊥
 
--- the same, and this is told as the reason, where one is known
+-- the same, with this as the reason, if one is known
 abbrev pub IsWriteFailureBy : List ℕ → Option ErrorKind → Outcome → Type 0
 IsWriteFailureBy name cause (CannotWrite path told) = (path.now ≡ name) × (told ≡ cause)
 IsWriteFailureBy name cause outcome = ⊥
@@ -97,7 +97,7 @@ IsReadFailure path (CannotRead file kind) = file.now ≡ path
 IsReadFailure path NoMemory = Unit {0}
 IsReadFailure path outcome = ⊥
 
--- the file at the path cannot be made, or is not to be written over, or memory ran out
+-- the file at the path cannot be made, or must not be overwritten, or memory ran out
 abbrev pub IsMakeFailure : List ℕ → Outcome → Type 0
 IsMakeFailure path (CannotWrite file cause) = file.now ≡ path
 IsMakeFailure path (CannotReplace file) = file.now ≡ path

@@ -1,4 +1,4 @@
--- What standard error is told of the frames whose runs ended without an action.
+-- The message on standard error about frames whose runs ended without an action.
 use Rattle.std.specs.Prelude.{◌≡◌, ℕ, ◌-◌, ◌==◌, List, [], ◌∷◌, ◌++◌, length, Option, Some, None, String, Result, Ok, Err, IfSome, codes, decimal, if◌then◌else◌}
 use Rattle.std.specs.declared.alloc.Global.{Global}
 use Rattle.std.specs.String.{string_bytes}
@@ -37,7 +37,8 @@ stop_lines noted = first_lines noted.first ++ more_line (noted.count - length no
 
 -- ---- runs
 
--- a text, if any, has these lines; there is none where no frame is noted, and it may be missing where memory ran out
+-- a text, if any, has these lines; there is no text if no frame is noted, and it may be missing if
+-- memory ran out
 abbrev pub TellsStops : Stops → Option (String Global) → Type 0
 TellsStops stops why = (stops.count ≡ 0 → why ≡ None) × IfSome why (λ text. string_bytes text ≡ stop_lines (noted_of stops))
 
@@ -45,7 +46,7 @@ abbrev pub TellsStopsOf : Result Traced HostError → Option (String Global) →
 TellsStopsOf (Ok traced) why = TellsStops traced.stops why
 TellsStopsOf (Err error) why = why ≡ None
 
--- it is told where the run came to its end, and all that it wrote was handed on
+-- the message is written if the run came to its end and all its output was flushed
 abbrev pub at_end : Outcome → Option (String Global) → Option (String Global)
 at_end Done why = why
 at_end (Faulted fault) why = why

@@ -50,9 +50,10 @@ abbrev pub Ends : List ℕ → Option ErrorKind → Result Tally HostError → O
 Ends name cause ended handed got result =
     (Keeps handed got × EndsBy name cause ended result) ⊎ (IsBeginningOf got handed × FailsBy name cause ended result)
 
--- A run with checks: what is written is exactly the checked report of the program and of the frames that were found,
--- which are those that the source's bytes spell, where it tells them. Where the file of the frames out failed, `cause` is
--- why, and that is told. Of the frames whose runs ended without an action it is told where they stopped.
+-- A run with checks: what is written is exactly the checked report of the program and of the frames
+-- that were found, which are those that the source's bytes spell, where it tells them. If the file
+-- of the frames out failed, `cause` is why, and the message says it. It also says where the runs
+-- stopped that ended without an action.
 pub record Traces (p : Program) (limit : ℕ) (source : Option (List ℕ)) (name : List ℕ) (cause : Option ErrorKind) (old new : Outputs) (result : Ending) : Type 0 where
   pub ended : Result Traced HostError
   pub handed : Option (List ℕ)

@@ -66,9 +66,9 @@ impl<'a> Ending<'a> {
         Ending { outcome, why }
     }
 
-    /// Flushes standard output after a task that ended so. A failed flush is how the task ended
-    /// then: it says why standard output failed, also where it had failed before. Where standard
-    /// output was given nothing it is left as it is.
+    /// Flushes standard output after a task that ended so. After a failed flush the task has ended
+    /// in that failure: it says why standard output failed, also if it had failed before. If
+    /// nothing was written to standard output, it is left as it is.
     pub fn flushed<W: Write + Drop>(self, out: &mut PromptWriter<W>) -> Self
         ensures { HandsOn W.contents out.old out.new self.entry result }
     {

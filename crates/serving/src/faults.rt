@@ -10,7 +10,7 @@ use isa_model::Fault;
 use std::io;
 use std::io::Write;
 
-// The end of the line with the sentence, and then a line with what helps.
+// The end of the line with the sentence, and then a line with a hint.
 fn fault_help(fault: Fault) -> &'static str
     ensures { result.now ≡ fault_help fault }
 {
@@ -25,7 +25,7 @@ fn fault_help(fault: Fault) -> &'static str
     }
 }
 
-/// Says why a frame stream ended early, and in the next line what helps.
+/// Says why a frame stream ended early, and in the next line a hint.
 pub fn say_fault<W: Write>(err: &mut W, fault: Fault) -> io::Result<()>
     ensures ok { OnOk result
         (Appends (W.contents err.old) (W.contents err.new) (fault_lines fault)) }

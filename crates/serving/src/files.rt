@@ -21,15 +21,15 @@ use std::io::{BufReader, Write};
 use std::rt::Files;
 use tasks::{Assembly, Paths, StepLimit};
 
-// One byte more than the longest image has: its head, the rows of its maps and its slots. Of a
-// longer file the rest changes nothing.
+// One byte more than the longest image has: its head, the rows of its maps and its slots. The rest
+// of a longer file changes nothing.
 const PAST_ANY_IMAGE: u64 = 8 + 12 * MAX_MAPS as u64 + 8 * MAX_SLOTS as u64 + 1;
 
 /// How many bytes go to or from a file of frames or a table at once.
 pub const BUFFER: usize = 64 * 1024;
 
-// The length of the magic, with which frames out begin. It goes to the file at once, so that a file
-// that cannot be written is found before the report begins.
+// The length of the magic, with which frames out begin. It is written through the buffer, so that a
+// file that cannot be written is found before the report begins.
 const MAGIC: usize = 4;
 
 /// A source of frames, and where the frames out go.

@@ -35,8 +35,8 @@ pub enum Outcome<'a> {
     Faulted(Fault),
     /// The file at the path cannot be read.
     CannotRead(&'a str, ErrorKind),
-    /// The file or output of this name cannot be written. Where standard output failed in a run,
-    /// why is known when it is flushed.
+    /// The file or output of this name cannot be written. If standard output failed in a run, the
+    /// reason is known when it is flushed.
     CannotWrite(&'a str, Option<ErrorKind>),
     /// The file that was to be written is one of those that are read. It was left as it is.
     CannotReplace(&'a str),

@@ -19,7 +19,7 @@ use std::alloc::Global;
 use std::io::Write;
 use table_entries::TableFault;
 
-// How the task ended that told a refusal so, of which this is known.
+// How a task ended whose message about a refusal was written so, with what is known.
 fn ending_with<'a>(outcome: Outcome<'a>, why: Option<String>) -> Ending<'a>
     ensures outcome { result.outcome ≡ outcome.entry }
     ensures why { result.why ≡ with_refusal outcome.entry why }

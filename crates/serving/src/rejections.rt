@@ -1,4 +1,4 @@
-//! What is refused and why, and what standard error is told of it.
+//! What is refused and why, and the message on standard error.
 
 ghost use Rattle.std.specs.Prelude.{◌≡◌, ◌++◌, OnOk, OnErr, codes, decimal};
 ghost use Rattle.std.specs.Io.KnownBytes.{Appends};

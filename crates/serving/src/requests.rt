@@ -12,7 +12,7 @@ use std::io::Write;
 use std::rt::Files;
 use tasks::{Paths, Task};
 
-// Runs a program that is verified, or of which a table is tested where one is given.
+// Runs a program after verifying it, or after testing its table if one is given.
 fn run<'a, R: Files, W: Write>(
     rt: &R,
     alloc: Global,
@@ -29,7 +29,7 @@ fn run<'a, R: Files, W: Write>(
     }
 }
 
-/// Does what is asked for. Files are opened by their paths, and `out` stands for standard output.
+/// Does what is asked for. Files are opened by their paths, and `out` is standard output.
 pub fn serve<'a, R: Files, W: Write>(
     rt: &R,
     alloc: Global,

@@ -1,4 +1,4 @@
-//! What is told of the frames whose runs ended without an action.
+//! The message about frames whose runs ended without an action.
 
 ghost use Rattle.std.specs.Prelude.{◌≡◌, None, IfOk, IfSome};
 ghost use Rattle.std.specs.String.{string_bytes};
@@ -99,7 +99,7 @@ fn known_of(alloc: Global, stops: &Stops) -> Option<String>
     stop_lines(alloc, stops).ok()
 }
 
-/// What is told of the frames of a run with checks, if it came to its last line.
+/// The message about the frames of a run with checks, if the run came to its last line.
 pub fn lines_of_stops(alloc: Global, ended: &Result<Traced, HostError>) -> Option<String>
     ensures { TellsStopsOf ended.now result }
 {
@@ -109,7 +109,7 @@ pub fn lines_of_stops(alloc: Global, ended: &Result<Traced, HostError>) -> Optio
     }
 }
 
-/// It is told where the task ended so that all of the run's output was handed on.
+/// It is written if all of the run's output was flushed.
 pub fn at_end(outcome: Outcome<'_>, why: Option<String>) -> Option<String>
     ensures { result ≡ at_end outcome.entry why }
 {

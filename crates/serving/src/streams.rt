@@ -17,8 +17,8 @@ use std::io::{Read, Write};
 use tasks::StepLimit;
 
 // How a task ended whose run over a stream ended so, the frames out going to the file at the path.
-// What waits for the file is handed on to it, unless the file has failed before. Why standard
-// output failed is told when it is flushed.
+// The rest of the buffer is written to the file, unless the file has failed before. A failure of
+// standard output is reported when it is flushed.
 fn outcome_of<'a, W: Write + Drop>(
     path: &'a str,
     ended: Result<Tally, HostError>,
@@ -45,8 +45,8 @@ fn outcome_of<'a, W: Write + Drop>(
 }
 
 /// Runs a program on a frame stream with checks. The report goes to `out` as it comes, and the
-/// frames out to a file that was opened by this path, behind a buffer. Where the run came to its
-/// end, it is known where the runs of its first frames stopped that ended without an action.
+/// frames out to a file that was opened by this path, behind a buffer. If the run came to its end,
+/// it is known where the runs of its first frames without an action stopped.
 pub fn trace_stream<'a, R: Read + Drop, W1: Write, W2: Write + Drop>(
     alloc: Global,
     image: Image,

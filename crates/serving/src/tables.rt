@@ -61,9 +61,9 @@ pub fn recheck_file<'a, R: Files, W: Write>(
     }
 }
 
-/// Runs a program on a frame stream, of which a proof table is tested in place of verifying it: the
-/// image is read and judged, then the table, then the frames are opened, then the frames out. The
-/// report goes to standard output as it comes.
+/// Runs a program on a frame stream after testing a proof table, in place of verifying the program:
+/// the image is read and judged, then the table, then the frames are opened, then the frames out.
+/// The report goes to standard output as it comes.
 pub fn run_shown<'a, R: Files, W: Write>(
     rt: &R,
     alloc: Global,

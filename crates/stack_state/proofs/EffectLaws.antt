@@ -120,7 +120,7 @@ stack_written e a s j i slots cells inside live new old =
           (subst (λ h. StackMeans e (slots_of a i) h.cells) (sym (get_or-set_other s.frames j i g (new_frame 0 0 []) other)) old)
     ]
 
--- the jth frame has other cells, and slots that stand for them
+-- the jth frame has other cells, and slots that mean them
 pub MeansBy-cells : (p : Program) (e : Assigned) (a : State) (s : Machine.State) (j : ℕ) (slots : List Slot) (cells : List Cell) → j < depth a
     → IsState p (with_cells s j cells) → StackMeans e slots cells → MeansBy p e a s
     → MeansBy p e (with_frame_slots a j slots) (with_cells s j cells)
@@ -277,7 +277,7 @@ MeansBy-proved p e a s i n inside m =
     MeansBy-map_kinds p e (proved_kind i n) a s refl
     (Allows-proved e i n (subst (λ l. (e.offset i +ℤ pos n) ≤ℤ pos l) (sym m.assigned.length_is) inside)) m
 
--- whether the identity stands for null
+-- whether values of the identity are null
 abbrev pub IsNull : Option ℕ → Bool → Type 0
 IsNull None null = null ≡ true
 IsNull (Some n) null = null ≡ false
@@ -303,7 +303,7 @@ Allows-tested : (e : Assigned) (i : ℕ) (null : Bool) (zeros : Scalar) → IsNu
 Allows-tested e i null zeros known has (MapValueOrNull m identity) v h = tested_if e i m identity null zeros v (identity == i) refl known has h
 Allows-tested e i null zeros known has k v h = h
 
--- the identity stands for null, or for a live value
+-- values of the identity are null, or point to a live value
 pub MeansBy-tested : (p : Program) (e : Assigned) (a : State) (s : Machine.State) (i : ℕ) (null : Bool) (zeros : Scalar) → IsNull (e.value i) null
     → Has zeros 0 → MeansBy p e a s → MeansBy p e (map_kinds (tested_kind i null zeros) a) s
 MeansBy-tested p e a s i null zeros known has m =

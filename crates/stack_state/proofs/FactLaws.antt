@@ -1,4 +1,4 @@
--- Values of which no fact says anything.
+-- Values about which no fact says anything.
 use Rattle.std.specs.Prelude.{◌≡◌, true, refl}
 use Rattle.reg_state.specs.declared.kinds.Kind.{Kind}
 use Rattle.reg_state.specs.declared.kinds.Kind.TheVariants.{Packet, MapValueOrNull, Stack}

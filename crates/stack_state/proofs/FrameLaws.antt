@@ -83,7 +83,7 @@ fills_here e s slots serial j k rows next z by kind h fit m f =
 
 -- ---- stores
 
--- the state that is left, and what the frame's slots then stand for
+-- the state that is left, and what the frame's slots then mean
 abbrev pub Leaves : State → ℕ → Assigned → List Slot → Result State TrapReason → Type 0
 Leaves s j e slots went = (cells : List Cell) × (went ≡ Ok (with_cells s j cells)) × StackMeans e slots cells
 

@@ -95,7 +95,7 @@ MeansBy-answered p e a helped k is new m =
 same_identity : (i : ℕ) → nat_eq i i ≡ true
 same_identity i = grind (arith, nat_tests)
 
--- a fresh identity stands for what was found
+-- a fresh identity is assigned what was found
 found_here : (e : Assigned) (i : ℕ) (o : Option ℕ) → (with_value e i o).value i ≡ o
 found_here e i o = ap (λ (b : Bool). if b then o else e.value i) (same_identity i)
 
@@ -110,7 +110,7 @@ IsLive-at_key maps m key stored found =
     let content : Content = slice_index_or maps m [] in
     at_key-value_serials (Contains (value_serials content)) key stored content found (All-contains_itself (value_serials content))
 
--- a look-up answers what a fresh null identity may stand for
+-- a look-up answers what a fresh null identity may be assigned
 pub MeansBy-looked_up : (p : Program) (e : Assigned) (a : State) (s : Machine.State) (m i : ℕ) (key : List ℕ) → IsFreshNull a i → MeansBy p e a s
     → (f : Assigned) × MeansBy p f a s × Allows f (MapValueOrNull m i) (pointer_or_zero m (at_key key (content_of s m)))
 MeansBy-looked_up p e a s m i key fresh means = by (at_key key (content_of s m)) refl

@@ -205,7 +205,7 @@ IsLeastFresh-marks names a m n i none mid marks callers innermost empty some ins
       ];
     }
 
--- no mark stands before a search
+-- nothing is marked before a search
 pub is_marked-replicate : (n i : ℕ) → is_marked (replicate n false) i ≡ false
 is_marked-replicate zero i = refl
 is_marked-replicate (suc n) zero = refl

@@ -253,7 +253,7 @@ SlotMeans-fresh_value e i o (Written marks) cs fresh h = h
 SlotMeans-fresh_value e i o (Spilled k) cs fresh h =
     SlotMeans-spilled e (with_value e i o) k k cs (λ v. Allows-fresh_value k e i o v fresh) h
 
--- a packet identity that no kind of the state names may stand for any number
+-- a packet identity that no kind of the state uses may be assigned any number
 pub MeansBy-fresh : (p : Program) (e : Assigned) (a : State) (s : Machine.State) (i : ℕ) (z : ℤ) → i ≢ 0 → IsFreshPacket a i
     → MeansBy p e a s → MeansBy p (with_offset e i z) a s
 MeansBy-fresh p e a s i z some fresh m =

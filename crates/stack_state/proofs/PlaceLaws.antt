@@ -12,7 +12,7 @@ use Rattle.stack_state.specs.declared.states.State.{State}
 use Rattle.stack_state.specs.Meaning.{kind_at, registers_of}
 use Rattle.stack_state.specs.Places.{kind_of, with_register}
 
--- ---- registers, told apart by their numbers
+-- ---- registers, which differ by their numbers
 
 reg_numbered-reg_number : (r : Reg) → reg_numbered (reg_number r) ≡ Some r
 reg_numbered-reg_number R0 = refl
@@ -41,7 +41,7 @@ same_or_other q r =
 
 -- ---- kinds
 
--- every register but r10 stands in the innermost frame's list
+-- every register but r10 is in the innermost frame's list
 pub kind_of-registers : (a : State) (r : Reg) → r ≢ R10 → kind_of a r ≡ kind_at (registers_of a) (reg_number r)
 kind_of-registers a R10 own = absurd (own refl)
 kind_of-registers a r own = refl

@@ -1,4 +1,4 @@
--- What the calls of `StackState` do to the cells that the slots stand for.
+-- What the calls of `StackState` do to the cells that the slots mean.
 use Rattle.std.specs.Prelude.{◌≡◌, ◌≢◌, ℕ, ◌+◌, ◌*◌, ◌/◌, ◌%◌, ◌^◌, ◌<◌, ◌≤◌, true, List, map, drop, length, replicate, slice_set, slice_index_or, All, Option, Some, None, ◌⊎◌, bit_or}
 use Rattle.std.specs.Int.{bit_at}
 use Rattle.std.specs.List.{list_all}
@@ -49,7 +49,7 @@ other_slot e slots k j s cs ds other same h =
     subst (λ (t : Slot). SlotMeans e t ds) (sym (get_or-set_other slots k j s (Written 0) other))
     (subst (λ (c : List Cell). SlotMeans e (slot_at slots j) c) (sym same) h)
 
--- cells are written inside one slot, which then stands for what is there
+-- cells are written inside one slot, which then means what is there
 pub slot_changed : (e : Assigned) (slots : List Slot) (cells new : List Cell) (at k : ℕ) (s : Slot) → length slots ≡ frame_slots → k < frame_slots
     → 8 * k ≤ at → at + length new ≤ 8 * k + 8 → StackMeans e slots cells → SlotMeans e s (chunk_of k (written cells at new))
     → StackMeans e (slice_set slots k s) (written cells at new)
@@ -67,7 +67,7 @@ slot_changed e slots cells new at k s count within from to m h =
 
 -- ---- every slot changed
 
--- other slots, under another assignment, which stand for all that the slots stood for
+-- other slots, under another assignment, which mean all that the slots meant
 pub StackMeans-change : (e f : Assigned) (old new : List Slot) (cells : List Cell)
     → ((k : ℕ) (cs : List Cell) → k < frame_slots → SlotMeans e (slot_at old k) cs → SlotMeans f (slot_at new k) cs)
     → StackMeans e old cells → StackMeans f new cells
@@ -125,7 +125,7 @@ number_spill e numbers (Written marks) v cs is h same =
     subst (λ (m : ℕ). Marked m cs) (sym is.0) (marked_number h.0 cs (same ∙ ap stored h.1))
 number_spill e numbers (Spilled k) v cs is h same = (v, subst (λ (j : Kind). Allows e j v) (sym is.0) h, same)
 
--- the slot that a spill leaves stands for what an 8-byte store of the value writes
+-- the slot that a spill leaves means what an 8-byte store of the value writes
 pub SlotMeans-spill : (e : Assigned) (k : Kind) (s : Slot) (v : Value) (cs : List Cell) → IsSpill k s → Allows e k v → cs ≡ stored v
     → SlotMeans e s cs
 SlotMeans-spill e Unset s v cs is h same = subst (λ (t : Slot). SlotMeans e t cs) (sym is) (no_marks cs)

@@ -18,12 +18,12 @@ abbrev pub kept_kinds : List Kind → List Kind
 kept_kinds ks =
     Unset ∷ Unset ∷ Unset ∷ Unset ∷ Unset ∷ Unset ∷ kind_at ks 6 ∷ kind_at ks 7 ∷ kind_at ks 8 ∷ kind_at ks 9 ∷ []
 
--- r1 to r5, which it hands over
+-- r1 to r5, which it passes to the function
 abbrev pub handed_kinds : List Kind → List Kind
 handed_kinds ks =
     Unset ∷ kind_at ks 1 ∷ kind_at ks 2 ∷ kind_at ks 3 ∷ kind_at ks 4 ∷ kind_at ks 5 ∷ Unset ∷ Unset ∷ Unset ∷ Unset ∷ []
 
--- a frame of whose bytes nothing is known
+-- a frame whose bytes are all unknown
 unfoldable pub unset_slots : List Slot
 unset_slots = replicate frame_slots (Written 0)
 
@@ -55,7 +55,7 @@ abbrev pub left_kinds : Kind → List Kind → List Kind
 left_kinds answer ks =
     answer ∷ Unset ∷ Unset ∷ Unset ∷ Unset ∷ Unset ∷ kind_at ks 6 ∷ kind_at ks 7 ∷ kind_at ks 8 ∷ kind_at ks 9 ∷ []
 
--- the frame of the caller that goes on
+-- the frame of the caller that is returned to
 abbrev pub resumed_of : AbstractFrame → Kind → AbstractFrame
 resumed_of f answer = record f { registers = left_kinds answer f.registers }
 

@@ -1,4 +1,4 @@
--- Kinds once a fact is known that copies in all frames share.
+-- Kinds after a fact becomes known that is shared by copies in all frames.
 use Rattle.std.specs.Prelude.{Bool, true, false}
 use Rattle.reg_state.specs.declared.kinds.Kind.{Kind}
 use Rattle.reg_state.specs.declared.kinds.Kind.TheVariants.{Packet, MapValueOrNull, Stack}
@@ -12,7 +12,7 @@ learned (Proved identity bytes) = proved_kind identity bytes
 learned (Tested identity null zero) = tested_kind identity null zero
 learned (Ended frame) = without_frame frame
 
--- no fact says anything of it
+-- no fact is about it
 abbrev pub is_plain : Kind → Bool
 is_plain (Packet fixed identity least greatest proved) = false
 is_plain (MapValueOrNull m identity) = false

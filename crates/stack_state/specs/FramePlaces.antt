@@ -16,7 +16,8 @@ abbrev pub FindsBytes : ℤ → ℕ → Option ℕ → Type 0
 FindsBytes z n (Some at) = (z ≡ pos at) × (at + n ≤ frame_size)
 FindsBytes z n None = (at : ℕ) → z ≡ pos at → ¬ (at + n ≤ frame_size)
 
--- an offset from a frame's end leads to byte `at`: the bytes of the size are all in the frame, and begin at a multiple of the size
+-- an offset from a frame's end is that of byte `at`: the bytes of the size are all in the frame,
+-- and begin at a multiple of the size
 pub record IsPlace (z : ℤ) (size : Size) (at : ℕ) : Type 0 where
   pub from_start : z +ℤ pos frame_size ≡ pos at
   pub inside : at + size_bytes size ≤ frame_size

@@ -1,4 +1,4 @@
--- Identities that no kind of a state names.
+-- Identities that no kind of a state uses.
 use Rattle.std.specs.Prelude.{◌≢◌, ℕ, ◌<◌, Option, Some}
 use Rattle.reg_state.specs.declared.kinds.Kind.{Kind}
 use Rattle.reg_state.specs.KindCover.{packet_identity_of, null_identity_of}

@@ -1,4 +1,5 @@
--- Which identities are named: a mark for each of the lowest ones, in a search for one that no kind names.
+-- Which identities are used: a mark for each of the lowest ones, in a search for one that no kind
+-- uses.
 use Rattle.std.specs.Prelude.{◌≡◌, ◌≢◌, ℕ, suc, ◌+◌, ◌<◌, ◌≤◌, ◌⊎◌, Bool, true, false, List, [], ◌∷◌, length, slice_index_or, Some}
 use Rattle.reg_state.specs.declared.kinds.Kind.{Kind}
 use Rattle.stack_state.specs.declared.identities.Names.{Names}
@@ -41,7 +42,8 @@ marked [] = 0
 marked (true ∷ marks) = suc (marked marks)
 marked (false ∷ marks) = marked marks
 
--- at most n marks more: what is marked was marked or is named, what is not marked was not and is free
+-- at most n more marks: a marked identity was marked before or is used, an unmarked one was not
+-- marked and is free
 pub record Marks (IsFree : ℕ → Type 0) (n : ℕ) (old new : List Bool) : Type 0 where
   pub named : (i : ℕ) → is_marked new i ≡ true → (is_marked old i ≡ true) ⊎ (¬ IsFree i)
   pub free : (i : ℕ) → i < length new → is_marked new i ≡ false → (is_marked old i ≡ false) × IsFree i

@@ -1,4 +1,4 @@
--- What abstract states mean: the machine states that they stand for.
+-- What abstract states mean: sets of machine states.
 use Rattle.std.specs.Prelude.{◌≡◌, ℕ, suc, ◌+◌, ◌<◌, pos, List, [], ◌∷◌, ◌++◌, map, length, slice_index_or}
 use Rattle.isa_model.specs.declared.registers.Reg.TheVariants.{R10}
 use Rattle.isa_model.specs.Code.Instructions.{Program}
@@ -50,14 +50,14 @@ kind_at kinds k = slice_index_or kinds k Unset
 
 -- ---- meaning
 
--- the assignment speaks of this machine state
+-- the assignment fits this machine state
 pub record IsOf (e : Assigned) (s : Machine.State) : Type 0 where
   pub none : e.offset 0 ≡ pos 0
   pub length_is : e.packet_length ≡ length s.packet
   pub serials : e.frames ≡ map (λ f. f.serial) s.frames
   pub contents : e.maps ≡ s.maps
 
--- under the assignment, the abstract state stands for the machine state
+-- under the assignment, the machine state is a member of the abstract state
 pub record MeansBy (p : Program) (e : Assigned) (a : State) (s : Machine.State) : Type 0 where
   pub is_state : IsState p s
   pub assigned : IsOf e s
@@ -65,20 +65,20 @@ pub record MeansBy (p : Program) (e : Assigned) (a : State) (s : Machine.State) 
   pub returns : map (λ f. f.return_slot) s.frames ≡ map (λ f. f.return_slot) (frames_of a)
   pub pointer : reg s R10 ≡ frame_pointer (innermost s.frames).serial
   pub registers : (k : ℕ) → Allows e (kind_at (registers_of a) k) (value_at s.regs k)
-  -- the registers that a call kept for the frame stand in the one that it pushed
+  -- the registers that a call saved for the frame are in the frame that it pushed
   pub kept : (j k : ℕ) → suc j < depth a → k < 4
       → Allows e (kind_at (kinds_of a j) (6 + k)) (value_at (frame_at s.frames (suc j)).saved k)
-  -- each live frame's slots stand for its cells
+  -- each live frame's slots mean its cells
   pub stacks : (j : ℕ) → j < depth a → StackMeans e (slots_of a j) (frame_at s.frames j).cells
 
--- one assignment serves the whole state
+-- one assignment is used for the whole state
 unfoldable pub Means : Program → State → Machine.State → Type 0
 Means p a s = (e : Assigned) × MeansBy p e a s
 
--- every machine state that is meant exits within n steps, with every clock
+-- the run of every member exits within n steps, with every clock
 unfoldable pub Within : Program → State → ℕ → Type 0
 Within p a n = (clock : ℕ → ℕ) → IsClock clock → (s : Machine.State) → Means p a s → Ends p clock s n
 
--- what b means a means too
+-- every member of b is a member of a
 unfoldable pub Covers : Program → State → State → Type 0
 Covers p a b = (s : Machine.State) → Means p b s → Means p a s

@@ -27,7 +27,8 @@ kind_in (Spilled k) = k
 
 -- ---- marks
 
--- all bytes of a spilled number are number bytes; of what may be a pointer none is known to be one
+-- all bytes of a spilled number are number bytes; if it may be a pointer, no byte is known to be
+-- one
 abbrev pub kind_marks : Kind → ℕ
 kind_marks (Number numbers) = 255
 kind_marks k = 0
@@ -48,7 +49,8 @@ IsMarked slots i = bit_at (marks_of (slot_at slots (i / 8))) (i % 8) ≡ 1
 abbrev pub AreMarked : List Slot → ℕ → ℕ → Type 0
 AreMarked slots from end = (i : ℕ) → from ≤ i → i < end → IsMarked slots i
 
--- n number bytes were written: a value that was spilled there is whole no longer, and of a number the other bytes stay
+-- n number bytes were written: a value that was spilled there is no longer whole, and of a spilled
+-- number the other bytes stay
 abbrev pub after_store : List Slot → ℕ → ℕ → List Slot
 after_store slots at n =
     slice_set slots (at / 8) (Written (bit_or (marks_of (slot_at slots (at / 8))) (mask_of (at % 8) (at % 8 + n))))
@@ -67,7 +69,8 @@ IsAnyNumber k = ⊥
 abbrev pub AreAll : Size → Scalar → Type 0
 AreAll size answer = (x : ℕ) → (Has answer x ↔ (x < 2 ^ (8 * size_bytes size)))
 
--- those that the bytes of a spilled number from one on may spell: of all its bytes its own
+-- those that the bytes of a spilled number may spell, from one byte on; all its bytes spell the
+-- number itself
 abbrev pub ArePart : Scalar → ℕ → Size → Scalar → Type 0
 ArePart numbers from U64 answer = answer ≡ numbers
 ArePart numbers from size answer = IsPart (8 * from) (8 * size_bytes size) numbers answer
@@ -81,7 +84,7 @@ abbrev pub AreNumbers : Slot → ℕ → Size → Scalar → Type 0
 AreNumbers (Written marks) from size answer = AreAll size answer
 AreNumbers (Spilled k) from size answer = AreSpilled k from size answer
 
--- the bytes are loaded where all of them are marked
+-- the bytes can be loaded if all of them are marked
 abbrev pub IsLoad : List Slot → ℕ → Size → Option Scalar → Type 0
 IsLoad slots at size None = ¬ AreMarked slots at (at + size_bytes size)
 IsLoad slots at size (Some answer) =
@@ -89,7 +92,7 @@ IsLoad slots at size (Some answer) =
 
 -- ---- whole values
 
--- a number of which nothing is known is eight written bytes
+-- a number about which nothing is known is eight written bytes
 abbrev pub IsNumberSpill : Scalar → Slot → Type 0
 IsNumberSpill numbers (Written marks) = (marks ≡ 255) × IsAny numbers
 IsNumberSpill numbers (Spilled k) = (k ≡ Number numbers) × (¬ IsAny numbers)

@@ -1,5 +1,5 @@
--- The cells of a frame that its slots stand for, and what the calls of `StackState` keep of that.
--- The contracts cite the words below; StackLaws and FrameLaws have the laws.
+-- What the slots of a frame mean: cells; and how the calls of `StackState` change that. The
+-- contracts cite the definitions below; StackLaws and FrameLaws have the laws.
 use Rattle.std.specs.Prelude.{◌≡◌, ◌≢◌, ℕ, ◌+◌, ◌*◌, ◌<◌, true, List, [], map, take, drop, length, slice_index_or, All, Option, Ok, IfSome}
 use Rattle.std.specs.Int.{bit_at}
 use Rattle.std.specs.List.{splice, list_all}
@@ -43,7 +43,7 @@ stored Unset = []
 stored (Num n) = map Byte (bytes_of U64 n)
 stored (Ptr r z) = pieces r z
 
--- ---- what slots stand for
+-- ---- what slots mean
 
 -- each marked cell is a number byte
 abbrev pub Marked : ℕ → List Cell → Type 0
@@ -53,7 +53,7 @@ abbrev pub SlotMeans : Assigned → Slot → List Cell → Type 0
 SlotMeans e (Written marks) cs = Marked marks cs
 SlotMeans e (Spilled k) cs = (v : Value) × Allows e k v × (cs ≡ stored v)
 
--- under the assignment, the slots stand for the cells
+-- under the assignment, the cells are members of the slots
 pub record StackMeans (e : Assigned) (slots : List Slot) (cells : List Cell) : Type 0 where
   pub size : length cells ≡ frame_size
   pub each : (k : ℕ) → k < frame_slots → SlotMeans e (slot_at slots k) (chunk_of k cells)
@@ -95,7 +95,7 @@ KeepsOthers m before after = (j n : ℕ) → j ≢ m → IsLive before j n → I
 abbrev pub with_maps : Assigned → List Content → Assigned
 with_maps e maps = record e { maps = maps }
 
--- whatever becomes of the values of the map
+-- whatever happens to the values of the map
 unfoldable pub Forgets : ℕ → List Slot → List Slot → Type 0
 Forgets m old new = (e : Assigned) (maps : List Content) (cells : List Cell) → KeepsOthers m e.maps maps
     → StackMeans e old cells → StackMeans (with_maps e maps) new cells

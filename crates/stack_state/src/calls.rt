@@ -23,7 +23,7 @@ fn kept_kinds(kinds: &[Kind; 10]) -> [Kind; 10]
     [none, none, none, none, none, none, r6, r7, r8, r9]
 }
 
-/// r1 to r5, which it hands over.
+/// r1 to r5, which it passes to the function.
 fn handed_kinds(kinds: &[Kind; 10]) -> [Kind; 10]
     ensures { result ≡ call_words.handed_kinds kinds.now }
 {
@@ -44,14 +44,14 @@ fn left_kinds(answer: Kind, kinds: &[Kind; 10]) -> [Kind; 10]
 // ---- frames
 
 impl AbstractFrame {
-    /// It waits for a function that it called.
+    /// It has called a function, and waits for its return.
     fn wait(&mut self)
         ensures { self.new ≡ caller_of self.old }
     {
         self.registers = kept_kinds(&self.registers);
     }
 
-    /// It gives way to the frame of a function that it calls, whose exit leads to the slot.
+    /// The frame becomes a caller's: it calls a function that returns to the slot.
     #[tactic(auto, unfolding(crate::specs::Calls::unset_slots))]
     fn give_way(&mut self, slot: usize)
         ensures { self.new ≡ callee_of self.old slot }
@@ -61,7 +61,7 @@ impl AbstractFrame {
         self.stack.clear();
     }
 
-    /// It goes on after a call with this in r0.
+    /// The caller's frame after a return, with this in r0.
     pub(crate) fn resume(&mut self, answer: Kind)
         ensures { self.new ≡ resumed_of self.old answer }
     {
@@ -72,7 +72,7 @@ impl AbstractFrame {
 // ---- states
 
 impl State {
-    /// A call of the function at a slot. Its exit leads to the slot after this one.
+    /// A call of the function at a slot. It returns to the slot after this one.
     pub fn enter(&mut self, target: usize)
         requires room { depth self.old < max_call_frames }
         requires slot { self.old.slot + 1 < 2 ^ 63 }

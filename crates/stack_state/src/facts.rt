@@ -1,4 +1,4 @@
-//! What becomes known of values wherever they stand: in registers and slots of all live frames.
+//! What becomes known of values wherever they are: in registers and slots of all live frames.
 
 ghost use Rattle.std.specs.Prelude.{◌≡◌, map};
 ghost use Rattle.stack_state.specs.Effects.{proved_kind, tested_kind, with_spilled, with_kinds, map_kinds};
@@ -58,7 +58,7 @@ fn proved(kind: Kind, identity: u32, bytes: u32) -> Kind
     }
 }
 
-/// What is known of a value once it is known whether those of the identity are null.
+/// What is known of a value once it is known whether values of its identity are null.
 fn tested(kind: Kind, identity: u32, null: bool, zero: Scalar) -> Kind
     ensures { result ≡ tested_kind identity null zero kind }
 {
@@ -107,7 +107,7 @@ fn learned_kind(fact: Fact, kind: Kind) -> Kind
     }
 }
 
-/// Whether no fact says anything of a value. Most values are such ones, and are not written again.
+/// Whether no fact is about a value. Most values are such ones, and are not written again.
 #[inline(always)]
 fn is_plain(kind: &Kind) -> bool
     ensures { result ≡ is_plain kind.now }
@@ -170,8 +170,8 @@ fn learn_frames(fact: Fact, frames: &mut [AbstractFrame])
 }
 
 impl State {
-    /// Takes up a fact wherever it bears on a value: in registers, in those that calls kept, and in
-    /// spilled slots of all live frames.
+    /// Applies a fact to all values that it is about: in registers, in those that calls saved, and
+    /// in spilled slots of all live frames.
     pub fn learn(&mut self, fact: Fact)
         ensures { self.new ≡ map_kinds (learned fact) self.old }
     {

@@ -8,7 +8,7 @@ use crate::slots::{Slot, forgotten};
 use crate::states::{AbstractFrame, State};
 use reg_state::Kind;
 
-/// The kind, if it does not speak of values of the map.
+/// The kind, if it does not refer to values of the map.
 fn forgotten_kind(kind: Kind, index: u8) -> Kind
     ensures { result ≡ forgotten_register index kind }
 {

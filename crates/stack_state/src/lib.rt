@@ -1,4 +1,4 @@
-//! Abstract states: what is known of a run when it comes to an instruction.
+//! Abstract states: what is known of a run when it reaches an instruction.
 #![tactic(auto)]
 
 pub mod calls;

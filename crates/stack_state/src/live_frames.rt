@@ -43,8 +43,8 @@ fn aligned(from_start: i64, size: Size) -> Option<usize>
     Some(at)
 }
 
-/// The byte of a frame to which a pointer's offset from the frame's end and an instruction's offset
-/// lead. None: the bytes of the size are not all in the frame, or not aligned.
+/// The byte of a frame at the sum of a pointer's offset from the frame's end and an instruction's
+/// offset. None: the bytes of the size are not all in the frame, or not aligned.
 pub fn stack_place(offset: i32, by: i16, size: Size) -> Option<usize>
     ensures { FindsPlace (offset +ℤ by) size result }
 {

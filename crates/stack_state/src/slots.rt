@@ -11,7 +11,7 @@ use reg_state::{Domain, Kind, Scalar};
 /// What is known of eight bytes of a call frame.
 #[derive(Clone, Copy, PartialEq, Eq, Debug)]
 pub enum Slot {
-    /// Bit i says that byte i is a written number byte. Of the other bytes nothing is known.
+    /// Bit i says that byte i is a written number byte. Nothing is known of the other bytes.
     Written(u8),
     /// They are what an 8-byte store of a value of this kind wrote.
     Spilled(Kind),

@@ -32,7 +32,7 @@ impl Default for StackState {
 }
 
 impl StackState {
-    /// A frame of which nothing is known.
+    /// A frame about which nothing is known.
     pub fn new() -> StackState
         ensures exact { result.slots ≡ replicate frame_slots (Slot.Written 0) }
         ensures meant { (e : Assigned) (cells : List Cell) → length cells ≡ frame_size

@@ -23,7 +23,7 @@ pub struct AbstractFrame {
     pub stack: StackState,
 }
 
-/// What is known of a run when it comes to an instruction.
+/// What is known of a run when it reaches an instruction.
 #[derive(Drop)]
 pub struct State {
     /// The slot of the instruction.

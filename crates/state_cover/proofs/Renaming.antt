@@ -1,4 +1,4 @@
--- Where some maps of identities serve, the names that stand at the first places do too.
+-- If some renaming of identities works, then the one by first places does too.
 use Rattle.std.proofs.Common.{◌≡◌, ◌∙◌, ℕ, zero, suc, ◌<◌, inl, inr, List, [], ◌∷◌, Bool, true, false, cond, length, map, get_or, Option, Some, None, refl, sym, ap, subst, arith}
 use Rattle.std.specs.Prelude.{◌⊎◌, IfSome, IsSome, nat_eq, if◌then◌else◌}
 use Rattle.std.specs.List.{zip}
@@ -24,7 +24,7 @@ use Rattle.state_cover.specs.FrameCover.{SlotEncloses, KindsEnclose, SlotsEnclos
 
 -- ---- one place
 
--- what stands opposite has the name that the map gives
+-- the counterpart has the name that the map gives
 abbrev IsOpposite : Sort → (ℕ → ℕ) → Kind → Kind → Type 0
 IsOpposite s m x y = IfSome (identity_of s x) (λ i. identity_of s y ≡ Some (m i))
 
@@ -56,7 +56,7 @@ unset_names sort.Null i h = cc
 
 -- ---- the first place that names an identity
 
--- the name stands there
+-- the name is there
 abbrev StandsAt : Sort → (ℕ → ℕ) → ℕ → Option (Kind × Kind) → Type 0
 StandsAt s m i found = IfSome found (λ place. identity_of s place.1 ≡ Some (m i))
 
@@ -133,7 +133,7 @@ opposite_slots s m packet null xs ys each c = λ k.
 
 -- ---- frames
 
--- the kinds in registers and slots stand opposite those of the other frame
+-- kinds in registers and slots correspond to those of the other frame
 record FramesOpposite (s : Sort) (m : ℕ → ℕ) (f g : AbstractFrame) : Type 0 where
   registers : AreOpposite s m f.registers g.registers
   slots : AreOpposite s m (spilled_kinds f.stack.slots) (spilled_kinds g.stack.slots)
@@ -180,7 +180,7 @@ no_frame_names : (s : Sort) (i : ℕ) → NamedIn s no_frame i → ⊥
 no_frame_names s i (inl named) = unset_names s i named.1
 no_frame_names s i (inr named) = unset_names s i named.1
 
--- what stands opposite nothing names nothing
+-- what has no counterpart names nothing
 none_opposite : (s : Sort) (m : ℕ → ℕ) (i : ℕ) (f : AbstractFrame) → FramesOpposite s m f no_frame → NamedIn s f i → ⊥
 none_opposite s m i f h (inl named) =
     unset_names s (m i) (opposite_named s m i (kind_at f.registers named.0) Unset (h.registers named.0) named.1)

@@ -55,8 +55,8 @@ SlotsEnclose packet null xs ys = (k : ℕ) → SlotEncloses packet null (slot_at
 
 -- ---- states
 
--- the two differ in names of identities, and in registers and slots that cover what stands opposite, numbers by their bits
--- and limits
+-- each register and slot of a covers its counterpart of b, numbers by their bits and limits, under
+-- these names of identities
 pub record Encloses (packet null : ℕ → ℕ) (a b : State) : Type 0 where
   pub none : packet 0 ≡ 0
   pub slot : a.slot ≡ b.slot

@@ -1,4 +1,5 @@
--- What one state calls the identities of another: what stands in it at the first place where the other names them.
+-- What one state calls the identities of another: the name that it has at the first place where the
+-- other uses them.
 use Rattle.std.specs.Prelude.{ℕ, List, [], ◌∷◌, ◌++◌, map, Bool, false, Option, Some, None, nat_eq, unwrap_or, if◌then◌else◌}
 use Rattle.std.specs.List.{find, zip}
 use Rattle.reg_state.specs.declared.kinds.Kind.{Kind}
@@ -40,7 +41,7 @@ places (f ∷ fs) (g ∷ gs) = frame_places f g ++ places fs gs
 abbrev pub first_named : Sort → ℕ → List (Kind × Kind) → Option (Kind × Kind)
 first_named sort i ps = find (λ place. is_named sort i place.0) ps
 
--- the name that stands opposite; the identity itself, where there is none
+-- the counterpart of an identity, or the identity itself if there is none
 abbrev pub name_at : Sort → ℕ → Option (Kind × Kind) → ℕ
 name_at sort i None = i
 name_at sort i (Some place) = unwrap_or (identity_of sort place.1) i
@@ -48,7 +49,7 @@ name_at sort i (Some place) = unwrap_or (identity_of sort place.1) i
 unfoldable pub name_of : Sort → State → State → ℕ → ℕ
 name_of sort a b i = name_at sort i (first_named sort i (places (frames_of a) (frames_of b)))
 
--- packet identity 0 is none in every state
+-- packet identity 0 means no identity, in every state
 abbrev pub packet_name : State → State → ℕ → ℕ
 packet_name a b i = if nat_eq i 0 then 0 else name_of Packet a b i
 

@@ -62,8 +62,8 @@ fn frame_covers(left: &AbstractFrame, right: &AbstractFrame, a: &State, b: &Stat
     slots_cover(&left.stack.slots, &right.stack.slots, a, b)
 }
 
-// All ten are compared in a caller's frame too: r0 to r5 are Unset there, which covers what stands
-// there in b.
+// All ten are compared in a caller's frame too: r0 to r5 are Unset there, which covers whatever b
+// has.
 fn registers_cover(left: &[Kind; 10], right: &[Kind; 10], a: &State, b: &State) -> bool
     requires { length a.now.callers.items ≡ length b.now.callers.items }
     ensures yes { IsTrue result

@@ -35,7 +35,7 @@ impl Sort {
         }
     }
 
-    // What stands on either side at the first place where the left registers name the identity.
+    // The kinds of both sides at the first place where the left registers use the identity.
     fn find_in_registers(
         self,
         identity: u32,
@@ -118,7 +118,7 @@ impl Sort {
         self.find_in_frame(identity, &a.innermost, &b.innermost)
     }
 
-    // The name that stands opposite; the identity itself, where there is none.
+    // The counterpart of an identity, or the identity itself if there is none.
     #[tactic(auto, unfolding(crate::specs::Names::name_of))]
     fn name_of(self, identity: u32, a: &State, b: &State) -> u32
         requires { length a.now.callers.items ≡ length b.now.callers.items }

@@ -18,7 +18,7 @@ abbrev pub register_part : ℕ → Kind → Option Part
 register_part n Unset = None
 register_part n k = Some (InRegister n k)
 
--- nor of a slot of which nothing is known
+-- nor of a slot about which nothing is known
 abbrev pub slot_part : ℕ → Slot → Option Part
 slot_part n (Written marks) = if marks == 0 then None else Some (InSlot n (Written marks))
 slot_part n (Spilled k) = Some (InSlot n (Spilled k))
@@ -49,7 +49,7 @@ IsPartOf f (InSlot n t) = slot_at f.stack.slots n ≡ t
 
 -- ---- a frame from parts
 
--- a frame of which nothing is known
+-- a frame about which nothing is known
 unfoldable pub unset_frame : ℕ → AbstractFrame
 unset_frame slot =
     record { return_slot = slot; registers = replicate 10 Unset; stack = record { slots = replicate frame_slots (Written 0) } }

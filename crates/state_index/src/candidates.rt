@@ -70,7 +70,7 @@ pub struct FinishedCandidates<'a> {
     pub sought: Option<Sought>,
     /// The first entry of a bucket.
     pub next: Option<u32>,
-    /// Whether the entries of the bucket stand in the order in which they were stored.
+    /// Whether the entries of the bucket are in the order in which they were stored.
     pub is_ordered: bool,
 }
 

@@ -35,17 +35,17 @@ impl Effort {
         self.spent = self.spent.saturating_add(places as u64);
     }
 
-    /// Notes a test that most often ends at once.
+    /// Notes the cost of a test that usually ends at its first comparison.
     pub fn spend_test(&mut self) {
         self.spend(TEST);
     }
 
-    /// Notes that so many places are compared, after what it takes to find them.
+    /// Notes the cost of comparing this many places, and of finding them.
     pub fn spend_search(&mut self, places: usize) {
         self.spend(places.saturating_add(TEST));
     }
 
-    /// Notes that a tree is made of entries with so many places each.
+    /// Notes the cost of making a tree of entries with this many places each.
     pub fn spend_tree(&mut self, entries: usize, places: usize) {
         let each = places.saturating_mul(TREE_PLACE).saturating_add(TREE);
         self.spend(entries.saturating_mul(each));

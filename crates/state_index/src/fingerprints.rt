@@ -25,7 +25,7 @@ impl Fingerprints {
         }
     }
 
-    /// With the next frame, of which no parts are known yet.
+    /// With the next frame, which has no parts yet.
     pub fn with_frame(self, return_slot: usize) -> Self {
         let returns = mixed(self.returns, return_slot as u64);
         Fingerprints {
@@ -84,7 +84,7 @@ fn pair(low: u32, high: u32) -> u64 {
     u64::from(low) | u64::from(high) << 32
 }
 
-/// Factors by which the words of a number are told apart, without waiting for one another.
+/// A factor for each word of a number, so that the products do not depend on one another.
 const FACTORS: [u64; 8] = [
     0xbf58_476d_1ce4_e5b9,
     0x94d0_49bb_1331_11eb,

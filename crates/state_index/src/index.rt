@@ -74,8 +74,8 @@ impl Index {
         Some(mixed(known, shape as u64))
     }
 
-    /// The first entry of the bucket of the finished entries of which this is known, if they have
-    /// no trees.
+    /// The first entry in the bucket of finished entries with these known bits, if they have no
+    /// trees.
     fn first_finished(&self, known: u64) -> Option<u32> {
         let bucket = bucket_of(known, self.finished.len());
         match self.finished.get(bucket) {
@@ -84,7 +84,7 @@ impl Index {
         }
     }
 
-    /// The finished entries of which this is known that may cover a state with such limits.
+    /// The finished entries with these known bits that may cover a state with such limits.
     pub fn finished_candidates<'a>(
         &'a self,
         known: u64,
@@ -113,8 +113,8 @@ impl Index {
         !self.tree_sets.is_empty()
     }
 
-    /// Notes that entries of which this is known were scanned, and returns whether a tree of them
-    /// is to be made.
+    /// Notes that entries with these known bits were scanned, and returns whether to make a tree of
+    /// them.
     pub fn note_scan(
         &mut self,
         alloc: Global,

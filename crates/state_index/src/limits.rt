@@ -25,8 +25,7 @@ enum Sort {
     Written,
 }
 
-/// How wide what is known of a place is, by measures each of which is at least as great in a state
-/// that covers another one as it is in that one.
+/// Monotone measures of a place: if a covers b, each measure of a is at least that of b.
 #[derive(Clone, Copy, Drop)]
 pub struct Limits {
     /// Frames come one after another, and in each of them registers before slots.
@@ -145,8 +144,8 @@ fn of_marks(marks: u8) -> [u64; MEASURES] {
 const LEVEL: u32 = 1 << 9;
 
 impl Limits {
-    /// Of a part of a frame, the outermost one being at level 0. There are none where all is
-    /// allowed.
+    /// The measures of a part of a frame; the outermost frame is at level 0. A part that allows all
+    /// has none.
     fn of(level: u32, part: &Part) -> Option<Self> {
         let (place, (sort, measures)) = match part {
             Part::InRegister(place, kind) => (u32::from(*place), of_kind(kind)?),
@@ -216,7 +215,7 @@ pub fn add_limits(limits: &mut Vec<Limits>, level: u32, parts: &[Part]) -> Resul
     Ok(())
 }
 
-/// The limits from a place on; they stand in the order of their places.
+/// The limits from a place on, in the order of their places.
 pub fn from_place(limits: &[Limits], place: u32) -> &[Limits] {
     let mut rest = limits;
     for _skipped in 0..limits.len() {

@@ -1,4 +1,4 @@
-//! An order of rows of words in which like rows stand beside one another.
+//! An order of rows of words that puts similar rows next to one another.
 
 use crate::trees::FAN;
 use std::alloc::{AllocError, Global};
@@ -81,7 +81,7 @@ fn split(places: &mut [Place], half: usize, turn: usize, rows: &[u64], width: us
 }
 
 impl Order {
-    /// That many rows, as they stand.
+    /// That many rows, in the order that they have.
     pub fn of(alloc: Global, count: usize) -> Result<Self, AllocError> {
         let mut places = Vec::with_capacity(alloc, count)?;
         for number in 0..count {

@@ -57,7 +57,7 @@ fn push_registers(parts: &mut Vec<Part>, registers: &[Kind; 10]) -> Result<(), A
     Ok(())
 }
 
-/// Puts the slots of which something is known after the parts.
+/// Appends the slots about which something is known.
 fn push_slots(parts: &mut Vec<Part>, slots: &[Slot; FRAME_SLOTS]) -> Result<(), AllocError>
     ensures pushed { OnOk result (parts.new.items ≡ parts.old.items ++ slot_parts 0 slots.now) }
     ensures wide { length slots.now ≡ frame_slots }

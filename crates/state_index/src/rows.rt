@@ -88,7 +88,7 @@ impl Spread {
 }
 
 impl Rows {
-    /// Rows for the entries that were taken in: there are none yet.
+    /// No rows yet.
     pub fn of(alloc: Global, spread: &Spread) -> Result<Self, AllocError> {
         let measures = spread.measures(alloc)?;
         let mut common = Vec::with_capacity(alloc, spread.spans.len())?;

@@ -1,8 +1,8 @@
 //! Shapes of states: which bits of the numbers in their registers and slots are known.
 //!
-//! A state covers another one only where the other knows each bit that it knows itself, and with
-//! the same value, and where the exits of both lead to the same slots. So stored states are told
-//! apart by their shape, and by the bits that are known in it and those slots.
+//! A state covers another one only if the other knows each bit that it knows, with the same value,
+//! and if the exits of both return to the same slots. So stored states are indexed by their shape,
+//! and by the known bits in it and those slots.
 
 use crate::fingerprints::mixed;
 use crate::keys::Key;
@@ -81,8 +81,8 @@ impl Shape {
         rest.is_empty()
     }
 
-    /// A fingerprint of the bits that are known in the shape, as they are in a state, and of the
-    /// slots to which its frames' exits lead. There is none where the state does not know them all.
+    /// A fingerprint of the shape's known bits, with their values in a state, and of the slots to
+    /// which its frames return. None if the state does not know all of these bits.
     pub fn known_of(&self, key: &Key) -> Option<u64> {
         let mut rest = self.numbers.as_slice();
         let mut print = key.fingerprints.returns;

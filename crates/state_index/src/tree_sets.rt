@@ -23,7 +23,7 @@ struct TreeSet {
     known: u64,
     /// The next one of its bucket.
     next: Option<u32>,
-    /// The larger ones first. While there is none, its entries are in a bucket of the index.
+    /// The larger trees first. While there are no trees, the entries are in a bucket of the index.
     trees: Vec<Tree>,
     /// The entries that are in no tree yet, once there is one, and how many they are.
     unplaced: Option<u32>,
@@ -79,8 +79,8 @@ impl TreeSets {
         }
     }
 
-    /// Adds a finished entry of which this is known to its set, if that has trees: returns the
-    /// unplaced one after it.
+    /// Adds a finished entry with these known bits to its set, if that has trees; returns the
+    /// unplaced entry after it.
     pub fn add_unplaced(&mut self, known: u64, place: usize) -> Option<Option<u32>> {
         if self.sets.is_empty() {
             return None;
@@ -152,8 +152,8 @@ impl TreeSets {
         Ok(())
     }
 
-    /// Adds those of the smallest trees to entries of which this is known, three trees at a time,
-    /// while these are not much larger; returns how many trees are left.
+    /// Merges entries with these known bits with those of the smallest trees, three trees at a
+    /// time, while these are not much larger; returns how many trees are left.
     pub fn gather(&self, known: u64, places: &mut Vec<u32>) -> Result<usize, AllocError> {
         let (trees, _) = self.trees(known);
         let mut left = trees.len();

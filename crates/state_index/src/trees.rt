@@ -8,7 +8,7 @@ use crate::orders::Order;
 use crate::rows::{Rows, WIDTH, put_measured};
 use std::alloc::{AllocError, Global};
 
-/// How many rows of a level a row of the next one stands for: 2 to the power `FAN_BITS`.
+/// How many rows of a level one row of the next level summarizes: 2 to the power `FAN_BITS`.
 pub const FAN: usize = 4;
 
 const FAN_BITS: u32 = 2;
@@ -27,8 +27,8 @@ pub struct Tree {
     common: Vec<Limits>,
     measures: Vec<Measure>,
     places: Vec<u32>,
-    /// The lowest level has a row for each entry. A row of a further one has the greatest words of
-    /// the rows that it stands for.
+    /// The lowest level has a row for each entry. A row of a higher level has the greatest words of
+    /// the rows that it summarizes.
     levels: Vec<Vec<u64>>,
 }
 

@@ -1,5 +1,5 @@
-//! Readers and writers for tests, which move a few bytes at a time and stumble once. What stands
-//! above them has to take what comes, and must not try again.
+//! Readers and writers for tests, which move a few bytes at a time and fail once. Their callers
+//! have to take short reads and writes, and must not try again after a failure.
 #![tactic(auto)]
 
 ghost use Rattle.std.specs.Prelude.{◌≡◌, ◌<◌, ◌≤◌, ◌+◌, [], ◌++◌, length, take, drop, min, None, Some, IfOk, IsErr, OnErr, IfErr, MatchResult};
@@ -12,15 +12,15 @@ use std::alloc::Global;
 use std::io;
 use std::io::{ErrorKind, Read, Write};
 
-/// What comes once in place of bytes: an error, or the answer that no byte was moved.
+/// The failure: an error, or the answer that no byte was moved.
 #[derive(Clone, Copy, PartialEq, Eq, Debug)]
 pub enum Stumble {
     Error(ErrorKind),
     Nothing,
 }
 
-/// The stumbles that callers must tell apart, or must not: an error that some callers try again
-/// after is among them.
+/// The failures to test with. Some callers try again after one of them, `Interrupted`, and must
+/// not.
 pub const STUMBLES: [Stumble; 3] = [
     Stumble::Error(ErrorKind::BrokenPipe),
     Stumble::Error(ErrorKind::Interrupted),
@@ -37,8 +37,8 @@ fn answer_of(stumble: Stumble) -> io::Result<usize>
     }
 }
 
-/// Takes at most `step` bytes at a call. Where it is to stumble it does so once, after `room`
-/// bytes, and would then take more.
+/// Takes at most `step` bytes a call. If it is to fail, it fails once, after `room` bytes, and
+/// takes more after that.
 #[derive(Drop)]
 pub struct Writer {
     pub taken: Vec<u8>,
@@ -100,7 +100,7 @@ impl Write for Writer {
     }
 }
 
-/// Takes what its writer takes, and counts the flushes. Where one is to fail, the first one does.
+/// Takes what its writer takes, and counts flushes. If a flush is to fail, it is the first one.
 #[derive(Drop)]
 pub struct FlushedWriter {
     pub writer: Writer,
@@ -142,8 +142,8 @@ impl Write for FlushedWriter {
     }
 }
 
-/// Gives at most `step` bytes at a call. Where it is to stumble it does so once, after `room`
-/// bytes, and would then give more.
+/// Gives at most `step` bytes a call. If it is to fail, it fails once, after `room` bytes, and
+/// gives more after that.
 #[derive(Drop)]
 pub struct Reader<'a> {
     pub left: &'a [u8],
@@ -157,7 +157,7 @@ impl Read for Reader<'_> {
         ensures bound { ReadsAtMost result buf.new }
         ensures bytes { ReadConsumes None None result buf.new }
 
-        // The bytes come from the front of what is left, and are gone from it.
+        // The bytes are taken from the front of what is left.
         ensures given { IfOk result (λ n. buf.new ≡ take n self.old.left.now ++ drop n buf.old) }
         ensures left { IfOk result (λ n. self.new.left.now ≡ drop n self.old.left.now) }
         ensures count { IfOk result
@@ -165,7 +165,7 @@ impl Read for Reader<'_> {
             (min (length buf.old)
             (length self.old.left.now)) self.old.step self.old.room self.old.stumble) }
 
-        // The stumble is answered, and nothing is lost by it.
+        // The failure is returned, and no byte is lost.
         ensures error { IfErr result
             (λ e. (self.old.stumble ≡ Some (Stumble.Error (error_kind e))) × (self.old.room ≡ 0)) }
         ensures kept { OnErr result (self.new.left.now ≡ self.old.left.now) }

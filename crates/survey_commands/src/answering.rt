@@ -46,8 +46,8 @@ fn flushed<R: AllocGlobal, W: Write + Drop>(
 }
 
 /// Does what the arguments ask for, and answers the program's status: 0 all images are accepted, 1
-/// invalid arguments, 2 one is refused, 4 a file or an output failed, 5 out of memory. How far a
-/// survey is goes to standard error where that is wanted.
+/// invalid arguments, 2 one is refused, 4 a file or an output failed, 5 out of memory. The progress
+/// of a survey is written to standard error if that is asked for.
 pub fn execute<R: Files + Clock + AllocGlobal + Clone + Drop, W1: Write + Drop, W2: Write>(
     rt: &R,
     words: &[String],
@@ -68,8 +68,8 @@ pub fn execute<R: Files + Clock + AllocGlobal + Clone + Drop, W1: Write + Drop, 
     }
 }
 
-/// Does what the words that the program was given ask for, and answers its status; where they could
-/// not be got, standard error says why.
+/// Does what the program's words ask for, and answers its status; if they could not be read,
+/// standard error says why.
 pub fn answer<R: Files + Clock + AllocGlobal + Clone + Drop, W1: Write + Drop, W2: Write>(
     rt: &R,
     given: Result<Vec<String>, WordsError>,

@@ -6,7 +6,7 @@ use std::io::Read;
 use std::rt::Files;
 use std::{fs, io};
 
-// One byte more than the longest image has. Of a longer file the rest changes nothing.
+// One byte more than the longest image has. The rest of a longer file changes nothing.
 const PAST_ANY_IMAGE: u64 = 8 + 12 * MAX_MAPS as u64 + 8 * MAX_SLOTS as u64 + 1;
 
 fn read_all<S: Read + Drop>(alloc: Global, mut source: S) -> io::Result<Vec<u8>> {

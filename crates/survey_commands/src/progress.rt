@@ -4,7 +4,7 @@ use exact_io::write_bytes;
 use std::alloc::{AllocError, Global};
 use std::io::Write;
 
-/// What goes before other lines, so that the progress is not among them.
+/// What is written before other lines, so that the progress line is erased.
 const CLEARED: &str = "\r\x1b[K";
 
 /// How far a survey is.

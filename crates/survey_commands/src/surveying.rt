@@ -125,8 +125,8 @@ fn summary_line(alloc: Global, summary: &Summary) -> Result<String, AllocError> 
     )
 }
 
-/// Judges images, and writes the row of each one where it need not wait. Answers the rows that wait
-/// for the others, and how the images were judged.
+/// Judges images, and writes the row of each one unless it has to wait. Returns the rows that wait
+/// for others, and how the images were judged.
 fn judge_all<R: Files + Clock + AllocGlobal, W1: Write, W2: Write>(
     rt: &R,
     sheet: &Sheet<'_>,

@@ -58,7 +58,7 @@ fn columns_of(alloc: Global, survey: &Survey<'_>) -> Result<Vec<Column>, AllocEr
     Ok(columns)
 }
 
-/// How many characters the longest path has; but no fewer than the name of its column.
+/// How many characters the longest path has, but at least as many as the name of its column.
 fn longest_of(named: &[Named]) -> usize {
     let mut longest = Column::File.width();
     for one in named {
@@ -156,7 +156,7 @@ fn compared<R: Files>(rt: &R, alloc: Global, path: &str, rows: &[Row]) -> Result
     }
 }
 
-/// Writes the rows that waited, in their order, or what is other than in an earlier survey.
+/// Writes the rows that waited, in their order, or the differences from an earlier survey.
 pub fn write_waiting<R: Files + AllocGlobal, W: Write>(
     rt: &R,
     sheet: &Sheet<'_>,

@@ -8,7 +8,7 @@ use Rattle.survey_rows.specs.declared.summaries.Summary.{Summary}
 abbrev pub status_of : Summary → ℕ
 status_of s = if s.unjudged == 0 then (if s.unreadable == 0 then (if s.refused == 0 then 0 else 2) else 4) else 5
 
--- with an image that is judged so, there is one at least that is; the others are as many as before
+-- after an image is counted, at least one was judged so; the other counts are as before
 abbrev pub IsCounted : Summary → Verdict → Summary → Type 0
 IsCounted old verdict.Accepted new = (0 < new.accepted) × (new.refused ≡ old.refused) × (new.unreadable ≡ old.unreadable) × (new.unjudged ≡ old.unjudged)
 IsCounted old (verdict.Refused code) new = (0 < new.refused) × (new.accepted ≡ old.accepted) × (new.unreadable ≡ old.unreadable) × (new.unjudged ≡ old.unjudged)

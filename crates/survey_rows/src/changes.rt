@@ -170,9 +170,8 @@ fn has_file(rows: &[Row], file: &[u8]) -> bool {
     false
 }
 
-/// What is other than in an earlier survey, of which these are the bytes as CSV: a row for each
-/// value that changed, for each image that is new, and for each one that is gone. Times are not
-/// compared.
+/// The differences from an earlier survey, given as the bytes of its CSV: a row for each value that
+/// changed, for each image that is new, and for each one that is gone. Times are not compared.
 pub fn changes_since(alloc: Global, bytes: &[u8], surveyed: &[Row]) -> Result<Grid, EarlierError> {
     let earlier = Earlier::read(alloc, bytes)?;
     let mut rows = Vec::new(alloc);

@@ -96,8 +96,8 @@ impl Column {
         )
     }
 
-    /// How many characters a table leaves for it: enough for its name, and for all that it may have
-    /// but for a path.
+    /// How many characters a table leaves for it: enough for its name, and for all of its values
+    /// except a path.
     pub fn width(self) -> usize {
         match self {
             Column::Verdict => "unreadable".len(),

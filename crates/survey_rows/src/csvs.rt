@@ -17,7 +17,7 @@ fn put_row(writer: &mut Writer<Vec<u8>>, texts: &[String]) -> Result<(), AllocEr
     }
 }
 
-/// A grid as CSV, with the names of its columns before it where they are wanted.
+/// A grid as CSV, with a line of column names first, if they are asked for.
 pub fn csv_text(alloc: Global, grid: &Grid, has_header: bool) -> Result<Vec<u8>, AllocError> {
     let mut writer = WriterBuilder::new().from_writer(Vec::new(alloc));
     if has_header {

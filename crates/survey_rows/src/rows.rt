@@ -147,7 +147,7 @@ pub fn grid_of(alloc: Global, rows: &[Row], layout: &Layout) -> Result<Grid, All
 }
 
 /// Sorts rows: by a text from the first to the last, by numbers from the greatest to the least and
-/// those without one at the end. Rows that are alike there keep their order.
+/// those without one at the end. Rows that are equal there keep their order.
 pub fn sort(rows: &mut Vec<Row>, column: Column) -> Result<(), AllocError>
     ensures all { IsPermutation rows.old.items rows.new.items }
 {

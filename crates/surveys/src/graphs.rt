@@ -17,7 +17,7 @@ fn is_end(image: &Image, slot: usize) -> bool {
     )
 }
 
-/// Whether control goes on to the next instruction.
+/// Whether control may go to the next instruction.
 fn falls_through(image: &Image, slot: usize) -> bool {
     !matches!(
         image.at(slot),
@@ -25,7 +25,7 @@ fn falls_through(image: &Image, slot: usize) -> bool {
     )
 }
 
-/// Whether something leads to a slot by a jump or a call.
+/// Whether a jump or a call goes to a slot.
 fn begins(marks: &[Mark], slot: usize) -> bool {
     marks.get(slot).copied().unwrap_or(Mark::Nothing) != Mark::Nothing
 }
@@ -50,7 +50,8 @@ fn edge(alloc: Global, from: usize, to: usize, style: &str) -> Result<String, Al
     format!(in alloc; "  b{from} -> b{to}{style};\n")
 }
 
-/// The edges behind the last instruction of a block, which is at a slot; the next one is at `next`.
+/// The edges out of the last instruction of a block, which is at a slot; the next instruction is at
+/// `next`.
 fn edges(
     alloc: Global,
     image: &Image,
@@ -97,14 +98,14 @@ fn after(image: &Image, slot: usize) -> usize {
     }
 }
 
-/// A graph as it is written: the block that goes on, and the edges, which stand behind all blocks.
+/// A graph as it is written: the current block, and the edges, which are written after all blocks.
 #[derive(Drop)]
 struct Graph {
     block: usize,
     edges: String,
 }
 
-/// Adds an instruction to its block, and ends the block where it is the last one there.
+/// Adds an instruction to its block, and ends the block if it is the last one.
 fn insn_node(
     alloc: Global,
     image: &Image,

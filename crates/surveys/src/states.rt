@@ -19,7 +19,7 @@ const REGISTERS: [Reg; 10] = [
     Reg::R9,
 ];
 
-/// Adds a line for each register of which something is known.
+/// Adds a line for each register about which something is known.
 fn put_registers(alloc: Global, state: &State, text: &mut String) -> Result<(), AllocError> {
     let innermost = state.callers.len();
     for register in REGISTERS {
@@ -45,7 +45,7 @@ fn is_known(state: &State, frame: u8, slot: usize) -> bool {
     }
 }
 
-/// Adds a line for each slot of a frame's stack of which something is known.
+/// Adds a line for each slot of a frame's stack about which something is known.
 fn put_frame(alloc: Global, state: &State, frame: u8, text: &mut String) -> Result<(), AllocError> {
     for slot in 0..FRAME_SIZE / 8 {
         if is_known(state, frame, slot) {

@@ -11,7 +11,7 @@ use transfer::Ways;
 /// How many bytes a word of a stored state has.
 const WORD: u64 = 8;
 
-/// What is counted of a search. Counts that do not fit stay at the greatest number.
+/// What is counted of a search. A count that would overflow stays at the greatest number.
 #[derive(Clone, Copy, Default, Drop)]
 pub struct Tally {
     /// The explored instructions.

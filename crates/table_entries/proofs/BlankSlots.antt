@@ -1,4 +1,4 @@
--- Stack slots of which nothing is known, read and passed over many at a time.
+-- Stack slots about which nothing is known, read and skipped many at a time.
 use Rattle.std.specs.Prelude.{◌≡◌, ℕ, zero, suc, ◌+◌, ◌-◌, ◌*◌, ◌<◌, ◌≤◌, Bool, true, List, [], ◌∷◌, ◌++◌, length, drop, replicate, Option, Some, None, Ok, Err, refl}
 use Rattle.std.specs.Option.{is_some}
 use Rattle.std.proofs.Common.{inl, inr, ap, sym, ◌∙◌, subst, arith, get_or}
@@ -95,7 +95,7 @@ slot_blank rows holder [] long a b = absurd (omega arith)
 slot_blank rows holder (x ∷ []) long a b = absurd (omega arith)
 slot_blank rows holder (x ∷ (y ∷ rest)) long a b = rw (a, b) refl
 
--- j slots of which nothing is known were read
+-- j slots about which nothing is known were read
 pub blank_so_far : (rows holder n j : ℕ) (bytes : List ℕ) → j ≤ n → AreZeros (2 * j) bytes
     → with_front (Some (replicate j (Written 0))) (many (λ k. slot_in rows holder) (n - j) j (drop (2 * j) bytes)) ≡ many (λ k. slot_in rows holder) n 0 bytes
 blank_so_far rows holder n zero bytes le z = many-begins (λ k. slot_in rows holder) n bytes

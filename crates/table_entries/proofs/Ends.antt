@@ -129,6 +129,6 @@ Leaves-entry p bytes =
     (Leaves-if bytes (count == 0 || nat_lt 8 count) _ _ tt
     (Leaves-more bytes (drop 7 bytes) _ (7, refl) (Leaves-rest p (little_number 4 bytes) (little_number 2 (drop 4 bytes)) (count - 1) (drop 7 bytes))))
 
--- what stands after an entry is an end
+-- what follows an entry is an end
 pub entry_in-end : (p : Program) (bytes : List ℕ) (e : Option Entry) (after : List ℕ) → entry_in p bytes ≡ Ok (e, after) → IsEnd bytes after
 entry_in-end p bytes e after h = subst (Leaves bytes) h (Leaves-entry p bytes)

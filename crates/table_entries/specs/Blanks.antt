@@ -1,4 +1,4 @@
--- Bytes of stack slots of which nothing is known.
+-- Bytes of stack slots about which nothing is known.
 use Rattle.std.specs.Prelude.{◌≡◌, ℕ, ◌<◌, ◌≤◌, List, length, slice_index}
 
 -- the first n bytes are there, and are zeros

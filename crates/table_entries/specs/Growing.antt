@@ -42,7 +42,7 @@ pub record Grows (p : Program) (g h : Grown) : Type 0 where
   pub begun : IsBegun p g → IsBegun p h
   pub whole : g.count ≤ count_of g.table → h.table.places ≡ g.table.places
 
--- the entry that begins where the bytes are left is placed
+-- the entry at the front of the remaining bytes is placed
 abbrev pub with_place : Kept → ℕ → Kept
 with_place t place = record { bytes = t.bytes; places = t.places ++ place ∷ [] }
 

@@ -1,4 +1,4 @@
--- What is read of bytes, and what is read one after the other.
+-- Readings of bytes, one and several in a row.
 use Rattle.std.specs.Prelude.{◌≡◌, ℕ, zero, suc, ◌+◌, nat_lt, Bool, true, false, if◌then◌else◌, List, [], ◌∷◌, ◌++◌, length, drop, Option, Some, None, Result, Ok, Err}
 use Rattle.std.specs.Option.{is_some}
 use Rattle.table_entries.specs.declared.stops.Stop.{Stop}
@@ -8,7 +8,7 @@ use Rattle.table_entries.specs.declared.stops.Stop.TheVariants.{Short}
 abbrev pub Read : Type 0 → Type 0
 Read X = Result (Option X × List ℕ) Stop
 
--- what a function returned, seen by view, is what is read
+-- the view of what a function returned is what is read
 abbrev pub Gives : {X Y : Type 0} → (X → Y) → Result X Stop → Result Y Stop → Type 0
 Gives view (Ok x) read = read ≡ Ok (view x)
 Gives view (Err stop) read = read ≡ Err stop

@@ -1,4 +1,4 @@
-//! Stack slots of which nothing is known, as most of a table's are.
+//! Stack slots about which nothing is known, as most of a table's are.
 
 ghost use Rattle.std.specs.Prelude.{◌≡◌, ◌*◌, ◌≤◌, IsTrue, take, drop, replicate};
 ghost use Rattle.stack_state.specs.Slots.{frame_slots};
@@ -30,7 +30,7 @@ fn begins_blank(bytes: &[u8]) -> bool
     true
 }
 
-// How many slots the bytes begin with of which nothing is known, by sixteens.
+// How many slots about which nothing is known the bytes begin with, by sixteens.
 #[inline(always)]
 fn blank_sixteens(bytes: &[u8]) -> usize
     ensures most { result ≤ frame_slots }
@@ -60,7 +60,7 @@ fn begins_with_four(bytes: &[u8]) -> bool
     true
 }
 
-/// How many slots the bytes begin with of which nothing is known, by fours: there may be more.
+/// How many slots about which nothing is known the bytes begin with, by fours: there may be more.
 #[inline(always)]
 pub fn blank_slots(bytes: &[u8]) -> usize
     ensures most { result ≤ frame_slots }

@@ -67,7 +67,7 @@ fn head_if(allowed: bool, head: Head) -> Option<Head>
     if allowed { Some(head) } else { None }
 }
 
-// The frames, of which all but the last are outer ones, and the entries that are named.
+// The frames, all but the last of which are outer ones, and the entries that are named.
 fn read_rest<'a>(
     image: &Image,
     number: u32,

@@ -20,8 +20,8 @@ use stack_state::State;
 use std::alloc::Global;
 use std::marker::Model;
 
-/// A table of which the first entries are placed: their bytes are of the form, with every field
-/// allowed. It asks for 8 bytes as an entry is placed.
+/// A table whose first entries are placed: their bytes have the form, with every field allowed.
+/// Placing an entry takes 8 bytes of memory.
 ///
 /// Contracts see the table of those entries, the bytes after them, and how many entries the head
 /// says that there are.

@@ -1,8 +1,8 @@
 //! Proof tables as bytes, read entry by entry.
 //!
-//! A table says of each abstract state that the verifier came to how many more steps a run makes
-//! from it at most, and which entries its step leads to. Nothing here judges what a table says:
-//! only that its bytes are of the form, and its fields are allowed.
+//! A table says of each abstract state that the verifier reached how many more steps a run makes
+//! from it at most, and which entries are its successors. Nothing here judges what a table says:
+//! only that its bytes have the form, and that its fields are allowed.
 #![tactic(auto)]
 
 pub mod blanks;

@@ -61,7 +61,7 @@ fn mark(slot: &mut Slot, marks: u8)
 
 /// A stack slot, read into the room for it: whether it is allowed, and the bytes after it.
 ///
-/// Most slots have no value: those are read at once, since this is most of what a table has.
+/// Most slots have no value: those are read several at a time, since they are most of a table.
 #[inline(always)]
 #[tactic(auto, unfolding(crate::specs::Values::slot_in))]
 fn read_slot<'a>(

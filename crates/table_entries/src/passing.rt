@@ -203,7 +203,7 @@ fn pass_callers<'a>(
     Ok((allowed, rest))
 }
 
-// The frames, of which all but the last are outer ones, and the entries that are named.
+// The frames, all but the last of which are outer ones, and the entries that are named.
 fn pass_rest<'a>(
     image: &Image,
     number: u32,

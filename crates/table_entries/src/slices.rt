@@ -5,7 +5,7 @@ ghost use Rattle.byteorder.specs.Endian.{little_number};
 
 use flatmem::{get16, get32, get64};
 
-/// What stands after the first bytes.
+/// What follows the first bytes.
 #[inline(always)]
 pub fn skip(bytes: &[u8], count: usize) -> &[u8]
     requires { count ≤ length bytes.now }

@@ -1,7 +1,7 @@
-//! Entries compared with a state, where their bytes stand: nothing is read of one that spells it.
+//! Entries compared with a state byte by byte, without reading an entry that spells it.
 //!
-//! Each function answers the bytes after what it was given, if the bytes begin with its spelling.
-//! No answer says nothing.
+//! Each function answers the bytes after the spelling of its argument, if the bytes begin with
+//! that. None says nothing.
 
 ghost use Rattle.std.specs.Prelude.{◌≡◌, ◌≤◌, Some, Ok, IfSome, IsTrue, length, drop};
 ghost use Rattle.stack_state.specs.Slots.{frame_slots};

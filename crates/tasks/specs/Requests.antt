@@ -1,4 +1,4 @@
--- What is asked for, and of which task it is.
+-- The parts of a request, and its task.
 use Rattle.std.specs.Prelude.{ℕ, List, Option, option_map}
 use Rattle.tasks.specs.declared.Paths.{Paths}
 use Rattle.tasks.specs.declared.Proof.{Proof}

@@ -225,7 +225,7 @@ update_is p s m h at bytes flags there reads number =
 
 -- ---- what is left
 
--- the machine answers, and the answer stands in r0
+-- the machine answers, and the answer is in r0
 answer_goes : (p : Program) (f : Assigned) (a b : State) (k : Kind) (called : Result Helped TrapReason) (helped : Helped) → called ≡ Ok helped
     → IfOk called (IsHelped p) → b ≡ with_answer a k → Allows f k helped.answer → MeansBy p f a helped.state → GoesIntoSome p b (after_call called)
 answer_goes p f a b k called helped is fits left allowed means =

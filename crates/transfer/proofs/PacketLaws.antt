@@ -222,7 +222,7 @@ fixed_moved : (back : Bool) (fixed off by : ℤ) → moved_by back (fixed +ℤ o
 fixed_moved true fixed off by = omega (arith, ints)
 fixed_moved false fixed off by = omega (arith, ints)
 
--- a fresh identity stands for the variable part
+-- a fresh identity is assigned the variable part
 offset_same : (e : Assigned) (i : ℕ) (z : ℤ) → (with_offset e i z).offset i ≡ z
 offset_same e i z = grind (arith, nat_tests)
 

@@ -26,7 +26,7 @@ abbrev pub with_old : Option Reg → Scalar → State → State
 with_old None old a = a
 with_old (Some register) old a = with_register a register (Number old)
 
--- number bytes give way to others
+-- number bytes are replaced by others
 pub record IsSwapped (a : State) (frame at : ℕ) (size : Size) (register : Option Reg) (b : State) : Type 0 where
   pub old : Scalar
   pub loaded : IsLoad (slots_of a frame) at size (Some old)
@@ -34,7 +34,7 @@ pub record IsSwapped (a : State) (frame at : ℕ) (size : Size) (register : Opti
   pub stored : IsStoredIn a frame at size after
   pub kept : b ≡ with_old register old after
 
--- through a frame pointer, refused for the place and then for its bytes
+-- through a frame pointer: refused for the place first, and then for its bytes
 abbrev pub StackSwaps : State → ℕ → ℤ → Size → Option Reg → State → Result (Unit {0}) Refusal → Type 0
 StackSwaps a frame z size register b (Ok done) = (at : ℕ) × IsFramePlace a frame z size at × IsSwapped a frame at size register b
 StackSwaps a frame z size register b (Err StackPlace) = (b ≡ a) × IsNoFramePlace a frame z size
@@ -44,17 +44,17 @@ StackSwaps a frame z size register b (Err e) = ⊥
 
 -- ---- all places
 
--- where no atomic instruction is, all stays as it was
+-- if no atomic instruction is allowed there, the state stays as it was
 abbrev pub IsRefused : State → State → Result (Unit {0}) Refusal → Refusal → Type 0
 IsRefused a b result e = (b ≡ a) × (result ≡ Err e)
 
--- in the packet there is none; its bytes are tested first
+-- the packet allows none; its bytes are tested first
 abbrev pub IsPacketRefusal : ℤ → ℤ → ℕ → ℤ → Size → Refusal → Type 0
 IsPacketRefusal fixed least proved by size PacketAtomic = AreInPacket fixed least proved by (size_bytes size)
 IsPacketRefusal fixed least proved by size PacketBytes = ¬ AreInPacket fixed least proved by (size_bytes size)
 IsPacketRefusal fixed least proved by size e = ⊥
 
--- in a map's value an unknown number gives way to another
+-- in a map's value an unknown number is replaced by another
 abbrev pub ValueSwaps : Type 0 → State → Size → Option Reg → State → Result (Unit {0}) Refusal → Type 0
 ValueSwaps inside a size register b (Ok done) = inside × ((old : Scalar) × IsOfSize size old × (b ≡ with_old register old a))
 ValueSwaps inside a size register b (Err e) = (¬ inside) × IsRefused a b (Err e) MapValueBytes
@@ -77,7 +77,7 @@ abbrev pub Swaps : List MapDef → State → Kind → Kind → ℤ → Size → 
 Swaps rows a (Number numbers) base by size register b result = SwapsAt rows a base by size register b result
 Swaps rows a source base by size register b result = IsRefused a b result PointerOperand
 
--- and what it is compared with, which is in r0 and gives way to the old number
+-- and then the number to compare with, which is in r0; r0 gets the old number
 abbrev pub ComparesIn : List MapDef → State → Kind → Kind → Kind → ℤ → Size → State → Result (Unit {0}) Refusal → Type 0
 ComparesIn rows a (Number numbers) source base by size b result = Swaps rows a source base by size (Some R0) b result
 ComparesIn rows a compared source base by size b result = IsRefused a b result PointerOperand

@@ -60,7 +60,7 @@ IsSetter (Load size d place) = Unit {0}
 IsSetter (LoadSx size d place) = Unit {0}
 IsSetter i = ⊥
 
--- the kind that such a form puts into its register, or why it does not; `rows` are the rows of the maps
+-- the kind that such a form gives its register, or the refusal; `rows` are the rows of the maps
 abbrev pub Puts : List MapDef → State → Insn → Result Kind Refusal → Type 0
 Puts rows a (Alu w op d source) result = (b : Kind) × IsOperand a w source b × Arithmetic a op w (kind_of a d) b result
 Puts rows a (Neg w d) result = OfNumber (IsNegated w) (kind_of a d) result
@@ -73,7 +73,7 @@ Puts rows a (Load size d place) result = Loads rows a size (kind_of a place.base
 Puts rows a (LoadSx size d place) result = LoadsSigned rows a size (kind_of a place.base) place.offset result
 Puts rows a i result = ⊥
 
--- the next instruction, with a kind in the register that is written and all else as before
+-- the state at the next instruction: the written register has a kind, and all else is as before
 pub record Sets (rows : List MapDef) (a : State) (i : Insn) (b : State) : Type 0 where
   pub register : Reg
   pub written : writes i ≡ Some register
@@ -88,7 +88,7 @@ SetsOr rows a i (Err e) b = Puts rows a i (Err e)
 
 -- ---- memory
 
--- the next instruction, with what a store or an atomic instruction leaves
+-- the state at the next instruction, after a store or an atomic instruction
 pub record GoesOnWith (a : State) (leaves : State → Result (Unit {0}) Refusal → Type 0) (b : State) : Type 0 where
   pub left : State
   pub leaving : leaves left (Ok tt)
@@ -101,7 +101,7 @@ GoesOn a leaves (Err e) b = (left : State) × leaves left (Err e)
 abbrev pub StoresAt : List MapDef → State → Size → Place → Kind → State → Result (Unit {0}) Refusal → Type 0
 StoresAt rows a size place source left result = Stores rows a size (kind_of a place.base) place.offset source left result
 
--- with a register, and its kind as it was
+-- with the kind of register r; `kept` is the register that gets the old number, if any
 abbrev pub SwapsAtPlace : List MapDef → State → Width → Place → Reg → Option Reg → State → Result (Unit {0}) Refusal → Type 0
 SwapsAtPlace rows a w place r kept left result = Swaps rows a (kind_of a r) (kind_of a place.base) place.offset (width_size w) kept left result
 
@@ -110,14 +110,14 @@ ComparesAtPlace rows a w place r left result = Compares rows a (kind_of a r) (ki
 
 -- ---- jumps
 
--- the sides that something goes, the fall-through first
+-- the sides of a jump that are taken, the fall-through first
 abbrev pub Sides : Bool → Bool → State → State → Ways → State → State → Type 0
 Sides true true stay go w b c = (w ≡ ways.Two) × (b ≡ stay) × (c ≡ go)
 Sides true false stay go w b c = (w ≡ ways.One) × (b ≡ stay)
 Sides false true stay go w b c = (w ≡ ways.One) × (b ≡ go)
 Sides false false stay go w b c = w ≡ ways.None
 
--- each side has all that the test shows of it
+-- each side is narrowed by all that the test shows
 pub record Branches (p : Program) (a : State) (cond : Cond) (by : ℤ) (w : Ways) (b c : State) : Type 0 where
   pub compared : IsDefined (compared_by a cond)
   pub stays : Bool
@@ -128,23 +128,24 @@ pub record Branches (p : Program) (a : State) (cond : Cond) (by : ℤ) (w : Ways
   pub taken_there : Refines cond true a goes go
   pub sides : Sides stays goes (go_to stay (a.slot + 1)) (go_to go (destination p a.slot by)) w b c
 
--- where the comparison is defined
+-- the same, if the comparison is defined, and else the refusal
 abbrev pub BranchesOr : Program → State → Cond → ℤ → Result Ways Refusal → State → State → Type 0
 BranchesOr p a cond by (Ok w) b c = Branches p a cond by w b c
 BranchesOr p a cond by (Err e) b c = (e ≡ comparison_refusal a cond) × ¬ IsDefined (compared_by a cond)
 
--- all as before, at the jump's target
+-- the state as before, at the jump's target
 abbrev pub JumpsTo : Program → State → ℤ → Result Ways Refusal → State → Type 0
 JumpsTo p a by result b = (result ≡ Ok ways.One) × (b ≡ go_to a (destination p a.slot by))
 
 -- ---- calls and exits
 
--- a frame is pushed, unless as many are live as may be
+-- a frame is pushed, unless the most frames are live already
 abbrev pub Calls : Program → State → ℤ → Result Ways Refusal → State → Type 0
 Calls p a by (Ok w) b = (depth a < max_call_frames) × (w ≡ ways.One) × (b ≡ entered a (destination p a.slot by))
 Calls p a by (Err e) b = (max_call_frames ≤ depth a) × (e ≡ TooManyFrames)
 
--- known bits or limits show that the low half of each number is at most 4, which a program of version 2 must answer
+-- known bits or limits show that the low half of each number is at most 4, as version 2 requires of
+-- answers
 abbrev pub shows_action : Version → Scalar → Bool
 shows_action version.One numbers = true
 shows_action version.Two numbers =
@@ -156,7 +157,7 @@ abbrev pub answered : Version → Kind → Result Ways Refusal
 answered v (Number numbers) = if shows_action v numbers then Ok ways.None else Err NoAction
 answered v k = Err ExitValue
 
--- into the nth frame
+-- whether the kind points into the nth frame
 abbrev pub points_into : ℕ → Kind → Bool
 points_into n (Stack f z) = f == n
 points_into n k = false
@@ -176,7 +177,7 @@ Exits v a result b = ExitsFrom v (length a.callers.items) a result b
 
 -- ---- instructions
 
--- once the tests of its registers pass
+-- the step of each form, once the tests of its registers pass
 abbrev pub Performs : Program → State → Insn → Result Ways Refusal → State → State → Type 0
 Performs p a (StoreConstant size place k) result b c =
     (source : Kind) × IsJust source (unsigned Full64 k) × GoesOn a (StoresAt p.maps a size place source) result b
@@ -193,7 +194,7 @@ Performs p a Exit result b c = Exits p.version a result b
 Performs p a (CallHelper number) result b c = GoesOn a (CallsHelper p.maps a number) result b
 Performs p a i result b c = SetsOr p.maps a i result b
 
--- a test that fails decides, and where it passes the rest does
+-- a test that fails decides, and if it passes the rest does
 abbrev pub Tested : Option Refusal → Result Ways Refusal → Type 0 → Type 0
 Tested None result Rest = Rest
 Tested (Some e) result Rest = result ≡ Err e

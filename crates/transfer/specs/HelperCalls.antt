@@ -47,7 +47,7 @@ abbrev pub is_number : Kind → Bool
 is_number (Number numbers) = true
 is_number k = false
 
--- what was looked up has to be tested first; then the kinds count
+-- what was looked up has to be tested first; then the kinds are tested
 abbrev pub judged : (untested fit : Bool) → Result CalledMap Refusal → Result CalledMap Refusal
 judged untested fit map = if untested then Err NullNotTested else if fit then map else Err HelperArgument
 
@@ -93,7 +93,7 @@ ValueIsKnown rows a m = AreKnown rows a (kind_of a R3) m.row.value_size
 abbrev pub AnswersNumber : State → State → Type 0
 AnswersNumber a b = (k : Kind) × IsAnyNumber k × (b ≡ with_answer a k)
 
--- what may point to a value of the map, of an identity that is not named yet
+-- a pointer to a value of the map or null, with an identity that is not used yet
 abbrev pub AnswersValue : State → CalledMap → State → Type 0
 AnswersValue a m b = (i : ℕ) × IsLeastFreshNull a i × (b ≡ with_answer a (MapValueOrNull m.index i))
 
@@ -102,7 +102,7 @@ abbrev pub without_values : MapKind → ℕ → State → State
 without_values Hash m a = forgotten_in m a
 without_values Array m a = a
 
--- something is left where the arguments are right and their bytes known
+-- the state after the call, if the arguments are right and their bytes known
 abbrev pub LeavesIf : Result CalledMap Refusal → (CalledMap → Type 0) → (CalledMap → State → Type 0) → State
     → Result (Unit {0}) Refusal → Type 0
 LeavesIf (Ok m) Known leaves b (Ok done) = Known m × leaves m b

@@ -50,7 +50,7 @@ abbrev pub IsNumberOf : (Scalar → Type 0) → Kind → Type 0
 IsNumberOf says (Number c) = says c
 IsNumberOf says k = ⊥
 
--- a number is given where the bytes are there, and else the refusal
+-- a number, if the bytes are there, and else the refusal
 abbrev pub GivesIf : Refusal → Type 0 → (Scalar → Type 0) → Result Kind Refusal → Type 0
 GivesIf refusal inside says (Ok k) = inside × IsNumberOf says k
 GivesIf refusal inside says (Err e) = (e ≡ refusal) × ¬ inside
@@ -87,7 +87,7 @@ abbrev pub moved_by : Bool → ℤ → ℤ → ℤ
 moved_by true z by = z -ℤ by
 moved_by false z by = z +ℤ by
 
--- where the offset is, at the least and at the greatest, after a move by something between two distances
+-- the least and the greatest offset after a move by a distance between two limits
 abbrev pub lowest : Bool → PacketPointer → ℤ → ℤ → ℤ
 lowest true p near far = (p.fixed +ℤ p.least) -ℤ far
 lowest false p near far = (p.fixed +ℤ p.least) +ℤ near
@@ -121,7 +121,8 @@ abbrev pub AreParts : ℤ → ℤ → Option (ℤ × ℤ) → Type 0
 AreParts least greatest (Some parts) = (parts.0 ≡ least) × (parts.1 ≡ greatest) × HaveRoom least greatest
 AreParts least greatest None = ¬ HaveRoom least greatest
 
--- what is proved after the variable part, less what its greatest grows, where that is a length of 32 bits; else nothing
+-- the proved bytes after a move: less by how much the greatest variable part grows, if that is a
+-- length of 32 bits; else none
 pub record StaysProved (proved : ℕ) (growth : ℤ) (left : ℕ) : Type 0 where
   pub some : 0 < left → (0 < proved) × (pos left ≡ (pos proved -ℤ growth))
   pub none : left ≡ 0 → 0 < proved
@@ -133,33 +134,34 @@ pub record IsFreshPointer (a : State) (fixed least greatest : ℤ) (proved : ℕ
   pub fresh : IsLeastFreshPacket a identity
   pub pointer : k ≡ Packet fixed identity least greatest proved
 
--- the limits of the variable part after a move by something between two distances: the fixed part stays
+-- the limits of the variable part after a move by a distance between two limits; the fixed part
+-- stays
 abbrev pub least_part : Bool → PacketPointer → ℤ → ℤ → ℤ
 least_part back p near far = lowest back p near far -ℤ p.fixed
 
 abbrev pub greatest_part : Bool → PacketPointer → ℤ → ℤ → ℤ
 greatest_part back p near far = highest back p near far -ℤ p.fixed
 
--- the move is one of the variable part, where that has room for it
+-- the variable part is moved, if it has room for that
 pub record IsMovedVariable (a : State) (back : Bool) (p : PacketPointer) (near far : ℤ) (k : Kind) : Type 0 where
   pub room : HaveRoom (least_part back p near far) (greatest_part back p near far)
   pub proved : ℕ
   pub stays : StaysProved p.proved (greatest_part back p near far -ℤ p.greatest) proved
   pub pointer : IsFreshPointer a p.fixed (least_part back p near far) (greatest_part back p near far) proved k
 
--- where it has none, the variable part is the whole offset, and nothing is proved
+-- if it has none, the whole offset becomes the variable part, and no bytes are proved
 pub record IsMovedBetween (a : State) (back : Bool) (p : PacketPointer) (near far : ℤ) (k : Kind) : Type 0 where
   pub within : AreOffsets (lowest back p near far) (highest back p near far)
   pub pointer : IsMovedVariable a back p near far k
       ⊎ ((¬ HaveRoom (least_part back p near far) (greatest_part back p near far))
       × IsFreshPointer a (pos 0) (lowest back p near far) (highest back p near far) 0 k)
 
--- a move by one distance is one of the fixed part
+-- a move by a known distance moves the fixed part
 pub record IsMovedFixed (back : Bool) (p : PacketPointer) (by : ℤ) (k : Kind) : Type 0 where
   pub room : FitsSigned w32 (moved_by back p.fixed by)
   pub pointer : k ≡ Packet (moved_by back p.fixed by) p.identity p.least p.greatest p.proved
 
--- where that has room for it
+-- if that has room for it
 pub record IsMovedBy (a : State) (back : Bool) (p : PacketPointer) (by : ℤ) (k : Kind) : Type 0 where
   pub within : AreOffsets (lowest back p by by) (highest back p by by)
   pub pointer : IsMovedFixed back p by k
@@ -175,13 +177,13 @@ abbrev pub MovesBy : State → Bool → PacketPointer → ℤ → Result Kind Re
 MovesBy a back p by (Ok k) = IsMovedBy a back p by k
 MovesBy a back p by (Err e) = (e ≡ PointerOffset) × ¬ AreOffsets (lowest back p by by) (highest back p by by)
 
--- a number of which one only is left moves by itself, read with a sign
+-- a number that is known moves the pointer by its value, read with a sign
 pub record MovesByNumber (a : State) (back : Bool) (p : PacketPointer) (by : Scalar) (answer : Result Kind Refusal) : Type 0 where
   pub number : ℕ
   pub alone : IsNumber by number
   pub moves : MovesBy a back p (signed Full64 number) answer
 
--- any other by something between its signed limits
+-- any other number by a distance between its signed limits
 pub record MovesByLimits (a : State) (back : Bool) (p : PacketPointer) (by : Scalar) (answer : Result Kind Refusal) : Type 0 where
   pub several : (n : ℕ) → ¬ IsNumber by n
   pub moves : MovesBetween a back p by.range.wide.signed_least by.range.wide.signed_greatest answer

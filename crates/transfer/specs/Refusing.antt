@@ -1,4 +1,4 @@
--- When the tests of an instruction's registers fail, and why there is no access through a kind.
+-- When the tests of an instruction's registers fail, and why an access through a kind is refused.
 use Rattle.std.specs.Prelude.{Bool, true, false, ◌||◌, if◌then◌else◌, Option, Some, None}
 use Rattle.std.specs.List.{list_any}
 use Rattle.isa_model.specs.declared.registers.Reg.{Reg}
@@ -32,7 +32,7 @@ register_refusal a i =
     else if is_frame_pointer (writes i) then Some ReadOnlyRegister
     else None
 
--- why there is no access through a kind, where no other test decides
+-- why an access through a kind is refused, if no other test decides
 abbrev pub access_refusal : Kind → Refusal
 access_refusal kind.Context = ContextAccess
 access_refusal (kind.MapValueOrNull index identity) = NullNotTested

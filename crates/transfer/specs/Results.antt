@@ -25,7 +25,7 @@ abbrev pub IsWord : Kind → Type 0
 IsWord (Number c) = (x : ℕ) → (Has c x ↔ (x < 2 ^ 32))
 IsWord k = ⊥
 
--- of a number, a number of which the domain says so; of a pointer nothing
+-- a number gives a number with this relation of the domain; a pointer gives nothing
 abbrev pub OfNumber : (Scalar → Scalar → Type 0) → Kind → Result Kind Refusal → Type 0
 OfNumber says (Number a) (Ok (Number c)) = says a c
 OfNumber says (Number a) result = ⊥
@@ -46,12 +46,12 @@ moved_offset false z n = z +ℤ signed Full64 n
 abbrev pub frame_pointer : ℕ → ℤ → Result Kind Refusal
 frame_pointer frame z = if nat_le (unsigned_abs z) offset_limit then Ok (Stack frame z) else Err PointerOffset
 
--- the one number that is left, if there is one
+-- the only number of a set, if it has only one
 abbrev pub LeavesNumber : Scalar → Option ℕ → Type 0
 LeavesNumber by (Some n) = IsNumber by n
 LeavesNumber by None = (n : ℕ) → ¬ IsNumber by n
 
--- it moves where one number only is left
+-- the pointer moves if the number is known
 abbrev pub moved_frame : Bool → ℕ → ℤ → Option ℕ → Result Kind Refusal
 moved_frame back frame offset (Some n) = frame_pointer frame (moved_offset back offset n)
 moved_frame back frame offset None = Err PointerOffset

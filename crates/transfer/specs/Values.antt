@@ -38,7 +38,7 @@ pub record AreInValue (room : ℕ) (least greatest by : ℤ) (bytes : ℕ) : Typ
 
 -- ---- loads and stores
 
--- what the bytes of a value are is not known
+-- nothing is known of the bytes of a value
 abbrev pub ValueLoads : Size → ℕ → ℤ → ℤ → ℤ → Result Kind Refusal → Type 0
 ValueLoads size room least greatest by answer =
     GivesIf MapValueBytes (AreInValue room least greatest by (size_bytes size)) (IsOfSize size) answer
@@ -53,8 +53,8 @@ ValueStores size room least greatest by source answer =
 
 -- ---- moves
 
--- between these distances a number moves a pointer: by itself, read with a sign, where it is the only one left, and else
--- by something between its signed limits
+-- the limits of the distance by which a number moves a pointer: the number itself, read with a
+-- sign, if it is known, and else its signed limits
 abbrev pub nearest : Scalar → Option ℕ → ℤ
 nearest by (Some n) = signed Full64 n
 nearest by None = by.range.wide.signed_least
@@ -63,7 +63,7 @@ abbrev pub farthest : Scalar → Option ℕ → ℤ
 farthest by (Some n) = signed Full64 n
 farthest by None = by.range.wide.signed_greatest
 
--- where the offset is, at the least and at the greatest, after a move by something between two distances
+-- the least and the greatest offset after a move by a distance between two limits
 abbrev pub moved_least : Bool → ℤ → ℤ → ℤ → ℤ
 moved_least true least near far = least -ℤ far
 moved_least false least near far = least +ℤ near

@@ -57,7 +57,7 @@ fn low_word(kind: Kind) -> Result<Kind, Refusal>
     }
 }
 
-/// MOV: anything is copied at 64 bits, a number alone at 32.
+/// MOV: anything is copied at 64 bits, only a number at 32.
 fn copied(width: Width, source: Kind) -> Result<Kind, Refusal>
     ensures { Copied width source result }
 {

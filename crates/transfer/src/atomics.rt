@@ -49,7 +49,7 @@ fn stack_swap(
     Ok(())
 }
 
-/// In a map's value, of whose bytes nothing is known.
+/// In a map's value; nothing is known of its bytes.
 fn value_swap(
     state: &mut State,
     room: u32,
@@ -70,7 +70,7 @@ fn value_swap(
     Ok(())
 }
 
-/// Why there is none in the packet: its bytes are tested first.
+/// The refusal of an atomic instruction in the packet, whose bytes are tested first.
 fn packet_refusal(fixed: i32, least: i32, proved: u32, by: i16, size: Size) -> Refusal
     ensures { IsPacketRefusal fixed least proved by size result }
 {

@@ -40,7 +40,7 @@ fn field(offset: i16) -> Result<Kind, Refusal>
     }
 }
 
-/// What a load without a sign gives; there is none with a sign.
+/// What a load without a sign gives; a load with a sign is refused.
 pub fn context_load(size: Size, offset: i16) -> Result<Kind, Refusal>
     ensures { ContextLoads size offset result }
 {

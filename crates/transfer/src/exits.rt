@@ -15,8 +15,8 @@ use stack_state::State;
 // The greatest number that names an action.
 const MOST: u32 = 4;
 
-/// Whether known bits or limits show that the low half of each number names an action, where the
-/// version asks for that.
+/// Whether known bits or limits show that the low half of each number names an action, if the
+/// version requires that.
 fn shows_action(version: Version, numbers: Scalar) -> bool
     ensures { result ≡ shows_action version numbers }
 {
@@ -69,7 +69,7 @@ pub fn call(by: i32, slots: usize, state: &mut State) -> Result<Ways, Refusal>
     Ok(Ways::One)
 }
 
-/// The exit of an inner frame, which hands r0 over.
+/// The exit of an inner frame, which returns r0.
 fn return_to_caller(state: &mut State) -> Result<Ways, Refusal>
     requires { 1 < depth state.old }
     ensures { Returns state.old result state.new }

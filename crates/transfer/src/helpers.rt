@@ -100,14 +100,14 @@ fn value_is_known(maps: &[MapDef], state: &State, map: CalledMap) -> bool
 
 // ---- the helpers
 
-/// Some number is answered.
+/// The answer is some number.
 fn answer_number(state: &mut State)
     ensures { AnswersNumber state.old state.new }
 {
     state.answer(Kind::Number(Scalar::any(Width::Full64)));
 }
 
-/// A pointer to a value of the map is answered, or null.
+/// The answer is a pointer to a value of the map, or null.
 fn answer_value(state: &mut State, map: CalledMap)
     ensures { AnswersValue state.old map state.new }
 {
@@ -118,8 +118,7 @@ fn answer_value(state: &mut State, map: CalledMap)
     });
 }
 
-/// A hash map loses a key. It is not known which one, so that all pointers to its values are
-/// forgotten.
+/// A hash map loses a key. It is not known which one, so all pointers to its values are forgotten.
 fn forget_values(state: &mut State, map: CalledMap)
     ensures { state.new ≡ without_values map.row.kind map.index state.old }
 {

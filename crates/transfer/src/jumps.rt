@@ -54,9 +54,9 @@ fn comparison_refusal(cond: Cond, state: &State) -> Refusal
     }
 }
 
-/// The two ways of a conditional jump: the fall-through goes on in `state` at `next`, the jump in
-/// `other` at `target`. Where one way is never gone, the other one goes on in `state`, and no
-/// state is copied.
+/// The two ways of a conditional jump: `state` becomes the fall-through's at `next`, and `other`
+/// the jump's at `target`. If one way is never taken, `state` becomes the other way's, and no state
+/// is copied.
 fn part(
     cond: Cond,
     ways: (Outcome, Outcome),

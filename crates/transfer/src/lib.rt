@@ -1,4 +1,4 @@
-//! One abstract step: where the instruction at a state's slot leads.
+//! One abstract step: the successors of a state.
 #![tactic(auto)]
 
 ghost use Rattle.std.specs.Prelude.{◌≡◌, Some, IfOk, IsSome};
@@ -30,7 +30,7 @@ use isa_model::Version;
 pub use refusals::Refusal;
 use stack_state::State;
 
-/// How many states an instruction leads to.
+/// How many successors an instruction has.
 #[derive(Clone, Copy, PartialEq, Eq, Debug, Drop)]
 pub enum Ways {
     /// It exits, or no member goes on.
@@ -41,7 +41,7 @@ pub enum Ways {
     Two,
 }
 
-/// The states that an instruction leads to, the fall-through first.
+/// The successors of an instruction, the fall-through first.
 #[derive(Drop)]
 pub enum Successors {
     /// It exits, or no member goes on.
@@ -50,8 +50,8 @@ pub enum Successors {
     Two(State, State),
 }
 
-/// What the instruction at the state's slot leads to: on each member it does not trap, and exits or
-/// goes into a successor.
+/// The successors of a state: on each member its instruction does not trap, and exits or goes into
+/// a successor.
 pub fn step(image: &Image, state: &State) -> Result<Successors, Refusal>
     requires { IsSome (fetch image.now state.now.slot) }
     ensures leads { Given result

@@ -1,4 +1,4 @@
-//! Access to memory: loads and stores by what the base points to, and why there is none.
+//! Access to memory: loads and stores by what the base points to, and their refusals.
 
 ghost use Rattle.std.specs.Prelude.{◌≡◌};
 ghost use Rattle.transfer.specs.Accesses.{Loads, LoadsSigned, Stores};

@@ -26,7 +26,7 @@ pub enum Refusal {
     StackPlace,
     /// Stack bytes that may be unset are read, or a stored pointer otherwise than whole.
     StackBytes,
-    /// An access of the context that is none of the loads of its fields.
+    /// An access of the context that is not a load of one of its fields.
     ContextAccess,
     /// Packet bytes that are not proved to be there.
     PacketBytes,
@@ -55,7 +55,7 @@ pub enum Refusal {
 }
 
 impl Refusal {
-    /// Its number in the documents, such as `V1`.
+    /// Its code in docs/REFUSALS.md, such as `V1`.
     pub fn code(self) -> &'static str
         ensures { result.now ≡ code_of self }
     {

@@ -91,8 +91,7 @@ pub fn value_store(
 
 // ---- moves
 
-/// The least distance by which a number moves a pointer; `number` is the one that is left, if one
-/// only is.
+/// The least distance by which a number moves a pointer; `number` is the number, if it is known.
 pub fn nearest(by: Scalar, number: Option<u64>) -> i64
     ensures { result ≡ nearest by number }
 {
@@ -112,7 +111,7 @@ pub fn farthest(by: Scalar, number: Option<u64>) -> i64
     }
 }
 
-/// The least offset after a move by something between two distances.
+/// The least offset after a move by a distance between two limits.
 fn moved_least(back: bool, least: i32, near: i64, far: i64) -> i128
     ensures { result ≡ moved_least back least near far }
 {
@@ -134,7 +133,7 @@ fn moved_greatest(back: bool, greatest: i32, near: i64, far: i64) -> i128
     }
 }
 
-/// The pointer after a move by something between two distances, back or on.
+/// The pointer after a move by a distance between two limits, back or forward.
 pub fn value_moved(
     back: bool,
     index: u8,

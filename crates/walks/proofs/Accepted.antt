@@ -1,4 +1,4 @@
--- What a program must meet to be refused for memory and for its steps alone.
+-- What a program must meet to be refused only for memory and for its steps.
 use Rattle.std.proofs.Common.{◌≡◌, ◌≤◌, ◌+◌, ◌∷◌, [], ℕ, zero, suc, Some, None, Option, Bool, true, false, List, arith, refl, sym, subst, inl, inr, ◌⊎◌}
 use Rattle.std.specs.Prelude.{◌≢◌, ◌↔◌, ℤ, if◌then◌else◌}
 use Rattle.std.specs.List.{list_any}

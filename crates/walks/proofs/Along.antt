@@ -136,7 +136,7 @@ pub here_too : (p : Program) (s : State) (t : Machine.State) (i : Insn) → t.sl
     → fetch p t.slot ≡ Some i
 here_too p s t i same here = ap (fetch p) same ∙ here
 
--- what is live behind the instruction was written by it, or is live before it
+-- what is live after the instruction was written by it, or is live before it
 live_along : (p : Program) (steps : ℕ) (d : IsDetermined p steps) (k : ℕ) (s : State) (t : Machine.State) (i : Insn) (next : ℕ) (r : Reg)
     → Along p steps d k s t → fetch p t.slot ≡ Some i → FallsTo s.slot i next ⊎ JumpsTo p s.slot i next
     → IsLive p r next → (writes i ≡ Some r) ⊎ IsLive p r s.slot
@@ -174,7 +174,7 @@ sets_keep (Store size place q) r is j h = absurd (cc is)
 sets_keep (StoreConstant size place n) r is j h = absurd (cc is)
 sets_keep i r is j h = h
 
--- what is live behind a jump is live before it
+-- what is live after a jump is live before it
 still_live : (p : Program) (steps : ℕ) (d : IsDetermined p steps) (k : ℕ) (s : State) (t : Machine.State) (i : Insn) (by : ℤ) (next : ℕ)
     → Along p steps d k s t → fetch p t.slot ≡ Some i → writes i ≡ None → jump_distance i ≡ Some by
     → FallsTo s.slot i next ⊎ JumpsTo p s.slot i next
@@ -182,7 +182,7 @@ still_live : (p : Program) (steps : ℕ) (d : IsDetermined p steps) (k : ℕ) (s
 still_live p steps d k s t i by next along here silent jumps on (InRegister r) live = still_known p steps d k s t i next along here silent on r live
 still_live p steps d k s t i by next along here silent jumps on (InSlot j) live = slot_before p steps d k s t i next j along here (jumps_keep i by jumps j) on live
 
--- what is live behind a form that writes a register is that one, or is live before it
+-- what is live after a form that writes a register is that register, or is live before it
 one_more : (p : Program) (steps : ℕ) (d : IsDetermined p steps) (k : ℕ) (s : State) (t : Machine.State) (i : Insn) (q : Reg) (next : ℕ)
     → Along p steps d k s t → fetch p t.slot ≡ Some i → writes i ≡ Some q
     → FallsTo s.slot i next ⊎ JumpsTo p s.slot i next

@@ -63,7 +63,7 @@ IsNoPointer v = Unit {0}
 abbrev pub HoldsIf : (Home → Type 0) → State → ℕ → ℕ → Type 0
 HoldsIf alive s j y = alive (InSlot j) → Holds s j y
 
--- the registers and slots of which it is said hold their numbers
+-- the named registers and slots hold their numbers
 pub record Mirrors (alive : Home → Type 0) (s : State) (t : Machine.State) : Type 0 where
   pub slot : t.slot ≡ s.slot
   pub one : depth s ≡ 1

@@ -103,7 +103,7 @@ follows_up p slot next forward (i, here, inr (by, jump, at)) = let up = forward.
 inside : (p : Program) (s : State) (i : Insn) → fetch p s.slot ≡ Some i → s.slot < length p.insns
 inside p s i here = BeginsInsn-inside p s.slot (fetch-BeginsInsn p s.slot i here)
 
--- a step within the only frame, to a slot behind
+-- a step within the only frame, to a later slot
 record StepsUp (a b : State) : Type 0 where
   up : a.slot < b.slot
   one : depth b ≡ 1
@@ -167,7 +167,7 @@ conditionals_fewer (o ∷ os) zero k le = conditionals_most (o ∷ os) k
 conditionals_fewer (o ∷ os) (suc j) zero le = absurd (omega arith)
 conditionals_fewer (o ∷ os) (suc j) (suc k) le = conditionals_fewer os j k (omega (arith, le))
 
--- a conditional jump counts before what comes behind it
+-- a conditional jump counts before what follows it
 conditionals_less : (os : List (Option Insn)) (j k : ℕ) (c : Cond) (by : ℤ) → slice_get os j ≡ Some (Some (JumpIf c by)) → j < k
     → conditionals_from os k + 1 ≤ conditionals_from os j
 conditionals_less [] j k c by here up = absurd (cc)

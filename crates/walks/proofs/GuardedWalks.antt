@@ -58,7 +58,8 @@ pub load_parts : (size len : ℕ) (d : Reg) (place : Place) → IsLoadBefore siz
     → IsFree d × (place.base ≡ R2) × (at : ℕ) × (place.offset ≡ pos at) × (at + size ≤ len)
 load_parts size len d place h = (h.0, h.1, h.2.0, h.2.1, h.2.2)
 
--- behind the test nothing but numbers was written, and of the packet what the test shows is known
+-- after the test nothing but numbers was written, and the bytes that the test shows are known to be
+-- there
 past_test : (p : Program) (len : ℕ) (g : IsGuarded p len) (s t : State) (h : Guards p len g s) → s.slot < 5
     → 5 ≤ t.slot → ((r : Reg) → IsLive p r t.slot → IsLive p r s.slot) → PathTo p (suc h.steps) t.slot h.written → Knows t []
     → (5 ≤ t.slot → t.slot < g.tail → (m : ℕ) × (kind_of t R2 ≡ packet_from 0 m) × (len ≤ m)) → Guards p len g t

@@ -207,7 +207,7 @@ body_free len (JumpIf c by) d h is = absurd (cc is)
 body_free len Exit d h is = absurd (cc is)
 body_free len i d h is = absurd h
 
--- a form on numbers, behind the test
+-- a form on numbers, after the test
 pub plain_step : (p : Program) (len : ℕ) (g : IsGuarded p len) (s t : State) (i : Insn) (w : Ways) (a b : State)
     → Guards p len g s → 5 ≤ s.slot → fetch p s.slot ≡ Some i → IsPlainForm i
     → Each (NumbersIn s) (reads i) → Makes p s i w a b → IsAmong w a b t
@@ -296,7 +296,8 @@ body_keeps p len s t i w a b plain set body makes among = absurd plain
 
 -- ---- dead registers forgotten
 
--- in the first five slots nothing is forgotten, since they are no joins; behind them what is live is known as before
+-- in the first five slots nothing is forgotten, since they are no joins; after them what is live is
+-- known as before
 pub Guards-forgets : (p : Program) (len : ℕ) (g : IsGuarded p len) (a b : State) → Forgets p a b → Guards p len g a → Guards p len g b
 Guards-forgets p len g a b f h =
     let slot : b.slot ≡ a.slot = Forgets-slot p a b f in

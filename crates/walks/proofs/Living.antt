@@ -67,7 +67,7 @@ written_or_not : (o : Option Reg) (r : Reg) → (o ≡ Some r) ⊎ (o ≢ Some r
 written_or_not None r = inr (λ e. absurd (cc e))
 written_or_not (Some d) r = elim (same_or_other d r) [ inl same ↦ inl (ap Some same) | inr other ↦ inr (λ e. other (cc e)) ]
 
--- what is live behind such an instruction was written by it, or is live before it
+-- what is live after such an instruction was written by it, or is live before it
 pub live_before : (p : Program) (slot next : ℕ) (i : Insn) (r : Reg) → fetch p slot ≡ Some i → CallsNothing i → Follows p slot next → IsLive p r next
     → (writes i ≡ Some r) ⊎ IsLive p r slot
 live_before p slot next i r here none follows live = elim (written_or_not (writes i) r) [

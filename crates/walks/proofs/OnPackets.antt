@@ -50,7 +50,7 @@ use Rattle.transfer.specs.Exact.{Puts, Sets, Branches, Makes, Performs}
 use Rattle.walks.specs.Walks.{IsAmong}
 use Rattle.walks.proofs.OnNumbers.{Makes-performs, kind_of-go_to, side_among}
 
--- so far behind the packet's first byte, with no variable part; the proved bytes are there
+-- at this offset from the packet's first byte, with no variable part; the proved bytes are there
 abbrev pub packet_from : ℕ → ℕ → Kind
 packet_from fixed proved = kind.Packet (pos fixed) 0 (pos 0) (pos 0) proved
 

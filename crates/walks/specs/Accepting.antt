@@ -16,7 +16,7 @@ IsOutOfMemory (Flow error.Memory) = Unit {0}
 IsOutOfMemory Memory = Unit {0}
 IsOutOfMemory e = ⊥
 
--- a program of version 2, of which an exit is not shown to answer with an action
+-- a program of version 2 with an exit that is not shown to answer with an action
 abbrev pub IsUnanswered : Program → Refusal → Type 0
 IsUnanswered p e = (p.version ≡ Two) × (e ≡ Step NoAction)
 

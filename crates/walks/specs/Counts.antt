@@ -11,13 +11,14 @@ use Rattle.transfer.specs.Exact.{Makes}
 use Rattle.walks.specs.Forgetting.{Forgets}
 use Rattle.walks.specs.Walks.{WalksTo}
 
--- the states to which the ways lead are these, as paths come to them
+-- the successors are these states, after what is dead was forgotten
 abbrev pub AreForgotten : Program → Ways → State → State → State → State → Type 0
 AreForgotten p ways.None a b first other = Unit {0}
 AreForgotten p ways.One a b first other = Forgets p a first
 AreForgotten p ways.Two a b first other = Forgets p a first × Forgets p b other
 
--- the instruction at a state's slot goes these ways, and paths come to these states
+-- the instruction at a state's slot has these ways, and these successors after what is dead was
+-- forgotten
 pub record StepsInto (p : Program) (s : State) (taken : Ways) (first other : State) : Type 0 where
   pub insn : Insn
   pub here : fetch p s.slot ≡ Some insn
@@ -26,8 +27,8 @@ pub record StepsInto (p : Program) (s : State) (taken : Ways) (first other : Sta
   pub makes : Makes p s insn taken next aside
   pub forgets : AreForgotten p taken next aside first other
 
--- the number of a state: 1 more than the greatest one of the states that its instruction leads to, and 1 where it leads
--- to none; or the number of a state at its slot that covers it, to which a walk from the start comes too
+-- the number of a state: 1 more than the greatest number of its successors, and 1 if it has none;
+-- or the number of a state at its slot that covers it and that a walk from the start reaches too
 pub data HasNumber (p : Program) : State → ℕ → Type 0 where
   LeadsNowhere : (s a b : State) (n : ℕ) → StepsInto p s ways.None a b → n ≡ 1 → HasNumber p s n
   LeadsToOne : (s a b : State) (m n : ℕ) → StepsInto p s ways.One a b → HasNumber p a m → n ≡ m + 1 → HasNumber p s n

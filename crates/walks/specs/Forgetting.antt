@@ -1,6 +1,5 @@
--- What is forgotten of a state when a path comes to it: at joins, registers and slots of the
--- innermost frame's stack that
--- no path reads before it writes them.
+-- What is forgotten of a state when a path reaches it: at joins, the registers and slots of the
+-- innermost frame's stack that no path reads before it writes them.
 use Rattle.std.specs.Prelude.{◌≡◌, ◌≢◌, ◌⊎◌, ℕ, ◌<◌, List, length}
 use Rattle.isa_model.specs.declared.registers.Reg.{Reg}
 use Rattle.isa_model.specs.declared.registers.Reg.TheVariants.{R10}
@@ -24,7 +23,7 @@ IsDeadAt p slot r = IsJoin p slot × (¬ IsLive p r slot)
 abbrev pub IsKept : Program → ℕ → Reg → Kind → Kind → Type 0
 IsKept p slot r before after = ((¬ IsDeadAt p slot r) × (after ≡ before)) ⊎ (IsDeadAt p slot r × (after ≡ Unset))
 
--- the registers of a frame, as a path comes to the slot
+-- the registers of a frame when a path reaches the slot
 pub record AreKept (p : Program) (slot : ℕ) (old new : List Kind) : Type 0 where
   pub ten : length new ≡ 10
   pub each : (r : Reg) → r ≢ R10 → IsKept p slot r (kind_at old (reg_number r)) (kind_at new (reg_number r))
@@ -37,7 +36,7 @@ IsSlotDeadAt p slot j = IsJoin p slot × (¬ IsSlotLive p j slot)
 abbrev pub IsSlotKept : Program → ℕ → ℕ → Slot → Slot → Type 0
 IsSlotKept p slot j before after = ((¬ IsSlotDeadAt p slot j) × (after ≡ before)) ⊎ (IsSlotDeadAt p slot j × (after ≡ Written 0))
 
--- the slots of a frame's stack, as a path comes to the slot of the code
+-- the slots of a frame's stack when a path reaches the slot of the code
 pub record AreSlotsKept (p : Program) (slot : ℕ) (old new : List Slot) : Type 0 where
   pub all : length new ≡ 64
   pub each : (j : ℕ) → j < 64 → IsSlotKept p slot j (slot_at old j) (slot_at new j)
@@ -45,8 +44,7 @@ pub record AreSlotsKept (p : Program) (slot : ℕ) (old new : List Slot) : Type 
 abbrev pub slots_in : State → List Slot
 slots_in s = s.innermost.stack.slots
 
--- b is a as a path comes to it: without what is known of dead registers and of dead slots of the
--- stack
+-- b is a without what is known of dead registers and of dead slots of the stack
 pub record Forgets (p : Program) (a b : State) : Type 0 where
   pub rest : b ≡ record a { innermost = record a.innermost { registers = registers_of b; stack = record { slots = slots_in b } } }
   pub registers : AreKept p a.slot (registers_of a) (registers_of b)

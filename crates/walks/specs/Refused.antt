@@ -12,11 +12,11 @@ use Rattle.isa_model.specs.declared.limits.TheConstants.{MAX_EXPLORED}
 use Rattle.walks.specs.declared.refusals.Refusal.{Refusal}
 use Rattle.walks.specs.declared.refusals.Refusal.TheVariants.{Flow, Step, Repeats, TooLong, Memory}
 
--- from the state in which a path begins at least this count of instructions is explored
+-- at least this many instructions are explored from the state in which a path begins
 abbrev pub StartTakes : Program → ℕ → Type 0
 StartTakes p n = (first : State) × Forgets p start first × Takes p first n
 
--- where the search stops with a refusal; after the most instructions that are explored comes one more
+-- where the search stops with a refusal: one instruction after the most that are explored
 abbrev pub StopsAt : Program → Refusal → ℕ → Type 0
 StopsAt p (Flow e) slot = ⊥
 StopsAt p (Step e) slot = IsStuck p e slot

@@ -18,7 +18,7 @@ IsAmong ways.None a b s = ⊥
 IsAmong ways.One a b s = s ≡ a
 IsAmong ways.Two a b s = (s ≡ a) ⊎ (s ≡ b)
 
--- b is one of the states that the instruction at a's slot makes of a, as a path comes to it
+-- b is one of a's successors, after what is dead was forgotten
 pub record StepsTo (p : Program) (a b : State) : Type 0 where
   pub insn : Insn
   pub here : fetch p a.slot ≡ Some insn
@@ -30,12 +30,12 @@ pub record StepsTo (p : Program) (a b : State) : Type 0 where
   pub among : IsAmong taken first other next
   pub forgets : Forgets p next b
 
--- that many steps lead from a to b
+-- a path of n steps goes from a to b
 unfoldable pub Leads : Program → ℕ → State → State → Type 0
 Leads p zero a b = b ≡ a
 Leads p (suc n) a b = (c : State) × StepsTo p a c × Leads p n c b
 
--- a walk of that many steps from the start comes to a state
+-- a walk of n steps from the start reaches a state
 pub record WalksTo (p : Program) (n : ℕ) (s : State) : Type 0 where
   pub first : State
   pub begins : Forgets p start first
@@ -43,7 +43,7 @@ pub record WalksTo (p : Program) (n : ℕ) (s : State) : Type 0 where
 
 -- ---- where walks stop
 
--- some walk from the start comes to a state at this slot, at which an instruction begins
+-- some walk from the start reaches a state at this slot, at which an instruction begins
 pub record IsReached (p : Program) (slot : ℕ) : Type 0 where
   pub state : State
   pub steps : ℕ
@@ -51,7 +51,7 @@ pub record IsReached (p : Program) (slot : ℕ) : Type 0 where
   pub slot_is : slot ≡ state.slot
   pub begins : BeginsInsn p slot
 
--- some walk from the start comes to a state at this slot, and its step is refused so
+-- some walk from the start reaches a state at this slot, and its step is refused so
 pub record IsStuck (p : Program) (e : Refusal) (slot : ℕ) : Type 0 where
   pub state : State
   pub steps : ℕ
@@ -62,7 +62,7 @@ pub record IsStuck (p : Program) (e : Refusal) (slot : ℕ) : Type 0 where
   pub here : fetch p state.slot ≡ Some insn
   pub refused : Refuses p state insn e
 
--- some walk from the start comes twice to this join, in two states that cover one another
+-- some walk from the start reaches this join twice, in two states that cover one another
 pub record ComesBack (p : Program) (slot : ℕ) : Type 0 where
   pub join : IsJoin p slot
   pub first : State

@@ -1,4 +1,4 @@
-//! What is forgotten of a state when a path comes to it.
+//! What is forgotten of a state when a path reaches it.
 
 ghost use Rattle.std.specs.Prelude.{◌≡◌, replicate};
 ghost use Rattle.stack_state.specs.Slots.{frame_slots};
@@ -90,7 +90,7 @@ fn forget_slots(flow: &Flow<'_>, slot: usize, slots: &mut [Slot; FRAME_SLOTS])
 
 /// Forgets what is known of the registers and of the slots of the innermost frame's stack that are
 /// dead at a state's slot, if it is a join: no path from there reads them before it writes them,
-/// and states that differ in them alone are one.
+/// and states that differ only in them become one.
 pub fn forget_dead(flow: &Flow<'_>, state: &mut State)
     ensures { Forgets flow.now state.old state.new }
 {

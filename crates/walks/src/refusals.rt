@@ -12,9 +12,9 @@ use std::fmt;
 pub enum Refusal {
     /// Its control flow is not good.
     Flow(FlowError),
-    /// An instruction is not safe in a state that leads to it.
+    /// An instruction is not safe in a state at its slot.
     Step(transfer::Refusal),
-    /// A path comes back to a state that it has been in.
+    /// A path returns to a state that it has been in.
     Repeats,
     /// More instructions than `MAX_EXPLORED` would have to be explored.
     TooLong,
@@ -23,7 +23,7 @@ pub enum Refusal {
 }
 
 impl Refusal {
-    /// Its number in the documents, such as `V18`.
+    /// Its code in docs/REFUSALS.md, such as `V18`.
     pub fn code(self) -> &'static str
         ensures { result.now ≡ code_of self }
     {

@@ -34,7 +34,7 @@ pub struct Memory {
     pub interface: u32,
     pub queue: u32,
     pub maps: Maps,
-    /// Where a call of a helper keeps a value, and a key that stands in a map.
+    /// Where a call of a helper keeps a value, and a key that is in a map.
     pub room: Room,
 }
 
@@ -153,7 +153,7 @@ pub fn bytes<'a>(
     }
 }
 
-/// The bytes at an address, apart from the maps: those that stand in a map are kept in the room.
+/// The bytes at an address, without a borrow of the maps: bytes of a map are copied to the room.
 #[inline(always)]
 pub fn bytes_apart<'a>(
     frames: &'a [u8],

@@ -6,8 +6,8 @@ ghost use Rattle.isa_model.specs.Code.Limits.{max_value_size};
 use maps::VALUE_ROOM;
 use std::alloc::{AllocError, Global};
 
-/// So many zeros, in a list with room for no more. A list with more room, which `vec!` may make, is
-/// refused as one that finds none.
+/// A list of this many zeros, with room for no more. A list with more room, which `vec!` may make,
+/// is refused as one that finds none.
 pub fn zeros(alloc: Global, count: usize) -> Result<Vec<u8>, AllocError>
     ensures zeros { IfOk result (λ bytes. length bytes.items ≡ count) }
     ensures exact { IfOk result (λ bytes. vec_capacity bytes ≡ count) }
@@ -20,7 +20,7 @@ pub fn zeros(alloc: Global, count: usize) -> Result<Vec<u8>, AllocError>
     }
 }
 
-/// Room for the bytes of a value, of which the front is kept.
+/// Room for the bytes of a value; the front is kept.
 #[derive(Drop)]
 pub struct Room {
     bytes: Vec<u8>,

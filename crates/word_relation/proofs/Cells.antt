@@ -1,4 +1,4 @@
--- Bytes that stand for cells: parts of them, and what they spell.
+-- Bytes that represent cells: parts of them, and what they spell.
 use Rattle.std.proofs.Common.{◌≡◌, ℕ, zero, suc, ◌+◌, List, [], ◌∷◌, ◌++◌, length, take, drop, map, refl, ap, subst, ◌∙◌, arith, add-one, Ok, Err, Result, Bool, true, false, ℤ, pos, negsuc}
 use Rattle.std.proofs.lemmas.Bool.Decides.{nat_tests}
 use Rattle.isa_model.specs.declared.values.Region.TheVariants as region
@@ -65,7 +65,7 @@ module _ (a : Layout) where
   shows-length (c ∷ cs) [] s = absurd s
   shows-length (c ∷ cs) (b ∷ bs) s = ap suc (shows-length cs bs s.1)
 
-  -- bytes stand for themselves
+  -- bytes represent themselves
   pub shows-bytes : (bs : List ℕ) → ShowsCells a (map Byte bs) bs
   shows-bytes [] = tt
   shows-bytes (b ∷ bs) = (refl, shows-bytes bs)
@@ -108,7 +108,7 @@ module _ (a : Layout) where
   OkSpelled (Ok v) bs = Spelled v bs
   OkSpelled (Err e) bs = Unit {0}
 
-  -- a cell that is the kth piece of a pointer stands for the kth byte of its word
+  -- the kth byte of a pointer's word represents the kth piece of the pointer
   piece_byte : (r : Region) (z : ℤ) (k : ℕ) (c : Cell) (b : ℕ) → is_piece r z k c ≡ true → ShowsCell a c b → b ≡ byte_at k (word a r z)
   piece_byte r z k Unwritten b e s = absurd (cc)
   piece_byte r z k (Byte n) b e s = absurd (cc)

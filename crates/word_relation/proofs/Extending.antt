@@ -94,7 +94,7 @@ IsLayout-with_value a rows serial x h good = record {
   short = good.short;
 }
 
--- ---- what names older serials alone is shown as before
+-- ---- what names only older serials is represented as before
 
 module _ (a b : Layout) (rows next : ℕ) (E : Extends a b next) where
   word_old : (r : Region) (z : ℤ) → IsRegion rows next r → word b r z ≡ word a r z

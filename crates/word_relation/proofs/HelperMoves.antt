@@ -1,4 +1,4 @@
--- The call of each helper, from its arguments to the words behind it.
+-- The call of each helper, from its arguments to the words after it.
 use Rattle.std.proofs.Common.{◌≡◌, ℕ, ◌+◌, ◌<◌, List, length, refl, sym, ap, subst, arith, Ok, Err, Result, Bool, true, false, Option, Some, None}
 use Rattle.std.specs.Prelude.{if◌then◌else◌, ◌==◌}
 use Rattle.std.specs.FinMap as finmap

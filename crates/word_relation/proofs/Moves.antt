@@ -58,7 +58,7 @@ Going w i = Unit {0}
 pub not_last : (w : Words) (i : Insn) → Going w i → IsLast w i → ⊥
 not_last w i g l = let called : 0 < length w.saved = subst (Going w) l.0 g in let first = l.1 in omega arith
 
--- an operation on a number alone
+-- an operation that is defined on numbers only
 on_number_shown : (a : Layout) (f : ℕ → ℕ) (v : Value) (x : ℕ) → Shows a v x → OkShows a (on_number f v) (f x)
 on_number_shown a f Unset x h = tt
 on_number_shown a f (Num n) x h = ap f h

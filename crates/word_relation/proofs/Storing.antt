@@ -60,7 +60,7 @@ at_set fs j k g P here same other =
     ]
 
 module _ (p : Program) (a : Layout) (s : State) (w : Words) (R : Related p a s w) (K : IsState p s) where
-  -- cells in place of some, and bytes in place of those that stand for them
+  -- cells in place of some, and bytes in place of those that represent them
   shows-splice : (cs new : List Cell) (row bs : List ℕ) (i : ℕ) → ShowsCells a cs row → ShowsCells a new bs
       → ShowsCells a (splice cs i (i + length new) new) (with_bytes row i bs)
   shows-splice cs new row bs i h k =

@@ -94,7 +94,7 @@ module _ (p : Program) (a : Layout) (s : State) (w : Words) (R : Related p a s w
 
   -- ---- numbers swapped
 
-  -- the words behind a swap, with the old number kept or not
+  -- the words after a swap, with the old number kept or not
   abbrev pub swapped : Width → Place → (ℕ → ℕ) → Bool → Reg → Words
   swapped width place new keeps r =
       record (swaps w width place new) { regs = fetched_regs keeps w.regs (reg_number r) (old_number w width place) }

@@ -1,5 +1,5 @@
--- How words stand for a state, under one layout: which depth each frame's serial has, and where in its map's block each
--- value's serial begins. What is gone keeps its place.
+-- How words represent a state, under one layout: which depth each frame's serial has, and where in
+-- its map's block each value's serial begins. What is gone keeps its place.
 use Rattle.std.specs.Prelude.{◌≡◌, ℕ, suc, ◌+◌, ◌-◌, ◌*◌, ◌<◌, ◌≤◌, ℤ, pos, negsuc, List, [], ◌∷◌, length, slice_index, slice_index_or}
 use Rattle.std.specs.FinMap.{entries}
 use Rattle.std.specs.Int.{byte_at}
@@ -54,7 +54,7 @@ abbrev pub word : Layout → Region → ℤ → ℕ
 word a region.PacketEnd z = start a region.PacketEnd
 word a r z = moved (start a r) z
 
--- what a word stands for: an unset register may hold any
+-- the word represents the value: an unset register may hold any word
 abbrev pub Shows : Layout → Value → ℕ → Type 0
 Shows a Unset w = Unit {0}
 Shows a (Num n) w = w ≡ n
@@ -65,7 +65,7 @@ ShowsCell a Unwritten b = Unit {0}
 ShowsCell a (Byte n) b = b ≡ n
 ShowsCell a (Piece r z k) b = b ≡ byte_at k (word a r z)
 
--- bytes stand for cells, one for one
+-- bytes represent cells, one for one
 abbrev pub ShowsCells : Layout → List Cell → List ℕ → Type 0
 ShowsCells a [] [] = Unit {0}
 ShowsCells a (c ∷ cs) (b ∷ bs) = ShowsCell a c b × ShowsCells a cs bs

@@ -9,7 +9,8 @@ use Rattle.isa_model.specs.Running.Ends.{Ends as ModelEnds}
 use Rattle.word_machine.specs.Words.{Words}
 use Rattle.word_relation.specs.Related.{Layout, Related}
 
--- the run in the model from s, which ends within n steps, is after k of them in a state that the words stand for
+-- the run in the model from s, which ends within n steps, is after k of them in a state that the
+-- words represent
 pub record Follows (p : Program) (clock : ℕ → ℕ) (s : State) (n k : ℕ) (v : Words) : Type 0 where
   pub state : State
   pub layout : Layout

@@ -1,4 +1,4 @@
--- The start: words that stand for the first state of a run.
+-- The start: words that represent the first state of a run.
 use Rattle.std.proofs.Common.{ℕ, List, [], ◌∷◌}
 use Rattle.isa_model.specs.declared.frames.FrameHead.{FrameHead}
 use Rattle.maps.specs.Maps.{MapState}

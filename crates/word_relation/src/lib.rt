@@ -1,6 +1,6 @@
-//! How the machine of words runs the programs of the model: `specs/Related` says when words stand
-//! for a state, `specs/Moves` that a step of the state is a move of the words, and `specs/Running`
-//! the same of runs.
+//! How the machine of words runs the programs of the model: `specs/Related` says when words
+//! represent a state, `specs/Moves` that a step of the state is a step of the words, and
+//! `specs/Running` the same of runs.
 #![tactic(auto)]
 
 ghost use Rattle.word_relation.specs.Laws.{EndsInWords, MovesAreSteps, ExitsAgree, StartsEndInWords, ExitsAreOutcomes};

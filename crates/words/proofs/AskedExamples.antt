@@ -17,7 +17,7 @@ traces : asked (codes "xdpvm" ∷ codes "trace" ∷ codes "a" ∷ codes "b" ∷ 
 unfolding clap_on_literals asked program asm dis verify run trace prove recheck
 traces = refl
 
--- ---- a limit stands anywhere among the files, and has its value after it or after an equals sign
+-- ---- a limit can be anywhere among the files, and has its value after it or after an equals sign
 
 traces-limit : asked (codes "xdpvm" ∷ codes "trace" ∷ codes "a" ∷ codes "b" ∷ codes "c" ∷ codes "--limit" ∷ codes "5" ∷ []) ≡ Some (Trace (record { image = codes "a"; frames = codes "b"; out = codes "c" }) 5)
 unfolding clap_on_literals asked program asm dis verify run trace prove recheck
@@ -73,7 +73,7 @@ rechecks-one : asked (codes "xdpvm" ∷ codes "recheck" ∷ codes "a" ∷ []) �
 unfolding clap_on_literals asked program asm dis verify run trace prove recheck
 rechecks-one = refl
 
--- ---- the table of a run stands anywhere among its files
+-- ---- the table of a run can be anywhere among its files
 
 runs-table : asked (codes "xdpvm" ∷ codes "run" ∷ codes "--table" ∷ codes "t" ∷ codes "a" ∷ codes "b" ∷ codes "c" ∷ []) ≡ Some (Run (record { image = codes "a"; frames = codes "b"; out = codes "c" }) (Some (codes "t")))
 unfolding clap_on_literals asked program asm dis verify run trace prove recheck

@@ -147,7 +147,7 @@ asked-trace name (c ∷ cs) (d ∷ ds) (e ∷ es) h i j =
 
 -- ---- a limit after the files
 
--- the walk stands at a positional, after the option of this name
+-- the walk is at a positional, after the option of this name
 abbrev option_at : App → Text → Held → ℕ → Walk
 option_at a name h p = record {
   held = record (settled (built_leaf a.top).rules h) { pending = Some (name, []) };
@@ -246,7 +246,8 @@ table-request : (c d e f : ℕ) (cs ds es fs : List ℕ) → (c == 45) ≡ false
 unfolding run
 table-request c d e f cs ds es fs first second third fourth = simp (walked-plain, walked-table, walked-table-value)
 
--- `xdpvm run IMAGE FRAMES OUT --table TABLE` asks for a run of the program, of which the table is tested in place of verifying it
+-- `xdpvm run IMAGE FRAMES OUT --table TABLE` asks for a run of the program after a test of the
+-- table, in place of verifying it
 pub asked-run-table : (name image frames out table : List ℕ) → is_plain image ≡ true → is_plain frames ≡ true → is_plain out ≡ true → is_plain table ≡ true
     → asked (name ∷ codes "run" ∷ image ∷ frames ∷ out ∷ codes "--table" ∷ table ∷ [])
     ≡ Some (Run (record { image = image; frames = frames; out = out }) (Some table))

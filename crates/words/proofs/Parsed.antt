@@ -16,7 +16,7 @@ use Rattle.words.specs.CommandLine.{program, asm, dis, verify, run, trace, prove
 use Rattle.tasks.specs.Requests.{Request}
 use Rattle.words.specs.Asked.{Reads, TellsOf, asked, request_by, request_met, unless_faulty}
 
--- the command line is one of which clap says what a parse finds, and how it fails
+-- clap says of this command line what a parse finds, and how it fails
 is_simple-program : is_simple program ≡ true
 unfolding program asm dis verify run trace prove recheck
 is_simple-program = refl
@@ -53,7 +53,7 @@ maps : {A B C : Type 0} (g : B → C) (f : A → B) (o : Option A) → option_ma
 maps g f None = refl
 maps g f (Some x) = refl
 
--- the name of the command that was met stands with its arguments
+-- the name of the command is kept with its arguments
 name-met : (m : ArgMatches) → subcommand_name_of m ≡ option_map (λ p. p.0) (subcommand_rows_of m)
 name-met m = maps (λ (p : List ℕ × List Row). p.0) _ _
 

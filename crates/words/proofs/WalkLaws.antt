@@ -8,7 +8,7 @@ use Rattle.clap.specs.Simple.{App, Shape, entered, label_of, names_of, rows_at}
 use Rattle.clap.specs.Kinds.{Kinds, or_else}
 use Rattle.clap.specs.Faults.{built_fault, check_fault, defaults_fault, level_fault, positional_fault, settle_fault, stray_fault, walk_fault}
 
--- the walk stands after no option, at a positional
+-- the walk is at a positional, after no option
 abbrev pub walk_at : Held → ℕ → Walk
 walk_at h p = record { held = h; waiting = idle; position = p; is_trailing = false; stopped = None }
 
@@ -53,7 +53,7 @@ or_else-none : (k : Kinds) → or_else k [] ≡ k
 or_else-none [] = refl
 or_else-none (x ∷ xs) = refl
 
--- where only a command's name stands before them, the faults are those of the words after it
+-- if only a command's name comes before them, the faults are those of the words after it
 pub fault-command : (a : App) (command : Text) (rest : List Text) (s : Shape) → subcommand_met (names_of a) idle command ≡ Some command → bytes_eq command (codes "help") ≡ false
     → find (λ t. answers_to command (label_of t)) a.subs ≡ Some s
     → or_else (settle_fault a.top.rules a.top.args_override_self nothing_held)

@@ -82,7 +82,7 @@ limit_of-read text steps some digits read least most =
     let is : limit_of text ≡ Some (digits_value 10 text) = limit_of-digits text some digits ∙ rw (low, high) refl in
     cc
 
--- and one that was not read as a number is none
+-- and a word that was not read as a number is none
 pub limit_of-unread : (text : List ℕ) → 0 < length text → list_all is_ascii_digit text ≡ true
     → (IsNumeral 10 (without_leading_plus text) × (digits_value 10 (without_leading_plus text) < 2 ^ 32) → ⊥) → None ≡ limit_of text
 limit_of-unread text some digits read =

@@ -82,12 +82,12 @@ asked words = unless_faulty (fault_of program words) (request_met (subcommand_of
 
 -- ---- what was read of them
 
--- the words are told to be wrong
+-- the answer says that the words are wrong
 abbrev pub IsWrong : WordsError → Type 0
 IsWrong (Wrong text) = Unit {0}
 IsWrong Memory = ⊥
 
--- the task of what is asked for, or that it is nothing; or memory ran out
+-- the task that the words ask for, or that they ask for none; or memory ran out
 abbrev pub TellsOf : Option Request → Result Task WordsError → Type 0
 TellsOf request (Ok task) = request ≡ Some (request_of task)
 TellsOf request (Err (Wrong text)) = request ≡ None

@@ -8,7 +8,7 @@ use Rattle.clap.specs.declared.builder.action.ArgAction.TheVariants.{Set}
 abbrev pub wanted : List ℕ → Rule
 wanted name = record (new_rule name) { required = true; action = Some Set }
 
--- an option, which takes one value, for which help has one name, and may be left out
+-- an option that takes one value, with one name in the help, and may be left out
 abbrev pub optional : List ℕ → Rule
 optional name = record (new_rule name) { long = Some name; action = Some Set; value_names = 1 }
 

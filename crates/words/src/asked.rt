@@ -112,7 +112,7 @@ fn task_of<'a>(name: &str, matches: &ArgMatches<'a>) -> Option<Task<'a>>
     }
 }
 
-// The task, where the command of this name is asked for with arguments that it takes.
+// The task, if the command of this name is given with arguments that it takes.
 fn wanted_task<'a>(
     alloc: Global,
     name: &str,

@@ -55,7 +55,7 @@ const TABLE: Argument = Argument {
     help: "The proof table, as `prove` makes it",
 };
 
-// An option that a command takes, what help calls its value, and what it says of it.
+// An option of a command, the name of its value in the help, and its help text.
 #[derive(Clone, Copy)]
 struct Choice {
     name: &'static str,
@@ -75,7 +75,7 @@ const INSTEAD: Choice = Choice {
     help: "A proof table, which is tested in place of verifying the program",
 };
 
-// What help says of each command, in the order in which they stand there.
+// What help says of each command, in the order of the list.
 const ASM_ABOUT: &str = "Makes the image of a program that is written as text";
 
 const DIS_ABOUT: &str = "Prints the text of an image";
@@ -181,7 +181,7 @@ fn with_running<'a>(
     program.subcommand(made)
 }
 
-// The program without its commands, of which it wants one.
+// The program without its commands; it requires one.
 fn empty_program<'a>(alloc: Global) -> Result<Command<'a>, AllocError>
     ensures { IfOk result (λ made. app_of made ≡ empty_program) }
 {
@@ -193,7 +193,7 @@ fn empty_program<'a>(alloc: Global) -> Result<Command<'a>, AllocError>
         .bin_name(NAME)
 }
 
-/// The program with its commands, of which it wants one.
+/// The program with its commands; it requires one.
 pub fn program<'a>(alloc: Global) -> Result<Command<'a>, AllocError>
     ensures { IfOk result (λ made. app_of made ≡ program) }
 {

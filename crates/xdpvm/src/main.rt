@@ -1,7 +1,7 @@
 //! xdpvm: runs BPF programs of the XDP kind on streams of packet frames.
 //!
 //! The program calls one function, `execute`, which says what is done by each command and with
-//! which status. What can be stated of the calls around it stands at `answer` and `buffered`.
+//! which status. What can be stated of the calls around it is stated at `answer` and `buffered`.
 #![tactic(auto)]
 
 pub use commands::execute;

@@ -18,7 +18,7 @@ IsStatus status = (status ≡ 1) ⊎ IsVerdict status
 abbrev pub IsDecision : ℕ → Type 0
 IsDecision status = (status ≡ 6) ⊎ IsVerdict status
 
--- of a key: done, an argument is outside its limits, or there is none
+-- of a key: done, an argument is outside its limits, or there is no such key
 abbrev pub IsLookUp : ℕ → Type 0
 IsLookUp status = (status ≡ 0) ⊎ ((status ≡ 1) ⊎ (status ≡ 7))
 

@@ -1,4 +1,5 @@
--- What a caller is told of a refusal: the line that the command prints, a sentence, the place, and what is known there.
+-- The texts of a refusal: the line that the command prints, a sentence, the place, and what is
+-- known there.
 use Rattle.std.specs.Prelude.{◌≡◌, ℕ, List, [], ◌++◌, Option, Some, None, codes, decimal, ◌⊎◌}
 use Rattle.isa_model.specs.declared.instructions.Insn.{Insn}
 use Rattle.isa_model.specs.Code.Instructions.{Program, fetch}
@@ -97,7 +98,7 @@ TellsEntry p bytes error text =
     ⊎ ((slot : ℕ) × (insn : Insn) × (known : List ℕ) × IsEntryReason p bytes error slot insn known
     × (text ≡ slot_place slot ++ (codes ": " ++ (line_of insn ++ (step_sentence error ++ known)))))
 
--- the same behind the front
+-- the same after the front
 pub record TellsTable (p : Program) (bytes : List ℕ) (error : TableError) (text : List ℕ) : Type 0 where
   pub entry : List ℕ
   pub is_entry : TellsEntry p bytes error entry

@@ -17,8 +17,8 @@ use image::{Image, ImageError};
 use isa_model::MAX_EXPLORED;
 use std::alloc::Global;
 
-/// What is answered of an image: the most steps of a run if it is accepted, and else the slot of
-/// the refusal; 0 where there is none. `said` is how many bytes the text of a refusal has.
+/// The verdict on an image: the most steps of a run if it is accepted, and else the slot of the
+/// refusal, or 0 if it has none. `said` is how many bytes the text of a refusal has.
 #[repr(C)]
 #[derive(Clone, Copy, Drop)]
 pub struct Verdict {
@@ -101,7 +101,7 @@ fn judge(alloc: Global, program: Image, limit: u32, why: &mut [u8], out: &mut Ve
 
 /// Verifies an image, exploring at most `limit` instructions (1 to 1,000,000). Why it is refused
 /// goes to `why`, as far as there is room; what is known at the refused instruction is looked for
-/// only where there is some.
+/// only if there is room.
 #[unsafe(no_mangle)]
 pub extern "C" fn xdpvm_verify(
     alloc: Global,

@@ -40,7 +40,7 @@ fn number_of(fault: Fault) -> u32
     }
 }
 
-// What is told of a report and frames out of these sizes.
+// What is returned after a run with this tally, a report and frames out of these sizes.
 fn told(tally: Tally, report: usize, sent: usize) -> Streamed
     ensures { result ≡ told tally report sent }
 {

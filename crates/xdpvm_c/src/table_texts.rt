@@ -1,4 +1,4 @@
-//! What a caller is told of a refused proof table.
+//! The text of a refused proof table.
 
 ghost use Rattle.std.specs.Prelude.{◌≡◌, ◌++◌, codes, IfOk, IfSome, OnOk};
 ghost use Rattle.std.specs.String.{string_bytes};

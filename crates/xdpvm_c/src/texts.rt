@@ -1,4 +1,4 @@
-//! What a caller is told of a refusal.
+//! The texts of a refusal.
 
 ghost use Rattle.std.specs.Prelude.{◌≡◌, ◌++◌, IfOk, IfSome, OnOk};
 ghost use Rattle.std.specs.Option.{option_copied};

@@ -46,7 +46,7 @@ impl Core {
         Ok(())
     }
 
-    /// ST: the constant is sign-extended to 64 bits, of which the low bytes are stored.
+    /// ST: the constant is sign-extended to 64 bits, and their low bytes are stored.
     #[tactic(auto, unfolding(isa_model::specs::Machine::Steps::act))]
     pub fn do_store_constant(
         &mut self,

@@ -102,8 +102,8 @@ fn maps_are_run(rt: HostRuntime) -> Result<(), Fail> {
     remove_files(&rt)
 }
 
-/// Programs that trap, and what `trace` writes: what a run put into a map stays. And what is told
-/// of the trap.
+/// Programs that trap, and what `trace` writes: what a run put into a map stays. And the message
+/// about the trap.
 const TRAPPED: [(&str, &str, &str); 4] = [
     (
         "call 1; exit",

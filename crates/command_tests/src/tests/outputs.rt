@@ -41,7 +41,7 @@ fn full_disks(rt: HostRuntime) -> Result<(), Fail> {
     remove_files(&rt)
 }
 
-/// A flush that fails behind the buffer is told, and is the only one.
+/// A flush that fails below the buffer is reported, and is the only one.
 #[test]
 fn flush_that_fails(rt: HostRuntime) -> Result<(), Fail> {
     write_files(&rt)?;

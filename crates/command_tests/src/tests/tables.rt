@@ -201,8 +201,8 @@ const LOST: &str = "cannot read lost\nno such file or folder\n";
 
 const TABLE_TOO: &str = "cannot write table\nit is one of the files that are read\n";
 
-/// `wrong` is an image with an instruction that no path leads to, and `short` is none. The image is
-/// read first, and then the table, also where the program is refused; then the frames.
+/// `wrong` is an image with an instruction that no path reaches, and `short` is not an image. The
+/// image is read first, and then the table, also where the program is refused; then the frames.
 const FILES_IN_ORDER: [Answer; 9] = [
     (&["recheck", "lost", "lost"], 4, "", LOST),
     (&["recheck", "short", "lost"], 2, "refused I2\n", SHORT),

@@ -9,7 +9,7 @@ use Rattle.isa_model.specs.declared.versions.Version.TheVariants.{One, Two}
 abbrev pub max_slots : ℕ
 max_slots = 4096
 
--- slots of a program that is accepted for its form alone: packet reads below a test of the length
+-- slots of a program that is accepted by its form only: packet reads after a test of the length
 abbrev pub max_guarded_length : ℕ
 max_guarded_length = 4096
 

@@ -1,4 +1,5 @@
--- Numbers that stand in lists of bytes, the lowest byte first: what is read and written again is the same bytes.
+-- Numbers in lists of bytes, the lowest byte first: a number that is read and written again gives
+-- the same bytes.
 use Rattle.std.proofs.Common.{ℕ, ◌<◌, List, slice_index}
 
 -- each place of the list holds a byte: the form in which that is known of a function's arguments.

@@ -25,6 +25,6 @@ FallsTo slot i next = (falls_through i ≡ true) × (next ≡ slot + slots_of i)
 abbrev pub JumpsTo : Program → ℕ → Insn → ℕ → Type 0
 JumpsTo p slot i next = (by : ℤ) × (jump_distance i ≡ Some by) × (next ≡ destination p slot by)
 
--- the instruction at a slot leads to another slot, by falling through or by a jump
+-- control goes from the instruction at a slot to another slot, by falling through or by a jump
 abbrev pub Follows : Program → ℕ → ℕ → Type 0
 Follows p slot next = (i : Insn) × (fetch p slot ≡ Some i) × (FallsTo slot i next ⊎ JumpsTo p slot i next)

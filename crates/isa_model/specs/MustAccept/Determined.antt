@@ -65,7 +65,7 @@ pub record HasRun (p : Program) (steps : ℕ) : Type 0 where
   pub argument : (n : ℕ) (t : State) (i : Insn) → Reaches p clock (start_state head packet contents) n t
       → fetch p t.slot ≡ Some i → IsOneOf (reads i) R1 → WritesIn p clock (start_state head packet contents) n R1
 
--- r10 is named as the base of a slot alone, and the run is known
+-- r10 is used as the base of a stack slot only, and the run is known
 pub record IsDetermined (p : Program) (steps : ℕ) : Type 0 where
   pub forms : (slot : ℕ) (i : Insn) → fetch p slot ≡ Some i → IsDeterminedForm i
   pub whole : IsWhole p

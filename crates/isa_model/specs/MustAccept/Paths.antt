@@ -48,15 +48,15 @@ written_too (Some r) rs = r ∷ rs
 
 -- ---- paths
 
--- n steps of control lead from slot 0 to a slot, and write these registers on the way, the last one first
+-- a path of n steps from slot 0 to a slot, which writes these registers, the last one first
 unfoldable pub PathTo : Program → ℕ → ℕ → List Reg → Type 0
 PathTo p zero slot written = (slot ≡ 0) × (written ≡ [])
 PathTo p (suc n) slot written =
     (from : ℕ) × (before : List Reg) × (i : Insn) × PathTo p n from before × (fetch p from ≡ Some i)
     × (FallsTo from i slot ⊎ JumpsTo p from i slot) × (written ≡ written_too (writes i) before)
 
--- control stays in the code, and comes to all of it: each jump and each fall-through leads to an instruction, so the last
--- one does not fall through, and each instruction is on a path from slot 0
+-- control stays in the code and reaches all of it: each jump and each fall-through goes to an
+-- instruction, so the last one does not fall through, and each instruction is on a path from slot 0
 pub record IsWhole (p : Program) : Type 0 where
   pub jumps : (slot : ℕ) (i : Insn) (by : ℤ) → fetch p slot ≡ Some i → jump_distance i ≡ Some by
       → IsSome (fetch p (destination p slot by))

@@ -5,7 +5,8 @@ use Rattle.isa_model.specs.declared.instructions.Insn.{Insn}
 use Rattle.isa_model.specs.Code.Instructions.{Program, fetch, writes}
 use Rattle.isa_model.specs.MustAccept.Paths.{IsPlainForm, IsWhole, IsForward, AreWritten}
 
--- arithmetic, wide number loads, forward jumps and exits alone; each register that is needed was written, on each path
+-- only arithmetic, wide number loads, forward jumps and exits; each register that is needed was
+-- written, on each path
 pub record IsPlain (p : Program) : Type 0 where
   pub forms : (slot : ℕ) (i : Insn) → fetch p slot ≡ Some i → IsPlainForm i
   pub whole : IsWhole p

@@ -60,7 +60,7 @@ is_forwarded action.Pass = true
 is_forwarded action.Tx = true
 is_forwarded other = false
 
--- a program of version 2 tells in the upper half of its answer why a frame is not sent on; 1 stands for no cause told
+-- in version 2 the upper half of an answer says why a frame is not sent on; 1 is no cause
 abbrev pub told_reason : Version → ℕ → ℕ
 told_reason One value = 1
 told_reason Two value = if value / 2 ^ 32 == 0 then 1 else value / 2 ^ 32

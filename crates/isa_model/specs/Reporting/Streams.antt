@@ -74,7 +74,7 @@ abbrev pub cut_by : Ending → Fault → Fault
 cut_by ByEnd f = f
 cut_by ByError f = ReadFailed
 
--- the version that the magic at the front of bytes says, or the fault where there is none
+-- the version that the magic at the front of the bytes names, or the fault if there is no magic
 unfoldable pub opened : List ℕ → Ending → Result Version Fault
 opened bytes ending =
     if nat_lt (length bytes) 4 then Err (cut_by ending BadMagic)
@@ -152,7 +152,7 @@ stream_of input = stream_opened input (opened input.bytes input.ending)
 
 -- ---- streams as bytes
 
--- these frames may stand in a stream of the version, from the first record on
+-- these frames are allowed in a stream of the version, from the first record on
 pub record AreOpen (v : Version) (frames : List Frame) : Type 0 where
   pub few : length frames ≤ max_frames
   pub fit : All (IsFrame v) frames

@@ -1,4 +1,4 @@
--- What ends: a run that comes to its exit within n steps and meets no trap.
+-- Runs that exit within n steps and meet no trap.
 use Rattle.std.specs.Prelude.{ℕ, zero, suc}
 use Rattle.isa_model.specs.Code.Instructions.{Program}
 use Rattle.isa_model.specs.Machine.States.{State}

@@ -1,4 +1,4 @@
--- Programs every run of which exits within a number of steps, and the outcomes of their runs.
+-- Programs whose every run exits within a number of steps, and the outcomes of their runs.
 use Rattle.std.specs.Prelude.{◌≡◌, ℕ, ◌≤◌, ◌==◌, List, [], ◌∷◌, Bool, true, false}
 use Rattle.isa_model.specs.declared.frames.FrameHead.{FrameHead}
 use Rattle.isa_model.specs.Code.Instructions.{Program}

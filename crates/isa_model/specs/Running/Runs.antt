@@ -64,12 +64,12 @@ abbrev pub advanced : Program → (ℕ → ℕ) → ℕ → Progress → Progres
 advanced p clock n (GoesOn s) = after_step n s (step p clock s)
 advanced p clock n (Ended e s) = Ended e s
 
--- what the first n steps come to
+-- the state after n steps, or the end of the run before
 unfoldable pub progress : Program → (ℕ → ℕ) → ℕ → State → Progress
 progress p clock zero s = GoesOn s
 progress p clock (suc n) s = advanced p clock n (progress p clock n s)
 
--- n steps, none of which ends the run, lead from s to t
+-- n steps take the run from s to t, and none of them ends it
 abbrev pub Reaches : Program → (ℕ → ℕ) → State → ℕ → State → Type 0
 Reaches p clock s n t = progress p clock n s ≡ GoesOn t
 

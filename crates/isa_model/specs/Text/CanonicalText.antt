@@ -2,7 +2,7 @@
 -- then for each instruction. docs/FORMATS.md.
 -- Numbers are decimal, those of wide loads hexadecimal. Jump distances count slots from the one after the instruction.
 --
--- Signs and words hold no spaces: each space stands in a line's own letters.
+-- Signs and words have no spaces: each space is written out in the definition of its line.
 use Rattle.std.specs.Prelude.{ℕ, suc, ℤ, pos, negsuc, true, false, List, [], ◌∷◌, ◌++◌, Option, Some, None, codes, decimal}
 use Rattle.std.specs.List.{flat_map}
 use Rattle.std.specs.Fmt.{digits, signed_decimal}

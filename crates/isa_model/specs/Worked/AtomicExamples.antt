@@ -90,7 +90,7 @@ pub fetches_into_the_frame_pointer : map with_zero (insn.Atomic Full64 atomic.Ad
 unfolding turn progress start_state new_frame step act alu holds sign_extended reordered
 fetches_into_the_frame_pointer = refl
 
--- a pointer as the source counts before the place, which is none here
+-- a pointer as the source is a trap; it is tested before the place, which is no pointer here
 pub pointers_as_operands : map with_zero (insn.Atomic Full64 atomic.Add false (above R0 0) R10 ∷ insn.Atomic Full64 atomic.Add true (above R0 0) R1
     ∷ insn.Exchange Full64 (above R0 0) R1 ∷ insn.CompareExchange Full64 (above R0 0) R10 ∷ [])
     ≡ replicate 4 (Trap BadPointer 1)

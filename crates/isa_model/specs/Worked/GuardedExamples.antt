@@ -37,7 +37,7 @@ byte_loaded = Load U8 R0 (record { base = R2; offset = pos 0 })
 abbrev pub answered : Insn
 answered = Alu Full64 Mov R0 (Constant (pos 2))
 
--- the test leads to the last two instructions where the packet is empty
+-- the test goes to the last two instructions if the packet is empty
 abbrev pub to_answer : Insn
 to_answer = JumpIf (record { width = Full64; comparison = Greater; register = R4; operand = Register R3 }) (pos 2)
 

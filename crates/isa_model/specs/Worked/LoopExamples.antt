@@ -1,4 +1,4 @@
--- Worked examples of determined programs: loops whose counter stands on the stack.
+-- Worked examples of determined programs: loops whose counter is on the stack.
 use Rattle.std.specs.Prelude.{◌≡◌, ℕ, zero, suc, pos, negsuc, false, Some, [], ◌∷◌, refl}
 use Rattle.std.proofs.Common.{sym, ap, subst, arith}
 use Rattle.isa_model.specs.declared.versions.Version.TheVariants.{One}

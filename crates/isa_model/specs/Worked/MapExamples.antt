@@ -51,7 +51,8 @@ pub ten_commands : answers one_entry [] (delete_k ∷ update_k 2 ∷ update_k 0 
     ≡ 0xfffffffffffffffe ∷ 0xfffffffffffffffe ∷ 0 ∷ 0xffffffffffffffef ∷ 0xfffffffffffffff9 ∷ 0xfffffffffffffffe ∷ 0xffffffffffffffea ∷ 0 ∷ 0 ∷ 0 ∷ []
 ten_commands = refl
 
--- entries stand in the order of their keys' bytes, and a present key's value is written over
+-- entries are in the order of their keys' bytes, and the value of a key that is there is
+-- overwritten
 pub entries_in_order : left_by (record one_entry { key_size = 2; entries = 9 }) []
     (Update (1 ∷ 0 ∷ []) (5 ∷ []) 0 ∷ Update (0 ∷ 2 ∷ []) (6 ∷ []) 1 ∷ Update (0 ∷ 9 ∷ []) (7 ∷ []) 0 ∷ Update (0 ∷ 2 ∷ []) (8 ∷ []) 2 ∷ Delete (0 ∷ 9 ∷ []) ∷ [])
     ≡ (0 ∷ 2 ∷ [], 8 ∷ []) ∷ (1 ∷ 0 ∷ [], 5 ∷ []) ∷ []

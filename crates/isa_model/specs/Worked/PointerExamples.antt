@@ -70,7 +70,7 @@ pub other_operations : map (λ op. arithmetic op Full64 (packet (pos 0)) (Num 1)
     ≡ replicate 22 (Err BadPointer)
 other_operations = refl
 
--- a copy is whole, of every pointer, and there is none at 32 bits
+-- every pointer is copied whole at 64 bits, and none at 32 bits
 pub copies : map (λ r. arithmetic Mov Full64 (Num 1) (Ptr r (pos 4))) (moving ++ fixed) ≡ map (λ r. Ok (Ptr r (pos 4))) (moving ++ fixed)
 copies = refl
 

@@ -202,7 +202,7 @@ pub told_reason_goes_out : report_on (answers Two 0x700000001) (stream_magic Two
 unfolding frames_from opened stop_at turn progress start_state new_frame step act alu frame_pieces frame_line last_line head_bytes digits
 told_reason_goes_out = refl
 
--- on a stream without reasons it is not told
+-- on a stream without reasons it is not written
 pub no_reason_told : report_on (answers Two 0x700000001) (stream_magic One ++ head_of 3 ++ 170 ∷ 187 ∷ 204 ∷ [])
     ∷ out_on (answers Two 0x700000001) (stream_magic One ++ head_of 3 ++ 170 ∷ 187 ∷ 204 ∷ []) ∷ []
     ≡ codes "0 DROP 3 2\nend 1\n" ∷ codes "XPF1" ∷ []

@@ -66,7 +66,7 @@ record_read = refl
 abbrev pub head_of : ℕ → List ℕ
 head_of n = zeros 16 ++ little_bytes 4 n
 
--- a length over 4,096 counts as soon as the head is whole, whatever follows; 4,096 is none
+-- a length over 4,096 is a fault as soon as the head is whole, whatever follows; 4,096 is not
 pub lengths : map (λ n. stop_at One 0 4 (head_of n) ByEnd) (4096 ∷ 4097 ∷ 65536 ∷ 4294967295 ∷ [])
     ≡ Some (finish.Fault TruncatedBody 4) ∷ Some (finish.Fault TooLong 4) ∷ Some (finish.Fault TooLong 4) ∷ Some (finish.Fault TooLong 4) ∷ []
 unfolding stop_at

@@ -75,7 +75,7 @@ of_where A false h is = absurd (cc)
 
 -- ---- control flow
 
--- of the slot behind, where an instruction falls through, and of the target, where it jumps
+-- of the next slot, where an instruction falls through, and of the target, where it jumps
 abbrev pub fall_passes : (ℕ → Bool) → Bool → ℕ → Bool
 fall_passes test false next = true
 fall_passes test true next = test next

@@ -107,7 +107,7 @@ fn parts(rt: HostRuntime) -> Result<(), Fail> {
     Ok(())
 }
 
-/// The four limits of a set, and its number where it has one alone.
+/// The four limits of a set, and its number if it has only one.
 type Limits = (u64, u64, i64, i64, Option<u64>);
 
 const LIMITS: [(Pair, Limits); 4] = [

@@ -48,7 +48,7 @@ fn range_of(set: Set) -> Range {
     }
 }
 
-/// Limits, unsigned and then signed, and the number where there is one alone.
+/// Limits, unsigned and then signed, and the number if there is only one.
 type Limits = (u64, u64, i64, i64, Option<u64>);
 
 const LIMITS: [(Set, Limits); 8] = [
@@ -256,7 +256,7 @@ const COMMON: [(Set, Set, Option<Set>, bool); 6] = [
         false,
     ),
     (BYTE, Set::One(256), None, false),
-    // Each pair of limits takes up what the other shows.
+    // Each pair of limits is narrowed by the other.
     (BYTE, Set::Signed(-5, 10), Some(Set::Between(0, 10)), false),
     // Of the numbers with the sign bit none is left, and then not of those below 5.
     (

@@ -155,7 +155,7 @@ fn the_upper_half_shows_whole_limits(rt: HostRuntime) -> Result<(), Fail> {
     Ok(())
 }
 
-/// Comparisons with numbers, of which a low half of 5 goes the other way.
+/// Comparisons with numbers where a low half of 5 goes the other way.
 const NEVER: [(Comparison, bool, u64); 11] = [
     (Comparison::Equal, true, 6),
     (Comparison::NotEqual, true, 5),

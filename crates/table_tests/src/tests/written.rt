@@ -8,7 +8,7 @@ use std::io::{ErrorKind, Write};
 use std::test::Fail;
 use stumbling_io::{Stumble, Writer};
 
-/// What a writer answers in place of bytes, and the cause that is told.
+/// How a writer fails, and the cause that is reported.
 const STUMBLES: [(Stumble, ErrorKind); 3] = [
     (Stumble::Error(ErrorKind::BrokenPipe), ErrorKind::BrokenPipe),
     (

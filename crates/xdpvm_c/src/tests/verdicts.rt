@@ -89,7 +89,7 @@ fn verifies(rt: HostRuntime) {
     assert!(rt; answer == (2, 0, 1, REFUSED[2].2.len() - known.len()));
 }
 
-/// An image, a limit, and what is answered within it: `PASS` has two instructions, of which each is
+/// An image, a limit, and what is answered within it: `PASS` has two instructions, and each is
 /// explored once.
 const LIMITS: [(&[u8], u32, (u32, u32, usize, usize)); 6] = [
     (&PASS, 0, (1, 9, 9, 9)),

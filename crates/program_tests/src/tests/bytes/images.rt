@@ -30,12 +30,12 @@ const IMAGES: [(&[u8], &[Option<Insn>]); 2] = [
     (&WIDE, &WIDE_CODE),
 ];
 
-/// Why bytes are no image, if they are none.
+/// Why bytes are not an image, if they are not.
 pub fn refusal_of(alloc: Global, bytes: &[u8]) -> Option<ImageError> {
     Image::parse(alloc, bytes).err()
 }
 
-/// Why map rows and instructions are no image, if they are none.
+/// Why map rows and instructions are not an image, if they are not.
 fn refusal_of_parts(alloc: Global, maps: &[MapDef], insns: &[Insn]) -> Option<ImageError> {
     Image::of(alloc, Version::One, maps, insns).err()
 }

@@ -58,7 +58,7 @@ fn assert_spelled(rt: &impl Abort, insn: Insn, bytes: u64) {
     );
 }
 
-/// Why bytes are no instruction, if they are none.
+/// Why bytes are not an instruction, if they are not.
 pub fn refusal_of(bytes: &[u8]) -> Option<CodecError> {
     decoded(bytes).err()
 }

@@ -99,7 +99,7 @@ const CODES: [(&str, &[u8]); 50] = [
             5, 0, 1, 0, 0, 0, 0, 0, 0x95, 0, 0, 0, 0, 0, 0, 0, 0x95, 0, 0, 0, 0, 0, 0, 0,
         ],
     ),
-    // names stand for slots, also for the one after the last
+    // names mean slots, also the one after the last
     (
         "r0 = 1 ll\nexit: goto r0; r0: goto exit; goto r0",
         &[

@@ -2,8 +2,8 @@
 
 use lexer::{Lexeme, Sign, Token, Word, lexeme_at};
 
-/// What stands at the text's front, and its length; or "none", and the place of the byte that
-/// begins no token.
+/// What the text begins with, and its length; or "none", and the offset of the byte that begins no
+/// token.
 fn front_of(text: &[u8]) -> (&'static str, usize) {
     match lexeme_at(text) {
         Ok((Lexeme::Blank, length)) => ("blank", length),

@@ -56,7 +56,7 @@ const REFUSALS: [(&[u8], AsmErrorKind, usize, usize); 20] = [
     (b"version 2 2", NoForm, 1, 1),
     (b"version 3 3", NoForm, 1, 1),
     (b"exit; version two", NoForm, 1, 7),
-    // behind a label
+    // after a label
     (b"a: version 2", NoForm, 1, 1),
     (b"a: version 3", NoForm, 1, 1),
     // other statements

@@ -47,7 +47,7 @@ const WAYS: [(&str, &str, &str); 2] = [
 
 /// Of two finished states that cover one, the number of that which was stored first counts: the
 /// narrower one, after which there are fewer steps, or one after which there are more. Before them
-/// one was stored that does not cover it, of which the same bits are known as of the wider one.
+/// a state was stored that does not cover it and has the same known bits as the wider one.
 #[test]
 fn the_first_that_was_stored_counts(rt: HostRuntime) -> Result<(), Fail> {
     for (first, second, bound) in WAYS.iter() {

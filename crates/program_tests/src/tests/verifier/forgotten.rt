@@ -3,7 +3,7 @@
 use super::are_verdicts;
 use std::test::Fail;
 
-/// Twenty slots with one of two numbers each, of which none is read: 2^20 stacks, which are one.
+/// Twenty slots with one of two numbers each, none of which is read: 2^20 stacks become one.
 const NEVER_READ: &str = "r0 = 2
     r7 = *(u32 *)(r1 + 12); *(u64 *)(r10 - 8) = 0; if r7 == 0 goto +1; *(u64 *)(r10 - 8) = 1
     r7 = *(u32 *)(r1 + 12); *(u64 *)(r10 - 16) = 0; if r7 == 0 goto +1; *(u64 *)(r10 - 16) = 1
@@ -43,7 +43,7 @@ fn slots_that_some_path_reads_are_known(rt: HostRuntime) -> Result<(), Fail> {
                     *(u64 *)(r10 - 8) = r1; if r1 != 0 goto -4; r0 = 2; exit",
                 "ok 1203",
             ),
-            // one of two numbers, read behind the join, whole and in part
+            // one of two numbers, read after the join, whole and in part
             (
                 "version 2; r7 = *(u32 *)(r1 + 12); *(u64 *)(r10 - 8) = 1; if r7 == 0 goto +1; \
                     *(u64 *)(r10 - 8) = 2; r0 = *(u64 *)(r10 - 8); exit",
@@ -54,7 +54,7 @@ fn slots_that_some_path_reads_are_known(rt: HostRuntime) -> Result<(), Fail> {
                     r0 = *(u8 *)(r10 - 9); exit",
                 "ok 5",
             ),
-            // written in part behind the join, and read whole
+            // written in part after the join, and read whole
             (
                 "r7 = *(u32 *)(r1 + 12); *(u64 *)(r10 - 8) = 1; if r7 == 0 goto +0; \
                     *(u32 *)(r10 - 8) = 2; r0 = *(u64 *)(r10 - 8); exit",

@@ -39,7 +39,7 @@ fn accesses_stay_in_the_value(rt: HostRuntime) -> Result<(), Fail> {
                  r0 = *(u8 *)(r1 + 0); exit",
                 "ok 3",
             ),
-            // stores need no alignment, and store numbers alone
+            // stores need no alignment, and store numbers only
             (
                 "map array 4 9 1; r1 = map_val(map_by_idx(0)) + 1; *(u64 *)(r1 + 0) = 5; \
                  r0 = 2; exit",
@@ -55,7 +55,7 @@ fn accesses_stay_in_the_value(rt: HostRuntime) -> Result<(), Fail> {
                  r0 = 2; exit",
                 "V12 slot 2",
             ),
-            // a pointer to a map is none to its values
+            // a pointer to a map is not one to its values
             (
                 "map array 4 8 1; r1 = map_by_idx(0); r0 = *(u64 *)(r1 + 0); exit",
                 "V5 slot 2",

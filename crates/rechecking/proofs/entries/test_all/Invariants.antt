@@ -5,7 +5,7 @@ use Rattle.rechecking.specs.Checking.{AllFineBefore}
 use Rattle.rechecking.specs.Standing.{IsKnown}
 use Rattle.rechecking.proofs.entries.test_all.Given as goal
 
--- the entries before it are placed, and are fine, and what is known stands in its room
+-- the entries before it are placed and closed, and the known entry's state is in its room
 abbrev pub invariant-loop-index : goal.invariant-loop-index
 invariant-loop-index l = record {
   grows : Grows l.image l.fn.growing l.growing;

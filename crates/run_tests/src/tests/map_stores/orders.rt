@@ -43,7 +43,7 @@ const ROWS: [MapDef; 5] = [
 const ARRAY: usize = 4;
 
 /// For each hash map the first and last bytes of the keys that are put, and those in their order.
-/// What stands between is the same.
+/// The bytes between are the same.
 const KEYS: [(&[(u8, u8)], &[(u8, u8)]); 4] = [
     (
         &[(9, 9), (0, 0), (255, 255), (3, 3)],

@@ -1,4 +1,4 @@
-//! The stores, each alone and beside one another.
+//! The stores, each by itself and next to others.
 
 use super::answers::{E2BIG, EEXIST, EINVAL, ENOENT, answer, value_of};
 use maps::{ArrayMap, HashMapChain, HashMapScan};

@@ -13,7 +13,7 @@ const ONE: &[u8] = b"XPF1\0\0\0\0\0\0\0\0\0\0\0\0\0\0\0\0\0\0\0\0";
 
 const LINES: &[u8] = b"0 PASS 0 2\nend 1\n";
 
-// The room and the stumble of the report and of the frames out, which of them is told to have
+// How much the report and the frames out take and how they fail, which of them is reported to have
 // failed, and what both have.
 #[derive(Drop)]
 struct Case<'a> {

@@ -207,7 +207,7 @@ fn end_of_failure(length: usize) -> (u32, Option<(Fault, u64)>, &'static [u8]) {
     (frames, Some((Fault::ReadFailed, place)), lines)
 }
 
-// The magic and the records that are whole; the first version's magic where there is none.
+// The magic and the whole records; version 1's magic if there is none.
 fn whole_records(length: usize) -> &'static [u8] {
     match length {
         0..4 => b"XPF1",

@@ -1,4 +1,4 @@
-//! Streams that are cut, damaged or broken, from readers and to writers that stumble at each place.
+//! Streams that are cut, damaged or broken, from readers and to writers that fail at each byte.
 
 use frames::{FrameReader, Next, write_frame};
 use isa_model::{Fault, FrameHead};
@@ -40,7 +40,7 @@ fn stop_of<R: Read + Drop>(source: R) -> (u32, Next, Next) {
     (3, Next::End, Next::End)
 }
 
-// A reader of some bytes that stumbles after some of them.
+// A reader of some bytes that fails after some of them.
 fn reader(left: &[u8], step: usize, room: usize, stumble: Option<Stumble>) -> Reader<'_> {
     Reader {
         left,
@@ -96,7 +96,7 @@ fn stop_of_failure(length: usize) -> (u32, Next) {
     (count, Next::Fault(Fault::ReadFailed, offset))
 }
 
-// The errors among the stumbles.
+// The failures that are errors.
 const ERRORS: [Stumble; 2] = [
     Stumble::Error(ErrorKind::BrokenPipe),
     Stumble::Error(ErrorKind::Interrupted),
@@ -218,8 +218,7 @@ fn reads_records(rt: HostRuntime) -> Result<(), Fail> {
     Ok(())
 }
 
-// The bodies of 300 records have 0 to 5 bytes, 750 together, and after them stand 19 bytes of a
-// head.
+// The bodies of 300 records have 0 to 5 bytes, 750 together, and 19 bytes of a head follow them.
 fn many(alloc: Global) -> Result<Vec<u8>, Fail> {
     let mut bytes = b"XPF1".to_vec(alloc)?;
     for time in 0..300u64 {
@@ -298,7 +297,7 @@ const FRAME: Next = Next::Frame(
 
 type Begun = Result<u8, (Fault, u64)>;
 
-// A stream, what is said of its magic, what stands behind it, and what is said after that.
+// A stream, the answer for its magic, what follows it, and the answers after that.
 const BEGUN: [(&[u8], Begun, Next, Begun); 7] = [
     (b"XPF1", Ok(1), Next::End, Ok(1)),
     (b"XPF2", Ok(2), Next::End, Ok(2)),

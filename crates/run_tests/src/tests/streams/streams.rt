@@ -1,4 +1,4 @@
-//! Streams that small programs run on, into writers that stumble at each place.
+//! Streams that small programs run on, into writers that fail at each byte.
 
 use crate::tests::programs::image_of;
 use explorer::verify;
@@ -77,8 +77,8 @@ pub(super) fn checked<R: Read + Drop>(
     Ok(tally_in(run_checked(alloc, image, limit, frames, report, out)))
 }
 
-// The room and the stumble of either output, what a run answers that passes each frame, and what it
-// has written.
+// How much either output takes and how it fails, the answer of a run that passes each frame, and
+// what it has written.
 #[derive(Drop)]
 pub(super) struct Case<'a> {
     pub report: (usize, Option<Stumble>),

@@ -1,4 +1,4 @@
-//! Reads and writes in pieces of each size, that stumble at each place.
+//! Reads and writes in pieces of each size that fail at each byte.
 
 use exact_io::{Filled, fill, write_bytes};
 use std::io::ErrorKind;
@@ -18,7 +18,7 @@ fn failure_of_writing(writer: &mut Writer, bytes: &[u8]) -> Option<ErrorKind> {
     }
 }
 
-/// What a stumble after some of the bytes is told as.
+/// How a failure after some of the bytes is reported.
 fn told(stumble: Stumble) -> ErrorKind {
     match stumble {
         Stumble::Error(kind) => kind,
