@@ -31,7 +31,8 @@ VALUES = {
 # a value that is a limit in these forms only; {n} is the number
 FORMS = (
     (64, "slots of a call frame", (r"replicate {n}\b", r"Slot; {n}\]", r"0\.\.{n}\b", r"slot < {n}\b",
-                                   r"\bk < {n}\b", r"slots ≡ {n}\b")),
+                                   r"\bk < {n}\b", r"slots ≡ {n}\b", r"\bslot_in\b.*\b{n}\b",
+                                   r"\bblank_\w+ c\..*\b{n}\b")),
     (64, "bytes of a key", (r"\[u8; {n}\]", r"\[0; {n}\]", r"\[0u8; {n}\]", r"key_size ≤ {n}\b",
                             r"key_size <= {n}\b")),
     (8, "call frames", (r"frames\S* (?:<|≤|≡|<=|==) {n}\b", r"depth\S* (?:<|≤|≡|<=|==) {n}\b",

@@ -5,6 +5,7 @@ use Rattle.std.proofs.lemmas.List.{drop-drop, length-drop, drop_all}
 use Rattle.std.specs.Option.{option_map}
 use Rattle.byteorder.specs.Endian.{little_number}
 use Rattle.reg_state.specs.declared.kinds.Kind.TheVariants.{Number}
+use Rattle.stack_state.specs.Slots.{frame_slots}
 use Rattle.table_entries.specs.declared.stops.Stop.TheVariants.{Form}
 use Rattle.isa_model.specs.Code.Instructions.{Program}
 use Rattle.table_entries.specs.Deciding.{decide}
@@ -101,8 +102,8 @@ Leaves-frame rows holder outer bytes =
     (Leaves-then bytes (many (λ k. kind_in rows holder) 10 0 (drop 2 bytes)) _
     (Leaves-more bytes (drop 2 bytes) (many (λ k. kind_in rows holder) 10 0 (drop 2 bytes)) (2, refl)
     (Leaves-many (λ k. kind_in rows holder) (λ k b. Leaves-kind rows holder b) 10 0 (drop 2 bytes)))
-    (λ kinds rest. Leaves-then rest (many (λ k. slot_in rows holder) 64 0 rest) _
-    (Leaves-many (λ k. slot_in rows holder) (λ k b. Leaves-slot rows holder b) 64 0 rest) (λ slots after. (0, refl))))
+    (λ kinds rest. Leaves-then rest (many (λ k. slot_in rows holder) frame_slots 0 rest) _
+    (Leaves-many (λ k. slot_in rows holder) (λ k b. Leaves-slot rows holder b) frame_slots 0 rest) (λ slots after. (0, refl))))
 
 Leaves-named : (bytes : List ℕ) → Leaves bytes (named_in bytes)
 unfolding named_in

@@ -114,15 +114,16 @@ pub entry_at-before : (p : Program) (g h : Grown) (k : ℕ) → Grows p g h → 
 entry_at-before p g h k grows less =
     rw (grows.bytes, grows.places) (ap (option_and_then (entry_from p g.table.bytes)) (get-front g.table.places grows.more k less))
 
-none_past : (p : Program) (t : Kept) (k : ℕ) (e : Entry) → count_of t ≤ k → entry_at p t k ≡ Some e → ⊥
-none_past p t k e past there =
+-- past the last entry there is none
+pub no_entry_past : (p : Program) (t : Kept) (k : ℕ) (e : Entry) → count_of t ≤ k → entry_at p t k ≡ Some e → ⊥
+no_entry_past p t k e past there =
     let none : entry_at p t k ≡ None = ap (option_and_then (entry_from p t.bytes)) (slice_get_past t.places k past) in
     cc
 
 pub entry_at-stays : (p : Program) (g h : Grown) (k : ℕ) (e : Entry) → Grows p g h → entry_at p g.table k ≡ Some e → entry_at p h.table k ≡ Some e
 entry_at-stays p g h k e grows there = elim (cases_lt k (count_of g.table)) [
   | inl inside ↦ entry_at-before p g h k grows inside ∙ there
-  | inr past ↦ absurd (none_past p g.table k e past there)
+  | inr past ↦ absurd (no_entry_past p g.table k e past there)
 ]
 
 -- the one that was placed last
@@ -154,7 +155,7 @@ whole_read p g b all none =
 
 -- ---- entries that are there
 
-inside_some : (entries : List Entry) (k : ℕ) → k < length entries → IsSome (slice_get entries k)
+pub inside_some : (entries : List Entry) (k : ℕ) → k < length entries → IsSome (slice_get entries k)
 inside_some [] k lt = absurd (omega arith)
 inside_some (e ∷ entries) zero lt = refl
 inside_some (e ∷ entries) (suc k) lt = inside_some entries k (omega arith)

@@ -9,6 +9,7 @@ use Rattle.reg_state.specs.declared.kinds.Kind.{Kind}
 use Rattle.stack_state.specs.declared.slots.Slot.{Slot}
 use Rattle.stack_state.specs.declared.states.AbstractFrame.{AbstractFrame}
 use Rattle.stack_state.specs.declared.states.State.{State}
+use Rattle.stack_state.specs.Slots.{frame_slots}
 use Rattle.table_entries.specs.declared.entries.Named.{Named}
 use Rattle.table_entries.specs.declared.entries.Head.{Head}
 use Rattle.table_entries.specs.Reading.{kept, many}
@@ -35,7 +36,7 @@ frame_of-kept holder outer slot false kinds marks slots = refl
 -- the values and the slots of a frame are read
 pub frame_in-read : (rows holder : ℕ) (outer : Bool) (bytes : List ℕ) (values : Bool) (kinds : List Kind) (rest : List ℕ) (marks : Bool) (slots : List Slot) (after : List ℕ)
     → 2 ≤ length bytes → many (λ k. kind_in rows holder) 10 0 (drop 2 bytes) ≡ Ok (kept values kinds, rest)
-    → many (λ k. slot_in rows holder) 64 0 rest ≡ Ok (kept marks slots, after)
+    → many (λ k. slot_in rows holder) frame_slots 0 rest ≡ Ok (kept marks slots, after)
     → frame_in rows holder outer bytes
     ≡ Ok (kept ((values && marks) && frame_allowed holder outer (little_number 2 bytes) kinds) (record { return_slot = little_number 2 bytes; registers = kinds; stack = record { slots = slots } }), after)
 unfolding frame_in

@@ -8,6 +8,7 @@ use Rattle.isa_model.specs.Code.Instructions.{Program}
 use Rattle.reg_state.specs.declared.kinds.Kind.{Kind}
 use Rattle.stack_state.specs.declared.slots.Slot.{Slot}
 use Rattle.stack_state.specs.declared.states.AbstractFrame.{AbstractFrame}
+use Rattle.stack_state.specs.Slots.{frame_slots}
 use Rattle.table_entries.specs.declared.stops.Stop.{Stop}
 use Rattle.table_entries.specs.Reading.{Read, kept, seen, then_read, joined, many}
 use Rattle.table_entries.specs.Values.{kind_in, slot_in}
@@ -102,15 +103,15 @@ some-frame holder slot None slots = refl
 pub seen-frame : (rows holder : ℕ) (bytes : List ℕ) → 2 ≤ length bytes
     → seen (frame_in rows holder false bytes)
     ≡ then_seen (seen (many (λ k. kind_in rows holder) 10 0 (drop 2 bytes))) (λ values rest.
-    then_seen (seen (many (λ k. slot_in rows holder) 64 0 rest)) (λ slots after.
+    then_seen (seen (many (λ k. slot_in rows holder) frame_slots 0 rest)) (λ slots after.
     Ok ((values && slots) && (not (holder == 0) || little_number 2 bytes == 0), after)))
 unfolding frame_in
 seen-frame rows holder bytes long =
     rw (le-ltb (length bytes) 2 long)
     (seen-then (many (λ k. kind_in rows holder) 10 0 (drop 2 bytes)) _
-    (λ values rest. then_seen (seen (many (λ k. slot_in rows holder) 64 0 rest)) (λ slots after.
+    (λ values rest. then_seen (seen (many (λ k. slot_in rows holder) frame_slots 0 rest)) (λ slots after.
     Ok ((values && slots) && (not (holder == 0) || little_number 2 bytes == 0), after)))
-    (λ kinds rest. seen-then (many (λ k. slot_in rows holder) 64 0 rest) _
+    (λ kinds rest. seen-then (many (λ k. slot_in rows holder) frame_slots 0 rest) _
     (λ slots after. Ok ((is_some kinds && slots) && (not (holder == 0) || little_number 2 bytes == 0), after))
     (λ slots after. ap (λ (b : Bool). Ok (b, after)) (some-frame holder (little_number 2 bytes) kinds slots))))
 
@@ -125,12 +126,12 @@ some-kept holder slot outer false kinds slots = refl
 pub seen-caller : (rows holder : ℕ) (outer : Bool) (bytes : List ℕ) (values : Bool) (kinds : List Kind) (rest : List ℕ) → 2 ≤ length bytes
     → many (λ k. kind_in rows holder) 10 0 (drop 2 bytes) ≡ Ok (kept values kinds, rest)
     → seen (frame_in rows holder outer bytes)
-    ≡ then_seen (seen (many (λ k. slot_in rows holder) 64 0 rest)) (λ slots after.
+    ≡ then_seen (seen (many (λ k. slot_in rows holder) frame_slots 0 rest)) (λ slots after.
     Ok ((values && slots) && frame_allowed holder outer (little_number 2 bytes) kinds, after))
 unfolding frame_in
 seen-caller rows holder outer bytes values kinds rest long read =
     rw (le-ltb (length bytes) 2 long, read)
-    (seen-then (many (λ k. slot_in rows holder) 64 0 rest) _
+    (seen-then (many (λ k. slot_in rows holder) frame_slots 0 rest) _
     (λ slots after. Ok ((values && slots) && frame_allowed holder outer (little_number 2 bytes) kinds, after))
     (λ slots after. ap (λ (b : Bool). Ok (b, after)) (some-kept holder (little_number 2 bytes) outer values kinds slots)))
 

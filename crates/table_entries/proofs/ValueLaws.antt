@@ -7,7 +7,7 @@ use Rattle.known_bits.specs.declared.bits.Bits.{Bits}
 use Rattle.ranges.specs.declared.wide.Wide.{Wide}
 use Rattle.ranges.specs.declared.low.Low.{Low}
 use Rattle.table_entries.specs.Deciding.{decide, decide_less, decide_z}
-use Rattle.table_entries.specs.Values.{bits_when, bits_of, wide_when, wide_of, low_when, low_of, limits_when, limits_of}
+use Rattle.table_entries.specs.Values.{bits_when, bits_of, ordered_when, wide_with, wide_of, low_with, low_of, limits_when, limits_of}
 
 one_proof : (n m : ℕ) (p q : n ≡ m) → p ≡ q
 one_proof n m p q = let prop : IsProp (n ≡ m) = hlevel props in prop p q
@@ -38,43 +38,41 @@ bits_of-none v m out = of (cases_eq (bit_and v m) 0) (decide_less m (2 ^ 64)) wh
   of (inl apart) f = absurd (out apart)
   of (inr refuted) f = refl
 
+ordered_when-is : {X : Type 0} (l g : ℕ) (s t : ℤ) (make : l ≤ g → s ≤ℤ t → X) (o : l ≤ g) (p : s ≤ℤ t)
+    (a : (l ≤ g) ⊎ (l ≤ g → ⊥)) (b : (s ≤ℤ t) ⊎ (s ≤ℤ t → ⊥)) → ordered_when l g s t make a b ≡ Some (make o p)
+ordered_when-is l g s t make o p (inl first) (inl second) =
+    ap (λ (h : l ≤ g). Some (make h second)) (one_order l g first o)
+    ∙ ap (λ (h : s ≤ℤ t). Some (make o h)) (one_order_z s t second p)
+ordered_when-is l g s t make o p (inr out) b = absurd (out o)
+ordered_when-is l g s t make o p (inl first) (inr out) = absurd (out p)
+
+ordered_when-none : {X : Type 0} (l g : ℕ) (s t : ℤ) (make : l ≤ g → s ≤ℤ t → X) → (l ≤ g → s ≤ℤ t → ⊥)
+    → (a : (l ≤ g) ⊎ (l ≤ g → ⊥)) (b : (s ≤ℤ t) ⊎ (s ≤ℤ t → ⊥)) → ordered_when l g s t make a b ≡ None
+ordered_when-none l g s t make out (inl o) (inl p) = absurd (out o p)
+ordered_when-none l g s t make out (inr refuted) b = refl
+ordered_when-none l g s t make out (inl o) (inr refuted) = refl
+
 pub wide_of-is : (w : Wide) → wide_of w.least w.greatest w.signed_least w.signed_greatest ≡ Some w
 unfolding wide_of
-wide_of-is w = of (decide w.least w.greatest) (decide_z w.signed_least w.signed_greatest) where
-  of : (a : (w.least ≤ w.greatest) ⊎ (w.least ≤ w.greatest → ⊥)) (b : (w.signed_least ≤ℤ w.signed_greatest) ⊎ (w.signed_least ≤ℤ w.signed_greatest → ⊥))
-      → wide_when w.least w.greatest w.signed_least w.signed_greatest a b ≡ Some w
-  of (inl o) (inl p) =
-      ap (λ (h : w.least ≤ w.greatest). Some (record { least = w.least; greatest = w.greatest; signed_least = w.signed_least; signed_greatest = w.signed_greatest; ordered = h; signed_ordered = p })) (one_order w.least w.greatest o w.ordered)
-      ∙ ap (λ (h : w.signed_least ≤ℤ w.signed_greatest). Some (record { least = w.least; greatest = w.greatest; signed_least = w.signed_least; signed_greatest = w.signed_greatest; ordered = w.ordered; signed_ordered = h })) (one_order_z w.signed_least w.signed_greatest p w.signed_ordered)
-  of (inr out) b = absurd (out w.ordered)
-  of (inl o) (inr out) = absurd (out w.signed_ordered)
+wide_of-is w =
+    ordered_when-is w.least w.greatest w.signed_least w.signed_greatest
+    (wide_with w.least w.greatest w.signed_least w.signed_greatest) w.ordered w.signed_ordered
+    (decide w.least w.greatest) (decide_z w.signed_least w.signed_greatest)
 
 pub wide_of-none : (l g : ℕ) (s t : ℤ) → (l ≤ g → s ≤ℤ t → ⊥) → wide_of l g s t ≡ None
 unfolding wide_of
-wide_of-none l g s t out = of (decide l g) (decide_z s t) where
-  of : (a : (l ≤ g) ⊎ (l ≤ g → ⊥)) (b : (s ≤ℤ t) ⊎ (s ≤ℤ t → ⊥)) → wide_when l g s t a b ≡ None
-  of (inl o) (inl p) = absurd (out o p)
-  of (inr refuted) b = refl
-  of (inl o) (inr refuted) = refl
+wide_of-none l g s t out = ordered_when-none l g s t (wide_with l g s t) out (decide l g) (decide_z s t)
 
-pub low_of-is : (w : Low) → low_of w.least w.greatest w.signed_least w.signed_greatest ≡ Some w
+pub low_of-is : (l : Low) → low_of l.least l.greatest l.signed_least l.signed_greatest ≡ Some l
 unfolding low_of
-low_of-is w = of (decide w.least w.greatest) (decide_z w.signed_least w.signed_greatest) where
-  of : (a : (w.least ≤ w.greatest) ⊎ (w.least ≤ w.greatest → ⊥)) (b : (w.signed_least ≤ℤ w.signed_greatest) ⊎ (w.signed_least ≤ℤ w.signed_greatest → ⊥))
-      → low_when w.least w.greatest w.signed_least w.signed_greatest a b ≡ Some w
-  of (inl o) (inl p) =
-      ap (λ (h : w.least ≤ w.greatest). Some (record { least = w.least; greatest = w.greatest; signed_least = w.signed_least; signed_greatest = w.signed_greatest; ordered = h; signed_ordered = p })) (one_order w.least w.greatest o w.ordered)
-      ∙ ap (λ (h : w.signed_least ≤ℤ w.signed_greatest). Some (record { least = w.least; greatest = w.greatest; signed_least = w.signed_least; signed_greatest = w.signed_greatest; ordered = w.ordered; signed_ordered = h })) (one_order_z w.signed_least w.signed_greatest p w.signed_ordered)
-  of (inr out) b = absurd (out w.ordered)
-  of (inl o) (inr out) = absurd (out w.signed_ordered)
+low_of-is l =
+    ordered_when-is l.least l.greatest l.signed_least l.signed_greatest
+    (low_with l.least l.greatest l.signed_least l.signed_greatest) l.ordered l.signed_ordered
+    (decide l.least l.greatest) (decide_z l.signed_least l.signed_greatest)
 
 pub low_of-none : (l g : ℕ) (s t : ℤ) → (l ≤ g → s ≤ℤ t → ⊥) → low_of l g s t ≡ None
 unfolding low_of
-low_of-none l g s t out = of (decide l g) (decide_z s t) where
-  of : (a : (l ≤ g) ⊎ (l ≤ g → ⊥)) (b : (s ≤ℤ t) ⊎ (s ≤ℤ t → ⊥)) → low_when l g s t a b ≡ None
-  of (inl o) (inl p) = absurd (out o p)
-  of (inr refuted) b = refl
-  of (inl o) (inr refuted) = refl
+low_of-none l g s t out = ordered_when-none l g s t (low_with l g s t) out (decide l g) (decide_z s t)
 
 pub limits_of-some : (l g : ℤ) → l ≤ℤ g → limits_of l g ≡ Some (l, g)
 unfolding limits_of

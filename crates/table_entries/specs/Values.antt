@@ -35,20 +35,25 @@ bits_when v m a b = None
 unfoldable pub bits_of : ℕ → ℕ → Option Bits
 bits_of v m = bits_when v m (cases_eq (bit_and v m) 0) (decide_less m (2 ^ 64))
 
--- the limits, unless a least one is over its greatest
-abbrev pub wide_when : (l g : ℕ) (s t : ℤ) → (l ≤ g) ⊎ (l ≤ g → ⊥) → (s ≤ℤ t) ⊎ (s ≤ℤ t → ⊥) → Option Wide
-wide_when l g s t (inl o) (inl p) = Some (record { least = l; greatest = g; signed_least = s; signed_greatest = t; ordered = o; signed_ordered = p })
-wide_when l g s t a b = None
+-- what is made of the order of two pairs of limits, unless a least one is over its greatest
+abbrev pub ordered_when : {X : Type 0} (l g : ℕ) (s t : ℤ) → (l ≤ g → s ≤ℤ t → X)
+    → (l ≤ g) ⊎ (l ≤ g → ⊥) → (s ≤ℤ t) ⊎ (s ≤ℤ t → ⊥) → Option X
+ordered_when l g s t make (inl o) (inl p) = Some (make o p)
+ordered_when l g s t make a b = None
+
+abbrev pub wide_with : (l g : ℕ) (s t : ℤ) → l ≤ g → s ≤ℤ t → Wide
+wide_with l g s t o p =
+    record { least = l; greatest = g; signed_least = s; signed_greatest = t; ordered = o; signed_ordered = p }
 
 unfoldable pub wide_of : ℕ → ℕ → ℤ → ℤ → Option Wide
-wide_of l g s t = wide_when l g s t (decide l g) (decide_z s t)
+wide_of l g s t = ordered_when l g s t (wide_with l g s t) (decide l g) (decide_z s t)
 
-abbrev pub low_when : (l g : ℕ) (s t : ℤ) → (l ≤ g) ⊎ (l ≤ g → ⊥) → (s ≤ℤ t) ⊎ (s ≤ℤ t → ⊥) → Option Low
-low_when l g s t (inl o) (inl p) = Some (record { least = l; greatest = g; signed_least = s; signed_greatest = t; ordered = o; signed_ordered = p })
-low_when l g s t a b = None
+abbrev pub low_with : (l g : ℕ) (s t : ℤ) → l ≤ g → s ≤ℤ t → Low
+low_with l g s t o p =
+    record { least = l; greatest = g; signed_least = s; signed_greatest = t; ordered = o; signed_ordered = p }
 
 unfoldable pub low_of : ℕ → ℕ → ℤ → ℤ → Option Low
-low_of l g s t = low_when l g s t (decide l g) (decide_z s t)
+low_of l g s t = ordered_when l g s t (low_with l g s t) (decide l g) (decide_z s t)
 
 abbrev pub range_of : Option Wide → Option Low → Option Range
 range_of (Some w) (Some l) = Some (record { wide = w; low = l })

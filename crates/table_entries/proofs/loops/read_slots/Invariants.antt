@@ -1,4 +1,5 @@
 use Rattle.std.proofs.Common.{◌≡◌, ◌-◌, take, length}
+use Rattle.stack_state.specs.Slots.{frame_slots}
 use Rattle.table_entries.specs.Values.{slot_in}
 use Rattle.table_entries.specs.Reading.{many, kept}
 use Rattle.table_entries.proofs.Many.{with_front}
@@ -8,7 +9,7 @@ use Rattle.table_entries.proofs.loops.read_slots.Given as goal
 abbrev pub invariant-loop-index : goal.invariant-loop-index
 invariant-loop-index l =
     record {
-      so_far : with_front (kept l.allowed (take l.index l.slots)) (many (λ k. slot_in l.rows l.holder) (64 - l.index) l.index l.rest)
-          ≡ many (λ k. slot_in l.rows l.holder) 64 0 l.bytes;
-      long : length l.slots ≡ 64;
+      so_far : with_front (kept l.allowed (take l.index l.slots)) (many (λ k. slot_in l.rows l.holder) (frame_slots - l.index) l.index l.rest)
+          ≡ many (λ k. slot_in l.rows l.holder) frame_slots 0 l.bytes;
+      long : length l.slots ≡ frame_slots;
     }

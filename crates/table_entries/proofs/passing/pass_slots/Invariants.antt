@@ -1,4 +1,5 @@
 use Rattle.std.proofs.Common.{◌≡◌, ◌-◌}
+use Rattle.stack_state.specs.Slots.{frame_slots}
 use Rattle.table_entries.specs.Values.{slot_in}
 use Rattle.table_entries.specs.Reading.{many, seen}
 use Rattle.table_entries.proofs.Seen.{and_seen}
@@ -7,4 +8,4 @@ use Rattle.table_entries.proofs.passing.pass_slots.Given as goal
 -- what was passed over, and what is left
 abbrev pub invariant-loop-index : goal.invariant-loop-index
 invariant-loop-index l =
-    and_seen l.allowed (seen (many (λ k. slot_in l.rows l.holder) (64 - l.index) l.index l.rest)) ≡ seen (many (λ k. slot_in l.rows l.holder) 64 0 l.bytes)
+    and_seen l.allowed (seen (many (λ k. slot_in l.rows l.holder) (frame_slots - l.index) l.index l.rest)) ≡ seen (many (λ k. slot_in l.rows l.holder) frame_slots 0 l.bytes)
