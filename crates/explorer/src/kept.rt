@@ -1,12 +1,12 @@
 //! Abstract states, stored compactly.
 
 ghost use Rattle.std.specs.Prelude.{◌≡◌, IfOk, IsTrue};
-ghost use Rattle.state_index.specs.Parts.{AreParts};
+ghost use Rattle.state_index.specs.Parts.{AreBlank, AreParts};
 
 use crate::kept_frames::{KeptFrame, are_frames, keep_all, restore_all};
 use isa_model::FRAME_SIZE;
 use stack_state::{AbstractFrame, State};
-use state_index::{Fingerprints, Key, Limits, Part, take_parts};
+use state_index::{Fingerprints, Key, Limits, Part, take_parts, take_register_parts};
 use std::alloc::{AllocError, Global};
 use std::marker::Model;
 use std::rc::Rc;
@@ -91,6 +91,24 @@ impl Kept {
         ensures { IfOk result (λ kept. kept ≡ state.now) }
     {
         take_parts(room, &state.innermost)?;
+        Kept::of_parts(alloc, state, room, other)
+    }
+
+    /// The same for a state whose innermost stack may be blank: nothing is known of it.
+    pub(crate) fn of_forgotten(
+        alloc: Global,
+        state: &State,
+        is_blank: bool,
+        room: &mut Vec<Part>,
+        other: Option<&Kept>,
+    ) -> Result<Self, AllocError>
+        requires { IsTrue is_blank → AreBlank state.now.innermost.stack.slots }
+        ensures { IfOk result (λ kept. kept ≡ state.now) }
+    {
+        match is_blank {
+            true => take_register_parts(room, &state.innermost)?,
+            false => take_parts(room, &state.innermost)?,
+        }
         Kept::of_parts(alloc, state, room, other)
     }
 

@@ -8,6 +8,7 @@ ghost use Rattle.state_index.specs.Rooms.{HasRoom};
 ghost use Rattle.walks.specs.Counts.{HasNumber};
 ghost use Rattle.image.specs.Images.{IsImage};
 ghost use Rattle.control_flow.specs.Flows.{IsFlow, IsJoin};
+ghost use Rattle.walks.specs.Forgetting.{IsForgotten};
 ghost use Rattle.walks.specs.Refused.{StopsAt};
 ghost use Rattle.explorer.specs.Search.{Arrives, IsArrival, TurnsBack, IsNew, Comes, HasEnded, Moves, MovesOrEnds, Goes, IsFull};
 ghost use Rattle.explorer.specs.Listening.{Begins, BeginFails, Steps, StepFails, ComesBackAt, IfReturns, ReturnFails, IfRefused, IsToTell, FollowsTo, FollowsTurn, EndsIn};
@@ -24,7 +25,7 @@ use stack_state::State;
 use state_index::Part;
 use std::alloc::{AllocError, Global};
 use transfer::{Ways, step_in_place};
-use walks::{Refusal, forget_dead};
+use walks::{Refusal, forget_dead, forgets_stack};
 
 /// A search: the path from the start to the current state, and the states that were stored.
 #[derive(Drop)]
@@ -47,7 +48,8 @@ fn arrive(
     kept: Option<Kept>,
     scratch: &mut State,
 ) -> Result<Move, Refused>
-    requires { IfSome kept (λ s. s ≡ state.now) }
+    requires kept { IfSome kept (λ s. s ≡ state.now) }
+    requires forgotten { kept ≡ None → IsForgotten flow.now state.now }
     ensures arrives { IfOk result (λ made. Arrives flow.now stored.old.entries.items
         state.now made stored.new.entries.items) }
     ensures limits { IfOk result (λ made. made ≡ Move.New None → IsJoin flow.now state.now.slot
@@ -58,7 +60,8 @@ fn arrive(
     if !flow.is_join(state.slot) || stored.is_over {
         return Ok(Move::New(None));
     }
-    let Ok(()) = stored.turn_to(alloc, state, &kept) else {
+    let is_blank = forgets_stack(flow, state.slot);
+    let Ok(()) = stored.turn_to(alloc, state, &kept, is_blank) else {
         return Err(NO_MEMORY);
     };
     if let Some((place, number)) = stored.cover_of(state, scratch) {
@@ -97,6 +100,7 @@ impl Search {
     fn come(&mut self, alloc: Global, flow: &Flow<'_>, kept: Option<Kept>) -> Result<Move, Refused>
         requires comes { Comes flow.now self.old }
         requires kept { IfSome kept (λ s. s ≡ self.old.current) }
+        requires forgotten { kept ≡ None → IsForgotten flow.now self.old.current }
         ensures moves { IfOk result (λ made. Moves flow.now self.new made) }
         ensures arrival { IfOk result IsArrival }
         ensures stops { IfErr result (λ r. StopsAt flow.now r.0 r.1) }
@@ -168,7 +172,8 @@ impl Search {
             Ways::One => None,
             Ways::Two => {
                 forget_dead(flow, &mut self.scratch);
-                match Kept::of(alloc, &self.scratch, room, self.stored.last()) {
+                let blank = forgets_stack(flow, self.scratch.slot);
+                match Kept::of_forgotten(alloc, &self.scratch, blank, room, self.stored.last()) {
                     Ok(other) => Some(other),
                     Err(_) => return Err(NO_MEMORY),
                 }

@@ -2,7 +2,7 @@
 
 ghost use Rattle.std.specs.Prelude.{◌≡◌, ℕ, ◌<◌, ◌++◌, ◌∷◌, [], Some, None, length, IsTrue, IfSome, IfOk, OnOk, OnErr};
 ghost use Rattle.stack_state.specs.declared.states.State.{State as TheState};
-ghost use Rattle.state_index.specs.Parts.{AreParts};
+ghost use Rattle.state_index.specs.Parts.{AreBlank, AreParts};
 ghost use Rattle.state_index.specs.Rooms.{HasRoom};
 ghost use Rattle.explorer.specs.StoredStates.{IsStored, IsCovered, IsRepeated, StoredAt, IsNumbered};
 
@@ -123,13 +123,16 @@ impl StoredStates {
         Ok(rows)
     }
 
-    /// Takes a state to be looked up and stored next. It may have been kept already.
+    /// Takes a state to be looked up and stored next. It may have been kept already. Nothing
+    /// may be known of its innermost stack.
     pub fn turn_to(
         &mut self,
         alloc: Global,
         state: &State,
         kept: &Option<Kept>,
+        is_blank: bool,
     ) -> Result<(), AllocError>
+        requires { kept.now ≡ None → IsTrue is_blank → AreBlank state.now.innermost.stack.slots }
         ensures same { self.new.entries.items ≡ self.old.entries.items }
         ensures drawn { OnOk result (kept.now ≡ None
             → AreParts self.new.key.parts.items state.now.innermost) }
@@ -144,7 +147,7 @@ impl StoredStates {
         self.effort.spend(callers.saturating_mul(CALLER_READINGS));
         self.key.has_limits = self.index.has_trees();
         match kept {
-            None => self.key.take(state),
+            None => self.key.take(state, is_blank),
             Some(kept) => kept.put_key(&mut self.key),
         }
     }

@@ -14,7 +14,7 @@ use Rattle.stack_state.specs.Meaning.{kind_at}
 use Rattle.stack_state.specs.Slots.{slot_at, frame_slots}
 use Rattle.state_index.specs.declared.parts.Part.{Part}
 use Rattle.state_index.specs.declared.parts.Part.TheVariants.{InRegister, InSlot}
-use Rattle.state_index.specs.Parts.{register_part, slot_part, register_parts, slot_parts, parts_of, IsPartOf, unset_frame, written, all_written}
+use Rattle.state_index.specs.Parts.{register_part, slot_part, register_parts, slot_parts, parts_of, AreBlank, IsPartOf, unset_frame, written, all_written}
 
 -- ---- one part more
 
@@ -43,6 +43,48 @@ slot_parts-more now new all ts i d inside pushed before =
     ∙ ap (λ l. now ++ (option_to_list (slot_part i t) ++ slot_parts (i + 1) l)) next
     ∙ ap (λ l. now ++ slot_parts i l) (sym there)
     ∙ before
+
+-- a slot of which nothing is known has no part
+slot_parts-skip : (now all : List Part) (ts : List Slot) (i : ℕ) → i < length ts
+    → slot_at ts i ≡ Written 0 → now ++ slot_parts i (drop i ts) ≡ all
+    → now ++ slot_parts (i + 1) (drop (i + 1) ts) ≡ all
+slot_parts-skip now all ts i inside blank before =
+    let none : option_to_list (slot_part i (get_or ts i (Written 0))) ≡ [] =
+    ap (λ (t : Slot). option_to_list (slot_part i t)) blank in
+    slot_parts-more now now all ts i (Written 0) inside
+    (sym (append-nil now) ∙ ap (λ l. now ++ l) (sym none)) before
+
+-- nor have some of them in a row
+pub slot_parts-skip_all : (now all : List Part) (ts : List Slot) (i n : ℕ) → i + n ≤ length ts
+    → ((j : ℕ) → i ≤ j → j < i + n → slot_at ts j ≡ Written 0)
+    → now ++ slot_parts i (drop i ts) ≡ all
+    → now ++ slot_parts (i + n) (drop (i + n) ts) ≡ all
+slot_parts-skip_all now all ts i zero inside blank before =
+    let same : i + 0 ≡ i = omega arith in
+    ap (λ m. now ++ slot_parts m (drop m ts)) same ∙ before
+slot_parts-skip_all now all ts i (suc n) inside blank before =
+    let shorter = slot_parts-skip_all now all ts i n (omega arith) (λ j from to. blank j from (omega arith)) before in
+    let same : i + suc n ≡ i + n + 1 = omega arith in
+    ap (λ m. now ++ slot_parts m (drop m ts)) same
+    ∙ slot_parts-skip now all ts (i + n) (omega arith) (blank (i + n) (omega arith) (omega arith)) shorter
+
+-- as far as n, or as m, which is n
+pub slot_parts-from : (now all : List Part) (ts : List Slot) (n m : ℕ) → m ≡ n
+    → now ++ slot_parts n (drop n ts) ≡ all → now ++ slot_parts m (drop m ts) ≡ all
+slot_parts-from now all ts n m same before = ap (λ k. now ++ slot_parts k (drop k ts)) same ∙ before
+
+-- slots of which nothing is known have no parts
+slot_parts-blank : (ts : List Slot) (n : ℕ)
+    → ((j : ℕ) → j < length ts → get_or ts j (Written 0) ≡ Written 0) → slot_parts n ts ≡ []
+slot_parts-blank [] n blank = refl
+slot_parts-blank (t ∷ ts) n blank =
+    let first : t ≡ Written 0 = blank zero (omega arith) in
+    ap (λ (x : Slot). option_to_list (slot_part n x) ++ slot_parts (n + 1) ts) first
+    ∙ slot_parts-blank ts (n + 1) (λ j below. blank (suc j) (omega arith))
+
+pub blank_parts : (f : AbstractFrame) → AreBlank f.stack.slots → slot_parts 0 f.stack.slots ≡ []
+blank_parts f blank =
+    slot_parts-blank f.stack.slots 0 (λ j below. blank.1 j (omega (arith, blank.0)))
 
 pub register_parts-all : (now all : List Part) (ks : List Kind) (n : ℕ) → length ks ≤ n → now ++ register_parts n (drop n ks) ≡ all → now ≡ all
 register_parts-all now all ks n over h = sym (append-nil now) ∙ ap (λ l. now ++ register_parts n l) (sym (drop_all n ks over)) ∙ h

@@ -1,5 +1,5 @@
 -- Frames as what is known of them, place by place.
-use Rattle.std.specs.Prelude.{◌≡◌, ℕ, ◌+◌, ◌==◌, List, [], ◌∷◌, ◌++◌, length, replicate, slice_set, Option, Some, None, option_to_list, if◌then◌else◌}
+use Rattle.std.specs.Prelude.{◌≡◌, ℕ, ◌+◌, ◌<◌, ◌==◌, List, [], ◌∷◌, ◌++◌, length, replicate, slice_set, Option, Some, None, option_to_list, if◌then◌else◌}
 use Rattle.reg_state.specs.declared.kinds.Kind.{Kind}
 use Rattle.reg_state.specs.declared.kinds.Kind.TheVariants.{Unset}
 use Rattle.stack_state.specs.declared.slots.Slot.{Slot}
@@ -41,6 +41,10 @@ pub record AreParts (parts : List Part) (f : AbstractFrame) : Type 0 where
   pub all : parts ≡ parts_of f
   pub ten : length f.registers ≡ 10
   pub wide : length f.stack.slots ≡ frame_slots
+
+-- nothing is known of the slots of a stack
+abbrev pub AreBlank : List Slot → Type 0
+AreBlank slots = (length slots ≡ frame_slots) × ((j : ℕ) → j < 64 → slot_at slots j ≡ Written 0)
 
 -- what is known there in the frame
 abbrev pub IsPartOf : AbstractFrame → Part → Type 0

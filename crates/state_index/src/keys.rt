@@ -1,11 +1,11 @@
 //! What a state is looked up by.
 
-ghost use Rattle.std.specs.Prelude.{◌≡◌, OnOk};
-ghost use Rattle.state_index.specs.Parts.{AreParts};
+ghost use Rattle.std.specs.Prelude.{◌≡◌, OnOk, IsTrue};
+ghost use Rattle.state_index.specs.Parts.{AreBlank, AreParts};
 
 use crate::fingerprints::Fingerprints;
 use crate::limits::{Limits, add_limits};
-use crate::parts::{Part, take_parts};
+use crate::parts::{Part, take_parts, take_register_parts};
 use stack_state::{FRAME_SLOTS, State};
 use std::alloc::{AllocError, Global};
 
@@ -37,14 +37,18 @@ impl Key {
         })
     }
 
-    /// Becomes the key of the state.
-    pub fn take(&mut self, state: &State) -> Result<(), AllocError>
+    /// Becomes the key of the state, of whose innermost stack nothing may be known.
+    pub fn take(&mut self, state: &State, is_blank: bool) -> Result<(), AllocError>
+        requires { IsTrue is_blank → AreBlank state.now.innermost.stack.slots }
         ensures { OnOk result (AreParts self.new.parts.items state.now.innermost) }
     {
         if self.is_sought {
             self.take_callers(state)?;
         }
-        take_parts(&mut self.parts, &state.innermost)?;
+        match is_blank {
+            true => take_register_parts(&mut self.parts, &state.innermost)?,
+            false => take_parts(&mut self.parts, &state.innermost)?,
+        }
         if self.is_sought {
             self.add_innermost(state)?;
         }

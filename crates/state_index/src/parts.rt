@@ -1,8 +1,8 @@
 //! What is known of a frame, place by place.
 
-ghost use Rattle.std.specs.Prelude.{◌≡◌, ◌++◌, OnOk, IsTrue, length, slice_set, option_to_list};
-ghost use Rattle.stack_state.specs.Slots.{frame_slots};
-ghost use Rattle.state_index.specs.Parts.{register_part, slot_part, register_parts, slot_parts, AreParts, written, IsPartOf};
+ghost use Rattle.std.specs.Prelude.{◌≡◌, ℕ, ◌+◌, ◌*◌, ◌<◌, ◌≤◌, ◌++◌, OnOk, IsTrue, length, slice_set, option_to_list};
+ghost use Rattle.stack_state.specs.Slots.{frame_slots, slot_at};
+ghost use Rattle.state_index.specs.Parts.{register_part, slot_part, register_parts, slot_parts, AreParts, AreBlank, written, IsPartOf};
 
 use reg_state::{Domain, Kind};
 use stack_state::{AbstractFrame, FRAME_SLOTS, Slot};
@@ -57,13 +57,34 @@ fn push_registers(parts: &mut Vec<Part>, registers: &[Kind; 10]) -> Result<(), A
     Ok(())
 }
 
-/// Appends the slots about which something is known.
+/// Whether nothing is known of eight slots, from a multiple of eight on.
+#[inline(always)]
+fn are_blank(slots: &[Slot; FRAME_SLOTS], block: usize) -> bool
+    requires { block < 8 }
+    ensures { IsTrue result → (j : ℕ) → 8 * block ≤ j → j < 8 * block + 8
+        → slot_at slots.now j ≡ Slot.Written 0 }
+{
+    for place in 0..8 {
+        let Slot::Written(0) = &slots[8 * block + place] else {
+            return false;
+        };
+    }
+    true
+}
+
+/// Appends the slots about which something is known. Most often nothing is known of
+/// eight in a row, which are skipped.
 fn push_slots(parts: &mut Vec<Part>, slots: &[Slot; FRAME_SLOTS]) -> Result<(), AllocError>
     ensures pushed { OnOk result (parts.new.items ≡ parts.old.items ++ slot_parts 0 slots.now) }
     ensures wide { length slots.now ≡ frame_slots }
 {
-    for index in 0..FRAME_SLOTS {
-        push_slot(parts, index as u8, &slots[index])?;
+    for block in 0..FRAME_SLOTS / 8 {
+        if !are_blank(slots, block) {
+            for place in 0..8 {
+                let index = 8 * block + place;
+                push_slot(parts, index as u8, &slots[index])?;
+            }
+        }
     }
     Ok(())
 }
@@ -75,6 +96,16 @@ pub fn take_parts(parts: &mut Vec<Part>, frame: &AbstractFrame) -> Result<(), Al
     parts.clear();
     push_registers(parts, &frame.registers)?;
     push_slots(parts, &frame.stack.slots)?;
+    Ok(())
+}
+
+/// The same of a frame of whose stack nothing is known.
+pub fn take_register_parts(parts: &mut Vec<Part>, frame: &AbstractFrame) -> Result<(), AllocError>
+    requires { AreBlank frame.now.stack.slots }
+    ensures { OnOk result (AreParts parts.new.items frame.now) }
+{
+    parts.clear();
+    push_registers(parts, &frame.registers)?;
     Ok(())
 }
 

@@ -33,7 +33,7 @@ use Rattle.transfer.specs.declared.Ways.{Ways}
 use Rattle.transfer.specs.declared.Ways.TheVariants as ways
 use Rattle.transfer.specs.Leading.{LeadsTo, InSome}
 use Rattle.transfer.specs.Following.{returns_of, GoesOnTo}
-use Rattle.walks.specs.Forgetting.{IsKept, AreKept, IsSlotKept, AreSlotsKept, slots_in, Forgets}
+use Rattle.walks.specs.Forgetting.{IsKept, AreKept, IsSlotDeadAt, IsSlotKept, AreSlotsKept, slots_in, Forgets, IsForgotten}
 use Rattle.walks.specs.Counts.{AreForgotten}
 use Rattle.walks.proofs.OnNumbers.{below_ten}
 
@@ -177,6 +177,16 @@ GoesOnTo-forgets p s a b f (inr (inr h)) = inr (inr (record {
   here = h.here;
   returns = h.returns ∙ ap (λ (rs : List ℕ). rs ++ a.slot ∷ []) (sym (Forgets-returns p a b f)) ∙ ap (λ (n : ℕ). returns_of b ++ n ∷ []) (sym (Forgets-slot p a b f));
 }))
+
+-- nothing is known of dead slots of the stack
+pub Forgets-forgotten : (p : Program) (a b : State) → Forgets p a b → IsForgotten p b
+Forgets-forgotten p a b f = (
+  f.slots.all,
+  λ j below dead. elim (f.slots.each j below) [
+    | inl kept ↦ absurd (kept.0 (subst (λ (n : ℕ). IsSlotDeadAt p n j) (Forgets-slot p a b f) dead))
+    | inr gone ↦ gone.1
+  ],
+)
 
 -- ---- the loop
 

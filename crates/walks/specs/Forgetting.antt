@@ -49,3 +49,7 @@ pub record Forgets (p : Program) (a b : State) : Type 0 where
   pub rest : b ≡ record a { innermost = record a.innermost { registers = registers_of b; stack = record { slots = slots_in b } } }
   pub registers : AreKept p a.slot (registers_of a) (registers_of b)
   pub slots : AreSlotsKept p a.slot (slots_in a) (slots_in b)
+
+-- the state is as a path comes to it: nothing is known of slots of the stack that are dead there
+abbrev pub IsForgotten : Program → State → Type 0
+IsForgotten p s = (length (slots_in s) ≡ 64) × ((j : ℕ) → j < 64 → IsSlotDeadAt p s.slot j → slot_at (slots_in s) j ≡ Written 0)

@@ -1,8 +1,8 @@
 //! What is forgotten of a state when a path reaches it.
 
-ghost use Rattle.std.specs.Prelude.{◌≡◌, replicate};
+ghost use Rattle.std.specs.Prelude.{◌≡◌, ℕ, ◌<◌, IsTrue, replicate};
 ghost use Rattle.stack_state.specs.Slots.{frame_slots};
-ghost use Rattle.walks.specs.Forgetting.{AreKept, AreSlotsKept, Forgets};
+ghost use Rattle.walks.specs.Forgetting.{AreKept, AreSlotsKept, Forgets, IsSlotDeadAt};
 
 use control_flow::Flow;
 use isa_model::Reg;
@@ -96,4 +96,15 @@ pub fn forget_dead(flow: &Flow<'_>, state: &mut State)
 {
     forget_registers(flow, state.slot, &mut state.innermost.registers);
     forget_slots(flow, state.slot, &mut state.innermost.stack.slots);
+}
+
+/// Whether all slots of the innermost frame's stack are forgotten where a path comes to a slot of
+/// the code.
+pub fn forgets_stack(flow: &Flow<'_>, slot: usize) -> bool
+    ensures { IsTrue result → (j : ℕ) → j < 64 → IsSlotDeadAt flow.now slot j }
+{
+    if !flow.is_join(slot) {
+        return false;
+    }
+    flow.live_slots(slot).is_empty()
 }

@@ -9,5 +9,5 @@
 pub mod forgetting;
 pub mod refusals;
 
-pub use forgetting::{clear_slots, forget_dead};
+pub use forgetting::{clear_slots, forget_dead, forgets_stack};
 pub use refusals::Refusal;

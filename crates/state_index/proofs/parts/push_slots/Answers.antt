@@ -1,12 +1,36 @@
-use Rattle.std.proofs.Common.{arith}
-use Rattle.state_index.proofs.PartLaws.{slot_parts-more, slot_parts-all}
+use Rattle.std.proofs.Common.{ℕ, ◌+◌, ◌*◌, arith}
+use Rattle.state_index.proofs.PartLaws.{slot_parts-more, slot_parts-all, slot_parts-from, slot_parts-skip_all}
 use Rattle.state_index.proofs.parts.push_slots.Goals as goal
+use Rattle.state_index.proofs.parts.push_slots.Goals.{then-not-are_blank+else-loop-place-test, else-not-are_blank}
 
-pub loop-index-preserved : goal.loop-index-preserved
-loop-index-preserved c =
-    slot_parts-more c.loop-index.parts.items c.push_slot.new.parts.items _ c.args.slots.now c.loop-index.index c.index-slots-index.result
-    (omega arith) c.in_ok-push_slot.ensures c.loop-index.invariant
+pub loop-place-preserved : goal.loop-place-preserved
+loop-place-preserved c =
+    let b : ℕ = c.loop-block.block in
+    let k : ℕ = c.loop-place.place in
+    slot_parts-from c.push_slot.new.parts.items _ c.args.slots.now (8 * b + k + 1) (8 * b + (k + 1)) (omega arith)
+    (slot_parts-more c.loop-place.parts.items c.push_slot.new.parts.items _ c.args.slots.now (8 * b + k) c.index-slots-index.result
+    (omega arith) c.in_ok-push_slot.ensures c.loop-place.invariant)
+
+pub loop-place-init : goal.loop-place-init
+loop-place-init c =
+    let b : ℕ = c.loop-block.block in
+    slot_parts-from c.loop-block.parts.items _ c.args.slots.now (8 * b) (8 * b + 0) (omega arith) c.loop-block.invariant
 
 pub returns-clause-pushed : goal.returns-clause-pushed
 returns-clause-pushed c =
-    slot_parts-all c.loop-index.parts.items _ c.args.slots.now c.loop-index.index (omega arith) c.loop-index.invariant
+    slot_parts-all c.loop-block.parts.items _ c.args.slots.now (8 * c.loop-block.block) (omega arith) c.loop-block.invariant
+
+pub loop-block-preserved : goal.loop-block-preserved
+loop-block-preserved c =
+    let ts = c.args.slots.now in
+    let b : ℕ = c.loop-block.block in
+    elim c.if-not-are_blank.branch [
+      | then-not-are_blank+else-loop-place-test w ↦
+          let k : ℕ = w.loop-place.place in
+          rw w.parts-is
+          (slot_parts-from w.loop-place.parts.items _ ts (8 * b + k) (8 * (b + 1)) (omega arith) w.loop-place.invariant)
+      | else-not-are_blank w ↦
+          rw w.parts-is
+          (slot_parts-from c.loop-block.parts.items _ ts (8 * b + 8) (8 * (b + 1)) (omega arith)
+          (slot_parts-skip_all c.loop-block.parts.items _ ts (8 * b) 8 (omega arith) (c.are_blank.ensures w.if-not-are_blank.false) c.loop-block.invariant))
+    ]

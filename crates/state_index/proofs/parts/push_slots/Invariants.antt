@@ -1,8 +1,15 @@
-use Rattle.std.proofs.Common.{◌≡◌, ◌++◌, drop}
+use Rattle.std.proofs.Common.{◌≡◌, ℕ, ◌+◌, ◌*◌, ◌++◌, List, drop}
+use Rattle.stack_state.specs.declared.slots.Slot.{Slot}
+use Rattle.state_index.specs.declared.parts.Part.{Part}
 use Rattle.state_index.specs.Parts.{slot_parts}
 use Rattle.state_index.proofs.parts.push_slots.Given as goal
 
--- the parts of the slots from here on are still missing
-abbrev pub invariant-loop-index : goal.invariant-loop-index
-invariant-loop-index l =
-    l.parts.items ++ slot_parts l.index (drop l.index l.slots) ≡ l.initial.parts.items ++ slot_parts 0 l.slots
+-- the parts of the slots from the nth on are still missing
+abbrev pub ArePushed : ℕ → List Slot → List Part → List Part → Type 0
+ArePushed n slots before parts = parts ++ slot_parts n (drop n slots) ≡ before ++ slot_parts 0 slots
+
+abbrev pub invariant-loop-block : goal.invariant-loop-block
+invariant-loop-block l = ArePushed (8 * l.block) l.slots l.fn.parts.items l.parts.items
+
+abbrev pub invariant-loop-place : goal.invariant-loop-place
+invariant-loop-place l = ArePushed (8 * l.block + l.place) l.slots l.fn.parts.items l.parts.items

@@ -1,6 +1,7 @@
 use Rattle.std.proofs.Common.{◌+◌, List, arith, refl, length, ap, subst}
 use Rattle.explorer.specs.declared.trail.Visit.{Visit}
 use Rattle.walks.specs.Forgetting.{Forgets}
+use Rattle.walks.proofs.Forgotten.{Forgets-forgotten}
 use Rattle.explorer.proofs.Counting.{CountsTo-here}
 use Rattle.explorer.proofs.Paths.{Path-here}
 use Rattle.explorer.proofs.Unfinished.{OnPath-start}
@@ -22,3 +23,7 @@ come-requires-clause-comes c =
       spent = CountsTo-here p path s s (search.finished + length path) new.path refl (omega (arith, new.finished, ap (λ (x : List Visit). length x) new.path));
       ready = starts_ready p p s refl c.requires.whole begins;
     }
+
+pub come-requires-clause-forgotten : goal.come-requires-clause-forgotten
+come-requires-clause-forgotten c = λ new.
+    Forgets-forgotten c.args.flow.now c.args.self.now.current c.forget_dead.new.state c.forget_dead.ensures

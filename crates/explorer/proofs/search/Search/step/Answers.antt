@@ -9,13 +9,14 @@ use Rattle.explorer.specs.declared.trail.Visit.{Visit}
 use Rattle.explorer.specs.Trail.{Visits}
 use Rattle.walks.specs.Walks.{StepsTo}
 use Rattle.walks.specs.Forgetting.{Forgets}
+use Rattle.walks.proofs.Forgotten.{Forgets-forgotten}
 use Rattle.walks.specs.Counts.{ItsOwn}
 use Rattle.explorer.proofs.Counting.{spent_here}
 use Rattle.explorer.proofs.Walking.{Path-walks, into_by}
 use Rattle.explorer.proofs.Steps.{Entered, fetched, one_way, two_ways, comes_into, step_ends}
 use Rattle.explorer.proofs.Telling.{steps_by_arrival, step_fails}
 use Rattle.explorer.proofs.search.Search.step.Goals as goal
-use Rattle.explorer.proofs.search.Search.step.Goals.{After-push, in-One, in-Two+in-Ok-of}
+use Rattle.explorer.proofs.search.Search.step.Goals.{After-push, in-One, in-Two+in-Ok-of_forgotten}
 
 pub returns-in-Err-clause-stops : goal.returns-in-Err-clause-stops
 returns-in-Err-clause-stops c =
@@ -80,17 +81,17 @@ entered_of c =
           let forgets : Forgets p a first = subst (λ (x : Search). Forgets p x.current first) w.self-is c.forget_dead-2.ensures in
           one_way p q m entries c.args.stored s a b first c.in-Ok.ways pending
           c.requires.image c.requires.good at.ready at.stored_at c.in-Ok.ensures.leads c.in-Ok.ensures.steps c.in-Ok.ensures.follows forgets w.in-One.is w.pending-is
-      | in-Two+in-Ok-of w ↦
+      | in-Two+in-Ok-of_forgotten w ↦
           let other = w.forget_dead.new.state in
           let forgets : Forgets p a first = subst (λ (x : Search). Forgets p x.current first) w.self-is c.forget_dead-2.ensures in
           two_ways p q m entries c.args.stored s a b first other c.in-Ok.ways pending
-          c.requires.image c.requires.good at.ready at.stored_at c.in-Ok.ensures.leads c.in-Ok.ensures.steps c.in-Ok.ensures.follows forgets w.forget_dead.ensures w.in-Two.is (w.pending-is ∙ ap Some w.in-Ok-of.ensures)
+          c.requires.image c.requires.good at.ready at.stored_at c.in-Ok.ensures.leads c.in-Ok.ensures.steps c.in-Ok.ensures.follows forgets w.forget_dead.ensures w.in-Two.is (w.pending-is ∙ ap Some w.in-Ok-of_forgotten.ensures)
     ]
 
 search_of : (c : After-push) → (scratch : State) × (c.match-ways.self ≡ record c.args.self.now { current = c.step_in_place.new.state; scratch = scratch })
 search_of c = elim c.match-ways.branch [
   | in-One w ↦ (c.step_in_place.new.other, w.self-is)
-  | in-Two+in-Ok-of w ↦ (w.forget_dead.new.state, w.self-is)
+  | in-Two+in-Ok-of_forgotten w ↦ (w.forget_dead.new.state, w.self-is)
 ]
 
 pub come-requires-clause-comes : goal.come-requires-clause-comes
@@ -99,6 +100,15 @@ come-requires-clause-comes c =
     let (scratch, same) = search_of w in
     comes_into c.args.flow.now c.args.self.now c.match-ways.self c.args.stored c.match-ways.pending c.push.new.self c.step_in_place.new.state scratch c.forget_dead-2.new.state same c.requires.at
     (entered_of w) c.in-Ok-push.ensures.items
+
+pub of_forgotten-requires : goal.of_forgotten-requires
+of_forgotten-requires c = λ yes.
+    let forgotten = Forgets-forgotten c.args.flow.now c.step_in_place.new.other c.forget_dead.new.state c.forget_dead.ensures in
+    (forgotten.0, λ j below. forgotten.1 j below (c.forgets_stack-blank.ensures yes j below))
+
+pub come-requires-clause-forgotten : goal.come-requires-clause-forgotten
+come-requires-clause-forgotten c = λ new.
+    Forgets-forgotten c.args.flow.now c.match-ways.self.current c.forget_dead-2.new.state c.forget_dead-2.ensures
 
 pub returns-in_err-made-clause-fails : goal.returns-in_err-made-clause-fails
 returns-in_err-made-clause-fails c =
