@@ -254,7 +254,8 @@ def parts(chance):
     at = chance.choice(range(-8, 0, SIZES[size]))
     other = chance.choice(["u8", "u16", "u32"])
     over = chance.choice(range(-8, 0, SIZES[other]))
-    lines += chance.choice([[], [], [], [f"*({other} *)(r10 - {-over}) = r3"], ["r4 = 1", "lock *(u64 *)(r10 - 8) += r4"]])
+    store = f"*({other} *)(r10 - {-over}) = r3"
+    lines += chance.choice([[], [], [], [store], ["r3 &= 15", store], ["r4 = 1", "lock *(u64 *)(r10 - 8) += r4"]])
     lines += [f"r2 = *({size} *)(r10 - {-at})"]
     if size != "u64":
         lines += chance.choice([[], [], [f"r2 = *(s{size[1:]} *)(r10 - {-at})"]])

@@ -46,6 +46,7 @@ returns-with_frame_slots a j slots inside =
 
 returns-left : (a b : State) (frame at : ℕ) (size : Size) (source : Kind) → frame < depth a → IsLeft a frame at size source b → returns_of b ≡ returns_of a
 returns-left a b frame at U64 source live h = ap returns_of h.left ∙ returns-with_frame_slots a frame _ live
+returns-left a b frame at size (kind.Number numbers) live h = ap returns_of h.left ∙ returns-with_frame_slots a frame _ live
 returns-left a b frame at size source live h = ap returns_of h.left ∙ returns-with_frame_slots a frame _ live
 
 -- a store

@@ -28,7 +28,9 @@ use Rattle.stack_state.proofs.StackLaws.{loads}
 use Rattle.stack_state.proofs.FillLaws.{fills}
 use Rattle.stack_state.proofs.FrameLaws.{IsHere}
 use Rattle.stack_state.proofs.EffectLaws.{IfLeft, MeansBy-loads, MeansBy-fills, MeansBy-stores, MeansBy-spills}
+use Rattle.stack_state.proofs.NumberStoreEffects.{MeansBy-stores_number}
 use Rattle.stack_state.specs.FramePlaces.{IsStoredIn, IsSpilledIn}
+use Rattle.stack_state.specs.NumberStores.{IsNumberStoredIn}
 use Rattle.stack_state.proofs.FramePlaceLaws.{place_below, place_in_slot, place_whole, IsHere-place}
 use Rattle.branch_refine.specs.Refining.{IsNumber}
 use Rattle.transfer.specs.declared.refusals.Refusal.{Refusal}
@@ -173,27 +175,29 @@ spilled_left p e a s frame at serial z by source v b m found place set allowed h
     subst (λ c. IfLeft p e c (store s U64 (value.Ptr (region.Frame serial) z) by v)) (sym h.left)
     (MeansBy-spills p e a s _ serial frame (at / 8) z by source v place.live there set allowed h.meant m)
 
-number_left : (p : Program) (e : Assigned) (a : State) (s : Machine.State) (frame at serial : ℕ) (z by : ℤ) (size : Size) (source : Kind) (v : Value) (b : State)
-    → MeansBy p e a s → slice_get e.frames frame ≡ Some serial → IsFramePlace a frame (z +ℤ by) size at → IsNumber source → Allows e source v
-    → IsStoredIn a frame at size b → IfLeft p e b (store s size (value.Ptr (region.Frame serial) z) by v)
-number_left p e a s frame at serial z by size (Number c) v b m found place number allowed h =
+-- and so are those of one of the numbers
+number_left : (p : Program) (e : Assigned) (a : State) (s : Machine.State) (frame at serial : ℕ) (z by : ℤ) (size : Size) (c : Scalar) (v : Value) (b : State)
+    → MeansBy p e a s → slice_get e.frames frame ≡ Some serial → IsFramePlace a frame (z +ℤ by) size at → Allows e (Number c) v
+    → IsNumberStoredIn a frame at size c b → IfLeft p e b (store s size (value.Ptr (region.Frame serial) z) by v)
+number_left p e a s frame at serial z by size c v b m found place allowed h =
     let (n, is, has) = allowed in
+    let here : IsHere s serial frame at (size_bytes size) z by = IsHere-place p e a s size serial frame at z by m found place.place in
     subst (λ x. IfLeft p e b (store s size (value.Ptr (region.Frame serial) z) by x)) (sym is)
-    (stored_left p e a s frame at serial n z by size b m found place h)
-number_left p e a s frame at serial z by size k v b m found place number allowed h = absurd number
+    (subst (λ t. IfLeft p e t (store s size (value.Ptr (region.Frame serial) z) by (value.Num n))) (sym h.left)
+    (MeansBy-stores_number p e a s _ size serial frame at n z by c place.live here has h.meant m))
 
 left : (p : Program) (e : Assigned) (a : State) (s : Machine.State) (frame at serial : ℕ) (z by : ℤ) (size : Size) (source : Kind) (v : Value) (b : State)
     → MeansBy p e a s → slice_get e.frames frame ≡ Some serial → IsFramePlace a frame (z +ℤ by) size at
     → store_refusal a frame size source ≡ None → Allows e source v → IsLeft a frame at size source b
     → IfLeft p e b (store s size (value.Ptr (region.Frame serial) z) by v)
-left p e a s frame at serial z by U8 source v b m found place pass allowed h =
-    number_left p e a s frame at serial z by U8 source v b m found place (narrow_number a frame U8 source (λ q. cc q) pass) allowed h
-left p e a s frame at serial z by U16 source v b m found place pass allowed h =
-    number_left p e a s frame at serial z by U16 source v b m found place (narrow_number a frame U16 source (λ q. cc q) pass) allowed h
-left p e a s frame at serial z by U32 source v b m found place pass allowed h =
-    number_left p e a s frame at serial z by U32 source v b m found place (narrow_number a frame U32 source (λ q. cc q) pass) allowed h
 left p e a s frame at serial z by U64 source v b m found place pass allowed h =
     spilled_left p e a s frame at serial z by source v b m found place (stored_set e a frame U64 source v pass allowed) allowed h
+left p e a s frame at serial z by U8 (Number c) v b m found place pass allowed h = number_left p e a s frame at serial z by U8 c v b m found place allowed h
+left p e a s frame at serial z by U16 (Number c) v b m found place pass allowed h = number_left p e a s frame at serial z by U16 c v b m found place allowed h
+left p e a s frame at serial z by U32 (Number c) v b m found place pass allowed h = number_left p e a s frame at serial z by U32 c v b m found place allowed h
+left p e a s frame at serial z by U8 k v b m found place pass allowed h = absurd (narrow_number a frame U8 k (λ q. cc q) pass)
+left p e a s frame at serial z by U16 k v b m found place pass allowed h = absurd (narrow_number a frame U16 k (λ q. cc q) pass)
+left p e a s frame at serial z by U32 k v b m found place pass allowed h = absurd (narrow_number a frame U32 k (λ q. cc q) pass)
 
 -- where a store is not refused, the machine goes on into what is left
 pub stack_store_goes : (p : Program) (e : Assigned) (a : State) (s : Machine.State) (frame : ℕ) (z by : ℤ) (size : Size) (source : Kind) (base v : Value) (b : State)

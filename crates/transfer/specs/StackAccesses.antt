@@ -13,6 +13,7 @@ use Rattle.stack_state.specs.declared.states.State.{State}
 use Rattle.stack_state.specs.Meaning.{depth, slots_of}
 use Rattle.stack_state.specs.Slots.{slot_at, IsLoad, IsFill}
 use Rattle.stack_state.specs.FramePlaces.{IsPlace, IsStoredIn, IsSpilledIn}
+use Rattle.stack_state.specs.NumberStores.{IsNumberStoredIn}
 use Rattle.transfer.specs.declared.refusals.Refusal.{Refusal}
 use Rattle.transfer.specs.declared.refusals.Refusal.TheVariants.{StackPlace, StackBytes, NullNotTested, PointerStored}
 
@@ -78,9 +79,11 @@ store_refusal a frame size (Stack f z) = if suc frame == depth a then whole_or P
 store_refusal a frame size (MapValueOrNull m identity) = whole_or NullNotTested size
 store_refusal a frame size k = whole_or PointerStored size
 
--- 8 bytes keep what is known of the value, others are number bytes
+-- 8 bytes keep what is known of the value; others are number bytes, and keep what is known of the number where the other bytes
+-- of the slot are such bytes too
 abbrev pub IsLeft : State → ℕ → ℕ → Size → Kind → State → Type 0
 IsLeft a frame at U64 source b = IsSpilledIn a frame (at / 8) source b
+IsLeft a frame at size (Number numbers) b = IsNumberStoredIn a frame at size numbers b
 IsLeft a frame at size source b = IsStoredIn a frame at size b
 
 abbrev pub IsStoreRefused : State → ℕ → ℤ → Size → Kind → Refusal → Type 0

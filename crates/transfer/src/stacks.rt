@@ -164,7 +164,10 @@ fn leave(state: &mut State, frame: u8, at: usize, size: Size, source: Kind)
 {
     match size {
         Size::U64 => state.spill(frame, at / 8, source),
-        _ => state.store(frame, at, size),
+        _ => match source {
+            Kind::Number(numbers) => state.store_number(frame, at, size, numbers),
+            _ => state.store(frame, at, size),
+        },
     }
 }
 

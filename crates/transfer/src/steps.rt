@@ -120,8 +120,9 @@ fn store_at(
     ensures { GoesOn state.old (StoresAt maps.now state.old size place source) result state.new }
 {
     let base = state.kind_of(place.base);
+    let next = state.slot + 1;
     store(maps, state, size, base, place.offset, source)?;
-    state.slot += 1;
+    state.slot = next;
     Ok(Ways::One)
 }
 
