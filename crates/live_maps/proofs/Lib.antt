@@ -1,5 +1,6 @@
 pub mod Clearing
 pub mod OneChanged
+pub mod AboveLaws
 pub mod ContentLaws
 pub mod EntryLaws
 pub mod LivingLaws

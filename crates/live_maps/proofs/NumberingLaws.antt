@@ -1,6 +1,6 @@
 -- Laws of the definitions in specs/Numbering.
 use Rattle.std.proofs.Common.{◌≡◌, ℕ, zero, suc, ◌+◌, ◌-◌, ◌<◌, ◌≤◌, List, [], ◌∷◌, map, length, Option, Some, None, true, false, cond, refl, sym, ap, subst, ◌∙◌, arith, inl, inr}
-use Rattle.std.specs.Prelude.{◌≢◌, All, IfSome, slice_set, slice_index_or, unwrap_or}
+use Rattle.std.specs.Prelude.{◌≢◌, All, IfSome, ◌++◌, slice_set, slice_index_or, unwrap_or}
 use Rattle.std.specs.FinMap.{get, entries, values, get-entries, len-entries}
 use Rattle.std.specs.FinMap.Entries.{find}
 use Rattle.std.proofs.Math.ListN.{get_or-map}
@@ -18,7 +18,8 @@ use Rattle.maps.proofs.ReportOrderLaws.{get_at}
 use Rattle.maps.specs.Maps.{MapState, IsMap, map_at, content_in, contents_of}
 use Rattle.live_maps.specs.Live.{Serials, serial_in, serials_at, stored, live_content, live_contents, HasSerials, AreLive}
 use Rattle.live_maps.proofs.EntryLaws.{AreApart, entries-apart}
-use Rattle.live_maps.specs.Numbering.{AreDistinct, AreNumbered, IsNumbered, Numbers, NumbersFirst, count_before, place_in}
+use Rattle.live_maps.specs.Numbering.{AreDistinct, AreNumbered, AreSpans, IsNumbered, IsSpan, Numbers, NumbersFirst, count_before, place_in, span_at}
+use Rattle.live_maps.specs.declared.numbering.Span.{Span}
 
 -- one more place of a list has its serial
 pub NumbersFirst-more : (n : ℕ) (places : List ℕ) (i : ℕ) (serials : Serials) → AreDistinct places → i < length places → place_in places i < length serials
@@ -275,57 +276,87 @@ rooms-next maps all more m s inside is same rooms k l =
       | false ↦ λ t. ap length (get_or-set_other all m k s [] (eqb-false k m t)) ∙ rooms k l
     ] refl
 
--- as many values are before each map as there were
-pub count_before-set : (maps : List MapState) (m k : ℕ) (x : MapState) → x.places ≡ (map_at maps m).places
-    → count_before (slice_set maps m x) k ≡ count_before maps k
-count_before-set [] m k x same = refl
-count_before-set (y ∷ maps) zero zero x same = refl
-count_before-set (y ∷ maps) zero (suc k) x same =
-    let long : length (content_in x) ≡ length (content_in y) =
-    length-content_in x ∙ ap (λ (P : Places). length (values P)) same ∙ sym (length-content_in y) in
-    ap (λ (n : ℕ). n + count_before maps k) long
-count_before-set (y ∷ maps) (suc m) zero x same = refl
-count_before-set (y ∷ maps) (suc m) (suc k) x same = ap (λ (n : ℕ). length (content_in y) + n) (count_before-set maps m k x same)
+-- ---- what is told of the numbering of each map
 
-module _ (maps : List MapState) (m : ℕ) (x : MapState) (inside : m < length maps) (row : x.row ≡ (map_at maps m).row)
-    (places : x.places ≡ (map_at maps m).places) where
-  abbrev changed_maps : List MapState
-  changed_maps = slice_set maps m x
+-- nothing is told yet
+pub AreSpans-none : (maps : List MapState) (all : List Serials) (spans : List (Option Span)) → length spans ≡ length maps
+    → ((m : ℕ) → span_at spans m ≡ None) → AreSpans maps all spans
+AreSpans-none maps all spans long none = record {
+  long = long;
+  each = λ k l. subst (λ (o : Option Span). IfSome o (IsSpan (map_at maps k) (serials_at all k))) (sym (none k)) tt;
+}
 
-  kept_at : {A : Type 0} (f : MapState → A) → f x ≡ f (map_at maps m) → (k : ℕ) → f (map_at changed_maps k) ≡ f (map_at maps k)
-  kept_at f same k = elim (eqb k m) as (λ b. eqb k m ≡ b → f (map_at changed_maps k) ≡ f (map_at maps k)) [
+-- nothing more is told
+pub none-more : (spans : List (Option Span)) → ((m : ℕ) → span_at spans m ≡ None) → (m : ℕ) → span_at (spans ++ None ∷ []) m ≡ None
+none-more [] none zero = refl
+none-more [] none (suc m) = refl
+none-more (x ∷ spans) none zero = none 0
+none-more (x ∷ spans) none (suc m) = none-more spans (λ k. none (suc k)) m
+
+-- one map's serials and what is told of them replaced, the maps as they are
+pub AreSpans-numbered : (maps : List MapState) (all : List Serials) (spans : List (Option Span)) (m : ℕ) (s : Serials) (o : Option Span)
+    → length all ≡ length maps → m < length maps → IfSome o (IsSpan (map_at maps m) s) → AreSpans maps all spans
+    → AreSpans maps (slice_set all m s) (slice_set spans m o)
+AreSpans-numbered maps all spans m s o long inside now h = record {
+  long = length-set spans m o ∙ h.long;
+  each = λ k l. elim (eqb k m) as (λ b. eqb k m ≡ b → IfSome (span_at (slice_set spans m o) k) (IsSpan (map_at maps k) (serials_at (slice_set all m s) k))) [
     | true ↦ λ t.
-        let e = eqb-true k m t in
-        ap (λ (j : ℕ). f (map_at changed_maps j)) e ∙ ap f (get_or-set_same maps m x _ inside) ∙ same ∙ ap (λ (j : ℕ). f (map_at maps j)) (sym e)
-    | false ↦ λ t. ap f (get_or-set_other maps m k x _ (eqb-false k m t))
-  ] refl
+        let spanned = h.long in
+        subst (λ (j : ℕ). IfSome (span_at (slice_set spans m o) j) (IsSpan (map_at maps j) (serials_at (slice_set all m s) j))) (sym (eqb-true k m t))
+        (subst (λ (p : Option Span). IfSome p (IsSpan (map_at maps m) (serials_at (slice_set all m s) m))) (sym (get_or-set_same spans m o None (omega arith)))
+        (subst (λ (r : Serials). IfSome o (IsSpan (map_at maps m) r)) (sym (get_or-set_same all m s [] (omega arith))) now))
+    | false ↦ λ t.
+        let d = eqb-false k m t in
+        subst (λ (p : Option Span). IfSome p (IsSpan (map_at maps k) (serials_at (slice_set all m s) k))) (sym (get_or-set_other spans m k o None d))
+        (subst (λ (r : Serials). IfSome (span_at spans k) (IsSpan (map_at maps k) r)) (sym (get_or-set_other all m k s [] d)) (h.each k l))
+  ] refl;
+}
 
-  -- a map replaced by one whose keys have the same places
-  pub AreNumbered-set : (all : List Serials) → AreNumbered maps all → AreNumbered changed_maps all
-  AreNumbered-set all h = record {
-    long = h.long ∙ sym (length-set maps m x);
-    rooms = λ k l.
-        let long = length-set maps m x in
-        h.rooms k (omega arith) ∙ sym (kept_at (λ (y : MapState). y.row.entries) (ap (λ r. r.entries) row) k);
-    numbers = λ k l.
-        let long = length-set maps m x in
-        subst (λ (n : ℕ). Numbers n (values (map_at changed_maps k).places) (serials_at all k)) (sym (count_before-set maps m k x places))
-        (subst (λ (P : Places). Numbers (count_before maps k) (values P) (serials_at all k)) (sym (kept_at (λ (y : MapState). y.places) places k))
-        (h.numbers k (omega arith)));
-  }
+-- what follows for each span, follows for one that there may be
+IfSome-span : (P Q : Span → Type 0) (o : Option Span) → ((s : Span) → P s → Q s) → IfSome o P → IfSome o Q
+IfSome-span P Q None more h = tt
+IfSome-span P Q (Some s) more h = more s h
 
-  pub IsNumbered-set : (new : List MapState) → new ≡ changed_maps → (all : List Serials) (count : ℕ) → IsNumbered count maps all → IsNumbered count new all
-  IsNumbered-set new is all count h =
-      subst (λ (l : List MapState). IsNumbered count l all) (sym is) (record {
-        are = AreNumbered-set all h.are;
-        counted =
-            let long = length-set maps m x in
-            h.counted ∙ sym (count_before-all maps) ∙ sym (count_before-set maps m (length maps) x places)
-            ∙ ap (count_before changed_maps) (sym long) ∙ count_before-all changed_maps;
-        few = h.few;
+-- another map at a place of which nothing is told
+pub AreSpans-forgotten : (maps new : List MapState) (all : List Serials) (spans : List (Option Span)) (m : ℕ) (x : MapState) (s : Serials)
+    → new ≡ slice_set maps m x → m < length maps → AreSpans maps all spans → AreSpans new (slice_set all m s) (slice_set spans m None)
+AreSpans-forgotten maps new all spans m x s is inside h = subst (λ (l : List MapState). AreSpans l (slice_set all m s) (slice_set spans m None)) (sym is) (record {
+  long = length-set spans m None ∙ h.long ∙ sym (length-set maps m x);
+  each = λ k l. elim (eqb k m) as (λ b. eqb k m ≡ b → IfSome (span_at (slice_set spans m None) k) (IsSpan (map_at (slice_set maps m x) k) (serials_at (slice_set all m s) k))) [
+    | true ↦ λ t.
+        let spanned = h.long in
+        subst (λ (p : Option Span). IfSome p (IsSpan (map_at (slice_set maps m x) k) (serials_at (slice_set all m s) k)))
+        (sym (ap (span_at (slice_set spans m None)) (eqb-true k m t) ∙ get_or-set_same spans m None None (omega arith))) tt
+    | false ↦ λ t.
+        let d = eqb-false k m t in
+        let long = length-set maps m x in
+        subst (λ (p : Option Span). IfSome p (IsSpan (map_at (slice_set maps m x) k) (serials_at (slice_set all m s) k))) (sym (get_or-set_other spans m k None None d))
+        (subst (λ (y : MapState). IfSome (span_at spans k) (IsSpan y (serials_at (slice_set all m s) k))) (sym (get_or-set_other maps m k x _ d))
+        (subst (λ (r : Serials). IfSome (span_at spans k) (IsSpan (map_at maps k) r)) (sym (get_or-set_other all m k s [] d)) (h.each k (omega arith))))
+  ] refl;
+})
+
+-- a map replaced by one whose keys have the same places
+pub AreSpans-set : (maps new : List MapState) (all : List Serials) (spans : List (Option Span)) (m : ℕ) (x : MapState)
+    → new ≡ slice_set maps m x → m < length maps → x.places ≡ (map_at maps m).places → AreSpans maps all spans → AreSpans new all spans
+AreSpans-set maps new all spans m x is inside places h = subst (λ (l : List MapState). AreSpans l all spans) (sym is) (record {
+  long = h.long ∙ sym (length-set maps m x);
+  each = λ k l.
+      let long = length-set maps m x in
+      IfSome-span (IsSpan (map_at maps k) (serials_at all k)) (IsSpan (map_at (slice_set maps m x) k) (serials_at all k)) (span_at spans k)
+      (λ s told. record {
+        numbers = subst (λ (P : Places). Numbers s.first (values P) (serials_at all k)) (kept k) told.numbers;
+        counted = told.counted ∙ ap (λ (P : Places). length (values P)) (kept k);
+        few = told.few;
       })
-
--- what follows for each number, follows for one that there may be
-pub IfSome-more : (P Q : ℕ → Type 0) (o : Option ℕ) → ((n : ℕ) → P n → Q n) → IfSome o P → IfSome o Q
-IfSome-more P Q None more h = tt
-IfSome-more P Q (Some n) more h = more n h
+      (h.each k (omega arith));
+})
+  where
+    kept : (k : ℕ) → (map_at maps k).places ≡ (map_at (slice_set maps m x) k).places
+    kept k = elim (eqb k m) as (λ b. eqb k m ≡ b → (map_at maps k).places ≡ (map_at (slice_set maps m x) k).places) [
+      | true ↦ λ t.
+          let e = eqb-true k m t in
+          ap (λ (j : ℕ). (map_at maps j).places) e ∙ sym places
+          ∙ ap (λ (y : MapState). y.places) (sym (get_or-set_same maps m x _ inside)) ∙ ap (λ (j : ℕ). (map_at (slice_set maps m x) j).places) (sym e)
+      | false ↦ λ t. ap (λ (y : MapState). y.places) (sym (get_or-set_other maps m k x _ (eqb-false k m t)))
+    ] refl

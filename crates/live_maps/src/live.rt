@@ -14,7 +14,7 @@ ghost use Rattle.maps.specs.Maps.{rows_of, contents_of, map_at};
 ghost use Rattle.live_maps.specs.Live.{serials_at, place_if_new, content_at, value_bytes, with_value, with_bytes, without};
 
 use crate::asked;
-use crate::numbering::{number_all, renumber_all};
+use crate::numbering::{Span, number_all, spans_for};
 use crate::table::Table;
 use crate::tables::{find_serial, give_serial, serial_at, tables_for, take_away};
 use isa_model::MapDef;
@@ -31,8 +31,8 @@ pub struct LiveMaps {
     maps: Maps,
     serials: Vec<Table>,
     next: u64,
-    // How many values there are, where they have the serials from 0 on as at the start of a run.
-    numbered: Option<u64>,
+    // By map: which serials its values have, where they are numbered as at the start of a run.
+    spans: Vec<Option<Span>>,
     // Room for the places of any map.
     list: Vec<usize>,
 }
@@ -41,7 +41,7 @@ impl Model for LiveMaps {
     ghost use Rattle.std.specs.Prelude.{◌≡◌, ◌≤◌, length, All, IfSome, vec_capacity, ◌^◌};
     ghost use Rattle.maps.specs.Maps.{rows_of};
     ghost use Rattle.live_maps.specs.Live.{Live, live_contents, AreLive, IsLeastRoom};
-    ghost use Rattle.live_maps.specs.Numbering.{IsNumbered};
+    ghost use Rattle.live_maps.specs.Numbering.{AreSpans};
 
     ghost Value = { Live };
 
@@ -54,9 +54,10 @@ impl Model for LiveMaps {
     ghost invariant = { λ l. (length l.maps ≤ 2 ^ 16)
         × (All (λ m. m.row.entries ≤ vec_capacity l.list) l.maps)
         × (AreLive l.next l.maps l.serials.items)
-        × (IfSome l.numbered (λ n. IsNumbered n l.maps l.serials.items))
+        × (AreSpans l.maps l.serials.items l.spans.items)
         × (vec_capacity l.serials ≡ length l.maps)
-        × (IsLeastRoom (vec_capacity l.list) (rows_of l.maps)) };
+        × (IsLeastRoom (vec_capacity l.list) (rows_of l.maps))
+        × (vec_capacity l.spans ≡ length l.maps) };
 }
 
 // The most entries that a map has.
@@ -94,12 +95,13 @@ impl LiveMaps {
     {
         let mut serials = tables_for(alloc, &maps)?;
         let mut list = Vec::with_capacity(alloc, most_entries(&maps))?;
-        let next = number_all(&maps, &mut serials, &mut list);
+        let mut spans = spans_for(alloc, maps.count())?;
+        let next = number_all(&maps, &mut serials, &mut list, &mut spans);
         Ok(LiveMaps {
             maps,
             serials,
             next,
-            numbered: Some(next),
+            spans,
             list,
         })
     }
@@ -178,7 +180,7 @@ impl LiveMaps {
             if let Some(place) = new_place(&self.maps, map, key, found) {
                 give_serial(&mut self.serials, map, place, self.next);
                 self.next += 1;
-                self.numbered = None;
+                self.spans[map] = None;
             }
         }
         answer
@@ -199,7 +201,7 @@ impl LiveMaps {
         if answer == 0 {
             if let Some(place) = found {
                 take_away(&mut self.serials, map, place);
-                self.numbered = None;
+                self.spans[map] = None;
             }
         }
         answer
@@ -236,8 +238,12 @@ impl LiveMaps {
           next_serial = count_values (map entries_of self.old.contents);
         } }
     {
-        let count = renumber_all(&self.maps, &mut self.serials, &mut self.list, self.numbered);
-        self.numbered = Some(count);
+        let count = number_all(
+            &self.maps,
+            &mut self.serials,
+            &mut self.list,
+            &mut self.spans,
+        );
         self.next = count;
     }
 

@@ -3,27 +3,37 @@
 ghost use Rattle.std.specs.Prelude.{◌≡◌, ◌+◌, ◌<◌, ◌^◌, ℕ, length, All, IfOk, IfSome, Some, None, slice_set, vec_len, vec_capacity};
 ghost use Rattle.std.specs.List.{position};
 ghost use Rattle.live_maps.specs.Live.{serial_in, has_serial};
-ghost use Rattle.live_maps.specs.Numbering.{Numbers, AreDistinct};
+ghost use Rattle.live_maps.specs.Numbering.{Numbers, AreDistinct, above, all_above, moved};
 
 use map_indexes::rooms::exact;
 use std::alloc::{AllocError, Global};
 use std::marker::Model;
 
-// Whether a place has this serial.
-fn has_serial(serial: u64, of: &Option<u64>) -> bool
-    ensures { result ≡ has_serial serial of.now }
+// The serial of a place, by what it is above a base.
+fn above(base: u64, of: &Option<u64>) -> Option<u64>
+    ensures { result ≡ above base of.now }
 {
     match of {
-        Some(n) => *n == serial,
+        Some(n) => Some(n.wrapping_add(base)),
+        None => None,
+    }
+}
+
+// Whether a place has this serial.
+fn has_serial(base: u64, serial: u64, of: &Option<u64>) -> bool
+    ensures { result ≡ has_serial serial (above base of.now) }
+{
+    match above(base, of) {
+        Some(n) => n == serial,
         None => false,
     }
 }
 
 // The place that has a serial, if there is one.
-fn place_of(serials: &[Option<u64>], serial: u64) -> Option<usize>
-    ensures { result ≡ position (has_serial serial) serials.now }
+fn place_of(base: u64, serials: &[Option<u64>], serial: u64) -> Option<usize>
+    ensures { result ≡ position (λ of. has_serial serial (above base of)) serials.now }
 {
-    serials.iter().position(|of| has_serial(serial, of))
+    serials.iter().position(|of| has_serial(base, serial, of))
 }
 
 // Takes the serials of all places away.
@@ -37,24 +47,42 @@ fn clear(serials: &mut Vec<Option<u64>>)
     }
 }
 
+// Where the hint for a serial is kept, by its distance from the base. Those of the start of
+// a run need no division.
+fn hint_at(distance: u64, count: usize) -> usize
+    requires { 0 < count }
+    ensures { result < count }
+{
+    if distance < count as u64 {
+        distance as usize
+    } else {
+        (distance % count as u64) as usize
+    }
+}
+
 /// The serials of a map's places. A place without a key has none.
 ///
 /// Contracts see the serials, place after place.
 #[derive(Drop)]
 pub struct Table {
+    // Each is as much above `base`, modulo 2^64: to number all anew from another serial on costs
+    // one addition where the order is the same.
     serials: Vec<Option<u64>>,
-    // By a serial modulo their number: the place that was given the last such serial. A hint, which
-    // is tested before it is used: it spares a search through all places.
+    base: u64,
+    // By what a serial is above the base, modulo their number: the place that was given the last
+    // such serial. A hint, which is tested before it is used: it spares a search through all
+    // places.
     hints: Vec<usize>,
 }
 
 impl Model for Table {
     ghost use Rattle.std.specs.Prelude.{◌≡◌, length, vec_capacity};
     ghost use Rattle.live_maps.specs.Live.{Serials};
+    ghost use Rattle.live_maps.specs.Numbering.{all_above};
 
     ghost Value = { Serials };
 
-    ghost view = { λ t. t.serials.items };
+    ghost view = { λ t. all_above t.base t.serials.items };
 
     // there is a hint for each place, and room for no more
     ghost invariant = { λ t. (vec_capacity t.serials ≡ length t.serials.items)
@@ -71,7 +99,11 @@ impl Table {
         let zeros = vec![in alloc; 0; places]?;
         let serials = exact(none)?;
         let hints = exact(zeros)?;
-        Ok(Table { serials, hints })
+        Ok(Table {
+            serials,
+            base: 0,
+            hints,
+        })
     }
 
     /// The serial at a place.
@@ -79,7 +111,7 @@ impl Table {
         requires { place < length self.now }
         ensures { result ≡ serial_in self.now place }
     {
-        self.serials[place]
+        above(self.base, &self.serials[place])
     }
 
     // The hint for a serial, where it is right.
@@ -90,8 +122,8 @@ impl Table {
         if count == 0 {
             return None;
         }
-        let place = self.hints[(serial % count as u64) as usize];
-        if place < self.serials.len() && has_serial(serial, &self.serials[place]) {
+        let place = self.hints[hint_at(serial.wrapping_sub(self.base), count)];
+        if place < self.serials.len() && has_serial(self.base, serial, &self.serials[place]) {
             Some(place)
         } else {
             None
@@ -106,7 +138,7 @@ impl Table {
     {
         match self.hinted(serial) {
             Some(place) => Some(place),
-            None => place_of(self.serials.as_slice(), serial),
+            None => place_of(self.base, self.serials.as_slice(), serial),
         }
     }
 
@@ -116,7 +148,8 @@ impl Table {
     {
         let count = self.hints.len();
         if count > 0 {
-            self.hints[(serial % count as u64) as usize] = place;
+            let distance = serial.wrapping_sub(self.base);
+            self.hints[hint_at(distance, count)] = place;
         }
     }
 
@@ -125,7 +158,7 @@ impl Table {
         requires { place < length self.old }
         ensures { self.new ≡ slice_set self.old place (Some serial) }
     {
-        self.serials[place] = Some(serial);
+        self.serials[place] = Some(serial.wrapping_sub(self.base));
         self.hint(serial, place);
     }
 
@@ -137,6 +170,23 @@ impl Table {
         self.serials[place] = None;
     }
 
+    // Takes the serials of all places away. Those that are given are kept by what they are above
+    // `first`.
+    fn start(&mut self, first: u64)
+        ensures none { (p : ℕ) → serial_in self.new p ≡ None }
+        ensures len { length self.new ≡ length self.old }
+    {
+        clear(&mut self.serials);
+        self.base = first;
+    }
+
+    /// Moves all serials, so that those from `from` on begin at `to`.
+    pub fn shift(&mut self, from: u64, to: u64)
+        ensures { self.new ≡ moved from to self.old }
+    {
+        self.base = self.base.wrapping_add(to.wrapping_sub(from));
+    }
+
     /// Gives the places of a list the serials from `first` on, in the order of the list, and no
     /// other place one.
     pub fn number(&mut self, places: &[usize], first: u64)
@@ -146,7 +196,7 @@ impl Table {
         ensures numbers { Numbers first places.now self.new }
         ensures len { length self.new ≡ length self.old }
     {
-        clear(&mut self.serials);
+        self.start(first);
         for i in 0..places.len() {
             self.give(places[i], first + i as u64);
         }

@@ -1,13 +1,16 @@
-use Rattle.std.proofs.Common.{◌≡◌, ◌≤◌, ◌∙◌, sym, ap, subst, length, List, ℕ, Some, None, arith}
-use Rattle.std.specs.Prelude.{IsSomeAnd, slice_get, vec_capacity, ◌==◌, if◌then◌else◌}
+use Rattle.std.proofs.Common.{◌≡◌, ◌^◌, ◌≤◌, ◌∙◌, sym, ap, subst, length, List, ℕ, Some, None, arith}
+use Rattle.std.specs.Prelude.{All, IsSomeAnd, slice_get, slice_set, vec_capacity, ◌==◌, if◌then◌else◌}
 use Rattle.std.specs.FinMap.{get}
 use Rattle.isa_model.specs.declared.map_defs.MapDef.{MapDef}
 use Rattle.isa_model.specs.Machine.MapContents.{delete_answer}
-use Rattle.maps.specs.Maps.{IsMap, Deleted, map_at, rows_of}
+use Rattle.maps.specs.Maps.{IsMap, MapState, Deleted, map_at, rows_of}
 use Rattle.live_maps.specs.Live.{Live, Serials, AreLive, IsLeastRoom, content_at, without}
 use Rattle.live_maps.proofs.ContentLaws.{live_of, All-rows-set, rows_of-set}
-use Rattle.live_maps.proofs.LiveLaws.{live-removed, deleted_there, delete_answer-live}
+use Rattle.live_maps.proofs.LiveLaws.{live-removed, live-same, deleted_there, delete_answer-live}
 use Rattle.live_maps.proofs.SearchLaws.{lookup-present}
+use Rattle.live_maps.specs.Live.{serials_at}
+use Rattle.live_maps.specs.Numbering.{AreSpans}
+use Rattle.live_maps.proofs.NumberingLaws.{AreSpans-forgotten}
 use Rattle.live_maps.proofs.OneChanged.{one_changed, row_told}
 use Rattle.live_maps.proofs.live.LiveMaps.delete.Goals as goal
 
@@ -64,7 +67,9 @@ invariant_of-self c =
     let rooms = All-rows-set (λ (row : MapDef). row.entries ≤ vec_capacity i.list) maps new m (map_at new m) others del.row d.inside c.self.invariant.1 in
     let mine = subst (λ (a : List Serials). AreLive i.next new a) (sym c.take_away.ensures.taken) live.0 in
     let least = subst (IsLeastRoom (vec_capacity i.list)) (sym (ap rows_of others ∙ rows_of-set maps m (map_at new m) del.row)) c.self.invariant.5 in
-    (omega arith, rooms, mine, tt, c.take_away.ensures.room ∙ c.self.invariant.4 ∙ sym d.count, least)
+    let told = subst (λ (a : List Serials). AreSpans new a (slice_set i.spans.items m None)) (sym c.take_away.ensures.taken)
+    (AreSpans-forgotten maps new all i.spans.items m (map_at new m) (slice_set (serials_at all m) p None) others d.inside c.self.invariant.3) in
+    (omega arith, rooms, mine, told, c.take_away.ensures.room ∙ c.self.invariant.4 ∙ sym d.count, least, c.self.invariant.6 ∙ sym d.count)
 
 pub invariant_of-self-in_default : goal.invariant_of-self-in_default
 invariant_of-self-in_default c =
@@ -80,6 +85,29 @@ invariant_of-self-in_default c =
     let zero : c.delete-answer.result ≡ 0 = c.if-answer-eq0.true in
     let absent : get (map_at maps m).places key ≡ None = sym c.find-found.ensures ∙ c.in_default.is in
     absurd (deleted_there (map_at maps m) key (sym zero ∙ c.delete-answer.ensures.deleted.answer) absent)
+
+pub invariant_of-self-else-answer-eq0 : goal.invariant_of-self-else-answer-eq0
+invariant_of-self-else-answer-eq0 c =
+    let i = c.self.inside in
+    let maps = i.maps in
+    let all = i.serials.items in
+    let m = c.args.map in
+    let key = c.args.key.now in
+    let inv = c.self.invariant in
+    let h = inv.2 in
+    let new = c.delete-answer.new.maps in
+    let others = c.delete-answer.ensures.others in
+    let d = one_changed (Size key) i.next maps all c.args.self.now c.self.view_is m c.requires new others c.count-count.ensures.maps in
+    let del = c.delete-answer.ensures.deleted in
+    let same : maps ≡ new = sym (live-same i.next maps all m new d.inside h others del.row (del.deletes.stays c.if-answer-eq0.false) del.deletes.block) in (
+      subst (λ (l : List MapState). length l ≤ 2 ^ 16) same inv.0,
+      subst (λ (l : List MapState). All (λ y. y.row.entries ≤ vec_capacity i.list) l) same inv.1,
+      subst (λ (l : List MapState). AreLive i.next l all) same inv.2,
+      subst (λ (l : List MapState). AreSpans l all i.spans.items) same inv.3,
+      inv.4 ∙ ap length same,
+      subst (λ (l : List MapState). IsLeastRoom (vec_capacity i.list) (rows_of l)) same inv.5,
+      inv.6 ∙ ap length same,
+    )
 
 pub returns-in-Some-clause-answer : goal.returns-in-Some-clause-answer
 returns-in-Some-clause-answer c =

@@ -10,26 +10,27 @@ use Rattle.live_maps.proofs.live.LiveMaps.renumber.Goals as goal
 pub invariant_of-self : goal.invariant_of-self
 invariant_of-self c =
     let maps = c.self.inside.maps in
-    let all = c.renumber_all-count.new.all.items in
-    let done = c.renumber_all-count.ensures in
+    let all = c.number_all-count.new.all.items in
+    let done = c.number_all-count.ensures in
     let inv = c.self.invariant in
     let kept = done.list in (
       inv.0,
       (λ k d l. let entries = inv.1 k d l in omega arith),
       subst (λ (n : ℕ). AreLive n maps all) (sym done.numbered.counted) (AreLive-numbered maps all done.maps done.numbered.are),
-      done.numbered,
+      done.spans,
       done.room ∙ inv.4,
       (λ n h. let least = inv.5 n h in omega arith),
+      done.spans_room ∙ inv.6,
     )
 
 pub returns-clause-numbered : goal.returns-clause-numbered
 returns-clause-numbered c =
     let i = c.self.inside in
     let maps = i.maps in
-    let all = c.renumber_all-count.new.all.items in
-    let done = c.renumber_all-count.ensures in
+    let all = c.number_all-count.new.all.items in
+    let done = c.number_all-count.ensures in
     let numbered : List Entries → Live = λ es. record { rows = rows_of maps; contents = numbered_maps 0 es; next_serial = count_values es } in
-    let new : live_of maps all c.renumber_all-count.result ≡ numbered (contents_of maps) =
+    let new : live_of maps all c.number_all-count.result ≡ numbered (contents_of maps) =
     λ j. record { rows = rows_of maps; contents = numbered-all maps all done.numbered.are j; next_serial = done.numbered.counted j } in
     let plain : contents_of maps ≡ map entries_of (live_of maps i.serials.items i.next).contents =
     sym (entries_of-live_contents maps i.serials.items c.self.invariant.2.long) in

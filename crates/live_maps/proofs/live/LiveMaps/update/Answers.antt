@@ -1,5 +1,5 @@
-use Rattle.std.proofs.Common.{◌≡◌, ◌+◌, ◌≤◌, ◌∙◌, refl, sym, ap, subst, length, List, ℕ, suc, Option, Some, None, false, arith}
-use Rattle.std.specs.Prelude.{IsSomeAnd, slice_get, slice_set, vec_capacity, ◌==◌, if◌then◌else◌}
+use Rattle.std.proofs.Common.{◌≡◌, ◌^◌, ◌+◌, ◌≤◌, ◌∙◌, refl, sym, ap, subst, length, List, ℕ, suc, Option, Some, None, false, arith}
+use Rattle.std.specs.Prelude.{All, IsSomeAnd, slice_get, slice_set, vec_capacity, ◌==◌, if◌then◌else◌}
 use Rattle.std.specs.FinMap.{get}
 use Rattle.isa_model.specs.declared.map_defs.MapDef.{MapDef}
 use Rattle.isa_model.specs.Machine.MapContents.{update_answer}
@@ -7,8 +7,8 @@ use Rattle.maps.specs.Maps.{MapState, IsMap, Updated, map_at, rows_of}
 use Rattle.live_maps.specs.Live.{Live, Serials, AreLive, IsLeastRoom, place_if_new, content_at, serials_at, with_bytes}
 use Rattle.live_maps.proofs.ContentLaws.{live_of, All-rows-set, rows_of-set}
 use Rattle.live_maps.proofs.LiveLaws.{live-updated, live-added, live-same, not_zero, updated_there, place_if_new-Some, place_if_new-None, update_answer-live}
-use Rattle.live_maps.specs.Numbering.{IsNumbered}
-use Rattle.live_maps.proofs.NumberingLaws.{IsNumbered-set, IfSome-more}
+use Rattle.live_maps.specs.Numbering.{AreSpans}
+use Rattle.live_maps.proofs.NumberingLaws.{AreSpans-forgotten, AreSpans-set}
 use Rattle.live_maps.proofs.OneChanged.{one_changed, row_told}
 use Rattle.live_maps.proofs.live.LiveMaps.update.Goals as goal
 
@@ -82,7 +82,9 @@ invariant_of-self c =
     let after : List Serials = slice_set all m (slice_set (serials_at all m) p (Some i.next)) in
     let mine = subst (λ (a : List Serials). AreLive (i.next + 1) new a) (sym c.give_serial.ensures.given) (subst (λ (n : ℕ). AreLive n new after) s live.0) in
     let least = subst (IsLeastRoom (vec_capacity i.list)) (sym (ap rows_of others ∙ rows_of-set maps m (map_at new m) u.row)) c.self.invariant.5 in
-    (omega arith, rooms, mine, tt, c.give_serial.ensures.room ∙ c.self.invariant.4 ∙ sym d.count, least)
+    let told = subst (λ (a : List Serials). AreSpans new a (slice_set i.spans.items m None)) (sym c.give_serial.ensures.given)
+    (AreSpans-forgotten maps new all i.spans.items m (map_at new m) (slice_set (serials_at all m) p (Some i.next)) others d.inside c.self.invariant.3) in
+    (omega arith, rooms, mine, told, c.give_serial.ensures.room ∙ c.self.invariant.4 ∙ sym d.count, least, c.self.invariant.6 ∙ sym d.count)
 
 pub invariant_of-self-in_default : goal.invariant_of-self-in_default
 invariant_of-self-in_default c =
@@ -105,10 +107,33 @@ invariant_of-self-in_default c =
     let few = c.self.invariant.0 in
     let rooms = All-rows-set (λ (row : MapDef). row.entries ≤ vec_capacity i.list) maps new m (map_at new m) others u.row d.inside c.self.invariant.1 in
     let w = u.updates.writes refl in
-    let numbered = IfSome-more (λ (n : ℕ). IsNumbered n maps all) (λ (n : ℕ). IsNumbered n new all) i.numbered
-    (λ n. IsNumbered-set maps m (map_at new m) d.inside u.row (w.kept had.0 had.1) new others all n) c.self.invariant.3 in
+    let told = AreSpans-set maps new all i.spans.items m (map_at new m) others d.inside (w.kept had.0 had.1) c.self.invariant.3 in
     let least = subst (IsLeastRoom (vec_capacity i.list)) (sym (ap rows_of others ∙ rows_of-set maps m (map_at new m) u.row)) c.self.invariant.5 in
-    (omega arith, rooms, live.0, numbered, c.self.invariant.4 ∙ sym d.count, least)
+    (omega arith, rooms, live.0, told, c.self.invariant.4 ∙ sym d.count, least, c.self.invariant.6 ∙ sym d.count)
+
+pub invariant_of-self-else-answer-eq0 : goal.invariant_of-self-else-answer-eq0
+invariant_of-self-else-answer-eq0 c =
+    let i = c.self.inside in
+    let maps = i.maps in
+    let all = i.serials.items in
+    let m = c.args.map in
+    let key = c.args.key.now in
+    let inv = c.self.invariant in
+    let h = inv.2 in
+    let value = c.args.value.now in
+    let new = c.update-answer.new.maps in
+    let others = c.update-answer.ensures.others in
+    let d = one_changed (Sizes key value) i.next maps all c.args.self.now c.self.view_is m c.requires.sizes new others c.count-count.ensures.maps in
+    let stays = c.update-answer.ensures.updated.updates.stays c.if-answer-eq0.false in
+    let same : maps ≡ new = sym (live-same i.next maps all m new d.inside h others c.update-answer.ensures.updated.row stays.0 stays.1) in (
+      subst (λ (l : List MapState). length l ≤ 2 ^ 16) same inv.0,
+      subst (λ (l : List MapState). All (λ y. y.row.entries ≤ vec_capacity i.list) l) same inv.1,
+      subst (λ (l : List MapState). AreLive i.next l all) same inv.2,
+      subst (λ (l : List MapState). AreSpans l all i.spans.items) same inv.3,
+      inv.4 ∙ ap length same,
+      subst (λ (l : List MapState). IsLeastRoom (vec_capacity i.list) (rows_of l)) same inv.5,
+      inv.6 ∙ ap length same,
+    )
 
 pub returns-in-Some-clause-answer : goal.returns-in-Some-clause-answer
 returns-in-Some-clause-answer c =

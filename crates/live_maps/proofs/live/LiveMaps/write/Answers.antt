@@ -6,8 +6,7 @@ use Rattle.live_maps.specs.Live.{Live, IsLeastRoom, content_at, serials_at, valu
 use Rattle.live_maps.proofs.ContentLaws.{length-changed_maps, All-rows-set, rows_of-set}
 use Rattle.live_maps.proofs.LiveLaws.{live-written}
 use Rattle.live_maps.proofs.SearchLaws.{serials-once, searched-none, position-serial}
-use Rattle.live_maps.specs.Numbering.{IsNumbered}
-use Rattle.live_maps.proofs.NumberingLaws.{IsNumbered-set, IfSome-more}
+use Rattle.live_maps.proofs.NumberingLaws.{AreSpans-set}
 use Rattle.live_maps.proofs.OneChanged.{found_at}
 use Rattle.live_maps.proofs.live.LiveMaps.write.Goals as goal
 
@@ -52,10 +51,10 @@ invariant_of-self c =
       omega arith,
       All-rows-set (λ (row : MapDef). row.entries ≤ vec_capacity i.list) maps new m (map_at new m) others w.row f.inside c.self.invariant.1,
       live.0,
-      IfSome-more (λ (k : ℕ). IsNumbered k maps all) (λ (k : ℕ). IsNumbered k new all) i.numbered
-          (λ k. IsNumbered-set maps m (map_at new m) f.inside w.row w.places new others all k) c.self.invariant.3,
+      AreSpans-set maps new all i.spans.items m (map_at new m) others f.inside w.places c.self.invariant.3,
       c.self.invariant.4 ∙ sym count,
       least,
+      c.self.invariant.6 ∙ sym count,
     )
 
 pub returns-in-Some : goal.returns-in-Some

@@ -1,0 +1,70 @@
+-- Laws of serials by what they are above a base.
+use Rattle.std.proofs.Common.{◌≡◌, ℕ, zero, suc, ◌+◌, ◌-◌, ◌^◌, ◌%◌, ◌<◌, ◌≤◌, List, [], ◌∷◌, map, length, Option, Some, None, Bool, cond, refl, sym, ap, subst, ◌∙◌, arith}
+use Rattle.std.specs.Prelude.{slice_set, slice_index_or}
+use Rattle.std.specs.List.{position}
+use Rattle.std.specs.Option.{option_map}
+use Rattle.std.proofs.Math.ListN.{get_or-map}
+use Rattle.std.proofs.lemmas.List.{length-map}
+use Rattle.live_maps.specs.Live.{Serials, serial_in}
+use Rattle.live_maps.specs.Numbering.{Numbers, NumbersFirst, place_in, above, all_above, moved}
+use Rattle.live_maps.proofs.EntryLaws.{position-cons}
+
+-- the first that passes a test once all are changed
+pub position-map : {X Y : Type 0} (t : Y → Bool) (f : X → Y) (xs : List X) → position t (map f xs) ≡ position (λ x. t (f x)) xs
+position-map t f [] = refl
+position-map t f (x ∷ xs) =
+    position-cons t (f x) (map f xs)
+    ∙ ap (λ (o : Option ℕ). cond (t (f x)) (Some 0) (option_map suc o)) (position-map t f xs)
+    ∙ sym (position-cons (λ y. t (f y)) x xs)
+
+pub all_above-set : (base : ℕ) (s : Serials) (p : ℕ) (of : Option ℕ)
+    → all_above base (slice_set s p of) ≡ slice_set (all_above base s) p (above base of)
+all_above-set base [] p of = refl
+all_above-set base (x ∷ s) zero of = refl
+all_above-set base (x ∷ s) (suc p) of = ap (λ (l : Serials). above base x ∷ l) (all_above-set base s p of)
+
+pub serial_in-above : (base : ℕ) (s : Serials) (p : ℕ) → serial_in (all_above base s) p ≡ above base (serial_in s p)
+serial_in-above base s p = get_or-map (above base) s p None
+
+-- a serial that is kept by what it is above a base
+pub above_back : (base n : ℕ) → base < 2 ^ 64 → n < 2 ^ 64 → above base (Some ((n + (2 ^ 64 - base)) % 2 ^ 64)) ≡ Some n
+above_back base n b l = let e : ((n + (2 ^ 64 - base)) % 2 ^ 64 + base) % 2 ^ 64 ≡ n = omega arith in ap Some e
+
+sums : (r base more : ℕ) → (r + (base + more) % 2 ^ 64) % 2 ^ 64 ≡ ((r + base) % 2 ^ 64 + more) % 2 ^ 64
+sums r base more = omega arith
+
+above-above : (base more : ℕ) (of : Option ℕ) → above ((base + more) % 2 ^ 64) of ≡ above more (above base of)
+above-above base more None = refl
+above-above base more (Some r) = ap Some (sums r base more)
+
+-- a base moved
+pub all_above-more : (base more : ℕ) (s : Serials) → all_above ((base + more) % 2 ^ 64) s ≡ all_above more (all_above base s)
+all_above-more base more [] = refl
+all_above-more base more (x ∷ s) = λ i. above-above base more x i ∷ all_above-more base more s i
+
+moved_one : (from to i : ℕ) → from < 2 ^ 64 → to + i < 2 ^ 64 → (from + i + (to + (2 ^ 64 - from)) % 2 ^ 64) % 2 ^ 64 ≡ to + i
+moved_one from to i f l = omega arith
+
+above-some : (base k : ℕ) (of : Option ℕ) → above base of ≡ Some k → (n : ℕ) × (of ≡ Some n) × ((n + base) % 2 ^ 64 ≡ k)
+above-some base k None e = absurd cc
+above-some base k (Some n) e = (n, refl, cc)
+
+-- numbered places whose serials are moved are numbered
+pub numbers-moved : (from to : ℕ) (places : List ℕ) (s : Serials) → from < 2 ^ 64 → to + length places < 2 ^ 64
+    → Numbers from places s → Numbers to places (moved from to s)
+numbers-moved from to places s f l h = record {
+  there = λ i inside.
+      serial_in-above by s (place_in places i) ∙ ap (above by) (h.there i inside) ∙ ap Some (moved_one from to i f (omega arith));
+  only = λ p k e.
+      let old = above-some by k (serial_in s p) (sym (serial_in-above by s p) ∙ e) in
+      let r = h.only p old.0 old.1 in
+      let inside = r.1 in
+      let same = moved_one from to r.0 f (omega arith) in
+      (r.0, r.1, r.2, sym old.2 ∙ ap (λ (n : ℕ). (n + by) % 2 ^ 64) r.3 ∙ same);
+}
+  where
+    by : ℕ
+    by = (to + (2 ^ 64 - from)) % 2 ^ 64
+
+pub length-moved : (from to : ℕ) (s : Serials) → length (moved from to s) ≡ length s
+length-moved from to s = length-map s (above ((to + (2 ^ 64 - from)) % 2 ^ 64))
