@@ -123,8 +123,8 @@ impl StoredStates {
         Ok(rows)
     }
 
-    /// Takes a state to be looked up and stored next. It may have been kept already. Nothing
-    /// may be known of its innermost stack.
+    /// Takes a state to be looked up and stored next. It may have been kept already; `is_blank`
+    /// may say that nothing is known of its innermost stack.
     pub fn turn_to(
         &mut self,
         alloc: Global,

@@ -11,5 +11,6 @@ mod numbers;
 mod operations;
 mod pointers;
 mod scalars;
+mod splices;
 mod stacks;
 mod stacks_covered;

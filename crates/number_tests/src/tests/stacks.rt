@@ -10,6 +10,7 @@ use std::process::Abort;
 enum Act {
     Spill(usize, Kind),
     Store(usize, Size),
+    StoreNumber(usize, Size, Scalar),
     ForgetMap(u8),
 }
 
@@ -34,6 +35,11 @@ fn after(acts: &[Act]) -> StackState {
             Act::Store(at, size) => {
                 if *at < 512 && *at % 8 + size.bytes() <= 8 {
                     stack.store(*at, *size);
+                }
+            }
+            Act::StoreNumber(at, size, numbers) => {
+                if *at < 512 && *at % 8 + size.bytes() <= 8 {
+                    stack.store_number(*at, *size, *numbers);
                 }
             }
             Act::ForgetMap(map) => stack.forget_map(*map),
@@ -138,6 +144,74 @@ fn a_number_is_read_in_part(rt: HostRuntime) {
         &rt,
         &[Act::Spill(3, number), Act::Store(24, Size::U32)],
         &[Look::Slot(3, Slot::Written(255))],
+    );
+}
+
+/// A spilled number, and then bytes of it.
+fn is_changed(rt: &impl Abort, old: u64, (at, size): (usize, Size), new: u64, wanted: u64) {
+    are_shown(
+        rt,
+        &[
+            Act::Spill(3, Kind::Number(Scalar::constant(old))),
+            Act::StoreNumber(at, size, Scalar::constant(new)),
+        ],
+        &[Look::Fill(3, Some(Kind::Number(Scalar::constant(wanted))))],
+    );
+}
+
+#[test]
+fn a_number_changes_in_part(rt: HostRuntime) {
+    for (old, place, new, wanted) in [
+        (7, (24, Size::U32), 5, 5),
+        (7, (28, Size::U32), 1, 0x1_0000_0007),
+        (7, (28, Size::U32), 0x3_0000_0001, 0x1_0000_0007),
+        (u64::MAX, (24, Size::U32), 0, 0xffff_ffff_0000_0000),
+        (u64::MAX, (31, Size::U8), 1, 0x01ff_ffff_ffff_ffff),
+        (0x1122_3344, (26, Size::U16), 0x5566, 0x5566_3344),
+        (7, (24, Size::U64), 9, 9),
+    ] {
+        is_changed(&rt, old, place, new, wanted);
+    }
+}
+
+#[test]
+fn a_half_beside_any_half(rt: HostRuntime) {
+    let one = Scalar::constant(1);
+    let any = Scalar::any(Width::Full64);
+    let half = Scalar::between(0, 0xffff_ffff);
+    are_shown(
+        &rt,
+        &[Act::StoreNumber(24, Size::U32, one)],
+        &[Look::Slot(3, Slot::Written(0x0f))],
+    );
+    are_shown(
+        &rt,
+        &[
+            Act::Store(24, Size::U32),
+            Act::StoreNumber(28, Size::U32, one),
+        ],
+        &[
+            Look::Load(28, Size::U32, Some(one)),
+            Look::Load(24, Size::U32, Some(half)),
+        ],
+    );
+    for numbers in [any, half] {
+        are_shown(
+            &rt,
+            &[
+                Act::Store(24, Size::U64),
+                Act::StoreNumber(28, Size::U32, numbers),
+            ],
+            &[Look::Slot(3, Slot::Written(255))],
+        );
+    }
+    are_shown(
+        &rt,
+        &[
+            Act::Spill(3, Kind::Context),
+            Act::StoreNumber(25, Size::U8, one),
+        ],
+        &[Look::Slot(3, Slot::Written(2))],
     );
 }
 

@@ -16,6 +16,7 @@ mod low_halves;
 mod maps;
 mod narrow_numbers;
 mod packet;
+mod part_stores;
 mod precision;
 mod pruning;
 mod stack;

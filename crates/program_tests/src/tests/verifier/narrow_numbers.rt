@@ -9,13 +9,13 @@ use std::test::Fail;
 const ANY: &str = "r2 = *(u32 *)(r1 + 0); r3 = *(u32 *)(r1 + 4); r5 = *(u32 *)(r1 + 16)";
 
 /// 64 bytes of the packet, and the first 8 of them in r5.
-const BYTES: &str = "r2 = *(u32 *)(r1 + 0); r3 = *(u32 *)(r1 + 4); r4 = r2; r4 += 64
+pub(super) const BYTES: &str = "r2 = *(u32 *)(r1 + 0); r3 = *(u32 *)(r1 + 4); r4 = r2; r4 += 64
     if r4 > r3 goto out; r5 = *(u64 *)(r2 + 0)";
 
 const END: &str = "r0 = 2; exit; out: r0 = 1; exit";
 
 /// Each text after the beginning has this verdict.
-fn are_verdicts_after(
+pub(super) fn are_verdicts_after(
     rt: &(impl Abort + AllocGlobal),
     beginning: &str,
     rows: &[(&str, &str)],

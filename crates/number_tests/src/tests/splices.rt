@@ -1,0 +1,107 @@
+//! Numbers of which some bits were written: worked out by hand at the ends, and from all members of
+//! small sets.
+
+use isa_model::Width;
+use known_bits::spliced;
+use reg_state::{Domain, Scalar};
+use std::process::Abort;
+use std::test::Fail;
+
+/// From one number to another.
+type Limits = (u64, u64);
+
+/// What is written into, the first bit and how many, what is written, and what is left.
+const WRITTEN: [(Limits, (u64, u32), Limits, Limits); 10] = [
+    ((0, 0), (0, 32), (20, 51), (20, 51)),
+    ((0, 0), (32, 32), (1, 3), (0x1_0000_0000, 0x3_0000_0000)),
+    ((0, 31), (32, 32), (0, 0), (0, 31)),
+    (
+        (0x5_0000_0000, 0x6_0000_0007),
+        (0, 32),
+        (7, 9),
+        (0x5_0000_0007, 0x6_0000_0009),
+    ),
+    ((0xffff, 0xffff), (0, 8), (0, 1), (0xff00, 0xff01)),
+    ((0xffff, 0xffff), (8, 8), (0, 1), (0xff, 0x1ff)),
+    ((0, u64::MAX), (0, 8), (0, 255), (0, u64::MAX)),
+    ((0, u64::MAX), (56, 8), (0, 0), (0, 0x00ff_ffff_ffff_ffff)),
+    (
+        (u64::MAX, u64::MAX),
+        (48, 16),
+        (0, 0),
+        (0xffff_ffff_ffff, 0xffff_ffff_ffff),
+    ),
+    ((3, 9), (0, 64), (20, 51), (20, 51)),
+];
+
+fn between(limits: Limits) -> Scalar {
+    if limits.0 <= limits.1 {
+        Scalar::between(limits.0, limits.1)
+    } else {
+        Scalar::any(Width::Full64)
+    }
+}
+
+fn written(old: Scalar, (from, count): (u64, u32), new: Scalar) -> Scalar {
+    if from < 64 && 0 < count && count <= 64 && from + u64::from(count) <= 64 {
+        old.spliced(from, count, new)
+    } else {
+        Scalar::any(Width::Full64)
+    }
+}
+
+#[test]
+fn limits_of_written_numbers(rt: HostRuntime) -> Result<(), Fail> {
+    for (old, place, new, wanted) in WRITTEN.iter() {
+        let wide = written(between(*old), *place, between(*new)).range.wide;
+        assert_eq!(rt;
+            (wide.least, wide.greatest),
+            *wanted,
+            "{old:?} at {place:?}"
+        );
+    }
+    Ok(())
+}
+
+/// Whether each number with other bits is in the answer.
+fn contains_all(old: Limits, place: (u64, u32), new: Limits) -> bool {
+    let answer = written(between(old), place, between(new));
+    for number in old.0..=old.1 {
+        for other in new.0..=new.1 {
+            if place.0 < 64
+                && place.1 <= 64
+                && place.0 + u64::from(place.1) <= 64
+                && !answer.covers(Scalar::constant(spliced(place.0, place.1, number, other)))
+            {
+                return false;
+            }
+        }
+    }
+    true
+}
+
+/// Of each two small sets, at each small place, whether the bits hold the new numbers or not.
+#[test]
+fn no_number_is_lost(rt: HostRuntime) -> Result<(), Fail> {
+    for place in [
+        (0, 1),
+        (0, 3),
+        (1, 2),
+        (2, 8),
+        (3, 1),
+        (30, 4),
+        (32, 32),
+        (56, 8),
+    ] {
+        for least in 0..12 {
+            for greatest in [12, 15, 17] {
+                let (old, new) = ((least, greatest), (12 - least, greatest));
+                assert!(rt;
+                    contains_all(old, place, new),
+                    "{old:?} at {place:?} {new:?}"
+                );
+            }
+        }
+    }
+    Ok(())
+}
