@@ -1,9 +1,7 @@
 -- What the tests of an entry and of the start come to.
 use Rattle.std.specs.Prelude.{◌≡◌, ℕ, ◌+◌, ◌≤◌, ◌<◌, List, [], ◌∷◌, Contains, Bool, true, false, IsTrue, Option, Some, None, IsSome, Ok, Err, refl}
-use Rattle.std.proofs.Common.{inl, inr, arith, subst, rules, ap}
-use Rattle.std.specs.Option.{option_and_then}
+use Rattle.std.proofs.Common.{inl, inr, arith, subst, rules}
 use Rattle.std.proofs.lemmas.Bool.{cases_lt}
-use Rattle.std.proofs.lemmas.Option.{slice_get_past}
 use Rattle.isa_model.specs.declared.instructions.Insn.{Insn}
 use Rattle.isa_model.specs.Code.Instructions.{Program, fetch}
 use Rattle.isa_model.specs.Machine.States as Machine
@@ -24,7 +22,6 @@ use Rattle.transfer.specs.Leading.{LeadsTo, InSome}
 use Rattle.isa_model.specs.declared.limits.TheConstants.{MAX_STEPS}
 use Rattle.table_entries.specs.declared.entries.Head.{Head}
 use Rattle.table_entries.specs.Entries.{Entry, entry_of}
-use Rattle.table_entries.specs.Tables.{Kept, count_of, entry_at, entry_from}
 use Rattle.rechecking.specs.Tables.{EntryAt, GoesInto, IsFine, MeansStarts}
 use Rattle.rechecking.specs.declared.errors.TableError.TheVariants.{Step, Successor}
 use Rattle.rechecking.specs.Standing.{StandsAt}
@@ -164,12 +161,6 @@ HasStart-covers p t e n program there covers same = record {
   starts = MeansStarts-covers p e.state program covers;
   number_is = grind rules;
 }
-
--- past the last entry there is none
-pub no_entry_past : (p : Program) (t : Kept) (k : ℕ) (e : Entry) → count_of t ≤ k → entry_at p t k ≡ Some e → ⊥
-no_entry_past p t k e past there =
-    let none : entry_at p t k ≡ None = ap (option_and_then (entry_from p t.bytes)) (slice_get_past t.places k past) in
-    cc
 
 -- one more entry that is fine
 pub fine_next : (p : Program) (t : EntryAt) (k : ℕ) → AllFineBefore p t k → ((e : Entry) → t k ≡ Some e → IsFine p t e) → AllFineBefore p t (k + 1)

@@ -1,13 +1,13 @@
 -- What a table that was read shows, and why it is refused, by the entries that its bytes are.
-use Rattle.std.specs.Prelude.{◌≡◌, ℕ, ◌<◌, List, length, slice_get, Option, Some, IsSome, Ok, Err, ◌⊎◌, refl}
+use Rattle.std.specs.Prelude.{◌≡◌, ℕ, ◌<◌, List, slice_get, Some, IsSome, Ok, Err, ◌⊎◌}
 use Rattle.std.proofs.Common.{inl, inr, arith, subst, sym}
-use Rattle.std.proofs.lemmas.Option.{slice_get_cases}
 use Rattle.isa_model.specs.Code.Instructions.{Program}
 use Rattle.control_flow.specs.Flows.{IsFlow}
 use Rattle.table_entries.specs.declared.faults.TableFault.{TableFault}
 use Rattle.table_entries.specs.declared.faults.TableFault.TheVariants as fault
 use Rattle.table_entries.specs.Entries.{Entry}
 use Rattle.table_entries.specs.Tables.{Kept, Holds, count_of, entry_at, table_read}
+use Rattle.table_entries.proofs.GrowingLaws.{inside_some}
 use Rattle.rechecking.specs.declared.errors.TableError.{TableError}
 use Rattle.rechecking.specs.declared.errors.TableError.TheVariants.{Flow, Fault, Start, Step, Successor}
 use Rattle.rechecking.specs.Tables.{EntryAt, IsFine}
@@ -17,12 +17,6 @@ use Rattle.rechecking.specs.Refusing.{Shows, IsFault, IsRefused}
 -- the entries by their indexes are those of the bytes
 same_entries : (p : Program) (t : Kept) (entries : List Entry) → Holds p t entries → entry_at p t ≡ slice_get entries
 same_entries p t entries h = λ i k. h.each k i
-
-inside_some : (entries : List Entry) (k : ℕ) → k < length entries → IsSome (slice_get entries k)
-inside_some entries k less = elim ((slice_get_cases entries k).1) [
-  | inl there ↦ subst (λ (o : Option Entry). IsSome o) (sym there.2) refl
-  | inr past ↦ let le = past.0 in absurd (omega arith)
-]
 
 pub entries_there : (p : Program) (t : Kept) (entries : List Entry) → Holds p t entries → (k : ℕ) → k < count_of t → IsSome (entry_at p t k)
 entries_there p t entries h k less =

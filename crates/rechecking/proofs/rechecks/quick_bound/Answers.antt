@@ -1,9 +1,8 @@
 use Rattle.std.proofs.Common.{◌≡◌, inl, inr, refl, subst, ◌∙◌, arith}
 use Rattle.std.proofs.lemmas.Bool.{cases_lt}
 use Rattle.table_entries.specs.Tables.{count_of}
-use Rattle.table_entries.proofs.GrowingLaws.{AllThere-begun, whole_read}
+use Rattle.table_entries.proofs.GrowingLaws.{AllThere-begun, no_entry_past, whole_read}
 use Rattle.rechecking.specs.Refusing.{Shows}
-use Rattle.rechecking.proofs.CheckingLaws.{no_entry_past}
 use Rattle.rechecking.proofs.GrowingLaws.{HasStart-grows}
 use Rattle.rechecking.proofs.RefusalLaws.{shows_of}
 use Rattle.rechecking.proofs.rechecks.quick_bound.Goals as goal

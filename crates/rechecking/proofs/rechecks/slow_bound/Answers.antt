@@ -2,10 +2,9 @@ use Rattle.std.proofs.Common.{◌≡◌, ◌<◌, ℕ, Some, inl, inr, refl, sub
 use Rattle.table_entries.specs.Entries.{Entry}
 use Rattle.std.proofs.lemmas.Bool.{cases_lt}
 use Rattle.table_entries.specs.Tables.{entry_at, count_of}
-use Rattle.table_entries.proofs.GrowingLaws.{entry_at-whole}
+use Rattle.table_entries.proofs.GrowingLaws.{entry_at-whole, no_entry_past}
 use Rattle.rechecking.specs.Tables.{EntryAt, IsFine}
 use Rattle.rechecking.specs.Checking.{IsFirstFault}
-use Rattle.rechecking.proofs.CheckingLaws.{no_entry_past}
 use Rattle.rechecking.proofs.RefusalLaws.{shows_of, refused_entry}
 use Rattle.rechecking.proofs.rechecks.slow_bound.Goals as goal
 
