@@ -88,14 +88,37 @@ fn forget_slots(flow: &Flow<'_>, slot: usize, slots: &mut [Slot; FRAME_SLOTS])
     }
 }
 
+/// Forgets what is known of the registers and of the slots of a frame's stack that are dead at a
+/// slot of the code, if it is a join.
+fn forget_places(
+    flow: &Flow<'_>,
+    slot: usize,
+    registers: &mut [Kind; 10],
+    slots: &mut [Slot; FRAME_SLOTS],
+)
+    ensures registers { AreKept flow.now slot registers.old registers.new }
+    ensures slots { AreSlotsKept flow.now slot slots.old slots.new }
+{
+    if !flow.is_join(slot) {
+        return;
+    }
+    forget_registers(flow, slot, registers);
+    forget_slots(flow, slot, slots);
+}
+
 /// Forgets what is known of the registers and of the slots of the innermost frame's stack that are
 /// dead at a state's slot, if it is a join: no path from there reads them before it writes them,
 /// and states that differ only in them become one.
 pub fn forget_dead(flow: &Flow<'_>, state: &mut State)
     ensures { Forgets flow.now state.old state.new }
 {
-    forget_registers(flow, state.slot, &mut state.innermost.registers);
-    forget_slots(flow, state.slot, &mut state.innermost.stack.slots);
+    let frame = &mut state.innermost;
+    forget_places(
+        flow,
+        state.slot,
+        &mut frame.registers,
+        &mut frame.stack.slots,
+    );
 }
 
 /// Whether all slots of the innermost frame's stack are forgotten where a path comes to a slot of
