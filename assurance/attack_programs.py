@@ -64,12 +64,20 @@ def limit(chance, number=2):
     ])
 
 
+def both_halves(chance):
+    """Tests of the low half, and a limit of the whole number whose low half may be below all that the first one leaves."""
+    whole = (chance.randrange(3) << 32) + chance.choice([0, 5, 63, 64])
+    lines = [[f"if w2 < {constant(chance, [32, 16])} goto out", f"if w2 > {constant(chance, [63])} goto out"],
+             [f"r7 = {whole} ll", f"if r2 {chance.choice(['>', '>='])} r7 goto out"]]
+    return sum(chance.sample(lines, 2), [])
+
+
 def sums(chance):
     """Sums that wrap, masks, signs mixed: a number reaches a value of 64 bytes, or 64 bytes of the stack."""
     lines = NUMBERS + chance.choice([[], ["r2 <<= 32", "r2 |= r3"], ["r3 <<= 32"], limit(chance, 3)])
     lines += chance.choice([[], ["if r2 s< 0 goto out"], ["if r2 s>= 0 goto out"], ["if w2 s< 0 goto out"]])
     lines += chance.choice([[], [f"r3 = {chance.choice([2**31, 2**62, 2**63 - 64, 2**63, 2**64 - 64])} ll"]])
-    lines += [change(chance) for _ in range(chance.randrange(3))] + limit(chance)
+    lines += [change(chance) for _ in range(chance.randrange(3))] + (both_halves(chance) if chance.random() < 0.2 else limit(chance))
     lines += [change(chance) for _ in range(chance.choice([0, 0, 0, 1]))]
     size = chance.choice(list(SIZES))
     place = chance.choice([0, 0, 0, 1, -1, 1 - SIZES[size]])
@@ -123,7 +131,8 @@ def spills(chance):
     ])
     back, size = chance.choice(["u64", "u64", "u64", "u32"]), chance.choice(["u8", "u32"])
     lines.append(f"r7 = *({back} *)(r10 - {chance.choice([8, 8, 8, 16])})")
-    lines.append(f"r0 = *({size} *)(r7 - {chance.choice([0, 0, 1, 8])})")
+    read = f"r0 = *({size} *)(r7 - {chance.choice([0, 0, 1, 8])})"
+    lines.append(chance.choice([read, read, "r0 = r7"]))
     return program(["map array 4 64 1"], lines, {"write": ["*(u8 *)(r1 + 0) = 3", "r0 = 0"]})
 
 
@@ -141,7 +150,7 @@ def freed(chance):
     lines += chance.choice([found, found, ["if r0 != 0 goto +1", "goto out"], [], ["r9 = r0", "if r9 == 0 goto out"]])
     lines += chance.choice([["r7 = r0"], ["*(u64 *)(r10 - 40) = r0"], ["r7 = r0", "*(u64 *)(r10 - 40) = r0"]])
     between = [[], delete(chance.choice(maps)), put(chance.choice(maps)), find(own) + ["r7 = r0"], find(own), ["call remove"],
-               find(own) + ["if r0 == 0 goto out"], ["call 5"]]
+               find(chance.choice(maps)) + ["if r0 == 0 goto out"], find(2) + ["if r0 == 0 goto out"], ["call 5"]]
     lines += sum((chance.choice(between) for _ in range(chance.choice([1, 1, 2]))), [])
     lines += chance.choice([[], ["r7 = *(u64 *)(r10 - 40)"], ["r7 = r0"], ["r7 = r0", "if r7 == 0 goto out"]])
     size = chance.choice(list(SIZES))
@@ -150,9 +159,21 @@ def freed(chance):
     return program(["map hash 4 8 4", "map hash 4 8 4", "map array 4 8 2"], lines, {"remove": remove})
 
 
+def stored_in(chance):
+    """A pointer in a caller's frame, which the function that is called overwrites, in part or beside it."""
+    size = chance.choice(list(SIZES))
+    place = chance.choice([0, 0, 0, 8, 8 - SIZES[size], -8])
+    lines = ["*(u64 *)(r10 - 32) = 4", "*(u64 *)(r10 - 24) = 4", "*(u64 *)(r10 - 8) = r10", "*(u64 *)(r10 - 16) = r10", "r1 = r10",
+             f"r1 += -{chance.choice([8, 16])}", "call store", f"r7 = *(u64 *)(r10 - {chance.choice([8, 16])})", "r0 = *(u64 *)(r7 - 32)"]
+    return program([], lines, {"store": [f"*({size} *)(r1 + {place}) = 3".replace("+ -", "- "), "r0 = 0"]})
+
+
 def frames(chance):
-    """Pointers into frames that have ended, or into a frame of the same depth that came later, and registers over calls."""
+    """Pointers into frames that have ended, or into a frame of the same depth that came later, registers over calls, and
+    stores in a caller's frame."""
     keep = ["r6 = r10", "*(u64 *)(r10 - 8) = 4", "*(u64 *)(r10 - 16) = 4"]
+    if chance.random() < 0.3:
+        return stored_in(chance)
     give = [["r1 = r10", "r1 += -8"], ["r1 = r10", "r1 += -16"], ["r1 = r10", "r1 += -16"], ["r1 = r6"], []]
     lines = keep + chance.choice(give) + ["call first"]
     again = ["r1 = r0", "call second"]
@@ -299,8 +320,8 @@ def loaded(chance, at):
 
 
 def slots(chance):
-    """Stack slots that are written, kept over joins, loops and calls, and read again, all of them after they were written:
-    so none of these programs may be refused for bytes that were not written (V7, V15)."""
+    """Stack slots that are written, kept over joins, loops and calls, and read again, all of them after they were written,
+    as all registers are: so none of these programs may be refused."""
     places = chance.sample(range(8, 73, 8), chance.choice([2, 3, 4]))
     lines, joins = [*NUMBERS, "r5 = 0", "r9 = 0"], 0
     for at in places:
@@ -418,5 +439,5 @@ def kinds(chance):
 
 FAMILIES = {"sums": sums, "lengths": lengths, "moves": moves, "fixed": fixed, "reversals": reversals, "parts": parts,
             "divisions": divisions, "spills": spills, "slots": slots, "kinds": kinds, "freed": freed, "frames": frames, "answers": answers}
-# What programs of a family may not be refused for.
-NEVER = {"slots": ["V7", "V15"]}
+# What programs of a family may not be refused for: those of `slots` for nothing, since all that they read was set.
+NEVER = {"slots": [f"V{number}" for number in range(1, 22)]}

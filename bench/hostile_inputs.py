@@ -215,7 +215,7 @@ def chains():
         for name, keys in ("of one hash", same), ("of any hash", [struct.pack("<QQ", at * SPREAD % ALL, at) for at in range(count)]):
             stream = b"XPF1" + b"".join(struct.pack("<QIII", at, 0, 0, size) + key for at, key in enumerate(keys))
             yield f"{count} keys {name}", [PROGRAM, "run", "image", write("frames", stream), "sent"]
-            if count < 65536:
+            if count == 4096:
                 yield f"{count} keys {name}, by `trace`", [PROGRAM, "trace", "image", "frames", "sent"]
 
 
