@@ -1,9 +1,9 @@
-/* What libFuzzer or AFL++ calls: an accepted program runs, its traced run and its session agree, and all calls agree in the
-   verdict.
+/* What libFuzzer or AFL++ calls: an accepted program runs, its traced run and its session agree, its maps
+   keep what is written between two runs, and all calls agree in the verdict.
 
    The input's first byte says by its lowest bit whether a text (1) or an image (0) is at byte 12; before that come the head
    and the length of the packet. With bit 1 the image ends after as many bytes as bytes 10 and 11 say, and what follows it is
-   a stream of frames (bit 2: 0) or a proof table (1). With counters in the library (docs/EMBEDDING.md):
+   a stream of frames (bit 2: 0) or a proof table (1). With coverage.py's OBJECT:
    clang -fsanitize=fuzzer fuzz.c OBJECT liblibc_c.a. Without, -DDRIVE gives a driver that mutates files by itself:
    fuzz SECONDS SEED FILE.. */
 #include "xdpvm.h"
@@ -13,7 +13,7 @@
 
 static uint8_t image[XDPVM_MAX_IMAGE], why[1 << 14];
 static uint8_t one[XDPVM_MAX_PACKET], two[XDPVM_MAX_PACKET], three[XDPVM_MAX_PACKET];
-static unsigned long tried, accepted, traced_alone, undecided, rechecks, streams;
+static unsigned long tried, accepted, traced_alone, undecided, rechecks, streams, changes;
 
 /* No input takes seconds: what is explored up to here takes milliseconds. */
 #define MOST_EXPLORED 20000
@@ -26,8 +26,8 @@ static void check(int holds, const char *what) {
 }
 
 static void report(void) {
-    fprintf(stderr, "tried %lu, accepted %lu, traced alone %lu, undecided %lu, streams %lu, tables %lu\n", tried, accepted,
-            traced_alone, undecided, streams, rechecks);
+    fprintf(stderr, "tried %lu, accepted %lu, traced alone %lu, undecided %lu, streams %lu, tables %lu, maps changed %lu\n", tried,
+            accepted, traced_alone, undecided, streams, rechecks, changes);
 }
 
 /* A refused program may be traced, and has to end in one of the three ways. */
@@ -37,6 +37,33 @@ static void trace_refused(const uint8_t *code, size_t size, const struct xdpvm_h
     if (status != XDPVM_OK) return;
     traced_alone++;
     check(end.kind <= XDPVM_LIMIT && end.steps <= 10000 && (end.kind == XDPVM_TRAP) == (end.reason != 0), "an end");
+}
+
+/* A key that is updated, or deleted, is there for a look-up, or is not; the next keys are where a map has some. */
+static void change_map(struct xdpvm_session *session, const uint8_t *code, size_t map) {
+    static uint8_t value[4096], found[4096], key[65], next[64];
+    const uint8_t *row = code + 8 + 12 * map;
+    size_t keys = row[2] | (size_t)row[3] << 8, values = row[4] | (size_t)row[5] << 8;
+    int is_array = row[0] == 2;
+    struct xdpvm_changed changed = {9};
+    changes++;
+    memcpy(key, three, keys);
+    memcpy(value, three, values);
+    if (is_array) key[1] = key[2] = key[3] = 0;
+    uint32_t before = xdpvm_lookup(session, map, key, keys, found, values);
+    check(before == XDPVM_OK || before == XDPVM_ABSENT, "a look-up");
+    check(xdpvm_update(session, map, key, keys, value, values, three[7] % 4, &changed) == XDPVM_OK, "an update");
+    uint64_t answer = changed.answer;
+    uint32_t after = xdpvm_lookup(session, map, key, keys, found, values);
+    check(after == (answer == 0 ? XDPVM_OK : before), "a look-up after an update");
+    check(answer != 0 || !memcmp(found, value, values), "the value after an update");
+    uint32_t first = xdpvm_next(session, map, 0, next, keys, found, values);
+    check(first == XDPVM_OK || (first == XDPVM_ABSENT && after == XDPVM_ABSENT), "the first key");
+    check(xdpvm_delete(session, map, key, keys, &changed) == XDPVM_OK, "a delete");
+    check((changed.answer == 0) == (!is_array && after == XDPVM_OK), "the answer of a delete");
+    check(is_array || xdpvm_lookup(session, map, key, keys, found, values) == XDPVM_ABSENT, "a look-up after a delete");
+    check(xdpvm_lookup(session, map, key, keys + 1, found, values) == XDPVM_WRONG, "a key of another size");
+    xdpvm_update(session, map, key, keys, value, values, 0, &changed);
 }
 
 static void compare(const uint8_t *code, size_t size, const struct xdpvm_head *head, size_t length) {
@@ -67,9 +94,12 @@ static void compare(const uint8_t *code, size_t size, const struct xdpvm_head *h
     uint32_t opened = xdpvm_open(code, size, &session);
     if (opened == XDPVM_MEMORY) return;
     uint32_t again = xdpvm_run(&session, head, three, length, &ended);
-    xdpvm_close(&session);
     check(opened == XDPVM_OK && again == XDPVM_OK, "verify and open");
     check(traced.r0 == ended.r0 && traced.steps == ended.steps && !memcmp(three, two, length), "a run in a session");
+    for (size_t map = 0; map < (code[4] | (size_t)code[5] << 8); map++) change_map(&session, code, map);
+    again = xdpvm_run(&session, head, three, length, &ended);
+    check(again == XDPVM_OK && ended.steps <= verdict.bound, "a run on maps that were changed");
+    xdpvm_close(&session);
 }
 
 /* A table that passes shows what a verified program has: the traced run exits within its bound. */

@@ -6,6 +6,7 @@ use exact_io::write_bytes;
 use std::alloc::{AllocError, Global};
 use std::io;
 use std::io::{ErrorKind, Write};
+use survey_rows::shown;
 use tasks::WordsError;
 
 const USAGE: &str = "usage: xdpvm_survey IMAGE|FOLDER .. | log IMAGE | dis IMAGE\n";
@@ -31,14 +32,20 @@ impl From<AllocError> for Failure {
     }
 }
 
-/// The line for a file or an output that failed.
+/// The line for a file or an output that failed. A name that is not UTF-8 is one in a folder.
 pub fn file_line(
     alloc: Global,
     what: &str,
     path: &str,
     kind: ErrorKind,
 ) -> Result<String, AllocError> {
-    format!(in alloc; "cannot {what} {path}: {kind}\n")
+    let path = shown(alloc, path)?;
+    match kind {
+        ErrorKind::InvalidFilename => {
+            format!(in alloc; "cannot {what} all of {path}: a name in it is not UTF-8\n")
+        }
+        kind => format!(in alloc; "cannot {what} {path}: {kind}\n"),
+    }
 }
 
 impl Failure {

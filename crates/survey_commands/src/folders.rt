@@ -8,7 +8,7 @@ use std::{fs, io};
 // The end of an image's name.
 const ENDING: &str = ".image";
 
-/// What a path names: an image, or a folder that cannot be read.
+/// What a path names: an image, or a folder that cannot be read, or not all of it.
 #[derive(Drop)]
 pub struct Named {
     pub path: String,
@@ -41,29 +41,49 @@ pub fn add_folder(
     Ok(())
 }
 
+/// The images that a path names.
+#[derive(Drop)]
+pub struct FoundImages {
+    pub paths: Vec<String>,
+    /// Whether the folder has names that are not UTF-8. They name no file that can be opened here.
+    pub has_unnamed: bool,
+}
+
 /// The images of a folder, in the order of their names.
 fn images_in<R: Files + AllocGlobal + Clone + Drop>(
     rt: &R,
     folder: &str,
-) -> io::Result<Vec<String>> {
+) -> io::Result<FoundImages> {
     let alloc = rt.alloc();
     let mut paths = Vec::new(alloc);
+    let mut has_unnamed = false;
     for entry in fs::read_dir(rt, folder)? {
-        let entry = entry?;
-        let path = entry.path().as_str();
-        if path.ends_with(ENDING) {
-            paths.push(String::from_str(alloc, path)?)?;
+        match entry {
+            Ok(entry) => add_path(alloc, entry.path().as_str(), &mut paths)?,
+            Err(error) if error.kind() == ErrorKind::InvalidFilename => has_unnamed = true,
+            Err(error) => return Err(error),
         }
     }
     paths.sort()?;
-    Ok(paths)
+    Ok(FoundImages { paths, has_unnamed })
+}
+
+/// Adds a path of a folder, if it is that of an image.
+fn add_path(alloc: Global, path: &str, paths: &mut Vec<String>) -> Result<(), AllocError> {
+    if path.ends_with(ENDING) {
+        paths.push(String::from_str(alloc, path)?)?;
+    }
+    Ok(())
 }
 
 /// A list of one path.
-fn one(alloc: Global, path: &str) -> Result<Vec<String>, AllocError> {
+fn one(alloc: Global, path: &str) -> Result<FoundImages, AllocError> {
     let mut paths = Vec::new(alloc);
     paths.push(String::from_str(alloc, path)?)?;
-    Ok(paths)
+    Ok(FoundImages {
+        paths,
+        has_unnamed: false,
+    })
 }
 
 fn is_folder<R: Files>(rt: &R, path: &str) -> bool {
@@ -77,7 +97,7 @@ fn is_folder<R: Files>(rt: &R, path: &str) -> bool {
 pub fn images<R: Files + AllocGlobal + Clone + Drop>(
     rt: &R,
     path: &str,
-) -> io::Result<Vec<String>> {
+) -> io::Result<FoundImages> {
     if is_folder(rt, path) {
         return images_in(rt, path);
     }

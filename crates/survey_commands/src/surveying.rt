@@ -98,7 +98,7 @@ fn keep(rows: &mut Vec<Row>, row: Row) -> Result<(), AllocError> {
     Ok(())
 }
 
-/// All images that the paths name, and the folders that cannot be read.
+/// All images that the paths name, and the folders that cannot be read, or not all of them.
 fn all_named<R: Files + AllocGlobal + Clone + Drop>(
     rt: &R,
     survey: &Survey<'_>,
@@ -107,7 +107,12 @@ fn all_named<R: Files + AllocGlobal + Clone + Drop>(
     let mut all = Vec::new(alloc);
     for path in survey.paths.as_slice() {
         match images(rt, *path) {
-            Ok(paths) => add_images(alloc, paths.as_slice(), &mut all)?,
+            Ok(found) => {
+                add_images(alloc, found.paths.as_slice(), &mut all)?;
+                if found.has_unnamed {
+                    add_folder(alloc, *path, ErrorKind::InvalidFilename, &mut all)?;
+                }
+            }
             Err(error) => add_folder(alloc, *path, error.kind(), &mut all)?,
         }
     }

@@ -8,8 +8,8 @@ use std::alloc::{AllocError, Global};
 use std::io::Write;
 use std::rt::Files;
 use survey_rows::{
-    Column, EarlierError, Grid, Layout, Row, changes_since, csv_text, grid_of, json_text, sort,
-    table_text, width_of,
+    Column, EarlierError, Grid, Layout, Row, changes_since, csv_text, grid_of, json_text,
+    shown_width, sort, table_text,
 };
 use survey_words::{Format, Survey};
 
@@ -62,7 +62,7 @@ fn columns_of(alloc: Global, survey: &Survey<'_>) -> Result<Vec<Column>, AllocEr
 fn longest_of(named: &[Named]) -> usize {
     let mut longest = Column::File.width();
     for one in named {
-        longest = longest.max(width_of(one.path.as_str()));
+        longest = longest.max(shown_width(one.path.as_str()));
     }
     longest
 }

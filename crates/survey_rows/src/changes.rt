@@ -5,6 +5,7 @@ use crate::columns::Column;
 use crate::earlier::{Earlier, EarlierError};
 use crate::rows::Row;
 use csv::ByteRecord;
+use indexmap::IndexSet;
 use std::alloc::{AllocError, Global};
 
 /// The columns that are compared: those that another run repeats.
@@ -154,36 +155,35 @@ fn add_gone(
         Some(field) => cell_of(alloc, field)?,
         None => Cell::Nothing,
     };
-    let file = earlier.field(record, Column::File).unwrap_or(b"");
-    let file = std::str::from_utf8(file).unwrap_or("");
+    let file = std::str::from_utf8(earlier.file(record)).unwrap_or("");
     rows.push(change(alloc, file, Column::Verdict, verdict, Cell::Nothing)?)?;
     Ok(())
 }
 
-/// Whether one of the rows is of this file.
-fn has_file(rows: &[Row], file: &[u8]) -> bool {
+/// The files that rows are of.
+fn files_of(alloc: Global, rows: &[Row]) -> Result<IndexSet<&[u8]>, AllocError> {
+    let mut files = IndexSet::new(alloc);
     for row in rows {
-        if row.file.as_bytes() == file {
-            return true;
-        }
+        files.insert(row.file.as_bytes())?;
     }
-    false
+    Ok(files)
 }
 
 /// The differences from an earlier survey, given as the bytes of its CSV: a row for each value that
 /// changed, for each image that is new, and for each one that is gone. Times are not compared.
 pub fn changes_since(alloc: Global, bytes: &[u8], surveyed: &[Row]) -> Result<Grid, EarlierError> {
     let earlier = Earlier::read(alloc, bytes)?;
+    let by_file = earlier.by_file(alloc)?;
+    let files = files_of(alloc, surveyed)?;
     let mut rows = Vec::new(alloc);
     for row in surveyed {
-        match earlier.of_file(row.file.as_bytes()) {
-            Some(record) => add_changes(alloc, &earlier, record, row, &mut rows)?,
+        match by_file.get(row.file.as_bytes()) {
+            Some(record) => add_changes(alloc, &earlier, *record, row, &mut rows)?,
             None => add_new(alloc, row, &mut rows)?,
         }
     }
     for record in earlier.records() {
-        let file = earlier.field(record, Column::File).unwrap_or(b"");
-        if !has_file(surveyed, file) {
+        if !files.contains(earlier.file(record)) {
             add_gone(alloc, &earlier, record, &mut rows)?;
         }
     }

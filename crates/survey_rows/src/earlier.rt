@@ -2,6 +2,7 @@
 
 use crate::columns::Column;
 use csv::{ByteRecord, Error, ErrorKind, Reader, ReaderBuilder};
+use indexmap::IndexMap;
 use std::alloc::{AllocError, Global};
 use std::io;
 
@@ -102,15 +103,20 @@ impl Earlier {
         record.get(place_of(&self.names, column)?)
     }
 
-    /// The record of a file.
-    pub fn of_file(&self, file: &[u8]) -> Option<&ByteRecord> {
+    /// The file that a record is of.
+    pub fn file<'a>(&self, record: &'a ByteRecord) -> &'a [u8] {
+        self.field(record, Column::File).unwrap_or(b"")
+    }
+
+    /// The record of each file; of two records of one file, the first.
+    pub fn by_file(&self, alloc: Global) -> Result<IndexMap<&[u8], &ByteRecord>, AllocError> {
+        let mut all = IndexMap::new(alloc);
         for record in &self.records {
-            if let Some(name) = self.field(record, Column::File) {
-                if name == file {
-                    return Some(record);
-                }
+            let file = self.file(record);
+            if !all.contains_key(file) {
+                all.insert(file, record)?;
             }
         }
-        None
+        Ok(all)
     }
 }

@@ -19,4 +19,4 @@ pub use earlier::EarlierError;
 pub use jsons::json_text;
 pub use rows::{Counts, Layout, Row, Verdict, grid_of, sort};
 pub use summaries::Summary;
-pub use tables::{table_text, width_of};
+pub use tables::{shown, shown_width, table_text};

@@ -3,9 +3,35 @@
 use crate::cells::{Cell, Grid, Head, head_texts, row_texts};
 use std::alloc::{AllocError, Global};
 
+/// Adds a character as it is shown: a control character, which a terminal would obey, as an escape.
+fn show(alloc: Global, shown: &mut String, character: char) -> Result<(), AllocError> {
+    if !character.is_control() {
+        return shown.push(character);
+    }
+    let code = u32::from(character);
+    let escape = format!(in alloc; "\\x{code:02x}")?;
+    shown.push_str(escape.as_str())
+}
+
+/// A text as tables and messages show it: `\x1b` for each control character, the others as they are.
+pub fn shown(alloc: Global, text: &str) -> Result<String, AllocError> {
+    let mut shown = String::new(alloc);
+    for character in text.chars() {
+        show(alloc, &mut shown, character)?;
+    }
+    Ok(shown)
+}
+
 /// How many characters a text has.
-pub fn width_of(text: &str) -> usize {
+fn width_of(text: &str) -> usize {
     text.chars().count()
+}
+
+/// How many characters a text has as it is shown.
+pub fn shown_width(text: &str) -> usize {
+    text.chars().fold(0, |width: usize, character| {
+        width.saturating_add(if character.is_control() { 4 } else { 1 })
+    })
 }
 
 /// Makes each width at least that of the text under it.
@@ -68,11 +94,20 @@ fn put_row(
     text.push('\n')
 }
 
+/// The texts of a row, as they are shown.
+fn shown_texts(alloc: Global, row: &[Cell]) -> Result<Vec<String>, AllocError> {
+    let mut texts = Vec::new(alloc);
+    for text in &row_texts(alloc, row)? {
+        texts.push(shown(alloc, text.as_str())?)?;
+    }
+    Ok(texts)
+}
+
 /// The texts of all rows.
 fn all_texts(alloc: Global, rows: &[Vec<Cell>]) -> Result<Vec<Vec<String>>, AllocError> {
     let mut texts = Vec::new(alloc);
     for row in rows {
-        texts.push(row_texts(alloc, row.as_slice())?)?;
+        texts.push(shown_texts(alloc, row.as_slice())?)?;
     }
     Ok(texts)
 }

@@ -24,7 +24,7 @@ const FILES: [&str; 4] = ["passes", "unset", "short", "old"];
 // The words of a command, its status, and what standard output and standard error have.
 type Answer = (&'static [&'static str], u8, &'static str, &'static str);
 
-const ANSWERS: [Answer; 10] = [
+const ANSWERS: [Answer; 11] = [
     (
         &["short", "--format", "csv"],
         2,
@@ -43,6 +43,13 @@ const ANSWERS: [Answer; 10] = [
         4,
         "none,unreadable,,,,,,,,,\n",
         "cannot read none: entity not found\n0 accepted, 0 refused, 1 unreadable, 0 out of memory\n",
+    ),
+    (
+        &["no\x1bne", "--no-header"],
+        4,
+        "no\\x1bne  unreadable\n",
+        "cannot read no\\x1bne: entity not found\n\
+        0 accepted, 0 refused, 1 unreadable, 0 out of memory\n",
     ),
     (
         &[
