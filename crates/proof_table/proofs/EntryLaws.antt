@@ -7,6 +7,7 @@ use Rattle.std.proofs.lemmas.Bool.{le-ltb}
 use Rattle.byteorder.specs.Endian.{little_bytes, little_number}
 use Rattle.byteorder.specs.Numbers.{little_number-reads_back}
 use Rattle.isa_model.specs.Code.Instructions.{Program}
+use Rattle.isa_model.specs.Code.Limits.{max_call_frames}
 use Rattle.table_entries.specs.Entries.{Entry, named_in, head_allowed, rest_in, entry_in}
 use Rattle.proof_table.specs.Spelling.{frame_bytes, named_bytes, entry_bytes}
 use Rattle.proof_table.specs.Fitting.{EntryFits}
@@ -49,8 +50,8 @@ unfolding entry_bytes
 entry_parts e rest = simp append_assoc
 
 -- a number from 1 to 8
-few_frames : (n : ℕ) → n ≤ 7 → (suc n == 0 || nat_lt 8 (suc n)) ≡ false
-few_frames n few = let none : nat_lt 8 (suc n) ≡ false = le-ltb 8 (suc n) (omega arith) in rw (eqb-suc-zero n, none) refl
+few_frames : (n : ℕ) → n < max_call_frames → (suc n == 0 || nat_lt max_call_frames (suc n)) ≡ false
+few_frames n few = let none : nat_lt max_call_frames (suc n) ≡ false = le-ltb max_call_frames (suc n) (omega arith) in rw (eqb-suc-zero n, none) refl
 
 number-lt : (p : Program) (number slot : ℕ) → head_allowed p number slot ≡ true → number < 2 ^ 32
 number-lt p number slot h = grind arith

@@ -6,10 +6,12 @@ use Rattle.std.proofs.lemmas.List.{length-map, get_or-map}
 use Rattle.std.proofs.lemmas.List.Elements.{All-map}
 use Rattle.byteorder.specs.Endian.{little_bytes}
 use Rattle.isa_model.specs.Code.Instructions.{Program}
+use Rattle.isa_model.specs.Code.Limits.{max_call_frames}
 use Rattle.reg_state.specs.declared.kinds.Kind.TheVariants.{Unset, Number, Context, Stack, Packet, PacketEnd, Map, MapValue, MapValueOrNull}
 use Rattle.stack_state.specs.declared.slots.Slot.{Slot}
 use Rattle.stack_state.specs.declared.slots.Slot.TheVariants.{Written, Spilled}
 use Rattle.stack_state.specs.declared.states.AbstractFrame.{AbstractFrame}
+use Rattle.stack_state.specs.Slots.{frame_slots}
 use Rattle.table_entries.specs.Frames.{frame_allowed}
 use Rattle.table_entries.specs.Entries.{Entry, head_allowed}
 use Rattle.proof_table.specs.Spelling.{kind_bytes, slot_bytes, frame_bytes, named_bytes, entry_bytes}
@@ -20,7 +22,7 @@ use Rattle.proof_table.specs.Fitting.{KindFits, SlotFits, FrameFits, EntryFits, 
 All-mapped : {X Y : Type 0} (P : Y → Type 0) (f : X → Y) (xs : List X) → All P (map f xs) → All (λ x. P (f x)) xs
 All-mapped P f xs h k d less = subst P (get_or-map f xs k d (f d) less) (h k (f d) (omega (arith, length-map xs f)))
 
-pub FrameFits-said : (rows holder : ℕ) (outer : Bool) (f : AbstractFrame) (answer : Bool) → f.return_slot ≤ 65535 → length f.registers ≡ 10 → length f.stack.slots ≡ 64
+pub FrameFits-said : (rows holder : ℕ) (outer : Bool) (f : AbstractFrame) (answer : Bool) → f.return_slot ≤ 65535 → length f.registers ≡ 10 → length f.stack.slots ≡ frame_slots
     → frame_allowed holder outer f.return_slot f.registers ≡ true → All (KindFits rows holder) f.registers
     → (IsTrue answer ↔ All (λ slot. SlotFits rows holder (slot_said slot)) f.stack.slots) → (IsTrue answer ↔ FrameFits rows holder outer (frame_said f))
 FrameFits-said rows holder outer f answer small ten all_slots allowed registers slots = (
@@ -54,7 +56,7 @@ CallersFit-said rows callers h k d less =
 pub EntryFits-callers : (p : Program) (e : Entry) → EntryFits p (entry_said e) → CallersFit (length p.maps) e.state.callers.items
 EntryFits-callers p e h = CallersFit-said (length p.maps) e.state.callers.items h.callers
 
-pub EntryFits-said : (p : Program) (e : Entry) (answer : Bool) → head_allowed p e.number e.state.slot ≡ true → e.state.slot ≤ 65535 → length e.state.callers.items ≤ 7
+pub EntryFits-said : (p : Program) (e : Entry) (answer : Bool) → head_allowed p e.number e.state.slot ≡ true → e.state.slot ≤ 65535 → length e.state.callers.items < max_call_frames
     → CallersFit (length p.maps) e.state.callers.items → length e.successors ≤ 2 → All (λ i. i < 2 ^ 32) e.successors
     → (IsTrue answer ↔ FrameFits (length p.maps) (length e.state.callers.items) false (frame_said e.state.innermost)) → (IsTrue answer ↔ EntryFits p (entry_said e))
 EntryFits-said p e answer allowed small few callers named indexes innermost =

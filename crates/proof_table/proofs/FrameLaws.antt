@@ -6,6 +6,7 @@ use Rattle.std.proofs.lemmas.Bool.{le-ltb}
 use Rattle.byteorder.specs.Endian.{little_bytes, little_number}
 use Rattle.byteorder.specs.Numbers.{little_number-reads_back}
 use Rattle.stack_state.specs.declared.states.AbstractFrame.{AbstractFrame}
+use Rattle.stack_state.specs.Slots.{frame_slots}
 use Rattle.table_entries.specs.Reading.{Read, then_read, joined, many}
 use Rattle.table_entries.specs.Values.{kind_in, slot_in}
 use Rattle.table_entries.specs.Frames.{frame_in, callers_in}
@@ -49,8 +50,8 @@ frame_read rows holder outer f rest h =
     let long : nat_lt (length bytes) 2 ≡ false = le-ltb (length bytes) 2 (omega (arith, length-append (little_bytes 2 f.return_slot) values)) in
     let first : many (λ k. kind_in rows holder) 10 0 values ≡ Ok (Some f.registers, marks) =
     many-reads (λ k. kind_in rows holder) kind_bytes (λ k. KindFits rows holder) (λ k. kind_in-reads rows holder) f.registers 10 0 marks h.ten h.registers in
-    let second : many (λ k. slot_in rows holder) 64 0 marks ≡ Ok (Some f.stack.slots, rest) =
-    many-reads (λ k. slot_in rows holder) slot_bytes (λ k. SlotFits rows holder) (λ k. slot_in-reads rows holder) f.stack.slots 64 0 rest h.all_slots h.slots in
+    let second : many (λ k. slot_in rows holder) frame_slots 0 marks ≡ Ok (Some f.stack.slots, rest) =
+    many-reads (λ k. slot_in rows holder) slot_bytes (λ k. SlotFits rows holder) (λ k. slot_in-reads rows holder) f.stack.slots frame_slots 0 rest h.all_slots h.slots in
     let slot : little_number 2 bytes ≡ f.return_slot = little_number-reads_back 2 f.return_slot values h.return_slot in
     rw (long, first, second, slot, h.allowed) refl
 

@@ -1,5 +1,5 @@
 -- Tables and their entries that were written, whole or in part.
-use Rattle.std.specs.Prelude.{◌≡◌, ℕ, ◌+◌, ◌-◌, ◌^◌, ◌<◌, ◌≤◌, List, [], ◌∷◌, ◌++◌, length, replicate, All, OnErr, Option, Result, Ok, Err, refl}
+use Rattle.std.specs.Prelude.{◌≡◌, ℕ, ◌+◌, ◌-◌, ◌^◌, ◌<◌, ◌≤◌, List, [], ◌∷◌, ◌++◌, length, replicate, All, Option, Ok, refl}
 use Rattle.std.specs.Option.{is_some}
 use Rattle.std.specs.List.{flat_map}
 use Rattle.std.proofs.Common.{ap, sym, ◌∙◌, subst, append-nil, length-append, arith}
@@ -15,6 +15,7 @@ use Rattle.image.specs.Images.{IsImage}
 use Rattle.image.proofs.ImageLaws.{fetch-zero}
 use Rattle.stack_state.specs.declared.slots.Slot.TheVariants.{Written}
 use Rattle.stack_state.specs.declared.states.State.{State}
+use Rattle.stack_state.specs.Slots.{frame_slots}
 use Rattle.stack_state.specs.Starts.{start, first_registers}
 use Rattle.isa_model.specs.declared.limits.TheConstants.{MAX_EXPLORED}
 use Rattle.table_entries.specs.Entries.{Entry}
@@ -43,8 +44,8 @@ EntryFits-first p image =
         return_slot = omega arith;
         ten = refl;
         registers = All-from_recursion (KindFits rows 0) first_registers (tt, (tt, (tt, (tt, (tt, (tt, (tt, (tt, (tt, (tt, tt))))))))));
-        all_slots = length-replicate 64 (Written 0);
-        slots = All-replicate (SlotFits rows 0) 64 (Written 0) (omega arith);
+        all_slots = length-replicate frame_slots (Written 0);
+        slots = All-replicate (SlotFits rows 0) frame_slots (Written 0) (omega arith);
         allowed = refl;
       };
       named = omega arith;
@@ -54,11 +55,6 @@ EntryFits-first p image =
 entry_bytes-some : (e : Entry) → 0 < length (entry_bytes e)
 unfolding entry_bytes
 entry_bytes-some e = omega arith
-
--- a fact holds on an error, where it holds
-pub OnErr-holds : {X E : Type 0} (P : Type 0) (r : Result X E) → P → OnErr r P
-OnErr-holds P (Ok x) h = tt
-OnErr-holds P (Err e) h = h
 
 -- ---- entries
 

@@ -2,6 +2,7 @@
 use Rattle.std.specs.Prelude.{◌≡◌, ℕ, ◌^◌, ◌<◌, ◌≤◌, ℤ, pos, ◌≤ℤ◌, FitsSigned, Bool, true, false, length, get_or, map, All}
 use Rattle.std.specs.Int.{w32, w64}
 use Rattle.isa_model.specs.Code.Instructions.{Program}
+use Rattle.isa_model.specs.Code.Limits.{max_call_frames}
 use Rattle.ranges.specs.declared.wide.Wide.{Wide}
 use Rattle.ranges.specs.declared.low.Low.{Low}
 use Rattle.reg_state.specs.declared.scalars.Scalar.{Scalar}
@@ -10,6 +11,7 @@ use Rattle.reg_state.specs.declared.kinds.Kind.TheVariants.{Unset, Number, Conte
 use Rattle.stack_state.specs.declared.slots.Slot.{Slot}
 use Rattle.stack_state.specs.declared.slots.Slot.TheVariants.{Written, Spilled}
 use Rattle.stack_state.specs.declared.states.AbstractFrame.{AbstractFrame}
+use Rattle.stack_state.specs.Slots.{frame_slots}
 use Rattle.table_entries.specs.Frames.{frame_allowed}
 use Rattle.table_entries.specs.Entries.{Entry, head_allowed}
 
@@ -90,14 +92,14 @@ pub record FrameFits (rows holder : ℕ) (outer : Bool) (f : AbstractFrame) : Ty
   pub return_slot : f.return_slot < 2 ^ 16
   pub ten : length f.registers ≡ 10
   pub registers : All (KindFits rows holder) f.registers
-  pub all_slots : length f.stack.slots ≡ 64
+  pub all_slots : length f.stack.slots ≡ frame_slots
   pub slots : All (SlotFits rows holder) f.stack.slots
   pub allowed : frame_allowed holder outer f.return_slot f.registers ≡ true
 
 pub record EntryFits (p : Program) (e : Entry) : Type 0 where
   pub allowed : head_allowed p e.number e.state.slot ≡ true
   pub slot : e.state.slot < 2 ^ 16
-  pub few : length e.state.callers.items ≤ 7
+  pub few : length e.state.callers.items < max_call_frames
   pub callers : (k : ℕ) (d : AbstractFrame) → k < length e.state.callers.items → FrameFits (length p.maps) k true (get_or e.state.callers.items k d)
   pub innermost : FrameFits (length p.maps) (length e.state.callers.items) false e.state.innermost
   pub named : length e.successors ≤ 2

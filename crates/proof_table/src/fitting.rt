@@ -2,15 +2,17 @@
 
 ghost use Rattle.std.specs.Prelude.{◌≡◌, ◌↔◌, ℕ, ◌<◌, ◌≤◌, true, false, All, IsTrue, length, get_or};
 ghost use Rattle.stack_state.specs.declared.states.AbstractFrame.{AbstractFrame};
-ghost use Rattle.table_entries.specs.Frames.{is_unset, are_unset, frame_allowed};
+ghost use Rattle.stack_state.specs.Slots.{frame_slots};
+ghost use Rattle.table_entries.specs.Frames.{frame_allowed};
 ghost use Rattle.proof_table.specs.Fitting.{ScalarFits, StackFits, PacketFits, MapFits, ValueFits, NullFits, KindFits, SlotFits, FrameFits, EntryFits, slot_said, frame_said, entry_said};
 
 use image::Image;
 use known_bits::Bits;
 use ranges::{Low, Range, Wide};
 use reg_state::{Kind, Scalar};
-use stack_state::{AbstractFrame, Slot, State};
+use stack_state::{AbstractFrame, FRAME_SLOTS, Slot, State};
 use table_entries::entries::head_allowed;
+use table_entries::frames::frame_allowed;
 
 // ---- values; `rows` is how many map rows there are, `holder` the frame that holds the value
 
@@ -124,9 +126,9 @@ fn kinds_fit(rows: usize, holder: usize, kinds: &[Kind; 10]) -> bool
     true
 }
 
-fn slots_fit(rows: usize, holder: usize, slots: &[Slot; 64]) -> bool
+fn slots_fit(rows: usize, holder: usize, slots: &[Slot; FRAME_SLOTS]) -> bool
     ensures fit { IsTrue result ↔ All (λ slot. SlotFits rows holder (slot_said slot)) slots.now }
-    ensures count { length slots.now ≡ 64 }
+    ensures count { length slots.now ≡ frame_slots }
 {
     for slot in slots {
         if !slot_fits(rows, holder, slot) {
@@ -134,30 +136,6 @@ fn slots_fit(rows: usize, holder: usize, slots: &[Slot; 64]) -> bool
         }
     }
     true
-}
-
-fn is_unset(kind: &Kind) -> bool
-    ensures { result ≡ is_unset kind.now }
-{
-    matches!(kind, Kind::Unset)
-}
-
-// Whether r0 to r5 are unset.
-fn are_unset(registers: &[Kind; 10]) -> bool
-    ensures { result ≡ are_unset registers.now }
-{
-    is_unset(&registers[0])
-        && is_unset(&registers[1])
-        && is_unset(&registers[2])
-        && is_unset(&registers[3])
-        && is_unset(&registers[4])
-        && is_unset(&registers[5])
-}
-
-fn frame_allowed(holder: usize, outer: bool, slot: usize, registers: &[Kind; 10]) -> bool
-    ensures { result ≡ frame_allowed holder outer slot registers.now }
-{
-    (holder != 0 || slot == 0) && (!outer || are_unset(registers))
 }
 
 fn frame_fits(rows: usize, holder: usize, outer: bool, frame: &AbstractFrame) -> bool

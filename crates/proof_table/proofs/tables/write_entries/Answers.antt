@@ -1,7 +1,8 @@
 use Rattle.std.proofs.Common.{ℕ, List, subst}
 use Rattle.std.specs.Io.KnownBytes.{Appends}
 use Rattle.exact_io.specs.Transfers.{AppendsBeginning}
-use Rattle.proof_table.proofs.WritingLaws.{OnErr-holds, GainsEntries-none, GainsEntries-more, BeginsEntries-part, BeginsEntries-some}
+use Rattle.image.proofs.Writing.{on_err}
+use Rattle.proof_table.proofs.WritingLaws.{GainsEntries-none, GainsEntries-more, BeginsEntries-part, BeginsEntries-some}
 use Rattle.proof_table.proofs.tables.write_entries.Goals as goal
 
 pub loop-index-init : goal.loop-index-init
@@ -13,14 +14,14 @@ returns-in_default-clause-err g c =
 
 pub returns-in_err-spell_explored-clause-err : goal.returns-in_err-spell_explored-clause-err
 returns-in_err-spell_explored-clause-err g c =
-    OnErr-holds _ c.from_residual.result
+    on_err _ c.from_residual.result
     (BeginsEntries-some c.args.image.now c.loop-index.index c.args.count _ _ c.slots-slots.ensures.fits c.loop-index-test.true c.loop-index.invariant)
 
 pub returns-in_err-write_all-clause-err : goal.returns-in_err-write_all-clause-err
 returns-in_err-write_all-clause-err g c =
     let part = subst (λ (l : List ℕ). AppendsBeginning (g.W.Write.contents c.loop-index.writer) (g.W.Write.contents c.write_all.new.writer) l) c.deref.ensures.value
     c.in_err-write_all.ensures.err in
-    OnErr-holds _ c.from_residual-in_err-write_all.result
+    on_err _ c.from_residual-in_err-write_all.result
     (BeginsEntries-part c.args.image.now c.loop-index.index c.args.count _ _ _ _ c.spell_explored.new.buffer.items c.slots-slots.ensures.fits c.loop-index-test.true c.loop-index.invariant
     c.in_ok-spell_explored.ensures.ok part)
 

@@ -5,8 +5,9 @@ use Rattle.std.specs.Io.KnownBytes.{Appends}
 use Rattle.isa_model.specs.Code.Instructions.{Program}
 use Rattle.exact_io.specs.Transfers.{AppendsBeginning}
 use Rattle.image.specs.Images.{IsImage}
+use Rattle.image.proofs.Writing.{on_err}
 use Rattle.proof_table.specs.Writing.{BeginsTable, GainsTable, BeginsEntries, GainsEntries}
-use Rattle.proof_table.proofs.WritingLaws.{OnErr-holds, GainsTable-entries, BeginsTable-entries, BeginsTable-head, BeginsTable-nothing}
+use Rattle.proof_table.proofs.WritingLaws.{GainsTable-entries, BeginsTable-entries, BeginsTable-head, BeginsTable-nothing}
 use Rattle.proof_table.proofs.tables.write_table.Goals as goal
 
 pub returns-in-Err-clause-err : goal.returns-in-Err-clause-err
@@ -23,7 +24,7 @@ returns-in_err-write_all-clause-err g c =
     let p = c.args.verified.now.program in
     let part = subst (λ (l : List ℕ). AppendsBeginning (g.W.Write.contents c.args.writer.now) (g.W.Write.contents c.write_all.new.writer) l) c.head_bytes.ensures
     c.in_err-write_all.ensures.err in
-    OnErr-holds _ c.from_residual.result
+    on_err _ c.from_residual.result
     (BeginsTable-head p c.len-count.result _ _ (subst IsImage c.image-image.ensures.program c.slots-slots.ensures.fits) (omega arith) (omega arith) part)
 
 pub returns-clause-ok : goal.returns-clause-ok
