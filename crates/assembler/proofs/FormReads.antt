@@ -37,15 +37,16 @@ use Rattle.assembler.specs.declared.readings.Reading.{Reading}
 use Rattle.assembler.specs.declared.wrong.Wrong.{Wrong}
 use Rattle.assembler.specs.Operands.{atomic_op_of, comparison_of, width_of}
 use Rattle.assembler.specs.Statements.{arithmetic, statement_of}
+use Rattle.assembler.specs.Spells.{assigns, changes, compares, extends}
 use Rattle.assembler.proofs.PlainTexts.{unnamed_reading, plain_statement}
-use Rattle.assembler.proofs.TokenReads.{op_sign, atomic_sign, comparison_sign, extended_from, signed_tokens, constant_tokens, operand_tokens}
+use Rattle.assembler.proofs.TokenReads.{signed_tokens, constant_tokens, operand_tokens}
 
 -- ---- single tokens and numbers
 
-same-width : (w : Width) → (width_bits w == width_bits w) ≡ true
+pub same-width : (w : Width) → (width_bits w == width_bits w) ≡ true
 same-width w = eq-eqb (width_bits w) (width_bits w) refl
 
-same-register : (r : Reg) → (reg_number r == reg_number r) ≡ true
+pub same-register : (r : Reg) → (reg_number r == reg_number r) ≡ true
 same-register r = eq-eqb (reg_number r) (reg_number r) refl
 
 pub imm-pos : (n : ℕ) → FitsSigned w32 (pos n) → nat_lt n (2 ^ 31) ≡ true
@@ -80,7 +81,7 @@ moved-read Full64 d (Register r) h = arithmetic-read op.Mov Full64 d (Register r
 moved-read w d (Constant (pos n)) h = arithmetic-read op.Mov w d (Constant (pos n)) sign.Assign h
 moved-read w d (Constant (negsuc n)) h = arithmetic-read op.Mov w d (Constant (negsuc n)) sign.Assign h
 
-alu-statement : (o : AluOp) (w : Width) (d : Reg) (x : Operand) → OperandFits x → statement_of (reg w d ∷ Signed (op_sign o) ∷ operand_tokens w x) ≡ read (Alu w o d x)
+alu-statement : (o : AluOp) (w : Width) (d : Reg) (x : Operand) → OperandFits x → statement_of (reg w d ∷ Signed (assigns o) ∷ operand_tokens w x) ≡ read (Alu w o d x)
 unfolding statement_of
 alu-statement op.Mov w d x h = moved-read w d x h
 alu-statement op.Add w d x h = arithmetic-read op.Add w d x sign.AddAssign h
@@ -97,14 +98,14 @@ alu-statement op.SignedMod w d x h = arithmetic-read op.SignedMod w d x sign.Sig
 alu-statement op.Xor w d x h = arithmetic-read op.Xor w d x sign.XorAssign h
 alu-statement op.Arsh w d x h = arithmetic-read op.Arsh w d x sign.ArshAssign h
 
-pub alu-form : (o : AluOp) (w : Width) (d : Reg) (x : Operand) → OperandFits x → plain_statement (reg w d ∷ Signed (op_sign o) ∷ operand_tokens w x) ≡ Some (Alu w o d x)
+pub alu-form : (o : AluOp) (w : Width) (d : Reg) (x : Operand) → OperandFits x → plain_statement (reg w d ∷ Signed (assigns o) ∷ operand_tokens w x) ≡ Some (Alu w o d x)
 alu-form o w d x h = ap unnamed_reading (alu-statement o w d x h)
 
 pub neg-form : (w : Width) (d : Reg) → plain_statement (reg w d ∷ Signed sign.Assign ∷ Signed sign.Minus ∷ reg w d ∷ []) ≡ Some (Neg w d)
 unfolding statement_of
 neg-form w d = rw (same-width w, same-register d) refl
 
-pub extension-form : (e : Extension) (d s : Reg) → plain_statement (reg (extension_width e) d ∷ Signed sign.Assign ∷ Signed sign.Open ∷ Named (word.SignExtended (extended_from e)) ∷ Signed sign.Close ∷ reg (extension_width e) s ∷ []) ≡ Some (MovSx e d s)
+pub extension-form : (e : Extension) (d s : Reg) → plain_statement (reg (extension_width e) d ∷ Signed sign.Assign ∷ Signed sign.Open ∷ Named (word.SignExtended (extends e).1) ∷ Signed sign.Close ∷ reg (extension_width e) s ∷ []) ≡ Some (MovSx e d s)
 unfolding statement_of
 extension-form Low8 d s = refl
 extension-form Low16 d s = refl
@@ -151,17 +152,17 @@ constant-form size b (negsuc n) (negsuc m) h g = rw (offset-neg n h, imm-neg m g
 
 -- ---- atomic instructions
 
-atomic-back : (o : AtomicOp) → atomic_op_of (atomic_sign o) ≡ Ok o
+pub atomic-back : (o : AtomicOp) → atomic_op_of (changes o) ≡ Ok o
 atomic-back atomic.Add = refl
 atomic-back atomic.Or = refl
 atomic-back atomic.And = refl
 atomic-back atomic.Xor = refl
 
-width-back : (w : Width) → width_of (width_size w) ≡ Ok w
+pub width-back : (w : Width) → width_of (width_size w) ≡ Ok w
 width-back Low32 = refl
 width-back Full64 = refl
 
-pub lock-form : (w : Width) (o : AtomicOp) (b s : Reg) (by : ℤ) → FitsSigned w16 by → plain_statement (Named word.Lock ∷ memory_tokens (word.Unsigned (width_size w)) b by (Signed (atomic_sign o) ∷ reg Full64 s ∷ [])) ≡ Some (Atomic w o false (record { base = b; offset = by }) s)
+pub lock-form : (w : Width) (o : AtomicOp) (b s : Reg) (by : ℤ) → FitsSigned w16 by → plain_statement (Named word.Lock ∷ memory_tokens (word.Unsigned (width_size w)) b by (Signed (changes o) ∷ reg Full64 s ∷ [])) ≡ Some (Atomic w o false (record { base = b; offset = by }) s)
 unfolding statement_of
 lock-form w o b s (pos n) h = rw (offset-pos n h, width-back w, atomic-back o) refl
 lock-form w o b s (negsuc n) h = rw (offset-neg n h, width-back w, atomic-back o) refl
@@ -212,7 +213,7 @@ pub exit-form : plain_statement (Named word.Exit ∷ []) ≡ Some Exit
 unfolding statement_of
 exit-form = refl
 
-comparison-back : (c : Comparison) → comparison_of (comparison_sign c) ≡ Ok c
+pub comparison-back : (c : Comparison) → comparison_of (compares c) ≡ Ok c
 comparison-back comparison.Equal = refl
 comparison-back comparison.NotEqual = refl
 comparison-back comparison.Greater = refl
@@ -225,7 +226,7 @@ comparison-back comparison.SignedGreaterEqual = refl
 comparison-back comparison.SignedLess = refl
 comparison-back comparison.SignedLessEqual = refl
 
-pub condition-form : (w : Width) (c : Comparison) (d : Reg) (x : Operand) (by : ℤ) → OperandFits x → FitsSigned w16 by → plain_statement (Named word.If ∷ reg w d ∷ Signed (comparison_sign c) ∷ (operand_tokens w x ++ Named word.Goto ∷ signed_tokens by)) ≡ Some (JumpIf (record { width = w; comparison = c; register = d; operand = x }) by)
+pub condition-form : (w : Width) (c : Comparison) (d : Reg) (x : Operand) (by : ℤ) → OperandFits x → FitsSigned w16 by → plain_statement (Named word.If ∷ reg w d ∷ Signed (compares c) ∷ (operand_tokens w x ++ Named word.Goto ∷ signed_tokens by)) ≡ Some (JumpIf (record { width = w; comparison = c; register = d; operand = x }) by)
 unfolding statement_of
 condition-form w c d (Register r) (pos m) h g = rw (comparison-back c, same-width w, offset-pos m g) refl
 condition-form w c d (Register r) (negsuc m) h g = rw (comparison-back c, same-width w, offset-neg m g) refl

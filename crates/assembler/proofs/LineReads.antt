@@ -30,9 +30,10 @@ use Rattle.lexer.specs.declared.tokens.Token.{Token}
 use Rattle.lexer.specs.declared.tokens.Token.TheVariants.{Named, Number, Signed}
 use Rattle.assembler.specs.Statements.{map_line}
 use Rattle.assembler.specs.Labelled.{begins_map_line, begins_version_line, version_line}
+use Rattle.assembler.specs.Spells.{extends, assigns, changes, compares}
 use Rattle.assembler.proofs.PlainTexts.{◌>>=◌, keep, plain_statement, not-map-line, not-version-line, Parts, with_insn, takes, added, added_row, added_version, assembled}
 use Rattle.assembler.proofs.DigitRuns.{hexadecimal-read}
-use Rattle.assembler.proofs.TokenReads.{draft, reg-read, size-read, narrow-read, extension-read, extended_from, swap-read, fetch-read, exchange-read, compare-read, op-read, op_sign, atomic-read, atomic_sign, comparison-read, comparison_sign, negative-read, signed_tokens, constant_tokens, operand_tokens, place_tokens, distance-read, near-read, constant-read, operand-read, place-read}
+use Rattle.assembler.proofs.TokenReads.{draft, reg-read, size-read, narrow-read, extension-read, swap-read, fetch-read, exchange-read, compare-read, op-read, atomic-read, comparison-read, negative-read, signed_tokens, constant_tokens, operand_tokens, place_tokens, distance-read, near-read, constant-read, operand-read, place-read}
 use Rattle.assembler.proofs.FormReads.{alu-form, neg-form, extension-form, swap-form, wide-form, memory_tokens, load-form, extending-form, store-form, constant-form, lock-form, exchange_tokens, fetch-form, exchange-form, compare-form, jump-form, long-form, call-form, helper-form, exit-form, condition-form}
 
 -- ---- the end of a line
@@ -104,8 +105,8 @@ alu-line o w d x ps rest h room =
     ap (λ bs. assembled bs 0 (draft [] ps)) (parts6 (reg_text w d) (codes " ") (op_text o) (codes " ") (operand_text w x) (codes "\n") rest)
     ∙ reg-read w d 32 (op_text o ++ 32 ∷ tail) [] ps refl
     ∙ op-read o tail (reg w d ∷ []) ps
-    ∙ operand-read w x 10 rest (reg w d ∷ Signed (op_sign o) ∷ []) ps h (lit< tt) refl
-    ∙ end-read (reg w d) (Signed (op_sign o) ∷ operand_tokens w x) (Alu w o d x) ps rest (alu-form o w d x h) room
+    ∙ operand-read w x 10 rest (reg w d ∷ Signed (assigns o) ∷ []) ps h (lit< tt) refl
+    ∙ end-read (reg w d) (Signed (assigns o) ∷ operand_tokens w x) (Alu w o d x) ps rest (alu-form o w d x h) room
 
 pub neg-line : (w : Width) (d : Reg) (ps : Parts) (rest : Bytes) → Reads (Neg w d) ps rest
 unfolding line_of
@@ -120,7 +121,7 @@ pub extension-line : (e : Extension) (d s : Reg) (ps : Parts) (rest : Bytes) →
 unfolding line_of
 extension-line e d s ps rest room =
     let w : Width = extension_width e in
-    let size : Token = Named (word.SignExtended (extended_from e)) in
+    let size : Token = Named (word.SignExtended (extends e).1) in
     let tail : Bytes = reg_text w s ++ 10 ∷ rest in
     ap (λ bs. assembled bs 0 (draft [] ps)) (parts6 (reg_text w d) (codes " = (") (extension_text e) (codes ")") (reg_text w s) (codes "\n") rest)
     ∙ reg-read w d 32 (61 ∷ 32 ∷ 40 ∷ (extension_text e ++ 41 ∷ tail)) [] ps refl
@@ -211,7 +212,7 @@ constant-line size p k ps rest h g room =
 abbrev locked_so_far : Width → Place → List Token
 locked_so_far w p = ((Named word.Lock ∷ before_place (word.Unsigned (width_size w))) ++ place_tokens p) ++ Signed sign.Close ∷ []
 
-locked-tokens : (w : Width) (o : AtomicOp) (b s : Reg) (by : ℤ) → (locked_so_far w (record { base = b; offset = by }) ++ Signed (atomic_sign o) ∷ []) ++ reg Full64 s ∷ [] ≡ Named word.Lock ∷ memory_tokens (word.Unsigned (width_size w)) b by (Signed (atomic_sign o) ∷ reg Full64 s ∷ [])
+locked-tokens : (w : Width) (o : AtomicOp) (b s : Reg) (by : ℤ) → (locked_so_far w (record { base = b; offset = by }) ++ Signed (changes o) ∷ []) ++ reg Full64 s ∷ [] ≡ Named word.Lock ∷ memory_tokens (word.Unsigned (width_size w)) b by (Signed (changes o) ∷ reg Full64 s ∷ [])
 locked-tokens w o b s (pos n) = refl
 locked-tokens w o b s (negsuc n) = refl
 
@@ -223,9 +224,9 @@ lock-line w o p s ps rest h room =
     ∙ size-read (width_size w) (42 ∷ 41 ∷ 40 ∷ place_bytes p (41 ∷ 32 ∷ tail)) (Named word.Lock ∷ Signed sign.Star ∷ Signed sign.Open ∷ []) ps
     ∙ place-read p 41 (32 ∷ tail) (Named word.Lock ∷ before_place (word.Unsigned (width_size w))) ps h (lit< tt)
     ∙ atomic-read o (reg_text Full64 s ++ 10 ∷ rest) (locked_so_far w p) ps
-    ∙ reg-read Full64 s 10 rest (locked_so_far w p ++ Signed (atomic_sign o) ∷ []) ps refl
+    ∙ reg-read Full64 s 10 rest (locked_so_far w p ++ Signed (changes o) ∷ []) ps refl
     ∙ ap (λ us. assembled (10 ∷ rest) 0 (draft us ps)) (locked-tokens w o p.base s p.offset)
-    ∙ end-read (Named word.Lock) (memory_tokens (word.Unsigned (width_size w)) p.base p.offset (Signed (atomic_sign o) ∷ reg Full64 s ∷ [])) (Atomic w o false p s) ps rest (lock-form w o p.base s p.offset h) room
+    ∙ end-read (Named word.Lock) (memory_tokens (word.Unsigned (width_size w)) p.base p.offset (Signed (changes o) ∷ reg Full64 s ∷ [])) (Atomic w o false p s) ps rest (lock-form w o p.base s p.offset h) room
 
 -- the tokens of an exchange up to the comma after its place
 abbrev exchanged_so_far : Word → Reg → Place → List Token
@@ -311,7 +312,7 @@ pub condition-line : (c : Cond) (by : ℤ) (ps : Parts) (rest : Bytes) → Opera
 unfolding line_of
 condition-line c by ps rest h g room =
     let w : Width = c.width in
-    let first : List Token = Named word.If ∷ reg w c.register ∷ Signed (comparison_sign c.comparison) ∷ [] in
+    let first : List Token = Named word.If ∷ reg w c.register ∷ Signed (compares c.comparison) ∷ [] in
     let goto : List Token = Named word.Goto ∷ [] in
     let far : Bytes = distance_text by ++ 10 ∷ rest in
     let near : Bytes = operand_text w c.operand ++ 32 ∷ 103 ∷ 111 ∷ 116 ∷ 111 ∷ 32 ∷ far in
@@ -321,7 +322,7 @@ condition-line c by ps rest h g room =
     ∙ operand-read w c.operand 32 (103 ∷ 111 ∷ 116 ∷ 111 ∷ 32 ∷ far) first ps h (lit< tt) refl
     ∙ near-read by 10 rest ((first ++ operand_tokens w c.operand) ++ goto) ps g (lit< tt)
     ∙ ap (λ us. assembled (10 ∷ rest) 0 (draft (first ++ us) ps)) (append_assoc (operand_tokens w c.operand) goto (signed_tokens by))
-    ∙ end-read (Named word.If) (reg w c.register ∷ Signed (comparison_sign c.comparison) ∷ (operand_tokens w c.operand ++ Named word.Goto ∷ signed_tokens by)) (JumpIf c by) ps rest (condition-form w c.comparison c.register c.operand by h g) room
+    ∙ end-read (Named word.If) (reg w c.register ∷ Signed (compares c.comparison) ∷ (operand_tokens w c.operand ++ Named word.Goto ∷ signed_tokens by)) (JumpIf c by) ps rest (condition-form w c.comparison c.register c.operand by h g) room
 
 pub helper-line : (k : ℤ) (ps : Parts) (rest : Bytes) → FitsSigned w32 k → Reads (CallHelper k) ps rest
 unfolding line_of

@@ -9,6 +9,7 @@ use Rattle.isa_model.specs.declared.sizes.Size.{Size}
 use Rattle.isa_model.specs.declared.instructions.Place.{Place}
 use Rattle.isa_model.specs.declared.instructions.Insn.{Insn}
 use Rattle.isa_model.specs.declared.instructions.Insn.TheVariants.{StoreConstant, Store, Atomic, Jump, JumpLong, JumpIf, CallHelper, CallLocal, Exit}
+use Rattle.isa_model.specs.Code.Sizes.{width_size}
 use Rattle.lexer.specs.declared.tokens.Word.{Word}
 use Rattle.lexer.specs.declared.tokens.Word.TheVariants as word
 use Rattle.lexer.specs.declared.tokens.Sign.{Sign}
@@ -19,7 +20,7 @@ use Rattle.assembler.specs.declared.readings.Reading.{Reading}
 use Rattle.assembler.specs.declared.wrong.Wrong.TheVariants.{Form}
 use Rattle.assembler.specs.Operands.{◌>>=◌, keep, token_at, sign_at, atomic_op_of, comparison_of, width_of, word_at, expect_at, memory_at, register_at, operand_at, signed_at, target_at, as_register, as_size, constant_at}
 use Rattle.assembler.specs.Statements.{plain, stored_token, stored, locked, jump, long_jump, is_goto, goto_at, condition, tested, called_word, called, by_word, by_token, statement_of}
-use Rattle.assembler.specs.Spells.{changes, compares, atomic_size, reg, IsSigned, memory, IsTarget, Spells}
+use Rattle.assembler.specs.Spells.{changes, compares, reg, IsSigned, memory, IsTarget, Spells}
 use Rattle.assembler.proofs.SpellsTokens.{bind, kept, equal, At, Stands, whole, stands_more, token, signed_at_token, word_at_token, expected, register_in, register, signed, constant, operand}
 use Rattle.assembler.proofs.SpellsParts.{memory_at_tokens, target, atomic_in, comparison_in, width_in, size_in, ends_at}
 use Rattle.assembler.proofs.SpellsReads.{Spells-statement_of}
@@ -74,7 +75,7 @@ locked_says ts r first h =
     let change : At ts 11 (Signed (changes o)) = signed_at_token ts 11 c found ∙ ap (λ (x : Sign). let t : Option Token = Some (Signed x) in t) (atomic_in c o of_op) in
     let all = whole ts (Named word.Lock ∷ memory m.0 m.1.base s n (Signed (changes o) ∷ reg Full64 q ∷ []))
     (first, (t0, (t1, (t2, (t3, (t4, (t5, (t6, (t7, (t8, (t9, (change, (register ts Full64 12 q source, tt))))))))))))) len in
-    let word_is : m.0 ≡ word.Unsigned (atomic_size w) = size_in m.0 size unsigned ∙ ap word.Unsigned (width_in size w of_width) in
+    let word_is : m.0 ≡ word.Unsigned (width_size w) = size_in m.0 size unsigned ∙ ap word.Unsigned (width_in size w of_width) in
     says ts (Atomic w o false m.1 q) r same (refl, (s, n, is, subst (λ (x : Word). ts ≡ Named word.Lock ∷ memory x m.1.base s n (Signed (changes o) ∷ reg Full64 q ∷ [])) word_is all))
 
 -- ---- jumps and calls

@@ -17,6 +17,7 @@ use Rattle.isa_model.specs.declared.instructions.Comparison.{Comparison}
 use Rattle.isa_model.specs.declared.instructions.Comparison.TheVariants as comparison
 use Rattle.isa_model.specs.declared.instructions.Place.{Place}
 use Rattle.isa_model.specs.declared.instructions.Insn.{Insn}
+use Rattle.isa_model.specs.Code.Sizes.{width_size}
 use Rattle.lexer.specs.declared.tokens.Word.{Word}
 use Rattle.lexer.specs.declared.tokens.Word.TheVariants as word
 use Rattle.lexer.specs.declared.tokens.Sign.{Sign}
@@ -27,7 +28,7 @@ use Rattle.assembler.specs.declared.readings.Reading.{Reading}
 use Rattle.assembler.specs.declared.wrong.Wrong.TheVariants.{Form, Range}
 use Rattle.assembler.specs.Operands.{keep, token_at, number_at, word_at, expect_at, op_of, atomic_op_of, comparison_of, width_of, extension_of, wide_within, signed_at, place_at, memory_at, argument_at, as_size, as_narrow, is_name, target_token, target_at, field_at, is_by_index, index_at, by_index_at}
 use Rattle.assembler.specs.Statements.{plain, is_wide, wide_at}
-use Rattle.assembler.specs.Spells.{assigns, changes, compares, extends, atomic_size, reg, IsSigned, field, IsTarget}
+use Rattle.assembler.specs.Spells.{assigns, changes, compares, extends, reg, IsSigned, field, IsTarget}
 use Rattle.assembler.proofs.SpellsTokens.{bind, kept, passed, At, token, number_at_token, word_at_token, expected, signed, based, Stands, equal, below, within}
 
 abbrev some : Token → Option Token
@@ -198,9 +199,9 @@ comparison_in sign.SignedLess c h = let same : comparison.SignedLess ≡ c = cc 
 comparison_in sign.SignedLessEqual c h = let same : comparison.SignedLessEqual ≡ c = cc in ap compares same
 comparison_in s c h = absurd (cc)
 
-pub width_in : (size : Size) (w : Width) → width_of size ≡ Ok w → size ≡ atomic_size w
-width_in U32 w h = let same : Low32 ≡ w = cc in ap atomic_size same
-width_in U64 w h = let same : Full64 ≡ w = cc in ap atomic_size same
+pub width_in : (size : Size) (w : Width) → width_of size ≡ Ok w → size ≡ width_size w
+width_in U32 w h = let same : Low32 ≡ w = cc in ap width_size same
+width_in U64 w h = let same : Full64 ≡ w = cc in ap width_size same
 width_in size w h = absurd (cc)
 
 pub extension_in : (w : Width) (size : Narrow) (e : Extension) → extension_of w size ≡ Ok e → (w ≡ (extends e).0) × (size ≡ (extends e).1)

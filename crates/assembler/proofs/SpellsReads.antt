@@ -1,6 +1,6 @@
 -- What spells an instruction is read as that instruction.
-use Rattle.std.proofs.Common.{◌≡◌, ℕ, ◌+◌, ◌^◌, length, List, [], ◌∷◌, ◌++◌, refl, sym, ap, ◌∙◌, inl, inr, lt-ltb, le-leb, eq-eqb}
-use Rattle.std.specs.Prelude.{◌≢◌, Option, Some, None, Result, Ok, true, false, ◌==◌, ℤ, pos}
+use Rattle.std.proofs.Common.{◌≡◌, ℕ, ◌+◌, ◌^◌, length, List, [], ◌∷◌, ◌++◌, refl, sym, ap, ◌∙◌, inl, inr, lt-ltb, le-leb}
+use Rattle.std.specs.Prelude.{◌≢◌, Option, Some, None, Result, Ok, true, false, ℤ, pos}
 use Rattle.isa_model.specs.declared.registers.Reg.{Reg}
 use Rattle.isa_model.specs.declared.registers.Reg.TheVariants.{R0}
 use Rattle.isa_model.specs.declared.sizes.Width.{Width}
@@ -14,15 +14,12 @@ use Rattle.isa_model.specs.declared.sizes.Extension.TheVariants.{Low8, Low16, Fu
 use Rattle.isa_model.specs.declared.instructions.AluOp.{AluOp}
 use Rattle.isa_model.specs.declared.instructions.AluOp.TheVariants as op
 use Rattle.isa_model.specs.declared.instructions.AtomicOp.{AtomicOp}
-use Rattle.isa_model.specs.declared.instructions.AtomicOp.TheVariants as atomic
 use Rattle.isa_model.specs.declared.instructions.Comparison.{Comparison}
-use Rattle.isa_model.specs.declared.instructions.Comparison.TheVariants as comparison
 use Rattle.isa_model.specs.declared.instructions.Operand.{Operand}
 use Rattle.isa_model.specs.declared.instructions.Operand.TheVariants.{Constant, Register}
 use Rattle.isa_model.specs.declared.instructions.Insn.{Insn}
 use Rattle.isa_model.specs.declared.instructions.Insn.TheVariants.{Alu, Neg, MovSx, ByteSwap, LoadNumber, LoadMap, LoadMapValue, Load, LoadSx, StoreConstant, Store, Atomic, Exchange, CompareExchange, Jump, JumpLong, JumpIf, CallHelper, CallLocal, Exit}
-use Rattle.isa_model.specs.Code.Registers.{reg_number}
-use Rattle.isa_model.specs.Code.Sizes.{width_bits}
+use Rattle.isa_model.specs.Code.Sizes.{width_size}
 use Rattle.lexer.specs.declared.tokens.Word.{Word}
 use Rattle.lexer.specs.declared.tokens.Word.TheVariants as word
 use Rattle.lexer.specs.declared.tokens.Sign.{Sign}
@@ -31,18 +28,13 @@ use Rattle.lexer.specs.declared.tokens.Token.{Token}
 use Rattle.lexer.specs.declared.tokens.Token.TheVariants.{Named, Number, Signed}
 use Rattle.assembler.specs.declared.readings.Reading.{Reading}
 use Rattle.assembler.specs.declared.wrong.Wrong.{Wrong}
-use Rattle.assembler.specs.Operands.{◌>>=◌, atomic_op_of, comparison_of, width_of, is_minus, signed_within, is_name}
+use Rattle.assembler.specs.Operands.{◌>>=◌, is_minus, signed_within, is_name}
 use Rattle.assembler.specs.Statements.{arithmetic, called_word, statement_of}
-use Rattle.assembler.specs.Spells.{assigns, changes, compares, extends, atomic_size, reg, IsSigned, IsConstant, IsWide, IsOperand, field, place, memory, IsTarget, Spells}
+use Rattle.assembler.specs.Spells.{assigns, changes, compares, extends, reg, IsSigned, IsConstant, IsWide, IsOperand, field, place, memory, IsTarget, Spells}
+use Rattle.assembler.proofs.FormReads.{atomic-back, comparison-back, same-register, same-width, width-back}
 
 abbrev read : Insn → Option ℕ → Result Reading Wrong
 read i name = Ok (record { insn = i; name = name })
-
-same-width : (w : Width) → (width_bits w == width_bits w) ≡ true
-same-width w = eq-eqb (width_bits w) (width_bits w) refl
-
-same-register : (r : Reg) → (reg_number r == reg_number r) ≡ true
-same-register r = eq-eqb (reg_number r) (reg_number r) refl
 
 -- a sign at that index, and a number
 signed-reads : (half at : ℕ) (s : Sign) (n : ℕ) (k : ℤ) → IsSigned half s n k → (is_minus s >>= λ minus. signed_within half at minus n) ≡ Ok k
@@ -137,18 +129,8 @@ constant-reads size b s n by k xs h (inr g) = rw (g.1, g.3, signed-reads (2 ^ 15
 
 -- ---- atomic instructions
 
-atomic-back : (o : AtomicOp) → atomic_op_of (changes o) ≡ Ok o
-atomic-back atomic.Add = refl
-atomic-back atomic.Or = refl
-atomic-back atomic.And = refl
-atomic-back atomic.Xor = refl
-
-width-back : (w : Width) → width_of (atomic_size w) ≡ Ok w
-width-back Low32 = refl
-width-back Full64 = refl
-
 lock-reads : (w : Width) (o : AtomicOp) (b r : Reg) (s : Sign) (n : ℕ) (by : ℤ) → IsSigned (2 ^ 15) s n by
-    → statement_of (Named word.Lock ∷ memory (word.Unsigned (atomic_size w)) b s n (Signed (changes o) ∷ reg Full64 r ∷ [])) ≡ read (Atomic w o false (record { base = b; offset = by }) r) None
+    → statement_of (Named word.Lock ∷ memory (word.Unsigned (width_size w)) b s n (Signed (changes o) ∷ reg Full64 r ∷ [])) ≡ read (Atomic w o false (record { base = b; offset = by }) r) None
 unfolding statement_of
 lock-reads w o b r s n by h = rw (signed-reads (2 ^ 15) 8 s n by h, width-back w, atomic-back o) refl
 
@@ -186,19 +168,6 @@ long-reads : (by : ℤ) (name : Option ℕ) (xs : List Token) → IsTarget (2 ^ 
 unfolding statement_of
 long-reads by name xs (inl (s, n, is, h, none)) = rw (is, none, signed-reads (2 ^ 31) 1 s n by h) refl
 long-reads by name xs (inr (x, is, other, zero, index)) = rw (is, zero, index, named x other) refl
-
-comparison-back : (c : Comparison) → comparison_of (compares c) ≡ Ok c
-comparison-back comparison.Equal = refl
-comparison-back comparison.NotEqual = refl
-comparison-back comparison.Greater = refl
-comparison-back comparison.GreaterEqual = refl
-comparison-back comparison.Less = refl
-comparison-back comparison.LessEqual = refl
-comparison-back comparison.AnyBit = refl
-comparison-back comparison.SignedGreater = refl
-comparison-back comparison.SignedGreaterEqual = refl
-comparison-back comparison.SignedLess = refl
-comparison-back comparison.SignedLessEqual = refl
 
 condition-reads : (w : Width) (c : Comparison) (d : Reg) (x : Operand) (by : ℤ) (name : Option ℕ) (xs ys : List Token) → IsOperand w xs x → IsTarget (2 ^ 15) ys by (4 + length xs) name
     → statement_of (Named word.If ∷ reg w d ∷ Signed (compares c) ∷ (xs ++ Named word.Goto ∷ ys)) ≡ read (JumpIf (record { width = w; comparison = c; register = d; operand = x }) by) name

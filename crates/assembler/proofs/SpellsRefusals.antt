@@ -27,7 +27,7 @@ use Rattle.assembler.specs.MapTests.{takes_row, objection_to_value, objection_to
 use Rattle.assembler.specs.Positions.{error_at}
 use Rattle.assembler.specs.Naming.{NameUse, aimed, or_too_far, distance, aim, aim_used, put, resolved}
 use Rattle.assembler.specs.Assembling.{Progress, TokenPlace, start, unless_wrong, refused_by, unless_refused, is_first, named_by, named, begins_at, refused_at, has_room, with_insn, ended, closed_behind, accept, next_lexeme, read_on, finished, error_in, program_in, assembled}
-use Rattle.assembler.proofs.SpellsTexts.{SpellsSome, IsSpelled, SpellsSome-spelled_behind, closed_spells, AtLexeme, OnLexeme, EachStatement}
+use Rattle.assembler.proofs.SpellsTexts.{SpellsSome, IsSpelled, SpellsSome-spelled_behind, closed_spells, joined, AtLexeme, OnLexeme, EachStatement}
 
 -- none of A1, A2 and A3
 abbrev pub IsOther : AsmErrorKind → Type 0
@@ -138,9 +138,6 @@ closed_refused s k e spells h =
     ]
 
 -- ---- texts
-
-joined : (r u : Progress) → (let o : Result Progress Refusal = Ok r in o) ≡ Ok u → r.tokens ≡ u.tokens
-joined r u h = let same : r ≡ u = cc in ap (λ (v : Progress). v.tokens) same
 
 accept_refused : (rest : ℕ → List Token → Type 0) (s : Progress) (x : Lexeme) (n : ℕ) (place : TokenPlace) (e : Refusal) → AtLexeme rest IsSpelled s.tokens x n → accept s x place ≡ Err e → IsOther e.kind
 accept_refused rest s Blank n place e each h = absurd (cc)

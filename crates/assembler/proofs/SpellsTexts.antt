@@ -181,7 +181,8 @@ lexeme_found : (o : Option (Lexeme × ℕ)) (e : Refusal) (p : Lexeme × ℕ) �
 lexeme_found (Some q) e p h = let same : q ≡ p = cc in ap (λ (z : Lexeme × ℕ). let o : Option (Lexeme × ℕ) = Some z in o) same
 lexeme_found None e p h = absurd (cc)
 
-joined : (r u : Progress) → (let o : Result Progress Refusal = Ok r in o) ≡ Ok u → r.tokens ≡ u.tokens
+-- the tokens of what was read are those of what is answered
+pub joined : (r u : Progress) → (let o : Result Progress Refusal = Ok r in o) ≡ Ok u → r.tokens ≡ u.tokens
 joined r u h = let same : r ≡ u = cc in ap (λ (v : Progress). v.tokens) same
 
 accepted : (rest : ℕ → List Token → Type 0) (s : Progress) (x : Lexeme) (n : ℕ) (place : TokenPlace) (u : Progress) → accept s x place ≡ Ok u → rest (n - 1) u.tokens → AtLexeme rest IsSpelled s.tokens x n

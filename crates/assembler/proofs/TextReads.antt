@@ -9,6 +9,7 @@ use Rattle.isa_model.specs.declared.versions.Version.TheVariants.{One, Two}
 use Rattle.isa_model.specs.Code.Instructions.{Program, slots}
 use Rattle.isa_model.specs.Text.CanonicalText.{version_line, canonical_text, code_text, rows_text, row_line, instructions}
 use Rattle.isa_model.specs.Code.MapRows.{IsRow, NamesRows}
+use Rattle.isa_model.specs.Code.Limits.{max_maps, max_map_room, max_slots}
 use Rattle.image.specs.Images.{IsImage, NamesMaps, room_of, program_of}
 use Rattle.image.proofs.CodeLaws.{AllFit, AllFit-instructions, slots-append, slots-instructions}
 use Rattle.image.specs.Refusals.{count_refusal, row_fits}
@@ -31,16 +32,16 @@ use Rattle.assembler.proofs.MapReads.{row-read, line-read}
 -- ---- map lines
 
 -- the row has a place among the rows of an image
-row-taken : (before rows : List MapDef) (row : MapDef) → IsRow row → length (before ++ row ∷ rows) ≤ 16 → sum_by room_of (before ++ row ∷ rows) ≤ 16777216 → takes_row [] before row ≡ true
+row-taken : (before rows : List MapDef) (row : MapDef) → IsRow row → length (before ++ row ∷ rows) ≤ max_maps → sum_by room_of (before ++ row ∷ rows) ≤ max_map_room → takes_row [] before row ≡ true
 row-taken before rows row h few room =
     let long : length (before ++ row ∷ rows) ≡ length before + suc (length rows) = length-append before (row ∷ rows) in
     let sum : sum_by room_of (before ++ row ∷ rows) ≡ sum_by room_of before + (room_of row + sum_by room_of rows) = sum_by-append room_of before (row ∷ rows) ∙ ap (λ n. sum_by room_of before + n) (sum_by-cons room_of row rows) in
-    let place : nat_lt (length before) 16 ≡ true = lt-ltb (length before) 16 (omega (arith, long, few)) in
+    let place : nat_lt (length before) max_maps ≡ true = lt-ltb (length before) max_maps (omega (arith, long, few)) in
     let fits : row_fits row ≡ true = row_fits-IsRow row h in
-    let spare : nat_le (sum_by room_of before + room_of row) 16777216 ≡ true = le-leb (sum_by room_of before + room_of row) 16777216 (omega (arith, sum, room)) in
+    let spare : nat_le (sum_by room_of before + room_of row) max_map_room ≡ true = le-leb (sum_by room_of before + room_of row) max_map_room (omega (arith, sum, room)) in
     rw (place, fits, spare) refl
 
-rows-read : (v : Version) (rows before : List MapDef) (rest : List ℕ) → All IsRow rows → length (before ++ rows) ≤ 16 → sum_by room_of (before ++ rows) ≤ 16777216 → assembled (rows_text rows ++ rest) 0 (draft [] (record { version = v; maps = before; insns = [] })) ≡ assembled rest 0 (draft [] (record { version = v; maps = before ++ rows; insns = [] }))
+rows-read : (v : Version) (rows before : List MapDef) (rest : List ℕ) → All IsRow rows → length (before ++ rows) ≤ max_maps → sum_by room_of (before ++ rows) ≤ max_map_room → assembled (rows_text rows ++ rest) 0 (draft [] (record { version = v; maps = before; insns = [] })) ≡ assembled rest 0 (draft [] (record { version = v; maps = before ++ rows; insns = [] }))
 rows-read v [] before rest h few room = ap (λ (l : List MapDef). assembled rest 0 (draft [] (record { version = v; maps = l; insns = [] }))) (sym (append-nil before))
 rows-read v (row ∷ rows) before rest h few room =
     let same : (before ++ row ∷ []) ++ rows ≡ before ++ row ∷ rows = append_assoc before (row ∷ []) rows in
@@ -60,26 +61,26 @@ version-read Two rest = refl
 -- ---- code
 
 -- the instructions before others fit if all of them do
-room-before : (is js : List Insn) → length (slots (is ++ js)) ≤ 4096 → has_room is ≡ true
+room-before : (is js : List Insn) → length (slots (is ++ js)) ≤ max_slots → has_room is ≡ true
 room-before is js h =
     let e : length (slots (is ++ js)) ≡ length (slots is) + length (slots js) = ap (λ l. length l) (slots-append is js) ∙ length-append (slots is) (slots js) in
-    ap not (le-ltb 4096 (length (slots is)) (omega (arith, h, e)))
+    ap not (le-ltb max_slots (length (slots is)) (omega (arith, h, e)))
 
 -- instructions after others, after map rows
 abbrev behind : Version → List MapDef → List Insn → Parts
 behind v maps is = record { version = v; maps = maps; insns = is }
 
-taken : (v : Version) (maps : List MapDef) (before is : List Insn) (i : Insn) → NamesRows maps i → length (slots ((before ++ i ∷ []) ++ is)) ≤ 4096 → takes (behind v maps before) i ≡ true
+taken : (v : Version) (maps : List MapDef) (before is : List Insn) (i : Insn) → NamesRows maps i → length (slots ((before ++ i ∷ []) ++ is)) ≤ max_slots → takes (behind v maps before) i ≡ true
 taken v maps before is i named all =
     let there : is_none (objection_to_load maps i) ≡ true = objection_to_load-NamesRows maps i named in
     let room : has_room (before ++ i ∷ []) ≡ true = room-before (before ++ i ∷ []) is all in
     rw (there, room) refl
 
-code-read : (v : Version) (maps : List MapDef) (is before : List Insn) → AllFit is → All (NamesRows maps) is → length (slots (before ++ is)) ≤ 4096 → assembled (code_text is) 0 (draft [] (behind v maps before)) ≡ Some (draft [] (behind v maps (before ++ is)))
+code-read : (v : Version) (maps : List MapDef) (is before : List Insn) → AllFit is → All (NamesRows maps) is → length (slots (before ++ is)) ≤ max_slots → assembled (code_text is) 0 (draft [] (behind v maps before)) ≡ Some (draft [] (behind v maps (before ++ is)))
 code-read v maps [] before h named room = ap (λ (l : List Insn). Some (draft [] (behind v maps l))) (sym (append-nil before))
 code-read v maps (i ∷ is) before h named room =
     let same : (before ++ i ∷ []) ++ is ≡ before ++ i ∷ is = append_assoc before (i ∷ []) is in
-    let all : length (slots ((before ++ i ∷ []) ++ is)) ≤ 4096 = rw same room in
+    let all : length (slots ((before ++ i ∷ []) ++ is)) ≤ max_slots = rw same room in
     line-read i (behind v maps before) (code_text is) h.0 (taken v maps before is i (All-head (NamesRows maps) i is named) all)
     ∙ code-read v maps is (before ++ i ∷ []) h.1 (All-tail (NamesRows maps) i is named) all
     ∙ ap (λ (l : List Insn). Some (draft [] (behind v maps l))) same
@@ -96,17 +97,17 @@ image-again p h = ap (λ xs. let q : Program = record p { insns = xs } in q) (sl
 pub text-read : (p : Program) → IsImage p → assembled (canonical_text p) 0 start ≡ Some (draft [] (behind p.version p.maps (instructions p.insns)))
 unfolding canonical_text
 text-read p h =
-    let few : length (slots (instructions p.insns)) ≤ 4096 = rw (slots-instructions p.insns h.code) (omega (arith, h.few_slots)) in
+    let few : length (slots (instructions p.insns)) ≤ max_slots = rw (slots-instructions p.insns h.code) (omega (arith, h.few_slots)) in
     version-read p.version (rows_text p.maps ++ code_text (instructions p.insns))
     ∙ rows-read p.version p.maps [] (code_text (instructions p.insns)) h.rows h.few_maps h.room
     ∙ code-read p.version p.maps (instructions p.insns) [] (AllFit-instructions p.insns false h.code) (all-named p.maps p.insns h.named) few
 
 -- ---- programs
 
-counted : (n : ℕ) → 1 ≤ n → n ≤ 4096 → is_none (count_refusal n) ≡ true
+counted : (n : ℕ) → 1 ≤ n → n ≤ max_slots → is_none (count_refusal n) ≡ true
 counted n some few =
     let more : (n == 0) ≡ false = ne_eqb n 0 (λ e. omega (arith, e, some)) in
-    let fits : nat_lt 4096 n ≡ false = le-ltb 4096 n few in
+    let fits : nat_lt max_slots n ≡ false = le-ltb max_slots n few in
     rw (more, fits) refl
 
 program_of-instructions : (p : Program) → IsImage p → text.program_of p.version p.maps (instructions p.insns) ≡ Ok p

@@ -31,12 +31,12 @@ use Rattle.isa_model.specs.declared.map_defs.MapKind.TheVariants.{Hash, Array}
 use Rattle.isa_model.specs.Code.Spelling.{OperandFits}
 use Rattle.isa_model.specs.Text.CanonicalText.{reg_text, size_text, narrow_text, extension_text, span_text, order_text, width_text, op_text, comparison_text, atomic_text, fetch_text, operand_text, offset_text, distance_text, kind_text}
 use Rattle.lexer.specs.declared.tokens.Word.TheVariants as word
-use Rattle.lexer.specs.declared.tokens.Sign.{Sign}
 use Rattle.lexer.specs.declared.tokens.Sign.TheVariants as sign
 use Rattle.lexer.specs.declared.tokens.Token.{Token}
 use Rattle.lexer.specs.declared.tokens.Token.TheVariants.{Named, Number, Signed}
 use Rattle.lexer.specs.declared.tokens.Lexeme.TheVariants.{Solid}
 use Rattle.lexer.specs.Lexing.{is_word_byte, lexeme_at}
+use Rattle.assembler.specs.Spells.{assigns, changes, compares, extends}
 use Rattle.assembler.proofs.PlainTexts.{Parts, Progress, assembled}
 use Rattle.assembler.proofs.Turns.{token}
 use Rattle.assembler.proofs.DigitRuns.{decimal-read, no-equals}
@@ -91,15 +91,7 @@ narrow-read S8 rest ts ps = refl
 narrow-read S16 rest ts ps = refl
 narrow-read S32 rest ts ps = refl
 
--- the size that is extended
-abbrev pub extended_from : Extension → Narrow
-extended_from Low8 = S8
-extended_from Low16 = S16
-extended_from Full8 = S8
-extended_from Full16 = S16
-extended_from Full32 = S32
-
-pub extension-read : (e : Extension) (rest : List ℕ) (ts : List Token) (ps : Parts) → assembled (extension_text e ++ 41 ∷ rest) 0 (draft ts ps) ≡ assembled (41 ∷ rest) 0 (draft (ts ++ Named (word.SignExtended (extended_from e)) ∷ []) ps)
+pub extension-read : (e : Extension) (rest : List ℕ) (ts : List Token) (ps : Parts) → assembled (extension_text e ++ 41 ∷ rest) 0 (draft ts ps) ≡ assembled (41 ∷ rest) 0 (draft (ts ++ Named (word.SignExtended (extends e).1) ∷ []) ps)
 extension-read Low8 rest ts ps = refl
 extension-read Low16 rest ts ps = refl
 extension-read Full8 rest ts ps = refl
@@ -141,23 +133,7 @@ compare-read Full64 rest ts ps = refl
 
 -- ---- signs
 
-abbrev pub op_sign : AluOp → Sign
-op_sign op.Mov = sign.Assign
-op_sign op.Add = sign.AddAssign
-op_sign op.Sub = sign.SubAssign
-op_sign op.Mul = sign.MulAssign
-op_sign op.Div = sign.DivAssign
-op_sign op.SignedDiv = sign.SignedDivAssign
-op_sign op.Or = sign.OrAssign
-op_sign op.And = sign.AndAssign
-op_sign op.Lsh = sign.LshAssign
-op_sign op.Rsh = sign.RshAssign
-op_sign op.Mod = sign.ModAssign
-op_sign op.SignedMod = sign.SignedModAssign
-op_sign op.Xor = sign.XorAssign
-op_sign op.Arsh = sign.ArshAssign
-
-pub op-read : (o : AluOp) (rest : List ℕ) (ts : List Token) (ps : Parts) → assembled (op_text o ++ 32 ∷ rest) 0 (draft ts ps) ≡ assembled (32 ∷ rest) 0 (draft (ts ++ Signed (op_sign o) ∷ []) ps)
+pub op-read : (o : AluOp) (rest : List ℕ) (ts : List Token) (ps : Parts) → assembled (op_text o ++ 32 ∷ rest) 0 (draft ts ps) ≡ assembled (32 ∷ rest) 0 (draft (ts ++ Signed (assigns o) ∷ []) ps)
 op-read op.Mov rest ts ps = refl
 op-read op.Add rest ts ps = refl
 op-read op.Sub rest ts ps = refl
@@ -173,32 +149,13 @@ op-read op.SignedMod rest ts ps = refl
 op-read op.Xor rest ts ps = refl
 op-read op.Arsh rest ts ps = refl
 
-abbrev pub atomic_sign : AtomicOp → Sign
-atomic_sign atomic.Add = sign.AddAssign
-atomic_sign atomic.Or = sign.OrAssign
-atomic_sign atomic.And = sign.AndAssign
-atomic_sign atomic.Xor = sign.XorAssign
-
-pub atomic-read : (o : AtomicOp) (rest : List ℕ) (ts : List Token) (ps : Parts) → assembled (atomic_text o ++ 32 ∷ rest) 0 (draft ts ps) ≡ assembled (32 ∷ rest) 0 (draft (ts ++ Signed (atomic_sign o) ∷ []) ps)
+pub atomic-read : (o : AtomicOp) (rest : List ℕ) (ts : List Token) (ps : Parts) → assembled (atomic_text o ++ 32 ∷ rest) 0 (draft ts ps) ≡ assembled (32 ∷ rest) 0 (draft (ts ++ Signed (changes o) ∷ []) ps)
 atomic-read atomic.Add rest ts ps = refl
 atomic-read atomic.Or rest ts ps = refl
 atomic-read atomic.And rest ts ps = refl
 atomic-read atomic.Xor rest ts ps = refl
 
-abbrev pub comparison_sign : Comparison → Sign
-comparison_sign comparison.Equal = sign.Equal
-comparison_sign comparison.NotEqual = sign.NotEqual
-comparison_sign comparison.Greater = sign.Greater
-comparison_sign comparison.GreaterEqual = sign.GreaterEqual
-comparison_sign comparison.Less = sign.Less
-comparison_sign comparison.LessEqual = sign.LessEqual
-comparison_sign comparison.AnyBit = sign.Ampersand
-comparison_sign comparison.SignedGreater = sign.SignedGreater
-comparison_sign comparison.SignedGreaterEqual = sign.SignedGreaterEqual
-comparison_sign comparison.SignedLess = sign.SignedLess
-comparison_sign comparison.SignedLessEqual = sign.SignedLessEqual
-
-pub comparison-read : (c : Comparison) (rest : List ℕ) (ts : List Token) (ps : Parts) → assembled (comparison_text c ++ 32 ∷ rest) 0 (draft ts ps) ≡ assembled (32 ∷ rest) 0 (draft (ts ++ Signed (comparison_sign c) ∷ []) ps)
+pub comparison-read : (c : Comparison) (rest : List ℕ) (ts : List Token) (ps : Parts) → assembled (comparison_text c ++ 32 ∷ rest) 0 (draft ts ps) ≡ assembled (32 ∷ rest) 0 (draft (ts ++ Signed (compares c) ∷ []) ps)
 comparison-read comparison.Equal rest ts ps = refl
 comparison-read comparison.NotEqual rest ts ps = refl
 comparison-read comparison.Greater rest ts ps = refl

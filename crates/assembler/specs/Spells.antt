@@ -4,8 +4,6 @@ use Rattle.isa_model.specs.declared.registers.Reg.{Reg}
 use Rattle.isa_model.specs.declared.registers.Reg.TheVariants.{R0}
 use Rattle.isa_model.specs.declared.sizes.Width.{Width}
 use Rattle.isa_model.specs.declared.sizes.Width.TheVariants.{Low32, Full64}
-use Rattle.isa_model.specs.declared.sizes.Size.TheVariants.{U32, U64}
-use Rattle.isa_model.specs.declared.sizes.Size.{Size}
 use Rattle.isa_model.specs.declared.sizes.Narrow.{Narrow}
 use Rattle.isa_model.specs.declared.sizes.Narrow.TheVariants.{S8, S16, S32}
 use Rattle.isa_model.specs.declared.sizes.Extension.{Extension}
@@ -21,6 +19,7 @@ use Rattle.isa_model.specs.declared.instructions.Operand.TheVariants.{Constant, 
 use Rattle.isa_model.specs.declared.instructions.Place.{Place}
 use Rattle.isa_model.specs.declared.instructions.Insn.{Insn}
 use Rattle.isa_model.specs.declared.instructions.Insn.TheVariants.{Alu, Neg, MovSx, ByteSwap, LoadNumber, LoadMap, LoadMapValue, Load, LoadSx, StoreConstant, Store, Atomic, Exchange, CompareExchange, Jump, JumpLong, JumpIf, CallHelper, CallLocal, Exit}
+use Rattle.isa_model.specs.Code.Sizes.{width_size}
 use Rattle.lexer.specs.declared.tokens.Word.{Word}
 use Rattle.lexer.specs.declared.tokens.Word.TheVariants as word
 use Rattle.lexer.specs.declared.tokens.Sign.{Sign}
@@ -75,11 +74,6 @@ extends Low16 = (Low32, S16)
 extends Full8 = (Full64, S8)
 extends Full16 = (Full64, S16)
 extends Full32 = (Full64, S32)
-
--- u32 and u64
-abbrev pub atomic_size : Width → Size
-atomic_size Low32 = U32
-atomic_size Full64 = U64
 
 -- ---- operands
 
@@ -157,7 +151,7 @@ Spells ts (StoreConstant size p k) name =
 Spells ts (Store size p r) name =
     (name ≡ None) × Offset p (λ s n. ts ≡ memory (word.Unsigned size) p.base s n (Signed sign.Assign ∷ reg Full64 r ∷ []))
 Spells ts (Atomic w o false p r) name =
-    (name ≡ None) × Offset p (λ s n. ts ≡ Named word.Lock ∷ memory (word.Unsigned (atomic_size w)) p.base s n (Signed (changes o) ∷ reg Full64 r ∷ []))
+    (name ≡ None) × Offset p (λ s n. ts ≡ Named word.Lock ∷ memory (word.Unsigned (width_size w)) p.base s n (Signed (changes o) ∷ reg Full64 r ∷ []))
 Spells ts (Atomic w o true p r) name =
     (name ≡ None)
     × Offset p (λ s n. ts ≡ reg Full64 r ∷ Signed sign.Assign ∷ Named (word.Fetch o w) ∷ Signed sign.Open ∷ place p.base s n (Signed sign.Comma ∷ reg Full64 r ∷ Signed sign.Close ∷ []))
