@@ -1,17 +1,11 @@
 -- Texts that were written in part.
-use Rattle.std.proofs.Common.{◌≡◌, ℕ, suc, ◌<◌, List, ◌++◌, take, drop, length, get_or, Option, Result, Ok, Err, sym, ap, ◌∙◌, subst, drop-cons}
-use Rattle.std.specs.Prelude.{OnErr}
+use Rattle.std.proofs.Common.{◌≡◌, ℕ, suc, ◌<◌, List, ◌++◌, take, drop, length, get_or, Option, sym, ap, ◌∙◌, subst, drop-cons}
 use Rattle.std.specs.List.{flat_map}
 use Rattle.std.proofs.lemmas.Grind.{flat_map-append}
 use Rattle.std.proofs.lemmas.List.{take-append-drop}
 use Rattle.std.specs.Io.KnownBytes.{Appends}
 use Rattle.exact_io.specs.Transfers.{AppendsBeginning}
 use Rattle.exact_io.proofs.TransferLaws.{AppendsBeginning-first, AppendsBeginning-second}
-
--- a fact holds on an error, where it holds
-pub on_err : {X E : Type 0} (P : Type 0) (r : Result X E) → P → OnErr r P
-on_err P (Ok x) h = tt
-on_err P (Err e) h = h
 
 -- texts in a row, in three parts at one of them
 texts-split : {X : Type 0} (text : X → List ℕ) (xs : List X) (k : ℕ) (x d : X) → k < length xs → get_or xs k d ≡ x → flat_map text xs ≡ flat_map text (take k xs) ++ (text x ++ flat_map text (drop (suc k) xs))

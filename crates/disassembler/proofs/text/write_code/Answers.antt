@@ -1,6 +1,7 @@
 use Rattle.disassembler.specs.SlotText.{slot_text}
 use Rattle.std.specs.Prelude.{Some, None}
-use Rattle.disassembler.proofs.Written.{on_err, text_failed}
+use Rattle.image.proofs.Writing.{on_err}
+use Rattle.disassembler.proofs.Written.{text_failed}
 use Rattle.disassembler.proofs.text.write_code.Goals as goal
 
 pub returns-in_err-write_insn-clause-err : goal.returns-in_err-write_insn-clause-err

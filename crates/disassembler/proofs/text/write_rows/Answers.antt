@@ -2,7 +2,8 @@ use Rattle.std.proofs.Common.{refl, get_or}
 use Rattle.isa_model.specs.declared.map_defs.MapKind.TheVariants.{Hash}
 use Rattle.isa_model.specs.declared.map_defs.MapDef.{MapDef}
 use Rattle.isa_model.specs.Text.CanonicalText.{row_line}
-use Rattle.disassembler.proofs.Written.{on_err, text_failed}
+use Rattle.image.proofs.Writing.{on_err}
+use Rattle.disassembler.proofs.Written.{text_failed}
 use Rattle.disassembler.proofs.text.write_rows.Goals as goal
 
 pub returns-in_err-write_row-clause-err : goal.returns-in_err-write_row-clause-err
