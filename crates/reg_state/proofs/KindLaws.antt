@@ -12,6 +12,7 @@ use Rattle.reg_state.specs.declared.kinds.Kind.TheVariants.{Unset, Number, Conte
 use Rattle.reg_state.specs.Scalars.{Has}
 use Rattle.reg_state.specs.Kinds.{Assigned, Allows, AllowsOrNull, IsLive}
 use Rattle.reg_state.specs.KindCover.{packet_identity_of, null_identity_of}
+use Rattle.reg_state.proofs.Numbers.{if_some}
 
 -- the frame into which a kind points
 abbrev pub frame_of : Kind → Option ℕ
@@ -70,22 +71,18 @@ other_offset e i z j other = grind (arith, nat_tests)
 other_value : (e : Assigned) (i : ℕ) (n : Option ℕ) (j : ℕ) → j ≢ i → e.value j ≡ (with_value e i n).value j
 other_value e i n j other = grind (arith, nat_tests)
 
-if_named : (o : Option ℕ) (P : ℕ → Type 0) → ((j : ℕ) → o ≡ Some j → P j) → IfSome o P
-if_named None P h = tt
-if_named (Some j) P h = h j refl
-
 -- a packet identity that the kind does not name may be assigned anew
 pub Allows-fresh_offset : (k : Kind) (e : Assigned) (i : ℕ) (z : ℤ) (v : Value)
     → packet_identity_of k ≢ Some i → Allows e k v → Allows (with_offset e i z) k v
 Allows-fresh_offset k e i z v fresh h =
     Allows-kept k e (with_offset e i z) v
     record {
-      offsets = if_named (packet_identity_of k) (λ j. e.offset j ≡ (with_offset e i z).offset j)
+      offsets = if_some (packet_identity_of k) (λ j. e.offset j ≡ (with_offset e i z).offset j)
           (λ j is. other_offset e i z j (λ same. fresh (cc)));
-      values = if_named (null_identity_of k) (λ j. e.value j ≡ e.value j) (λ j is. refl);
+      values = if_some (null_identity_of k) (λ j. e.value j ≡ e.value j) (λ j is. refl);
       packet_lengths = refl;
-      serials = if_named (frame_of k) (λ j. slice_get e.frames j ≡ slice_get e.frames j) (λ j is. refl);
-      live = if_named (map_of k) (λ m. (n : ℕ) → IsLive e.maps m n → IsLive e.maps m n) (λ m is n l. l);
+      serials = if_some (frame_of k) (λ j. slice_get e.frames j ≡ slice_get e.frames j) (λ j is. refl);
+      live = if_some (map_of k) (λ m. (n : ℕ) → IsLive e.maps m n → IsLive e.maps m n) (λ m is n l. l);
     }
     h
 
@@ -95,12 +92,12 @@ pub Allows-fresh_value : (k : Kind) (e : Assigned) (i : ℕ) (n : Option ℕ) (v
 Allows-fresh_value k e i n v fresh h =
     Allows-kept k e (with_value e i n) v
     record {
-      offsets = if_named (packet_identity_of k) (λ j. e.offset j ≡ e.offset j) (λ j is. refl);
-      values = if_named (null_identity_of k) (λ j. e.value j ≡ (with_value e i n).value j)
+      offsets = if_some (packet_identity_of k) (λ j. e.offset j ≡ e.offset j) (λ j is. refl);
+      values = if_some (null_identity_of k) (λ j. e.value j ≡ (with_value e i n).value j)
           (λ j is. other_value e i n j (λ same. fresh (cc)));
       packet_lengths = refl;
-      serials = if_named (frame_of k) (λ j. slice_get e.frames j ≡ slice_get e.frames j) (λ j is. refl);
-      live = if_named (map_of k) (λ m. (n : ℕ) → IsLive e.maps m n → IsLive e.maps m n) (λ m is n l. l);
+      serials = if_some (frame_of k) (λ j. slice_get e.frames j ≡ slice_get e.frames j) (λ j is. refl);
+      live = if_some (map_of k) (λ m. (n : ℕ) → IsLive e.maps m n → IsLive e.maps m n) (λ m is n l. l);
     }
     h
 

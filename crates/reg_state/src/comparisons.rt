@@ -1,10 +1,11 @@
 //! What a conditional jump shows of the numbers that it compares.
 
-ghost use Rattle.std.specs.Prelude.{◌≡◌, ◌≢◌, ℕ, ◌^◌, ◌<◌, None, IsSomeAnd, IfSome, IsTrue, Bool, false, bit_and};
+ghost use Rattle.std.specs.Prelude.{◌≡◌, ◌≢◌, ℕ, ◌^◌, ◌<◌, None, IsSome, IsSomeAnd, IfSome, IsTrue, Bool, false, bit_and};
 ghost use Rattle.isa_model.specs.Code.Numbers.{holds, low};
 ghost use Rattle.isa_model.specs.declared.sizes.Width.TheVariants.{Low32, Full64};
 ghost use Rattle.reg_state.specs.Relations.{Goes, reads_signed, low_half, low_half_limit};
 ghost use Rattle.reg_state.specs.Reach.{MayGo, MayShare, ReadsWhole, exchanged};
+ghost use Rattle.reg_state.specs.Shown.{DomainShows, ShowsAt, ShowsWhole, AreReadWhole};
 
 use crate::domains::Domain;
 use isa_model::{Comparison, Width, numbers};
@@ -18,48 +19,16 @@ pub fn refine<D: Domain>(
     a: D,
     b: D,
 ) -> Option<(D, D)>
-    ensures common { (x y : ℕ) → D.has a x → D.has b y → holds comparison width x y ≡ taken
-        → IsSomeAnd result (λ p. D.has p.0 x × D.has p.1 y) }
-    ensures left { IfSome result (λ p. (x : ℕ) → D.has p.0 x → D.has a x) }
-    ensures right { IfSome result (λ p. (y : ℕ) → D.has p.1 y → D.has b y) }
-    ensures left_constant { (u : ℕ) → D.is_constant a u → IfSome result (λ p. D.is_constant p.0 u) }
-    ensures right_constant { (v : ℕ) → D.is_constant b v
-        → IfSome result (λ p. D.is_constant p.1 v) }
+    ensures shows { IfSome result (λ p. DomainShows D.has D.is_constant D.limits D.allows D.ones
+        D.possible comparison width taken a b p.0 p.1) }
+    ensures some { (x y : ℕ) → D.has a x → D.has b y → holds comparison width x y ≡ taken
+        → IsSome result }
     ensures stays { (u v : ℕ) → u < 2 ^ 64 → v < 2 ^ 64 → D.is_constant a u → D.is_constant b v
         → holds comparison width u v ≡ taken
-        → IsSomeAnd result (λ p. D.is_constant p.0 u × D.is_constant p.1 v) }
+        → IsSome result }
     ensures never { (u v : ℕ) → D.is_constant a u → D.is_constant b v
         → holds comparison width u v ≢ taken
         → result ≡ None }
-    ensures left_limits { ReadsWhole comparison width (D.limits Full64 a) (D.possible a)
-        → ReadsWhole comparison width (D.limits Full64 b) (D.possible b)
-        → (u v : ℕ) → D.has a u → D.has a v → u ≢ v
-        → IfSome result (λ p. (x : ℕ) → D.has p.0 x
-        → MayGo Full64 comparison taken (D.has b) (D.limits Full64 b) (D.limits Full64 a) x) }
-    ensures right_limits { ReadsWhole comparison width (D.limits Full64 a) (D.possible a)
-        → ReadsWhole comparison width (D.limits Full64 b) (D.possible b)
-        → (u v : ℕ) → D.has b u → D.has b v → u ≢ v
-        → IfSome result (λ p. (y : ℕ) → D.has p.1 y
-        → MayGo Full64 (exchanged comparison) taken (D.has a) (D.limits Full64 a)
-        (D.limits Full64 b) y) }
-    ensures left_bits { ReadsWhole comparison width (D.limits Full64 a) (D.possible a)
-        → ReadsWhole comparison width (D.limits Full64 b) (D.possible b)
-        → (u v : ℕ) → D.has a u → D.has a v → u ≢ v
-        → IfSome result (λ p. (x : ℕ) → D.has p.0 x
-        → MayShare comparison taken (D.ones b) (bit_and (D.possible a) (D.possible b)) x) }
-    ensures right_bits { ReadsWhole comparison width (D.limits Full64 a) (D.possible a)
-        → ReadsWhole comparison width (D.limits Full64 b) (D.possible b)
-        → (u v : ℕ) → D.has b u → D.has b v → u ≢ v
-        → IfSome result (λ p. (y : ℕ) → D.has p.1 y
-        → MayShare comparison taken (D.ones a) (bit_and (D.possible a) (D.possible b)) y) }
-    ensures left_low_limits { width ≡ Low32 → (u v : ℕ) → D.has a u → D.has a v → u ≢ v
-        → IfSome result (λ p. (x : ℕ) → D.has p.0 x
-        → MayGo Low32 comparison taken (D.allows Low32 b) (D.limits Low32 b) (D.limits Low32 a)
-        (low Low32 x)) }
-    ensures right_low_limits { width ≡ Low32 → (u v : ℕ) → D.has b u → D.has b v → u ≢ v
-        → IfSome result (λ p. (y : ℕ) → D.has p.1 y
-        → MayGo Low32 (exchanged comparison) taken (D.allows Low32 a) (D.limits Low32 a)
-        (D.limits Low32 b) (low Low32 y)) }
 {
     if never_goes(comparison, width, taken, a, b) {
         return None;
@@ -110,29 +79,11 @@ fn narrowed<D: Domain>(
         → IsSomeAnd result (λ p. D.has p.0 x × D.has p.1 y) }
     ensures left { IfSome result (λ p. (x : ℕ) → D.has p.0 x → D.has a x) }
     ensures right { IfSome result (λ p. (y : ℕ) → D.has p.1 y → D.has b y) }
-    ensures left_limits { ReadsWhole comparison width (D.limits Full64 a) (D.possible a)
-        → ReadsWhole comparison width (D.limits Full64 b) (D.possible b)
-        → IfSome result (λ p. (x : ℕ) → D.has p.0 x
-        → MayGo Full64 comparison taken (D.has b) (D.limits Full64 b) (D.limits Full64 a) x) }
-    ensures right_limits { ReadsWhole comparison width (D.limits Full64 a) (D.possible a)
-        → ReadsWhole comparison width (D.limits Full64 b) (D.possible b)
-        → IfSome result (λ p. (y : ℕ) → D.has p.1 y
-        → MayGo Full64 (exchanged comparison) taken (D.has a) (D.limits Full64 a)
-        (D.limits Full64 b) y) }
-    ensures left_bits { ReadsWhole comparison width (D.limits Full64 a) (D.possible a)
-        → ReadsWhole comparison width (D.limits Full64 b) (D.possible b)
-        → IfSome result (λ p. (x : ℕ) → D.has p.0 x
-        → MayShare comparison taken (D.ones b) (bit_and (D.possible a) (D.possible b)) x) }
-    ensures right_bits { ReadsWhole comparison width (D.limits Full64 a) (D.possible a)
-        → ReadsWhole comparison width (D.limits Full64 b) (D.possible b)
-        → IfSome result (λ p. (y : ℕ) → D.has p.1 y
-        → MayShare comparison taken (D.ones a) (bit_and (D.possible a) (D.possible b)) y) }
-    ensures left_low_limits { width ≡ Low32 → IfSome result (λ p. (x : ℕ) → D.has p.0 x
-        → MayGo Low32 comparison taken (D.allows Low32 b) (D.limits Low32 b) (D.limits Low32 a)
-        (low Low32 x)) }
-    ensures right_low_limits { width ≡ Low32 → IfSome result (λ p. (y : ℕ) → D.has p.1 y
-        → MayGo Low32 (exchanged comparison) taken (D.allows Low32 a) (D.limits Low32 a)
-        (D.limits Low32 b) (low Low32 y)) }
+    ensures whole { AreReadWhole D.limits D.possible comparison width a b
+        → IfSome result (λ p. ShowsWhole D.has D.limits D.ones D.possible comparison taken
+        a b p.0 p.1) }
+    ensures low { width ≡ Low32 → IfSome result (λ p. ShowsAt D.has D.limits D.allows Low32
+        comparison taken a b p.0 p.1) }
 {
     match width {
         Width::Full64 => related_whole(comparison, taken, a, b),
@@ -146,15 +97,8 @@ fn related_whole<D: Domain>(comparison: Comparison, taken: bool, a: D, b: D) -> 
         → IsSomeAnd result (λ p. D.has p.0 x × D.has p.1 y) }
     ensures left { IfSome result (λ p. (x : ℕ) → D.has p.0 x → D.has a x) }
     ensures right { IfSome result (λ p. (y : ℕ) → D.has p.1 y → D.has b y) }
-    ensures left_limits { IfSome result (λ p. (x : ℕ) → D.has p.0 x
-        → MayGo Full64 comparison taken (D.has b) (D.limits Full64 b) (D.limits Full64 a) x) }
-    ensures right_limits { IfSome result (λ p. (y : ℕ) → D.has p.1 y
-        → MayGo Full64 (exchanged comparison) taken (D.has a) (D.limits Full64 a)
-        (D.limits Full64 b) y) }
-    ensures left_bits { IfSome result (λ p. (x : ℕ) → D.has p.0 x
-        → MayShare comparison taken (D.ones b) (bit_and (D.possible a) (D.possible b)) x) }
-    ensures right_bits { IfSome result (λ p. (y : ℕ) → D.has p.1 y
-        → MayShare comparison taken (D.ones a) (bit_and (D.possible a) (D.possible b)) y) }
+    ensures whole { IfSome result (λ p. ShowsWhole D.has D.limits D.ones D.possible comparison taken
+        a b p.0 p.1) }
 {
     related(comparison, Width::Full64, taken, a, b)
 }
@@ -166,29 +110,11 @@ fn related_low<D: Domain>(comparison: Comparison, taken: bool, a: D, b: D) -> Op
         → IsSomeAnd result (λ p. D.has p.0 x × D.has p.1 y) }
     ensures left { IfSome result (λ p. (x : ℕ) → D.has p.0 x → D.has a x) }
     ensures right { IfSome result (λ p. (y : ℕ) → D.has p.1 y → D.has b y) }
-    ensures left_limits { ReadsWhole comparison Low32 (D.limits Full64 a) (D.possible a)
-        → ReadsWhole comparison Low32 (D.limits Full64 b) (D.possible b)
-        → IfSome result (λ p. (x : ℕ) → D.has p.0 x
-        → MayGo Full64 comparison taken (D.has b) (D.limits Full64 b) (D.limits Full64 a) x) }
-    ensures right_limits { ReadsWhole comparison Low32 (D.limits Full64 a) (D.possible a)
-        → ReadsWhole comparison Low32 (D.limits Full64 b) (D.possible b)
-        → IfSome result (λ p. (y : ℕ) → D.has p.1 y
-        → MayGo Full64 (exchanged comparison) taken (D.has a) (D.limits Full64 a)
-        (D.limits Full64 b) y) }
-    ensures left_bits { ReadsWhole comparison Low32 (D.limits Full64 a) (D.possible a)
-        → ReadsWhole comparison Low32 (D.limits Full64 b) (D.possible b)
-        → IfSome result (λ p. (x : ℕ) → D.has p.0 x
-        → MayShare comparison taken (D.ones b) (bit_and (D.possible a) (D.possible b)) x) }
-    ensures right_bits { ReadsWhole comparison Low32 (D.limits Full64 a) (D.possible a)
-        → ReadsWhole comparison Low32 (D.limits Full64 b) (D.possible b)
-        → IfSome result (λ p. (y : ℕ) → D.has p.1 y
-        → MayShare comparison taken (D.ones a) (bit_and (D.possible a) (D.possible b)) y) }
-    ensures left_low_limits { IfSome result (λ p. (x : ℕ) → D.has p.0 x
-        → MayGo Low32 comparison taken (D.allows Low32 b) (D.limits Low32 b) (D.limits Low32 a)
-        (low Low32 x)) }
-    ensures right_low_limits { IfSome result (λ p. (y : ℕ) → D.has p.1 y
-        → MayGo Low32 (exchanged comparison) taken (D.allows Low32 a) (D.limits Low32 a)
-        (D.limits Low32 b) (low Low32 y)) }
+    ensures whole { AreReadWhole D.limits D.possible comparison Low32 a b
+        → IfSome result (λ p. ShowsWhole D.has D.limits D.ones D.possible comparison taken
+        a b p.0 p.1) }
+    ensures low { IfSome result (λ p. ShowsAt D.has D.limits D.allows Low32 comparison taken
+        a b p.0 p.1) }
 {
     let (left, right) = related(comparison, Width::Low32, taken, a, b)?;
     if !reads_whole(comparison, a, b) {
@@ -261,9 +187,7 @@ fn related<D: Domain>(
 fn reads_whole<D: Domain>(comparison: Comparison, a: D, b: D) -> bool
     ensures sound { IsTrue result → (x y : ℕ) → D.has a x → D.has b y → (taken : Bool)
         → holds comparison Low32 x y ≡ taken → Goes Full64 comparison taken x y }
-    ensures found { ReadsWhole comparison Low32 (D.limits Full64 a) (D.possible a)
-        → ReadsWhole comparison Low32 (D.limits Full64 b) (D.possible b)
-        → IsTrue result }
+    ensures found { AreReadWhole D.limits D.possible comparison Low32 a b → IsTrue result }
 {
     are_low_halves(comparison, a) && are_low_halves(comparison, b)
 }

@@ -10,6 +10,7 @@ use Rattle.std.proofs.lemmas.Int.{ints}
 use Rattle.reg_state.specs.declared.kinds.Kind.{Kind}
 use Rattle.reg_state.specs.declared.kinds.Kind.TheVariants.{Unset, Number, Context, Stack, Packet, PacketEnd, Map, MapValue, MapValueOrNull}
 use Rattle.reg_state.specs.KindCover.{packet_identity_of, null_identity_of, KindEncloses}
+use Rattle.reg_state.proofs.Numbers.{if_some}
 use Rattle.stack_state.specs.declared.slots.Slot.{Slot}
 use Rattle.stack_state.specs.declared.slots.Slot.TheVariants.{Written, Spilled}
 use Rattle.stack_state.specs.declared.states.AbstractFrame.{AbstractFrame}
@@ -222,10 +223,6 @@ packet_name-is a b packet i none same =
     ]
     refl
 
-if_named : (o : Option ℕ) (P : ℕ → Type 0) → ((i : ℕ) → o ≡ Some i → P i) → IfSome o P
-if_named None P h = tt
-if_named (Some i) P h = h i refl
-
 renamed_kind : (packet null names nulls : ℕ → ℕ) (x y : Kind) → IfSome (packet_identity_of x) (λ i. names i ≡ packet i)
     → IfSome (null_identity_of x) (λ i. nulls i ≡ null i) → KindEncloses packet null x y → KindEncloses names nulls x y
 renamed_kind packet null names nulls Unset y packets values c = tt
@@ -266,9 +263,9 @@ agree : (packet null : ℕ → ℕ) (a b : State) (j : ℕ) (x : Kind) → Enclo
     → ((s : Sort) (i : ℕ) → identity_of s x ≡ Some i → NamedIn s (frame_of a j) i)
     → AgreeOn packet null (packet_name a b) (null_name a b) x
 agree packet null a b j x c named = record {
-  packets = if_named (packet_identity_of x) (λ i. packet_name a b i ≡ packet i) (λ i e. packet_name-is a b packet i c.none
+  packets = if_some (packet_identity_of x) (λ i. packet_name a b i ≡ packet i) (λ i e. packet_name-is a b packet i c.none
       (name_of-opposite sort.Packet packet i a b j (all_opposite_packet packet null a b c) (named sort.Packet i e)));
-  values = if_named (null_identity_of x) (λ i. null_name a b i ≡ null i) (λ i e.
+  values = if_some (null_identity_of x) (λ i. null_name a b i ≡ null i) (λ i e.
       name_of-opposite sort.Null null i a b j (all_opposite_null packet null a b c) (named sort.Null i e));
 }
 

@@ -41,7 +41,7 @@ const AT_THE_LAST_TIME: &[Frame] = &[([255; 8], 0)];
 type Accepted = (&'static str, &'static [Frame], &'static str, &'static str);
 
 /// Arithmetic, jumps, the stack and local calls.
-const WITHOUT_PACKETS: [Accepted; 12] = [
+const WITHOUT_PACKETS: [Accepted; 13] = [
     ("r0 = 2; exit", EMPTY, "ok bound 2\n", "0 PASS 0 2\nend 1\n"),
     (
         "r0 = 0x100000002 ll; w1 = 0; w0 %= w1; exit",
@@ -91,6 +91,12 @@ const WITHOUT_PACKETS: [Accepted; 12] = [
         EMPTY,
         "ok bound 4\n",
         "0 PASS 0 4\nend 1\n",
+    ),
+    (
+        "r0 = -1; r1 = 0; w0 %= w1; r0 >>= 31; exit",
+        EMPTY,
+        "ok bound 5\n",
+        "0 DROP 0 5\nend 1\n",
     ),
     (
         "call 5; r0 &= 3; exit",
@@ -153,7 +159,24 @@ const ON_PACKETS: [Accepted; 5] = [
 ];
 
 /// Maps.
-const WITH_MAPS: [Accepted; 8] = [
+const WITH_MAPS: [Accepted; 10] = [
+    // a map that no instruction names
+    (
+        "map hash 4 8 1; r0 = 2; exit",
+        EMPTY,
+        "ok bound 2\n",
+        "0 PASS 0 2\nend 1\n",
+    ),
+    // entries are reported in the order of their keys
+    (
+        "map hash 1 1 2; *(u8 *)(r10 - 1) = 9; *(u8 *)(r10 - 2) = 7;
+        r1 = map_by_idx(0); r2 = r10; r2 += -1; r3 = r10; r3 += -2; r4 = 0; call 2;
+        *(u8 *)(r10 - 1) = 3;
+        r1 = map_by_idx(0); r2 = r10; r2 += -1; r3 = r10; r3 += -2; r4 = 0; call 2; r0 = 2; exit",
+        EMPTY,
+        "ok bound 19\n",
+        "0 PASS 0 19\nmap 0 03 07\nmap 0 09 07\nend 1\n",
+    ),
     (
         "map hash 4 8 4; *(u32 *)(r10 - 4) = 1; r1 = map_by_idx(0); r2 = r10; r2 += -4; call 1;
         *(u64 *)(r10 - 16) = r0; if r0 == 0 goto +3; r3 = *(u64 *)(r10 - 16);

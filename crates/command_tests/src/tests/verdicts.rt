@@ -1,68 +1,12 @@
-//! Programs that are verified and run.
+//! Programs that are refused, and not run, and one whose paths join. What is accepted is in
+//! `accepted`.
 
 use super::programs::{EMPTY, write_frames};
-use super::{
-    Answer, RUN, TRACE, VERIFY, all_answer, answers, holds, remove_files, reports, write_program,
-};
+use super::{Answer, RUN, VERIFY, all_answer, answers, holds, remove_files, write_program};
 use std::fs;
 use std::process::Abort;
 use std::rt::Files;
 use std::test::Fail;
-
-/// A program, what `verify` says of it, and its report.
-const ACCEPTED: [(&str, &str, &str); 7] = [
-    ("r0 = 2; exit", "ok bound 2\n", "0 PASS 0 2\nend 1\n"),
-    (
-        "r0 = 0x100000002 ll; w1 = 0; w0 %= w1; exit",
-        "ok bound 4\n",
-        "0 PASS 0 4\nend 1\n",
-    ),
-    (
-        "r0 = 0x8000000000000000 ll; r1 = -1; r0 s/= r1; r0 >>= 62; exit",
-        "ok bound 5\n",
-        "0 PASS 0 5\nend 1\n",
-    ),
-    (
-        "r0 = 0x102030405060708 ll; r0 = be16 r0; exit",
-        "ok bound 3\n",
-        "0 INVALID 0 3\nend 1\n",
-    ),
-    (
-        "r0 = -13; r0 s%= 3; r0 += 3; exit",
-        "ok bound 4\n",
-        "0 PASS 0 4\nend 1\n",
-    ),
-    (
-        "r0 = -1; r1 = 0; w0 %= w1; r0 >>= 31; exit",
-        "ok bound 5\n",
-        "0 DROP 0 5\nend 1\n",
-    ),
-    (
-        "r1 = 0; r1 += 1; if r1 < 10 goto -2; r0 = 2; exit",
-        "ok bound 23\n",
-        "0 PASS 0 23\nend 1\n",
-    ),
-];
-
-/// Runs, and traces what was run: the frames out stay as they were.
-fn runs_as_it_traces<R: Files + AllocGlobal + Abort>(rt: &R, report: &str) -> Result<(), Fail> {
-    answers(rt, RUN, 0, report, "")?;
-    let sent = fs::read(rt, "sent")?;
-    reports(rt, TRACE, 0, report)?;
-    holds(rt, "sent", sent.as_slice())
-}
-
-/// What is accepted, with its bound; `run` writes what `trace` writes.
-#[test]
-fn verifies_and_runs(rt: HostRuntime) -> Result<(), Fail> {
-    write_frames(&rt, EMPTY)?;
-    for (text, bound, report) in ACCEPTED.iter() {
-        write_program(&rt, "image", *text)?;
-        answers(&rt, VERIFY, 0, *bound, "")?;
-        runs_as_it_traces(&rt, *report)?;
-    }
-    remove_files(&rt)
-}
 
 /// A program, how it is refused, and why.
 const REFUSED: [(&str, &str, &str); 12] = [

@@ -38,20 +38,24 @@ returns-clause-left g c = λ x h. c.in_ok-left.ensures.left x (c.in_ok-first.ens
 pub returns-clause-right : goal.returns-clause-right
 returns-clause-right g c = λ y h. c.in_ok-left.ensures.right y (c.in_ok-second.ensures.left y h)
 
-pub returns-clause-left_limits : goal.returns-clause-left_limits
-returns-clause-left_limits g c = λ a b x h. c.in_ok-whole_left.ensures.left_limits x (c.in_ok-first.ensures.right x h)
+pub returns-clause-whole : goal.returns-clause-whole
+returns-clause-whole g c = λ both.
+    let shown = c.in_ok-whole_left.ensures.whole in
+    record {
+      left_limits = λ x h. shown.left_limits x (c.in_ok-first.ensures.right x h);
+      right_limits = λ y h. shown.right_limits y (c.in_ok-second.ensures.right y h);
+      left_bits = λ x h. shown.left_bits x (c.in_ok-first.ensures.right x h);
+      right_bits = λ y h. shown.right_bits y (c.in_ok-second.ensures.right y h);
+    }
 
-pub returns-clause-right_limits : goal.returns-clause-right_limits
-returns-clause-right_limits g c = λ a b y h. c.in_ok-whole_left.ensures.right_limits y (c.in_ok-second.ensures.right y h)
+pub returns-then-not-reads_whole-clause-low : goal.returns-then-not-reads_whole-clause-low
+returns-then-not-reads_whole-clause-low g c = record {
+  left_limits = c.in_ok-left.ensures.left_limits;
+  right_limits = c.in_ok-left.ensures.right_limits;
+}
 
-pub returns-clause-left_bits : goal.returns-clause-left_bits
-returns-clause-left_bits g c = λ a b x h. c.in_ok-whole_left.ensures.left_bits x (c.in_ok-first.ensures.right x h)
-
-pub returns-clause-right_bits : goal.returns-clause-right_bits
-returns-clause-right_bits g c = λ a b y h. c.in_ok-whole_left.ensures.right_bits y (c.in_ok-second.ensures.right y h)
-
-pub returns-clause-left_low_limits : goal.returns-clause-left_low_limits
-returns-clause-left_low_limits g c = λ x h. c.in_ok-left.ensures.left_limits x (c.in_ok-first.ensures.left x h)
-
-pub returns-clause-right_low_limits : goal.returns-clause-right_low_limits
-returns-clause-right_low_limits g c = λ y h. c.in_ok-left.ensures.right_limits y (c.in_ok-second.ensures.left y h)
+pub returns-clause-low : goal.returns-clause-low
+returns-clause-low g c = record {
+  left_limits = λ x h. c.in_ok-left.ensures.left_limits x (c.in_ok-first.ensures.left x h);
+  right_limits = λ y h. c.in_ok-left.ensures.right_limits y (c.in_ok-second.ensures.left y h);
+}
