@@ -36,6 +36,10 @@ def records(stream):
         yield (time, interface, queue), sum(reason), stream[at - size:at]
 
 
+class TooLong(Exception):
+    """A text or a stream of over a megabyte, for which there is no room."""
+
+
 class Library:
     """The calls of examples/embed/xdpvm.h that the attacks make. Status 5 of any is an error."""
 
@@ -50,7 +54,7 @@ class Library:
 
     def taken(self, buffer, size):
         if size > ROOM:
-            raise MemoryError("a text or a stream of over a megabyte")
+            raise TooLong
         return ctypes.string_at(buffer, size)
 
     def asked(self, status):
@@ -176,7 +180,10 @@ class Runner:
 
     def __call__(self, *words):
         answer = getattr(self, words[0], None) if len(words) == {"asm": 3, "verify": 2, "recheck": 3, "run": 4, "trace": 4}.get(words[0]) else None
-        answered = answer(*words[1:]) if answer else None
+        try:
+            answered = answer(*words[1:]) if answer else None
+        except TooLong:
+            answered = None
         return subprocess.CompletedProcess(words, *answered) if answered else self.process(*words)
 
     def asm(self, text, image):
