@@ -134,9 +134,9 @@ uint32_t xdpvm_assemble(const uint8_t *text, size_t text_len, uint8_t *image, si
 
 /* Verifies the program of an image. XDPVM_OK: no run of it traps, and each exits within out->bound steps, on every packet
    of at most 9,216 bytes. XDPVM_REFUSED: `why` gets what `xdpvm verify` prints: the code and the place, a sentence, the
-   instruction, and what is known there. The last is looked for only where why_len is not 0. No more than `limit`
-   instructions are explored: where that is not enough, the answer is XDPVM_UNDECIDED, and a larger limit may say more.
-   XDPVM_WRONG: the limit is not from 1 to 1,000,000. */
+   instruction, and what is known there; but not which other file bytes that are no image look like. What is known is looked
+   for only where why_len is not 0. No more than `limit` instructions are explored: where that is not enough, the answer is
+   XDPVM_UNDECIDED, and a larger limit may say more. XDPVM_WRONG: the limit is not from 1 to 1,000,000. */
 uint32_t xdpvm_verify(const uint8_t *image, size_t image_len, uint32_t limit, uint8_t *why, size_t why_len,
                       struct xdpvm_verdict *out);
 

@@ -1,13 +1,15 @@
 -- What a row says of a program.
-use Rattle.std.proofs.Common.{◌≡◌, ℕ, Option, Some, subst, sym}
+use Rattle.std.proofs.Common.{◌≡◌, ◌⊎◌, ℕ, Option, None, Some, inl, inr, subst, sym}
 use Rattle.isa_model.specs.{Program}
 use Rattle.isa_model.specs.Running.Outcomes.{StartsEnd}
+use Rattle.image.specs.declared.errors.ImageError.{ImageError}
+use Rattle.image.specs.declared.errors.ImageError.TheVariants as error
 use Rattle.stack_state.specs.Starts.{start}
 use Rattle.walks.specs.Counts.{HasNumber}
 use Rattle.survey_rows.specs.declared.rows.Counts.{Counts}
 use Rattle.survey_rows.specs.declared.rows.Verdict.{Verdict}
 use Rattle.survey_rows.specs.declared.rows.Verdict.TheVariants as verdict
-use Rattle.surveys.specs.Judging.{IfBound, Refuses, Says}
+use Rattle.surveys.specs.Judging.{IfBound, Refuses, Says, SaysMalformed}
 
 -- where memory ran out nothing is said
 pub says_nothing : (p : Program) (v : Verdict) (c : Counts) → v ≡ verdict.NoMemory → Says p v c
@@ -33,3 +35,19 @@ says_at p q v c same says = subst (λ (r : Program). Says r v c) same says
 
 pub says_of : (p q : Program) (n : ℕ) (v : Verdict) (c : Counts) → q ≡ p → HasNumber p start n → (HasNumber q start n → Says q v c) → Says p v c
 says_of p q n v c same number says = says_at p q v c same (says (subst (λ (r : Program). HasNumber r start n) (sym same) number))
+
+-- what is no image has one refusal; where memory ran out nothing is said
+same_refusal : (found : Option ImageError) (one other : ImageError) → found ≡ Some one → found ≡ Some other → one ≡ other
+same_refusal found one other h g = cc
+
+pub says_malformed : (found : Option ImageError) (e wrong : ImageError) (v : Verdict) (c : Counts)
+    → (e ≡ error.Memory → v ≡ verdict.NoMemory) → SaysMalformed e v c → (e ≡ error.Memory) ⊎ (found ≡ Some e) → found ≡ Some wrong
+    → SaysMalformed wrong v c
+says_malformed found e wrong v c memory says (inl out) refused = subst (λ (w : Verdict). SaysMalformed wrong w c) (sym (memory out)) tt
+says_malformed found e wrong v c memory says (inr is) refused =
+    subst (λ (x : ImageError). SaysMalformed x v c) (same_refusal found e wrong is refused) says
+
+-- an image is not malformed
+pub never_malformed : (found : Option ImageError) (wrong : ImageError) (v : Verdict) (c : Counts) → found ≡ None → found ≡ Some wrong
+    → SaysMalformed wrong v c
+never_malformed found wrong v c none some = absurd cc

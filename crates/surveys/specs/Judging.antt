@@ -7,6 +7,9 @@ use Rattle.walks.specs.declared.refusals.Refusal.{Refusal}
 use Rattle.walks.specs.Counts.{HasNumber}
 use Rattle.walks.specs.Refused.{IsRefused}
 use Rattle.walks.specs.Messages.{code_of}
+use Rattle.image.specs.declared.errors.ImageError.{ImageError}
+use Rattle.image.specs.declared.errors.ImageError.TheVariants as error
+use Rattle.image.specs.Messages.{code_of as image_code_of}
 use Rattle.survey_rows.specs.declared.rows.Counts.{Counts}
 use Rattle.survey_rows.specs.declared.rows.Verdict.{Verdict}
 use Rattle.survey_rows.specs.declared.rows.Verdict.TheVariants as verdict
@@ -34,3 +37,17 @@ Says p verdict.Accepted counts = IfBound p counts.bound
 Says p (verdict.Refused code) counts = Refuses p code.now counts.slot
 Says p verdict.Unreadable counts = ⊥
 Says p verdict.NoMemory counts = Unit {0}
+
+-- the slot of an image that is refused, where there is one
+abbrev pub slot_of : ImageError → Option ℕ
+slot_of (error.Code slot _) = Some slot
+slot_of (error.UnknownMap slot) = Some slot
+slot_of (error.ValuePointer slot) = Some slot
+slot_of _ = None
+
+-- what a row says of bytes that are no image: the code of what is wrong, at its slot; or that memory ran out
+abbrev pub SaysMalformed : ImageError → Verdict → Counts → Type 0
+SaysMalformed wrong verdict.Accepted counts = ⊥
+SaysMalformed wrong (verdict.Refused code) counts = (code.now ≡ image_code_of wrong) × (counts.slot ≡ slot_of wrong)
+SaysMalformed wrong verdict.Unreadable counts = ⊥
+SaysMalformed wrong verdict.NoMemory counts = Unit {0}

@@ -7,7 +7,9 @@ ghost use Rattle.image.specs.Images.{IsImage, image_bytes};
 ghost use Rattle.stack_state.specs.Starts.{start};
 ghost use Rattle.walks.specs.Counts.{HasNumber};
 ghost use Rattle.walks.specs.Refused.{IsRefused};
-ghost use Rattle.surveys.specs.Judging.{Says};
+ghost use Rattle.image.specs.Refusals.{refusal_of};
+ghost use Rattle.image.specs.declared.errors.ImageError.{ImageError};
+ghost use Rattle.surveys.specs.Judging.{Says, SaysMalformed, slot_of};
 
 use crate::tallies::Tally;
 use bounds::Verified;
@@ -46,7 +48,9 @@ fn unjudged(counts: Counts) -> Judged
 }
 
 /// The slot that the refusal of an image names.
-fn slot_of(error: ImageError) -> Option<u64> {
+fn slot_of(error: ImageError) -> Option<u64>
+    ensures { result ≡ slot_of error }
+{
     match error {
         ImageError::Code(slot, _) | ImageError::UnknownMap(slot) | ImageError::ValuePointer(slot) =>
             { Some(slot as u64) }
@@ -56,7 +60,8 @@ fn slot_of(error: ImageError) -> Option<u64> {
 
 /// Bytes that are no image.
 fn malformed(error: ImageError) -> Judged
-    ensures { error ≡ ImageError.Memory → result.verdict ≡ Verdict.NoMemory }
+    ensures memory { error ≡ ImageError.Memory → result.verdict ≡ Verdict.NoMemory }
+    ensures says { SaysMalformed error result.verdict result.counts }
 {
     match error {
         ImageError::Memory => unjudged(Counts::default()),
@@ -199,6 +204,8 @@ fn judge_image<C: Clock>(clock: &C, alloc: Global, image: Image, has_table: bool
 pub fn judge<C: Clock>(clock: &C, alloc: Global, bytes: &[u8], has_table: bool) -> Judged
     ensures says { (p : Program) → IsImage p → bytes.now ≡ image_bytes p
         → Says p result.verdict result.counts }
+    ensures malformed { (wrong : ImageError) → refusal_of bytes.now ≡ Some wrong
+        → SaysMalformed wrong result.verdict result.counts }
 {
     match Image::parse(alloc, bytes) {
         Ok(image) => judge_image(clock, alloc, image, has_table),
