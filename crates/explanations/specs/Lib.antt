@@ -6,4 +6,5 @@ pub mod Cases
 pub mod Values
 pub mod Reasons
 pub mod Mismatches
+pub mod Turns
 pub mod Entries

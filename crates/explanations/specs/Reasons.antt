@@ -7,6 +7,7 @@ use Rattle.walks.specs.declared.refusals.Refusal.{Refusal}
 use Rattle.explorer.specs.declared.explanations.Explanation.{Explanation}
 use Rattle.explorer.specs.Explained.{Explains}
 use Rattle.explanations.specs.Cases.{case_line}
+use Rattle.explanations.specs.Turns.{turn_lines}
 use Rattle.explanations.specs.Lines.{register_lines, answer_line, stack_lines, way_line}
 
 -- that the search had reached its limit of similar states, and explored each as a new one from then
@@ -14,13 +15,13 @@ use Rattle.explanations.specs.Lines.{register_lines, answer_line, stack_lines, w
 abbrev pub cut_line : Bool → List ℕ
 cut_line cut = if cut then codes "states could not be told apart any more: too many that are alike were stored\n" else codes ""
 
--- the registers, what is needed, an answer's low half and the stack slots that concern the
--- instruction, in the state in which it is refused so, the last jumps, and whether states were
--- compared
+-- the registers, what is needed, what differs from turn to turn, an answer's low half and the
+-- stack slots that concern the instruction, in the state in which it is refused so, the last jumps,
+-- and whether states were compared
 abbrev pub lines_of : List MapDef → Insn → Refusal → Explanation → List ℕ
 lines_of rows i e x =
-    register_lines x.state i ++ (case_line rows x.state i e x.way.items ++ (answer_line x.state e ++ (stack_lines rows x.state i
-    ++ (way_line x.way.items ++ cut_line x.is_cut_off))))
+    register_lines x.state i ++ (case_line rows x.state i e x.way.items ++ (turn_lines x.earlier x.state e
+    ++ (answer_line x.state e ++ (stack_lines rows x.state i ++ (way_line x.way.items ++ cut_line x.is_cut_off)))))
 
 -- the lines of a state in which the program is refused so, at the slot
 pub record IsReason (p : Program) (e : Refusal) (slot : ℕ) (text : List ℕ) : Type 0 where

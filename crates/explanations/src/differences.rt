@@ -20,7 +20,8 @@ fn up_words(alloc: Global, state: &State, frame: usize) -> Result<String, AllocE
     calls_up(alloc, state.callers.len().saturating_sub(frame))
 }
 
-fn register_words(
+/// What is known of a register of a frame.
+pub fn register_words(
     alloc: Global,
     state: &State,
     frame: usize,
@@ -37,7 +38,8 @@ fn register_words(
     kind_words(alloc, state.callers.len(), kind)
 }
 
-fn stack_words(
+/// What is known of a stack slot of a frame.
+pub fn stack_words(
     alloc: Global,
     state: &State,
     frame: usize,

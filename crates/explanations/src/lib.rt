@@ -10,6 +10,7 @@ mod mismatches;
 mod numbers;
 mod reasons;
 mod slots;
+mod turns;
 mod values;
 
 pub use entries::{EntryReason, entry_reason};

@@ -6,6 +6,7 @@ ghost use Rattle.explanations.specs.Reasons.{cut_line, lines_of, IsReason};
 
 use crate::cases::case_line;
 use crate::lines::{answer_line, register_lines, stack_lines, way_line};
+use crate::turns::turn_lines;
 use explorer::{Explanation, Refusal, explain};
 use image::Image;
 use isa_model::Insn;
@@ -36,17 +37,19 @@ fn lines_of(
     let registers = register_lines(alloc, &found.state, insn)?;
     let way = found.way.as_slice();
     let case = case_line(alloc, image.maps(), &found.state, insn, refusal, way)?;
+    let turns = turn_lines(alloc, &found.earlier, &found.state, refusal)?;
     let answer = answer_line(alloc, &found.state, refusal)?;
     let stack = stack_lines(alloc, image.maps(), &found.state, insn)?;
     let way = way_line(alloc, way)?;
     let cut = cut_line(found.is_cut_off);
-    format!(in alloc; "{registers}{case}{answer}{stack}{way}{cut}")
+    format!(in alloc; "{registers}{case}{turns}{answer}{stack}{way}{cut}")
 }
 
 /// What is known where a program is refused so, at this slot: the registers and the stack slots
-/// that concern its instruction, what it needs, the low half of an answer that has to name an
-/// action, the last jumps on the way there, and whether states were no longer compared. None: the
-/// refusal is one of control flow, or memory ran out.
+/// that concern its instruction, what it needs, what differs from turn to turn in a loop that is
+/// not explored to its end, the low half of an answer that has to name an action, the last jumps on
+/// the way there, and whether states were no longer compared. None: the refusal is one of control
+/// flow, or memory ran out.
 pub fn reason(alloc: Global, image: &Image, refusal: Refusal, slot: usize) -> Option<String>
     ensures { IfSome result (λ text. IsReason image.now refusal slot (string_bytes text)) }
 {

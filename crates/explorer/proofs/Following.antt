@@ -1,6 +1,7 @@
 -- What a listener keeps of a path that it follows, move by move.
-use Rattle.std.proofs.Common.{◌≡◌, ◌∙◌, ℕ, ◌+◌, ◌-◌, ◌≤◌, List, [], ◌∷◌, ◌++◌, Some, arith, refl, sym, ap, subst, length, append_assoc, length-append}
-use Rattle.std.specs.Prelude.{slice_get}
+use Rattle.std.proofs.Common.{◌≡◌, ◌∙◌, ℕ, ◌+◌, ◌-◌, ◌≤◌, List, [], ◌∷◌, ◌++◌, Option, Some, None, arith, refl, sym, ap, subst, length, append_assoc, length-append}
+use Rattle.std.specs.Prelude.{slice_get, option_to_list, IsSome}
+use Rattle.std.proofs.lemmas.List.{same_from_push}
 use Rattle.isa_model.specs.Code.Instructions.{Program}
 use Rattle.stack_state.specs.declared.states.State.{State}
 use Rattle.explorer.specs.declared.explanations.Jump.{Jump}
@@ -9,9 +10,11 @@ use Rattle.walks.specs.declared.refusals.Refusal.{Refusal}
 use Rattle.walks.specs.declared.refusals.Refusal.TheVariants.{Flow, Step, Repeats, TooLong, Memory}
 use Rattle.walks.specs.Walks.{StepsTo}
 use Rattle.walks.specs.Refused.{StopsAt}
-use Rattle.explorer.specs.Explained.{IsLed, Explains}
-use Rattle.explorer.specs.Listening.{StopsIn, IsToStop, EndsIn}
-use Rattle.explorer.specs.Followed.{IsWalk, slots_along}
+use Rattle.explorer.specs.Explained.{IsLed, IsTurnBefore, Explains}
+use Rattle.explorer.specs.Listening.{ComesTo, StopsIn, IsToStop, EndsIn}
+use Rattle.explorer.specs.declared.turns.Turns.{Turns}
+use Rattle.explorer.specs.Turns.{AreOn}
+use Rattle.explorer.specs.Followed.{HasFollowed, IsWalk, slots_along}
 use Rattle.explorer.proofs.Stores.{slice_get-push, slice_get-seam}
 use Rattle.explorer.proofs.Ways.{led_start}
 
@@ -21,7 +24,7 @@ walk_from : (p : Program) (rest before : List State) (s : State) → IsWalk p (r
 walk_from p [] before s h = h
 walk_from p (c ∷ rest) before s h = walk_from p rest before s h.1
 
-length-slots : (path : List State) → length (slots_along path) ≡ length path
+pub length-slots : (path : List State) → length (slots_along path) ≡ length path
 length-slots [] = refl
 length-slots (s ∷ path) = length-append (slots_along path) (s.slot ∷ []) ∙ omega (arith, length-slots path)
 
@@ -74,6 +77,43 @@ LedAt-last p path slots s k way are count h =
     let same : length slots ≡ length (s ∷ path) = ap (λ (xs : List ℕ). length xs) are ∙ length-slots (s ∷ path) in
     h.led [] path s refl (omega (arith, count, same))
 
+-- ---- what is kept
+
+-- a path came to one more state
+pub arrived : (image p : Program) (slots new_slots : List ℕ) (slot : ℕ) (turns new_turns : Turns) (path : List State) (last s : State) → new_slots ≡ slots ++ s.slot ∷ []
+    → (s.slot ≡ slot → new_turns.last ≡ s) → (AreOn path turns → AreOn (s ∷ path) new_turns) → ComesTo p path s → HasFollowed image slots slot turns p path last
+    → HasFollowed image new_slots slot new_turns p (s ∷ path) s
+arrived image p slots new_slots slot turns new_turns path last s are found on comes h = record {
+  program = h.program;
+  walk = (comes, h.walk);
+  slots_are = are ∙ ap (λ (xs : List ℕ). xs ++ s.slot ∷ []) h.slots_are;
+  found = found;
+  turns_are = on h.turns_are;
+}
+
+pub count_of : (image p : Program) (slots : List ℕ) (slot : ℕ) (turns : Turns) (path : List State) (last : State) → HasFollowed image slots slot turns p path last → length path ≡ length slots
+count_of image p slots slot turns path last h = sym (ap (λ (xs : List ℕ). length xs) h.slots_are ∙ length-slots path)
+
+popped : (slots new_slots : List ℕ) (slot : Option ℕ) (s : State) (path : List State) → slots ≡ new_slots ++ option_to_list slot → IsSome slot
+    → slots ≡ slots_along (s ∷ path) → new_slots ≡ slots_along path
+popped slots new_slots None s path items some are = absurd (cc some)
+popped slots new_slots (Some k) s path items some are = (same_from_push new_slots (slots_along path) k s.slot (sym items ∙ are)).0
+
+-- a path left its last state
+pub went_back : (image p : Program) (slots new_slots : List ℕ) (popped_slot : Option ℕ) (slot : ℕ) (turns new_turns : Turns) (s : State) (path : List State) (last : State)
+    → slots ≡ new_slots ++ option_to_list popped_slot → (1 ≤ length slots → IsSome popped_slot) → new_turns.last ≡ turns.last
+    → (length path ≡ length new_slots → AreOn (s ∷ path) turns → AreOn path new_turns) → HasFollowed image slots slot turns p (s ∷ path) last
+    → HasFollowed image new_slots slot new_turns p path last
+went_back image p slots new_slots popped_slot slot turns new_turns s path last items some same on h =
+    let rest : new_slots ≡ slots_along path = popped slots new_slots popped_slot s path items (some (slots_some slots s path h.slots_are)) h.slots_are in
+    record {
+      program = h.program;
+      walk = h.walk.1;
+      slots_are = rest;
+      found = λ at. same ∙ h.found at;
+      turns_are = on (sym (ap (λ (xs : List ℕ). length xs) rest ∙ length-slots path)) h.turns_are;
+    }
+
 -- ---- what is known in the end
 
 stops_in : (p : Program) (tale : List State → State → Type 0) (e : Refusal) (slot : ℕ) → EndsIn p tale e slot → (e ≡ Memory → ⊥) → IsToStop p tale e slot
@@ -84,13 +124,14 @@ stops_in p tale TooLong slot h known = h
 stops_in p tale Memory slot h known = absurd (known refl)
 
 explains : (p : Program) (tale : List State → State → Type 0) (e : Refusal) (slot : ℕ) (x : Explanation) → StopsAt p e slot → IsToStop p tale e slot
-    → ((before : List State) (s : State) → tale (s ∷ before) s → s.slot ≡ slot → (x.state ≡ s) × IsLed p s x.way.items) → Explains p e slot x
+    → ((before : List State) (s : State) → tale (s ∷ before) s → s.slot ≡ slot → (x.state ≡ s) × IsLed p s x.way.items × IsTurnBefore p s x.earlier) → Explains p e slot x
 explains p tale e slot x refused h shown =
     let known = shown h.before h.state h.told h.slot_is in
     let same = sym known.0 in
     record {
       refused = refused;
       led = subst (λ (s : State). IsLed p s x.way.items) same known.1;
+      turn = subst (λ (s : State). IsTurnBefore p s x.earlier) same known.2;
       at = ap (λ (s : State). s.slot) known.0 ∙ h.slot_is;
       stops = subst (λ (s : State). StopsIn p s e) same h.stops;
     }
@@ -98,7 +139,7 @@ explains p tale e slot x refused h shown =
 -- the search found the refusal, at the slot
 pub explains_by : (p q : Program) (tale : Program → List State → State → Type 0) (found e : Refusal) (at slot : ℕ) (x : Explanation) → p ≡ q → found ≡ e → at ≡ slot → (e ≡ Memory → ⊥)
     → StopsAt p found at → EndsIn p (tale p) found at
-    → ((r : Program) (before : List State) (s : State) → tale r (s ∷ before) s → s.slot ≡ slot → (x.state ≡ s) × IsLed r s x.way.items) → Explains q e slot x
+    → ((r : Program) (before : List State) (s : State) → tale r (s ∷ before) s → s.slot ≡ slot → (x.state ≡ s) × IsLed r s x.way.items × IsTurnBefore r s x.earlier) → Explains q e slot x
 explains_by p q tale found e at slot x same is here known stops ends shown =
     let refused = subst (λ k. StopsAt p e k) here (subst (λ r. StopsAt p r at) is stops) in
     let stopped = subst (λ k. EndsIn p (tale p) e k) here (subst (λ r. EndsIn p (tale p) r at) is ends) in

@@ -9,3 +9,4 @@ pub mod Counting
 pub mod Telling
 pub mod Following
 pub mod Trails
+pub mod Turning

@@ -1,5 +1,5 @@
 -- What is known where a program is refused.
-use Rattle.std.specs.Prelude.{◌≡◌, ℕ, ◌+◌, ◌-◌, ◌==◌, List, [], ◌∷◌, ◌++◌, drop, length, Some, if◌then◌else◌}
+use Rattle.std.specs.Prelude.{◌≡◌, ℕ, ◌+◌, ◌-◌, ◌==◌, suc, List, [], ◌∷◌, ◌++◌, drop, length, Option, Some, None, if◌then◌else◌}
 use Rattle.isa_model.specs.declared.instructions.Insn.{Insn}
 use Rattle.isa_model.specs.Code.Instructions.{Program, fetch, slots_of}
 use Rattle.stack_state.specs.declared.states.State.{State}
@@ -7,7 +7,7 @@ use Rattle.stack_state.specs.Starts.{start}
 use Rattle.walks.specs.Forgetting.{Forgets}
 use Rattle.explorer.specs.Listening.{StopsIn}
 use Rattle.walks.specs.Refused.{StopsAt}
-use Rattle.walks.specs.Walks.{StepsTo}
+use Rattle.walks.specs.Walks.{StepsTo, Leads}
 use Rattle.walks.specs.declared.refusals.Refusal.{Refusal}
 use Rattle.explorer.specs.declared.explanations.Jump.{Jump}
 use Rattle.explorer.specs.declared.explanations.Explanation.{Explanation}
@@ -33,10 +33,16 @@ pub record IsLed (p : Program) (s : State) (way : List Jump) : Type 0 where
   pub comes : ComesBy p s jumps
   pub last_are : way ≡ last MOST_JUMPS jumps
 
--- the program is refused so, at the slot; the abstract state there, and the last jumps of a path to
--- it
+-- a walk leads from an earlier state at the same slot, if there is one, to the state
+abbrev pub IsTurnBefore : Program → State → Option State → Type 0
+IsTurnBefore p s None = Unit {0}
+IsTurnBefore p s (Some e) = (e.slot ≡ s.slot) × ((more : ℕ) × Leads p (suc more) e s)
+
+-- the program is refused so, at the slot; the abstract state there, that of the turn before, and
+-- the last jumps of a path to it
 pub record Explains (p : Program) (e : Refusal) (slot : ℕ) (x : Explanation) : Type 0 where
   pub refused : StopsAt p e slot
   pub led : IsLed p x.state x.way.items
+  pub turn : IsTurnBefore p x.state x.earlier
   pub at : x.state.slot ≡ slot
   pub stops : StopsIn p x.state e

@@ -2,7 +2,9 @@
 use Rattle.std.specs.Prelude.{◌≡◌, ℕ, List, [], ◌∷◌, ◌++◌}
 use Rattle.isa_model.specs.Code.Instructions.{Program}
 use Rattle.stack_state.specs.declared.states.State.{State}
+use Rattle.explorer.specs.declared.turns.Turns.{Turns}
 use Rattle.explorer.specs.Listening.{ComesTo}
+use Rattle.explorer.specs.Turns.{AreOn}
 
 -- the states of a path, the last one first; each is a successor of the one before it on the path
 abbrev pub IsWalk : Program → List State → Type 0
@@ -14,9 +16,10 @@ abbrev pub slots_along : List State → List ℕ
 slots_along [] = []
 slots_along (s ∷ before) = slots_along before ++ s.slot ∷ []
 
--- the slots are those of the path, and the state is the one that arrived last, if that one is at the slot
-pub record HasFollowed (image : Program) (slots : List ℕ) (slot : ℕ) (state : State) (p : Program) (path : List State) (last : State) : Type 0 where
+-- the slots are those of the path, and of the states that came to one slot the last ones are kept
+pub record HasFollowed (image : Program) (slots : List ℕ) (slot : ℕ) (turns : Turns) (p : Program) (path : List State) (last : State) : Type 0 where
   pub program : image ≡ p
   pub walk : IsWalk p path
   pub slots_are : slots ≡ slots_along path
-  pub found : last.slot ≡ slot → state ≡ last
+  pub found : last.slot ≡ slot → turns.last ≡ last
+  pub turns_are : AreOn path turns

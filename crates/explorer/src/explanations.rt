@@ -4,13 +4,14 @@ ghost use Rattle.std.specs.Prelude.{◌≡◌, ◌<◌, [], ◌∷◌, ◌++◌,
 ghost use Rattle.isa_model.specs.Code.Instructions.{Program};
 ghost use Rattle.stack_state.specs.declared.states.State.{State as TheState};
 ghost use Rattle.walks.specs.Walks.{StepsTo};
-ghost use Rattle.explorer.specs.Explained.{IsLed, Explains};
+ghost use Rattle.explorer.specs.Explained.{IsLed, IsTurnBefore, Explains};
 ghost use Rattle.explorer.specs.Followed.{HasFollowed};
 
 use crate::kept::Kept;
 use crate::listening::Listener;
 use crate::moves::Halt;
 use crate::search::Search;
+use crate::turns::Turns;
 use arrayvec::ArrayVec;
 use control_flow::Flow;
 use image::Image;
@@ -34,6 +35,8 @@ pub struct Jump {
 pub struct Explanation {
     /// The abstract state in which it is.
     pub state: State,
+    /// The state of the turn before, on the way there: the last one that came to the same slot.
+    pub earlier: Option<State>,
     /// The last jumps on the way there.
     pub way: ArrayVec<Jump, 8>,
     /// Whether the limit of look-ups or of stored states was reached: from then on states were not
@@ -77,8 +80,8 @@ struct Follower<'a> {
     slots: Vec<usize>,
     /// The slot that is asked for.
     slot: usize,
-    /// The state that arrived there last.
-    state: State,
+    /// The last states that arrived there.
+    turns: Turns,
 }
 
 impl<'a> Follower<'a> {
@@ -87,14 +90,26 @@ impl<'a> Follower<'a> {
         ensures slot { result.slot ≡ slot }
         ensures image { result.image.now ≡ image.now }
         ensures nothing { (s : TheState) × HasFollowed result.image.now result.slots.items
-            result.slot result.state image.now [] s }
+            result.slot result.turns image.now [] s }
     {
         Follower {
             image,
             slots: Vec::new(alloc),
             slot,
-            state: State::start(),
+            turns: Turns::new(),
         }
+    }
+
+    /// The path leaves its last state.
+    fn go_back(&mut self)
+        ensures { (p : Program) (s : TheState) (path : List TheState) (last : TheState)
+            → HasFollowed self.old.image.now self.old.slots.items self.old.slot self.old.turns
+            p (s ∷ path) last
+            → HasFollowed self.new.image.now self.new.slots.items self.new.slot self.new.turns
+            p path last }
+    {
+        let _slot = self.slots.pop();
+        self.turns.leave(self.slots.len());
     }
 
     /// What is known at the end of the path, which is at this slot, and whether states were no
@@ -102,8 +117,9 @@ impl<'a> Follower<'a> {
     fn into_explanation(self, slot: usize, is_cut_off: bool) -> Option<Explanation>
         ensures { IfSome result (λ x. (p : Program) (before : List TheState) (s : TheState)
             → HasFollowed self.entry.image.now self.entry.slots.items self.entry.slot
-            self.entry.state p (s ∷ before) s
-            → s.slot ≡ slot → (x.state ≡ s) × IsLed p s x.way.items) }
+            self.entry.turns p (s ∷ before) s
+            → s.slot ≡ slot → (x.state ≡ s) × IsLed p s x.way.items
+            × IsTurnBefore p s x.earlier) }
     {
         if slot != self.slot {
             return None;
@@ -117,8 +133,11 @@ impl<'a> Follower<'a> {
                 self.slots[index],
             )?;
         }
+        let state = self.turns.last.copy();
+        let earlier = self.turns.into_earlier(self.slots.len(), slot);
         Some(Explanation {
-            state: self.state,
+            state,
+            earlier,
             way,
             is_cut_off,
         })
@@ -128,19 +147,17 @@ impl<'a> Follower<'a> {
 impl Listener for Follower<'_> {
     type Stop = AllocError;
 
-    ghost follows = { λ f p path last. HasFollowed f.image.now f.slots.items f.slot f.state
+    ghost follows = { λ f p path last. HasFollowed f.image.now f.slots.items f.slot f.turns
         p path last };
 
     fn arrives(&mut self, state: &State) -> Result<(), AllocError> {
-        if state.slot == self.slot {
-            self.state.copy_from(state);
-        }
+        self.turns.arrive(self.slot, self.slots.len(), state);
         self.slots.push(state.slot)?;
         Ok(())
     }
 
     fn covered(&mut self, _place: usize, _number: u32) -> Result<(), AllocError> {
-        let _slot = self.slots.pop();
+        self.go_back();
         Ok(())
     }
 
@@ -158,7 +175,7 @@ impl Listener for Follower<'_> {
     }
 
     fn finished(&mut self, _number: u32) -> Result<(), AllocError> {
-        let _slot = self.slots.pop();
+        self.go_back();
         Ok(())
     }
 

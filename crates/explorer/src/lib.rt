@@ -18,6 +18,7 @@ mod pieces;
 mod search;
 mod stored_states;
 mod trail;
+mod turns;
 pub mod verified;
 
 pub use bounds::Verified;

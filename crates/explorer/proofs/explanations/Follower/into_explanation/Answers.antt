@@ -3,7 +3,8 @@ use Rattle.std.specs.Prelude.{slice_get}
 use Rattle.std.proofs.lemmas.Option.{slice_get-get_or}
 use Rattle.explorer.specs.Explained.{IsLed}
 use Rattle.explorer.specs.Followed.{HasFollowed}
-use Rattle.explorer.proofs.Following.{slots_some, LedAt-first, LedAt-next, LedAt-last}
+use Rattle.explorer.proofs.Following.{slots_some, LedAt-first, LedAt-next, LedAt-last, count_of}
+use Rattle.explorer.proofs.Turning.{earlier_found, turn_before}
 use Rattle.explorer.proofs.explanations.Follower.into_explanation.Goals as goal
 
 pub loop-index-init : goal.loop-index-init
@@ -27,7 +28,13 @@ returns c = λ p before s h at.
     let slots = c.args.self.slots.items in
     let k = c.loop-index.index in
     let way = c.loop-index.way.items in
-    let own = subst (λ q. HasFollowed image slots c.args.self.slot c.args.self.state q (s ∷ before) s) (sym h.program) h in
+    let turns = c.args.self.turns in
+    let own = subst (λ q. HasFollowed image slots c.args.self.slot turns q (s ∷ before) s) (sym h.program) h in
     let some : 1 ≤ length slots = slots_some slots s before h.slots_are in
     let count : k ≡ length slots = omega (arith, some, c.len-index-end.ensures, c.args.self.slots.ok.0, c.loop-index-test.false, c.loop-index.auto.index-end) in
-    (h.found (at ∙ search rules), subst (λ q. IsLed q s way) h.program (LedAt-last image before slots s k way h.slots_are count (c.loop-index.invariant (s ∷ before) s own)))
+    let length_is = count_of image p slots c.args.self.slot turns (s ∷ before) s h in
+    let further = earlier_found _ _ (s ∷ before) s turns c.into_earlier-earlier.result c.into_earlier-earlier.ensures at (search rules) h.turns_are in (
+      search rules,
+      subst (λ q. IsLed q s way) h.program (LedAt-last image before slots s k way h.slots_are count (c.loop-index.invariant (s ∷ before) s own)),
+      turn_before p s before c.into_earlier-earlier.result h.walk further,
+    )

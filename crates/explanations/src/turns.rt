@@ -1,0 +1,108 @@
+//! In what the state of a turn of a loop differs from that of the turn before, a line each.
+
+ghost use Rattle.std.specs.Prelude.{◌≡◌, ◌<◌, IfOk, bytes_eq};
+ghost use Rattle.std.specs.String.{string_bytes};
+ghost use Rattle.stack_state.specs.Slots.{frame_slots};
+ghost use Rattle.explanations.specs.Turns as spec;
+ghost use Rattle.explanations.specs.Turns.{turn_line, register_turn, register_turns, stack_turn, stack_turns};
+
+use crate::differences::{register_words, stack_words};
+use crate::slots::place_of;
+use explorer::Refusal;
+use stack_state::State;
+use std::alloc::{AllocError, Global};
+
+fn is_same(before: &str, now: &str) -> bool
+    ensures { result ≡ bytes_eq before.now now.now }
+{
+    before.as_bytes() == now.as_bytes()
+}
+
+/// What is told of a place before and now, where that differs.
+fn turn_line(alloc: Global, place: &str, before: &str, now: &str) -> Result<String, AllocError>
+    ensures { IfOk result (λ text. string_bytes text ≡ turn_line place.now before.now now.now) }
+{
+    if is_same(before, now) {
+        return Ok(String::new(alloc));
+    }
+    format!(in alloc; "{place} from turn to turn: {before}, then {now}\n")
+}
+
+/// The line of a register of the innermost frame.
+fn register_turn(
+    alloc: Global,
+    earlier: &State,
+    state: &State,
+    register: usize,
+) -> Result<String, AllocError>
+    ensures { IfOk result (λ text. string_bytes text
+        ≡ register_turn earlier.now state.now register) }
+{
+    let place = format!(in alloc; "r{register}")?;
+    let before = register_words(alloc, earlier, earlier.callers.len(), register)?;
+    let now = register_words(alloc, state, state.callers.len(), register)?;
+    turn_line(alloc, place.as_str(), before.as_str(), now.as_str())
+}
+
+/// The lines of the registers of the innermost frame.
+fn register_turns(alloc: Global, earlier: &State, state: &State) -> Result<String, AllocError>
+    ensures { IfOk result (λ text. string_bytes text
+        ≡ register_turns earlier.now state.now 10) }
+{
+    let mut text = String::new(alloc);
+    for count in 0..10usize {
+        let line = register_turn(alloc, earlier, state, 9 - count)?;
+        text = format!(in alloc; "{line}{text}")?;
+    }
+    Ok(text)
+}
+
+/// The line of a stack slot of the innermost frame.
+fn stack_turn(
+    alloc: Global,
+    earlier: &State,
+    state: &State,
+    slot: usize,
+) -> Result<String, AllocError>
+    requires { slot < frame_slots }
+    ensures { IfOk result (λ text. string_bytes text ≡ stack_turn earlier.now state.now slot) }
+{
+    let start = place_of(slot, 0);
+    let place = format!(in alloc; "stack {start}")?;
+    let before = stack_words(alloc, earlier, earlier.callers.len(), slot)?;
+    let now = stack_words(alloc, state, state.callers.len(), slot)?;
+    turn_line(alloc, place.as_str(), before.as_str(), now.as_str())
+}
+
+/// The lines of the stack slots of the innermost frame.
+fn stack_turns(alloc: Global, earlier: &State, state: &State) -> Result<String, AllocError>
+    ensures { IfOk result (λ text. string_bytes text ≡ stack_turns earlier.now state.now 64) }
+{
+    let mut text = String::new(alloc);
+    for count in 0..64usize {
+        let line = stack_turn(alloc, earlier, state, 63 - count)?;
+        text = format!(in alloc; "{line}{text}")?;
+    }
+    Ok(text)
+}
+
+/// The lines of the registers and stack slots of the innermost frame that differ from turn to turn,
+/// where a loop is not explored to its end.
+pub fn turn_lines(
+    alloc: Global,
+    earlier: &Option<State>,
+    state: &State,
+    refusal: Refusal,
+) -> Result<String, AllocError>
+    ensures { IfOk result (λ text. string_bytes text
+        ≡ spec.turn_lines earlier.now state.now refusal) }
+{
+    match (refusal, earlier) {
+        (Refusal::TooLong, Some(earlier)) => {
+            let registers = register_turns(alloc, earlier, state)?;
+            let slots = stack_turns(alloc, earlier, state)?;
+            format!(in alloc; "{registers}{slots}")
+        }
+        _ => Ok(String::new(alloc)),
+    }
+}
