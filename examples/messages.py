@@ -77,8 +77,18 @@ IMAGES = (
 
 # The bytes of a frame stream, the last line of the report, and what helps.
 STREAMS = (
-    (b"\xd4\xc3\xb2\xa1\x02\0\x04\0", "fault F1 at 0", "frames.py makes a stream of a capture"),
-    (b"", "fault F1 at 0", "frames.py makes a stream of a capture"),
+    (b"\xd4\xc3\xb2\xa1\x02\0\x04\0", "fault F1 at 0", "it is a capture (pcap): frames.py"),
+    (b"\xa1\xb2\x3c\x4d\0\x02\0\x04", "fault F1 at 0", "it is a capture (pcap): frames.py"),
+    (b"\x0a\x0d\x0d\x0a\x1c\0\0\0", "fault F1 at 0", "it is a capture (pcapng): frames.py"),
+    (b"\x1f\x8b\x08\0\0\0\0\0", "fault F1 at 0", "it is packed by gzip: frames.py"),
+    (b"\x7fELF\x02\x01\x01\0", "fault F1 at 0", "it is an ELF object: image.py"),
+    (b"XBP1\0\0\x01\0\x95\0\0\0\0\0\0\0", "fault F1 at 0", "it is an image: it stands before the frames"),
+    (b"XPT1\0\0\0\0", "fault F1 at 0", "it is a proof table: it stands after --table"),
+    (b"frame 1000\n", "fault F1 at 0", "it looks like a text: frames.py"),
+    (b"XPF9\0\0\0\0", "fault F1 at 0", ""),
+    (b"\0\0\0\0\0\0\0\0", "fault F1 at 0", "frames.py makes a stream of a capture"),
+    (b"", "fault F1 at 0", "it has fewer than 4 bytes"),
+    (b"XPF", "fault F1 at 0", "it has fewer than 4 bytes"),
     (b"XPF1\0\0\0\0", "fault F2 at 4", "the file was cut"),
     (b"XPF1" + bytes(16) + b"\x01\x10\0\0", "fault F3 at 4", "frames.py --reasons"),
     (b"XPF1" + bytes(16) + b"\x02\0\0\0\0", "fault F4 at 4", "the file was cut"),
@@ -128,7 +138,7 @@ def rows(folder):
     for content, line, help_line in STREAMS:
         write("frames", content)
         out, err = run("run", os.path.join(TOP, "examples/pass.image"), "frames", "sent")
-        yield content, (line, help_line), (out[-1], err[-1])
+        yield content, (line, help_line), (out[-1], "\n".join(err[1:]))
     for text, line, lines in TRACES:
         write("text", text)
         run("asm", "text", "image")

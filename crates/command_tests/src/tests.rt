@@ -18,16 +18,16 @@ use std::alloc::Global;
 use std::fs;
 use std::io::ErrorKind;
 use std::process::Abort;
-use std::rt::Files;
+use std::rt::{Clock, Files};
 use std::test::Fail;
 use stumbling_io::{Stumble, Writer};
 
 // Why an image is refused by I2.
 const SHORT: &str = "the image is shorter than its head, or than its counts say\n";
 
-// Why a stream is refused that begins with another magic, and why one that ends in a head.
+// Why a stream is refused that has no whole magic, and why one that ends in a head.
 const NO_MAGIC: &str = "the stream does not begin with XPF1 or XPF2\n\
-    frames.py makes a stream of a capture (pcap, pcapng); the frames out are a magic alone\n";
+    it has fewer than 4 bytes\nthe frames out are a magic alone\n";
 
 const CUT_HEAD: &str =
     "the stream ends within the head of a record\nthe file was cut: make it again\n";
@@ -89,7 +89,7 @@ fn sink(alloc: Global) -> Writer {
 
 // The status of a command, which writes to standard output, which may be a file on a disk, and to
 // standard error.
-fn status_with<R: Files + AllocGlobal + Abort>(
+fn status_with<R: Files + Clock + AllocGlobal + Abort>(
     rt: &R,
     texts: &[&str],
     is_stored: bool,
@@ -102,7 +102,7 @@ fn status_with<R: Files + AllocGlobal + Abort>(
 }
 
 // The same where standard output is a pipe.
-fn status_of<R: Files + AllocGlobal + Abort>(
+fn status_of<R: Files + Clock + AllocGlobal + Abort>(
     rt: &R,
     texts: &[&str],
     out: &mut Writer,
@@ -112,7 +112,7 @@ fn status_of<R: Files + AllocGlobal + Abort>(
 }
 
 // A command answers this status, and writes this to standard output and to standard error.
-fn answers<R: Files + AllocGlobal + Abort>(
+fn answers<R: Files + Clock + AllocGlobal + Abort>(
     rt: &R,
     texts: &[&str],
     status: u8,
@@ -132,7 +132,7 @@ fn answers<R: Files + AllocGlobal + Abort>(
 }
 
 // A command answers this status, and writes this to standard output.
-fn reports<R: Files + AllocGlobal + Abort>(
+fn reports<R: Files + Clock + AllocGlobal + Abort>(
     rt: &R,
     texts: &[&str],
     status: u8,
@@ -149,7 +149,7 @@ fn reports<R: Files + AllocGlobal + Abort>(
 // The words of a command, its status, and what standard output and standard error have.
 type Answer = (&'static [&'static str], u8, &'static str, &'static str);
 
-fn all_answer<R: Files + AllocGlobal + Abort>(rt: &R, rows: &[Answer]) -> Result<(), Fail> {
+fn all_answer<R: Files + Clock + AllocGlobal + Abort>(rt: &R, rows: &[Answer]) -> Result<(), Fail> {
     for (texts, status, report, said) in rows {
         answers(rt, *texts, *status, *report, *said)?;
     }
@@ -157,21 +157,29 @@ fn all_answer<R: Files + AllocGlobal + Abort>(rt: &R, rows: &[Answer]) -> Result
 }
 
 // A file has these bytes.
-fn holds<R: Files + AllocGlobal + Abort>(rt: &R, path: &str, wanted: &[u8]) -> Result<(), Fail> {
+fn holds<R: Files + Clock + AllocGlobal + Abort>(
+    rt: &R,
+    path: &str,
+    wanted: &[u8],
+) -> Result<(), Fail> {
     let bytes = fs::read(rt, path)?;
     assert_eq!(rt; bytes.as_slice(), wanted, "{path}");
     Ok(())
 }
 
 // Two files have the same bytes.
-fn are_equal<R: Files + AllocGlobal + Abort>(rt: &R, one: &str, other: &str) -> Result<(), Fail> {
+fn are_equal<R: Files + Clock + AllocGlobal + Abort>(
+    rt: &R,
+    one: &str,
+    other: &str,
+) -> Result<(), Fail> {
     let bytes = fs::read(rt, one)?;
     holds(rt, other, bytes.as_slice())
 }
 
 // The same where standard output breaks after some bytes: the status is 4, the output has the front
 // of the report, and standard error says the reason.
-fn breaks<R: Files + AllocGlobal + Abort>(
+fn breaks<R: Files + Clock + AllocGlobal + Abort>(
     rt: &R,
     texts: &[&str],
     room: usize,

@@ -21,7 +21,7 @@ pub silent_words : (o : Outcome) → status_of o ≡ 1 → is_silent o ≡ true
 silent_words Done e = absurd (omega arith)
 silent_words (WrongWords text) e = refl
 silent_words (Refused rejection) e = absurd (omega arith)
-silent_words (Faulted fault) e = absurd (omega arith)
+silent_words (Faulted fault form) e = absurd (omega arith)
 silent_words (CannotRead path kind) e = refl
 silent_words (CannotWrite path cause) e = absurd (omega arith)
 silent_words (CannotReplace path) e = refl
@@ -31,7 +31,7 @@ pub silent_memory : (o : Outcome) → status_of o ≡ 5 → is_silent o ≡ true
 silent_memory Done e = absurd (omega arith)
 silent_memory (WrongWords text) e = refl
 silent_memory (Refused rejection) e = absurd (omega arith)
-silent_memory (Faulted fault) e = absurd (omega arith)
+silent_memory (Faulted fault form) e = absurd (omega arith)
 silent_memory (CannotRead path kind) e = refl
 silent_memory (CannotWrite path cause) e = absurd (omega arith)
 silent_memory (CannotReplace path) e = refl
@@ -41,7 +41,7 @@ pub status_fits : (o : Outcome) → status_of o ≤ 5
 status_fits Done = omega arith
 status_fits (WrongWords text) = omega arith
 status_fits (Refused rejection) = omega arith
-status_fits (Faulted fault) = omega arith
+status_fits (Faulted fault form) = omega arith
 status_fits (CannotRead path kind) = omega arith
 status_fits (CannotWrite path cause) = omega arith
 status_fits (CannotReplace path) = omega arith
@@ -51,7 +51,7 @@ pub unsaid_done : (o : Outcome) → status_of o ≡ 0 → is_unsaid o ≡ true
 unsaid_done Done e = refl
 unsaid_done (WrongWords text) e = absurd (omega arith)
 unsaid_done (Refused rejection) e = absurd (omega arith)
-unsaid_done (Faulted fault) e = absurd (omega arith)
+unsaid_done (Faulted fault form) e = absurd (omega arith)
 unsaid_done (CannotRead path kind) e = absurd (omega arith)
 unsaid_done (CannotWrite path cause) e = absurd (omega arith)
 unsaid_done (CannotReplace path) e = absurd (omega arith)
@@ -82,7 +82,7 @@ told_refused (Refused (rejection.Table error None)) (Some text) old new (inr (in
 told_refused (Refused (rejection.Table error (Some (slot, insn)))) (Some text) old new (inr (inr (inl (p, bytes, is)))) e h =
     inr (inr (inl (record { program = p; bytes = bytes; error = error; slot = slot; insn = insn; why = string_bytes text; known = is; said = h })))
 told_refused (Refused (rejection.Table error (Some (slot, insn)))) (Some text) old new (inr (inr (inr (source, none)))) e h = absurd (none-some text (sym none))
-told_refused (Faulted fault) why old new k e h = absurd (omega arith)
+told_refused (Faulted fault form) why old new k e h = absurd (omega arith)
 told_refused (CannotRead path kind) why old new k e h = absurd (omega arith)
 told_refused (CannotWrite path cause) why old new k e h = absurd (omega arith)
 told_refused (CannotReplace path) why old new k e h = absurd (omega arith)
@@ -101,9 +101,9 @@ unsaid_knows (WrongWords text) why (inr (inl (p, none))) e = none
 unsaid_knows (WrongWords text) why (inr (inr (inl (p, bytes, none)))) e = none
 unsaid_knows (WrongWords text) why (inr (inr (inr (source, none)))) e = none
 unsaid_knows (Refused said) why (inr k) e = absurd (false≢true e)
-unsaid_knows (Faulted fault) why (inr (inl (p, none))) e = none
-unsaid_knows (Faulted fault) why (inr (inr (inl (p, bytes, none)))) e = none
-unsaid_knows (Faulted fault) why (inr (inr (inr (source, none)))) e = none
+unsaid_knows (Faulted fault form) why (inr (inl (p, none))) e = none
+unsaid_knows (Faulted fault form) why (inr (inr (inl (p, bytes, none)))) e = none
+unsaid_knows (Faulted fault form) why (inr (inr (inr (source, none)))) e = none
 unsaid_knows (CannotRead path kind) why (inr (inl (p, none))) e = none
 unsaid_knows (CannotRead path kind) why (inr (inr (inl (p, bytes, none)))) e = none
 unsaid_knows (CannotRead path kind) why (inr (inr (inr (source, none)))) e = none
@@ -121,11 +121,11 @@ pub told_faulted : (o : Outcome) (why : Option (String Global)) (old new : Optio
 told_faulted Done why old new k e h = absurd (omega arith)
 told_faulted (WrongWords text) why old new k e h = absurd (omega arith)
 told_faulted (Refused said) why old new k e h = absurd (omega arith)
-told_faulted (Faulted fault) None old new k e h = (fault, inl h)
-told_faulted (Faulted fault) (Some text) old new (inl none) e h = absurd (none-some text (sym none))
-told_faulted (Faulted fault) (Some text) old new (inr (inl (p, none))) e h = absurd (none-some text (sym none))
-told_faulted (Faulted fault) (Some text) old new (inr (inr (inl (p, bytes, none)))) e h = absurd (none-some text (sym none))
-told_faulted (Faulted fault) (Some text) old new (inr (inr (inr (source, none)))) e h = absurd (none-some text (sym none))
+told_faulted (Faulted fault form) None old new k e h = (fault, form, inl h)
+told_faulted (Faulted fault form) (Some text) old new (inl none) e h = absurd (none-some text (sym none))
+told_faulted (Faulted fault form) (Some text) old new (inr (inl (p, none))) e h = absurd (none-some text (sym none))
+told_faulted (Faulted fault form) (Some text) old new (inr (inr (inl (p, bytes, none)))) e h = absurd (none-some text (sym none))
+told_faulted (Faulted fault form) (Some text) old new (inr (inr (inr (source, none)))) e h = absurd (none-some text (sym none))
 told_faulted (CannotRead path kind) why old new k e h = absurd (omega arith)
 told_faulted (CannotWrite path cause) why old new k e h = absurd (omega arith)
 told_faulted (CannotReplace path) why old new k e h = absurd (omega arith)
@@ -139,7 +139,7 @@ faulted_plain o old new e h = told_faulted o None old new (inl refl) e h
 pub refused_by : (request : Request) (o : Outcome) (why : Option (String Global)) (old new : Option (List ℕ)) → KnowsBy request o why → status_of o ≡ 2 → AppendsPart old new (told o why) → IsTold old new
 refused_by (Trace files limit) o why old new (inl k) e h = told_refused o why old new k e h
 refused_by (Trace files limit) Done why old new (inr k) e h = absurd (omega arith)
-refused_by (Trace files limit) (Faulted fault) why old new (inr k) e h = absurd (omega arith)
+refused_by (Trace files limit) (Faulted fault form) why old new (inr k) e h = absurd (omega arith)
 refused_by (Trace files limit) (WrongWords text) why old new (inr k) e h = absurd k.0
 refused_by (Trace files limit) (Refused said) why old new (inr k) e h = absurd k.0
 refused_by (Trace files limit) (CannotRead path kind) why old new (inr k) e h = absurd k.0
@@ -154,9 +154,9 @@ refused_by (Assemble text image) o why old new k e h = told_refused o why old ne
 refused_by (Disassemble path) o why old new k e h = told_refused o why old new k e h
 
 stopped_faulted : (o : Outcome) (why : Option (String Global)) (old new : Option (List ℕ)) → KnowsStops o why → status_of o ≡ 3 → AppendsPart old new (told o why) → TellsFault old new
-stopped_faulted (Faulted fault) None old new k e h = (fault, inl h)
-stopped_faulted (Faulted fault) (Some text) old new (end, (stops, is)) e h =
-    (fault, inr (noted_of stops, subst (λ (l : List ℕ). AppendsPart old new (fault_lines fault ++ l)) is h))
+stopped_faulted (Faulted fault form) None old new k e h = (fault, form, inl h)
+stopped_faulted (Faulted fault form) (Some text) old new (end, (stops, is)) e h =
+    (fault, form, inr (noted_of stops, subst (λ (l : List ℕ). AppendsPart old new (fault_lines fault form ++ l)) is h))
 stopped_faulted Done why old new k e h = absurd (omega arith)
 stopped_faulted (WrongWords text) why old new k e h = absurd k.0
 stopped_faulted (Refused said) why old new k e h = absurd k.0
@@ -184,7 +184,7 @@ stopped_done : (words : List (List ℕ)) (files : RunFiles) (limit : ℕ) (o : O
 stopped_done words files limit Done None old new is k e unsaid h = inl (unsaid refl refl)
 stopped_done words files limit Done (Some text) old new is (end, (stops, lines)) e unsaid h =
     inr (record { files = files; limit = limit; is_asked = is; noted = noted_of stops; said = subst (AppendsPart old new) lines h })
-stopped_done words files limit (Faulted fault) why old new is k e unsaid h = absurd (omega arith)
+stopped_done words files limit (Faulted fault form) why old new is k e unsaid h = absurd (omega arith)
 stopped_done words files limit (WrongWords text) why old new is k e unsaid h = absurd k.0
 stopped_done words files limit (Refused said) why old new is k e unsaid h = absurd k.0
 stopped_done words files limit (CannotRead path kind) why old new is k e unsaid h = absurd k.0

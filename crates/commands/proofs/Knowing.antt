@@ -33,7 +33,7 @@ none_knows files old new r (inr (p, is, inr (bytes, refused, known))) = inr (inr
 -- a run came to its end
 abbrev pub IsAtEnd : Outcome → Type 0
 IsAtEnd Done = Unit {0}
-IsAtEnd (Faulted fault) = Unit {0}
+IsAtEnd (Faulted fault form) = Unit {0}
 IsAtEnd o = ⊥
 
 -- the frames of a trace that came to its end
@@ -65,7 +65,7 @@ lines_known (Err error) o lines end tells = inl (inl tells)
 
 stops_known : (ended : Result Traced HostError) (o : Outcome) (lines why : Option (String Global)) → TellsStopsOf ended lines → why ≡ at_end o lines → Knows o why ⊎ KnowsStops o why
 stops_known ended Done lines why tells is = subst (λ (w : Option (String Global)). Knows Done w ⊎ KnowsStops Done w) (sym is) (lines_known ended Done lines tt tells)
-stops_known ended (Faulted fault) lines why tells is = subst (λ (w : Option (String Global)). Knows (Faulted fault) w ⊎ KnowsStops (Faulted fault) w) (sym is) (lines_known ended (Faulted fault) lines tt tells)
+stops_known ended (Faulted fault form) lines why tells is = subst (λ (w : Option (String Global)). Knows (Faulted fault form) w ⊎ KnowsStops (Faulted fault form) w) (sym is) (lines_known ended (Faulted fault form) lines tt tells)
 stops_known ended (WrongWords text) lines why tells is = inl (inl is)
 stops_known ended (Refused rejection) lines why tells is = inl (inl is)
 stops_known ended (CannotRead path kind) lines why tells is = inl (inl is)

@@ -32,7 +32,7 @@ wrong : (text : List ℕ) (o : Outcome) → IsWrong text o → IsWrongWords o
 wrong text (WrongWords said) h = tt
 wrong text Done h = absurd h
 wrong text (Refused rejection) h = absurd h
-wrong text (Faulted fault) h = absurd h
+wrong text (Faulted fault form) h = absurd h
 wrong text (CannotRead path kind) h = absurd h
 wrong text (CannotWrite path cause) h = absurd h
 wrong text (CannotReplace path) h = absurd h
@@ -42,7 +42,7 @@ wrong_silent : (text : List ℕ) (o : Outcome) → IsWrong text o → is_silent 
 wrong_silent text (WrongWords said) h = refl
 wrong_silent text Done h = absurd h
 wrong_silent text (Refused rejection) h = absurd h
-wrong_silent text (Faulted fault) h = absurd h
+wrong_silent text (Faulted fault form) h = absurd h
 wrong_silent text (CannotRead path kind) h = absurd h
 wrong_silent text (CannotWrite path cause) h = absurd h
 wrong_silent text (CannotReplace path) h = absurd h

@@ -21,6 +21,7 @@ use Rattle.proof_table.specs.declared.errors.WriteTableError.TheVariants as unwr
 use Rattle.proof_table.specs.Writing.{GainsTable, BeginsTable}
 use Rattle.rechecking.specs.declared.errors.TableError.{TableError}
 use Rattle.rechecking.specs.declared.errors.TableError.TheVariants as table
+use Rattle.serving.specs.declared.forms.Form.{Form}
 use Rattle.serving.specs.declared.outcomes.Outcome.{Outcome}
 use Rattle.serving.specs.declared.outcomes.Outcome.TheVariants as outcome
 use Rattle.serving.specs.declared.endings.Ending.{Ending}
@@ -38,7 +39,7 @@ write_loud : (name : List ℕ) (r : Outcome) → IsWriteFailure name r → is_si
 write_loud name outcome.Done h e = h
 write_loud name (outcome.WrongWords text) h e = h
 write_loud name (outcome.Refused rejection) h e = h
-write_loud name (outcome.Faulted fault) h e = h
+write_loud name (outcome.Faulted fault form) h e = h
 write_loud name (outcome.CannotRead path kind) h e = h
 write_loud name (outcome.CannotWrite path cause) h e = false≢true e
 write_loud name (outcome.CannotReplace path) h e = h
@@ -48,7 +49,7 @@ pub write_loud_by : (name : List ℕ) (cause : Option ErrorKind) (r : Outcome) �
 write_loud_by name cause outcome.Done h e = h
 write_loud_by name cause (outcome.WrongWords text) h e = h
 write_loud_by name cause (outcome.Refused rejection) h e = h
-write_loud_by name cause (outcome.Faulted fault) h e = h
+write_loud_by name cause (outcome.Faulted fault form) h e = h
 write_loud_by name cause (outcome.CannotRead path kind) h e = h
 write_loud_by name cause (outcome.CannotWrite path told) h e = false≢true e
 write_loud_by name cause (outcome.CannotReplace path) h e = h
@@ -58,25 +59,25 @@ says_loud : (old new : Option (List ℕ)) (text : List ℕ) (ended r : Outcome) 
 says_loud old new text ended r loud (inl said) e = both_ways (is_silent r) (ap is_silent said.1 ∙ loud) e
 says_loud old new text ended r loud (inr failed) e = write_loud _ r failed.1 e
 
-at_loud : (fault : Option (Fault × ℕ)) → is_silent (outcome_at fault) ≡ false
-at_loud None = refl
-at_loud (Some (fault, at)) = refl
+at_loud : (form : Form) (fault : Option (Fault × ℕ)) → is_silent (outcome_at form fault) ≡ false
+at_loud form None = refl
+at_loud form (Some (fault, at)) = refl
 
 -- a run that wrote nothing to standard output lacked memory
-ends_silent : (name : List ℕ) (cause : Option ErrorKind) (ended : Result Tally HostError) (r : Outcome) → EndsBy name cause ended r → is_silent r ≡ true → ended ≡ Err failure.Memory
-ends_silent name cause (Ok tally) r h e = absurd (both_ways (is_silent r) (ap is_silent h ∙ at_loud tally.fault) e)
-ends_silent name cause (Err failure.Memory) r h e = refl
-ends_silent name cause (Err failure.Report) r h e = absurd (write_loud _ r h e)
-ends_silent name cause (Err failure.Frames) r h e = absurd (write_loud_by name cause r h e)
+ends_silent : (name : List ℕ) (cause : Option ErrorKind) (form : Form) (ended : Result Tally HostError) (r : Outcome) → EndsBy name cause form ended r → is_silent r ≡ true → ended ≡ Err failure.Memory
+ends_silent name cause form (Ok tally) r h e = absurd (both_ways (is_silent r) (ap is_silent h ∙ at_loud form tally.fault) e)
+ends_silent name cause form (Err failure.Memory) r h e = refl
+ends_silent name cause form (Err failure.Report) r h e = absurd (write_loud _ r h e)
+ends_silent name cause form (Err failure.Frames) r h e = absurd (write_loud_by name cause r h e)
 
-fails_silent : (name : List ℕ) (cause : Option ErrorKind) (ended : Result Tally HostError) (r : Outcome) → FailsBy name cause ended r → is_silent r ≡ true → ended ≡ Err failure.Memory
-fails_silent name cause (Ok tally) r h e = absurd (write_loud_by name cause r h e)
-fails_silent name cause (Err error) r h e = ends_silent name cause (Err error) r h e
+fails_silent : (name : List ℕ) (cause : Option ErrorKind) (form : Form) (ended : Result Tally HostError) (r : Outcome) → FailsBy name cause form ended r → is_silent r ≡ true → ended ≡ Err failure.Memory
+fails_silent name cause form (Ok tally) r h e = absurd (write_loud_by name cause r h e)
+fails_silent name cause form (Err error) r h e = ends_silent name cause form (Err error) r h e
 
-stops_silent : (name : List ℕ) (cause : Option ErrorKind) (ended : Result Tally HostError) (handed got : Option (List ℕ)) (r : Outcome) → Ends name cause ended handed got r → is_silent r ≡ true
+stops_silent : (name : List ℕ) (cause : Option ErrorKind) (form : Form) (ended : Result Tally HostError) (handed got : Option (List ℕ)) (r : Outcome) → Ends name cause form ended handed got r → is_silent r ≡ true
     → ended ≡ Err failure.Memory
-stops_silent name cause ended handed got r (inl whole) e = ends_silent name cause ended r whole.1 e
-stops_silent name cause ended handed got r (inr part) e = fails_silent name cause ended r part.1 e
+stops_silent name cause form ended handed got r (inl whole) e = ends_silent name cause form ended r whole.1 e
+stops_silent name cause form ended handed got r (inr part) e = fails_silent name cause form ended r part.1 e
 
 -- ---- what is judged
 
@@ -148,11 +149,11 @@ trace_silent : (files : RunFiles) (limit : ℕ) (old new : Option (List ℕ)) (r
 trace_silent files limit old new r (inl (loads, none)) e = loads_silent _ old new r.outcome loads e
 trace_silent files limit old new r (inr (p, is, inl (opens, none))) e = opens_silent files old new r.outcome opens
 trace_silent files limit old new r (inr (p, is, inr some)) e =
-    some.traces.report_untouched (traced_memory some.traces.ended (stops_silent _ _ _ _ _ r.outcome some.traces.ends e))
+    some.traces.report_untouched (traced_memory some.traces.ended (stops_silent _ _ _ _ _ _ r.outcome some.traces.ends e))
 
 on_silent : (files : RunFiles) (v : Bounded) (old new : Option (List ℕ)) (r : Outcome) → RunsOn files v old new r → is_silent r ≡ true → new ≡ old
 on_silent files v old new r (inl opens) e = opens_silent files old new r opens
-on_silent files v old new r (inr some) e = some.runs.report_untouched (stops_silent _ _ _ _ _ r some.runs.ends e)
+on_silent files v old new r (inr some) e = some.runs.report_untouched (stops_silent _ _ _ _ _ _ r some.runs.ends e)
 
 run_silent : (files : RunFiles) (old new : Option (List ℕ)) (r : Ending) → RunsFile files old new r → is_silent r.outcome ≡ true → new ≡ old
 run_silent files old new r (inl (loads, none)) e = loads_silent _ old new r.outcome loads e
@@ -238,7 +239,7 @@ loud : (o : Outcome) → status_of o ≤ 3 → (status_of o ≡ 1 → ⊥) → i
 loud outcome.Done most apart = refl
 loud (outcome.WrongWords text) most apart = absurd (apart refl)
 loud (outcome.Refused rejection) most apart = refl
-loud (outcome.Faulted fault) most apart = refl
+loud (outcome.Faulted fault form) most apart = refl
 loud (outcome.CannotRead path kind) most apart = absurd (omega arith)
 loud (outcome.CannotWrite path cause) most apart = refl
 loud (outcome.CannotReplace path) most apart = absurd (omega arith)
@@ -248,7 +249,7 @@ written : (name : List ℕ) (cause : Option ErrorKind) (o : Outcome) → IsWrite
 written name cause outcome.Done h most = h
 written name cause (outcome.WrongWords text) h most = h
 written name cause (outcome.Refused rejection) h most = h
-written name cause (outcome.Faulted fault) h most = h
+written name cause (outcome.Faulted fault form) h most = h
 written name cause (outcome.CannotRead path kind) h most = h
 written name cause (outcome.CannotWrite path told) h most = omega arith
 written name cause (outcome.CannotReplace path) h most = h
@@ -260,7 +261,7 @@ unasked_status Memory o e most apart = let same : status_of o ≡ 5 = ap status_
 unasked_status (Wrong text) (outcome.WrongWords said) e most apart = apart refl
 unasked_status (Wrong text) outcome.Done e most apart = e
 unasked_status (Wrong text) (outcome.Refused rejection) e most apart = e
-unasked_status (Wrong text) (outcome.Faulted fault) e most apart = e
+unasked_status (Wrong text) (outcome.Faulted fault form) e most apart = e
 unasked_status (Wrong text) (outcome.CannotRead path kind) e most apart = e
 unasked_status (Wrong text) (outcome.CannotWrite path cause) e most apart = e
 unasked_status (Wrong text) (outcome.CannotReplace path) e most apart = e

@@ -19,6 +19,7 @@ use Rattle.serving.specs.declared.outcomes.Outcome.{Outcome}
 use Rattle.serving.specs.declared.endings.Ending.{Ending}
 use Rattle.serving.specs.declared.rejections.Rejection.{Rejection}
 use Rattle.serving.specs.declared.rejections.Rejection.TheVariants as rejection
+use Rattle.serving.specs.declared.forms.Form.{Form}
 use Rattle.serving.specs.Faults.{fault_lines}
 use Rattle.serving.specs.Messages.{reason_of}
 use Rattle.serving.specs.Statuses.{IsWordsEnd, message_of, status_of}
@@ -92,7 +93,8 @@ IsTold old new = TellsReason old new ⊎ (TellsKnown old new ⊎ (TellsEntryKnow
 -- standard error got why a frame stream ended early, and of a trace where the runs of frames stopped; or a beginning of it
 abbrev pub TellsFault : Option (List ℕ) → Option (List ℕ) → Type 0
 TellsFault old new =
-    (fault : Fault) × (AppendsPart old new (fault_lines fault) ⊎ ((noted : Noted) × AppendsPart old new (fault_lines fault ++ stop_lines noted)))
+    (fault : Fault) × (form : Form)
+    × (AppendsPart old new (fault_lines fault form) ⊎ ((noted : Noted) × AppendsPart old new (fault_lines fault form ++ stop_lines noted)))
 
 -- the words ask for a trace, and standard error got where the runs of frames stopped that ended without an action, or a
 -- beginning of it

@@ -9,7 +9,7 @@ ghost use Rattle.commands.specs.Executing.{Answers, AnswersError, IsTold, TellsD
 use buffered_io::PromptWriter;
 use serving::{Outcome, serve};
 use std::io::Write;
-use std::rt::Files;
+use std::rt::{Clock, Files};
 use tasks::WordsError;
 use words::read_words;
 
@@ -26,7 +26,7 @@ use words::read_words;
 /// without an action. At 2 it gets why something was refused and where, of a program also what is
 /// known there, and of a text its line and what helps; at 3 why the frame stream ended early.
 #[tactic(auto, using(crate::proofs::Endings::statuses))]
-pub fn execute<R: Files + AllocGlobal, W1: Write + Drop, W2: Write>(
+pub fn execute<R: Files + Clock + AllocGlobal, W1: Write + Drop, W2: Write>(
     rt: &R,
     words: &[String],
     out: &mut PromptWriter<W1>,
@@ -52,7 +52,7 @@ pub fn execute<R: Files + AllocGlobal, W1: Write + Drop, W2: Write>(
 
 /// Does what the program's words ask for, and answers its status; if they could not be read,
 /// standard error says why.
-pub fn answer<R: Files + AllocGlobal, W1: Write + Drop, W2: Write>(
+pub fn answer<R: Files + Clock + AllocGlobal, W1: Write + Drop, W2: Write>(
     rt: &R,
     given: Result<Vec<String>, WordsError>,
     out: &mut PromptWriter<W1>,

@@ -2,3 +2,4 @@ mod Loading
 mod Written
 mod Refusing
 mod Delivered
+mod FirstBytes

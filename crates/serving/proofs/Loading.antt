@@ -12,6 +12,7 @@ use Rattle.stack_state.specs.Starts.{start}
 use Rattle.walks.specs.Accepting.{BoundsAll}
 use Rattle.walks.specs.Counts.{HasNumber}
 use Rattle.serving.specs.declared.rejections.Rejection.TheVariants as rejection
+use Rattle.serving.specs.declared.forms.Form.{Form}
 use Rattle.serving.specs.declared.outcomes.Outcome.{Outcome}
 use Rattle.serving.specs.declared.outcomes.Outcome.TheVariants.{Done, WrongWords, Refused, Faulted, CannotRead, CannotWrite, CannotReplace, NoMemory}
 use Rattle.serving.specs.declared.endings.Ending.{Ending}
@@ -38,7 +39,7 @@ tells-none p (Refused (rejection.Program refusal slot insn)) why e = rw e tt
 tells-none p (Refused (rejection.Table error place)) why e = e
 tells-none p (Refused rejection.Explored) why e = e
 tells-none p (Refused (rejection.Text error)) why e = e
-tells-none p (Faulted fault) why e = e
+tells-none p (Faulted fault form) why e = e
 tells-none p (CannotRead path kind) why e = e
 tells-none p (CannotWrite path cause) why e = e
 tells-none p (CannotReplace path) why e = e
@@ -67,15 +68,16 @@ pub trace_unopened : (files : RunFiles) (limit : ℕ) (old new : Option (List �
     → r.outcome ≡ o → r.why ≡ None → TracesFile files limit old new r
 trace_unopened files limit old new p o r e h failed same none = inr (p, h, inl ((rw same (opens-none files old new o e failed)), none))
 
-pub image_traced : (files : RunFiles) (limit : ℕ) (old mid new before after source : Option (List ℕ)) (cause : Option ErrorKind) (p : Program) (r : Ending) → mid ≡ old → IsImage p
-    → Traces p limit source files.out cause (record { report = mid; frames = before }) (record { report = new; frames = after }) r → TracesFile files limit old new r
-image_traced files limit old mid new before after source cause p r e h traces =
+pub image_traced : (files : RunFiles) (limit : ℕ) (old mid new before after source : Option (List ℕ)) (form : Form) (cause : Option ErrorKind) (p : Program) (r : Ending) → mid ≡ old → IsImage p
+    → Traces p limit source form files.out cause (record { report = mid; frames = before }) (record { report = new; frames = after }) r → TracesFile files limit old new r
+image_traced files limit old mid new before after source form cause p r e h traces =
     let some : TracesSome p limit files.out old new r = record {
       source = source;
+      form = form;
       before = before;
       after = after;
       cause = cause;
-      traces = subst (λ (x : Option (List ℕ)). Traces p limit source files.out cause (record { report = x; frames = before }) (record { report = new; frames = after }) r) e traces;
+      traces = subst (λ (x : Option (List ℕ)). Traces p limit source form files.out cause (record { report = x; frames = before }) (record { report = new; frames = after }) r) e traces;
     } in
     inr (p, h, inr some)
 
@@ -90,25 +92,26 @@ image_refused files old mid new p r e h v known =
     inr (p, h, (inl (subst (λ (o : Option (List ℕ)). RefusesProgram p o new r.outcome) e v), known))
 
 -- standard output got the report of a run, and nothing before it
-runs-on : (files : RunFiles) (old mid now new before after source : Option (List ℕ)) (cause : Option ErrorKind) (v : Bounded) (o r : Outcome) → mid ≡ old → now ≡ mid
-    → RunsAccepted v source files.out cause (record { report = now; frames = before }) (record { report = new; frames = after }) o → r ≡ o → RunsOn files v old new r
-runs-on files old mid now new before after source cause v o r e f runs same =
+runs-on : (files : RunFiles) (old mid now new before after source : Option (List ℕ)) (form : Form) (cause : Option ErrorKind) (v : Bounded) (o r : Outcome) → mid ≡ old → now ≡ mid
+    → RunsAccepted v source form files.out cause (record { report = now; frames = before }) (record { report = new; frames = after }) o → r ≡ o → RunsOn files v old new r
+runs-on files old mid now new before after source form cause v o r e f runs same =
     let some : RunsSome v files.out old new r = record {
       source = source;
+      form = form;
       before = before;
       after = after;
       cause = cause;
-      runs = rw same (subst (λ (x : Option (List ℕ)). RunsAccepted v source files.out cause (record { report = x; frames = before }) (record { report = new; frames = after }) o) (f ∙ e) runs);
+      runs = rw same (subst (λ (x : Option (List ℕ)). RunsAccepted v source form files.out cause (record { report = x; frames = before }) (record { report = new; frames = after }) o) (f ∙ e) runs);
     } in
     inr some
 
 opens-on : (files : RunFiles) (old mid new : Option (List ℕ)) (v : Bounded) (o r : Outcome) → mid ≡ old → new ≡ mid → IsReadFailure files.frames o ⊎ IsMakeFailure files.out o → r ≡ o → RunsOn files v old new r
 opens-on files old mid new v o r e f failed same = inl (rw same (opens-none files old new o (f ∙ e) failed))
 
-pub image_run : (files : RunFiles) (old mid now new before after source : Option (List ℕ)) (cause : Option ErrorKind) (v : Bounded) (o : Outcome) (r : Ending) → mid ≡ old → now ≡ mid → IsBoundOf v.program v.bound
-    → RunsAccepted v source files.out cause (record { report = now; frames = before }) (record { report = new; frames = after }) o → r.outcome ≡ o → r.why ≡ None → RunsFile files old new r
-image_run files old mid now new before after source cause v o r e f h runs same none =
-    inr (v.program, h.verified.image, (inr (v.bound, h, runs-on files old mid now new before after source cause v o r.outcome e f runs same), tells-none v.program r.outcome r.why none))
+pub image_run : (files : RunFiles) (old mid now new before after source : Option (List ℕ)) (form : Form) (cause : Option ErrorKind) (v : Bounded) (o : Outcome) (r : Ending) → mid ≡ old → now ≡ mid → IsBoundOf v.program v.bound
+    → RunsAccepted v source form files.out cause (record { report = now; frames = before }) (record { report = new; frames = after }) o → r.outcome ≡ o → r.why ≡ None → RunsFile files old new r
+image_run files old mid now new before after source form cause v o r e f h runs same none =
+    inr (v.program, h.verified.image, (inr (v.bound, h, runs-on files old mid now new before after source form cause v o r.outcome e f runs same), tells-none v.program r.outcome r.why none))
 
 pub run_unopened : (files : RunFiles) (old mid new : Option (List ℕ)) (v : Bounded) (o : Outcome) (r : Ending) → mid ≡ old → new ≡ mid → IsBoundOf v.program v.bound
     → IsReadFailure files.frames o ⊎ IsMakeFailure files.out o → r.outcome ≡ o → r.why ≡ None → RunsFile files old new r
@@ -145,10 +148,10 @@ pub bound_said : (files : ProofFiles) (old mid new : Option (List ℕ)) (v : Bou
 bound_said files old mid new v o r e is accepts same none =
     inr (v, is, (rw same (subst (λ (x : Option (List ℕ)). Accepts v x new o) e accepts), none))
 
-pub shown_run : (files : RunFiles) (table : List ℕ) (old mid now new before after source : Option (List ℕ)) (cause : Option ErrorKind) (v : Bounded) (o : Outcome) (r : Ending) → mid ≡ old → now ≡ mid → IsShown v
-    → RunsAccepted v source files.out cause (record { report = now; frames = before }) (record { report = new; frames = after }) o → r.outcome ≡ o → r.why ≡ None → RunsShown files table old new r
-shown_run files table old mid now new before after source cause v o r e f is runs same none =
-    inr (v, is, (runs-on files old mid now new before after source cause v o r.outcome e f runs same, none))
+pub shown_run : (files : RunFiles) (table : List ℕ) (old mid now new before after source : Option (List ℕ)) (form : Form) (cause : Option ErrorKind) (v : Bounded) (o : Outcome) (r : Ending) → mid ≡ old → now ≡ mid → IsShown v
+    → RunsAccepted v source form files.out cause (record { report = now; frames = before }) (record { report = new; frames = after }) o → r.outcome ≡ o → r.why ≡ None → RunsShown files table old new r
+shown_run files table old mid now new before after source form cause v o r e f is runs same none =
+    inr (v, is, (runs-on files old mid now new before after source form cause v o r.outcome e f runs same, none))
 
 pub shown_unopened : (files : RunFiles) (table : List ℕ) (old mid new : Option (List ℕ)) (v : Bounded) (o : Outcome) (r : Ending) → mid ≡ old → new ≡ mid → IsShown v
     → IsReadFailure files.frames o ⊎ IsMakeFailure files.out o → r.outcome ≡ o → r.why ≡ None → RunsShown files table old new r

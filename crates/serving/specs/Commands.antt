@@ -6,6 +6,7 @@ use Rattle.isa_model.specs.Text.CanonicalText.{canonical_text}
 use Rattle.image.specs.Images.{IsImage}
 use Rattle.assembler.specs.Assembling.{assembled}
 use Rattle.bounds.specs.Bounds.{Bounded}
+use Rattle.serving.specs.declared.forms.Form.{Form}
 use Rattle.serving.specs.declared.outcomes.Outcome.{Outcome}
 use Rattle.serving.specs.declared.outcomes.Outcome.TheVariants as outcome
 use Rattle.serving.specs.declared.endings.Ending.{Ending}
@@ -56,20 +57,22 @@ ShowsSome P = (v : Bounded) × IsShown v × P v
 abbrev pub OpensNone : RunFiles → Option (List ℕ) → Option (List ℕ) → Outcome → Type 0
 OpensNone files old new result = ReadsNone files.frames old new result ⊎ MakesNone files.out old new result
 
--- a run over some source, the frames out going to the file at the path
+-- a run over some source, which begins as some file does, the frames out going to the file at the path
 pub record TracesSome (p : Program) (limit : ℕ) (out : List ℕ) (old new : Option (List ℕ)) (result : Ending) : Type 0 where
   pub source : Option (List ℕ)
+  pub form : Form
   pub before : Option (List ℕ)
   pub after : Option (List ℕ)
   pub cause : Option ErrorKind
-  pub traces : Traces p limit source out cause (record { report = old; frames = before }) (record { report = new; frames = after }) result
+  pub traces : Traces p limit source form out cause (record { report = old; frames = before }) (record { report = new; frames = after }) result
 
 pub record RunsSome (v : Bounded) (out : List ℕ) (old new : Option (List ℕ)) (result : Outcome) : Type 0 where
   pub source : Option (List ℕ)
+  pub form : Form
   pub before : Option (List ℕ)
   pub after : Option (List ℕ)
   pub cause : Option ErrorKind
-  pub runs : RunsAccepted v source out cause (record { report = old; frames = before }) (record { report = new; frames = after }) result
+  pub runs : RunsAccepted v source form out cause (record { report = old; frames = before }) (record { report = new; frames = after }) result
 
 -- the image of a program was written to the file at the path, and its size was said
 pub record StoresSome (p : Program) (path : List ℕ) (old new : Option (List ℕ)) (result : Outcome) : Type 0 where

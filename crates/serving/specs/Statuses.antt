@@ -15,7 +15,7 @@ abbrev pub status_of : Outcome → ℕ
 status_of Done = 0
 status_of (WrongWords text) = 1
 status_of (Refused rejection) = 2
-status_of (Faulted fault) = 3
+status_of (Faulted fault form) = 3
 status_of (CannotRead path kind) = 4
 status_of (CannotWrite path cause) = 4
 status_of (CannotReplace path) = 4
@@ -26,7 +26,7 @@ abbrev pub is_silent : Outcome → Bool
 is_silent Done = false
 is_silent (WrongWords text) = true
 is_silent (Refused rejection) = false
-is_silent (Faulted fault) = false
+is_silent (Faulted fault form) = false
 is_silent (CannotRead path kind) = true
 is_silent (CannotWrite path cause) = false
 is_silent (CannotReplace path) = true
@@ -37,7 +37,7 @@ abbrev pub is_unsaid : Outcome → Bool
 is_unsaid Done = true
 is_unsaid (WrongWords text) = false
 is_unsaid (Refused rejection) = false
-is_unsaid (Faulted fault) = false
+is_unsaid (Faulted fault form) = false
 is_unsaid (CannotRead path kind) = false
 is_unsaid (CannotWrite path cause) = false
 is_unsaid (CannotReplace path) = false
@@ -51,7 +51,7 @@ abbrev pub message_of : Outcome → List ℕ
 message_of Done = []
 message_of (WrongWords text) = text.now ++ usage
 message_of (Refused rejection) = reason_of rejection
-message_of (Faulted fault) = fault_lines fault
+message_of (Faulted fault form) = fault_lines fault form
 message_of (CannotRead path kind) = codes "cannot read " ++ (path.now ++ cause_line kind)
 message_of (CannotWrite path cause) = codes "cannot write " ++ (path.now ++ line_after cause)
 message_of (CannotReplace path) =

@@ -49,5 +49,5 @@ TellsStopsOf (Err error) why = why ≡ None
 -- the message is written if the run came to its end and all its output was flushed
 abbrev pub at_end : Outcome → Option (String Global) → Option (String Global)
 at_end Done why = why
-at_end (Faulted fault) why = why
+at_end (Faulted fault form) why = why
 at_end outcome why = None

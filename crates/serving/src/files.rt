@@ -7,9 +7,12 @@ ghost use Rattle.tasks.specs.Requests.{files_of};
 ghost use Rattle.serving.specs.Commands.{LoadsNone, TracesFile, RunsFile, VerifiesFile, DisassemblesFile, Assembles, AssemblesFile};
 
 use super::endings::Ending;
+use super::forms::Form;
+use super::fronts::{Ahead, Watched, read_ahead};
 use super::outcomes::Outcome;
 use super::reading::{read_file, read_start};
 use super::same::is_same_file;
+use super::screens::Screen;
 use super::streams::{run_stream, store_image, trace_stream};
 use super::verdicts::{assembled, image_of, judge, say_text, say_verdict, size_line};
 use buffered_io::PromptWriter;
@@ -18,7 +21,7 @@ use isa_model::{MAX_MAPS, MAX_SLOTS};
 use std::alloc::Global;
 use std::fs;
 use std::io::{BufReader, Write};
-use std::rt::Files;
+use std::rt::{Clock, Files};
 use tasks::{Assembly, Paths, StepLimit};
 
 // One byte more than the longest image has: its head, the rows of its maps and its slots. The rest
@@ -32,8 +35,12 @@ pub const BUFFER: usize = 64 * 1024;
 // file that cannot be written is found before the report begins.
 const MAGIC: usize = 4;
 
-/// A source of frames, and where the frames out go.
-pub type Streams<F> = (BufReader<F>, PromptWriter<F>);
+/// A source of frames, what it is by its first bytes, and where the frames out go.
+pub type Streams<'b, R> = (
+    Ahead<BufReader<Watched<'b, R, <R as Files>::File>>>,
+    Form,
+    PromptWriter<<R as Files>::File>,
+);
 
 /// Makes a file to write to, unless it is one of those that are read.
 pub fn create_file<'a, R: Files>(
@@ -74,13 +81,14 @@ pub fn load_image<'a, R: Files, W: Write>(
 }
 
 /// Opens the frames, and then the frames out, which are written over none of the files that are
-/// read. Their buffers are made before any of their bytes is read or written.
-pub fn open_streams<'a, R: Files>(
-    rt: &R,
+/// read. The buffer of each is made before any of its bytes is read or written; in the end the first
+/// bytes of the frames are read ahead.
+pub fn open_streams<'a, 'b, R: Files + Clock>(
+    rt: &'b R,
     alloc: Global,
     paths: Paths<'a>,
     read: &[&str],
-) -> Result<Streams<R::File>, Outcome<'a>>
+) -> Result<Streams<'b, R>, Outcome<'a>>
     ensures { IfErr result
         (λ ended. IsReadFailure paths.entry.frames.now ended
         ⊎ IsMakeFailure paths.entry.out.now ended) }
@@ -89,19 +97,21 @@ pub fn open_streams<'a, R: Files>(
         Ok(source) => source,
         Err(error) => return Err(Outcome::of_read(paths.frames, &error)),
     };
+    let source = Watched::new(source, Screen::shared(rt, alloc));
     let Ok(source) = BufReader::with_capacity(alloc, BUFFER, source) else {
         return Err(Outcome::NoMemory);
     };
     let file = create_file(rt, paths.out, read)?;
-    match PromptWriter::new(alloc, BUFFER, MAGIC, file) {
-        Ok(file) => Ok((source, file)),
-        Err(_) => Err(Outcome::NoMemory),
-    }
+    let Ok(file) = PromptWriter::new(alloc, BUFFER, MAGIC, file) else {
+        return Err(Outcome::NoMemory);
+    };
+    let (source, form) = read_ahead(source);
+    Ok((source, form, file))
 }
 
 /// Runs a program on a frame stream with checks: the image is read and judged, then the frames are
 /// opened, then the frames out. The report goes to standard output as it comes.
-pub fn trace<'a, R: Files, W: Write>(
+pub fn trace<'a, R: Files + Clock, W: Write>(
     rt: &R,
     alloc: Global,
     paths: Paths<'a>,
@@ -116,8 +126,8 @@ pub fn trace<'a, R: Files, W: Write>(
         Err(outcome) => return Ending::plain(outcome),
     };
     match open_streams(rt, alloc, paths, &[paths.image, paths.frames]) {
-        Ok((source, mut file)) => {
-            trace_stream(alloc, image, limit, source, paths.out, out, &mut file)
+        Ok((source, form, mut file)) => {
+            trace_stream(alloc, image, limit, source, form, paths.out, out, &mut file)
         }
         Err(outcome) => Ending::plain(outcome),
     }
@@ -125,7 +135,7 @@ pub fn trace<'a, R: Files, W: Write>(
 
 /// Verifies a program and runs it on a frame stream: the image is read and judged, then the frames
 /// are opened, then the frames out. The report goes to standard output as it comes.
-pub fn run_verified<'a, R: Files, W: Write>(
+pub fn run_verified<'a, R: Files + Clock, W: Write>(
     rt: &R,
     alloc: Global,
     paths: Paths<'a>,
@@ -137,13 +147,13 @@ pub fn run_verified<'a, R: Files, W: Write>(
         Ok(image) => image,
         Err(outcome) => return Ending::plain(outcome),
     };
-    let verified = match judge(alloc, image, out) {
+    let verified = match judge(rt, alloc, image, out) {
         Ok(verified) => verified,
         Err(ending) => return ending,
     };
     match open_streams(rt, alloc, paths, &[paths.image, paths.frames]) {
-        Ok((source, mut file)) => {
-            let outcome = run_stream(alloc, verified, source, paths.out, out, &mut file);
+        Ok((source, form, mut file)) => {
+            let outcome = run_stream(alloc, verified, source, form, paths.out, out, &mut file);
             Ending::plain(outcome)
         }
         Err(outcome) => Ending::plain(outcome),
@@ -152,7 +162,7 @@ pub fn run_verified<'a, R: Files, W: Write>(
 
 /// Verifies a program: its image is read and judged, and standard output says the most steps of a
 /// run.
-pub fn verify_file<'a, R: Files, W: Write>(
+pub fn verify_file<'a, R: Files + Clock, W: Write>(
     rt: &R,
     alloc: Global,
     path: &'a str,
@@ -164,7 +174,7 @@ pub fn verify_file<'a, R: Files, W: Write>(
         Ok(image) => image,
         Err(outcome) => return Ending::plain(outcome),
     };
-    say_verdict(alloc, image, out)
+    say_verdict(rt, alloc, image, out)
 }
 
 /// Writes the text of an image: it is read and judged, and then the text goes to standard output.

@@ -1,18 +1,21 @@
-//! What a file is that is no image, and what makes an image of it.
+//! What a file is that is no image or no frame stream, and what makes one of it.
 
 ghost use Rattle.std.specs.Prelude.{◌≡◌, bytes_eq};
 ghost use Rattle.std.specs.List.{list_all};
-ghost use Rattle.serving.specs.Forms.{front_of, is_text_byte, form_by, form_of, form_line};
+ghost use Rattle.serving.specs.Forms.{front_of, is_text_byte, form_by, form_of, form_line, stream_line};
 
 /// What the first bytes of a file show that it is.
 #[derive(Clone, Copy)]
 pub enum Form {
     Unknown,
+    /// It has fewer than four bytes.
+    Short,
     /// An object of a compiler.
     Elf,
     Gzip,
     Pcap,
     Pcapng,
+    Image,
     /// A frame stream.
     Frames,
     /// A proof table.
@@ -50,7 +53,9 @@ fn is_text(front: &[u8]) -> bool
 fn form_by(front: &[u8]) -> Form
     ensures { result ≡ form_by front.now }
 {
-    if is_same(front, b"\x7fELF") {
+    if front.len() < 4 {
+        Form::Short
+    } else if is_same(front, b"\x7fELF") {
         Form::Elf
     } else if is_same(front, b"\xd4\xc3\xb2\xa1") || is_same(front, b"\xa1\xb2\xc3\xd4") {
         Form::Pcap
@@ -58,6 +63,8 @@ fn form_by(front: &[u8]) -> Form
         Form::Pcap
     } else if is_same(front, b"\x0a\x0d\x0d\x0a") {
         Form::Pcapng
+    } else if is_same(front, b"XBP1") || is_same(front, b"XBP2") {
+        Form::Image
     } else if is_same(front, b"XPF1") || is_same(front, b"XPF2") {
         Form::Frames
     } else if is_same(front, b"XPT1") {
@@ -87,13 +94,33 @@ impl Form {
         match self {
             Form::Unknown =>
                 "an image is made of a text by xdpvm asm, of an ELF object by image.py\n",
+            Form::Short => "it has fewer than 4 bytes\n",
             Form::Elf => "it is an ELF object: image.py makes an image of it\n",
             Form::Gzip => "it is packed by gzip: gunzip unpacks it\n",
             Form::Pcap => "it is a capture (pcap): frames.py makes a frame stream of it\n",
             Form::Pcapng => "it is a capture (pcapng): frames.py makes a frame stream of it\n",
+            Form::Image => "it is an image\n",
             Form::Frames => "it is a frame stream: the image stands before it, as in xdpvm run\n",
             Form::Table => "it is a proof table: the image stands before it, as in xdpvm recheck\n",
             Form::Text => "it looks like a text: xdpvm asm makes an image of it\n",
+        }
+    }
+    /// The end of a line, and then the same where frames belong.
+    pub fn stream_line(self) -> &'static str
+        ensures { result.now ≡ stream_line self }
+    {
+        match self {
+            Form::Unknown | Form::Frames =>
+                "\nframes.py makes a stream of a capture (pcap, pcapng)\n",
+            Form::Short => "\nit has fewer than 4 bytes\n",
+            Form::Elf => "\nit is an ELF object: image.py makes an image of it, not frames\n",
+            Form::Gzip =>
+                "\nit is packed by gzip: frames.py makes a frame stream of a packed capture\n",
+            Form::Pcap => "\nit is a capture (pcap): frames.py makes a frame stream of it\n",
+            Form::Pcapng => "\nit is a capture (pcapng): frames.py makes a frame stream of it\n",
+            Form::Image => "\nit is an image: it stands before the frames, as in xdpvm run\n",
+            Form::Table => "\nit is a proof table: it stands after --table, as in xdpvm run\n",
+            Form::Text => "\nit looks like a text: frames.py makes a stream of a text of frames\n",
         }
     }
 }

@@ -10,6 +10,7 @@ ghost use Rattle.serving.specs.Judging.{IsStoreFailure};
 
 use super::causes::{cause_line, line_after};
 use super::faults::say_fault;
+use super::forms::Form;
 use super::rejections::Rejection;
 use super::texts::write_texts;
 use exact_io::write_bytes;
@@ -31,8 +32,8 @@ pub enum Outcome<'a> {
     WrongWords(&'a str),
     /// The image, the program, the table or the text was refused, which standard output says.
     Refused(Rejection),
-    /// The report ended in this fault.
-    Faulted(Fault),
+    /// The report ended in this fault, and the stream begins as such a file does.
+    Faulted(Fault, Form),
     /// The file at the path cannot be read.
     CannotRead(&'a str, ErrorKind),
     /// The file or output of this name cannot be written. If standard output failed in a run, the
@@ -88,7 +89,7 @@ impl<'a> Outcome<'a> {
         match self {
             Outcome::Done
             | Outcome::Refused(_)
-            | Outcome::Faulted(_)
+            | Outcome::Faulted(_, _)
             | Outcome::CannotWrite(_, _) => false,
             Outcome::WrongWords(_)
             | Outcome::CannotRead(_, _)
@@ -105,7 +106,7 @@ impl<'a> Outcome<'a> {
             Outcome::Done => 0,
             Outcome::WrongWords(_) => 1,
             Outcome::Refused(_) => 2,
-            Outcome::Faulted(_) => 3,
+            Outcome::Faulted(_, _) => 3,
             Outcome::CannotRead(_, _) | Outcome::CannotWrite(_, _) | Outcome::CannotReplace(_) => 4,
             Outcome::NoMemory => 5,
         }
@@ -121,7 +122,7 @@ impl<'a> Outcome<'a> {
     {
         match self {
             Outcome::Done => Ok(()),
-            Outcome::Faulted(fault) => say_fault(err, fault),
+            Outcome::Faulted(fault, form) => say_fault(err, fault, form),
             Outcome::Refused(rejection) => rejection.say(err),
             Outcome::WrongWords(text) => {
                 write_bytes(err, text.as_bytes())?;

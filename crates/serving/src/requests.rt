@@ -9,11 +9,11 @@ use super::files::{assemble_file, disassemble_file, run_verified, trace, verify_
 use super::tables::{prove_file, recheck_file, run_shown};
 use std::alloc::Global;
 use std::io::Write;
-use std::rt::Files;
+use std::rt::{Clock, Files};
 use tasks::{Paths, Task};
 
 // Runs a program after verifying it, or after testing its table if one is given.
-fn run<'a, R: Files, W: Write>(
+fn run<'a, R: Files + Clock, W: Write>(
     rt: &R,
     alloc: Global,
     paths: Paths<'a>,
@@ -30,7 +30,7 @@ fn run<'a, R: Files, W: Write>(
 }
 
 /// Does what is asked for. Files are opened by their paths, and `out` is standard output.
-pub fn serve<'a, R: Files, W: Write>(
+pub fn serve<'a, R: Files + Clock, W: Write>(
     rt: &R,
     alloc: Global,
     task: Task<'a>,

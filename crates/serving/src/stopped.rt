@@ -114,7 +114,7 @@ pub fn at_end(outcome: Outcome<'_>, why: Option<String>) -> Option<String>
     ensures { result ≡ at_end outcome.entry why }
 {
     match outcome {
-        Outcome::Done | Outcome::Faulted(_) => why,
+        Outcome::Done | Outcome::Faulted(_, _) => why,
         _ => None,
     }
 }

@@ -5,6 +5,7 @@ ghost use Rattle.serving.specs.Streams.{Ends, Traces, RunsAccepted};
 ghost use Rattle.buffered_io.specs.Waiting.{behind, failure_of, held};
 
 use super::endings::Ending;
+use super::forms::Form;
 use super::outcomes::{Outcome, STANDARD_OUTPUT};
 use super::stopped::{at_end, lines_of_stops};
 use super::verdicts::say_line;
@@ -21,17 +22,18 @@ use tasks::StepLimit;
 // standard output is reported when it is flushed.
 fn outcome_of<'a, W: Write + Drop>(
     path: &'a str,
+    form: Form,
     ended: Result<Tally, HostError>,
     file: &mut PromptWriter<W>,
 ) -> Outcome<'a>
-    ensures { Ends path.now (failure_of file.new) ended
+    ensures { Ends path.now (failure_of file.new) form ended
         (held W.contents file.old) (W.contents (behind file.new)) result }
 {
     match ended {
         Ok(tally) => match file.flush() {
             Ok(()) => match tally.fault {
                 None => Outcome::Done,
-                Some((fault, _)) => Outcome::Faulted(fault),
+                Some((fault, _)) => Outcome::Faulted(fault, form),
             },
             Err(error) => Outcome::CannotWrite(path, Some(error.kind())),
         },
@@ -44,47 +46,50 @@ fn outcome_of<'a, W: Write + Drop>(
     }
 }
 
-/// Runs a program on a frame stream with checks. The report goes to `out` as it comes, and the
-/// frames out to a file that was opened by this path, behind a buffer. If the run came to its end,
-/// it is known where the runs of its first frames without an action stopped.
+/// Runs a program on a frame stream that begins so, with checks. The report goes to `out` as it
+/// comes, and the frames out to a file that was opened by this path, behind a buffer. Where the run
+/// came to its end, it is known where the runs of its first frames stopped that ended without an
+/// action.
 pub fn trace_stream<'a, R: Read + Drop, W1: Write, W2: Write + Drop>(
     alloc: Global,
     image: Image,
     limit: StepLimit,
     source: R,
+    form: Form,
     path: &'a str,
     out: &mut W1,
     file: &mut PromptWriter<W2>,
 ) -> Ending<'a>
-    ensures { Traces image limit.steps (R.remaining source) path.now (failure_of file.new)
+    ensures { Traces image limit.steps (R.remaining source) form path.now (failure_of file.new)
         record { report = W1.contents out.old; frames = held W2.contents file.old }
         record { report = W1.contents out.new; frames = W2.contents (behind file.new) } result }
 {
     let ended = run_checked(alloc, image, limit.steps, source, out, file);
     let lines = lines_of_stops(alloc, &ended);
-    let outcome = outcome_of(path, tally_in(ended), file);
+    let outcome = outcome_of(path, form, tally_in(ended), file);
     Ending {
         outcome,
         why: at_end(outcome, lines),
     }
 }
 
-/// Runs an accepted program on a frame stream. The report goes to `out` as it comes, and the frames
-/// out to a file that was opened by this path, behind a buffer.
+/// Runs an accepted program on a frame stream that begins so. The report goes to `out` as it comes,
+/// and the frames out to a file that was opened by this path, behind a buffer.
 pub fn run_stream<'a, R: Read + Drop, W1: Write, W2: Write + Drop>(
     alloc: Global,
     verified: Verified,
     source: R,
+    form: Form,
     path: &'a str,
     out: &mut W1,
     file: &mut PromptWriter<W2>,
 ) -> Outcome<'a>
-    ensures { RunsAccepted verified (R.remaining source) path.now (failure_of file.new)
+    ensures { RunsAccepted verified (R.remaining source) form path.now (failure_of file.new)
         record { report = W1.contents out.old; frames = held W2.contents file.old }
         record { report = W1.contents out.new; frames = W2.contents (behind file.new) } result }
 {
     let ended = run(alloc, verified, source, out, file);
-    outcome_of(path, ended, file)
+    outcome_of(path, form, ended, file)
 }
 
 /// Writes an image to a file that was opened by this path, and then says a line.

@@ -18,7 +18,7 @@ use buffered_io::PromptWriter;
 use explorer::Verified;
 use std::alloc::Global;
 use std::io::Write;
-use std::rt::Files;
+use std::rt::{Clock, Files};
 use tasks::{Paths, Proof};
 
 // The program of an image with the bound that a table shows, or how the task ends without: the
@@ -64,7 +64,7 @@ pub fn recheck_file<'a, R: Files, W: Write>(
 /// Runs a program on a frame stream after testing a proof table, in place of verifying the program:
 /// the image is read and judged, then the table, then the frames are opened, then the frames out.
 /// The report goes to standard output as it comes.
-pub fn run_shown<'a, R: Files, W: Write>(
+pub fn run_shown<'a, R: Files + Clock, W: Write>(
     rt: &R,
     alloc: Global,
     paths: Paths<'a>,
@@ -80,8 +80,8 @@ pub fn run_shown<'a, R: Files, W: Write>(
         Err(ending) => return ending,
     };
     match open_streams(rt, alloc, paths, &[image, paths.frames, table]) {
-        Ok((source, mut file)) => {
-            let outcome = run_stream(alloc, verified, source, paths.out, out, &mut file);
+        Ok((source, form, mut file)) => {
+            let outcome = run_stream(alloc, verified, source, form, paths.out, out, &mut file);
             Ending::plain(outcome)
         }
         Err(outcome) => Ending::plain(outcome),
@@ -105,7 +105,7 @@ fn create_table<'a, R: Files>(
 
 /// Proves a program: its image is read and judged, then the table is written, and then standard
 /// output says the most steps of a run. Where the program is refused no file is made for the table.
-pub fn prove_file<'a, R: Files, W: Write>(
+pub fn prove_file<'a, R: Files + Clock, W: Write>(
     rt: &R,
     alloc: Global,
     proof: Proof<'a>,
@@ -118,7 +118,7 @@ pub fn prove_file<'a, R: Files, W: Write>(
         Ok(image) => image,
         Err(outcome) => return Ending::plain(outcome),
     };
-    let verified = match judge(alloc, image, out) {
+    let verified = match judge(rt, alloc, image, out) {
         Ok(verified) => verified,
         Err(ending) => return ending,
     };

@@ -21,15 +21,17 @@ use super::forms::form_of;
 use super::names::{image_line, text_line, verdict_line};
 use super::outcomes::{Outcome, STANDARD_OUTPUT};
 use super::rejections::Rejection;
+use super::searches::verify_shown;
 use assembler::{AsmError, AsmErrorKind, assemble};
 use control_flow::FlowError;
 use disassembler::disassemble;
 use exact_io::write_bytes;
-use explorer::{Refusal, Verified, verify};
+use explorer::{Refusal, Verified};
 use image::{Image, ImageError};
 use isa_model::Insn;
 use std::alloc::{AllocError, Global};
 use std::io::Write;
+use std::rt::{Clock, Files};
 
 /// Says a line, after which the task has ended so.
 pub fn say_line<'a, W: Write>(line: &str, ended: Outcome<'a>, out: &mut W) -> Outcome<'a>
@@ -108,7 +110,12 @@ pub fn say_refused<'a, W: Write>(
 
 /// The verifier's answer, or how the task ends without one: a refusal is said, with its slot and
 /// instruction, and what is known there is looked for.
-pub fn judge<'a, W: Write>(alloc: Global, image: Image, out: &mut W) -> Result<Verified, Ending<'a>>
+pub fn judge<'a, R: Files + Clock, W: Write>(
+    rt: &R,
+    alloc: Global,
+    image: Image,
+    out: &mut W,
+) -> Result<Verified, Ending<'a>>
     ensures ok { OnOk result (W.contents out.new ≡ W.contents out.old) }
     ensures program { IfOk result (λ verified. verified.program ≡ image) }
     ensures verified { IfOk result IsVerified }
@@ -124,7 +131,7 @@ pub fn judge<'a, W: Write>(alloc: Global, image: Image, out: &mut W) -> Result<V
     let Ok(copy) = image.copy(alloc) else {
         return Err(Ending::plain(Outcome::NoMemory));
     };
-    match verify(alloc, image) {
+    match verify_shown(rt, alloc, image) {
         Ok(verified) => Ok(verified),
         Err((refusal, slot)) => {
             let insn = copy.at(slot).copied();
@@ -150,11 +157,16 @@ pub fn accepted<'a, W: Write>(alloc: Global, verified: &Verified, out: &mut W) -
 }
 
 /// Verifies a program: standard output says the most steps of a run, or the refusal.
-pub fn say_verdict<'a, W: Write>(alloc: Global, image: Image, out: &mut W) -> Ending<'a>
+pub fn say_verdict<'a, R: Files + Clock, W: Write>(
+    rt: &R,
+    alloc: Global,
+    image: Image,
+    out: &mut W,
+) -> Ending<'a>
     ensures verifies { Verifies image (W.contents out.old) (W.contents out.new) result.outcome }
     ensures known { IsKnown image result }
 {
-    match judge(alloc, image, out) {
+    match judge(rt, alloc, image, out) {
         Ok(verified) => Ending::plain(accepted(alloc, &verified, out)),
         Err(ending) => ending,
     }

@@ -8,7 +8,7 @@ use super::{
 use std::alloc::Global;
 use std::fs;
 use std::process::Abort;
-use std::rt::Files;
+use std::rt::{Clock, Files};
 use std::test::Fail;
 
 /// The time of a frame, least byte first, and its length. Its bytes are zeros.
@@ -253,7 +253,10 @@ fn stream_of(alloc: Global, frames: &[Frame]) -> Result<Vec<u8>, Fail> {
 }
 
 /// Runs, and traces what was run: the frames out stay as they were.
-fn runs_as_it_traces<R: Files + AllocGlobal + Abort>(rt: &R, report: &str) -> Result<(), Fail> {
+fn runs_as_it_traces<R: Files + Clock + AllocGlobal + Abort>(
+    rt: &R,
+    report: &str,
+) -> Result<(), Fail> {
     answers(rt, RUN, 0, report, "")?;
     let sent = fs::read(rt, "sent")?;
     reports(rt, TRACE, 0, report)?;
@@ -261,7 +264,7 @@ fn runs_as_it_traces<R: Files + AllocGlobal + Abort>(rt: &R, report: &str) -> Re
 }
 
 /// Is proved, by a table that is accepted with the same bound, and by which it runs as before.
-fn is_proved<R: Files + AllocGlobal + Abort>(
+fn is_proved<R: Files + Clock + AllocGlobal + Abort>(
     rt: &R,
     bound: &str,
     report: &str,
@@ -271,7 +274,10 @@ fn is_proved<R: Files + AllocGlobal + Abort>(
     answers(rt, RUN_BY_TABLE, 0, report, "")
 }
 
-fn are_accepted<R: Files + AllocGlobal + Abort>(rt: &R, rows: &[Accepted]) -> Result<(), Fail> {
+fn are_accepted<R: Files + Clock + AllocGlobal + Abort>(
+    rt: &R,
+    rows: &[Accepted],
+) -> Result<(), Fail> {
     for (text, frames, bound, report) in rows {
         let bytes = stream_of(rt.alloc(), *frames)?;
         fs::write(rt, "frames", bytes.as_slice())?;

@@ -5,11 +5,11 @@ use super::{
     write_files,
 };
 use std::process::Abort;
-use std::rt::Files;
+use std::rt::{Clock, Files};
 use std::test::Fail;
 
 // The command asks for nothing: standard error gets a text that begins so, and then the usage line.
-fn is_wrong<R: Files + AllocGlobal + Abort>(
+fn is_wrong<R: Files + Clock + AllocGlobal + Abort>(
     rt: &R,
     texts: &[&str],
     front: &str,

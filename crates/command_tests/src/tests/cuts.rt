@@ -6,7 +6,7 @@ use super::{
 };
 use std::fs;
 use std::process::Abort;
-use std::rt::Files;
+use std::rt::{Clock, Files};
 use std::test::Fail;
 
 // What the stream of two empty records reports where it is cut after that many bytes, and why.
@@ -50,7 +50,7 @@ fn cut_images(rt: HostRuntime) -> Result<(), Fail> {
 const RUN_SHORT: &[&str] = &["run", "short", "frames", "sent"];
 
 // A run whose report breaks: its last line comes after the frames out.
-fn run_breaks<R: Files + AllocGlobal + Abort>(rt: &R, room: usize) -> Result<(), Fail> {
+fn run_breaks<R: Files + Clock + AllocGlobal + Abort>(rt: &R, room: usize) -> Result<(), Fail> {
     breaks(rt, RUN, room, PASSED, CLOSED)?;
     let sent = fs::read(rt, "sent")?;
     assert_eq!(rt; sent.len(), if room < 11 { 4 } else { 24 }, "after {room}");

@@ -6,7 +6,7 @@ use super::{
 };
 use std::fs;
 use std::process::Abort;
-use std::rt::Files;
+use std::rt::{Clock, Files};
 use std::test::Fail;
 
 // What standard error has where the file that is named so is not there.
@@ -76,7 +76,7 @@ const READ_TOO: [(&[&str], &str); 7] = [
     (&["run", "image", "cut", "cut"], "cut"),
 ];
 
-fn is_read_too<R: Files + AllocGlobal + Abort>(
+fn is_read_too<R: Files + Clock + AllocGlobal + Abort>(
     rt: &R,
     texts: &[&str],
     path: &str,

@@ -7,7 +7,7 @@ use commands::execute;
 use exact_io::write_bytes;
 use std::io::{ErrorKind, Write};
 use std::process::Abort;
-use std::rt::Files;
+use std::rt::{Clock, Files};
 use std::test::Fail;
 use stumbling_io::{FlushedWriter, Stumble, Writer};
 
@@ -15,7 +15,7 @@ use stumbling_io::{FlushedWriter, Stumble, Writer};
 const FULL: &str = "cannot write standard output\nno space is left\n";
 
 // A run whose report goes to a file on a disk, which has room for that many bytes.
-fn fills<R: Files + AllocGlobal + Abort>(rt: &R, room: usize) -> Result<(), Fail> {
+fn fills<R: Files + Clock + AllocGlobal + Abort>(rt: &R, room: usize) -> Result<(), Fail> {
     let full = Stumble::Error(ErrorKind::StorageFull);
     let mut out = Writer::new(rt.alloc(), 4096, room, Some(full));
     let mut err = sink(rt.alloc());

@@ -3,7 +3,7 @@
 use super::{TRACE, answers, remove_files, reports, write_program};
 use std::fs;
 use std::process::Abort;
-use std::rt::Files;
+use std::rt::{Clock, Files};
 use std::test::Fail;
 
 /// A program, the interface and the length of each frame, the limit, and the report.
@@ -47,13 +47,20 @@ pub fn write_frames<R: Files + AllocGlobal>(rt: &R, frames: &[(u8, u8)]) -> Resu
     Ok(())
 }
 
-fn trace<R: Files + AllocGlobal + Abort>(rt: &R, limit: &str, report: &str) -> Result<(), Fail> {
+fn trace<R: Files + Clock + AllocGlobal + Abort>(
+    rt: &R,
+    limit: &str,
+    report: &str,
+) -> Result<(), Fail> {
     let words = ["trace", "image", "frames", "sent", "--limit", limit];
     reports(rt, &words, 0, report)
 }
 
 /// What `trace` writes of each, always with status 0.
-fn traces<R: Files + AllocGlobal + Abort>(rt: &R, examples: &[Example]) -> Result<(), Fail> {
+fn traces<R: Files + Clock + AllocGlobal + Abort>(
+    rt: &R,
+    examples: &[Example],
+) -> Result<(), Fail> {
     for (text, frames, limit, report) in examples {
         write_program(rt, "image", *text)?;
         write_frames(rt, *frames)?;

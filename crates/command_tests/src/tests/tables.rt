@@ -7,7 +7,7 @@ use super::{
 use std::alloc::Global;
 use std::fs;
 use std::process::Abort;
-use std::rt::Files;
+use std::rt::{Clock, Files};
 use std::test::Fail;
 
 /// r0 as the number 2, from 1 to 2, and as 3: value and mask, then its limits at 64 and 32 bits.
@@ -79,7 +79,7 @@ const STATES: [State; 5] = [
 ];
 
 /// What `recheck` says of a table, and whether `run` is refused so: the frames out are not opened.
-fn is_judged<R: Files + AllocGlobal + Abort>(
+fn is_judged<R: Files + Clock + AllocGlobal + Abort>(
     rt: &R,
     bytes: &[u8],
     status: u8,
@@ -317,7 +317,7 @@ const PROVED: [&str; 5] = [
 ];
 
 /// What `prove` wrote is accepted with the bound that `verify` says, and both say it.
-fn is_proved<R: Files + AllocGlobal + Abort>(rt: &R, text: &str) -> Result<(), Fail> {
+fn is_proved<R: Files + Clock + AllocGlobal + Abort>(rt: &R, text: &str) -> Result<(), Fail> {
     write_program(rt, "image", text)?;
     let mut out = sink(rt.alloc());
     let mut err = sink(rt.alloc());

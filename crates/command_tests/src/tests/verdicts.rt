@@ -5,7 +5,7 @@ use super::programs::{EMPTY, write_frames};
 use super::{Answer, RUN, VERIFY, all_answer, answers, holds, remove_files, write_program};
 use std::fs;
 use std::process::Abort;
-use std::rt::Files;
+use std::rt::{Clock, Files};
 use std::test::Fail;
 
 /// A program, how it is refused, and why.
@@ -93,7 +93,7 @@ const REFUSED: [(&str, &str, &str); 12] = [
 /// The commands that refuse a program, also where the frames and the frames out are not there.
 const REFUSING: [&[&str]; 3] = [VERIFY, &["run", "image", "lost", "lost/sent"], RUN];
 
-fn is_refused<R: Files + AllocGlobal + Abort>(
+fn is_refused<R: Files + Clock + AllocGlobal + Abort>(
     rt: &R,
     refusal: &str,
     why: &str,

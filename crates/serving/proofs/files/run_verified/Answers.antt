@@ -11,7 +11,7 @@ returns-in-Err-judge g c =
 
 pub returns-in-Ok-open_streams : goal.returns-in-Ok-open_streams
 returns-in-Ok-open_streams g c =
-    image_run (files_of c.args.paths) _ _ _ _ _ _ _ _ _ _ _ c.in-Ok.ensures.ok c.in-Ok-judge.ensures.ok
+    image_run (files_of c.args.paths) _ _ _ _ _ _ _ _ _ _ _ _ c.in-Ok.ensures.ok c.in-Ok-judge.ensures.ok
     (bound_of_verified _ _ c.in-Ok-judge.ensures.program c.in-Ok-judge.ensures.verified c.in-Ok-judge.ensures.number c.in-Ok-judge.ensures.bounds) c.run_stream-outcome.ensures
     c.plain-in-Ok-open_streams.ensures.outcome c.plain-in-Ok-open_streams.ensures.why
 

@@ -7,7 +7,7 @@ returns-in-Err g c = trace_unloaded (files_of c.args.paths) _ _ _ _ _ c.in-Err.e
 
 pub returns-in-Ok-open_streams : goal.returns-in-Ok-open_streams
 returns-in-Ok-open_streams g c =
-    image_traced (files_of c.args.paths) _ _ _ _ _ _ _ _ _ _ c.in-Ok.ensures.ok c.in-Ok.ensures.fits c.trace_stream.ensures
+    image_traced (files_of c.args.paths) _ _ _ _ _ _ _ _ _ _ _ c.in-Ok.ensures.ok c.in-Ok.ensures.fits c.trace_stream.ensures
 
 pub returns-in-Err-open_streams : goal.returns-in-Err-open_streams
 returns-in-Err-open_streams g c =

@@ -1,5 +1,5 @@
 use Rattle.tasks.specs.Requests.{proof_files_of}
-use Rattle.serving.proofs.Loading.{refused_if, shown_if, shows_unloaded, shows_unread}
+use Rattle.serving.proofs.Loading.{refused_if, shown_if, shows_unloaded}
 use Rattle.serving.proofs.tables.load_shown.Goals as goal
 
 pub returns-in-Err-clause-none : goal.returns-in-Err-clause-none

@@ -1,0 +1,81 @@
+#!/usr/bin/env python3
+"""What a terminal is shown of work that takes over a second.
+
+usage: python3 assurance/terminal.py [PROGRAM]
+
+The frames of a run come through a pipe, the last one after more than a second. Where standard error is a terminal and
+standard output none, the terminal is shown how much was read, and in the end that is cleared; else standard error gets
+nothing. The report is the same each time. PROGRAM is the program that `rt run` leaves in crates/xdpvm (the default:
+crates/xdpvm/out/xdpvm). The exit status is 0 if it is so, 1 if not, and 77 where there are no terminals.
+"""
+import os
+import subprocess
+import sys
+import tempfile
+import time
+
+TOP = os.path.dirname(os.path.dirname(os.path.abspath(__file__)))
+PROGRAM = os.path.abspath(sys.argv[1] if len(sys.argv) > 1 else os.path.join(TOP, "crates/xdpvm/out/xdpvm"))
+CLEARED = b"\r\x1b[K"
+FRAME = bytes(16) + b"\x02\0\0\0\xaa\xbb"
+REPORT = b"0 PASS 2 2\n1 PASS 2 2\nend 2\n"
+
+
+def run(folder, output, error):
+    """Runs two frames, the second of which comes late; these files are standard output and standard error."""
+    words = [PROGRAM, "run", os.path.join(TOP, "examples/pass.image"), "/dev/stdin", os.path.join(folder, "sent")]
+    with subprocess.Popen(words, stdin=subprocess.PIPE, stdout=output, stderr=error) as program:
+        program.stdin.write(b"XPF1" + FRAME)
+        program.stdin.flush()
+        time.sleep(1.3)
+        program.stdin.write(FRAME)
+        program.stdin.close()
+    return program.returncode
+
+
+def shown(terminal):
+    """What a terminal was given, whose other end is closed."""
+    data = b""
+    try:
+        while more := os.read(terminal, 4096):
+            data += more
+    except OSError:
+        pass
+    return data
+
+
+def tell(what, got, wanted):
+    if got != wanted:
+        print(f"{what}: {got!r}, not {wanted!r}")
+    return got == wanted
+
+
+def main():
+    try:
+        reading, terminal = os.openpty()
+    except OSError as error:
+        print(f"there are no terminals here: {error}", file=sys.stderr)
+        return 77
+    good = []
+    with tempfile.TemporaryDirectory() as folder:
+        report = os.path.join(folder, "report")
+        with open(report, "wb") as output:
+            good.append(tell("status", run(folder, output, terminal), 0))
+        os.close(terminal)
+        good.append(tell("a terminal", shown(reading), CLEARED + b"0 KiB of frames read" + CLEARED))
+        with open(report, "rb") as file:
+            good.append(tell("the report", file.read(), REPORT))
+        error = os.path.join(folder, "error")
+        with open(report, "wb") as output, open(error, "wb") as plain:
+            good.append(tell("status", run(folder, output, plain), 0))
+        with open(error, "rb") as file:
+            good.append(tell("a file", file.read(), b""))
+        reading, terminal = os.openpty()
+        good.append(tell("status", run(folder, terminal, terminal), 0))
+        os.close(terminal)
+        good.append(tell("one terminal for both", shown(reading), REPORT.replace(b"\n", b"\r\n")))
+    return 0 if all(good) else 1
+
+
+if __name__ == "__main__":
+    sys.exit(main())

@@ -1,0 +1,119 @@
+//! What a terminal shows of work that takes longer.
+
+use exact_io::write_bytes;
+use std::alloc::Global;
+use std::fs;
+use std::os::unix::fs::{FileTypeExt, MetadataExt};
+use std::rt::{Clock, Files};
+use std::time::Instant;
+
+/// What goes before a line, so that it takes the place of the one before it.
+const CLEARED: &str = "\r\x1b[K";
+
+/// After how many milliseconds something is shown, and how often then.
+const FIRST: u128 = 1000;
+
+const NEXT: u128 = 200;
+
+/// Standard error where it is a terminal, and the work takes over a second. What was shown is
+/// cleared in the end.
+pub struct Screen<'a, R: Files + Clock> {
+    rt: &'a R,
+    alloc: Global,
+    /// Whether nothing is shown while standard output is a terminal too.
+    is_shared: bool,
+    /// When the work began, unless nothing is to be shown.
+    start: Option<Instant>,
+    /// After how many milliseconds it is shown next.
+    due: u128,
+    terminal: Option<R::File>,
+}
+
+/// Whether a path is a terminal. Linux gives consoles and serial lines the major number 4, the
+/// terminal of a process and the console of the system 5, and the terminals of windows 136 to 143.
+fn is_terminal<R: Files>(rt: &R, path: &str) -> bool {
+    match fs::metadata(rt, path) {
+        Ok(output) => {
+            output.file_type().is_char_device()
+                && matches!((output.rdev() >> 8) & 0xfff, 4 | 5 | 136..=143)
+        }
+        Err(_) => false,
+    }
+}
+
+impl<'a, R: Files + Clock> Screen<'a, R> {
+    /// Work begins that writes to standard output only in its end.
+    pub fn new(rt: &'a R, alloc: Global) -> Self {
+        Screen {
+            rt,
+            alloc,
+            is_shared: false,
+            start: Instant::now(rt).ok(),
+            due: FIRST,
+            terminal: None,
+        }
+    }
+
+    /// The same of work that writes to standard output as it goes on: nothing is shown where that
+    /// is a terminal too.
+    pub fn shared(rt: &'a R, alloc: Global) -> Self {
+        let mut screen = Screen::new(rt, alloc);
+        screen.is_shared = true;
+        screen
+    }
+
+    fn open(&mut self) {
+        let is_hidden = self.is_shared && is_terminal(self.rt, "/dev/stdout");
+        if !is_hidden && is_terminal(self.rt, "/dev/stderr") {
+            self.terminal = fs::create(self.rt, "/dev/stderr").ok();
+        }
+    }
+
+    /// Whether it is time to show something. Where nothing can be shown, it is not.
+    pub fn is_due(&mut self) -> bool {
+        let Some(start) = self.start else {
+            return false;
+        };
+        let Ok(now) = Instant::now(self.rt) else {
+            return false;
+        };
+        let elapsed = now.duration_since(start).as_millis();
+        if elapsed < self.due {
+            return false;
+        }
+        self.due = elapsed.saturating_add(NEXT);
+        if self.terminal.is_none() {
+            self.open();
+        }
+        if self.terminal.is_none() {
+            self.start = None;
+        }
+        self.terminal.is_some()
+    }
+
+    /// Shows how much is done, in place of what was shown before.
+    pub fn show(&mut self, count: u64, what: &str) {
+        let Ok(line) = format!(in self.alloc; "{CLEARED}{count} {what}") else {
+            return;
+        };
+        if let Some(terminal) = &mut self.terminal {
+            let _ = write_bytes(terminal, line.as_bytes());
+        }
+    }
+}
+
+impl<R: Files + Clock> Drop for Screen<'_, R> {
+    fn drop(self) {
+        let Screen {
+            rt: _,
+            alloc: _,
+            is_shared: _,
+            start: _,
+            due: _,
+            terminal,
+        } = self;
+        if let Some(mut terminal) = terminal {
+            let _ = write_bytes(&mut terminal, CLEARED.as_bytes());
+        }
+    }
+}
