@@ -51,8 +51,8 @@ pub end-read : (t : Token) (ts : List Token) (i : Insn) (ps : Parts) (rest : Lis
 end-read t ts i ps rest h room = ended (t ∷ ts) i ps rest (ne_eqb (length (t ∷ ts)) 0 (λ e. omega (arith, e))) h room
 
 -- the text of a line is read so
-abbrev pub Reads : Insn → Parts → List ℕ → Type 0
-Reads i ps rest = takes ps i ≡ true → assembled (line_of i ++ rest) 0 (draft [] ps) ≡ assembled rest 0 (draft [] (with_insn ps i))
+abbrev pub ReadsLine : Insn → Parts → List ℕ → Type 0
+ReadsLine i ps rest = takes ps i ≡ true → assembled (line_of i ++ rest) 0 (draft [] ps) ≡ assembled rest 0 (draft [] (with_insn ps i))
 
 abbrev reg : Width → Reg → Token
 reg w r = Named (word.Register w r)
@@ -98,7 +98,7 @@ place-fetch a b c d e p q r f g h rest = simp append_assoc
 
 -- ---- arithmetic
 
-pub alu-line : (o : AluOp) (w : Width) (d : Reg) (x : Operand) (ps : Parts) (rest : Bytes) → OperandFits x → Reads (Alu w o d x) ps rest
+pub alu-line : (o : AluOp) (w : Width) (d : Reg) (x : Operand) (ps : Parts) (rest : Bytes) → OperandFits x → ReadsLine (Alu w o d x) ps rest
 unfolding line_of
 alu-line o w d x ps rest h room =
     let tail : Bytes = operand_text w x ++ 10 ∷ rest in
@@ -108,7 +108,7 @@ alu-line o w d x ps rest h room =
     ∙ operand-read w x 10 rest (reg w d ∷ Signed (assigns o) ∷ []) ps h (lit< tt) refl
     ∙ end-read (reg w d) (Signed (assigns o) ∷ operand_tokens w x) (Alu w o d x) ps rest (alu-form o w d x h) room
 
-pub neg-line : (w : Width) (d : Reg) (ps : Parts) (rest : Bytes) → Reads (Neg w d) ps rest
+pub neg-line : (w : Width) (d : Reg) (ps : Parts) (rest : Bytes) → ReadsLine (Neg w d) ps rest
 unfolding line_of
 neg-line w d ps rest room =
     ap (λ bs. assembled bs 0 (draft [] ps)) (parts4 (reg_text w d) (codes " = -") (reg_text w d) (codes "\n") rest)
@@ -117,7 +117,7 @@ neg-line w d ps rest room =
     ∙ reg-read w d 10 rest (reg w d ∷ Signed sign.Assign ∷ Signed sign.Minus ∷ []) ps refl
     ∙ end-read (reg w d) (Signed sign.Assign ∷ Signed sign.Minus ∷ reg w d ∷ []) (Neg w d) ps rest (neg-form w d) room
 
-pub extension-line : (e : Extension) (d s : Reg) (ps : Parts) (rest : Bytes) → Reads (MovSx e d s) ps rest
+pub extension-line : (e : Extension) (d s : Reg) (ps : Parts) (rest : Bytes) → ReadsLine (MovSx e d s) ps rest
 unfolding line_of
 extension-line e d s ps rest room =
     let w : Width = extension_width e in
@@ -129,7 +129,7 @@ extension-line e d s ps rest room =
     ∙ reg-read w s 10 rest (reg w d ∷ Signed sign.Assign ∷ Signed sign.Open ∷ size ∷ Signed sign.Close ∷ []) ps refl
     ∙ end-read (reg w d) (Signed sign.Assign ∷ Signed sign.Open ∷ size ∷ Signed sign.Close ∷ reg w s ∷ []) (MovSx e d s) ps rest (extension-form e d s) room
 
-pub swap-line : (order : ByteOrder) (span : Span) (d : Reg) (ps : Parts) (rest : Bytes) → Reads (ByteSwap order span d) ps rest
+pub swap-line : (order : ByteOrder) (span : Span) (d : Reg) (ps : Parts) (rest : Bytes) → ReadsLine (ByteSwap order span d) ps rest
 unfolding line_of
 swap-line order span d ps rest room =
     let tail : Bytes = reg_text Full64 d ++ 10 ∷ rest in
@@ -139,7 +139,7 @@ swap-line order span d ps rest room =
     ∙ reg-read Full64 d 10 rest (reg Full64 d ∷ Signed sign.Assign ∷ Named (word.Swapped order span) ∷ []) ps refl
     ∙ end-read (reg Full64 d) (Signed sign.Assign ∷ Named (word.Swapped order span) ∷ reg Full64 d ∷ []) (ByteSwap order span d) ps rest (swap-form order span d) room
 
-pub wide-line : (d : Reg) (n : ℕ) (ps : Parts) (rest : Bytes) → n < 2 ^ 64 → Reads (LoadNumber d n) ps rest
+pub wide-line : (d : Reg) (n : ℕ) (ps : Parts) (rest : Bytes) → n < 2 ^ 64 → ReadsLine (LoadNumber d n) ps rest
 unfolding line_of
 wide-line d n ps rest h room =
     let tail : Bytes = 108 ∷ 108 ∷ 10 ∷ rest in
@@ -157,7 +157,7 @@ before_place size = Signed sign.Star ∷ Signed sign.Open ∷ Named size ∷ Sig
 abbrev place_bytes : Place → Bytes → Bytes
 place_bytes p rest = reg_text Full64 p.base ++ 32 ∷ (offset_text p.offset ++ rest)
 
-pub load-line : (size : Size) (d : Reg) (p : Place) (ps : Parts) (rest : Bytes) → FitsSigned w16 p.offset → Reads (Load size d p) ps rest
+pub load-line : (size : Size) (d : Reg) (p : Place) (ps : Parts) (rest : Bytes) → FitsSigned w16 p.offset → ReadsLine (Load size d p) ps rest
 unfolding line_of
 load-line size d p ps rest h room =
     let tail : Bytes = 42 ∷ 41 ∷ 40 ∷ place_bytes p (41 ∷ 10 ∷ rest) in
@@ -167,7 +167,7 @@ load-line size d p ps rest h room =
     ∙ place-read p 41 (10 ∷ rest) (reg Full64 d ∷ Signed sign.Assign ∷ before_place (word.Unsigned size)) ps h (lit< tt)
     ∙ end-read (reg Full64 d) (Signed sign.Assign ∷ memory_tokens (word.Unsigned size) p.base p.offset []) (Load size d p) ps rest (load-form size d p.base p.offset h) room
 
-pub extending-line : (size : Narrow) (d : Reg) (p : Place) (ps : Parts) (rest : Bytes) → FitsSigned w16 p.offset → Reads (LoadSx size d p) ps rest
+pub extending-line : (size : Narrow) (d : Reg) (p : Place) (ps : Parts) (rest : Bytes) → FitsSigned w16 p.offset → ReadsLine (LoadSx size d p) ps rest
 unfolding line_of
 extending-line size d p ps rest h room =
     let tail : Bytes = 42 ∷ 41 ∷ 40 ∷ place_bytes p (41 ∷ 10 ∷ rest) in
@@ -185,7 +185,7 @@ stored-tokens : (size : Size) (b : Reg) (by : ℤ) (ts : List Token) → stored_
 stored-tokens size b (pos n) ts = refl
 stored-tokens size b (negsuc n) ts = refl
 
-pub store-line : (size : Size) (p : Place) (s : Reg) (ps : Parts) (rest : Bytes) → FitsSigned w16 p.offset → Reads (Store size p s) ps rest
+pub store-line : (size : Size) (p : Place) (s : Reg) (ps : Parts) (rest : Bytes) → FitsSigned w16 p.offset → ReadsLine (Store size p s) ps rest
 unfolding line_of
 store-line size p s ps rest h room =
     let tail : Bytes = reg_text Full64 s ++ 10 ∷ rest in
@@ -196,7 +196,7 @@ store-line size p s ps rest h room =
     ∙ ap (λ us. assembled (10 ∷ rest) 0 (draft us ps)) (stored-tokens size p.base p.offset (reg Full64 s ∷ []))
     ∙ end-read (Signed sign.Star) (drop 1 (memory_tokens (word.Unsigned size) p.base p.offset (Signed sign.Assign ∷ reg Full64 s ∷ []))) (Store size p s) ps rest (store-form size p.base s p.offset h) room
 
-pub constant-line : (size : Size) (p : Place) (k : ℤ) (ps : Parts) (rest : Bytes) → FitsSigned w16 p.offset → FitsSigned w32 k → Reads (StoreConstant size p k) ps rest
+pub constant-line : (size : Size) (p : Place) (k : ℤ) (ps : Parts) (rest : Bytes) → FitsSigned w16 p.offset → FitsSigned w32 k → ReadsLine (StoreConstant size p k) ps rest
 unfolding line_of
 constant-line size p k ps rest h g room =
     let tail : Bytes = signed_decimal k ++ 10 ∷ rest in
@@ -216,7 +216,7 @@ locked-tokens : (w : Width) (o : AtomicOp) (b s : Reg) (by : ℤ) → (locked_so
 locked-tokens w o b s (pos n) = refl
 locked-tokens w o b s (negsuc n) = refl
 
-pub lock-line : (w : Width) (o : AtomicOp) (p : Place) (s : Reg) (ps : Parts) (rest : Bytes) → FitsSigned w16 p.offset → Reads (Atomic w o false p s) ps rest
+pub lock-line : (w : Width) (o : AtomicOp) (p : Place) (s : Reg) (ps : Parts) (rest : Bytes) → FitsSigned w16 p.offset → ReadsLine (Atomic w o false p s) ps rest
 unfolding line_of
 lock-line w o p s ps rest h room =
     let tail : Bytes = atomic_text o ++ 32 ∷ (reg_text Full64 s ++ 10 ∷ rest) in
@@ -240,7 +240,7 @@ compared-tokens : (x : Word) (d b s : Reg) (by : ℤ) → (((exchanged_so_far x 
 compared-tokens x d b s (pos n) = refl
 compared-tokens x d b s (negsuc n) = refl
 
-pub fetch-line : (w : Width) (o : AtomicOp) (p : Place) (s : Reg) (ps : Parts) (rest : Bytes) → FitsSigned w16 p.offset → Reads (Atomic w o true p s) ps rest
+pub fetch-line : (w : Width) (o : AtomicOp) (p : Place) (s : Reg) (ps : Parts) (rest : Bytes) → FitsSigned w16 p.offset → ReadsLine (Atomic w o true p s) ps rest
 unfolding line_of
 fetch-line w o p s ps rest h room =
     let tail : Bytes = reg_text Full64 s ++ 41 ∷ 10 ∷ rest in
@@ -253,7 +253,7 @@ fetch-line w o p s ps rest h room =
     ∙ ap (λ us. assembled (10 ∷ rest) 0 (draft us ps)) (exchanged-tokens (word.Fetch o w) s p.base s p.offset)
     ∙ end-read (reg Full64 s) (drop 1 (exchange_tokens (word.Fetch o w) s p.base p.offset (reg Full64 s ∷ Signed sign.Close ∷ []))) (Atomic w o true p s) ps rest (fetch-form w o p.base s p.offset h) room
 
-pub exchange-line : (w : Width) (p : Place) (s : Reg) (ps : Parts) (rest : Bytes) → FitsSigned w16 p.offset → Reads (Exchange w p s) ps rest
+pub exchange-line : (w : Width) (p : Place) (s : Reg) (ps : Parts) (rest : Bytes) → FitsSigned w16 p.offset → ReadsLine (Exchange w p s) ps rest
 unfolding line_of
 exchange-line w p s ps rest h room =
     let tail : Bytes = reg_text Full64 s ++ 41 ∷ 10 ∷ rest in
@@ -266,7 +266,7 @@ exchange-line w p s ps rest h room =
     ∙ ap (λ us. assembled (10 ∷ rest) 0 (draft us ps)) (exchanged-tokens (word.Exchange w) s p.base s p.offset)
     ∙ end-read (reg Full64 s) (drop 1 (exchange_tokens (word.Exchange w) s p.base p.offset (reg Full64 s ∷ Signed sign.Close ∷ []))) (Exchange w p s) ps rest (exchange-form w p.base s p.offset h) room
 
-pub compare-line : (w : Width) (p : Place) (s : Reg) (ps : Parts) (rest : Bytes) → FitsSigned w16 p.offset → Reads (CompareExchange w p s) ps rest
+pub compare-line : (w : Width) (p : Place) (s : Reg) (ps : Parts) (rest : Bytes) → FitsSigned w16 p.offset → ReadsLine (CompareExchange w p s) ps rest
 unfolding line_of
 compare-line w p s ps rest h room =
     let x : Word = word.CompareExchange w in
@@ -281,14 +281,14 @@ compare-line w p s ps rest h room =
 
 -- ---- jumps
 
-pub jump-line : (by : ℤ) (ps : Parts) (rest : Bytes) → FitsSigned w16 by → Reads (Jump by) ps rest
+pub jump-line : (by : ℤ) (ps : Parts) (rest : Bytes) → FitsSigned w16 by → ReadsLine (Jump by) ps rest
 unfolding line_of
 jump-line by ps rest h room =
     ap (λ bs. assembled bs 0 (draft [] ps)) (parts3 (codes "goto ") (distance_text by) (codes "\n") rest)
     ∙ near-read by 10 rest (Named word.Goto ∷ []) ps h (lit< tt)
     ∙ end-read (Named word.Goto) (signed_tokens by) (Jump by) ps rest (jump-form by h) room
 
-pub long-line : (by : ℤ) (ps : Parts) (rest : Bytes) → FitsSigned w32 by → Reads (JumpLong by) ps rest
+pub long-line : (by : ℤ) (ps : Parts) (rest : Bytes) → FitsSigned w32 by → ReadsLine (JumpLong by) ps rest
 unfolding line_of
 long-line by ps rest h room =
     ap (λ bs. assembled bs 0 (draft [] ps)) (parts3 (codes "gotol ") (distance_text by) (codes "\n") rest)
@@ -300,7 +300,7 @@ pc-read : (by : ℤ) (ps : Parts) (rest : Bytes) → assembled (codes "call pc" 
 pc-read (pos n) ps rest = refl
 pc-read (negsuc n) ps rest = refl
 
-pub call-line : (by : ℤ) (ps : Parts) (rest : Bytes) → FitsSigned w32 by → Reads (CallLocal by) ps rest
+pub call-line : (by : ℤ) (ps : Parts) (rest : Bytes) → FitsSigned w32 by → ReadsLine (CallLocal by) ps rest
 unfolding line_of
 call-line by ps rest h room =
     ap (λ bs. assembled bs 0 (draft [] ps)) (parts3 (codes "call pc") (distance_text by) (codes "\n") rest)
@@ -308,7 +308,7 @@ call-line by ps rest h room =
     ∙ distance-read by 10 rest (Named word.Call ∷ Named word.Pc ∷ []) ps h (lit< tt)
     ∙ end-read (Named word.Call) (Named word.Pc ∷ signed_tokens by) (CallLocal by) ps rest (call-form by h) room
 
-pub condition-line : (c : Cond) (by : ℤ) (ps : Parts) (rest : Bytes) → OperandFits c.operand → FitsSigned w16 by → Reads (JumpIf c by) ps rest
+pub condition-line : (c : Cond) (by : ℤ) (ps : Parts) (rest : Bytes) → OperandFits c.operand → FitsSigned w16 by → ReadsLine (JumpIf c by) ps rest
 unfolding line_of
 condition-line c by ps rest h g room =
     let w : Width = c.width in
@@ -324,13 +324,13 @@ condition-line c by ps rest h g room =
     ∙ ap (λ us. assembled (10 ∷ rest) 0 (draft (first ++ us) ps)) (append_assoc (operand_tokens w c.operand) goto (signed_tokens by))
     ∙ end-read (Named word.If) (reg w c.register ∷ Signed (compares c.comparison) ∷ (operand_tokens w c.operand ++ Named word.Goto ∷ signed_tokens by)) (JumpIf c by) ps rest (condition-form w c.comparison c.register c.operand by h g) room
 
-pub helper-line : (k : ℤ) (ps : Parts) (rest : Bytes) → FitsSigned w32 k → Reads (CallHelper k) ps rest
+pub helper-line : (k : ℤ) (ps : Parts) (rest : Bytes) → FitsSigned w32 k → ReadsLine (CallHelper k) ps rest
 unfolding line_of
 helper-line k ps rest h room =
     ap (λ bs. assembled bs 0 (draft [] ps)) (parts3 (codes "call ") (signed_decimal k) (codes "\n") rest)
     ∙ constant-read k 10 rest (Named word.Call ∷ []) ps h (lit< tt)
     ∙ end-read (Named word.Call) (constant_tokens k) (CallHelper k) ps rest (helper-form k h) room
 
-pub exit-line : (ps : Parts) (rest : Bytes) → Reads Exit ps rest
+pub exit-line : (ps : Parts) (rest : Bytes) → ReadsLine Exit ps rest
 unfolding line_of
 exit-line ps rest room = end-read (Named word.Exit) [] Exit ps rest exit-form room

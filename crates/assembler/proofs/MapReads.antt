@@ -21,7 +21,7 @@ use Rattle.assembler.specs.MapTests.{takes_row}
 use Rattle.assembler.proofs.PlainTexts.{◌>>=◌, keep, plain_statement, Parts, with_row, with_insn, takes, added_row, assembled}
 use Rattle.assembler.proofs.DigitRuns.{decimal-read}
 use Rattle.assembler.proofs.TokenReads.{draft, reg-read, kind-read}
-use Rattle.assembler.proofs.LineReads.{Reads, end-read, parts4, parts6, parts9, alu-line, neg-line, extension-line, swap-line, wide-line, load-line, extending-line, constant-line, store-line, lock-line, fetch-line, exchange-line, compare-line, jump-line, long-line, condition-line, helper-line, call-line, exit-line}
+use Rattle.assembler.proofs.LineReads.{ReadsLine, end-read, parts4, parts6, parts9, alu-line, neg-line, extension-line, swap-line, wide-line, load-line, extending-line, constant-line, store-line, lock-line, fetch-line, exchange-line, compare-line, jump-line, long-line, condition-line, helper-line, call-line, exit-line}
 
 field-fits : (n : ℕ) → n < 2 ^ 32 → nat_le n 4294967295 ≡ true
 field-fits n h = le-leb n 4294967295 (omega (arith, h))
@@ -39,7 +39,7 @@ load-map-form : (d : Reg) (m : ℕ) → m < 2 ^ 32 → plain_statement (index_to
 unfolding statement_of
 load-map-form d m h = rw (field-fits m h) refl
 
-load-map-line : (d : Reg) (m : ℕ) (ps : Parts) (rest : List ℕ) → m < 2 ^ 32 → Reads (LoadMap d m) ps rest
+load-map-line : (d : Reg) (m : ℕ) (ps : Parts) (rest : List ℕ) → m < 2 ^ 32 → ReadsLine (LoadMap d m) ps rest
 unfolding line_of
 load-map-line d m ps rest h room =
     let before : List Token = register d ∷ Signed sign.Assign ∷ Named word.MapByIndex ∷ Signed sign.Open ∷ [] in
@@ -58,7 +58,7 @@ load-value-form : (d : Reg) (m offset : ℕ) → m < 2 ^ 32 → offset < 2 ^ 32 
 unfolding statement_of
 load-value-form d m offset h g = rw (field-fits m h, field-fits offset g) refl
 
-load-value-line : (d : Reg) (m offset : ℕ) (ps : Parts) (rest : List ℕ) → m < 2 ^ 32 → offset < 2 ^ 32 → Reads (LoadMapValue d m offset) ps rest
+load-value-line : (d : Reg) (m offset : ℕ) (ps : Parts) (rest : List ℕ) → m < 2 ^ 32 → offset < 2 ^ 32 → ReadsLine (LoadMapValue d m offset) ps rest
 unfolding line_of
 load-value-line d m offset ps rest h g room =
     let before : List Token = register d ∷ Signed sign.Assign ∷ Named word.MapValue ∷ Signed sign.Open ∷ Named word.MapByIndex ∷ Signed sign.Open ∷ [] in

@@ -21,15 +21,15 @@ use Rattle.assembler.specs.declared.wrong.Wrong.TheVariants.{Form}
 use Rattle.assembler.specs.Operands.{◌>>=◌, keep, token_at, sign_at, atomic_op_of, comparison_of, width_of, word_at, expect_at, memory_at, register_at, operand_at, signed_at, target_at, as_register, as_size, constant_at}
 use Rattle.assembler.specs.Statements.{plain, stored_token, stored, locked, jump, long_jump, is_goto, goto_at, condition, tested, called_word, called, by_word, by_token, statement_of}
 use Rattle.assembler.specs.Spells.{changes, compares, reg, IsSigned, memory, IsTarget, Spells}
-use Rattle.assembler.proofs.SpellsTokens.{bind, kept, equal, At, Stands, whole, stands_more, token, signed_at_token, word_at_token, expected, register_in, register, signed, constant, operand}
+use Rattle.assembler.proofs.SpellsTokens.{bind, kept, equal, At, HasTokensAt, whole, stands_more, token, signed_at_token, word_at_token, expected, register_in, register, signed, constant, operand}
 use Rattle.assembler.proofs.SpellsParts.{memory_at_tokens, target, atomic_in, comparison_in, width_in, size_in, ends_at}
 use Rattle.assembler.proofs.SpellsReads.{Spells-statement_of}
-use Rattle.assembler.proofs.SpellsRegisters.{Says, says, assigned_says}
+use Rattle.assembler.proofs.SpellsRegisters.{SaysSpelled, says, assigned_says}
 
 -- ---- stores
 
-stored_constant_says : (ts : List Token) (size : Size) (p : Place) (s : Sign) (n : ℕ) (r : Reading) → IsSigned (2 ^ 15) s n p.offset → Stands ts 0 (memory (word.Unsigned size) p.base s n (Signed sign.Assign ∷ []))
-    → (constant_at ts 11 >>= λ (k : ℤ × ℕ). plain (StoreConstant size p k.0) ts k.1) ≡ Ok r → Says ts r
+stored_constant_says : (ts : List Token) (size : Size) (p : Place) (s : Sign) (n : ℕ) (r : Reading) → IsSigned (2 ^ 15) s n p.offset → HasTokensAt ts 0 (memory (word.Unsigned size) p.base s n (Signed sign.Assign ∷ []))
+    → (constant_at ts 11 >>= λ (k : ℤ × ℕ). plain (StoreConstant size p k.0) ts k.1) ≡ Ok r → SaysSpelled ts r
 unfolding Spells
 stored_constant_says ts size p s n r is stands h =
     let (k, front, last) = bind (constant_at ts 11) _ r h in
@@ -38,8 +38,8 @@ stored_constant_says ts size p s n r is stands h =
     let all = whole ts (memory (word.Unsigned size) p.base s n (Signed sign.Assign ∷ xs)) (stands_more ts 0 11 (memory (word.Unsigned size) p.base s n (Signed sign.Assign ∷ [])) xs refl stands behind) (omega (arith, len, past)) in
     says ts (StoreConstant size p k.0) r same (refl, (xs, number, (s, n, is, all)))
 
-stored_token_says : (ts : List Token) (size : Size) (p : Place) (s : Sign) (n : ℕ) (t : Token) (r : Reading) → IsSigned (2 ^ 15) s n p.offset → Stands ts 0 (memory (word.Unsigned size) p.base s n (Signed sign.Assign ∷ []))
-    → At ts 11 t → stored_token size p ts t ≡ Ok r → Says ts r
+stored_token_says : (ts : List Token) (size : Size) (p : Place) (s : Sign) (n : ℕ) (t : Token) (r : Reading) → IsSigned (2 ^ 15) s n p.offset → HasTokensAt ts 0 (memory (word.Unsigned size) p.base s n (Signed sign.Assign ∷ []))
+    → At ts 11 t → stored_token size p ts t ≡ Ok r → SaysSpelled ts r
 unfolding Spells
 stored_token_says ts size p s n (Named x) r is stands here h =
     let (q, found, last) = bind (as_register Full64 x) _ r h in
@@ -51,17 +51,17 @@ stored_token_says ts size p s n (Named x) r is stands here h =
 stored_token_says ts size p s n (Number k) r is stands here h = stored_constant_says ts size p s n r is stands h
 stored_token_says ts size p s n (Signed k) r is stands here h = stored_constant_says ts size p s n r is stands h
 
-stored_says : (ts : List Token) (r : Reading) → stored ts ≡ Ok r → Says ts r
+stored_says : (ts : List Token) (r : Reading) → stored ts ≡ Ok r → SaysSpelled ts r
 stored_says ts r h =
     let (m, front, h1) = bind (memory_at ts 0) _ r h in
     let (size, sized, h2) = bind (as_size m.0) _ r h1 in
     let (u, assign, h3) = bind (expect_at ts 10 sign.Assign) _ r h2 in
     let (t, found, last) = bind (token_at ts 11) (stored_token size m.1 ts) r h3 in
     let (s, n, is, t0, t1, t2, t3, t4, t5, t6, t7, t8, t9) = memory_at_tokens ts 0 m front in
-    let stands : Stands ts 0 (memory m.0 m.1.base s n (Signed sign.Assign ∷ [])) = (t0, (t1, (t2, (t3, (t4, (t5, (t6, (t7, (t8, (t9, (expected ts 10 sign.Assign u assign, tt))))))))))) in
-    stored_token_says ts size m.1 s n t r is (subst (λ (x : Word). Stands ts 0 (memory x m.1.base s n (Signed sign.Assign ∷ []))) (size_in m.0 size sized) stands) (token ts 11 t found) last
+    let stands : HasTokensAt ts 0 (memory m.0 m.1.base s n (Signed sign.Assign ∷ [])) = (t0, (t1, (t2, (t3, (t4, (t5, (t6, (t7, (t8, (t9, (expected ts 10 sign.Assign u assign, tt))))))))))) in
+    stored_token_says ts size m.1 s n t r is (subst (λ (x : Word). HasTokensAt ts 0 (memory x m.1.base s n (Signed sign.Assign ∷ []))) (size_in m.0 size sized) stands) (token ts 11 t found) last
 
-locked_says : (ts : List Token) (r : Reading) → At ts 0 (Named word.Lock) → locked ts ≡ Ok r → Says ts r
+locked_says : (ts : List Token) (r : Reading) → At ts 0 (Named word.Lock) → locked ts ≡ Ok r → SaysSpelled ts r
 unfolding Spells
 locked_says ts r first h =
     let (m, front, h1) = bind (memory_at ts 1) _ r h in
@@ -80,36 +80,36 @@ locked_says ts r first h =
 
 -- ---- jumps and calls
 
-jump_says : (ts : List Token) (r : Reading) → At ts 0 (Named word.Goto) → jump ts ≡ Ok r → Says ts r
+jump_says : (ts : List Token) (r : Reading) → At ts 0 (Named word.Goto) → jump ts ≡ Ok r → SaysSpelled ts r
 unfolding Spells
 jump_says ts r first h =
     let (t, front, last) = bind (target_at (2 ^ 15) ts 1) _ r h in
     let (xs, is, stands, len) = target (2 ^ 15) ts 1 t front in
     let same : (let q : Reading = record { insn = Jump t.0; name = t.1 } in q) ≡ r = cc (last) in
     let all = whole ts (Named word.Goto ∷ xs) (first, stands) (omega (arith, len)) in
-    subst (λ (q : Reading). Says ts q) same (xs, is, all)
+    subst (λ (q : Reading). SaysSpelled ts q) same (xs, is, all)
 
-long_jump_says : (ts : List Token) (r : Reading) → At ts 0 (Named word.GotoLong) → long_jump ts ≡ Ok r → Says ts r
+long_jump_says : (ts : List Token) (r : Reading) → At ts 0 (Named word.GotoLong) → long_jump ts ≡ Ok r → SaysSpelled ts r
 unfolding Spells
 long_jump_says ts r first h =
     let (t, front, last) = bind (target_at (2 ^ 31) ts 1) _ r h in
     let (xs, is, stands, len) = target (2 ^ 31) ts 1 t front in
     let same : (let q : Reading = record { insn = JumpLong t.0; name = t.1 } in q) ≡ r = cc (last) in
     let all = whole ts (Named word.GotoLong ∷ xs) (first, stands) (omega (arith, len)) in
-    subst (λ (q : Reading). Says ts q) same (xs, is, all)
+    subst (λ (q : Reading). SaysSpelled ts q) same (xs, is, all)
 
 goto_word : (x : Word) → is_goto x ≡ true → x ≡ word.Goto
 goto_word word.Goto h = refl
 goto_word x h = absurd (cc)
 
 goto_of : (ts : List Token) (i : ℕ) (x : Word) (t : ℤ × Option ℕ) (b : Bool) → At ts i (Named x) → is_goto x ≡ b → (if b then target_at (2 ^ 15) ts (i + 1) else Err Form) ≡ Ok t
-    → (ys : List Token) × At ts i (Named word.Goto) × IsTarget (2 ^ 15) ys t.0 (i + 1) t.1 × Stands ts (i + 1) ys × (length ts ≡ i + 1 + length ys)
+    → (ys : List Token) × At ts i (Named word.Goto) × IsTarget (2 ^ 15) ys t.0 (i + 1) t.1 × HasTokensAt ts (i + 1) ys × (length ts ≡ i + 1 + length ys)
 goto_of ts i x t false here is h = absurd (cc)
 goto_of ts i x t true here is h =
     let (ys, target_is, stands, len) = target (2 ^ 15) ts (i + 1) t h in
     (ys, here ∙ ap (λ (y : Word). let o : Option Token = Some (Named y) in o) (goto_word x is), target_is, stands, len)
 
-condition_says : (ts : List Token) (w : Width) (d : Reg) (r : Reading) → At ts 0 (Named word.If) → At ts 1 (reg w d) → condition w d ts ≡ Ok r → Says ts r
+condition_says : (ts : List Token) (w : Width) (d : Reg) (r : Reading) → At ts 0 (Named word.If) → At ts 1 (reg w d) → condition w d ts ≡ Ok r → SaysSpelled ts r
 unfolding Spells
 condition_says ts w d r first second h =
     let (c, front, h1) = bind (sign_at ts 2 >>= comparison_of) _ r h in
@@ -121,25 +121,25 @@ condition_says ts w d r first second h =
     let (ys, at_goto, target_is, behind, len) = goto_of ts x.1 y t (is_goto y) (word_at_token ts x.1 y there) refl aims in
     let third : At ts 2 (Signed (compares c)) = signed_at_token ts 2 s found ∙ ap (λ (z : Sign). let o : Option Token = Some (Signed z) in o) (comparison_in s c of_comparison) in
     let next : x.1 + 1 ≡ suc x.1 = omega arith in
-    let rest = stands_more ts 3 x.1 xs (Named word.Goto ∷ ys) past stands (at_goto, subst (λ i. Stands ts i ys) next behind) in
+    let rest = stands_more ts 3 x.1 xs (Named word.Goto ∷ ys) past stands (at_goto, subst (λ i. HasTokensAt ts i ys) next behind) in
     let size = length-append xs (Named word.Goto ∷ ys) in
     let all = whole ts (Named word.If ∷ reg w d ∷ Signed (compares c) ∷ (xs ++ Named word.Goto ∷ ys)) (first, (second, (third, rest))) (omega (arith, len, past, size)) in
     let same : (let q : Reading = record { insn = JumpIf (record { width = w; comparison = c; register = d; operand = x.0 }) t.0; name = t.1 } in q) ≡ r = cc (last) in
     let index : x.1 + 1 ≡ 4 + length xs = omega (arith, past) in
-    subst (λ (q : Reading). Says ts q) same (xs, ys, is, subst (λ i. IsTarget (2 ^ 15) ys t.0 i t.1) index target_is, all)
+    subst (λ (q : Reading). SaysSpelled ts q) same (xs, ys, is, subst (λ i. IsTarget (2 ^ 15) ys t.0 i t.1) index target_is, all)
 
-tested_says : (ts : List Token) (x : Word) (r : Reading) → At ts 0 (Named word.If) → At ts 1 (Named x) → tested ts x ≡ Ok r → Says ts r
+tested_says : (ts : List Token) (x : Word) (r : Reading) → At ts 0 (Named word.If) → At ts 1 (Named x) → tested ts x ≡ Ok r → SaysSpelled ts r
 tested_says ts (word.Register w d) r first second h = condition_says ts w d r first second h
 tested_says ts x r first second h = absurd (cc)
 
-named_call_says : (ts : List Token) (x : Word) (r : Reading) → x ≢ word.Pc → At ts 0 (Named word.Call) → At ts 1 (Named x) → keep (length ts == 2) (let q : Reading = record { insn = CallLocal (pos 0); name = Some 1 } in q) ≡ Ok r → Says ts r
+named_call_says : (ts : List Token) (x : Word) (r : Reading) → x ≢ word.Pc → At ts 0 (Named word.Call) → At ts 1 (Named x) → keep (length ts == 2) (let q : Reading = record { insn = CallLocal (pos 0); name = Some 1 } in q) ≡ Ok r → SaysSpelled ts r
 unfolding Spells
 named_call_says ts x r other first second h =
     let (b, same) = kept (length ts == 2) (let q : Reading = record { insn = CallLocal (pos 0); name = Some 1 } in q) r h in
     let all = whole ts (Named word.Call ∷ Named x ∷ []) (first, (second, tt)) (equal (length ts) 2 b) in
-    subst (λ (q : Reading). Says ts q) same (inr (x, other, refl, refl, all))
+    subst (λ (q : Reading). SaysSpelled ts q) same (inr (x, other, refl, refl, all))
 
-called_word_says : (ts : List Token) (x : Word) (r : Reading) → At ts 0 (Named word.Call) → At ts 1 (Named x) → called_word ts x ≡ Ok r → Says ts r
+called_word_says : (ts : List Token) (x : Word) (r : Reading) → At ts 0 (Named word.Call) → At ts 1 (Named x) → called_word ts x ≡ Ok r → SaysSpelled ts r
 unfolding Spells
 called_word_says ts word.Pc r first second h =
     let (by, front, last) = bind (signed_at (2 ^ 31) ts 2) _ r h in
@@ -149,7 +149,7 @@ called_word_says ts word.Pc r first second h =
     says ts (CallLocal by) r same (inl (refl, (s, n, is, all)))
 called_word_says ts x r first second h = named_call_says ts x r (λ e. absurd (cc e)) first second h
 
-helper_says : (ts : List Token) (r : Reading) → At ts 0 (Named word.Call) → (constant_at ts 1 >>= λ (k : ℤ × ℕ). plain (CallHelper k.0) ts k.1) ≡ Ok r → Says ts r
+helper_says : (ts : List Token) (r : Reading) → At ts 0 (Named word.Call) → (constant_at ts 1 >>= λ (k : ℤ × ℕ). plain (CallHelper k.0) ts k.1) ≡ Ok r → SaysSpelled ts r
 unfolding Spells
 helper_says ts r first h =
     let (k, front, last) = bind (constant_at ts 1) _ r h in
@@ -158,12 +158,12 @@ helper_says ts r first h =
     let all = whole ts (Named word.Call ∷ xs) (first, behind) (omega (arith, len, past)) in
     says ts (CallHelper k.0) r same (refl, (xs, number, all))
 
-called_says : (ts : List Token) (t : Token) (r : Reading) → At ts 0 (Named word.Call) → At ts 1 t → called ts t ≡ Ok r → Says ts r
+called_says : (ts : List Token) (t : Token) (r : Reading) → At ts 0 (Named word.Call) → At ts 1 t → called ts t ≡ Ok r → SaysSpelled ts r
 called_says ts (Named x) r first second h = called_word_says ts x r first second h
 called_says ts (Number n) r first second h = helper_says ts r first h
 called_says ts (Signed s) r first second h = helper_says ts r first h
 
-exit_says : (ts : List Token) (r : Reading) → At ts 0 (Named word.Exit) → plain Exit ts 1 ≡ Ok r → Says ts r
+exit_says : (ts : List Token) (r : Reading) → At ts 0 (Named word.Exit) → plain Exit ts 1 ≡ Ok r → SaysSpelled ts r
 unfolding Spells
 exit_says ts r first h =
     let (len, same) = ends_at ts Exit 1 r h in
@@ -171,7 +171,7 @@ exit_says ts r first h =
 
 -- ---- all forms
 
-by_word_says : (ts : List Token) (x : Word) (r : Reading) → At ts 0 (Named x) → by_word ts x ≡ Ok r → Says ts r
+by_word_says : (ts : List Token) (x : Word) (r : Reading) → At ts 0 (Named x) → by_word ts x ≡ Ok r → SaysSpelled ts r
 by_word_says ts (word.Register w d) r first h = assigned_says ts w d r first h
 by_word_says ts word.If r first h = let (x, found, rest) = bind (word_at ts 1) (tested ts) r h in tested_says ts x r first (word_at_token ts 1 x found) rest
 by_word_says ts word.Goto r first h = jump_says ts r first h
@@ -181,7 +181,7 @@ by_word_says ts word.Exit r first h = exit_says ts r first h
 by_word_says ts word.Lock r first h = locked_says ts r first h
 by_word_says ts x r first h = absurd (cc)
 
-by_token_says : (ts : List Token) (t : Token) (r : Reading) → At ts 0 t → by_token ts t ≡ Ok r → Says ts r
+by_token_says : (ts : List Token) (t : Token) (r : Reading) → At ts 0 t → by_token ts t ≡ Ok r → SaysSpelled ts r
 by_token_says ts (Named x) r first h = by_word_says ts x r first h
 by_token_says ts (Signed sign.Star) r first h = stored_says ts r h
 by_token_says ts (Signed s) r first h = absurd (cc)

@@ -29,7 +29,7 @@ use Rattle.assembler.specs.declared.wrong.Wrong.TheVariants.{Form, Range}
 use Rattle.assembler.specs.Operands.{keep, token_at, number_at, word_at, expect_at, op_of, atomic_op_of, comparison_of, width_of, extension_of, wide_within, signed_at, place_at, memory_at, argument_at, as_size, as_narrow, is_name, target_token, target_at, field_at, is_by_index, index_at, by_index_at}
 use Rattle.assembler.specs.Statements.{plain, is_wide, wide_at}
 use Rattle.assembler.specs.Spells.{assigns, changes, compares, extends, reg, IsSigned, field, IsTarget}
-use Rattle.assembler.proofs.SpellsTokens.{bind, kept, passed, At, token, number_at_token, word_at_token, expected, signed, based, Stands, equal, below, within}
+use Rattle.assembler.proofs.SpellsTokens.{bind, kept, passed, At, token, number_at_token, word_at_token, expected, signed, based, HasTokensAt, equal, below, within}
 
 abbrev some : Token → Option Token
 some t = Some t
@@ -94,7 +94,7 @@ is_name_not x h e = let no : is_name word.Pc ≡ true = subst (λ (y : Word). is
 
 named_target : (half : ℕ) (ts : List Token) (i : ℕ) (x : Word) (t : ℤ × Option ℕ) (b : Bool) → is_name x ≡ b
     → (if b then keep (length ts == i + 1) (let z : ℤ × Option ℕ = (pos 0, Some i) in z) else Err Form) ≡ Ok t → At ts i (Named x)
-    → (xs : List Token) × IsTarget half xs t.0 i t.1 × Stands ts i xs × (length ts ≡ i + length xs)
+    → (xs : List Token) × IsTarget half xs t.0 i t.1 × HasTokensAt ts i xs × (length ts ≡ i + length xs)
 named_target half ts i x t false is h here = absurd (cc)
 named_target half ts i x t true is h here =
     let (b, same) = kept (length ts == i + 1) (let z : ℤ × Option ℕ = (pos 0, Some i) in z) t h in (
@@ -105,7 +105,7 @@ named_target half ts i x t true is h here =
     )
 
 target_of : (half : ℕ) (ts : List Token) (i : ℕ) (t : Token) (x : ℤ × Option ℕ) → At ts i t → target_token half ts i t ≡ Ok x
-    → (xs : List Token) × IsTarget half xs x.0 i x.1 × Stands ts i xs × (length ts ≡ i + length xs)
+    → (xs : List Token) × IsTarget half xs x.0 i x.1 × HasTokensAt ts i xs × (length ts ≡ i + length xs)
 target_of half ts i (Signed m) x here h =
     let (by, distance, rest) = bind (signed_at half ts i) _ x h in
     let (s, n, signs, number, is) = signed half ts i by distance in
@@ -119,7 +119,7 @@ target_of half ts i (Signed m) x here h =
 target_of half ts i (Named y) x here h = named_target half ts i y x (is_name y) refl h here
 target_of half ts i (Number n) x here h = absurd (cc)
 
-pub target : (half : ℕ) (ts : List Token) (i : ℕ) (x : ℤ × Option ℕ) → target_at half ts i ≡ Ok x → (xs : List Token) × IsTarget half xs x.0 i x.1 × Stands ts i xs × (length ts ≡ i + length xs)
+pub target : (half : ℕ) (ts : List Token) (i : ℕ) (x : ℤ × Option ℕ) → target_at half ts i ≡ Ok x → (xs : List Token) × IsTarget half xs x.0 i x.1 × HasTokensAt ts i xs × (length ts ≡ i + length xs)
 target half ts i x h = let (t, here, is) = bind (token_at ts i) (target_token half ts i) x h in target_of half ts i t x (token ts i t here) is
 
 -- ---- maps

@@ -27,20 +27,20 @@ use Rattle.assembler.specs.declared.wrong.Wrong.TheVariants.{Form}
 use Rattle.assembler.specs.Operands.{◌>>=◌, token_at, sign_at, op_of, extension_of, number_at, word_at, expect_at, memory_at, argument_at, again_at, register_at, operand_at, index_at, by_index_at, field_at, as_narrow, same_register, wide_within}
 use Rattle.assembler.specs.Statements.{arithmetic, wide_at, wide, negated, extended, load_of, loaded, swapped, exchanged_place, fetched, exchanged, compared, map_loaded, map_value_loaded, moved_word, moved, assigned_by, assigned}
 use Rattle.assembler.specs.Spells.{assigns, extends, reg, IsSigned, place, memory, Spells}
-use Rattle.assembler.proofs.SpellsTokens.{bind, At, Stands, whole, token, signed_at_token, number_at_token, word_at_token, expected, registers, register, again, operand}
+use Rattle.assembler.proofs.SpellsTokens.{bind, At, HasTokensAt, whole, token, signed_at_token, number_at_token, word_at_token, expected, registers, register, again, operand}
 use Rattle.assembler.proofs.SpellsParts.{memory_at_tokens, argument_at_tokens, field_at_token, index_at_tokens, by_index_at_tokens, op_in, extension_in, narrow_in, wide_at_token, wide_number, wide_negative, ends_at}
 
 -- what was read is what is spelled
-abbrev pub Says : List Token → Reading → Type 0
-Says ts r = Spells ts r.insn r.name
+abbrev pub SaysSpelled : List Token → Reading → Type 0
+SaysSpelled ts r = Spells ts r.insn r.name
 
 -- without a name
-pub says : (ts : List Token) (i : Insn) (r : Reading) → (let q : Reading = record { insn = i; name = None } in q) ≡ r → Spells ts i None → Says ts r
-says ts i r same h = subst (λ (q : Reading). Says ts q) same h
+pub says : (ts : List Token) (i : Insn) (r : Reading) → (let q : Reading = record { insn = i; name = None } in q) ≡ r → Spells ts i None → SaysSpelled ts r
+says ts i r same h = subst (λ (q : Reading). SaysSpelled ts q) same h
 
 -- ---- arithmetic
 
-arithmetic_says : (ts : List Token) (o : AluOp) (w : Width) (d : Reg) (r : Reading) → At ts 0 (reg w d) → At ts 1 (Signed (assigns o)) → arithmetic o w d ts ≡ Ok r → Says ts r
+arithmetic_says : (ts : List Token) (o : AluOp) (w : Width) (d : Reg) (r : Reading) → At ts 0 (reg w d) → At ts 1 (Signed (assigns o)) → arithmetic o w d ts ≡ Ok r → SaysSpelled ts r
 unfolding Spells
 arithmetic_says ts o w d r first second h =
     let (x, front, last) = bind (operand_at w ts 2) _ r h in
@@ -49,7 +49,7 @@ arithmetic_says ts o w d r first second h =
     let all = whole ts (reg w d ∷ Signed (assigns o) ∷ xs) (first, (second, stands)) (omega (arith, len, past)) in
     says ts (Alu w o d x.0) r same (refl, (xs, is, all))
 
-wide_says : (ts : List Token) (w : Width) (d : Reg) (r : Reading) → At ts 0 (reg w d) → At ts 1 (Signed sign.Assign) → At ts 3 (Named word.Wide) → wide w d ts false 2 ≡ Ok r → Says ts r
+wide_says : (ts : List Token) (w : Width) (d : Reg) (r : Reading) → At ts 0 (reg w d) → At ts 1 (Signed sign.Assign) → At ts 3 (Named word.Wide) → wide w d ts false 2 ≡ Ok r → SaysSpelled ts r
 unfolding Spells
 wide_says ts Low32 d r first second fourth h = absurd (cc)
 wide_says ts Full64 d r first second fourth h =
@@ -60,7 +60,7 @@ wide_says ts Full64 d r first second fourth h =
     let all = whole ts (reg Full64 d ∷ Signed sign.Assign ∷ Number n ∷ Named word.Wide ∷ []) (first, (second, (number_at_token ts 2 n number, (fourth, tt)))) len in
     says ts (LoadNumber d k) r same (refl, (Number n ∷ [], inl (n, refl, range, value), all))
 
-negative_wide_says : (ts : List Token) (w : Width) (d : Reg) (r : Reading) → At ts 0 (reg w d) → At ts 1 (Signed sign.Assign) → At ts 2 (Signed sign.Minus) → At ts 4 (Named word.Wide) → wide w d ts true 3 ≡ Ok r → Says ts r
+negative_wide_says : (ts : List Token) (w : Width) (d : Reg) (r : Reading) → At ts 0 (reg w d) → At ts 1 (Signed sign.Assign) → At ts 2 (Signed sign.Minus) → At ts 4 (Named word.Wide) → wide w d ts true 3 ≡ Ok r → SaysSpelled ts r
 unfolding Spells
 negative_wide_says ts Low32 d r first second third fifth h = absurd (cc)
 negative_wide_says ts Full64 d r first second third fifth h =
@@ -71,15 +71,15 @@ negative_wide_says ts Full64 d r first second third fifth h =
     let all = whole ts (reg Full64 d ∷ Signed sign.Assign ∷ Signed sign.Minus ∷ Number n ∷ Named word.Wide ∷ []) (first, (second, (third, (number_at_token ts 3 n number, (fifth, tt))))) len in
     says ts (LoadNumber d k) r same (refl, (Signed sign.Minus ∷ Number n ∷ [], inr (n, refl, range, value), all))
 
-number_says : (ts : List Token) (w : Width) (d : Reg) (r : Reading) → At ts 0 (reg w d) → At ts 1 (Signed sign.Assign) → (b : Bool) → wide_at ts 3 ≡ b → (if b then wide w d ts false 2 else arithmetic op.Mov w d ts) ≡ Ok r → Says ts r
+number_says : (ts : List Token) (w : Width) (d : Reg) (r : Reading) → At ts 0 (reg w d) → At ts 1 (Signed sign.Assign) → (b : Bool) → wide_at ts 3 ≡ b → (if b then wide w d ts false 2 else arithmetic op.Mov w d ts) ≡ Ok r → SaysSpelled ts r
 number_says ts w d r first second true is h = wide_says ts w d r first second (wide_at_token ts 3 is) h
 number_says ts w d r first second false is h = arithmetic_says ts op.Mov w d r first second h
 
-negative_says : (ts : List Token) (w : Width) (d : Reg) (r : Reading) → At ts 0 (reg w d) → At ts 1 (Signed sign.Assign) → At ts 2 (Signed sign.Minus) → (b : Bool) → wide_at ts 4 ≡ b → (if b then wide w d ts true 3 else arithmetic op.Mov w d ts) ≡ Ok r → Says ts r
+negative_says : (ts : List Token) (w : Width) (d : Reg) (r : Reading) → At ts 0 (reg w d) → At ts 1 (Signed sign.Assign) → At ts 2 (Signed sign.Minus) → (b : Bool) → wide_at ts 4 ≡ b → (if b then wide w d ts true 3 else arithmetic op.Mov w d ts) ≡ Ok r → SaysSpelled ts r
 negative_says ts w d r first second third true is h = negative_wide_says ts w d r first second third (wide_at_token ts 4 is) h
 negative_says ts w d r first second third false is h = arithmetic_says ts op.Mov w d r first second h
 
-negated_says : (ts : List Token) (w : Width) (d : Reg) (t : Token) (r : Reading) → At ts 0 (reg w d) → At ts 1 (Signed sign.Assign) → At ts 2 (Signed sign.Minus) → negated w d ts t ≡ Ok r → Says ts r
+negated_says : (ts : List Token) (w : Width) (d : Reg) (t : Token) (r : Reading) → At ts 0 (reg w d) → At ts 1 (Signed sign.Assign) → At ts 2 (Signed sign.Minus) → negated w d ts t ≡ Ok r → SaysSpelled ts r
 unfolding Spells
 negated_says ts w d (Named x) r first second third h =
     let (u, front, last) = bind (again_at w d ts 3) _ r h in
@@ -89,7 +89,7 @@ negated_says ts w d (Named x) r first second third h =
 negated_says ts w d (Number n) r first second third h = negative_says ts w d r first second third (wide_at ts 4) refl h
 negated_says ts w d (Signed s) r first second third h = negative_says ts w d r first second third (wide_at ts 4) refl h
 
-extended_says : (ts : List Token) (w : Width) (d : Reg) (r : Reading) → At ts 0 (reg w d) → At ts 1 (Signed sign.Assign) → At ts 2 (Signed sign.Open) → extended w d ts ≡ Ok r → Says ts r
+extended_says : (ts : List Token) (w : Width) (d : Reg) (r : Reading) → At ts 0 (reg w d) → At ts 1 (Signed sign.Assign) → At ts 2 (Signed sign.Open) → extended w d ts ≡ Ok r → SaysSpelled ts r
 unfolding Spells
 extended_says ts w d r first second third h =
     let (e, front, h1) = bind (word_at ts 3 >>= as_narrow >>= extension_of w) _ r h in
@@ -109,7 +109,7 @@ extended_says ts w d r first second third h =
     )
 
 swapped_says : (ts : List Token) (order : ByteOrder) (span : Span) (d : Reg) (r : Reading) → At ts 0 (reg Full64 d) → At ts 1 (Signed sign.Assign) → At ts 2 (Named (word.Swapped order span))
-    → swapped order span d ts ≡ Ok r → Says ts r
+    → swapped order span d ts ≡ Ok r → SaysSpelled ts r
 unfolding Spells
 swapped_says ts order span d r first second third h =
     let (u, front, last) = bind (again_at Full64 d ts 3) _ r h in
@@ -125,7 +125,7 @@ load_cases d p (word.Unsigned size) i h = let same : Load size d p ≡ i = cc in
 load_cases d p (word.SignExtended size) i h = let same : LoadSx size d p ≡ i = cc in inr (size, refl, sym same)
 load_cases d p x i h = absurd (cc)
 
-loaded_says : (ts : List Token) (w : Width) (d : Reg) (r : Reading) → At ts 0 (reg w d) → At ts 1 (Signed sign.Assign) → loaded w d ts ≡ Ok r → Says ts r
+loaded_says : (ts : List Token) (w : Width) (d : Reg) (r : Reading) → At ts 0 (reg w d) → At ts 1 (Signed sign.Assign) → loaded w d ts ≡ Ok r → SaysSpelled ts r
 unfolding Spells
 loaded_says ts Low32 d r first second h = absurd (cc)
 loaded_says ts Full64 d r first second h =
@@ -145,7 +145,7 @@ loaded_says ts Full64 d r first second h =
 -- ---- atomic instructions with a result
 
 exchanged_place_tokens : (ts : List Token) (d : Reg) (p : Place) → exchanged_place d ts ≡ Ok p
-    → (s : Sign) × (n : ℕ) × IsSigned (2 ^ 15) s n p.offset × Stands ts 3 (Signed sign.Open ∷ place p.base s n (Signed sign.Comma ∷ reg Full64 d ∷ Signed sign.Close ∷ []))
+    → (s : Sign) × (n : ℕ) × IsSigned (2 ^ 15) s n p.offset × HasTokensAt ts 3 (Signed sign.Open ∷ place p.base s n (Signed sign.Comma ∷ reg Full64 d ∷ Signed sign.Close ∷ []))
 exchanged_place_tokens ts d p h =
     let (q, front, h1) = bind (argument_at ts 3) _ p h in
     let (u1, register_again, h2) = bind (again_at Full64 d ts 8) _ p h1 in
@@ -155,11 +155,11 @@ exchanged_place_tokens ts d p h =
       s,
       n,
       subst (λ (z : Place). IsSigned (2 ^ 15) s n z.offset) same is,
-      subst (λ (z : Place). Stands ts 3 (Signed sign.Open ∷ place z.base s n (Signed sign.Comma ∷ reg Full64 d ∷ Signed sign.Close ∷ []))) same
+      subst (λ (z : Place). HasTokensAt ts 3 (Signed sign.Open ∷ place z.base s n (Signed sign.Comma ∷ reg Full64 d ∷ Signed sign.Close ∷ []))) same
           (t0, (t1, (t2, (t3, (t4, (again ts Full64 d 8 u1 register_again, (expected ts 9 sign.Close u2 closes, tt))))))),
     )
 
-fetched_says : (ts : List Token) (o : AtomicOp) (w : Width) (d : Reg) (r : Reading) → At ts 0 (reg Full64 d) → At ts 1 (Signed sign.Assign) → At ts 2 (Named (word.Fetch o w)) → fetched o w d ts ≡ Ok r → Says ts r
+fetched_says : (ts : List Token) (o : AtomicOp) (w : Width) (d : Reg) (r : Reading) → At ts 0 (reg Full64 d) → At ts 1 (Signed sign.Assign) → At ts 2 (Named (word.Fetch o w)) → fetched o w d ts ≡ Ok r → SaysSpelled ts r
 unfolding Spells
 fetched_says ts o w d r first second third h =
     let (p, front, last) = bind (exchanged_place d ts) _ r h in
@@ -169,7 +169,7 @@ fetched_says ts o w d r first second third h =
     (first, (second, (third, stands))) len in
     says ts (Atomic w o true p d) r same (refl, (s, n, is, all))
 
-exchanged_says : (ts : List Token) (w : Width) (d : Reg) (r : Reading) → At ts 0 (reg Full64 d) → At ts 1 (Signed sign.Assign) → At ts 2 (Named (word.Exchange w)) → exchanged w d ts ≡ Ok r → Says ts r
+exchanged_says : (ts : List Token) (w : Width) (d : Reg) (r : Reading) → At ts 0 (reg Full64 d) → At ts 1 (Signed sign.Assign) → At ts 2 (Named (word.Exchange w)) → exchanged w d ts ≡ Ok r → SaysSpelled ts r
 unfolding Spells
 exchanged_says ts w d r first second third h =
     let (p, front, last) = bind (exchanged_place d ts) _ r h in
@@ -179,7 +179,7 @@ exchanged_says ts w d r first second third h =
     (first, (second, (third, stands))) len in
     says ts (Exchange w p d) r same (refl, (s, n, is, all))
 
-compared_of : (ts : List Token) (w : Width) (r : Reading) → At ts 0 (reg Full64 R0) → At ts 1 (Signed sign.Assign) → At ts 2 (Named (word.CompareExchange w)) → compared w R0 ts ≡ Ok r → Says ts r
+compared_of : (ts : List Token) (w : Width) (r : Reading) → At ts 0 (reg Full64 R0) → At ts 1 (Signed sign.Assign) → At ts 2 (Named (word.CompareExchange w)) → compared w R0 ts ≡ Ok r → SaysSpelled ts r
 unfolding Spells
 compared_of ts w r first second third h =
     let (p, front, h1) = bind (argument_at ts 3) _ r h in
@@ -194,7 +194,7 @@ compared_of ts w r first second third h =
     (first, (second, (third, (t0, (t1, (t2, (t3, (t4, (again ts Full64 R0 8 u1 accumulator, (expected ts 9 sign.Comma u2 comma, (register ts Full64 10 q source, (expected ts 11 sign.Close u4 closes, tt)))))))))))) len in
     says ts (CompareExchange w p q) r same (refl, (s, n, is, all))
 
-compared_says : (ts : List Token) (w : Width) (d : Reg) (r : Reading) (b : Bool) → same_register d R0 ≡ b → At ts 0 (reg Full64 d) → At ts 1 (Signed sign.Assign) → At ts 2 (Named (word.CompareExchange w)) → compared w d ts ≡ Ok r → Says ts r
+compared_says : (ts : List Token) (w : Width) (d : Reg) (r : Reading) (b : Bool) → same_register d R0 ≡ b → At ts 0 (reg Full64 d) → At ts 1 (Signed sign.Assign) → At ts 2 (Named (word.CompareExchange w)) → compared w d ts ≡ Ok r → SaysSpelled ts r
 compared_says ts w d r true is first second third h =
     let zero = registers d R0 is in
     compared_of ts w r (subst (λ (q : Reg). At ts 0 (reg Full64 q)) zero first) second third (subst (λ (q : Reg). compared w q ts ≡ Ok r) zero h)
@@ -205,7 +205,7 @@ compared_says ts w d r false is first second third h = absurd (refused h)
 
 -- ---- maps
 
-map_loaded_says : (ts : List Token) (d : Reg) (r : Reading) → At ts 0 (reg Full64 d) → At ts 1 (Signed sign.Assign) → At ts 2 (Named word.MapByIndex) → map_loaded d ts ≡ Ok r → Says ts r
+map_loaded_says : (ts : List Token) (d : Reg) (r : Reading) → At ts 0 (reg Full64 d) → At ts 1 (Signed sign.Assign) → At ts 2 (Named word.MapByIndex) → map_loaded d ts ≡ Ok r → SaysSpelled ts r
 unfolding Spells
 map_loaded_says ts d r first second third h =
     let (m, front, last) = bind (index_at ts 3) _ r h in
@@ -214,7 +214,7 @@ map_loaded_says ts d r first second third h =
     let all = whole ts (reg Full64 d ∷ Signed sign.Assign ∷ Named word.MapByIndex ∷ Signed sign.Open ∷ Number n ∷ Signed sign.Close ∷ []) (first, (second, (third, (t0, (t1, (t2, tt)))))) len in
     says ts (LoadMap d m) r same (refl, (n, value, all))
 
-map_value_says : (ts : List Token) (d : Reg) (r : Reading) → At ts 0 (reg Full64 d) → At ts 1 (Signed sign.Assign) → At ts 2 (Named word.MapValue) → map_value_loaded d ts ≡ Ok r → Says ts r
+map_value_says : (ts : List Token) (d : Reg) (r : Reading) → At ts 0 (reg Full64 d) → At ts 1 (Signed sign.Assign) → At ts 2 (Named word.MapValue) → map_value_loaded d ts ≡ Ok r → SaysSpelled ts r
 unfolding Spells
 map_value_says ts d r first second third h =
     let (u0, opens, h1) = bind (expect_at ts 3 sign.Open) _ r h in
@@ -231,7 +231,7 @@ map_value_says ts d r first second third h =
 
 -- ---- what begins with a register
 
-moved_word_says : (ts : List Token) (w : Width) (d : Reg) (x : Word) (r : Reading) → At ts 0 (reg w d) → At ts 1 (Signed sign.Assign) → At ts 2 (Named x) → moved_word w d ts x ≡ Ok r → Says ts r
+moved_word_says : (ts : List Token) (w : Width) (d : Reg) (x : Word) (r : Reading) → At ts 0 (reg w d) → At ts 1 (Signed sign.Assign) → At ts 2 (Named x) → moved_word w d ts x ≡ Ok r → SaysSpelled ts r
 moved_word_says ts Full64 d (word.Swapped order span) r first second third h = swapped_says ts order span d r first second third h
 moved_word_says ts Full64 d (word.Fetch o v) r first second third h = fetched_says ts o v d r first second third h
 moved_word_says ts Full64 d (word.Exchange v) r first second third h = exchanged_says ts v d r first second third h
@@ -240,7 +240,7 @@ moved_word_says ts Full64 d word.MapByIndex r first second third h = map_loaded_
 moved_word_says ts Full64 d word.MapValue r first second third h = map_value_says ts d r first second third h
 moved_word_says ts w d x r first second third h = arithmetic_says ts op.Mov w d r first second h
 
-moved_says : (ts : List Token) (w : Width) (d : Reg) (t : Token) (r : Reading) → At ts 0 (reg w d) → At ts 1 (Signed sign.Assign) → At ts 2 t → moved w d ts t ≡ Ok r → Says ts r
+moved_says : (ts : List Token) (w : Width) (d : Reg) (t : Token) (r : Reading) → At ts 0 (reg w d) → At ts 1 (Signed sign.Assign) → At ts 2 t → moved w d ts t ≡ Ok r → SaysSpelled ts r
 moved_says ts w d (Number n) r first second third h = number_says ts w d r first second (wide_at ts 3) refl h
 moved_says ts w d (Named x) r first second third h = moved_word_says ts w d x r first second third h
 moved_says ts w d (Signed sign.Minus) r first second third h = let (t, found, rest) = bind (token_at ts 3) (negated w d ts) r h in negated_says ts w d t r first second third rest
@@ -248,11 +248,11 @@ moved_says ts w d (Signed sign.Open) r first second third h = extended_says ts w
 moved_says ts w d (Signed sign.Star) r first second third h = loaded_says ts w d r first second h
 moved_says ts w d (Signed s) r first second third h = absurd (cc)
 
-assigned_by_says : (ts : List Token) (o : AluOp) (w : Width) (d : Reg) (r : Reading) → At ts 0 (reg w d) → At ts 1 (Signed (assigns o)) → assigned_by o w d ts ≡ Ok r → Says ts r
+assigned_by_says : (ts : List Token) (o : AluOp) (w : Width) (d : Reg) (r : Reading) → At ts 0 (reg w d) → At ts 1 (Signed (assigns o)) → assigned_by o w d ts ≡ Ok r → SaysSpelled ts r
 assigned_by_says ts op.Mov w d r first second h = let (t, found, rest) = bind (token_at ts 2) (moved w d ts) r h in moved_says ts w d t r first second (token ts 2 t found) rest
 assigned_by_says ts o w d r first second h = arithmetic_says ts o w d r first second h
 
-pub assigned_says : (ts : List Token) (w : Width) (d : Reg) (r : Reading) → At ts 0 (reg w d) → assigned w d ts ≡ Ok r → Says ts r
+pub assigned_says : (ts : List Token) (w : Width) (d : Reg) (r : Reading) → At ts 0 (reg w d) → assigned w d ts ≡ Ok r → SaysSpelled ts r
 assigned_says ts w d r first h =
     let (o, front, rest) = bind (sign_at ts 1 >>= op_of) _ r h in
     let (s, found, is) = bind (sign_at ts 1) op_of o front in

@@ -53,16 +53,16 @@ abbrev pub At : List Token → ℕ → Token → Type 0
 At ts i t = slice_get ts i ≡ Some t
 
 -- those tokens, from an index on
-abbrev pub Stands : List Token → ℕ → List Token → Type 0
-Stands ts i [] = Unit {0}
-Stands ts i (x ∷ xs) = At ts i x × Stands ts (suc i) xs
+abbrev pub HasTokensAt : List Token → ℕ → List Token → Type 0
+HasTokensAt ts i [] = Unit {0}
+HasTokensAt ts i (x ∷ xs) = At ts i x × HasTokensAt ts (suc i) xs
 
-shifted : (t : Token) (ts : List Token) (i : ℕ) (xs : List Token) → Stands (t ∷ ts) (suc i) xs → Stands ts i xs
+shifted : (t : Token) (ts : List Token) (i : ℕ) (xs : List Token) → HasTokensAt (t ∷ ts) (suc i) xs → HasTokensAt ts i xs
 shifted t ts i [] h = tt
 shifted t ts i (x ∷ xs) h = (h.0, shifted t ts (suc i) xs h.1)
 
 -- they are all
-pub whole : (ts xs : List Token) → Stands ts 0 xs → length ts ≡ length xs → ts ≡ xs
+pub whole : (ts xs : List Token) → HasTokensAt ts 0 xs → length ts ≡ length xs → ts ≡ xs
 whole [] [] h e = refl
 whole [] (x ∷ xs) h e = absurd (omega (arith, e))
 whole (t ∷ ts) [] h e = absurd (omega (arith, e))
@@ -71,8 +71,8 @@ whole (t ∷ ts) (x ∷ xs) h e =
     let rest = whole ts xs (shifted t ts 0 xs h.1) (omega (arith, e)) in
     ap (λ (y : Token). y ∷ ts) same ∙ ap (λ (ys : List Token). x ∷ ys) rest
 
-pub stands_more : (ts : List Token) (i j : ℕ) (xs ys : List Token) → j ≡ i + length xs → Stands ts i xs → Stands ts j ys → Stands ts i (xs ++ ys)
-stands_more ts i j [] ys e h k = let at : j ≡ i = omega (arith, e) in subst (λ n. Stands ts n ys) at k
+pub stands_more : (ts : List Token) (i j : ℕ) (xs ys : List Token) → j ≡ i + length xs → HasTokensAt ts i xs → HasTokensAt ts j ys → HasTokensAt ts i (xs ++ ys)
+stands_more ts i j [] ys e h k = let at : j ≡ i = omega (arith, e) in subst (λ n. HasTokensAt ts n ys) at k
 stands_more ts i j (x ∷ xs) ys e h k = (h.0, stands_more ts (suc i) j xs ys (omega (arith, e)) h.1 k)
 
 -- ---- single tokens
@@ -204,7 +204,7 @@ index_in i (Signed sign.Minus) p h =
 index_in i t p h = absurd (cc)
 
 -- N, and the index after it
-pub constant : (ts : List Token) (i : ℕ) (p : ℤ × ℕ) → constant_at ts i ≡ Ok p → (xs : List Token) × IsConstant xs p.0 × Stands ts i xs × (p.1 ≡ i + length xs)
+pub constant : (ts : List Token) (i : ℕ) (p : ℤ × ℕ) → constant_at ts i ≡ Ok p → (xs : List Token) × IsConstant xs p.0 × HasTokensAt ts i xs × (p.1 ≡ i + length xs)
 constant ts i p h =
     let behind : Bool × ℕ → Result (ℤ × ℕ) Wrong = λ (at : Bool × ℕ). number_at ts at.1 >>= signed_within (2 ^ 31) i at.0 >>= λ k. Ok (k, at.1 + 1) in
     let (at, front, rest) = bind (token_at ts i >>= number_index i) (λ (at : Bool × ℕ). number_at ts at.1 >>= signed_within (2 ^ 31) i at.0 >>= λ k. Ok (k, at.1 + 1)) p h in
@@ -232,7 +232,7 @@ constant ts i p h =
 -- ---- operands and places
 
 operand_constant : (w : Width) (ts : List Token) (i : ℕ) (x : Operand × ℕ) → (constant_at ts i >>= λ (k : ℤ × ℕ). let z : Result (Operand × ℕ) Wrong = Ok (Constant k.0, k.1) in z) ≡ Ok x
-    → (xs : List Token) × IsOperand w xs x.0 × Stands ts i xs × (x.1 ≡ i + length xs)
+    → (xs : List Token) × IsOperand w xs x.0 × HasTokensAt ts i xs × (x.1 ≡ i + length xs)
 operand_constant w ts i x h =
     let (k, is, pair) = bind (constant_at ts i) (λ (k : ℤ × ℕ). let z : Result (Operand × ℕ) Wrong = Ok (Constant k.0, k.1) in z) x h in
     let (xs, number, stands, past) = constant ts i k is in
@@ -243,7 +243,7 @@ operand_constant w ts i x h =
       ap (λ (q : Operand × ℕ). q.1) (sym same) ∙ past,
     )
 
-operand_of : (w : Width) (ts : List Token) (i : ℕ) (t : Token) (x : Operand × ℕ) → At ts i t → operand_token w ts i t ≡ Ok x → (xs : List Token) × IsOperand w xs x.0 × Stands ts i xs × (x.1 ≡ i + length xs)
+operand_of : (w : Width) (ts : List Token) (i : ℕ) (t : Token) (x : Operand × ℕ) → At ts i t → operand_token w ts i t ≡ Ok x → (xs : List Token) × IsOperand w xs x.0 × HasTokensAt ts i xs × (x.1 ≡ i + length xs)
 operand_of w ts i (Named y) x here h =
     let (r, is, pair) = bind (as_register w y) (λ (r : Reg). let z : Result (Operand × ℕ) Wrong = Ok (Register r, i + 1) in z) x h in
     let same : (let q : Operand × ℕ = (Register r, i + 1) in q) ≡ x = cc (pair) in (
@@ -255,7 +255,7 @@ operand_of w ts i (Named y) x here h =
 operand_of w ts i (Number m) x here h = operand_constant w ts i x h
 operand_of w ts i (Signed m) x here h = operand_constant w ts i x h
 
-pub operand : (w : Width) (ts : List Token) (i : ℕ) (x : Operand × ℕ) → operand_at w ts i ≡ Ok x → (xs : List Token) × IsOperand w xs x.0 × Stands ts i xs × (x.1 ≡ i + length xs)
+pub operand : (w : Width) (ts : List Token) (i : ℕ) (x : Operand × ℕ) → operand_at w ts i ≡ Ok x → (xs : List Token) × IsOperand w xs x.0 × HasTokensAt ts i xs × (x.1 ≡ i + length xs)
 operand w ts i x h = let (t, here, is) = bind (token_at ts i) (operand_token w ts i) x h in operand_of w ts i t x (token ts i t here) is
 
 -- R + n or R - n

@@ -38,16 +38,16 @@ use Rattle.branch_refine.specs.Comparing.{bytes_before, packet_by, with_end, wit
 -- ---- what an outcome says
 
 -- under the assignment
-abbrev pub Says : Assigned → Compared → Bool → Type 0
-Says e (sort.Packet identity shows bytes) taken = taken ≡ shows → IsProved e identity bytes
-Says e (OrNull identity null) taken = IsNull (e.value identity) (same taken null)
-Says e (Live null) taken = same taken null ≡ false
-Says e c taken = Unit {0}
+abbrev pub SaysUnder : Assigned → Compared → Bool → Type 0
+SaysUnder e (sort.Packet identity shows bytes) taken = taken ≡ shows → IsProved e identity bytes
+SaysUnder e (OrNull identity null) taken = IsNull (e.value identity) (same taken null)
+SaysUnder e (Live null) taken = same taken null ≡ false
+SaysUnder e c taken = Unit {0}
 
 -- there is one, and it says that
-abbrev pub Outcome : Assigned → Compared → Result Bool TrapReason → Type 0
-Outcome e Undefined went = Unit {0}
-Outcome e c went = (taken : Bool) × (went ≡ Ok taken) × Says e c taken
+abbrev pub OutcomeIs : Assigned → Compared → Result Bool TrapReason → Type 0
+OutcomeIs e Undefined went = Unit {0}
+OutcomeIs e c went = (taken : Bool) × (went ≡ Ok taken) × SaysUnder e c taken
 
 -- ---- a packet pointer and the packet end
 
@@ -59,7 +59,7 @@ not_below : (a b : ℤ) → int_lt b a ≡ false → a ≤ℤ b
 not_below a b h = grind (arith, ints)
 
 packet_outcome : (e : Assigned) (c : Comparison) (i : ℕ) (fixed : ℤ)
-    → Outcome e (packet_by c i fixed) (packet_order c (fixed +ℤ e.offset i) (pos e.packet_length))
+    → OutcomeIs e (packet_by c i fixed) (packet_order c (fixed +ℤ e.offset i) (pos e.packet_length))
 packet_outcome e Greater i fixed =
     (int_lt (pos e.packet_length) (fixed +ℤ e.offset i), refl, λ says. before fixed (e.offset i) e.packet_length (grind (arith, ints)))
 packet_outcome e GreaterEqual i fixed =
@@ -79,21 +79,21 @@ turned LessEqual a b = refl
 turned c a b = refl
 
 end_outcome : (e : Assigned) (c : Comparison) (i : ℕ) (fixed : ℤ) (k : Kind) (u v : Value) → u ≡ Ptr region.Packet (fixed +ℤ e.offset i)
-    → Allows e k v → Outcome e (with_end c i fixed k) (compared e.packet_length c Full64 u v)
+    → Allows e k v → OutcomeIs e (with_end c i fixed k) (compared e.packet_length c Full64 u v)
 end_outcome e c i fixed PacketEnd u v at h = rw (at, h) (packet_outcome e c i fixed)
 end_outcome e c i fixed k u v at h = tt
 
 turned_outcome : (e : Assigned) (c : Comparison) (k : Kind) (u v : Value) → u ≡ Ptr region.PacketEnd (pos 0) → Allows e k v
-    → Outcome e (with_packet c k) (compared e.packet_length c Full64 u v)
+    → OutcomeIs e (with_packet c k) (compared e.packet_length c Full64 u v)
 turned_outcome e c (Packet fixed i least greatest proved) u v at h =
     let points = h.points in
     rw (at, points)
-    (subst (Outcome e (packet_by (exchanged c) i fixed)) (sym (turned c (fixed +ℤ e.offset i) (pos e.packet_length)))
+    (subst (OutcomeIs e (packet_by (exchanged c) i fixed)) (sym (turned c (fixed +ℤ e.offset i) (pos e.packet_length)))
     (packet_outcome e (exchanged c) i fixed))
 turned_outcome e c k u v at h = tt
 
 pointers_outcome : (e : Assigned) (c : Comparison) (j k : Kind) (u v : Value) → Allows e j u → Allows e k v
-    → Outcome e (pointers_by c j k) (compared e.packet_length c Full64 u v)
+    → OutcomeIs e (pointers_by c j k) (compared e.packet_length c Full64 u v)
 pointers_outcome e c (Packet fixed i least greatest proved) k u v left right = end_outcome e c i fixed k u v left.points right
 pointers_outcome e c PacketEnd k u v left right = turned_outcome e c k u v left right
 pointers_outcome e c j k u v left right = tt
@@ -112,32 +112,32 @@ unfolding holds
 or_null_unequal e m None u h = (false, rw h refl, refl)
 or_null_unequal e m (Some n) u h = let points = h.0 in (true, rw points refl, refl)
 
-equal_outcome : (e : Assigned) (k : Kind) (u : Value) → Allows e k u → Outcome e (null_by true k) (compared_constant Equal Full64 u (pos 0))
+equal_outcome : (e : Assigned) (k : Kind) (u : Value) → Allows e k u → OutcomeIs e (null_by true k) (compared_constant Equal Full64 u (pos 0))
 equal_outcome e (MapValueOrNull m i) u h = or_null_equal e m (e.value i) u h
 equal_outcome e (MapValue m least greatest) u h = let points = h.points in (false, rw points refl, refl)
 equal_outcome e k u h = tt
 
-unequal_outcome : (e : Assigned) (k : Kind) (u : Value) → Allows e k u → Outcome e (null_by false k) (compared_constant NotEqual Full64 u (pos 0))
+unequal_outcome : (e : Assigned) (k : Kind) (u : Value) → Allows e k u → OutcomeIs e (null_by false k) (compared_constant NotEqual Full64 u (pos 0))
 unequal_outcome e (MapValueOrNull m i) u h = or_null_unequal e m (e.value i) u h
 unequal_outcome e (MapValue m least greatest) u h = let points = h.points in (true, rw points refl, refl)
 unequal_outcome e k u h = tt
 
-zero_outcome : (e : Assigned) (c : Comparison) (k : Kind) (u : Value) → Allows e k u → Outcome e (zero_by c k) (compared_constant c Full64 u (pos 0))
+zero_outcome : (e : Assigned) (c : Comparison) (k : Kind) (u : Value) → Allows e k u → OutcomeIs e (zero_by c k) (compared_constant c Full64 u (pos 0))
 zero_outcome e Equal k u h = equal_outcome e k u h
 zero_outcome e NotEqual k u h = unequal_outcome e k u h
 zero_outcome e c k u h = tt
 
 if_zero_outcome : (e : Assigned) (c : Comparison) (k : Kind) (u : Value) (n : ℕ) (b : Bool) → (n == 0) ≡ b → Allows e k u
-    → Outcome e (if b then zero_by c k else Undefined) (compared_constant c Full64 u (pos n))
+    → OutcomeIs e (if b then zero_by c k else Undefined) (compared_constant c Full64 u (pos n))
 if_zero_outcome e c k u n true is h =
     let none : n ≡ 0 = grind (arith, nat_tests) in
-    subst (λ n. Outcome e (zero_by c k) (compared_constant c Full64 u (pos n))) (sym none) (zero_outcome e c k u h)
+    subst (λ n. OutcomeIs e (zero_by c k) (compared_constant c Full64 u (pos n))) (sym none) (zero_outcome e c k u h)
 if_zero_outcome e c k u n false is h = tt
 
 -- ---- all comparisons
 
 number_outcome : (e : Assigned) (c : Comparison) (w : Width) (numbers : Scalar) (k : Kind) (u v : Value) → Allows e (Number numbers) u → Allows e k v
-    → Outcome e (with_number k) (compared e.packet_length c w u v)
+    → OutcomeIs e (with_number k) (compared e.packet_length c w u v)
 number_outcome e c w numbers (Number others) u v left right =
     let (x, x_is, x_has) = left in
     let (y, y_is, y_has) = right in
@@ -145,13 +145,13 @@ number_outcome e c w numbers (Number others) u v left right =
 number_outcome e c w numbers k u v left right = tt
 
 registers_outcome : (e : Assigned) (c : Comparison) (w : Width) (j k : Kind) (u v : Value) → Allows e j u → Allows e k v
-    → Outcome e (registers_by c w j k) (compared e.packet_length c w u v)
+    → OutcomeIs e (registers_by c w j k) (compared e.packet_length c w u v)
 registers_outcome e c w (Number numbers) k u v left right = number_outcome e c w numbers k u v left right
 registers_outcome e c Full64 j k u v left right = pointers_outcome e c j k u v left right
 registers_outcome e c Low32 j k u v left right = tt
 
 constant_outcome : (e : Assigned) (c : Comparison) (w : Width) (k : Kind) (n : ℤ) (u : Value) → Allows e k u
-    → Outcome e (constant_by c w k n) (compared_constant c w u n)
+    → OutcomeIs e (constant_by c w k n) (compared_constant c w u n)
 constant_outcome e c w (Number numbers) n u h =
     let (x, x_is, x_has) = h in
     (holds c w x (unsigned w n), rw x_is refl, tt)
@@ -159,21 +159,21 @@ constant_outcome e c Full64 k (pos n) u h = if_zero_outcome e c k u n (n == 0) r
 constant_outcome e c w k n u h = tt
 
 operand_outcome : (p : Program) (e : Assigned) (a : State) (s : Machine.State) (cond : Cond) (operand : Operand) → MeansBy p e a s
-    → Outcome e (operand_by a cond operand) (tested s cond operand)
+    → OutcomeIs e (operand_by a cond operand) (tested s cond operand)
 operand_outcome p e a s cond (Constant n) m =
     constant_outcome e cond.comparison cond.width (kind_of a cond.register) n (reg s cond.register) (reg_allowed p e a s m cond.register)
 operand_outcome p e a s cond (Register r) m =
-    subst (λ n. Outcome e (registers_by cond.comparison cond.width (kind_of a cond.register) (kind_of a r))
+    subst (λ n. OutcomeIs e (registers_by cond.comparison cond.width (kind_of a cond.register) (kind_of a r))
     (compared n cond.comparison cond.width (reg s cond.register) (reg s r))) m.assigned.length_is
     (registers_outcome e cond.comparison cond.width (kind_of a cond.register) (kind_of a r) (reg s cond.register) (reg s r)
     (reg_allowed p e a s m cond.register) (reg_allowed p e a s m r))
 
 -- what the test of a machine state that is meant says
 pub test-outcome : (p : Program) (e : Assigned) (a : State) (s : Machine.State) (cond : Cond) → MeansBy p e a s
-    → Outcome e (compared_by a cond) (test_of s cond)
+    → OutcomeIs e (compared_by a cond) (test_of s cond)
 test-outcome p e a s cond m = operand_outcome p e a s cond cond.operand m
 
-has_outcome : (e : Assigned) (c : Compared) (went : Result Bool TrapReason) → IsDefined c → Outcome e c went
+has_outcome : (e : Assigned) (c : Compared) (went : Result Bool TrapReason) → IsDefined c → OutcomeIs e c went
     → (taken : Bool) × (went ≡ Ok taken)
 has_outcome e Undefined went is h = absurd is
 has_outcome e c went is h = (h.0, h.1)
@@ -184,10 +184,10 @@ pub test-defined : (p : Program) (e : Assigned) (a : State) (s : Machine.State) 
 test-defined p e a s cond is m = has_outcome e (compared_by a cond) (test_of s cond) is (test-outcome p e a s cond m)
 
 -- an outcome says that
-pub Outcome-says : (e : Assigned) (c : Compared) (went : Result Bool TrapReason) (taken : Bool) → went ≡ Ok taken → Outcome e c went
-    → Says e c taken
-Outcome-says e Undefined went taken is h = tt
-Outcome-says e c went taken is h =
+pub OutcomeIs-says : (e : Assigned) (c : Compared) (went : Result Bool TrapReason) (taken : Bool) → went ≡ Ok taken → OutcomeIs e c went
+    → SaysUnder e c taken
+OutcomeIs-says e Undefined went taken is h = tt
+OutcomeIs-says e c went taken is h =
     let both : Ok h.0 ≡ Ok taken = sym h.1 ∙ is in
     let one : h.0 ≡ taken = cc in
-    subst (Says e c) one h.2
+    subst (SaysUnder e c) one h.2

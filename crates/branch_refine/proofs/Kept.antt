@@ -24,7 +24,7 @@ use Rattle.stack_state.specs.Meaning.{MeansBy}
 use Rattle.stack_state.specs.Places.{kind_of, with_register}
 use Rattle.stack_state.proofs.MeaningLaws.{reg_allowed, MeansBy-narrow}
 use Rattle.stack_state.proofs.PlaceLaws.{same_or_other, kind_of-with_same, kind_of-with_other}
-use Rattle.branch_refine.specs.Refining.{IsNumber, IsNumberOperand, IsJust, IsJustOperand, Keeps, Narrows, KeepsOthers}
+use Rattle.branch_refine.specs.Refining.{IsNumberKind, IsNumberOperand, IsJust, IsJustOperand, KeepsMembers, Narrows, KeepsOthers}
 use Rattle.branch_refine.specs.Numbers.{numbers_in, AreNumbersOf, with_operand, with_compared}
 
 -- ---- numbers and kinds
@@ -34,7 +34,7 @@ kind_is (Number m) numbers h = cc
 kind_is k numbers h = absurd (cc)
 
 -- where no numbers are known there is no number
-pub no_number : (k : Kind) → None ≡ numbers_in k → IsNumber k → ⊥
+pub no_number : (k : Kind) → None ≡ numbers_in k → IsNumberKind k → ⊥
 no_number (Number m) h is = absurd (cc)
 no_number k h is = is
 
@@ -121,17 +121,17 @@ compared p e a s cond left right taken is_left is_right m says =
 
 -- ---- what is kept
 
-pub Keeps-same : (cond : Cond) (taken : Bool) (a : State) → Keeps cond taken a true a
-unfolding Keeps
-Keeps-same cond taken a = λ p e s m says. (refl, m)
+pub KeepsMembers-same : (cond : Cond) (taken : Bool) (a : State) → KeepsMembers cond taken a true a
+unfolding KeepsMembers
+KeepsMembers-same cond taken a = λ p e s m says. (refl, m)
 
 -- the numbers that are left for members that go this way
-pub Keeps-compared : (cond : Cond) (taken : Bool) (a : State) (left right new_left new_right : Scalar)
+pub KeepsMembers-compared : (cond : Cond) (taken : Bool) (a : State) (left right new_left new_right : Scalar)
     → Some left ≡ numbers_in (kind_of a cond.register) → AreNumbersOf a cond.width cond.operand (Some right)
     → ((x y : ℕ) → Has left x → Has right y → holds cond.comparison cond.width x y ≡ taken → Has new_left x × Has new_right y)
-    → Keeps cond taken a true (with_compared a cond new_left new_right)
-unfolding Keeps
-Keeps-compared cond taken a left right new_left new_right is_left is_right common = λ p e s m says.
+    → KeepsMembers cond taken a true (with_compared a cond new_left new_right)
+unfolding KeepsMembers
+KeepsMembers-compared cond taken a left right new_left new_right is_left is_right common = λ p e s m says.
     let c = compared p e a s cond left right taken is_left is_right m says in
     let both = common c.x c.y c.left_has c.right_has c.outcome in
     let first : MeansBy p e (with_register a cond.register (Number new_left)) s =
@@ -142,12 +142,12 @@ Keeps-compared cond taken a left right new_left new_right is_left is_right commo
     )
 
 -- no member goes this way
-pub Keeps-none : (cond : Cond) (taken : Bool) (a : State) (left right : Scalar)
+pub KeepsMembers-none : (cond : Cond) (taken : Bool) (a : State) (left right : Scalar)
     → Some left ≡ numbers_in (kind_of a cond.register) → AreNumbersOf a cond.width cond.operand (Some right)
     → ((x y : ℕ) → Has left x → Has right y → holds cond.comparison cond.width x y ≡ taken → ⊥)
-    → Keeps cond taken a false a
-unfolding Keeps
-Keeps-none cond taken a left right is_left is_right none = λ p e s m says.
+    → KeepsMembers cond taken a false a
+unfolding KeepsMembers
+KeepsMembers-none cond taken a left right is_left is_right none = λ p e s m says.
     let c = compared p e a s cond left right taken is_left is_right m says in
     absurd (none c.x c.y c.left_has c.right_has c.outcome)
 

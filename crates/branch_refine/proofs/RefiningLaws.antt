@@ -24,8 +24,8 @@ use Rattle.branch_refine.specs.declared.comparing.Compared.{Compared}
 use Rattle.branch_refine.specs.declared.comparing.Compared.TheVariants as sort
 use Rattle.branch_refine.specs.declared.comparing.Compared.TheVariants.{Numbers, OrNull, Live, Undefined}
 use Rattle.branch_refine.specs.Comparing.{packet_by, with_end, with_packet, null_by, zero_by, with_number, pointers_by, registers_by, constant_by, operand_by, compared_by, same}
-use Rattle.branch_refine.proofs.ComparingLaws.{Says, test-outcome, Outcome-says}
-use Rattle.branch_refine.specs.Refining.{IsNumber, IsNumberOperand, IsJust, IsJustOperand, AreCompared, Keeps, Leaves, Refines}
+use Rattle.branch_refine.proofs.ComparingLaws.{SaysUnder, test-outcome, OutcomeIs-says}
+use Rattle.branch_refine.specs.Refining.{IsNumberKind, IsNumberOperand, IsJust, IsJustOperand, AreCompared, KeepsMembers, LearnsOf, Refines}
 
 -- ---- what is kept
 
@@ -59,7 +59,7 @@ packet_kept p e a s i n taken shows true is says m = MeansBy-proves p e a s i n 
 packet_kept p e a s i n taken shows false is says m = m
 
 pointers_kept : (p : Program) (e : Assigned) (a : State) (s : Machine.State) (c : Compared) (taken some : Bool) (b : State) → c ≢ Numbers
-    → Leaves c taken a some b → Says e c taken → MeansBy p e a s → IsTrue some × MeansBy p e b s
+    → LearnsOf c taken a some b → SaysUnder e c taken → MeansBy p e a s → IsTrue some × MeansBy p e b s
 pointers_kept p e a s Numbers taken some b other h says m = absurd (other refl)
 pointers_kept p e a s (sort.Packet i shows n) taken some b other h says m =
     (h.0, subst (λ b. MeansBy p e b s) (sym h.1) (packet_kept p e a s i n taken shows (same taken shows) refl says m))
@@ -69,25 +69,25 @@ pointers_kept p e a s (OrNull i null) taken some b other h says m =
 pointers_kept p e a s (Live null) taken some b other h says m = (h.0 ∙ ap not says, subst (λ b. MeansBy p e b s) (sym h.1) m)
 pointers_kept p e a s Undefined taken some b other h says m = (h.0, subst (λ b. MeansBy p e b s) (sym h.1) m)
 
-pub Keeps-pointers : (cond : Cond) (taken : Bool) (a : State) (some : Bool) (b : State) → compared_by a cond ≢ Numbers
-    → Leaves (compared_by a cond) taken a some b → Keeps cond taken a some b
-unfolding Keeps
-Keeps-pointers cond taken a some b other h = λ p e s m says.
+pub KeepsMembers-pointers : (cond : Cond) (taken : Bool) (a : State) (some : Bool) (b : State) → compared_by a cond ≢ Numbers
+    → LearnsOf (compared_by a cond) taken a some b → KeepsMembers cond taken a some b
+unfolding KeepsMembers
+KeepsMembers-pointers cond taken a some b other h = λ p e s m says.
     pointers_kept p e a s (compared_by a cond) taken some b other h
-    (Outcome-says e (compared_by a cond) (test_of s cond) taken says (test-outcome p e a s cond m)) m
+    (OutcomeIs-says e (compared_by a cond) (test_of s cond) taken says (test-outcome p e a s cond m)) m
 
 -- ---- two numbers
 
-registers-numbers : (c : Comparison) (w : Width) (j k : Kind) → IsNumber j → IsNumber k → registers_by c w j k ≡ Numbers
+registers-numbers : (c : Comparison) (w : Width) (j k : Kind) → IsNumberKind j → IsNumberKind k → registers_by c w j k ≡ Numbers
 registers-numbers c w (Number x) (Number y) left right = refl
 registers-numbers c w (Number x) k left right = absurd right
 registers-numbers c w j k left right = absurd left
 
-constant-numbers : (c : Comparison) (w : Width) (k : Kind) (n : ℤ) → IsNumber k → constant_by c w k n ≡ Numbers
+constant-numbers : (c : Comparison) (w : Width) (k : Kind) (n : ℤ) → IsNumberKind k → constant_by c w k n ≡ Numbers
 constant-numbers c w (Number x) n is = refl
 constant-numbers c w k n is = absurd is
 
-operand-numbers : (a : State) (cond : Cond) (operand : Operand) → IsNumber (kind_of a cond.register) → IsNumberOperand a operand
+operand-numbers : (a : State) (cond : Cond) (operand : Operand) → IsNumberKind (kind_of a cond.register) → IsNumberOperand a operand
     → operand_by a cond operand ≡ Numbers
 operand-numbers a cond (Constant n) left right = constant-numbers cond.comparison cond.width (kind_of a cond.register) n left
 operand-numbers a cond (Register r) left right =
@@ -118,11 +118,11 @@ pointers_no_numbers c (Packet fixed i least greatest proved) k = end_no_numbers 
 pointers_no_numbers c PacketEnd k = turned_no_numbers c k
 pointers_no_numbers c j k = λ h. absurd (cc)
 
-with_numbers : (k : Kind) → with_number k ≡ Numbers → IsNumber k
+with_numbers : (k : Kind) → with_number k ≡ Numbers → IsNumberKind k
 with_numbers (Number x) h = tt
 with_numbers k h = absurd (cc)
 
-registers_are : (c : Comparison) (w : Width) (j k : Kind) → registers_by c w j k ≡ Numbers → IsNumber j × IsNumber k
+registers_are : (c : Comparison) (w : Width) (j k : Kind) → registers_by c w j k ≡ Numbers → IsNumberKind j × IsNumberKind k
 registers_are c w (Number x) k h = (tt, with_numbers k h)
 registers_are c Full64 j k h = absurd (pointers_no_numbers c j k h)
 registers_are c Low32 j k h = absurd (cc)
@@ -141,13 +141,13 @@ if_no_numbers : (b : Bool) (c : Comparison) (k : Kind) → (if b then zero_by c 
 if_no_numbers true c k = zero_no_numbers c k
 if_no_numbers false c k = λ h. absurd (cc)
 
-constant_is : (c : Comparison) (w : Width) (k : Kind) (n : ℤ) → constant_by c w k n ≡ Numbers → IsNumber k
+constant_is : (c : Comparison) (w : Width) (k : Kind) (n : ℤ) → constant_by c w k n ≡ Numbers → IsNumberKind k
 constant_is c w (Number x) n h = tt
 constant_is c Full64 k (pos n) h = absurd (if_no_numbers (n == 0) c k h)
 constant_is c w k n h = absurd (cc)
 
 operands_are : (a : State) (cond : Cond) (operand : Operand) → operand_by a cond operand ≡ Numbers
-    → IsNumber (kind_of a cond.register) × IsNumberOperand a operand
+    → IsNumberKind (kind_of a cond.register) × IsNumberOperand a operand
 operands_are a cond (Constant n) h = (constant_is cond.comparison cond.width (kind_of a cond.register) n h, tt)
 operands_are a cond (Register r) h = registers_are cond.comparison cond.width (kind_of a cond.register) (kind_of a r) h
 
@@ -156,7 +156,7 @@ numbers-compared_by a cond h = operands_are a cond cond.operand h
 
 -- ---- all that is promised
 
-is_number : (k : Kind) (x : ℕ) → IsJust k x → IsNumber k
+is_number : (k : Kind) (x : ℕ) → IsJust k x → IsNumberKind k
 is_number (Number numbers) x h = tt
 is_number k x h = absurd h
 
@@ -164,7 +164,7 @@ is_number_operand : (a : State) (w : Width) (operand : Operand) (y : ℕ) → Is
 is_number_operand a w (Constant n) y h = tt
 is_number_operand a w (Register r) y h = is_number (kind_of a r) y h
 
-stays : (c : Compared) (taken : Bool) (a : State) (some : Bool) (b : State) → c ≢ Numbers → Leaves c taken a some b → some ≡ false → b ≡ a
+stays : (c : Compared) (taken : Bool) (a : State) (some : Bool) (b : State) → c ≢ Numbers → LearnsOf c taken a some b → some ≡ false → b ≡ a
 stays Numbers taken a some b other h none = absurd (other refl)
 stays (sort.Packet i shows n) taken a some b other h none = absurd (cc h.0)
 stays (OrNull i null) taken a some b other h none = absurd (cc h.0)
@@ -172,11 +172,11 @@ stays (Live null) taken a some b other h none = h.1
 stays Undefined taken a some b other h none = h.1
 
 pub Refines-pointers : (cond : Cond) (taken : Bool) (a : State) (some : Bool) (b : State) → compared_by a cond ≢ Numbers
-    → Leaves (compared_by a cond) taken a some b → Refines cond taken a some b
+    → LearnsOf (compared_by a cond) taken a some b → Refines cond taken a some b
 Refines-pointers cond taken a some b other h =
     let no : AreCompared a cond → ⊥ = λ both. other (compared_by-numbers a cond both) in
     record {
-      kept = Keeps-pointers cond taken a some b other h;
+      kept = KeepsMembers-pointers cond taken a some b other h;
       never = stays (compared_by a cond) taken a some b other h;
       narrowed = λ both. absurd (no both);
       others = λ both. absurd (no both);

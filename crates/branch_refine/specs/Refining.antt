@@ -15,7 +15,7 @@ use Rattle.reg_state.specs.declared.kinds.Kind.{Kind}
 use Rattle.reg_state.specs.declared.kinds.Kind.TheVariants.{Number}
 use Rattle.reg_state.specs.declared.scalars.Scalar.{Scalar}
 use Rattle.reg_state.specs.Scalars.{Has, IsConstant}
-use Rattle.reg_state.specs.Shown.{Shows}
+use Rattle.reg_state.specs.Shown.{NarrowsBoth}
 use Rattle.reg_state.specs.Kinds.{Assigned, Allows}
 use Rattle.stack_state.specs.declared.states.State.{State}
 use Rattle.stack_state.specs.Meaning.{MeansBy}
@@ -30,9 +30,9 @@ use Rattle.branch_refine.specs.declared.Branch.TheVariants.{Never, Goes}
 
 -- ---- numbers
 
-abbrev pub IsNumber : Kind → Type 0
-IsNumber (Number numbers) = Unit {0}
-IsNumber k = ⊥
+abbrev pub IsNumberKind : Kind → Type 0
+IsNumberKind (Number numbers) = Unit {0}
+IsNumberKind k = ⊥
 
 -- the one number, written as a constant
 abbrev pub IsJust : Kind → ℕ → Type 0
@@ -42,7 +42,7 @@ IsJust k x = ⊥
 -- a constant of the instruction is a number
 abbrev pub IsNumberOperand : State → Operand → Type 0
 IsNumberOperand a (Constant k) = Unit {0}
-IsNumberOperand a (Register r) = IsNumber (kind_of a r)
+IsNumberOperand a (Register r) = IsNumberKind (kind_of a r)
 
 abbrev pub IsJustOperand : State → Width → Operand → ℕ → Type 0
 IsJustOperand a w (Constant k) y = y ≡ unsigned w k
@@ -50,14 +50,14 @@ IsJustOperand a w (Register r) y = IsJust (kind_of a r) y
 
 -- two numbers are compared
 abbrev pub AreCompared : State → Cond → Type 0
-AreCompared a cond = IsNumber (kind_of a cond.register) × IsNumberOperand a cond.operand
+AreCompared a cond = IsNumberKind (kind_of a cond.register) × IsNumberOperand a cond.operand
 
 -- ---- what is kept
 
 -- each member that goes this way is still one, under the same assignment; if the state has no
 -- members left, no member goes this way
-unfoldable pub Keeps : Cond → Bool → State → Bool → State → Type 0
-Keeps cond taken a some b =
+unfoldable pub KeepsMembers : Cond → Bool → State → Bool → State → Type 0
+KeepsMembers cond taken a some b =
     (p : Program) (e : Assigned) (s : Machine.State) → MeansBy p e a s → test_of s cond ≡ Ok taken
     → IsTrue some × MeansBy p e b s
 
@@ -86,7 +86,7 @@ pub record Refined (cond : Cond) (taken : Bool) (a b : State) : Type 0 where
   pub new_right : Scalar
   pub left_is : Some left ≡ numbers_in (kind_of a cond.register)
   pub right_is : AreNumbersOf a cond.width cond.operand (Some right)
-  pub shows : Shows cond.comparison cond.width taken left right new_left new_right
+  pub shows : NarrowsBoth cond.comparison cond.width taken left right new_left new_right
   pub new : b ≡ with_compared a cond new_left new_right
 
 -- ---- pointers
@@ -97,17 +97,17 @@ IsTested identity null a b = (zero : Scalar) × Has zero 0 × IsConstant zero 0 
 
 -- what is known of every copy of an identity once the test comes out this way; where the outcome shows nothing, the state
 -- stays as it is
-abbrev pub Leaves : Compared → Bool → State → Bool → State → Type 0
-Leaves Numbers taken a some b = Unit {0}
-Leaves (Packet identity shows bytes) taken a some b =
+abbrev pub LearnsOf : Compared → Bool → State → Bool → State → Type 0
+LearnsOf Numbers taken a some b = Unit {0}
+LearnsOf (Packet identity shows bytes) taken a some b =
     IsTrue some × (b ≡ (if same taken shows then map_kinds (proved_kind identity bytes) a else a))
-Leaves (OrNull identity null) taken a some b = IsTrue some × IsTested identity (same taken null) a b
-Leaves (Live null) taken a some b = (some ≡ not (same taken null)) × (b ≡ a)
-Leaves Undefined taken a some b = IsTrue some × (b ≡ a)
+LearnsOf (OrNull identity null) taken a some b = IsTrue some × IsTested identity (same taken null) a b
+LearnsOf (Live null) taken a some b = (some ≡ not (same taken null)) × (b ≡ a)
+LearnsOf Undefined taken a some b = IsTrue some × (b ≡ a)
 
 -- all that is promised of the state that is left: b, where some member goes this way
 pub record Refines (cond : Cond) (taken : Bool) (a : State) (some : Bool) (b : State) : Type 0 where
-  pub kept : Keeps cond taken a some b
+  pub kept : KeepsMembers cond taken a some b
   pub never : some ≡ false → b ≡ a
   pub narrowed : AreCompared a cond → Narrows a b
   pub others : AreCompared a cond → KeepsOthers cond a b
@@ -118,7 +118,7 @@ pub record Refines (cond : Cond) (taken : Bool) (a : State) (some : Bool) (b : S
   pub constants_go : (x y : ℕ) → IsJust (kind_of a cond.register) x → IsJustOperand a cond.width cond.operand y
       → holds cond.comparison cond.width x y ≡ taken → IsTrue some
   -- no numbers
-  pub pointers : Leaves (compared_by a cond) taken a some b
+  pub pointers : LearnsOf (compared_by a cond) taken a some b
 
 -- ---- branches
 

@@ -4,11 +4,11 @@
 ghost use Rattle.std.specs.Prelude.{◌≡◌, ◌≢◌, ℕ, ◌<◌, ◌^◌, IsTrue, false, None, IfSome, IsSome};
 ghost use Rattle.isa_model.specs.Code.Numbers.{holds};
 ghost use Rattle.reg_state.specs.Scalars.{Has, IsConstant};
-ghost use Rattle.reg_state.specs.Shown.{Shows};
+ghost use Rattle.reg_state.specs.Shown.{NarrowsBoth};
 ghost use Rattle.stack_state.specs.Places.{kind_of};
 ghost use Rattle.stack_state.specs.declared.states.State.{State as TheState};
 ghost use Rattle.isa_model.specs.declared.instructions.Cond.{Cond as TheCond};
-ghost use Rattle.branch_refine.specs.Refining.{IsJust, IsJustOperand, AreCompared, Keeps, Narrows, KeepsOthers, Refined, Leaves, Refines, IsRefined};
+ghost use Rattle.branch_refine.specs.Refining.{IsJust, IsJustOperand, AreCompared, KeepsMembers, Narrows, KeepsOthers, Refined, LearnsOf, Refines, IsRefined};
 ghost use Rattle.branch_refine.specs.Comparing.{same};
 ghost use Rattle.branch_refine.specs.Leaving.{goes, left_in, MayBePut};
 
@@ -58,7 +58,7 @@ pub fn outcome_of(cond: Cond, taken: bool, state: &State) -> Outcome
 // The same, where pointers are compared.
 fn pointers_outcome(compared: Compared, taken: bool) -> Outcome
     ensures leaves { (a : TheState) → (cond : TheCond)
-        → Leaves compared taken a (goes result) (left_in cond a result) }
+        → LearnsOf compared taken a (goes result) (left_in cond a result) }
     ensures put { (cond : TheCond) → MayBePut cond result }
 {
     match compared {
@@ -99,7 +99,7 @@ fn is_same(taken: bool, outcome: bool) -> bool
 
 // The same, where two numbers are compared; else nothing is shown.
 fn numbers_outcome(cond: Cond, taken: bool, state: &State) -> Outcome
-    ensures kept { Keeps cond taken state.now (goes result) (left_in cond state.now result) }
+    ensures kept { KeepsMembers cond taken state.now (goes result) (left_in cond state.now result) }
     ensures narrowed { Narrows state.now (left_in cond state.now result) }
     ensures others { KeepsOthers cond state.now (left_in cond state.now result) }
     ensures shown { AreCompared state.now cond → IsTrue (goes result)
@@ -127,7 +127,7 @@ fn numbers_outcome(cond: Cond, taken: bool, state: &State) -> Outcome
 
 // What the comparison leaves of two numbers.
 fn narrowed(cond: Cond, taken: bool, left: Scalar, right: Scalar) -> Option<(Scalar, Scalar)>
-    ensures shows { IfSome result (λ p. Shows cond.comparison cond.width taken left right p.0 p.1) }
+    ensures shows { IfSome result (λ p. NarrowsBoth cond.comparison cond.width taken left right p.0 p.1) }
     ensures none { result ≡ None → (x y : ℕ) → Has left x → Has right y
         → holds cond.comparison cond.width x y ≢ taken }
     ensures stays { (x y : ℕ) → x < 2 ^ 64 → y < 2 ^ 64 → IsConstant left x → IsConstant right y

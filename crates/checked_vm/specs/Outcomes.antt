@@ -19,5 +19,5 @@ IsStep clock wanted AsksTime old new = (wanted ≡ Next (after_time clock old)) 
 IsStep clock wanted (Stopped reason) old new = (wanted ≡ Trapped reason) × (new ≡ old)
 
 -- a clock that has been asked so often answers next what c says
-abbrev pub Answers : (ℕ → ℕ) → ℕ → (ℕ → ℕ) → Type 0
-Answers c calls clock = (k : ℕ) → clock k ≡ c (calls + k)
+abbrev pub ClockAnswers : (ℕ → ℕ) → ℕ → (ℕ → ℕ) → Type 0
+ClockAnswers c calls clock = (k : ℕ) → clock k ≡ c (calls + k)

@@ -8,7 +8,7 @@ ghost use Rattle.isa_model.specs.Machine.Steps.{step};
 ghost use Rattle.isa_model.specs.Running.Runs.{progress, turn_of, left, turn, start_state};
 ghost use Rattle.checked_vm.specs.Machine.{state_of, NamesAllRows, IsRunning, StaysRunning};
 ghost use Rattle.checked_vm.specs.declared.steps.Stepped.{Stepped};
-ghost use Rattle.checked_vm.specs.Outcomes.{IsStep, Answers};
+ghost use Rattle.checked_vm.specs.Outcomes.{IsStep, ClockAnswers};
 ghost use Rattle.checked_vm.specs.Stops.{state_at};
 
 use crate::core_state::Core;
@@ -51,11 +51,11 @@ impl Core {
         ensures serial { self.new.maps.next_serial ≤ self.old.maps.next_serial + 1 }
         ensures calls { self.new.clock_calls ≤ self.old.clock_calls + 1 }
         ensures answered { result ≢ Stepped.AsksTime }
-        ensures clock { (c : ℕ → ℕ) → Answers c self.old.clock_calls (C.at clock.old)
-            → Answers c self.new.clock_calls (C.at clock.new) }
+        ensures clock { (c : ℕ → ℕ) → ClockAnswers c self.old.clock_calls (C.at clock.old)
+            → ClockAnswers c self.new.clock_calls (C.at clock.new) }
         ensures step { (p : Program) (c : ℕ → ℕ) → p.insns ≡ insns.now
             → p.maps ≡ self.old.maps.rows → p.version ≡ version
-            → Answers c self.old.clock_calls (C.at clock.old) →
+            → ClockAnswers c self.old.clock_calls (C.at clock.old) →
             IsStep c (step p c (state_of self.old packet.old)) result
             (state_of self.old packet.old) (state_of self.new packet.new) }
     {
@@ -83,7 +83,7 @@ impl Core {
         requires calls { self.old.clock_calls ≡ 0 }
         ensures room { vec_capacity self.new.frames ≡ max_call_frames }
         ensures rows { self.new.maps.rows ≡ self.old.maps.rows }
-        ensures clock { Answers (C.at clock.old) self.new.clock_calls (C.at clock.new) }
+        ensures clock { ClockAnswers (C.at clock.old) self.new.clock_calls (C.at clock.new) }
         ensures turn { (p : Program) → p.insns ≡ insns.now → p.maps ≡ self.old.maps.rows
             → p.version ≡ version →
             turn_of (progress p (C.at clock.old) limit (state_of self.old packet.old))

@@ -14,13 +14,13 @@ mod verdicts;
 
 use assembler::assemble;
 use commands::{buffered, execute};
+use failing_io::{Failure, Writer};
 use std::alloc::Global;
 use std::fs;
 use std::io::ErrorKind;
 use std::process::Abort;
 use std::rt::{Clock, Files};
 use std::test::Fail;
-use stumbling_io::{Stumble, Writer};
 
 // Why an image is refused by I2.
 const SHORT: &str = "the image is shorter than its head, or than its counts say\n";
@@ -38,7 +38,7 @@ const USAGE: &str = "usage: xdpvm asm|dis|verify|run|trace|prove|recheck\n";
 const CLOSED: &str = "cannot write standard output\nits reader has closed it\n";
 
 // What an output says once in place of taking a byte.
-const BROKEN: Stumble = Stumble::Error(ErrorKind::BrokenPipe);
+const BROKEN: Failure = Failure::Error(ErrorKind::BrokenPipe);
 
 const PASSES: &str = "r0 = 2; exit";
 

@@ -16,7 +16,7 @@ use Rattle.serving.specs.declared.outcomes.Outcome.TheVariants.{Done, WrongWords
 use Rattle.serving.specs.declared.endings.Ending.{Ending}
 use Rattle.serving.specs.Known.{Tells, TellsTable, TellsText}
 use Rattle.serving.specs.Commands.{Serves, ShowsNone}
-use Rattle.serving.specs.HandingOn.{HandsOn, IsHandedOn, TellsFailure}
+use Rattle.serving.specs.HandingOn.{Flushes, IsFlushed, TellsFailure}
 use Rattle.serving.specs.Statuses.{is_silent}
 use Rattle.serving.specs.Stopped.{TellsStopsOf, at_end, stop_lines}
 
@@ -93,10 +93,10 @@ served_knows (Disassemble path) old new r h = inl h.1
 
 -- where standard output failed in the end nothing is known beside that
 knows_then : {W : Type 0} (request : Request) (out : PromptWriter W) (ended r : Ending) → KnowsBy request ended.outcome ended.why
-    → ((is_silent ended.outcome ≡ false → IsHandedOn out) × (r ≡ ended)) ⊎ TellsFailure out r → KnowsBy request r.outcome r.why
+    → ((is_silent ended.outcome ≡ false → IsFlushed out) × (r ≡ ended)) ⊎ TellsFailure out r → KnowsBy request r.outcome r.why
 knows_then request out ended r k (inl kept) = subst (λ (e : Ending). KnowsBy request e.outcome e.why) (sym kept.1) k
 knows_then request out ended r k (inr failed) = plain_knows request r.outcome r.why failed.plain
 
 pub whole_knows : {W : Type 0} (contents : W → Option (List ℕ)) (request : Request) (old : Option (List ℕ)) (given new : PromptWriter W) (ended r : Ending)
-    → Serves (Some request) old (held contents given) ended → HandsOn contents given new ended r → KnowsBy request r.outcome r.why
+    → Serves (Some request) old (held contents given) ended → Flushes contents given new ended r → KnowsBy request r.outcome r.why
 whole_knows contents request old given new ended r h on = knows_then request new ended r (served_knows request old (held contents given) ended h) on.ends

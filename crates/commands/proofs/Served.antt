@@ -8,22 +8,22 @@ use Rattle.std.proofs.KnownBytes.{Keeps-refl}
 use Rattle.tasks.specs.declared.WordsError.{WordsError}
 use Rattle.tasks.specs.declared.WordsError.TheVariants.{Wrong, Memory}
 use Rattle.tasks.specs.Requests.{Request}
-use Rattle.words.specs.Asked.{Reads, asked}
+use Rattle.words.specs.Asked.{AsksFor, asked}
 use Rattle.serving.specs.declared.outcomes.Outcome.{Outcome}
 use Rattle.serving.specs.declared.outcomes.Outcome.TheVariants.{Done, WrongWords, Refused, Faulted, CannotRead, CannotWrite, CannotReplace, NoMemory}
 use Rattle.serving.specs.declared.endings.Ending.{Ending}
 use Rattle.serving.specs.Statuses.{IsWordsEnd, IsWrong, IsWrongWords, is_silent}
 use Rattle.serving.specs.Commands.{Serves}
-use Rattle.serving.specs.HandingOn.{HandsOn}
+use Rattle.serving.specs.HandingOn.{Flushes}
 use Rattle.commands.specs.Executing.{Executes}
 
 -- standard output that was asked for nothing more
-handed : {W : Type 0} (contents : W → Option (List ℕ)) (given : PromptWriter W) (r : Ending) → is_silent r.outcome ≡ true → HandsOn contents given given r r
+handed : {W : Type 0} (contents : W → Option (List ℕ)) (given : PromptWriter W) (r : Ending) → is_silent r.outcome ≡ true → Flushes contents given given r r
 handed contents given r silent = record { kept = Keeps-refl (held contents given); silent = λ _. (refl, refl); ends = inl ((λ loud. absurd (both_ways (is_silent r.outcome) loud silent)), refl) }
 
 -- what is asked for is done, and standard output hands it on
 pub asked-served : {W : Type 0} (contents : W → Option (List ℕ)) (words : List (List ℕ)) (request : Request) (old given new : PromptWriter W) (ended r : Ending) → asked words ≡ Some request
-    → Serves (Some request) (held contents old) (held contents given) ended → HandsOn contents given new ended r → Executes contents words old new r
+    → Serves (Some request) (held contents old) (held contents given) ended → Flushes contents given new ended r → Executes contents words old new r
 asked-served contents words request old given new ended r is h on =
     inr (record { given = given; ended = ended; serves = subst (λ (x : Option Request). Serves x (held contents old) (held contents given) ended) (sym is) h; hands_on = on })
 
@@ -49,7 +49,7 @@ wrong_silent text (CannotReplace path) h = absurd h
 wrong_silent text NoMemory h = absurd h
 
 -- words that ask for nothing
-pub unasked : {W : Type 0} (contents : W → Option (List ℕ)) (words : List (List ℕ)) (error : WordsError) (out : PromptWriter W) (o : Outcome) → Reads words (Err error) → IsWordsEnd error o
+pub unasked : {W : Type 0} (contents : W → Option (List ℕ)) (words : List (List ℕ)) (error : WordsError) (out : PromptWriter W) (o : Outcome) → AsksFor words (Err error) → IsWordsEnd error o
     → Executes contents words out out (record { outcome = o; why = None })
 unasked contents words (Wrong text) out o none is =
     let ending : Ending = record { outcome = o; why = None } in

@@ -26,10 +26,10 @@ use Rattle.serving.specs.declared.outcomes.Outcome.{Outcome}
 use Rattle.serving.specs.declared.outcomes.Outcome.TheVariants as outcome
 use Rattle.serving.specs.declared.endings.Ending.{Ending}
 use Rattle.serving.specs.Statuses.{is_silent, status_of, IsWordsEnd, IsWriteFailure, IsWriteFailureBy}
-use Rattle.serving.specs.HandingOn.{HandsOn, IsHandedOn, TellsFailure}
+use Rattle.serving.specs.HandingOn.{Flushes, IsFlushed, TellsFailure}
 use Rattle.serving.specs.Saying.{Says}
-use Rattle.serving.specs.Judging.{Accepts, IsStoreFailure, RefusesImage, RefusesProgram, RefusesTable, RefusesText, SaysOfTable, Verifies, Stores}
-use Rattle.serving.specs.Streams.{Ends, EndsBy, FailsBy, IsBeginningOf, outcome_at}
+use Rattle.serving.specs.Judging.{Accepts, IsStoreFailure, RefusesImage, RefusesProgram, RefusesTable, RefusesText, SaysOfTable, Verifies, StoresImage}
+use Rattle.serving.specs.Streams.{EndsTask, EndsBy, FailsBy, IsBeginningOf, outcome_at}
 use Rattle.serving.specs.Proving.{EndsUnwritten, StoresTable}
 use Rattle.serving.specs.Commands.{LoadsNone, ShowsNone, OpensNone, RunsOn, TracesFile, RunsFile, RunsShown, VerifiesFile, ProvesFile, RechecksFile, DisassemblesFile, AssemblesFile, Serves}
 
@@ -74,7 +74,7 @@ fails_silent : (name : List ℕ) (cause : Option ErrorKind) (form : Form) (ended
 fails_silent name cause form (Ok tally) r h e = absurd (write_loud_by name cause r h e)
 fails_silent name cause form (Err error) r h e = ends_silent name cause form (Err error) r h e
 
-stops_silent : (name : List ℕ) (cause : Option ErrorKind) (form : Form) (ended : Result Tally HostError) (handed got : Option (List ℕ)) (r : Outcome) → Ends name cause form ended handed got r → is_silent r ≡ true
+stops_silent : (name : List ℕ) (cause : Option ErrorKind) (form : Form) (ended : Result Tally HostError) (handed got : Option (List ℕ)) (r : Outcome) → EndsTask name cause form ended handed got r → is_silent r ≡ true
     → ended ≡ Err failure.Memory
 stops_silent name cause form ended handed got r (inl whole) e = ends_silent name cause form ended r whole.1 e
 stops_silent name cause form ended handed got r (inr part) e = fails_silent name cause form ended r part.1 e
@@ -117,7 +117,7 @@ verdict_silent : (p : Program) (old new : Option (List ℕ)) (r : Outcome) → V
 verdict_silent p old new r (inl (bound, is, accepts)) e = bound_silent (record { program = p; bound = bound }) old new r accepts e
 verdict_silent p old new r (inr refuses) e = program_silent p old new r refuses e
 
-stores_silent : (p : Program) (line name : List ℕ) (before after old new : Option (List ℕ)) (r : Outcome) → Stores p line name before after old new r → is_silent r ≡ true → new ≡ old
+stores_silent : (p : Program) (line name : List ℕ) (before after old new : Option (List ℕ)) (r : Outcome) → StoresImage p line name before after old new r → is_silent r ≡ true → new ≡ old
 stores_silent p line name before after old new r (inl (written, says)) e = absurd (says_loud old new _ _ r refl says e)
 stores_silent p line name before after old new r (inr (written, fails, same)) e = same
 
@@ -221,13 +221,13 @@ served_silent (Disassemble path) old new r h e = disassemble_silent path old new
 
 -- ---- and then standard output hands on what it was given
 
-silent_then : {W : Type 0} (out : PromptWriter W) (ended r : Ending) → ((is_silent ended.outcome ≡ false → IsHandedOn out) × (r ≡ ended)) ⊎ TellsFailure out r
+silent_then : {W : Type 0} (out : PromptWriter W) (ended r : Ending) → ((is_silent ended.outcome ≡ false → IsFlushed out) × (r ≡ ended)) ⊎ TellsFailure out r
     → is_silent r.outcome ≡ true → is_silent ended.outcome ≡ true
 silent_then out ended r (inl kept) e = ap (λ (x : Ending). is_silent x.outcome) (sym kept.1) ∙ e
 silent_then out ended r (inr failed) e = absurd (write_loud_by _ _ r.outcome failed.told e)
 
 pub whole_silent : {W : Type 0} (contents : W → Option (List ℕ)) (request : Request) (old : Option (List ℕ)) (given new : PromptWriter W) (ended r : Ending)
-    → Serves (Some request) old (held contents given) ended → HandsOn contents given new ended r → is_silent r.outcome ≡ true → held contents new ≡ old
+    → Serves (Some request) old (held contents given) ended → Flushes contents given new ended r → is_silent r.outcome ≡ true → held contents new ≡ old
 whole_silent contents request old given new ended r h on e =
     let silent = silent_then new ended r on.ends e in
     ap (held contents) (on.silent silent).0 ∙ served_silent request old (held contents given) ended h silent
@@ -268,11 +268,11 @@ unasked_status (Wrong text) (outcome.CannotReplace path) e most apart = e
 unasked_status (Wrong text) outcome.NoMemory e most apart = e
 
 -- where standard output was given something, and did not fail, it handed that on
-loud_then : {W : Type 0} (out : PromptWriter W) (ended r : Ending) → ((is_silent ended.outcome ≡ false → IsHandedOn out) × (r ≡ ended)) ⊎ TellsFailure out r
-    → status_of r.outcome ≤ 3 → (status_of r.outcome ≡ 1 → ⊥) → IsHandedOn out
+loud_then : {W : Type 0} (out : PromptWriter W) (ended r : Ending) → ((is_silent ended.outcome ≡ false → IsFlushed out) × (r ≡ ended)) ⊎ TellsFailure out r
+    → status_of r.outcome ≤ 3 → (status_of r.outcome ≡ 1 → ⊥) → IsFlushed out
 loud_then out ended r (inl kept) most apart = kept.0 (ap (λ (x : Ending). is_silent x.outcome) (sym kept.1) ∙ loud r.outcome most apart)
 loud_then out ended r (inr failed) most apart = absurd (written _ _ r.outcome failed.told most)
 
-pub whole_handed_on : {W : Type 0} (contents : W → Option (List ℕ)) (given new : PromptWriter W) (ended r : Ending) → HandsOn contents given new ended r
-    → status_of r.outcome ≤ 3 → (status_of r.outcome ≡ 1 → ⊥) → IsHandedOn new
+pub whole_handed_on : {W : Type 0} (contents : W → Option (List ℕ)) (given new : PromptWriter W) (ended r : Ending) → Flushes contents given new ended r
+    → status_of r.outcome ≤ 3 → (status_of r.outcome ≡ 1 → ⊥) → IsFlushed new
 whole_handed_on contents given new ended r on most apart = loud_then new ended r on.ends most apart

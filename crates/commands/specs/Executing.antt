@@ -27,7 +27,7 @@ use Rattle.serving.specs.Stopped.{stop_lines}
 use Rattle.serving.specs.Saying.{AppendsPart, LacksMemory}
 use Rattle.serving.specs.Known.{Plainly, told_of}
 use Rattle.serving.specs.Commands.{Serves}
-use Rattle.serving.specs.HandingOn.{HandsOn}
+use Rattle.serving.specs.HandingOn.{Flushes}
 
 -- What is asked for was done, and how that ended; and then standard output was to hand on what it was given. Where it
 -- fails only at that, this is how the program ends.
@@ -35,7 +35,7 @@ pub record ServesWhole {W : Type 0} (contents : W → Option (List ℕ)) (reques
   pub given : PromptWriter W
   pub ended : Ending
   pub serves : Serves request (held contents old) (held contents given) ended
-  pub hands_on : HandsOn contents given new ended result
+  pub hands_on : Flushes contents given new ended result
 
 -- the program does what the words ask for; or memory ran out before that was known
 abbrev pub Executes : {W : Type 0} → (W → Option (List ℕ)) → List (List ℕ) → PromptWriter W → PromptWriter W → Ending → Type 0
@@ -44,8 +44,8 @@ Executes contents words old new result =
 
 -- the program does what the words ask for, answers how that ended, and writes its messages to
 -- standard error
-abbrev pub Answers : {W : Type 0} → (W → Option (List ℕ)) → List (List ℕ) → PromptWriter W → PromptWriter W → Option (List ℕ) → Option (List ℕ) → ℕ → Type 0
-Answers contents words old new before after status =
+abbrev pub AnswersWords : {W : Type 0} → (W → Option (List ℕ)) → List (List ℕ) → PromptWriter W → PromptWriter W → Option (List ℕ) → Option (List ℕ) → ℕ → Type 0
+AnswersWords contents words old new before after status =
     (e : Ending) × (status ≡ status_of e.outcome) × Executes contents words old new e × AppendsPart before after (told_of e)
 
 -- the words could not be read: standard error says why, and nothing is done

@@ -3,8 +3,8 @@
 ghost use Rattle.std.specs.Prelude.{◌≡◌, ◌≢◌, ◌≤◌, map, MatchResult};
 ghost use Rattle.std.specs.String.{string_bytes};
 ghost use Rattle.buffered_io.specs.Waiting.{held};
-ghost use Rattle.serving.specs.HandingOn.{IsHandedOn};
-ghost use Rattle.commands.specs.Executing.{Answers, AnswersError, IsTold, TellsDone, TellsFault};
+ghost use Rattle.serving.specs.HandingOn.{IsFlushed};
+ghost use Rattle.commands.specs.Executing.{AnswersWords, AnswersError, IsTold, TellsDone, TellsFault};
 
 use buffered_io::PromptWriter;
 use serving::{Outcome, serve};
@@ -32,12 +32,12 @@ pub fn execute<R: Files + Clock + AllocGlobal, W1: Write + Drop, W2: Write>(
     out: &mut PromptWriter<W1>,
     err: &mut W2,
 ) -> u8
-    ensures executes { Answers W1.contents (map string_bytes words.now) out.old out.new
+    ensures executes { AnswersWords W1.contents (map string_bytes words.now) out.old out.new
         (W2.contents err.old) (W2.contents err.new) result }
     ensures statuses { result ≤ 5 }
     ensures wrong_words { result ≡ 1 → held W1.contents out.new ≡ held W1.contents out.old }
     ensures no_memory { result ≡ 5 → held W1.contents out.new ≡ held W1.contents out.old }
-    ensures handed_on { result ≤ 3 → result ≢ 1 → IsHandedOn out.new }
+    ensures handed_on { result ≤ 3 → result ≢ 1 → IsFlushed out.new }
     ensures done { result ≡ 0 → TellsDone (map string_bytes words.now)
         (W2.contents err.old) (W2.contents err.new) }
     ensures refused { result ≡ 2 → IsTold (W2.contents err.old) (W2.contents err.new) }
@@ -59,7 +59,7 @@ pub fn answer<R: Files + Clock + AllocGlobal, W1: Write + Drop, W2: Write>(
     err: &mut W2,
 ) -> u8
     ensures { MatchResult given
-        (λ words. Answers W1.contents (map string_bytes words.items) out.old out.new
+        (λ words. AnswersWords W1.contents (map string_bytes words.items) out.old out.new
         (W2.contents err.old) (W2.contents err.new) result)
         (λ error. AnswersError error out.old out.new
         (W2.contents err.old) (W2.contents err.new) result) }

@@ -8,7 +8,7 @@ use Rattle.std.proofs.Math.ListN.{get_or-append}
 use Rattle.std.proofs.Math.Seq.{get_or-append_seam}
 use Rattle.control_flow.specs.declared.nodes.Node.{Node}
 use Rattle.control_flow.specs.Nodes.{fall_from, jump_from, ComesFrom, FallsNear}
-use Rattle.control_flow.specs.Sources.{IsLastBelow, JumpsTo, AreSources}
+use Rattle.control_flow.specs.Sources.{IsLastBelow, HasJump, AreSources}
 use Rattle.control_flow.specs.Searches.{Extends}
 use Rattle.control_flow.proofs.Graphs.{jump_from-inside}
 use Rattle.control_flow.proofs.Search.{Extends-next, Extends-same}
@@ -52,41 +52,41 @@ left_of-smaller before next source is low = subst (λ (o : Option ℕ). left_of 
 pub record SourcesBelow (nodes : List Node) (n : ℕ) (latest earlier : List (Option ℕ)) : Type 0 where
   pub as_many : length latest ≡ length nodes
   pub as_many_earlier : length earlier ≡ n
-  pub last : (to : ℕ) → to < length nodes → IsLastBelow (JumpsTo nodes to) n (get_or latest to None)
-  pub before : (slot to : ℕ) → slot < n → JumpsTo nodes to slot → IsLastBelow (JumpsTo nodes to) slot (get_or earlier slot None)
+  pub last : (to : ℕ) → to < length nodes → IsLastBelow (HasJump nodes to) n (get_or latest to None)
+  pub before : (slot to : ℕ) → slot < n → HasJump nodes to slot → IsLastBelow (HasJump nodes to) slot (get_or earlier slot None)
 
 pub sources_none : (nodes : List Node) → SourcesBelow nodes 0 (replicate (length nodes) None) []
 sources_none nodes = record {
   as_many = length-replicate (length nodes) None;
   as_many_earlier = refl;
-  last = λ to inside. subst (IsLastBelow (JumpsTo nodes to) 0) (sym (get_or-replicate (length nodes) to None None inside)) (λ k below h. omega arith);
+  last = λ to inside. subst (IsLastBelow (HasJump nodes to) 0) (sym (get_or-replicate (length nodes) to None None inside)) (λ k below h. omega arith);
   before = λ slot to below h. absurd (omega arith);
 }
 
 -- the chains of the slots below n, with one more link
 linked : (nodes : List Node) (n : ℕ) (latest earlier : List (Option ℕ)) (link : Option ℕ) → SourcesBelow nodes n latest earlier
-    → ((to : ℕ) → JumpsTo nodes to n → IsLastBelow (JumpsTo nodes to) n link) → (slot to : ℕ) → slot < n + 1 → JumpsTo nodes to slot
-    → IsLastBelow (JumpsTo nodes to) slot (get_or (earlier ++ link ∷ []) slot None)
+    → ((to : ℕ) → HasJump nodes to n → IsLastBelow (HasJump nodes to) n link) → (slot to : ℕ) → slot < n + 1 → HasJump nodes to slot
+    → IsLastBelow (HasJump nodes to) slot (get_or (earlier ++ link ∷ []) slot None)
 linked nodes n latest earlier link m new slot to below h = elim (cases_eq slot n) [
   | inl e ↦
       let at : slot ≡ length earlier = omega (arith, m.as_many_earlier) in
       let read : get_or (earlier ++ link ∷ []) slot None ≡ link =
       ap (λ (i : ℕ). get_or (earlier ++ link ∷ []) i None) at ∙ get_or-append_seam earlier link [] None in
-      let here : JumpsTo nodes to n = subst (JumpsTo nodes to) e h in
-      subst (IsLastBelow (JumpsTo nodes to) slot) (sym read) (subst (λ (i : ℕ). IsLastBelow (JumpsTo nodes to) i link) (sym e) (new to here))
+      let here : HasJump nodes to n = subst (HasJump nodes to) e h in
+      subst (IsLastBelow (HasJump nodes to) slot) (sym read) (subst (λ (i : ℕ). IsLastBelow (HasJump nodes to) i link) (sym e) (new to here))
   | inr apart ↦
       let under : slot < length earlier = omega (arith, m.as_many_earlier) in
-      subst (IsLastBelow (JumpsTo nodes to) slot) (sym (get_or-append earlier (link ∷ []) None slot under)) (m.before slot to (omega arith) h)
+      subst (IsLastBelow (HasJump nodes to) slot) (sym (get_or-append earlier (link ∷ []) None slot under)) (m.before slot to (omega arith) h)
 ]
 
 -- the next slot does not jump
 pub sources_more_none : (nodes : List Node) (n : ℕ) (latest earlier : List (Option ℕ)) → None ≡ jump_from nodes n → SourcesBelow nodes n latest earlier
     → SourcesBelow nodes (n + 1) latest (earlier ++ None ∷ [])
 sources_more_none nodes n latest earlier stays m =
-    let other : (to : ℕ) → JumpsTo nodes to n → ⊥ = λ to h. absurd cc in record {
+    let other : (to : ℕ) → HasJump nodes to n → ⊥ = λ to h. absurd cc in record {
       as_many = m.as_many;
       as_many_earlier = length-append earlier (None ∷ []) ∙ ap (λ (k : ℕ). k + 1) m.as_many_earlier;
-      last = λ to inside. IsLastBelow-more (JumpsTo nodes to) n (get_or latest to None) (other to) (m.last to inside);
+      last = λ to inside. IsLastBelow-more (HasJump nodes to) n (get_or latest to None) (other to) (m.last to inside);
       before = linked nodes n latest earlier None m (λ to h. absurd (other to h));
     }
 
@@ -95,7 +95,7 @@ pub sources_more_some : (nodes : List Node) (n t : ℕ) (latest earlier : List (
     → link ≡ get_or latest t None → SourcesBelow nodes n latest earlier
     → SourcesBelow nodes (n + 1) (set latest t (Some n)) (earlier ++ link ∷ [])
 sources_more_some nodes n t latest earlier link jumps inside read m =
-    let target : (to : ℕ) → JumpsTo nodes to n → t ≡ to = λ to h. same_Some t to (jumps ∙ h) in
+    let target : (to : ℕ) → HasJump nodes to n → t ≡ to = λ to h. same_Some t to (jumps ∙ h) in
     let within : t < length latest = omega (arith, m.as_many) in record {
       as_many = length-set latest t (Some n) ∙ m.as_many;
       as_many_earlier = length-append earlier (link ∷ []) ∙ ap (λ (k : ℕ). k + 1) m.as_many_earlier;
@@ -103,14 +103,14 @@ sources_more_some nodes n t latest earlier link jumps inside read m =
         | inl e ↦
             let is : get_or (set latest t (Some n)) to None ≡ Some n =
             ap (λ (i : ℕ). get_or (set latest t (Some n)) i None) e ∙ get_or-set_same latest t (Some n) None within in
-            subst (IsLastBelow (JumpsTo nodes to) (n + 1)) (sym is)
-            (IsLastBelow-new (JumpsTo nodes to) n (subst (λ (i : ℕ). JumpsTo nodes i n) (sym e) (sym jumps)))
+            subst (IsLastBelow (HasJump nodes to) (n + 1)) (sym is)
+            (IsLastBelow-new (HasJump nodes to) n (subst (λ (i : ℕ). HasJump nodes i n) (sym e) (sym jumps)))
         | inr apart ↦
-            subst (IsLastBelow (JumpsTo nodes to) (n + 1)) (sym (get_or-set_other latest t to (Some n) None apart))
-            (IsLastBelow-more (JumpsTo nodes to) n (get_or latest to None) (λ h. apart (sym (target to h))) (m.last to there))
+            subst (IsLastBelow (HasJump nodes to) (n + 1)) (sym (get_or-set_other latest t to (Some n) None apart))
+            (IsLastBelow-more (HasJump nodes to) n (get_or latest to None) (λ h. apart (sym (target to h))) (m.last to there))
       ];
       before = linked nodes n latest earlier link m (λ to h.
-          subst (IsLastBelow (JumpsTo nodes to) n) (sym (read ∙ ap (λ (i : ℕ). get_or latest i None) (target to h)))
+          subst (IsLastBelow (HasJump nodes to) n) (sym (read ∙ ap (λ (i : ℕ). get_or latest i None) (target to h)))
           (m.last to (subst (λ (i : ℕ). i < length nodes) (target to h) inside)));
     }
 
@@ -119,7 +119,7 @@ pub AreSources-below : (nodes : List Node) (n : ℕ) (latest earlier : List (Opt
 AreSources-below nodes n latest earlier all m = record {
   as_many = m.as_many;
   as_many_earlier = m.as_many_earlier ∙ all;
-  last = λ to inside. subst (λ (k : ℕ). IsLastBelow (JumpsTo nodes to) k (get_or latest to None)) all (m.last to inside);
+  last = λ to inside. subst (λ (k : ℕ). IsLastBelow (HasJump nodes to) k (get_or latest to None)) all (m.last to inside);
   before = λ slot to h. m.before slot to (let low = jump_from-inside nodes slot to h in omega (arith, all)) h;
 }
 
@@ -131,19 +131,19 @@ FallsBack nodes to back k = (k + back ≡ to) × (fall_from nodes k ≡ Some to)
 
 -- control comes to the slot by falling through, or by a jump from bound or above it
 abbrev pub ComesAbove : List Node → ℕ → ℕ → ℕ → Type 0
-ComesAbove nodes to bound k = (fall_from nodes k ≡ Some to) ⊎ ((bound ≤ k) × JumpsTo nodes to k)
+ComesAbove nodes to bound k = (fall_from nodes k ≡ Some to) ⊎ ((bound ≤ k) × HasJump nodes to k)
 
 -- the jumps above the next one are followed
 pub record HasFollowed (nodes : List Node) (to : ℕ) (next : Option ℕ) (f : List Bool) (s : List ℕ) (g : List Bool) (t : List ℕ) : Type 0 where
   pub bound : ℕ
-  pub last : IsLastBelow (JumpsTo nodes to) bound next
+  pub last : IsLastBelow (HasJump nodes to) bound next
   pub found : Extends (ComesAbove nodes to bound) f s g t
 
 -- what falls through is found first
 pub HasFollowed-start : (nodes : List Node) (to : ℕ) (a b next : Option ℕ) (f : List Bool) (s : List ℕ) (g : List Bool) (t : List ℕ) (h : List Bool) (u : List ℕ)
     → FallsNear nodes → ((k : ℕ) → (a ≡ Some k) ↔ FallsBack nodes to 1 k) → ((k : ℕ) → (b ≡ Some k) ↔ FallsBack nodes to 2 k)
     → Extends (λ k. a ≡ Some k) f s g t → Extends (λ k. b ≡ Some k) g t h u
-    → IsLastBelow (JumpsTo nodes to) (length nodes) next → HasFollowed nodes to next f s h u
+    → IsLastBelow (HasJump nodes to) (length nodes) next → HasFollowed nodes to next f s h u
 HasFollowed-start nodes to a b next f s g t h u near one two x y last = record {
   bound = length nodes;
   last = last;
@@ -163,15 +163,15 @@ HasFollowed-start nodes to a b next f s g t h u near one two x y last = record {
 
 -- the next one jumps there
 pub HasFollowed-jumps : (nodes : List Node) (to source : ℕ) (next : Option ℕ) (f : List Bool) (s : List ℕ) (g : List Bool) (t : List ℕ)
-    → next ≡ Some source → HasFollowed nodes to next f s g t → JumpsTo nodes to source
-HasFollowed-jumps nodes to source next f s g t is m = (subst (IsLastBelow (JumpsTo nodes to) m.bound) is m.last).1
+    → next ≡ Some source → HasFollowed nodes to next f s g t → HasJump nodes to source
+HasFollowed-jumps nodes to source next f s g t is m = (subst (IsLastBelow (HasJump nodes to) m.bound) is m.last).1
 
 -- one more is followed
 pub HasFollowed-next : (nodes : List Node) (to source : ℕ) (next before : Option ℕ) (f : List Bool) (s : List ℕ) (g : List Bool) (t : List ℕ) (h : List Bool) (u : List ℕ)
-    → next ≡ Some source → IsLastBelow (JumpsTo nodes to) source before → HasFollowed nodes to next f s g t → Extends (λ k. Some source ≡ Some k) g t h u
+    → next ≡ Some source → IsLastBelow (HasJump nodes to) source before → HasFollowed nodes to next f s g t → Extends (λ k. Some source ≡ Some k) g t h u
     → HasFollowed nodes to before f s h u
 HasFollowed-next nodes to source next before f s g t h u is last m x =
-    let here : IsLastBelow (JumpsTo nodes to) m.bound (Some source) = subst (IsLastBelow (JumpsTo nodes to) m.bound) is m.last in record {
+    let here : IsLastBelow (HasJump nodes to) m.bound (Some source) = subst (IsLastBelow (HasJump nodes to) m.bound) is m.last in record {
       bound = source;
       last = last;
       found = Extends-same (λ k. ComesAbove nodes to m.bound k ⊎ (Some source ≡ Some k)) (ComesAbove nodes to source) f s h u
@@ -181,7 +181,7 @@ HasFollowed-next nodes to source next before f s g t h u is last m x =
               | inl (inr (above, jumps)) ↦ inr (let low = here.0 in omega arith, jumps)
               | inr e ↦
                   let same : source ≡ k = same_Some source k e in
-                  inr (omega (arith, same), subst (JumpsTo nodes to) same here.1)
+                  inr (omega (arith, same), subst (HasJump nodes to) same here.1)
             ],
             λ w. elim w [
               | inl falls ↦ inl (inl falls)
@@ -202,7 +202,7 @@ HasFollowed-next nodes to source next before f s g t h u is last m x =
 pub HasFollowed-end : (nodes : List Node) (to : ℕ) (next : Option ℕ) (f : List Bool) (s : List ℕ) (g : List Bool) (t : List ℕ)
     → None ≡ next → HasFollowed nodes to next f s g t → Extends (ComesFrom nodes to) f s g t
 HasFollowed-end nodes to next f s g t over m =
-    let none : IsLastBelow (JumpsTo nodes to) m.bound None = subst (IsLastBelow (JumpsTo nodes to) m.bound) (sym over) m.last in
+    let none : IsLastBelow (HasJump nodes to) m.bound None = subst (IsLastBelow (HasJump nodes to) m.bound) (sym over) m.last in
     Extends-same (ComesAbove nodes to m.bound) (ComesFrom nodes to) f s g t
     (λ k. (
       λ w. elim w [ inl falls ↦ inl falls | inr (above, jumps) ↦ inr jumps ],

@@ -11,7 +11,7 @@ use Rattle.isa_model.specs.Machine.Steps.{destination}
 use Rattle.isa_model.specs.Machine.Successors.{jump_distance, falls_through, Follows}
 use Rattle.control_flow.specs.declared.errors.FlowError.{FlowError}
 use Rattle.control_flow.specs.declared.errors.FlowError.TheVariants.{TargetOutside, SecondHalf, OtherFunction, FallsOff, Unreachable, Memory}
-use Rattle.control_flow.specs.Graph.{call_distance, BeginsInsn, jump_to, call_to, slot_behind, fall_to, Leads, Falls, Jumps, Calls}
+use Rattle.control_flow.specs.Graph.{call_distance, BeginsInsn, jump_to, call_to, slot_behind, fall_to, HasEdge, Falls, Jumps, Calls}
 use Rattle.control_flow.specs.Functions.{SameFunction, EndsFunction}
 use Rattle.control_flow.specs.Flows.{IsFlow, IsJoin, HasTarget, Fails, place, IsFirst}
 
@@ -69,12 +69,12 @@ fall_to-behind p slot to h = of (fetch p slot) h where
   of None e = absurd cc
 
 -- a successor within the function is an edge of the graph
-pub Leads-Follows : (p : Program) (slot next : ℕ) → Follows p slot next → Leads p slot next
-Leads-Follows p slot next (i, e, inl (falls, at)) = Falls (fall_to-insn p slot i e falls ∙ ap some_slot (sym at))
-Leads-Follows p slot next (i, e, inr (by, jump, at)) = Jumps (jump_to-insn p slot i by e jump ∙ ap some_slot (sym at))
+pub HasEdge-Follows : (p : Program) (slot next : ℕ) → Follows p slot next → HasEdge p slot next
+HasEdge-Follows p slot next (i, e, inl (falls, at)) = Falls (fall_to-insn p slot i e falls ∙ ap some_slot (sym at))
+HasEdge-Follows p slot next (i, e, inr (by, jump, at)) = Jumps (jump_to-insn p slot i by e jump ∙ ap some_slot (sym at))
 
 -- where no instruction begins nothing leads on
-from_none : (p : Program) (slot to : ℕ) → fetch p slot ≡ None → Leads p slot to → ⊥
+from_none : (p : Program) (slot to : ℕ) → fetch p slot ≡ None → HasEdge p slot to → ⊥
 unfolding jump_to call_to fall_to
 from_none p slot to e (Falls h) =
     let none : fall_to p slot ≡ None = ap (option_and_then (slot_behind slot)) e in absurd cc
@@ -84,8 +84,8 @@ from_none p slot to e (Calls h) =
     let none : call_to p slot ≡ None = ap (λ (o : Option Insn). option_map (destination p slot) (option_and_then call_distance o)) e in absurd cc
 
 -- it leads on from instructions only
-pub Leads-inside : (p : Program) (slot to : ℕ) → Leads p slot to → slot < length p.insns
-Leads-inside p slot to h =
+pub HasEdge-inside : (p : Program) (slot to : ℕ) → HasEdge p slot to → slot < length p.insns
+HasEdge-inside p slot to h =
     elim (cases_lt slot (length p.insns)) [
       | inl inside ↦ inside
       | inr past ↦ absurd (from_none p slot to (ap option_flatten (slice_get_past p.insns slot past)) h)
@@ -94,14 +94,14 @@ Leads-inside p slot to h =
 -- ---- good control flow
 
 -- wherever control goes an instruction begins
-pub IsFlow-next : (p : Program) (slot to : ℕ) → IsFlow p → Leads p slot to → BeginsInsn p to
+pub IsFlow-next : (p : Program) (slot to : ℕ) → IsFlow p → HasEdge p slot to → BeginsInsn p to
 IsFlow-next p slot to flow (Falls h) = (flow.falls slot to h).0
 IsFlow-next p slot to flow (Jumps h) = (flow.jumps slot to h).0
 IsFlow-next p slot to flow (Calls h) = flow.calls slot to h
 
 -- an instruction begins at each slot that follows one
 pub IsFlow-Follows : (p : Program) (slot next : ℕ) → IsFlow p → Follows p slot next → BeginsInsn p next
-IsFlow-Follows p slot next flow h = IsFlow-next p slot next flow (Leads-Follows p slot next h)
+IsFlow-Follows p slot next flow h = IsFlow-next p slot next flow (HasEdge-Follows p slot next h)
 
 -- an instruction begins after each one that falls through
 pub IsFlow-fall : (p : Program) (slot : ℕ) (i : Insn) → IsFlow p → fetch p slot ≡ Some i → falls_through i ≡ true → BeginsInsn p (slot + slots_of i)
@@ -121,7 +121,7 @@ IsFlow-call p slot i by flow e d = flow.calls slot (destination p slot by) (call
 -- ---- the tests
 
 abbrev LeadsOn : Program → ℕ → Type 0
-LeadsOn p slot = (to : ℕ) × Leads p slot to
+LeadsOn p slot = (to : ℕ) × HasEdge p slot to
 
 target-LeadsOn : (p : Program) (slot to : ℕ) → HasTarget p slot to → LeadsOn p slot
 target-LeadsOn p slot to (inl h) = (to, Jumps h)
@@ -129,10 +129,10 @@ target-LeadsOn p slot to (inr h) = (to, Calls h)
 
 -- they fail inside the code only
 pub Fails-inside : (p : Program) (e : FlowError) (slot : ℕ) → Fails p e slot → slot < length p.insns
-Fails-inside p TargetOutside slot (to, h, past) = let on = target-LeadsOn p slot to h in Leads-inside p slot on.0 on.1
-Fails-inside p SecondHalf slot (to, h, half) = let on = target-LeadsOn p slot to h in Leads-inside p slot on.0 on.1
-Fails-inside p OtherFunction slot (to, h, other) = Leads-inside p slot to (Jumps h)
-Fails-inside p FallsOff slot (to, h, ends) = Leads-inside p slot to (Falls h)
+Fails-inside p TargetOutside slot (to, h, past) = let on = target-LeadsOn p slot to h in HasEdge-inside p slot on.0 on.1
+Fails-inside p SecondHalf slot (to, h, half) = let on = target-LeadsOn p slot to h in HasEdge-inside p slot on.0 on.1
+Fails-inside p OtherFunction slot (to, h, other) = HasEdge-inside p slot to (Jumps h)
+Fails-inside p FallsOff slot (to, h, ends) = HasEdge-inside p slot to (Falls h)
 Fails-inside p Unreachable slot (begins, unreached) = BeginsInsn-inside p slot begins
 Fails-inside p Memory slot h = absurd h
 

@@ -11,7 +11,7 @@ use Rattle.control_flow.proofs.FlowLaws.{fall_to-behind}
 use Rattle.control_flow.specs.Flows.{Fails}
 use Rattle.control_flow.specs.declared.errors.FlowError.TheVariants.{TargetOutside}
 use Rattle.control_flow.specs.Masks.{HasHome, no_homes}
-use Rattle.control_flow.specs.StackUse.{IsHandedOn}
+use Rattle.control_flow.specs.StackUse.{FrameAddressIsTaken}
 use Rattle.control_flow.specs.Liveness.{Home, InRegister, InSlot, IsReadBy, IsWrittenBy}
 use Rattle.control_flow.specs.Nodes.{IsNode, AreNodes, fall_from, jump_from, FallsNear}
 use Rattle.control_flow.proofs.MaskLemmas.{no_home}
@@ -27,14 +27,14 @@ read_more A B i (InSlot j) more (inl reads) = inl reads
 read_more A B i (InSlot j) more (inr (inside, any)) = inr (inside, more any)
 
 pub node_some : (p : Program) (slot : ℕ) (i : Insn) (node : Node) (handed_on : Bool)
-    → fetch p slot ≡ Some i → IsTrue handed_on ↔ IsHandedOn p
+    → fetch p slot ≡ Some i → IsTrue handed_on ↔ FrameAddressIsTaken p
     → ((h : Home) → HasHome node.reads h ↔ IsReadBy (IsTrue handed_on) i h)
     → ((h : Home) → HasHome node.writes h ↔ IsWrittenBy i h)
     → node.falls_to ≡ fall_to p slot → node.jumps_to ≡ jump_to p slot → IsNode p slot node
 node_some p slot i node handed_on here lent reads writes falls jumps = record {
   reads = λ r. (
-    λ h. (i, here, read_more (IsTrue handed_on) (IsHandedOn p) i r lent.0 ((reads r).0 h)),
-    λ (j, there, by). (reads r).1 (read_more (IsHandedOn p) (IsTrue handed_on) i r lent.1 (subst (λ (x : Insn). IsReadBy (IsHandedOn p) x r) (same_Some j i (sym there ∙ here)) by)),
+    λ h. (i, here, read_more (IsTrue handed_on) (FrameAddressIsTaken p) i r lent.0 ((reads r).0 h)),
+    λ (j, there, by). (reads r).1 (read_more (FrameAddressIsTaken p) (IsTrue handed_on) i r lent.1 (subst (λ (x : Insn). IsReadBy (FrameAddressIsTaken p) x r) (same_Some j i (sym there ∙ here)) by)),
   );
   writes = λ r. (
     λ h. (i, here, (writes r).0 h),

@@ -7,7 +7,7 @@ use Rattle.isa_model.specs.Machine.Successors.{Follows}
 use Rattle.isa_model.specs.MustAccept.Paths.{IsOneOf}
 use Rattle.control_flow.proofs.FlowLaws.{some_slot, jump_to-insn, fall_to-insn}
 use Rattle.control_flow.specs.Accesses.{read_registers, written_registers}
-use Rattle.control_flow.specs.Liveness.{Home, InRegister, InSlot, Writes, IsWrittenBy, GoesTo, IsHomeLive, IsLive, IsSlotLive}
+use Rattle.control_flow.specs.Liveness.{Home, InRegister, InSlot, WritesHome, IsWrittenBy, GoesTo, IsHomeLive, IsLive, IsSlotLive}
 use Rattle.control_flow.specs.StackUse.{ReadsSlot, WritesSlot}
 
 -- an instruction goes to each slot that follows it
@@ -24,7 +24,7 @@ pub IsHomeLive-back : (p : Program) (h : Home) (slot next : ℕ) (i : Insn) → 
     → (IsWrittenBy i h → ⊥)
     → Follows p slot next → IsHomeLive p h next → IsHomeLive p h slot
 IsHomeLive-back p h slot next i here keeps follows (n, path) = (suc n, (next, GoesTo-Follows p slot next follows, not_written, path)) where
-  not_written : Writes p h slot → ⊥
+  not_written : WritesHome p h slot → ⊥
   not_written (j, there, writes) =
       let same : j ≡ i = cc in
       keeps (subst (λ (x : Insn). IsWrittenBy x h) same writes)

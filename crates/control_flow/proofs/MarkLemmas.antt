@@ -7,16 +7,16 @@ use Rattle.std.proofs.lemmas.List.{get_or-set_same, get_or-set_other, length-set
 use Rattle.isa_model.specs.Code.Instructions.{Program}
 use Rattle.control_flow.specs.Graph.{jump_to, Jumps}
 use Rattle.control_flow.specs.Flows.{IsMarked, MarksJoins}
-use Rattle.control_flow.proofs.FlowLaws.{Leads-inside}
+use Rattle.control_flow.proofs.FlowLaws.{HasEdge-inside}
 
 -- the slots that are marked: those of the start, and the targets from the slots below n
-abbrev pub IsFound : (ℕ → Type 0) → (ℕ → Option ℕ) → ℕ → ℕ → Type 0
-IsFound Start target n k = Start k ⊎ ((slot : ℕ) × (slot < n) × (target slot ≡ Some k))
+abbrev pub AreTargetsMarked : (ℕ → Type 0) → (ℕ → Option ℕ) → ℕ → ℕ → Type 0
+AreTargetsMarked Start target n k = Start k ⊎ ((slot : ℕ) × (slot < n) × (target slot ≡ Some k))
 
 pub record MarksBelow (Start : ℕ → Type 0) (target : ℕ → Option ℕ) (size n : ℕ) (marks : List Bool) : Type 0 where
   pub same : length marks ≡ size
-  pub found : (k : ℕ) → IsMarked marks k → IsFound Start target n k
-  pub marked : (k : ℕ) → IsFound Start target n k → IsMarked marks k
+  pub found : (k : ℕ) → IsMarked marks k → AreTargetsMarked Start target n k
+  pub marked : (k : ℕ) → AreTargetsMarked Start target n k → IsMarked marks k
 
 -- what was read of a list
 pub read_at : {X : Type 0} (marks : List X) (k : ℕ) (x d : X) → k < length marks → x ≡ get_or marks k x → get_or marks k d ≡ x
@@ -116,5 +116,5 @@ marks_more_some Start target size n to marks some inside m =
 pub MarksJoins-below : (p : Program) (marks : List Bool) (n : ℕ) → length p.insns ≤ n → MarksBelow (λ k. ⊥) (jump_to p) (length p.insns) n marks → MarksJoins p marks
 MarksJoins-below p marks n all m = λ slot. (
   λ h. elim (m.found slot h) [ inl no_start ↦ absurd no_start | inr w ↦ (w.0, w.2) ],
-  λ (from, e). m.marked slot (inr (from, (let low = Leads-inside p from slot (Jumps e) in omega arith), e)),
+  λ (from, e). m.marked slot (inr (from, (let low = HasEdge-inside p from slot (Jumps e) in omega arith), e)),
 )

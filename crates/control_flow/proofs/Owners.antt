@@ -8,7 +8,7 @@ use Rattle.std.proofs.Math.Seq.{get_or-append_seam}
 use Rattle.isa_model.specs.Code.Instructions.{Program}
 use Rattle.control_flow.specs.Graph.{call_to, Calls}
 use Rattle.control_flow.specs.Functions.{BeginsFunction, SameFunction, IsFunctionOf, MarksFunctions, HasFunctions}
-use Rattle.control_flow.proofs.FlowLaws.{Leads-inside}
+use Rattle.control_flow.proofs.FlowLaws.{HasEdge-inside}
 use Rattle.control_flow.proofs.MarkLemmas.{MarksBelow}
 
 -- ---- the slots at which functions begin
@@ -18,7 +18,7 @@ MarksFunctions-below p marks n all m = record {
   same = m.same;
   each = λ slot lt. (
     λ h. elim (m.found slot h) [ inl first ↦ inl first | inr w ↦ inr (w.0, w.2) ],
-    λ b. elim b [ inl first ↦ m.marked slot (inl first) | inr w ↦ m.marked slot (inr (w.0, (let low = Leads-inside p w.0 slot (Calls w.1) in omega arith), w.1)) ],
+    λ b. elim b [ inl first ↦ m.marked slot (inl first) | inr w ↦ m.marked slot (inr (w.0, (let low = HasEdge-inside p w.0 slot (Calls w.1) in omega arith), w.1)) ],
   );
 }
 

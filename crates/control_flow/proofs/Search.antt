@@ -6,7 +6,7 @@ use Rattle.std.proofs.lemmas.List.{length-set, length-append, length-replicate}
 use Rattle.std.proofs.lemmas.List.Sums.{sum_by-set}
 use Rattle.std.proofs.lemmas.List.Elements.{Contains-append_left, Contains-append_right, Contains-append_cases}
 use Rattle.isa_model.specs.Code.Instructions.{Program}
-use Rattle.control_flow.specs.Graph.{Leads, Falls, Jumps, Calls, ReachedIn, Reached, fall_to, jump_to, call_to}
+use Rattle.control_flow.specs.Graph.{HasEdge, Falls, Jumps, Calls, ReachedIn, Reached, fall_to, jump_to, call_to}
 use Rattle.control_flow.specs.Flows.{IsMarked}
 use Rattle.control_flow.specs.Searches.{Extends}
 use Rattle.control_flow.proofs.MarkLemmas.{IsMarked-inside, IsMarked-set, set-IsMarked, set-IsMarked_here, new-IsMarked}
@@ -96,14 +96,14 @@ Extends-same A B f s g t same x = record {
   less = x.less;
 }
 
-leads_by_case : (p : Program) (slot k : ℕ) → (((fall_to p slot ≡ Some k) ⊎ (jump_to p slot ≡ Some k)) ⊎ (call_to p slot ≡ Some k)) ↔ Leads p slot k
+leads_by_case : (p : Program) (slot k : ℕ) → (((fall_to p slot ≡ Some k) ⊎ (jump_to p slot ≡ Some k)) ⊎ (call_to p slot ≡ Some k)) ↔ HasEdge p slot k
 leads_by_case p slot k = (to, from) where
-  to : ((fall_to p slot ≡ Some k) ⊎ (jump_to p slot ≡ Some k)) ⊎ (call_to p slot ≡ Some k) → Leads p slot k
+  to : ((fall_to p slot ≡ Some k) ⊎ (jump_to p slot ≡ Some k)) ⊎ (call_to p slot ≡ Some k) → HasEdge p slot k
   to (inl (inl h)) = Falls h
   to (inl (inr h)) = Jumps h
   to (inr h) = Calls h
 
-  from : Leads p slot k → ((fall_to p slot ≡ Some k) ⊎ (jump_to p slot ≡ Some k)) ⊎ (call_to p slot ≡ Some k)
+  from : HasEdge p slot k → ((fall_to p slot ≡ Some k) ⊎ (jump_to p slot ≡ Some k)) ⊎ (call_to p slot ≡ Some k)
   from (Falls h) = inl (inl h)
   from (Jumps h) = inl (inr h)
   from (Calls h) = inr h
@@ -112,12 +112,12 @@ leads_by_case p slot k = (to, from) where
 pub Extends-leads : (p : Program) (slot : ℕ) (a b c : Option ℕ) (f : List Bool) (s : List ℕ) (g : List Bool) (t : List ℕ) (h : List Bool) (u : List ℕ) (i : List Bool) (v : List ℕ)
     → a ≡ fall_to p slot → b ≡ jump_to p slot → c ≡ call_to p slot
     → Extends (λ k. a ≡ Some k) f s g t → Extends (λ k. b ≡ Some k) g t h u → Extends (λ k. c ≡ Some k) h u i v
-    → Extends (Leads p slot) f s i v
+    → Extends (HasEdge p slot) f s i v
 Extends-leads p slot a b c f s g t h u i v ea eb ec x y z =
     let first : Extends (λ k. fall_to p slot ≡ Some k) f s g t = subst (λ (o : Option ℕ). Extends (λ k. o ≡ Some k) f s g t) ea x in
     let second : Extends (λ k. jump_to p slot ≡ Some k) g t h u = subst (λ (o : Option ℕ). Extends (λ k. o ≡ Some k) g t h u) eb y in
     let third : Extends (λ k. call_to p slot ≡ Some k) h u i v = subst (λ (o : Option ℕ). Extends (λ k. o ≡ Some k) h u i v) ec z in
-    Extends-same (λ k. ((fall_to p slot ≡ Some k) ⊎ (jump_to p slot ≡ Some k)) ⊎ (call_to p slot ≡ Some k)) (Leads p slot) f s i v (leads_by_case p slot)
+    Extends-same (λ k. ((fall_to p slot ≡ Some k) ⊎ (jump_to p slot ≡ Some k)) ⊎ (call_to p slot ≡ Some k)) (HasEdge p slot) f s i v (leads_by_case p slot)
     (Extends-next (λ k. (fall_to p slot ≡ Some k) ⊎ (jump_to p slot ≡ Some k)) (λ k. call_to p slot ≡ Some k) f s h u i v
     (Extends-next (λ k. fall_to p slot ≡ Some k) (λ k. jump_to p slot ≡ Some k) f s g t h u first second) third)
 
@@ -199,32 +199,32 @@ Extends-new_search Wanted n size f s g t all none empty x =
 reached_start : (p : Program) → Reached p 0
 reached_start p = (0, refl)
 
-Reached-next : (p : Program) (slot to : ℕ) → Reached p slot → Leads p slot to → Reached p to
+Reached-next : (p : Program) (slot to : ℕ) → Reached p slot → HasEdge p slot to → Reached p to
 Reached-next p slot to (n, path) h = (suc n, (slot, path, h))
 
 -- the search for the slots that are reached
 pub record IsReaching (p : Program) (found : List Bool) (frontier : List ℕ) : Type 0 where
   pub start : IsMarked found 0
-  pub search : IsSearch (Reached p) (Leads p) (length p.insns) found frontier
+  pub search : IsSearch (Reached p) (HasEdge p) (length p.insns) found frontier
 
 pub IsReaching-start : (p : Program) (n : ℕ) (f : List Bool) (s : List ℕ) (found : List Bool) (frontier : List ℕ) → n ≡ length p.insns → f ≡ replicate n false → s ≡ []
     → Extends (λ k. Some 0 ≡ Some k) f s found frontier → IsReaching p found frontier
 IsReaching-start p n f s found frontier all none empty x =
     let new = Extends-new_search (λ k. Some 0 ≡ Some k) n (length p.insns) f s found frontier all none empty x in record {
       start = x.all 0 refl;
-      search = IsSearch-start (Reached p) (Leads p) (λ k. Some 0 ≡ Some k) (length p.insns) found frontier (λ k e. subst (Reached p) (same_Some 0 k e) (reached_start p)) new;
+      search = IsSearch-start (Reached p) (HasEdge p) (λ k. Some 0 ≡ Some k) (length p.insns) found frontier (λ k e. subst (Reached p) (same_Some 0 k e) (reached_start p)) new;
     }
 
-pub IsReaching-next : (p : Program) (slot : ℕ) (f : List Bool) (s rest : List ℕ) (g : List Bool) (t : List ℕ) → s ≡ rest ++ slot ∷ [] → IsReaching p f s → Extends (Leads p slot) f rest g t → IsReaching p g t
+pub IsReaching-next : (p : Program) (slot : ℕ) (f : List Bool) (s rest : List ℕ) (g : List Bool) (t : List ℕ) → s ≡ rest ++ slot ∷ [] → IsReaching p f s → Extends (HasEdge p slot) f rest g t → IsReaching p g t
 IsReaching-next p slot f s rest g t popped m x = record {
   start = x.kept 0 m.start;
-  search = IsSearch-next (Reached p) (Leads p) (length p.insns) slot f s rest g t (λ to r h. Reached-next p slot to r h) popped m.search x;
+  search = IsSearch-next (Reached p) (HasEdge p) (length p.insns) slot f s rest g t (λ to r h. Reached-next p slot to r h) popped m.search x;
 }
 
 marked_in : (p : Program) (found : List Bool) (frontier : List ℕ) → length frontier ≡ 0 → IsReaching p found frontier → (n k : ℕ) → ReachedIn p n k → IsMarked found k
 marked_in p found frontier over m zero k e = subst (λ (i : ℕ). IsMarked found i) (sym e) m.start
 marked_in p found frontier over m (suc n) k (from, path, h) =
-    IsSearch-closed (Reached p) (Leads p) (length p.insns) found frontier over m.search from k (marked_in p found frontier over m n from path) h
+    IsSearch-closed (Reached p) (HasEdge p) (length p.insns) found frontier over m.search from k (marked_in p found frontier over m n from path) h
 
 pub IsReaching-end : (p : Program) (found : List Bool) (frontier : List ℕ) → length frontier ≡ 0 → IsReaching p found frontier → (k : ℕ) → IsMarked found k ↔ Reached p k
 IsReaching-end p found frontier over m k = (λ h. m.search.sound k h, λ r. marked_in p found frontier over m r.0 k r.1)

@@ -13,8 +13,8 @@ use Rattle.isa_model.specs.declared.instructions.Insn.TheVariants.{Load, LoadSx,
 use Rattle.isa_model.specs.Code.Instructions.{Program, fetch}
 use Rattle.isa_model.specs.MustAccept.Paths.{IsOneOf}
 use Rattle.control_flow.specs.Accesses.{read_registers}
-use Rattle.control_flow.specs.StackUse.{ReadsSlot, WritesSlot, HandsOn, HandsOnAt, IsHandedOn}
-use Rattle.control_flow.specs.Liveness.{InRegister, Reads}
+use Rattle.control_flow.specs.StackUse.{ReadsSlot, WritesSlot, TakesFrameAddress, HandsOnAt, FrameAddressIsTaken}
+use Rattle.control_flow.specs.Liveness.{InRegister, ReadsHome}
 
 pub reads_below : (i : Insn) (j : ℕ) → ReadsSlot i j → j < 64
 reads_below (Load size d place) j (n, is, low, high) = let inside = is.0 in omega arith
@@ -33,7 +33,7 @@ pub others_hand_on : (i : Insn) → ((s : Size) (d : Reg) (q : Place) → i ≡ 
     → ((s : Narrow) (d : Reg) (q : Place) → i ≡ LoadSx s d q → ⊥)
     → ((s : Size) (q : Place) (k : ℤ) → i ≡ StoreConstant s q k → ⊥)
     → ((s : Size) (q : Place) (r : Reg) → i ≡ Store s q r → ⊥)
-    → (A B : Type 0) → A ↔ B → B ↔ IsOneOf (read_registers i) R10 → A ↔ HandsOn i
+    → (A B : Type 0) → A ↔ B → B ↔ IsOneOf (read_registers i) R10 → A ↔ TakesFrameAddress i
 others_hand_on (Load s d q) load signed constant store A B x y = absurd (load s d q refl)
 others_hand_on (LoadSx s d q) load signed constant store A B x y = absurd (signed s d q refl)
 others_hand_on (StoreConstant s q k) load signed constant store A B x y = absurd (constant s q k refl)
@@ -42,15 +42,15 @@ others_hand_on i load signed constant store A B x y = (λ a. y.0 (x.0 a), λ h. 
 
 -- an instruction reads the registers that its slot reads
 pub reads_there : (p : Program) (slot : ℕ) (i : Insn) (r : Reg) → fetch p slot ≡ Some i
-    → Reads p (InRegister r) slot ↔ IsOneOf (read_registers i) r
+    → ReadsHome p (InRegister r) slot ↔ IsOneOf (read_registers i) r
 reads_there p slot i r here = (
   λ (j, there, by). subst (λ (x : Insn). IsOneOf (read_registers x) r) (same_Some j i (sym there ∙ here)) by,
   λ by. (i, here, by),
 )
 
 -- r10 is handed on as is said, if no slot hands it on where that is denied
-pub handed_on_as_said : (p : Program) (n : ℕ) (handed_on : Bool) → (IsTrue handed_on → IsHandedOn p)
+pub handed_on_as_said : (p : Program) (n : ℕ) (handed_on : Bool) → (IsTrue handed_on → FrameAddressIsTaken p)
     → (handed_on ≡ false → (k : ℕ) → k < n → ¬ HandsOnAt p k)
-    → ((k : ℕ) → HandsOnAt p k → k < n) → IsTrue handed_on ↔ IsHandedOn p
+    → ((k : ℕ) → HandsOnAt p k → k < n) → IsTrue handed_on ↔ FrameAddressIsTaken p
 handed_on_as_said p n true is none inside = (is, λ h. refl)
 handed_on_as_said p n false is none inside = (is, λ (k, at). absurd (none refl k (inside k at) at))

@@ -9,7 +9,7 @@ use Rattle.image.specs.Images.{IsImage}
 use Rattle.image.proofs.ImageLaws.{fetch-next, fetch-second}
 use Rattle.control_flow.specs.declared.errors.FlowError.{FlowError}
 use Rattle.control_flow.specs.declared.errors.FlowError.TheVariants.{TargetOutside, SecondHalf, OtherFunction, FallsOff, Unreachable, Memory}
-use Rattle.control_flow.specs.Graph.{BeginsInsn, fall_to, Leads, Falls, Jumps, Calls, Reached}
+use Rattle.control_flow.specs.Graph.{BeginsInsn, fall_to, HasEdge, Falls, Jumps, Calls, Reached}
 use Rattle.control_flow.specs.Functions.{BeginsFunction, SameFunction}
 use Rattle.control_flow.specs.Flows.{IsFlow, IsMarked, Fails, place, IsRefusal}
 use Rattle.control_flow.proofs.FlowLaws.{BeginsInsn-insn, fetch-BeginsInsn, fall_to-behind, IsFlow-Fails}
@@ -54,7 +54,7 @@ only_memory p Unreachable slot flow r = absurd (IsFlow-Fails p Unreachable slot 
 
 -- ---- what passing gives
 
-pub leads-inside : (p : Program) → Passes p TargetOutside → Passes p FallsOff → (slot to : ℕ) → Leads p slot to → to < length p.insns
+pub leads-inside : (p : Program) → Passes p TargetOutside → Passes p FallsOff → (slot to : ℕ) → HasEdge p slot to → to < length p.insns
 leads-inside p a f slot to (Jumps h) = jump-inside p a slot to h
 leads-inside p a f slot to (Calls h) = call-inside p a slot to h
 leads-inside p a f slot to (Falls h) =

@@ -12,7 +12,7 @@ use Rattle.isa_model.specs.Code.Instructions.{Program}
 use Rattle.control_flow.specs.declared.homes.HomeMask.{HomeMask}
 use Rattle.control_flow.specs.declared.nodes.Node.{Node}
 use Rattle.control_flow.specs.Graph.{Falls, Jumps}
-use Rattle.control_flow.proofs.FlowLaws.{BeginsInsn-inside, fetch-BeginsInsn, Leads-inside}
+use Rattle.control_flow.proofs.FlowLaws.{BeginsInsn-inside, fetch-BeginsInsn, HasEdge-inside}
 use Rattle.control_flow.specs.Flows.{IsMarked, MarksLive}
 use Rattle.control_flow.specs.Masks.{HasHome, no_homes, mask_at}
 use Rattle.control_flow.specs.Liveness.{Home, IsReadAfter, IsHomeLive}
@@ -315,12 +315,12 @@ live_has p nodes masks are closed r zero slot reads =
     let found = node_at p nodes slot are inside in
     closed slot found.0 found.1 r (inl (((are.each slot found.0 found.1).reads r).1 reads))
 live_has p nodes masks are closed r (suc n) slot (next, inl falls, keeps, path) =
-    let found = node_at p nodes slot are (Leads-inside p slot next (Falls falls)) in
+    let found = node_at p nodes slot are (HasEdge-inside p slot next (Falls falls)) in
     let is = are.each slot found.0 found.1 in
     let has = live_has p nodes masks are closed r n next path in
     closed slot found.0 found.1 r (inr (inl (behind masks found.0.falls_to next r (is.falls ∙ falls) has), λ w. keeps ((is.writes r).0 w)))
 live_has p nodes masks are closed r (suc n) slot (next, inr jumps, keeps, path) =
-    let found = node_at p nodes slot are (Leads-inside p slot next (Jumps jumps)) in
+    let found = node_at p nodes slot are (HasEdge-inside p slot next (Jumps jumps)) in
     let is = are.each slot found.0 found.1 in
     let has = live_has p nodes masks are closed r n next path in
     closed slot found.0 found.1 r (inr (inr (behind masks found.0.jumps_to next r (is.jumps ∙ jumps) has), λ w. keeps ((is.writes r).0 w)))

@@ -39,17 +39,17 @@ fall_to p slot = option_and_then (slot_behind slot) (fetch p slot)
 
 -- control goes from a slot to another one. A function returns to the slot after its call: that slot
 -- counts as a successor of the call itself, whether or not the function can return.
-pub data Leads (p : Program) (slot to : ℕ) : Type 0 where
-  Falls : fall_to p slot ≡ Some to → Leads p slot to
-  Jumps : jump_to p slot ≡ Some to → Leads p slot to
-  Calls : call_to p slot ≡ Some to → Leads p slot to
+pub data HasEdge (p : Program) (slot to : ℕ) : Type 0 where
+  Falls : fall_to p slot ≡ Some to → HasEdge p slot to
+  Jumps : jump_to p slot ≡ Some to → HasEdge p slot to
+  Calls : call_to p slot ≡ Some to → HasEdge p slot to
 
 -- ---- paths
 
 -- a path of n steps goes from slot 0 to the slot
 abbrev pub ReachedIn : Program → ℕ → ℕ → Type 0
 ReachedIn p zero slot = slot ≡ 0
-ReachedIn p (suc n) slot = (from : ℕ) × ReachedIn p n from × Leads p from slot
+ReachedIn p (suc n) slot = (from : ℕ) × ReachedIn p n from × HasEdge p from slot
 
 abbrev pub Reached : Program → ℕ → Type 0
 Reached p slot = (n : ℕ) × ReachedIn p n slot

@@ -6,7 +6,7 @@ use Rattle.isa_model.specs.Code.Instructions.{Program, fetch}
 use Rattle.isa_model.specs.MustAccept.Paths.{IsOneOf}
 use Rattle.control_flow.specs.Graph.{fall_to, jump_to}
 use Rattle.control_flow.specs.Accesses.{read_registers, written_registers}
-use Rattle.control_flow.specs.StackUse.{ReadsSlot, WritesSlot, IsHandedOn}
+use Rattle.control_flow.specs.StackUse.{ReadsSlot, WritesSlot, FrameAddressIsTaken}
 
 -- ---- what a frame keeps values in
 
@@ -26,11 +26,11 @@ IsWrittenBy i (InRegister r) = IsOneOf (written_registers i) r
 IsWrittenBy i (InSlot j) = WritesSlot i j
 
 -- the instruction at a slot of the code does
-abbrev pub Reads : Program → Home → ℕ → Type 0
-Reads p h slot = (i : Insn) × (fetch p slot ≡ Some i) × IsReadBy (IsHandedOn p) i h
+abbrev pub ReadsHome : Program → Home → ℕ → Type 0
+ReadsHome p h slot = (i : Insn) × (fetch p slot ≡ Some i) × IsReadBy (FrameAddressIsTaken p) i h
 
-abbrev pub Writes : Program → Home → ℕ → Type 0
-Writes p h slot = (i : Insn) × (fetch p slot ≡ Some i) × IsWrittenBy i h
+abbrev pub WritesHome : Program → Home → ℕ → Type 0
+WritesHome p h slot = (i : Insn) × (fetch p slot ≡ Some i) × IsWrittenBy i h
 
 -- ---- paths
 
@@ -40,8 +40,8 @@ GoesTo p slot to = (fall_to p slot ≡ Some to) ⊎ (jump_to p slot ≡ Some to)
 
 -- a path of n steps goes from a slot to one that reads it, and no instruction before writes it
 abbrev pub IsReadAfter : Program → Home → ℕ → ℕ → Type 0
-IsReadAfter p h zero slot = Reads p h slot
-IsReadAfter p h (suc n) slot = (next : ℕ) × GoesTo p slot next × (¬ Writes p h slot) × IsReadAfter p h n next
+IsReadAfter p h zero slot = ReadsHome p h slot
+IsReadAfter p h (suc n) slot = (next : ℕ) × GoesTo p slot next × (¬ WritesHome p h slot) × IsReadAfter p h n next
 
 -- some path from the slot reads it before it writes it
 abbrev pub IsHomeLive : Program → Home → ℕ → Type 0

@@ -7,14 +7,14 @@ use Rattle.control_flow.specs.declared.nodes.Node.{Node}
 use Rattle.control_flow.specs.Graph.{fall_to, jump_to}
 use Rattle.control_flow.specs.Masks.{HasHome, mask_at}
 use Rattle.control_flow.specs.Searches.{Extends}
-use Rattle.control_flow.specs.Liveness.{Home, Reads, Writes, IsHomeLive}
+use Rattle.control_flow.specs.Liveness.{Home, ReadsHome, WritesHome, IsHomeLive}
 
 -- ---- nodes
 
 -- what the instruction at a slot reads and writes, and its successors
 pub record IsNode (p : Program) (slot : ℕ) (node : Node) : Type 0 where
-  pub reads : (r : Home) → HasHome node.reads r ↔ Reads p r slot
-  pub writes : (r : Home) → HasHome node.writes r ↔ Writes p r slot
+  pub reads : (r : Home) → HasHome node.reads r ↔ ReadsHome p r slot
+  pub writes : (r : Home) → HasHome node.writes r ↔ WritesHome p r slot
   pub falls : node.falls_to ≡ fall_to p slot
   pub jumps : node.jumps_to ≡ jump_to p slot
 

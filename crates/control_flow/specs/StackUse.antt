@@ -42,15 +42,15 @@ WritesSlot i j = ⊥
 
 -- the instruction uses r10 other than as the base of a load or a store, so another register may
 -- point into the frame then
-abbrev pub HandsOn : Insn → Type 0
-HandsOn (Load size d place) = ⊥
-HandsOn (LoadSx size d place) = ⊥
-HandsOn (StoreConstant size place k) = ⊥
-HandsOn (Store size place r) = r ≡ R10
-HandsOn i = IsOneOf (read_registers i) R10
+abbrev pub TakesFrameAddress : Insn → Type 0
+TakesFrameAddress (Load size d place) = ⊥
+TakesFrameAddress (LoadSx size d place) = ⊥
+TakesFrameAddress (StoreConstant size place k) = ⊥
+TakesFrameAddress (Store size place r) = r ≡ R10
+TakesFrameAddress i = IsOneOf (read_registers i) R10
 
 abbrev pub HandsOnAt : Program → ℕ → Type 0
-HandsOnAt p slot = (i : Insn) × (fetch p slot ≡ Some i) × HandsOn i
+HandsOnAt p slot = (i : Insn) × (fetch p slot ≡ Some i) × TakesFrameAddress i
 
-abbrev pub IsHandedOn : Program → Type 0
-IsHandedOn p = (slot : ℕ) × HandsOnAt p slot
+abbrev pub FrameAddressIsTaken : Program → Type 0
+FrameAddressIsTaken p = (slot : ℕ) × HandsOnAt p slot

@@ -2,10 +2,10 @@
 
 ghost use Rattle.std.specs.Prelude.{◌≡◌, ◌<◌, ◌^◌, ℕ, ◌↔◌, false, IsTrue, IfOk, MatchOption};
 ghost use Rattle.isa_model.specs.declared.registers.Reg.{Reg as TheReg};
-ghost use Rattle.control_flow.specs.Liveness.{InRegister, Reads};
+ghost use Rattle.control_flow.specs.Liveness.{InRegister, ReadsHome};
 ghost use Rattle.control_flow.specs.Masks.{Has};
 ghost use Rattle.control_flow.specs.Nodes.{IsNode, AreNodes};
-ghost use Rattle.control_flow.specs.StackUse.{IsHandedOn};
+ghost use Rattle.control_flow.specs.StackUse.{FrameAddressIsTaken};
 
 use crate::homes::HomeMask;
 use crate::stack_accesses::{hands_on_at, homes_read, homes_written};
@@ -26,9 +26,9 @@ pub struct Node {
 /// The node of a slot, if r10 is handed on as is said.
 fn node_of(image: &Image, slot: usize, handed_on: bool) -> Node
     requires { slot < 2 ^ 63 }
-    ensures node { (IsTrue handed_on ↔ IsHandedOn image.now) → IsNode image.now slot result }
+    ensures node { (IsTrue handed_on ↔ FrameAddressIsTaken image.now) → IsNode image.now slot result }
     ensures registers { (r : TheReg) → Has result.reads.registers r
-        ↔ Reads image.now (InRegister r) slot }
+        ↔ ReadsHome image.now (InRegister r) slot }
 {
     let falls_to = fall_target(image, slot);
     let jumps_to = jump_target(image, slot);
@@ -50,9 +50,9 @@ fn node_of(image: &Image, slot: usize, handed_on: bool) -> Node
 
 /// The nodes of all slots, if r10 is handed on as is said. None: it is, which was not said.
 fn nodes_if(alloc: Global, image: &Image, handed_on: bool) -> Result<Option<Vec<Node>>, AllocError>
-    requires { IsTrue handed_on → IsHandedOn image.now }
+    requires { IsTrue handed_on → FrameAddressIsTaken image.now }
     ensures { IfOk result (λ found. MatchOption found
-        (IsHandedOn image.now × (handed_on ≡ false)) (λ nodes. AreNodes image.now nodes.items)) }
+        (FrameAddressIsTaken image.now × (handed_on ≡ false)) (λ nodes. AreNodes image.now nodes.items)) }
 {
     let mut nodes = Vec::with_capacity(alloc, image.slots())?;
     for slot in 0..image.slots() {

@@ -1,7 +1,7 @@
 //! Which slots can be reached from slot 0.
 
 ghost use Rattle.std.specs.Prelude.{◌≡◌, ◌<◌, ◌≤◌, ◌↔◌, ℕ, length, IfOk, OnOk};
-ghost use Rattle.control_flow.specs.Graph.{Leads, Reached};
+ghost use Rattle.control_flow.specs.Graph.{HasEdge, Reached};
 ghost use Rattle.control_flow.specs.Flows.{IsMarked, Fails, IsLowest};
 ghost use Rattle.control_flow.specs.Searches.{Extends};
 
@@ -15,8 +15,8 @@ use std::alloc::{AllocError, Global};
 /// Finds the successors of a slot.
 fn go_on(search: &mut Search, image: &Image, slot: usize) -> Result<(), AllocError>
     requires inside { slot < length image.now.insns }
-    requires leads { (to : ℕ) → Leads image.now slot to → to < length search.old.found.items }
-    ensures { OnOk result (Extends (Leads image.now slot)
+    requires leads { (to : ℕ) → HasEdge image.now slot to → to < length search.old.found.items }
+    ensures { OnOk result (Extends (HasEdge image.now slot)
         search.old.found.items search.old.frontier.items
         search.new.found.items search.new.frontier.items) }
 {
@@ -30,7 +30,7 @@ fn go_on(search: &mut Search, image: &Image, slot: usize) -> Result<(), AllocErr
 
 /// Marks the slots that can be reached from slot 0.
 pub fn reached(alloc: Global, image: &Image) -> Result<Vec<bool>, AllocError>
-    requires { (slot to : ℕ) → Leads image.now slot to → to < length image.now.insns }
+    requires { (slot to : ℕ) → HasEdge image.now slot to → to < length image.now.insns }
     ensures { IfOk result (λ marks. (slot : ℕ) → IsMarked marks.items slot
         ↔ Reached image.now slot) }
 {

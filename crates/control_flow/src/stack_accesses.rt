@@ -5,8 +5,8 @@ ghost use Rattle.std.specs.Prelude.{◌≡◌, ℕ, ◌<◌, ◌^◌, ◌↔◌,
 ghost use Rattle.isa_model.specs.declared.registers.Reg.{Reg as TheReg};
 ghost use Rattle.isa_model.specs.MustAccept.Paths.{IsOneOf};
 ghost use Rattle.control_flow.specs.Accesses.{read_registers};
-ghost use Rattle.control_flow.specs.StackUse.{IsByte, IsWithinSlot, IsWholeSlot, ReadsSlot, WritesSlot, HandsOn, HandsOnAt};
-ghost use Rattle.control_flow.specs.Liveness.{Home, InRegister, Reads, IsReadBy, IsWrittenBy};
+ghost use Rattle.control_flow.specs.StackUse.{IsByte, IsWithinSlot, IsWholeSlot, ReadsSlot, WritesSlot, TakesFrameAddress, HandsOnAt};
+ghost use Rattle.control_flow.specs.Liveness.{Home, InRegister, ReadsHome, IsReadBy, IsWrittenBy};
 ghost use Rattle.control_flow.specs.Masks.{Has, HasSlot, HasHome};
 
 use crate::accesses::{registers_read, registers_written};
@@ -81,7 +81,7 @@ fn slot_written(insn: &Insn) -> Option<u8>
 /// that it reads.
 fn hands_on(insn: &Insn, read: RegisterMask) -> bool
     requires { Has read TheReg.R10 ↔ IsOneOf (read_registers insn.now) TheReg.R10 }
-    ensures { IsTrue result ↔ HandsOn insn.now }
+    ensures { IsTrue result ↔ TakesFrameAddress insn.now }
 {
     match insn {
         Insn::Load(_, _, _) | Insn::LoadSx(_, _, _) | Insn::StoreConstant(_, _, _) => false,
@@ -92,7 +92,7 @@ fn hands_on(insn: &Insn, read: RegisterMask) -> bool
 
 /// The same of the instruction at a slot of the code, which reads these registers.
 pub fn hands_on_at(image: &Image, slot: usize, read: RegisterMask) -> bool
-    requires { Has read TheReg.R10 ↔ Reads image.now (InRegister TheReg.R10) slot }
+    requires { Has read TheReg.R10 ↔ ReadsHome image.now (InRegister TheReg.R10) slot }
     ensures { IsTrue result ↔ HandsOnAt image.now slot }
 {
     match image.at(slot) {

@@ -10,13 +10,13 @@ use Rattle.stack_state.specs.declared.states.State.{State}
 use Rattle.transfer.specs.declared.Ways.{Ways}
 use Rattle.transfer.specs.declared.Ways.TheVariants as ways
 use Rattle.table_entries.specs.Entries.{Entry}
-use Rattle.table_entries.specs.Tables.{Kept, Holds, entry_at, table_read}
+use Rattle.table_entries.specs.Tables.{Kept, KeepsEntries, entry_at, table_read}
 use Rattle.rechecking.specs.declared.errors.TableError.{TableError}
 use Rattle.rechecking.specs.Tables.{EntryAt}
 use Rattle.explanations.specs.declared.entries.EntryReason.{EntryReason}
 use Rattle.explanations.specs.declared.mismatches.Mismatch.{Mismatch}
 use Rattle.explanations.specs.declared.mismatches.Mismatch.TheVariants.{Missing, NotSmaller, Slot, Frames, Returns, Register, Stack}
-use Rattle.explanations.specs.Mismatches.{Differs, IsInside, IsMismatch, difference_lines}
+use Rattle.explanations.specs.Mismatches.{Differs, IsInBoth, IsMismatch, difference_lines}
 use Rattle.explanations.specs.Entries.{states_of, ways_in, count_line, TellsNamed, TellsSuccessors, IsReasonAt, IsEntryReason}
 
 -- ---- words
@@ -33,7 +33,7 @@ differs_by r nth index a b c x y z e f g h =
 
 -- an entry that is there, with a smaller number, differs so
 pub mismatches_of : (t : EntryAt) (number index : ℕ) (e a : State) (entry : Entry) (r : Option Mismatch) → t index ≡ Some entry → entry.state ≡ e → entry.number < number
-    → IfSome r (λ m. Differs e a m × IsInside e a m) → IfSome r (λ m. IsMismatch t number index e a m)
+    → IfSome r (λ m. Differs e a m × IsInBoth e a m) → IfSome r (λ m. IsMismatch t number index e a m)
 mismatches_of t number index e a entry None there same less h = tt
 mismatches_of t number index e a entry (Some Missing) there same less h = absurd h.0
 mismatches_of t number index e a entry (Some (NotSmaller other)) there same less h = absurd h.0
@@ -84,7 +84,7 @@ tells_second t number i j named w a b (Some s) at count is =
 -- ---- tables
 
 -- what is said by way of a table that is kept is said of its entries
-pub reasons_of : (p : Program) (bytes : List ℕ) (t : Kept) (entries : List Entry) (error : TableError) (r : Option EntryReason) → table_read p bytes ≡ Ok entries → Holds p t entries
+pub reasons_of : (p : Program) (bytes : List ℕ) (t : Kept) (entries : List Entry) (error : TableError) (r : Option EntryReason) → table_read p bytes ≡ Ok entries → KeepsEntries p t entries
     → IfSome r (λ f. IsReasonAt p (entry_at p t) error f.slot f.insn (string_bytes f.text)) → IfSome r (λ f. IsEntryReason p bytes error f.slot f.insn (string_bytes f.text))
 reasons_of p bytes t entries error None read holds is = tt
 reasons_of p bytes t entries error (Some f) read holds is =

@@ -7,7 +7,7 @@ use Rattle.stack_state.specs.declared.states.State.{State}
 use Rattle.transfer.specs.declared.Ways.{Ways}
 use Rattle.transfer.specs.declared.Ways.TheVariants as ways
 use Rattle.transfer.specs.declared.refusals.Refusal as transfer
-use Rattle.transfer.specs.Exact.{Makes}
+use Rattle.transfer.specs.Exact.{StepsToWays}
 use Rattle.walks.specs.declared.refusals.Refusal.TheVariants as refusal
 use Rattle.table_entries.specs.Entries.{Entry}
 use Rattle.table_entries.specs.Tables.{table_read}
@@ -61,10 +61,10 @@ TellsSuccessors t number named states text =
     ⊎ TellsOne t number named states text
 
 -- what is said of the entry, whose step is of this instruction
-abbrev pub TellsEntry : Program → EntryAt → TableError → Insn → Entry → List ℕ → Type 0
-TellsEntry p t (Step k r) i e text = text ≡ step_lines p.maps e.state i r
-TellsEntry p t (Successor k) i e text = (w : Ways) × (a : State) × (b : State) × Makes p e.state i w a b × TellsSuccessors t e.number e.successors (states_of w a b) text
-TellsEntry p t error i e text = ⊥
+abbrev pub SaysOfEntry : Program → EntryAt → TableError → Insn → Entry → List ℕ → Type 0
+SaysOfEntry p t (Step k r) i e text = text ≡ step_lines p.maps e.state i r
+SaysOfEntry p t (Successor k) i e text = (w : Ways) × (a : State) × (b : State) × StepsToWays p e.state i w a b × TellsSuccessors t e.number e.successors (states_of w a b) text
+SaysOfEntry p t error i e text = ⊥
 
 -- the entry that is refused
 abbrev pub IsIndexOf : TableError → ℕ → Type 0
@@ -80,7 +80,7 @@ pub record IsReasonAt (p : Program) (t : EntryAt) (error : TableError) (slot : �
   pub there : t index ≡ Some entry
   pub slot_is : slot ≡ entry.state.slot
   pub here : fetch p slot ≡ Some i
-  pub tells : TellsEntry p t error i entry text
+  pub tells : SaysOfEntry p t error i entry text
 
 -- of the entries that the bytes are
 abbrev pub IsEntryReason : Program → List ℕ → TableError → ℕ → Insn → List ℕ → Type 0

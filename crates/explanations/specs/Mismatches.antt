@@ -14,11 +14,11 @@ use Rattle.explanations.specs.declared.mismatches.Mismatch.TheVariants.{Missing,
 -- ---- what is wrong with an entry that is named
 
 -- places are in frames that both have
-abbrev pub IsInside : State → State → Mismatch → Type 0
-IsInside e a (Returns frame) = (frame < depth e) × (frame < depth a)
-IsInside e a (Register frame register) = (frame < depth e) × (frame < depth a)
-IsInside e a (Stack frame slot) = (frame < depth e) × (frame < depth a) × (slot < frame_slots)
-IsInside e a m = Unit {0}
+abbrev pub IsInBoth : State → State → Mismatch → Type 0
+IsInBoth e a (Returns frame) = (frame < depth e) × (frame < depth a)
+IsInBoth e a (Register frame register) = (frame < depth e) × (frame < depth a)
+IsInBoth e a (Stack frame slot) = (frame < depth e) × (frame < depth a) × (slot < frame_slots)
+IsInBoth e a m = Unit {0}
 
 -- the state of the entry, and a successor
 abbrev pub Differs : State → State → Mismatch → Type 0
@@ -27,7 +27,7 @@ Differs e a (NotSmaller number) = ⊥
 Differs e a Slot = e.slot ≢ a.slot
 Differs e a Frames = depth e ≢ depth a
 Differs e a (Returns frame) = (frame_of e frame).return_slot ≢ (frame_of a frame).return_slot
-Differs e a m = IsInside e a m
+Differs e a m = IsInBoth e a m
 
 -- the entry of that index is there with this state and a smaller number, and differs so
 pub record IsThere (t : EntryAt) (number index : ℕ) (e a : State) (m : Mismatch) : Type 0 where
@@ -38,7 +38,7 @@ pub record IsThere (t : EntryAt) (number index : ℕ) (e a : State) (m : Mismatc
   pub differs : Differs e a m
 
 -- its number is this one
-pub record HasNumber (t : EntryAt) (number index other : ℕ) : Type 0 where
+pub record EntryHasNumber (t : EntryAt) (number index other : ℕ) : Type 0 where
   pub entry : Entry
   pub there : t index ≡ Some entry
   pub number_is : entry.number ≡ other
@@ -47,7 +47,7 @@ pub record HasNumber (t : EntryAt) (number index other : ℕ) : Type 0 where
 -- why the entry of that index does not pass for the state a, after an entry of that number
 abbrev pub IsMismatch : EntryAt → ℕ → ℕ → State → State → Mismatch → Type 0
 IsMismatch t number index e a Missing = t index ≡ None
-IsMismatch t number index e a (NotSmaller other) = HasNumber t number index other
+IsMismatch t number index e a (NotSmaller other) = EntryHasNumber t number index other
 IsMismatch t number index e a m = IsThere t number index e a m
 
 -- ---- words

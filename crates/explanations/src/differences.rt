@@ -4,7 +4,7 @@ ghost use Rattle.std.specs.Prelude.{◌≡◌, ◌<◌, IfOk, decimal};
 ghost use Rattle.std.specs.String.{string_bytes};
 ghost use Rattle.stack_state.specs.Meaning.{depth};
 ghost use Rattle.stack_state.specs.Slots.{frame_slots};
-ghost use Rattle.explanations.specs.Mismatches.{IsInside, difference_lines, mismatch_lines, register_words, stack_words, stack_difference, returns_words, up_words};
+ghost use Rattle.explanations.specs.Mismatches.{IsInBoth, difference_lines, mismatch_lines, register_words, stack_words, stack_difference, returns_words, up_words};
 
 use crate::kinds::{calls_up, kind_words};
 use crate::mismatches::{Mismatch, frame_of};
@@ -237,7 +237,7 @@ pub fn mismatch_lines(
     state: &State,
     found: Mismatch,
 ) -> Result<String, AllocError>
-    requires { IsInside entry.now state.now found }
+    requires { IsInBoth entry.now state.now found }
     ensures { IfOk result (λ text. string_bytes text
         ≡ mismatch_lines number nth index entry.now state.now found) }
 {

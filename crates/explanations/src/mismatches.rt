@@ -4,7 +4,7 @@ ghost use Rattle.std.specs.Prelude.{◌≡◌, ◌<◌, IfSome};
 ghost use Rattle.stack_state.specs.Meaning.{depth, frame_of};
 ghost use Rattle.stack_state.specs.Slots.{frame_slots};
 ghost use Rattle.table_entries.specs.Tables.{entry_at};
-ghost use Rattle.explanations.specs.Mismatches.{IsInside, Differs, IsMismatch};
+ghost use Rattle.explanations.specs.Mismatches.{IsInBoth, Differs, IsMismatch};
 
 use image::Image;
 use reg_state::Kind;
@@ -111,7 +111,7 @@ fn first_place(entry: &State, state: &State, frame: usize) -> Option<Mismatch>
     requires entry { frame < depth entry.now }
     requires state { frame < depth state.now }
     ensures { IfSome result
-        (λ found. Differs entry.now state.now found × IsInside entry.now state.now found) }
+        (λ found. Differs entry.now state.now found × IsInBoth entry.now state.now found) }
 {
     if frame_of(entry, frame).return_slot != frame_of(state, frame).return_slot {
         return Some(Mismatch::Returns(frame));
@@ -128,7 +128,7 @@ fn first_place(entry: &State, state: &State, frame: usize) -> Option<Mismatch>
 /// In what the state of an entry differs that does not cover another.
 fn difference(entry: &State, state: &State) -> Option<Mismatch>
     ensures { IfSome result
-        (λ found. Differs entry.now state.now found × IsInside entry.now state.now found) }
+        (λ found. Differs entry.now state.now found × IsInBoth entry.now state.now found) }
 {
     if entry.slot != state.slot {
         return Some(Mismatch::Slot);
@@ -156,7 +156,7 @@ pub fn mismatch_of(
 ) -> Option<Mismatch>
     ensures is { IfSome result (λ found. IsMismatch (entry_at image.now table.now) number index
         room.new state.now found) }
-    ensures inside { IfSome result (λ found. IsInside room.new state.now found) }
+    ensures inside { IfSome result (λ found. IsInBoth room.new state.now found) }
 {
     let Some(head) = table.read(image, index as usize, room) else {
         return Some(Mismatch::Missing);

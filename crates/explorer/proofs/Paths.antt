@@ -11,16 +11,16 @@ use Rattle.transfer.specs.Leading.{LeadsTo}
 use Rattle.explorer.specs.declared.stored_states.Stored.{Stored}
 use Rattle.explorer.specs.declared.trail.Visit.{Visit}
 use Rattle.walks.specs.Counts.{StepsInto, HasNumber, LeadsToOne, LeadsToTwo}
-use Rattle.explorer.specs.Search.{MeantBy, Waits, AwaitsBoth, Awaits, Waiting, Path}
-use Rattle.explorer.proofs.Stores.{Keeps, Keeps-at}
+use Rattle.explorer.specs.Search.{MeantBy, StepsCovered, NumberFollowsBoth, NumberFollows, Waiting, Path}
+use Rattle.explorer.proofs.Stores.{KeepsPlaces, KeepsPlaces-at}
 
 -- ---- paths
 
-Waiting-more : (p : Program) (m n : ℕ) (old new : List Stored) (visit : Visit) (s child : State) → m ≤ n → Keeps old new → Waiting p m old visit s child → Waiting p n new visit s child
+Waiting-more : (p : Program) (m n : ℕ) (old new : List Stored) (visit : Visit) (s child : State) → m ≤ n → KeepsPlaces old new → Waiting p m old visit s child → Waiting p n new visit s child
 Waiting-more p m n old new visit s child le kept h =
-    record { waits = h.waits; awaits = h.awaits; steps = h.steps; steps_aside = h.steps_aside; best = omega (arith, h.best); stored = Keeps-at old new visit.stored s kept h.stored; ready = h.ready }
+    record { waits = h.waits; awaits = h.awaits; steps = h.steps; steps_aside = h.steps_aside; best = omega (arith, h.best); stored = KeepsPlaces-at old new visit.stored s kept h.stored; ready = h.ready }
 
-pub Path-more : (p : Program) (m n : ℕ) (old new : List Stored) → m ≤ n → Keeps old new → (path : List Visit) (a b : State) → Path p m old a path b → Path p n new a path b
+pub Path-more : (p : Program) (m n : ℕ) (old new : List Stored) → m ≤ n → KeepsPlaces old new → (path : List Visit) (a b : State) → Path p m old a path b → Path p n new a path b
 unfolding Path
 Path-more p m n old new le kept [] a b h = h
 Path-more p m n old new le kept (visit ∷ path) a b h =
@@ -57,9 +57,9 @@ Path-here p m entries path a b none e = subst (λ x. Path p m entries a x b) (sy
 -- ---- what a visit waits for
 
 -- the child ends within its number, and nothing is pending
-pub Waits-ends : (p : Program) (visit : Visit) (s child : State) (n best : ℕ) → Waits p visit s child → visit.pending ≡ None → Within p child n → best ≡ max visit.best n → Within p s (best + 1)
-unfolding Waits Within Ends
-Waits-ends p visit s child n best waits none within is = rw add-one (λ clock fits w means.
+pub StepsCovered-ends : (p : Program) (visit : Visit) (s child : State) (n best : ℕ) → StepsCovered p visit s child → visit.pending ≡ None → Within p child n → best ≡ max visit.best n → Within p s (best + 1)
+unfolding StepsCovered Within Ends
+StepsCovered-ends p visit s child n best waits none within is = rw add-one (λ clock fits w means.
     After-weaker (λ v. Means p child v ⊎ (MeantBy p visit.pending v ⊎ Ends p clock v visit.best)) (λ v. Ends p clock v best) (step p clock w)
     (λ v h. elim h [
       | inl a ↦ Ends-more p clock v n best (omega arith) (within clock fits v a)
@@ -68,10 +68,10 @@ Waits-ends p visit s child n best waits none within is = rw add-one (λ clock fi
     (waits clock fits w means))
 
 -- the pending state is explored next
-pub Waits-next : (p : Program) (visit : Visit) (s child other : State) (n : ℕ) → Waits p visit s child → visit.pending ≡ Some other → Within p child n
-    → Waits p (record { pending = None; best = max visit.best n; stored = visit.stored }) s other
-unfolding Waits Within Ends
-Waits-next p visit s child other n waits some within = λ clock fits w means.
+pub StepsCovered-next : (p : Program) (visit : Visit) (s child other : State) (n : ℕ) → StepsCovered p visit s child → visit.pending ≡ Some other → Within p child n
+    → StepsCovered p (record { pending = None; best = max visit.best n; stored = visit.stored }) s other
+unfolding StepsCovered Within Ends
+StepsCovered-next p visit s child other n waits some within = λ clock fits w means.
     After-weaker (λ v. Means p child v ⊎ (MeantBy p visit.pending v ⊎ Ends p clock v visit.best)) (λ v. Means p other v ⊎ (⊥ ⊎ Ends p clock v (max visit.best n))) (step p clock w)
     (λ v h. elim h [
       | inl a ↦ inr (inr (Ends-more p clock v n (max visit.best n) (omega arith) (within clock fits v a)))
@@ -81,24 +81,24 @@ Waits-next p visit s child other n waits some within = λ clock fits w means.
 
 -- ---- the number that a visit awaits
 
-pub Awaits-ends : (p : Program) (visit : Visit) (s child : State) (n best : ℕ) → Awaits p visit s child → visit.pending ≡ None → HasNumber p child n → best ≡ max visit.best n → HasNumber p s (best + 1)
-unfolding Awaits
-Awaits-ends p visit s child n best awaits none number is =
-    let own : HasNumber p s (max visit.best n + 1) = subst (λ o. AwaitsBoth p o s (max visit.best n)) none (awaits n number) in
+pub NumberFollows-ends : (p : Program) (visit : Visit) (s child : State) (n best : ℕ) → NumberFollows p visit s child → visit.pending ≡ None → HasNumber p child n → best ≡ max visit.best n → HasNumber p s (best + 1)
+unfolding NumberFollows
+NumberFollows-ends p visit s child n best awaits none number is =
+    let own : HasNumber p s (max visit.best n + 1) = subst (λ o. NumberFollowsBoth p o s (max visit.best n)) none (awaits n number) in
     subst (λ b. HasNumber p s (b + 1)) (sym is) own
 
-pub Awaits-next : (p : Program) (visit : Visit) (s child other : State) (n : ℕ) → Awaits p visit s child → visit.pending ≡ Some other → HasNumber p child n
-    → Awaits p (record { pending = None; best = max visit.best n; stored = visit.stored }) s other
-unfolding Awaits
-Awaits-next p visit s child other n awaits some number = subst (λ o. AwaitsBoth p o s (max visit.best n)) some (awaits n number)
+pub NumberFollows-next : (p : Program) (visit : Visit) (s child other : State) (n : ℕ) → NumberFollows p visit s child → visit.pending ≡ Some other → HasNumber p child n
+    → NumberFollows p (record { pending = None; best = max visit.best n; stored = visit.stored }) s other
+unfolding NumberFollows
+NumberFollows-next p visit s child other n awaits some number = subst (λ o. NumberFollowsBoth p o s (max visit.best n)) some (awaits n number)
 
-pub Awaits-one : (p : Program) (s a b : State) (stored : Option ℕ) → StepsInto p s ways.One a b → Awaits p (record { pending = None; best = 0; stored = stored }) s a
-unfolding Awaits
-Awaits-one p s a b stored step = λ n number. LeadsToOne s a b n (max 0 n + 1) step number (omega arith)
+pub NumberFollows-one : (p : Program) (s a b : State) (stored : Option ℕ) → StepsInto p s ways.One a b → NumberFollows p (record { pending = None; best = 0; stored = stored }) s a
+unfolding NumberFollows
+NumberFollows-one p s a b stored step = λ n number. LeadsToOne s a b n (max 0 n + 1) step number (omega arith)
 
-pub Awaits-two : (p : Program) (s a b : State) (stored : Option ℕ) → StepsInto p s ways.Two a b → Awaits p (record { pending = Some b; best = 0; stored = stored }) s a
-unfolding Awaits
-Awaits-two p s a b stored step = λ n number k other. LeadsToTwo s a b n k (max (max 0 n) k + 1) step number other (omega arith)
+pub NumberFollows-two : (p : Program) (s a b : State) (stored : Option ℕ) → StepsInto p s ways.Two a b → NumberFollows p (record { pending = Some b; best = 0; stored = stored }) s a
+unfolding NumberFollows
+NumberFollows-two p s a b stored step = λ n number k other. LeadsToTwo s a b n k (max (max 0 n) k + 1) step number other (omega arith)
 
 -- ---- where a step leads
 
@@ -107,13 +107,13 @@ pub LeadsTo-ends : (p : Program) (s a b : State) → LeadsTo p s ways.None a b �
 unfolding LeadsTo Within Ends
 LeadsTo-ends p s a b leads = λ clock fits w means. After-weaker (λ v. ⊥) (λ v. Ends p clock v 0) (step p clock w) (λ v h. h) (leads clock fits w means)
 
-pub Waits-one : (p : Program) (s a b : State) (stored : Option ℕ) → LeadsTo p s ways.One a b → Waits p (record { pending = None; best = 0; stored = stored }) s a
-unfolding LeadsTo Waits
-Waits-one p s a b stored leads = λ clock fits w means.
+pub StepsCovered-one : (p : Program) (s a b : State) (stored : Option ℕ) → LeadsTo p s ways.One a b → StepsCovered p (record { pending = None; best = 0; stored = stored }) s a
+unfolding LeadsTo StepsCovered
+StepsCovered-one p s a b stored leads = λ clock fits w means.
     After-weaker (λ v. Means p a v) (λ v. Means p a v ⊎ (⊥ ⊎ Ends p clock v 0)) (step p clock w) (λ v h. inl h) (leads clock fits w means)
 
-pub Waits-two : (p : Program) (s a b : State) (stored : Option ℕ) → LeadsTo p s ways.Two a b → Waits p (record { pending = Some b; best = 0; stored = stored }) s a
-unfolding LeadsTo Waits
-Waits-two p s a b stored leads = λ clock fits w means.
+pub StepsCovered-two : (p : Program) (s a b : State) (stored : Option ℕ) → LeadsTo p s ways.Two a b → StepsCovered p (record { pending = Some b; best = 0; stored = stored }) s a
+unfolding LeadsTo StepsCovered
+StepsCovered-two p s a b stored leads = λ clock fits w means.
     After-weaker (λ v. Means p a v ⊎ Means p b v) (λ v. Means p a v ⊎ (Means p b v ⊎ Ends p clock v 0)) (step p clock w)
     (λ v h. elim h [ inl x ↦ inl x | inr y ↦ inr (inl y) ]) (leads clock fits w means)

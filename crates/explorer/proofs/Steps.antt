@@ -22,7 +22,7 @@ use Rattle.transfer.specs.declared.Ways.{Ways}
 use Rattle.transfer.specs.declared.Ways.TheVariants as ways
 use Rattle.transfer.specs.Leading.{LeadsTo, EachWay}
 use Rattle.transfer.specs.Following.{returns_of, GoesOnTo}
-use Rattle.transfer.specs.Exact.{Makes}
+use Rattle.transfer.specs.Exact.{StepsToWays}
 use Rattle.explorer.specs.declared.stored_states.Stored.{Stored}
 use Rattle.explorer.specs.declared.trail.Visit.{Visit}
 use Rattle.explorer.specs.declared.search.Search.{Search}
@@ -30,21 +30,21 @@ use Rattle.explorer.specs.Trail.{Visits}
 use Rattle.explorer.specs.declared.stored_states.StoredStates.{StoredStates}
 use Rattle.explorer.specs.declared.moves.Move.{Move}
 use Rattle.explorer.specs.declared.moves.Move.TheVariants.{New, Covered, Finished}
-use Rattle.explorer.specs.StoredStates.{StoredAt, IsNumbered}
-use Rattle.explorer.specs.Search.{Settles, Spends, CountsTo, Arrives, AllFine, IsReady, IfReady, IfStepsTo, Waiting, Path, OnPath, HasEnded, Explores, Comes, Moves}
+use Rattle.explorer.specs.StoredStates.{StoredAt, GetsNumber}
+use Rattle.explorer.specs.Search.{Settles, Spends, CountsTo, Arrives, AllSettled, IsAtInsns, IfReady, IfStepsTo, Waiting, Path, OnPath, HasEnded, Explores, Comes, AfterMove}
 use Rattle.walks.specs.Forgetting.{Forgets}
 use Rattle.walks.proofs.Forgotten.{Forgets-slot, Forgets-returns, LeadsTo-forgets, GoesOnTo-forgets}
 use Rattle.explorer.proofs.Walking.{steps_by, into_by, Path-walks}
 use Rattle.explorer.proofs.Counting.{Spends-one, Spends-two, spent_here, spent_into, spent_on}
 use Rattle.walks.specs.Counts.{StepsInto, LeadsNowhere, Nothing}
-use Rattle.explorer.proofs.Stores.{AllFine-more, IsCovered-known, Arrives-keeps, Arrives-fine, Arrives-stored, IsNumbered-fine, IsNumbered-keeps}
+use Rattle.explorer.proofs.Stores.{AllSettled-more, IsCovered-known, Arrives-keeps, Arrives-fine, Arrives-stored, GetsNumber-fine, GetsNumber-keeps}
 use Rattle.explorer.proofs.Unfinished.{OnPath-same, OnPath-push, OnPath-pop, OnPath-arrives, OnPath-finish}
-use Rattle.explorer.proofs.Paths.{Last, Path-more, Path-push, Path-pop, Waits-ends, Waits-next, LeadsTo-ends, Waits-one, Waits-two, Awaits-ends, Awaits-next, Awaits-one, Awaits-two}
+use Rattle.explorer.proofs.Paths.{Last, Path-more, Path-push, Path-pop, StepsCovered-ends, StepsCovered-next, LeadsTo-ends, StepsCovered-one, StepsCovered-two, NumberFollows-ends, NumberFollows-next, NumberFollows-one, NumberFollows-two}
 
 -- ---- an arrival
 
 pub comes_to : (p : Program) (old : Search) (states : StoredStates) (scratch : State) (made : Move) → Comes p old → Arrives p old.stored.entries.items old.current made states.entries.items
-    → Moves p (record old { stored = states; scratch = scratch }) made
+    → AfterMove p (record old { stored = states; scratch = scratch }) made
 comes_to p old states scratch (New stored) h arrives =
     let before = old.stored.entries.items in
     let after = states.entries.items in
@@ -90,28 +90,28 @@ comes_to p old states scratch (Finished n) h arrives = absurd arrives
 -- the number is written, and the search is at the state before
 pub record IsBack (p : Program) (m : ℕ) (entries : List Stored) (a : State) (path : List Visit) (number : ℕ) : Type 0 where
   pub state : State
-  pub fine : AllFine p m entries
+  pub fine : AllSettled p m entries
   pub before : Path p m entries a path state
   pub on_path : OnPath entries path None
   pub within : Settles p state number
   pub most : number ≤ m
 
 pub step_back : (p : Program) (m : ℕ) (old new : List Stored) (a : State) (path : List Visit) (visit : Visit) (child : State) (n best : ℕ)
-    → Forgets p start a → AllFine p m old → Last p m old a path visit child → OnPath old path visit.stored → Settles p child n → n ≤ m → visit.pending ≡ None → best ≡ max visit.best n
-    → IsNumbered old visit.stored (best + 1) new → IsBack p (m + 1) new a path (best + 1)
+    → Forgets p start a → AllSettled p m old → Last p m old a path visit child → OnPath old path visit.stored → Settles p child n → n ≤ m → visit.pending ≡ None → best ≡ max visit.best n
+    → GetsNumber old visit.stored (best + 1) new → IsBack p (m + 1) new a path (best + 1)
 step_back p m old new a path visit child n best root fine last on_path within le nothing is numbered =
     let s = last.state in
     let waiting = last.waiting in
     let own : Settles p s (best + 1) = record {
-      within = Waits-ends p visit s child n best waiting.waits nothing within.within is;
-      number = Awaits-ends p visit s child n best waiting.awaits nothing within.number is;
+      within = StepsCovered-ends p visit s child n best waiting.waits nothing within.within is;
+      number = NumberFollows-ends p visit s child n best waiting.awaits nothing within.number is;
     } in
     let most : best ≤ m = omega (arith, waiting.best, le, is) in
-    let kept = IsNumbered-keeps old visit.stored s (best + 1) new numbered waiting.stored in
+    let kept = GetsNumber-keeps old visit.stored s (best + 1) new numbered waiting.stored in
     record {
       state = s;
-      fine = IsNumbered-fine p (m + 1) old visit.stored s (best + 1) new numbered waiting.stored own (omega (arith, most))
-          (length path, Path-walks p m old path a s root last.before) (AllFine-more p m (m + 1) old (omega arith) fine);
+      fine = GetsNumber-fine p (m + 1) old visit.stored s (best + 1) new numbered waiting.stored own (omega (arith, most))
+          (length path, Path-walks p m old path a s root last.before) (AllSettled-more p m (m + 1) old (omega arith) fine);
       before = Path-more p m (m + 1) old new (omega arith) kept path a s last.before;
       on_path = OnPath-finish old new path visit.stored s (best + 1) numbered waiting.stored (omega arith) on_path;
       within = own;
@@ -129,8 +129,8 @@ step_aside p m entries a path visit child n current last within le is =
     let next : Visit = record { pending = None; best = max visit.best n; stored = visit.stored } in
     let waiting : Waiting p m entries next s current =
     record {
-      waits = Waits-next p visit s child current n last.waiting.waits is within.within;
-      awaits = Awaits-next p visit s child current n last.waiting.awaits is within.number;
+      waits = StepsCovered-next p visit s child current n last.waiting.waits is within.within;
+      awaits = NumberFollows-next p visit s child current n last.waiting.awaits is within.number;
       steps = subst (IfStepsTo p s) is last.waiting.steps_aside;
       steps_aside = tt;
       best = omega (arith, last.waiting.best, le);
@@ -163,17 +163,17 @@ comes_aside p old path visit rest whole n current h was is rest_is pushed =
 -- ---- a visit that begins
 
 -- where control flow is good an instruction begins after each step, and where exits lead
-IsReady-next : (p : Program) (s next : State) → IsFlow p → IsReady p s → GoesOnTo p s next → IsReady p next
-IsReady-next p s next flow ready (inl h) = record {
+IsAtInsns-next : (p : Program) (s next : State) → IsFlow p → IsAtInsns p s → GoesOnTo p s next → IsAtInsns p next
+IsAtInsns-next p s next flow ready (inl h) = record {
   begins = IsFlow-Follows p s.slot next.slot flow h.follows;
   returns = subst (All (BeginsInsn p)) (sym h.returns) ready.returns;
 }
-IsReady-next p s next flow ready (inr (inl h)) = record {
+IsAtInsns-next p s next flow ready (inr (inl h)) = record {
   begins = subst (BeginsInsn p) (sym h.target) (IsFlow-call p s.slot (CallLocal h.by) h.by flow h.here refl);
   returns = subst (All (BeginsInsn p)) (sym h.returns)
       (All-push (BeginsInsn p) (returns_of s) (s.slot + 1) ready.returns (IsFlow-fall p s.slot (CallLocal h.by) flow h.here refl));
 }
-IsReady-next p s next flow ready (inr (inr h)) =
+IsAtInsns-next p s next flow ready (inr (inr h)) =
     let all : All (BeginsInsn p) (returns_of next ++ next.slot ∷ []) = subst (All (BeginsInsn p)) h.returns ready.returns in
     let (returns, begins) = All-pop (BeginsInsn p) (returns_of next ++ next.slot ∷ []) (returns_of next) (Some next.slot) refl all in
     record { begins = begins; returns = returns }
@@ -182,17 +182,17 @@ some_there : (o : Option Insn) → IsSome o → (i : Insn) × (o ≡ Some i)
 some_there (Some i) h = (i, refl)
 some_there None h = absurd (cc)
 
-pub fetched : (p : Program) (s : State) → IsReady p s → (i : Insn) × (fetch p s.slot ≡ Some i)
+pub fetched : (p : Program) (s : State) → IsAtInsns p s → (i : Insn) × (fetch p s.slot ≡ Some i)
 fetched p s ready = some_there (fetch p s.slot) ready.begins
 
 -- the instruction's state waits for the state after it
 pub record Entered (p : Program) (m : ℕ) (entries : List Stored) (visit : Visit) (s next : State) : Type 0 where
   pub waiting : Waiting p m entries visit s next
-  pub ready : IsReady p next
+  pub ready : IsAtInsns p next
   pub spends : Spends p visit s next 1
 
-pub one_way : (p q : Program) (m : ℕ) (entries : List Stored) (stored : Option ℕ) (s a b first : State) (w : Ways) (pending : Option State) → p ≡ q → IsFlow p → IsReady p s → StoredAt entries stored s
-    → LeadsTo q s w a b → ((i : Insn) → fetch q s.slot ≡ Some i → Makes q s i w a b) → EachWay w a b (GoesOnTo q s) → Forgets p a first → w ≡ ways.One → pending ≡ None
+pub one_way : (p q : Program) (m : ℕ) (entries : List Stored) (stored : Option ℕ) (s a b first : State) (w : Ways) (pending : Option State) → p ≡ q → IsFlow p → IsAtInsns p s → StoredAt entries stored s
+    → LeadsTo q s w a b → ((i : Insn) → fetch q s.slot ≡ Some i → StepsToWays q s i w a b) → EachWay w a b (GoesOnTo q s) → Forgets p a first → w ≡ ways.One → pending ≡ None
     → Entered p m entries (record { pending = pending; best = 0; stored = stored }) s first
 one_way p q m entries stored s a b first w pending same flow ready at leads makes follows forgets is none =
     let (i, here) = fetched p s ready in
@@ -200,13 +200,13 @@ one_way p q m entries stored s a b first w pending same flow ready at leads make
     let follows' : GoesOnTo p s a = subst (λ x. GoesOnTo x s a) (sym same) (subst (λ x. EachWay x a b (GoesOnTo q s)) is follows) in
     let into = into_by p q s a b first b w ways.One same makes i here is forgets in
     subst (λ x. Entered p m entries (record { pending = x; best = 0; stored = stored }) s first) (sym none) (record {
-      waiting = record { waits = Waits-one p s first b stored leads'; awaits = Awaits-one p s first b stored into; steps = steps_by p q s a b a first w ways.One same makes i here is refl forgets; steps_aside = tt; best = omega arith; stored = at; ready = tt };
-      ready = IsReady-next p s first flow ready (GoesOnTo-forgets p s a first forgets follows');
+      waiting = record { waits = StepsCovered-one p s first b stored leads'; awaits = NumberFollows-one p s first b stored into; steps = steps_by p q s a b a first w ways.One same makes i here is refl forgets; steps_aside = tt; best = omega arith; stored = at; ready = tt };
+      ready = IsAtInsns-next p s first flow ready (GoesOnTo-forgets p s a first forgets follows');
       spends = Spends-one p s first b stored into;
     })
 
-pub two_ways : (p q : Program) (m : ℕ) (entries : List Stored) (stored : Option ℕ) (s a b first other : State) (w : Ways) (pending : Option State) → p ≡ q → IsFlow p → IsReady p s → StoredAt entries stored s
-    → LeadsTo q s w a b → ((i : Insn) → fetch q s.slot ≡ Some i → Makes q s i w a b) → EachWay w a b (GoesOnTo q s) → Forgets p a first → Forgets p b other → w ≡ ways.Two → pending ≡ Some other
+pub two_ways : (p q : Program) (m : ℕ) (entries : List Stored) (stored : Option ℕ) (s a b first other : State) (w : Ways) (pending : Option State) → p ≡ q → IsFlow p → IsAtInsns p s → StoredAt entries stored s
+    → LeadsTo q s w a b → ((i : Insn) → fetch q s.slot ≡ Some i → StepsToWays q s i w a b) → EachWay w a b (GoesOnTo q s) → Forgets p a first → Forgets p b other → w ≡ ways.Two → pending ≡ Some other
     → Entered p m entries (record { pending = pending; best = 0; stored = stored }) s first
 two_ways p q m entries stored s a b first other w pending same flow ready at leads makes follows forgets aside is some =
     let (i, here) = fetched p s ready in
@@ -216,15 +216,15 @@ two_ways p q m entries stored s a b first other w pending same flow ready at lea
     let into = into_by p q s a b first other w ways.Two same makes i here is (forgets, aside) in
     subst (λ x. Entered p m entries (record { pending = x; best = 0; stored = stored }) s first) (sym some) (record {
       waiting = record {
-        waits = Waits-two p s first other stored leads';
-        awaits = Awaits-two p s first other stored into;
+        waits = StepsCovered-two p s first other stored leads';
+        awaits = NumberFollows-two p s first other stored into;
         steps = steps_by p q s a b a first w ways.Two same makes i here is (inl refl) forgets;
         steps_aside = steps_by p q s a b b other w ways.Two same makes i here is (inr refl) aside;
         best = omega arith;
         stored = at;
-        ready = IsReady-next p s other flow ready (GoesOnTo-forgets p s b other aside follows'.1);
+        ready = IsAtInsns-next p s other flow ready (GoesOnTo-forgets p s b other aside follows'.1);
       };
-      ready = IsReady-next p s first flow ready (GoesOnTo-forgets p s a first forgets follows'.0);
+      ready = IsAtInsns-next p s first flow ready (GoesOnTo-forgets p s a first forgets follows'.0);
       spends = Spends-two p s first other stored into;
     })
 
@@ -252,8 +252,8 @@ comes_into p old x stored pending whole a o first is at entered pushed =
     })
 
 -- nothing goes on, and the number 1 is written
-pub step_ends : (p q : Program) (m : ℕ) (old new : List Stored) (a : State) (path : List Visit) (stored : Option ℕ) (s x y : State) (w : Ways) → Forgets p start a → p ≡ q → AllFine p m old → Path p m old a path s → StoredAt old stored s
-    → OnPath old path stored → LeadsTo q s w x y → StepsInto p s ways.None x y → w ≡ ways.None → IsNumbered old stored 1 new → IsBack p (m + 1) new a path 1
+pub step_ends : (p q : Program) (m : ℕ) (old new : List Stored) (a : State) (path : List Visit) (stored : Option ℕ) (s x y : State) (w : Ways) → Forgets p start a → p ≡ q → AllSettled p m old → Path p m old a path s → StoredAt old stored s
+    → OnPath old path stored → LeadsTo q s w x y → StepsInto p s ways.None x y → w ≡ ways.None → GetsNumber old stored 1 new → IsBack p (m + 1) new a path 1
 step_ends p q m old new a path stored s x y w root same fine before at on_path leads into is numbered =
     let within : Settles p s 1 = record {
       within = LeadsTo-ends p s x y (subst (λ z. LeadsTo z s ways.None x y) (sym same) (subst (λ z. LeadsTo q s z x y) is leads));
@@ -261,9 +261,9 @@ step_ends p q m old new a path stored s x y w root same fine before at on_path l
     } in
     record {
       state = s;
-      fine = IsNumbered-fine p (m + 1) old stored s 1 new numbered at within (omega arith)
-          (length path, Path-walks p m old path a s root before) (AllFine-more p m (m + 1) old (omega arith) fine);
-      before = Path-more p m (m + 1) old new (omega arith) (IsNumbered-keeps old stored s 1 new numbered at) path a s before;
+      fine = GetsNumber-fine p (m + 1) old stored s 1 new numbered at within (omega arith)
+          (length path, Path-walks p m old path a s root before) (AllSettled-more p m (m + 1) old (omega arith) fine);
+      before = Path-more p m (m + 1) old new (omega arith) (GetsNumber-keeps old stored s 1 new numbered at) path a s before;
       on_path = OnPath-finish old new path stored s 1 numbered at (omega arith) on_path;
       within = within;
       most = omega arith;
@@ -271,25 +271,25 @@ step_ends p q m old new a path stored s x y w root same fine before at on_path l
 
 -- ---- the start
 
-pub empty_fine : (p : Program) (m : ℕ) (entries : List Stored) → entries ≡ [] → AllFine p m entries
-unfolding AllFine
-empty_fine p m entries e = subst (λ x. AllFine p m x) (sym e) (λ k d h. absurd (omega arith))
+pub empty_fine : (p : Program) (m : ℕ) (entries : List Stored) → entries ≡ [] → AllSettled p m entries
+unfolding AllSettled
+empty_fine p m entries e = subst (λ x. AllSettled p m x) (sym e) (λ k d h. absurd (omega arith))
 
-start_ready : (p : Program) → IsImage p → IsReady p start
+start_ready : (p : Program) → IsImage p → IsAtInsns p start
 unfolding start
 start_ready p image =
     let first = fetch-zero p image in
     let begins : BeginsInsn p 0 = subst (λ (o : Option Insn). IsSome o) (sym first.1) refl in
     record { begins = begins; returns = All-cons (BeginsInsn p) 0 [] begins (All-nil (BeginsInsn p)) }
 
-IsReady-forgets : (p : Program) (a b : State) → Forgets p a b → IsReady p a → IsReady p b
-IsReady-forgets p a b f ready = record {
+IsAtInsns-forgets : (p : Program) (a b : State) → Forgets p a b → IsAtInsns p a → IsAtInsns p b
+IsAtInsns-forgets p a b f ready = record {
   begins = subst (BeginsInsn p) (sym (Forgets-slot p a b f)) ready.begins;
   returns = subst (All (BeginsInsn p)) (sym (Forgets-returns p a b f)) ready.returns;
 }
 
-pub starts_ready : (p q : Program) (s : State) → p ≡ q → IsImage q → Forgets p start s → IsReady p s
-starts_ready p q s same image begins = IsReady-forgets p start s begins (start_ready p (subst IsImage (sym same) image))
+pub starts_ready : (p q : Program) (s : State) → p ≡ q → IsImage q → Forgets p start s → IsAtInsns p s
+starts_ready p q s same image begins = IsAtInsns-forgets p start s begins (start_ready p (subst IsImage (sym same) image))
 
 pub starts_end : (p q : Program) (n : ℕ) → p ≡ q → IsImage q → Within p start n → StartsEnd q n
 unfolding Within StartsEnd

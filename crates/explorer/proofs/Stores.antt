@@ -8,14 +8,14 @@ use Rattle.stack_state.specs.Meaning.{Within, Covers}
 use Rattle.explorer.specs.declared.stored_states.Stored.{Stored}
 use Rattle.explorer.specs.declared.moves.Move.{Move}
 use Rattle.explorer.specs.declared.moves.Move.TheVariants.{New, Covered, Finished}
-use Rattle.explorer.specs.StoredStates.{IsCovered, StoredAt, IsNumbered}
+use Rattle.explorer.specs.StoredStates.{IsCovered, StoredAt, GetsNumber}
 use Rattle.stack_state.specs.Starts.{start}
 use Rattle.walks.specs.Forgetting.{Forgets}
 use Rattle.walks.specs.Walks.{WalksTo}
 use Rattle.walks.specs.Counts.{IsCoveredBy}
 use Rattle.walks.proofs.Forgotten.{Forgets-slot, Forgets-covers}
 use Rattle.explorer.proofs.Walking.{WalksTo-start}
-use Rattle.explorer.specs.Search.{stored_too, Arrives, IsArrival, Settles, IsFine, AllFine}
+use Rattle.explorer.specs.Search.{stored_too, Arrives, IsArrival, Settles, IsSettled, AllSettled}
 
 -- ---- numbers
 
@@ -23,29 +23,29 @@ pub Within-covered : (p : Program) (a b : State) (n : ℕ) → Covers p a b → 
 unfolding Within Covers
 Within-covered p a b n covered h = λ clock fits w means. h clock fits w (covered w means)
 
-IsFine-more : (p : Program) (m n : ℕ) (e : Stored) → m ≤ n → IsFine p m e → IsFine p n e
-IsFine-more p m n e le h = λ above. let fine = h above in (fine.0, omega (arith, fine.1), fine.2)
+IsSettled-more : (p : Program) (m n : ℕ) (e : Stored) → m ≤ n → IsSettled p m e → IsSettled p n e
+IsSettled-more p m n e le h = λ above. let fine = h above in (fine.0, omega (arith, fine.1), fine.2)
 
-pub AllFine-more : (p : Program) (m n : ℕ) (entries : List Stored) → m ≤ n → AllFine p m entries → AllFine p n entries
-unfolding AllFine
-AllFine-more p m n entries le h = All-weaker (IsFine p m) (IsFine p n) (λ e fine. IsFine-more p m n e le fine) entries h
+pub AllSettled-more : (p : Program) (m n : ℕ) (entries : List Stored) → m ≤ n → AllSettled p m entries → AllSettled p n entries
+unfolding AllSettled
+AllSettled-more p m n entries le h = All-weaker (IsSettled p m) (IsSettled p n) (λ e fine. IsSettled-more p m n e le fine) entries h
 
-AllFine-push : (p : Program) (m : ℕ) (entries : List Stored) (s : State) → AllFine p m entries → AllFine p m (stored_too entries s)
-unfolding AllFine
-AllFine-push p m entries s h = All-push (IsFine p m) entries _ h (λ above. absurd (omega arith))
+AllSettled-push : (p : Program) (m : ℕ) (entries : List Stored) (s : State) → AllSettled p m entries → AllSettled p m (stored_too entries s)
+unfolding AllSettled
+AllSettled-push p m entries s h = All-push (IsSettled p m) entries _ h (λ above. absurd (omega arith))
 
-AllFine-set : (p : Program) (m : ℕ) (entries : List Stored) (k : ℕ) (s : State) (n : ℕ) → AllFine p m entries → Settles p s n → n ≤ m
-    → (steps : ℕ) × WalksTo p steps s → AllFine p m (set entries k (record { state = s; number = n }))
-unfolding AllFine
-AllFine-set p m entries k s n h within le walk = All-set (IsFine p m) entries k _ (λ above. (within, le, walk)) h
+AllSettled-set : (p : Program) (m : ℕ) (entries : List Stored) (k : ℕ) (s : State) (n : ℕ) → AllSettled p m entries → Settles p s n → n ≤ m
+    → (steps : ℕ) × WalksTo p steps s → AllSettled p m (set entries k (record { state = s; number = n }))
+unfolding AllSettled
+AllSettled-set p m entries k s n h within le walk = All-set (IsSettled p m) entries k _ (λ above. (within, le, walk)) h
 
 -- a state that a finished entry covers ends within the entry's number
-pub IsCovered-known : (p : Program) (m : ℕ) (entries : List Stored) (k : ℕ) (s : State) (n : ℕ) → AllFine p m entries → IsCovered entries k s n → Settles p s n × (n ≤ m)
-unfolding AllFine
+pub IsCovered-known : (p : Program) (m : ℕ) (entries : List Stored) (k : ℕ) (s : State) (n : ℕ) → AllSettled p m entries → IsCovered entries k s n → Settles p s n × (n ≤ m)
+unfolding AllSettled
 IsCovered-known p m entries k s n fine h =
     let e : Stored = record { state = h.entry; number = n } in
     let same = get_or_from_slice_get entries k e e h.stored in
-    let here : IsFine p m e = subst (IsFine p m) same (fine k e (slice_get_within entries k e h.stored)) in
+    let here : IsSettled p m e = subst (IsSettled p m) same (fine k e (slice_get_within entries k e h.stored)) in
     let known = here h.finished in
     let walk = known.2 in (
       record {
@@ -74,20 +74,20 @@ slice_get-seam [] y = refl
 slice_get-seam (x ∷ xs) y = slice_get-seam xs y
 
 -- each state is stored where it was
-unfoldable pub Keeps : List Stored → List Stored → Type 0
-Keeps old new = (k : Option ℕ) (s : State) → StoredAt old k s → StoredAt new k s
+unfoldable pub KeepsPlaces : List Stored → List Stored → Type 0
+KeepsPlaces old new = (k : Option ℕ) (s : State) → StoredAt old k s → StoredAt new k s
 
-pub Keeps-at : (old new : List Stored) (k : Option ℕ) (s : State) → Keeps old new → StoredAt old k s → StoredAt new k s
-unfolding Keeps
-Keeps-at old new k s kept h = kept k s h
+pub KeepsPlaces-at : (old new : List Stored) (k : Option ℕ) (s : State) → KeepsPlaces old new → StoredAt old k s → StoredAt new k s
+unfolding KeepsPlaces
+KeepsPlaces-at old new k s kept h = kept k s h
 
-pub Keeps-same : (old new : List Stored) → new ≡ old → Keeps old new
-unfolding Keeps
-Keeps-same old new e = λ k s h. subst (λ x. StoredAt x k s) (sym e) h
+pub KeepsPlaces-same : (old new : List Stored) → new ≡ old → KeepsPlaces old new
+unfolding KeepsPlaces
+KeepsPlaces-same old new e = λ k s h. subst (λ x. StoredAt x k s) (sym e) h
 
-Keeps-push : (entries : List Stored) (e : Stored) → Keeps entries (entries ++ e ∷ [])
-unfolding Keeps
-Keeps-push entries e = λ k s. elim k as (λ k. StoredAt entries k s → StoredAt (entries ++ e ∷ []) k s)
+KeepsPlaces-push : (entries : List Stored) (e : Stored) → KeepsPlaces entries (entries ++ e ∷ [])
+unfolding KeepsPlaces
+KeepsPlaces-push entries e = λ k s. elim k as (λ k. StoredAt entries k s → StoredAt (entries ++ e ∷ []) k s)
     [ None ↦ λ h. tt | (Some i) ↦ λ h. (h.0, slice_get-push entries e i _ h.1) ]
 
 -- a write of a number leaves each state where it was
@@ -102,24 +102,24 @@ set-number (z ∷ entries) zero s m n e (suc k) t h = h
 set-number (z ∷ entries) (suc i) s m n e zero t h = h
 set-number (z ∷ entries) (suc i) s m n e (suc k) t h = set-number entries i s m n e k t h
 
-Keeps-set : (entries : List Stored) (i : ℕ) (s : State) (m n : ℕ) → slice_get entries i ≡ Some (record { state = s; number = m })
-    → Keeps entries (set entries i (record { state = s; number = n }))
-unfolding Keeps
-Keeps-set entries i s m n e = λ k t. elim k as (λ k. StoredAt entries k t → StoredAt (set entries i (record { state = s; number = n })) k t)
+KeepsPlaces-set : (entries : List Stored) (i : ℕ) (s : State) (m n : ℕ) → slice_get entries i ≡ Some (record { state = s; number = m })
+    → KeepsPlaces entries (set entries i (record { state = s; number = n }))
+unfolding KeepsPlaces
+KeepsPlaces-set entries i s m n e = λ k t. elim k as (λ k. StoredAt entries k t → StoredAt (set entries i (record { state = s; number = n })) k t)
     [ None ↦ λ h. tt | (Some j) ↦ λ h. set-number entries i s m n e j t h ]
 
 -- ---- an arrival
 
-pub Arrives-keeps : (p : Program) (old : List Stored) (s : State) (made : Move) (new : List Stored) → Arrives p old s made new → Keeps old new
-Arrives-keeps p old s (Covered k n) new h = Keeps-same old new h.2
-Arrives-keeps p old s (New None) new h = Keeps-same old new h
-Arrives-keeps p old s (New (Some k)) new h = subst (λ x. Keeps old x) (sym h.2) (Keeps-push old _)
+pub Arrives-keeps : (p : Program) (old : List Stored) (s : State) (made : Move) (new : List Stored) → Arrives p old s made new → KeepsPlaces old new
+Arrives-keeps p old s (Covered k n) new h = KeepsPlaces-same old new h.2
+Arrives-keeps p old s (New None) new h = KeepsPlaces-same old new h
+Arrives-keeps p old s (New (Some k)) new h = subst (λ x. KeepsPlaces old x) (sym h.2) (KeepsPlaces-push old _)
 Arrives-keeps p old s (Finished n) new h = absurd h
 
-pub Arrives-fine : (p : Program) (m : ℕ) (old : List Stored) (s : State) (made : Move) (new : List Stored) → Arrives p old s made new → AllFine p m old → AllFine p m new
-Arrives-fine p m old s (Covered k n) new h fine = subst (λ x. AllFine p m x) (sym h.2) fine
-Arrives-fine p m old s (New None) new h fine = subst (λ x. AllFine p m x) (sym h) fine
-Arrives-fine p m old s (New (Some k)) new h fine = subst (λ x. AllFine p m x) (sym h.2) (AllFine-push p m old s fine)
+pub Arrives-fine : (p : Program) (m : ℕ) (old : List Stored) (s : State) (made : Move) (new : List Stored) → Arrives p old s made new → AllSettled p m old → AllSettled p m new
+Arrives-fine p m old s (Covered k n) new h fine = subst (λ x. AllSettled p m x) (sym h.2) fine
+Arrives-fine p m old s (New None) new h fine = subst (λ x. AllSettled p m x) (sym h) fine
+Arrives-fine p m old s (New (Some k)) new h fine = subst (λ x. AllSettled p m x) (sym h.2) (AllSettled-push p m old s fine)
 Arrives-fine p m old s (Finished n) new h fine = absurd h
 
 pub Arrives-stored : (p : Program) (old : List Stored) (s : State) (k : Option ℕ) (new : List Stored) → Arrives p old s (New k) new → StoredAt new k s
@@ -137,12 +137,12 @@ Arrives-arrival p old s (Finished n) new h = absurd h
 
 -- ---- a number
 
-pub IsNumbered-fine : (p : Program) (m : ℕ) (old : List Stored) (stored : Option ℕ) (s : State) (n : ℕ) (new : List Stored) → IsNumbered old stored n new
-    → StoredAt old stored s → Settles p s n → n ≤ m → (steps : ℕ) × WalksTo p steps s → AllFine p m old → AllFine p m new
-IsNumbered-fine p m old None s n new h at within le walk fine = subst (λ x. AllFine p m x) (sym h) fine
-IsNumbered-fine p m old (Some k) s n new h at within le walk fine =
-    subst (λ x. AllFine p m x) (sym (h s at)) (AllFine-set p m old k s n fine within le walk)
+pub GetsNumber-fine : (p : Program) (m : ℕ) (old : List Stored) (stored : Option ℕ) (s : State) (n : ℕ) (new : List Stored) → GetsNumber old stored n new
+    → StoredAt old stored s → Settles p s n → n ≤ m → (steps : ℕ) × WalksTo p steps s → AllSettled p m old → AllSettled p m new
+GetsNumber-fine p m old None s n new h at within le walk fine = subst (λ x. AllSettled p m x) (sym h) fine
+GetsNumber-fine p m old (Some k) s n new h at within le walk fine =
+    subst (λ x. AllSettled p m x) (sym (h s at)) (AllSettled-set p m old k s n fine within le walk)
 
-pub IsNumbered-keeps : (old : List Stored) (stored : Option ℕ) (s : State) (n : ℕ) (new : List Stored) → IsNumbered old stored n new → StoredAt old stored s → Keeps old new
-IsNumbered-keeps old None s n new h at = Keeps-same old new h
-IsNumbered-keeps old (Some k) s n new h at = subst (λ x. Keeps old x) (sym (h s at)) (Keeps-set old k s at.0 n at.1)
+pub GetsNumber-keeps : (old : List Stored) (stored : Option ℕ) (s : State) (n : ℕ) (new : List Stored) → GetsNumber old stored n new → StoredAt old stored s → KeepsPlaces old new
+GetsNumber-keeps old None s n new h at = KeepsPlaces-same old new h
+GetsNumber-keeps old (Some k) s n new h at = subst (λ x. KeepsPlaces old x) (sym (h s at)) (KeepsPlaces-set old k s at.0 n at.1)

@@ -5,14 +5,14 @@ use Rattle.std.proofs.lemmas.List.{reverse-append}
 use Rattle.isa_model.specs.Code.Instructions.{Program}
 use Rattle.stack_state.specs.declared.states.State.{State}
 use Rattle.walks.specs.Walks.{StepsTo}
-use Rattle.explorer.specs.Search.{IfStepsTo, IsArrival, Moves, HasEnded}
+use Rattle.explorer.specs.Search.{IfStepsTo, IsArrival, AfterMove, HasEnded}
 use Rattle.walks.specs.declared.refusals.Refusal.{Refusal}
 use Rattle.walks.specs.declared.refusals.Refusal.TheVariants.{Flow, Step, Repeats, TooLong, Memory}
 use Rattle.explorer.specs.declared.search.Search.{Search}
 use Rattle.explorer.specs.declared.trail.Visit.{Visit}
 use Rattle.explorer.specs.declared.moves.Move.{Move}
 use Rattle.explorer.specs.declared.moves.Move.TheVariants.{New, Covered, Finished}
-use Rattle.explorer.specs.Listening.{Begins, GoesInto, Steps, GoesAside, Returns, ComesBackAt, BeginFails, StepFails, ReturnFails, AreVisited, Follows, FollowsTo, IsToArrive, IsToTell, IsTold, IsToRefuse}
+use Rattle.explorer.specs.Listening.{BeginsPath, AddsVisit, TellsStep, GoesAside, TellsReturn, ComesBackAt, BeginFails, StepFails, ReturnFails, AreVisited, HeardPath, FollowsTo, IsToArrive, IsToTell, HearsMove, IsToRefuse}
 
 -- ---- visits and their states
 
@@ -44,7 +44,7 @@ AreVisited-pop p path whole visit states is h =
 
 -- ---- what the search has done
 
-pub steps_by_arrival : (p : Program) (s : State) (old new : List Visit) (current : State) (made : Move) → IsArrival made → GoesInto p s old new current → Steps p s old made new current
+pub steps_by_arrival : (p : Program) (s : State) (old new : List Visit) (current : State) (made : Move) → IsArrival made → AddsVisit p s old new current → TellsStep p s old made new current
 steps_by_arrival p s old new current (New stored) h into = into
 steps_by_arrival p s old new current (Covered k n) h into = into
 steps_by_arrival p s old new current (Finished n) h into = absurd h
@@ -58,22 +58,22 @@ step_fails p s current now Memory slot same steps h = tt
 
 -- ---- before a listener is called for a move
 
-pub told_begin : (p : Program) (tale : List State → State → Type 0) (path : List Visit) (current last : State) (made : Move) → Begins p made path current → tale [] last → IsToTell p tale path current made
+pub told_begin : (p : Program) (tale : List State → State → Type 0) (path : List Visit) (current last : State) (made : Move) → BeginsPath p made path current → tale [] last → IsToTell p tale path current made
 told_begin p tale path current last (New stored) h told = record { states = []; last = last; visited = AreVisited-none p path h.0; comes = h.1; told = told }
 told_begin p tale path current last (Covered k n) h told = record { states = []; last = last; visited = AreVisited-none p path h.0; comes = h.1; told = told }
 told_begin p tale path current last (Finished n) h told = absurd h
 
-steps_into : (p : Program) (tale : List State → State → Type 0) (old new : List Visit) (s current : State) → FollowsTo p tale old s → GoesInto p s old new current → IsToArrive p tale new current
+steps_into : (p : Program) (tale : List State → State → Type 0) (old new : List Visit) (s current : State) → FollowsTo p tale old s → AddsVisit p s old new current → IsToArrive p tale new current
 steps_into p tale old new s current h into =
     record { states = s ∷ h.states; last = s; visited = AreVisited-push p old new into.visit s h.states into.pushed into.aside h.visited; comes = into.steps; told = h.told }
 
-pub told_step : (p : Program) (tale : List State → State → Type 0) (old new : List Visit) (s current : State) (made : Move) → FollowsTo p tale old s → Steps p s old made new current → IsToTell p tale new current made
+pub told_step : (p : Program) (tale : List State → State → Type 0) (old new : List Visit) (s current : State) (made : Move) → FollowsTo p tale old s → TellsStep p s old made new current → IsToTell p tale new current made
 told_step p tale old new s current (New stored) h step = steps_into p tale old new s current h step
 told_step p tale old new s current (Covered k n) h step = steps_into p tale old new s current h step
 told_step p tale old new s current (Finished n) h step =
     record { state = s; states = h.states; last = s; visited = subst (λ x. AreVisited p (reverse x) h.states) (sym step) h.visited; told = h.told }
 
-goes_aside : (p : Program) (tale : List State → State → Type 0) (old new : List Visit) (current : State) → Follows p tale old → GoesAside old new current → IsToArrive p tale new current
+goes_aside : (p : Program) (tale : List State → State → Type 0) (old new : List Visit) (current : State) → HeardPath p tale old → GoesAside old new current → IsToArrive p tale new current
 goes_aside p tale old new current h aside =
     let last = AreVisited-pop p aside.path old aside.visit h.states aside.was h.visited in
     let none : IfStepsTo p last.state aside.rest.pending = subst (IfStepsTo p last.state) (sym aside.nothing) tt in
@@ -85,7 +85,7 @@ goes_aside p tale old new current h aside =
       told = subst (λ x. tale x h.last) last.is h.told;
     }
 
-pub told_back : (p : Program) (tale : List State → State → Type 0) (old new : List Visit) (current : State) (made : Move) → Follows p tale old → Returns old made new current → IsToTell p tale new current made
+pub told_back : (p : Program) (tale : List State → State → Type 0) (old new : List Visit) (current : State) (made : Move) → HeardPath p tale old → TellsReturn old made new current → IsToTell p tale new current made
 told_back p tale old new current (New stored) h back = goes_aside p tale old new current h back
 told_back p tale old new current (Covered k n) h back = goes_aside p tale old new current h back
 told_back p tale old new current (Finished n) h back =
@@ -97,13 +97,13 @@ told_back p tale old new current (Finished n) h back =
 abbrev pub EndsWith : Move → ℕ → Type 0
 EndsWith made n = ((k : ℕ) × (made ≡ Covered k n)) ⊎ (made ≡ Finished n)
 
-pub has_ended : (p : Program) (search : Search) (made : Move) (n m : ℕ) → EndsWith made n → m ≡ n → Moves p search made → HasEnded p search m
-has_ended p search made n m (inl h) is moves = subst (HasEnded p search) (sym is) (subst (Moves p search) h.1 moves)
-has_ended p search made n m (inr h) is moves = subst (HasEnded p search) (sym is) (subst (Moves p search) h moves)
+pub has_ended : (p : Program) (search : Search) (made : Move) (n m : ℕ) → EndsWith made n → m ≡ n → AfterMove p search made → HasEnded p search m
+has_ended p search made n m (inl h) is moves = subst (HasEnded p search) (sym is) (subst (AfterMove p search) h.1 moves)
+has_ended p search made n m (inr h) is moves = subst (HasEnded p search) (sym is) (subst (AfterMove p search) h moves)
 
-pub follows_end : (p : Program) (tale : List State → State → Type 0) (path : List Visit) (current : State) (made : Move) (n : ℕ) → EndsWith made n → IsTold p tale path current made → Follows p tale path
-follows_end p tale path current made n (inl h) told = subst (IsTold p tale path current) h.1 told
-follows_end p tale path current made n (inr h) told = subst (IsTold p tale path current) h told
+pub follows_end : (p : Program) (tale : List State → State → Type 0) (path : List Visit) (current : State) (made : Move) (n : ℕ) → EndsWith made n → HearsMove p tale path current made → HeardPath p tale path
+follows_end p tale path current made n (inl h) told = subst (HearsMove p tale path current) h.1 told
+follows_end p tale path current made n (inr h) told = subst (HearsMove p tale path current) h told
 
 -- ---- before the call for a refusal
 
@@ -121,7 +121,7 @@ refused_step p tale old s current Repeats slot h fails = record { states = s ∷
 refused_step p tale old s current TooLong slot h fails = absurd fails
 refused_step p tale old s current Memory slot h fails = tt
 
-pub refused_back : (p : Program) (tale : List State → State → Type 0) (old : List Visit) (current : State) (e : Refusal) (slot : ℕ) → Follows p tale old → ReturnFails old current e slot → IsToRefuse p tale current e slot
+pub refused_back : (p : Program) (tale : List State → State → Type 0) (old : List Visit) (current : State) (e : Refusal) (slot : ℕ) → HeardPath p tale old → ReturnFails old current e slot → IsToRefuse p tale current e slot
 refused_back p tale old current (Flow e) slot h fails = absurd fails
 refused_back p tale old current (Step e) slot h fails = absurd fails
 refused_back p tale old current Repeats slot h fails =
@@ -153,7 +153,7 @@ aside_less old new current h =
     let none : one_if_some h.rest.pending ≡ 0 = ap one_if_some h.nothing in
     omega (arith, was, is, one, none)
 
-pub returns_less : (old new : List Visit) (current : State) (made : Move) → Returns old made new current → weight new < weight old
+pub returns_less : (old new : List Visit) (current : State) (made : Move) → TellsReturn old made new current → weight new < weight old
 returns_less old new current (New stored) h = aside_less old new current h
 returns_less old new current (Covered k n) h = aside_less old new current h
 returns_less old new current (Finished n) h = omega (arith, ap weight h.1 ∙ weight-push new h.0)

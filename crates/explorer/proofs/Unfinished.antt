@@ -7,7 +7,7 @@ use Rattle.stack_state.specs.declared.states.State.{State}
 use Rattle.explorer.specs.declared.stored_states.Stored.{Stored}
 use Rattle.explorer.specs.declared.trail.Visit.{Visit}
 use Rattle.explorer.specs.declared.moves.Move.TheVariants.{New}
-use Rattle.explorer.specs.StoredStates.{StoredAt, IsNumbered}
+use Rattle.explorer.specs.StoredStates.{StoredAt, GetsNumber}
 use Rattle.explorer.specs.Search.{Arrives, zeros_from, unfinished, with_first, with_last, places_of, OnPath}
 
 -- ---- zeros
@@ -90,7 +90,7 @@ OnPath-arrives p old new path s (Some k) h on =
 
 -- the last state gets its number
 pub OnPath-finish : (old new : List Stored) (path : List Visit) (stored : Option ℕ) (s : State) (n : ℕ)
-    → IsNumbered old stored n new → StoredAt old stored s → 0 < n → OnPath old path stored → OnPath new path None
+    → GetsNumber old stored n new → StoredAt old stored s → 0 < n → OnPath old path stored → OnPath new path None
 unfolding OnPath
 OnPath-finish old new path None s n h at some on = ap unfinished h ∙ on
 OnPath-finish old new path (Some i) s zero h at some on = absurd (omega arith)

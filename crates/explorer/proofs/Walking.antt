@@ -8,12 +8,12 @@ use Rattle.stack_state.specs.declared.states.State.{State}
 use Rattle.stack_state.specs.Starts.{start}
 use Rattle.control_flow.specs.Flows.{IsJoin}
 use Rattle.transfer.specs.declared.Ways.{Ways}
-use Rattle.transfer.specs.Exact.{Makes}
+use Rattle.transfer.specs.Exact.{StepsToWays}
 use Rattle.walks.specs.declared.refusals.Refusal.{Refusal}
 use Rattle.walks.specs.declared.refusals.Refusal.TheVariants.{Flow, Step, Repeats, TooLong, Memory}
 use Rattle.explorer.specs.declared.stored_states.Stored.{Stored}
 use Rattle.explorer.specs.declared.trail.Visit.{Visit}
-use Rattle.walks.specs.Walks.{IsAmong, StepsTo, Leads, WalksTo}
+use Rattle.walks.specs.Walks.{IsAmong, StepsTo, HasPath, WalksTo}
 use Rattle.walks.specs.Forgetting.{Forgets}
 use Rattle.walks.specs.Counts.{AreForgotten, StepsInto}
 use Rattle.explorer.specs.Listening.{ComesBackAt}
@@ -23,7 +23,7 @@ use Rattle.explorer.specs.Search.{Path, TurnsBack, zeros_from, with_first, place
 
 -- ---- steps
 
-pub steps_by : (p q : Program) (s a b n t : State) (w v : Ways) → p ≡ q → ((i : Insn) → fetch q s.slot ≡ Some i → Makes q s i w a b) → (i : Insn) → fetch p s.slot ≡ Some i
+pub steps_by : (p q : Program) (s a b n t : State) (w v : Ways) → p ≡ q → ((i : Insn) → fetch q s.slot ≡ Some i → StepsToWays q s i w a b) → (i : Insn) → fetch p s.slot ≡ Some i
     → w ≡ v → IsAmong v a b n → Forgets p n t → StepsTo p s t
 steps_by p q s a b n t w v same makes i here is among forgets =
     let there : fetch q s.slot ≡ Some i = subst (λ x. fetch x s.slot ≡ Some i) same here in
@@ -33,28 +33,28 @@ steps_by p q s a b n t w v same makes i here is among forgets =
       taken = w;
       first = a;
       other = b;
-      makes = subst (λ x. Makes x s i w a b) (sym same) (makes i there);
+      makes = subst (λ x. StepsToWays x s i w a b) (sym same) (makes i there);
       next = n;
       among = subst (λ x. IsAmong x a b n) (sym is) among;
       forgets = forgets;
     }
 
-pub into_by : (p q : Program) (s a b first other : State) (w v : Ways) → p ≡ q → ((i : Insn) → fetch q s.slot ≡ Some i → Makes q s i w a b) → (i : Insn) → fetch p s.slot ≡ Some i
+pub into_by : (p q : Program) (s a b first other : State) (w v : Ways) → p ≡ q → ((i : Insn) → fetch q s.slot ≡ Some i → StepsToWays q s i w a b) → (i : Insn) → fetch p s.slot ≡ Some i
     → w ≡ v → AreForgotten p v a b first other → StepsInto p s v first other
 into_by p q s a b first other w v same makes i here is forgets =
     let there : fetch q s.slot ≡ Some i = subst (λ x. fetch x s.slot ≡ Some i) same here in
-    let made = subst (λ x. Makes x s i w a b) (sym same) (makes i there) in
-    record { insn = i; here = here; next = a; aside = b; makes = subst (λ x. Makes p s i x a b) is made; forgets = forgets }
+    let made = subst (λ x. StepsToWays x s i w a b) (sym same) (makes i there) in
+    record { insn = i; here = here; next = a; aside = b; makes = subst (λ x. StepsToWays p s i x a b) is made; forgets = forgets }
 
 -- ---- the path is a walk
 
 -- a walk of no steps is at the state in which paths begin
 pub WalksTo-start : (p : Program) (first : State) → Forgets p start first → WalksTo p 0 first
-unfolding Leads
+unfolding HasPath
 WalksTo-start p first begins = record { first = first; begins = begins; leads = refl }
 
-pub Path-leads : (p : Program) (m : ℕ) (entries : List Stored) (path : List Visit) (a b : State) → Path p m entries a path b → Leads p (length path) a b
-unfolding Path Leads
+pub Path-leads : (p : Program) (m : ℕ) (entries : List Stored) (path : List Visit) (a b : State) → Path p m entries a path b → HasPath p (length path) a b
+unfolding Path HasPath
 Path-leads p m entries [] a b h = h
 Path-leads p m entries (visit ∷ path) a b h = (h.0, h.1.steps, Path-leads p m entries path h.0 b h.2)
 
@@ -90,20 +90,20 @@ same_stored entries k n s t at e =
 record Through (p : Program) (a t b : State) : Type 0 where
   before : ℕ
   between : ℕ
-  leads : Leads p before a t
-  leads_on : Leads p (suc between) t b
+  leads : HasPath p before a t
+  leads_on : HasPath p (suc between) t b
 
-starts_here : (p : Program) (n : ℕ) (a t b : State) → t ≡ a → Leads p (suc n) a b → Through p a t b
-unfolding Leads
-starts_here p n a t b e h = record { before = 0; between = n; leads = e; leads_on = subst (λ x. Leads p (suc n) x b) (sym e) h }
+starts_here : (p : Program) (n : ℕ) (a t b : State) → t ≡ a → HasPath p (suc n) a b → Through p a t b
+unfolding HasPath
+starts_here p n a t b e h = record { before = 0; between = n; leads = e; leads_on = subst (λ x. HasPath p (suc n) x b) (sym e) h }
 
 one_more : (p : Program) (a c t b : State) → StepsTo p a c → Through p c t b → Through p a t b
-unfolding Leads
+unfolding HasPath
 one_more p a c t b step h = record { before = suc h.before; between = h.between; leads = (c, step, h.leads); leads_on = h.leads_on }
 
 through : (p : Program) (m : ℕ) (entries : List Stored) (path : List Visit) (a b : State) (k : ℕ) (t : State) → Path p m entries a path b → IsIn k (places_of path)
     → slice_get entries k ≡ Some (record { state = t; number = 0 }) → Through p a t b
-unfolding Path Leads
+unfolding Path HasPath
 through p m entries [] a b k t h member e = absurd member
 through p m entries (visit ∷ path) a b k t h member e =
     let child = h.0 in

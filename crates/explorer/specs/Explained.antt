@@ -7,7 +7,7 @@ use Rattle.stack_state.specs.Starts.{start}
 use Rattle.walks.specs.Forgetting.{Forgets}
 use Rattle.explorer.specs.Listening.{StopsIn}
 use Rattle.walks.specs.Refused.{StopsAt}
-use Rattle.walks.specs.Walks.{StepsTo, Leads}
+use Rattle.walks.specs.Walks.{StepsTo, HasPath}
 use Rattle.walks.specs.declared.refusals.Refusal.{Refusal}
 use Rattle.explorer.specs.declared.explanations.Jump.{Jump}
 use Rattle.explorer.specs.declared.explanations.Explanation.{Explanation}
@@ -36,7 +36,7 @@ pub record IsLed (p : Program) (s : State) (way : List Jump) : Type 0 where
 -- a walk leads from an earlier state at the same slot, if there is one, to the state
 abbrev pub IsTurnBefore : Program → State → Option State → Type 0
 IsTurnBefore p s None = Unit {0}
-IsTurnBefore p s (Some e) = (e.slot ≡ s.slot) × ((more : ℕ) × Leads p (suc more) e s)
+IsTurnBefore p s (Some e) = (e.slot ≡ s.slot) × ((more : ℕ) × HasPath p (suc more) e s)
 
 -- the program is refused so, at the slot; the abstract state there, that of the turn before, and
 -- the last jumps of a path to it

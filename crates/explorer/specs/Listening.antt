@@ -4,7 +4,7 @@ use Rattle.isa_model.specs.declared.instructions.Insn.{Insn}
 use Rattle.isa_model.specs.Code.Instructions.{Program, fetch}
 use Rattle.stack_state.specs.declared.states.State.{State}
 use Rattle.stack_state.specs.Starts.{start}
-use Rattle.transfer.specs.Exact.{Refuses}
+use Rattle.transfer.specs.Exact.{RefusesStep}
 use Rattle.walks.specs.Forgetting.{Forgets}
 use Rattle.walks.specs.Walks.{StepsTo}
 use Rattle.explorer.specs.Search.{IfStepsTo}
@@ -31,24 +31,24 @@ ComesTo p [] s = Forgets p start s
 ComesTo p (a ∷ before) s = StepsTo p a s
 
 -- the path begins at the current state
-abbrev pub Begins : Program → Move → List Visit → State → Type 0
-Begins p (New stored) path current = (path ≡ []) × ComesTo p [] current
-Begins p (Covered k n) path current = (path ≡ []) × ComesTo p [] current
-Begins p (Finished n) path current = ⊥
+abbrev pub BeginsPath : Program → Move → List Visit → State → Type 0
+BeginsPath p (New stored) path current = (path ≡ []) × ComesTo p [] current
+BeginsPath p (Covered k n) path current = (path ≡ []) × ComesTo p [] current
+BeginsPath p (Finished n) path current = ⊥
 
 -- a visit was appended to the path: that of a state whose successors are the current one and what
 -- is pending
-pub record GoesInto (p : Program) (s : State) (old new : List Visit) (current : State) : Type 0 where
+pub record AddsVisit (p : Program) (s : State) (old new : List Visit) (current : State) : Type 0 where
   pub visit : Visit
   pub pushed : new ≡ old ++ visit ∷ []
   pub steps : StepsTo p s current
   pub aside : IfStepsTo p s visit.pending
 
 -- the step of a state has no successor, or the current one
-abbrev pub Steps : Program → State → List Visit → Move → List Visit → State → Type 0
-Steps p s old (Finished n) new current = new ≡ old
-Steps p s old (New stored) new current = GoesInto p s old new current
-Steps p s old (Covered k n) new current = GoesInto p s old new current
+abbrev pub TellsStep : Program → State → List Visit → Move → List Visit → State → Type 0
+TellsStep p s old (Finished n) new current = new ≡ old
+TellsStep p s old (New stored) new current = AddsVisit p s old new current
+TellsStep p s old (Covered k n) new current = AddsVisit p s old new current
 
 -- the last visit was waiting for the current state, and has nothing else pending
 pub record GoesAside (old new : List Visit) (current : State) : Type 0 where
@@ -61,21 +61,21 @@ pub record GoesAside (old new : List Visit) (current : State) : Type 0 where
   pub nothing : rest.pending ≡ None
 
 -- the last visit ends, or continues with what was pending
-abbrev pub Returns : List Visit → Move → List Visit → State → Type 0
-Returns old (Finished n) new current = (visit : Visit) × (old ≡ new ++ visit ∷ [])
-Returns old (New stored) new current = GoesAside old new current
-Returns old (Covered k n) new current = GoesAside old new current
+abbrev pub TellsReturn : List Visit → Move → List Visit → State → Type 0
+TellsReturn old (Finished n) new current = (visit : Visit) × (old ≡ new ++ visit ∷ [])
+TellsReturn old (New stored) new current = GoesAside old new current
+TellsReturn old (Covered k n) new current = GoesAside old new current
 
 abbrev pub IfReturns : List Visit → Option Move → List Visit → State → Type 0
 IfReturns old None new current = Unit {0}
-IfReturns old (Some made) new current = Returns old made new current
+IfReturns old (Some made) new current = TellsReturn old made new current
 
 -- ---- why a search stops
 
 -- why it stops in a state: its step is refused so, or the search has been in it, or has explored enough
 abbrev pub StopsIn : Program → State → Refusal → Type 0
 StopsIn p s (Flow e) = ⊥
-StopsIn p s (Step e) = (i : Insn) × (fetch p s.slot ≡ Some i) × Refuses p s i e
+StopsIn p s (Step e) = (i : Insn) × (fetch p s.slot ≡ Some i) × RefusesStep p s i e
 StopsIn p s Repeats = Unit {0}
 StopsIn p s TooLong = Unit {0}
 StopsIn p s Memory = ⊥
@@ -126,7 +126,7 @@ AreVisited p (visit ∷ visits) [] = ⊥
 AreVisited p (visit ∷ visits) (s ∷ states) = IfStepsTo p s visit.pending × AreVisited p visits states
 
 -- the listener was called for all visits of the path
-pub record Follows (p : Program) (tale : List State → State → Type 0) (path : List Visit) : Type 0 where
+pub record HeardPath (p : Program) (tale : List State → State → Type 0) (path : List Visit) : Type 0 where
   pub states : List State
   pub last : State
   pub visited : AreVisited p (reverse path) states
@@ -160,10 +160,10 @@ IsToTell p tale path current (New stored) = IsToArrive p tale path current
 IsToTell p tale path current (Covered k n) = IsToArrive p tale path current
 IsToTell p tale path current (Finished n) = IsToFinish p tale path
 
-abbrev pub IsTold : Program → (List State → State → Type 0) → List Visit → State → Move → Type 0
-IsTold p tale path current (New stored) = FollowsTo p tale path current
-IsTold p tale path current (Covered k n) = Follows p tale path
-IsTold p tale path current (Finished n) = Follows p tale path
+abbrev pub HearsMove : Program → (List State → State → Type 0) → List Visit → State → Move → Type 0
+HearsMove p tale path current (New stored) = FollowsTo p tale path current
+HearsMove p tale path current (Covered k n) = HeardPath p tale path
+HearsMove p tale path current (Finished n) = HeardPath p tale path
 
 -- and where a state is to be explored
 abbrev pub FollowsTurn : Program → (List State → State → Type 0) → List Visit → State → Turn → Type 0

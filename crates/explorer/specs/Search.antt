@@ -60,20 +60,20 @@ pub record Settles (p : Program) (s : State) (n : ℕ) : Type 0 where
 
 -- runs from the state of an entry with a number end within that number, no number is above the
 -- count of finished instructions, and a walk from the start reaches the state
-abbrev pub IsFine : Program → ℕ → Stored → Type 0
-IsFine p finished e = 0 < e.number → Settles p e.state e.number × (e.number ≤ finished) × ((steps : ℕ) × WalksTo p steps e.state)
+abbrev pub IsSettled : Program → ℕ → Stored → Type 0
+IsSettled p finished e = 0 < e.number → Settles p e.state e.number × (e.number ≤ finished) × ((steps : ℕ) × WalksTo p steps e.state)
 
-unfoldable pub AllFine : Program → ℕ → List Stored → Type 0
-AllFine p finished entries = All (IsFine p finished) entries
+unfoldable pub AllSettled : Program → ℕ → List Stored → Type 0
+AllSettled p finished entries = All (IsSettled p finished) entries
 
 -- an instruction begins at the state's slot, and at each slot to which a live frame returns
-pub record IsReady (p : Program) (s : State) : Type 0 where
+pub record IsAtInsns (p : Program) (s : State) : Type 0 where
   pub begins : BeginsInsn p s.slot
   pub returns : All (BeginsInsn p) (returns_of s)
 
 abbrev pub IfReady : Program → Option State → Type 0
 IfReady p None = Unit {0}
-IfReady p (Some s) = IsReady p s
+IfReady p (Some s) = IsAtInsns p s
 
 abbrev pub IfStepsTo : Program → State → Option State → Type 0
 IfStepsTo p a None = Unit {0}
@@ -85,23 +85,23 @@ MeantBy p (Some s) w = Means p s w
 
 -- the step of each machine state that s means ends the run, or goes to the child, to what is
 -- pending, or to what ends in time
-unfoldable pub Waits : Program → Visit → State → State → Type 0
-Waits p visit s child = (clock : ℕ → ℕ) → IsClock clock → (w : Machine.State) → Means p s w
+unfoldable pub StepsCovered : Program → Visit → State → State → Type 0
+StepsCovered p visit s child = (clock : ℕ → ℕ) → IsClock clock → (w : Machine.State) → Means p s w
     → After (λ v. Means p child v ⊎ (MeantBy p visit.pending v ⊎ Ends p clock v visit.best)) (step p clock w)
 
 -- the number that a state has once what is pending has one
-abbrev pub AwaitsBoth : Program → Option State → State → ℕ → Type 0
-AwaitsBoth p None s best = HasNumber p s (best + 1)
-AwaitsBoth p (Some other) s best = (k : ℕ) → HasNumber p other k → HasNumber p s (max best k + 1)
+abbrev pub NumberFollowsBoth : Program → Option State → State → ℕ → Type 0
+NumberFollowsBoth p None s best = HasNumber p s (best + 1)
+NumberFollowsBoth p (Some other) s best = (k : ℕ) → HasNumber p other k → HasNumber p s (max best k + 1)
 
 -- and once the child has one
-unfoldable pub Awaits : Program → Visit → State → State → Type 0
-Awaits p visit s child = (n : ℕ) → HasNumber p child n → AwaitsBoth p visit.pending s (max visit.best n)
+unfoldable pub NumberFollows : Program → Visit → State → State → Type 0
+NumberFollows p visit s child = (n : ℕ) → HasNumber p child n → NumberFollowsBoth p visit.pending s (max visit.best n)
 
 -- a visit of a state that waits for another one
 pub record Waiting (p : Program) (finished : ℕ) (entries : List Stored) (visit : Visit) (s child : State) : Type 0 where
-  pub waits : Waits p visit s child
-  pub awaits : Awaits p visit s child
+  pub waits : StepsCovered p visit s child
+  pub awaits : NumberFollows p visit s child
   pub steps : StepsTo p s child
   pub steps_aside : IfStepsTo p s visit.pending
   pub best : visit.best ≤ finished
@@ -181,7 +181,7 @@ pub record IsNew (search : Search) : Type 0 where
 
 -- the search is at this state, and its path goes there from the start
 pub record IsAt (p : Program) (search : Search) (s : State) : Type 0 where
-  pub fine : AllFine p search.finished search.stored.entries.items
+  pub fine : AllSettled p search.finished search.stored.entries.items
   pub first : State
   pub begins : Forgets p start first
   pub path : Path p search.finished search.stored.entries.items first search.path.items s
@@ -202,31 +202,31 @@ pub record Explores (p : Program) (search : Search) (stored : Option ℕ) : Type
   pub on_path : OnPath search.stored.entries.items search.path.items stored
   pub stored_at : StoredAt search.stored.entries.items stored search.current
   pub spent : CountsTo p at.first search.path.items search.current (search.finished + length search.path.items)
-  pub ready : IsReady p search.current
+  pub ready : IsAtInsns p search.current
 
 -- the path comes to the current state, which is not explored yet
 pub record Comes (p : Program) (search : Search) : Type 0 where
   pub at : IsAt p search search.current
   pub on_path : OnPath search.stored.entries.items search.path.items None
   pub spent : CountsTo p at.first search.path.items search.current (search.finished + length search.path.items)
-  pub ready : IsReady p search.current
+  pub ready : IsAtInsns p search.current
 
 -- after a move the current state is to be explored, or the path has come to a state with a number
-abbrev pub Moves : Program → Search → Move → Type 0
-Moves p search (New stored) = Explores p search stored
-Moves p search (Covered k n) = HasEnded p search n
-Moves p search (Finished n) = HasEnded p search n
+abbrev pub AfterMove : Program → Search → Move → Type 0
+AfterMove p search (New stored) = Explores p search stored
+AfterMove p search (Covered k n) = HasEnded p search n
+AfterMove p search (Finished n) = HasEnded p search n
 
 -- the limit of explored instructions is reached, and the next one is at this slot
 pub record IsFull (search : Search) (slot : ℕ) : Type 0 where
   pub explored : search.finished + length search.path.items ≡ MAX_EXPLORED
   pub next : slot ≡ search.current.slot
 
-abbrev pub Goes : Program → Search → Turn → Type 0
-Goes p search (Explore stored) = Explores p search stored
-Goes p search (Done n) = Settles p start n × (0 < n) × (n ≤ search.finished)
+abbrev pub TakesTurn : Program → Search → Turn → Type 0
+TakesTurn p search (Explore stored) = Explores p search stored
+TakesTurn p search (Done n) = Settles p start n × (0 < n) × (n ≤ search.finished)
 
 -- if the path is empty, its state is the start, and all is explored
-abbrev pub MovesOrEnds : Program → Search → ℕ → Option Move → Type 0
-MovesOrEnds p search n None = Goes p search (Done n)
-MovesOrEnds p search n (Some made) = Moves p search made
+abbrev pub AfterMoveOrEnd : Program → Search → ℕ → Option Move → Type 0
+AfterMoveOrEnd p search n None = TakesTurn p search (Done n)
+AfterMoveOrEnd p search n (Some made) = AfterMove p search made

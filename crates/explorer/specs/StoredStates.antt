@@ -32,7 +32,7 @@ StoredAt entries None s = Unit {0}
 StoredAt entries (Some k) s = (n : ℕ) × (slice_get entries k ≡ Some (record { state = s; number = n }))
 
 -- the entry that was stored, if there is one, has the number, and the other entries are as they were
-abbrev pub IsNumbered : List Stored → Option ℕ → ℕ → List Stored → Type 0
-IsNumbered old None n new = new ≡ old
-IsNumbered old (Some k) n new =
+abbrev pub GetsNumber : List Stored → Option ℕ → ℕ → List Stored → Type 0
+GetsNumber old None n new = new ≡ old
+GetsNumber old (Some k) n new =
     (s : State) → StoredAt old (Some k) s → new ≡ slice_set old k (record { state = s; number = n })

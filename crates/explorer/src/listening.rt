@@ -4,7 +4,7 @@ ghost use Rattle.std.specs.Prelude.{◌≡◌, ◌∷◌, List, OnOk};
 ghost use Rattle.isa_model.specs.Code.Instructions.{Program};
 ghost use Rattle.stack_state.specs.declared.states.State.{State as TheState};
 ghost use Rattle.explorer.specs.declared.trail.Visit.{Visit as TheVisit};
-ghost use Rattle.explorer.specs.Listening.{ComesTo, IfRefused, IsToTell, IsTold, IsToRefuse, EndsIn};
+ghost use Rattle.explorer.specs.Listening.{ComesTo, IfRefused, IsToTell, HearsMove, IsToRefuse, EndsIn};
 
 use crate::kept::Kept;
 use crate::moves::{Halt, Move, Refused};
@@ -73,7 +73,7 @@ pub fn tell<L: Listener>(
 ) -> Result<(), L::Stop>
     ensures { (p : Program) (path : List TheVisit)
         → IsToTell p (L.follows listener.old p) path state.now made
-        → OnOk result (IsTold p (L.follows listener.new p) path state.now made) }
+        → OnOk result (HearsMove p (L.follows listener.new p) path state.now made) }
 {
     match made {
         Move::New(stored) => {

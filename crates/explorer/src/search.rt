@@ -4,14 +4,14 @@ ghost use Rattle.std.specs.Prelude.{◌≡◌, ◌≢◌, ◌≤◌, ◌+◌, �
 ghost use Rattle.stack_state.specs.Starts.{start};
 ghost use Rattle.stack_state.specs.Meaning.{Within};
 ghost use Rattle.stack_state.specs.declared.states.State.{State as TheState};
-ghost use Rattle.state_index.specs.Rooms.{HasRoom};
+ghost use Rattle.state_index.specs.Rooms.{HasShapeRoom};
 ghost use Rattle.walks.specs.Counts.{HasNumber};
 ghost use Rattle.image.specs.Images.{IsImage};
 ghost use Rattle.control_flow.specs.Flows.{IsFlow, IsJoin};
 ghost use Rattle.walks.specs.Forgetting.{IsForgotten};
 ghost use Rattle.walks.specs.Refused.{StopsAt};
-ghost use Rattle.explorer.specs.Search.{Arrives, IsArrival, TurnsBack, IsNew, Comes, HasEnded, Moves, MovesOrEnds, Goes, IsFull};
-ghost use Rattle.explorer.specs.Listening.{Begins, BeginFails, Steps, StepFails, ComesBackAt, IfReturns, ReturnFails, IfRefused, IsToTell, FollowsTo, FollowsTurn, EndsIn};
+ghost use Rattle.explorer.specs.Search.{Arrives, IsArrival, TurnsBack, IsNew, Comes, HasEnded, AfterMove, AfterMoveOrEnd, TakesTurn, IsFull};
+ghost use Rattle.explorer.specs.Listening.{BeginsPath, BeginFails, TellsStep, StepFails, ComesBackAt, IfReturns, ReturnFails, IfRefused, IsToTell, FollowsTo, FollowsTurn, EndsIn};
 
 use crate::kept::Kept;
 use crate::listening::{Listener, halt, tell};
@@ -83,7 +83,7 @@ impl Search {
     /// A search at the start of code with that many slots.
     pub fn new(alloc: Global, slots: usize) -> Result<Self, AllocError>
         ensures new { IfOk result (λ search. IsNew search) }
-        ensures room { IfOk result (λ search. HasRoom search.stored.index slots) }
+        ensures room { IfOk result (λ search. HasShapeRoom search.stored.index slots) }
     {
         let stored = StoredStates::new(alloc, slots)?;
         Ok(Search {
@@ -101,7 +101,7 @@ impl Search {
         requires comes { Comes flow.now self.old }
         requires kept { IfSome kept (λ s. s ≡ self.old.current) }
         requires forgotten { kept ≡ None → IsForgotten flow.now self.old.current }
-        ensures moves { IfOk result (λ made. Moves flow.now self.new made) }
+        ensures moves { IfOk result (λ made. AfterMove flow.now self.new made) }
         ensures arrival { IfOk result IsArrival }
         ensures stops { IfErr result (λ r. StopsAt flow.now r.0 r.1) }
         ensures fails { IfErr result (λ r. ComesBackAt self.old.current r.0 r.1) }
@@ -123,8 +123,8 @@ impl Search {
     fn begin(&mut self, alloc: Global, flow: &Flow<'_>) -> Result<Move, Refused>
         requires whole { IsImage flow.now }
         requires new { IsNew self.old }
-        ensures moves { IfOk result (λ made. Moves flow.now self.new made) }
-        ensures begins { IfOk result (λ made. Begins flow.now made self.new.path.items
+        ensures moves { IfOk result (λ made. AfterMove flow.now self.new made) }
+        ensures begins { IfOk result (λ made. BeginsPath flow.now made self.new.path.items
             self.new.current) }
         ensures stops { IfErr result (λ r. StopsAt flow.now r.0 r.1) }
         ensures fails { IfErr result (λ r. BeginFails flow.now self.new.current r.0 r.1) }
@@ -147,10 +147,10 @@ impl Search {
     ) -> Result<(Ways, Move), Refused>
         requires image { flow.now ≡ image.now }
         requires good { IsFlow flow.now }
-        requires at { Goes flow.now self.old (Turn.Explore stored) }
+        requires at { TakesTurn flow.now self.old (Turn.Explore stored) }
         requires room { self.old.finished + length self.old.path.items < MAX_EXPLORED }
-        ensures moves { IfOk result (λ made. Moves flow.now self.new made.1) }
-        ensures steps { IfOk result (λ made. Steps flow.now self.old.current
+        ensures moves { IfOk result (λ made. AfterMove flow.now self.new made.1) }
+        ensures steps { IfOk result (λ made. TellsStep flow.now self.old.current
             self.old.path.items made.1 self.new.path.items self.new.current) }
         ensures stops { IfErr result (λ r. StopsAt flow.now r.0 r.1) }
         ensures fails { IfErr result (λ r. StepFails flow.now self.old.current
@@ -198,7 +198,7 @@ impl Search {
     fn back(&mut self, alloc: Global, flow: &Flow<'_>, ended: u32) -> Result<Option<Move>, Refused>
         requires at { HasEnded flow.now self.old ended }
         requires room { self.old.finished + length self.old.path.items ≤ MAX_EXPLORED }
-        ensures moves { IfOk result (λ made. MovesOrEnds flow.now self.new ended made) }
+        ensures moves { IfOk result (λ made. AfterMoveOrEnd flow.now self.new ended made) }
         ensures returns { IfOk result (λ made. IfReturns self.old.path.items made
             self.new.path.items self.new.current) }
         ensures stops { IfErr result (λ r. StopsAt flow.now r.0 r.1) }
@@ -244,11 +244,11 @@ impl Search {
         first: Move,
         listener: &mut L,
     ) -> Result<Turn, Halt<L::Stop>>
-        requires moves { Moves flow.now self.old first }
+        requires moves { AfterMove flow.now self.old first }
         requires room { self.old.finished + length self.old.path.items ≤ MAX_EXPLORED }
         requires untold { IsToTell flow.now (L.follows listener.old flow.now)
             self.old.path.items self.old.current first }
-        ensures goes { IfOk result (λ turn. Goes flow.now self.new turn) }
+        ensures goes { IfOk result (λ turn. TakesTurn flow.now self.new turn) }
         ensures told { IfOk result (λ turn. FollowsTurn flow.now (L.follows listener.new flow.now)
             self.new.path.items self.new.current turn) }
         ensures stops { IfErr result (λ h. IfRefused h (StopsAt flow.now)) }
@@ -288,11 +288,11 @@ impl Search {
     ) -> Result<Turn, Halt<L::Stop>>
         requires image { flow.now ≡ image.now }
         requires good { IsFlow flow.now }
-        requires at { Goes flow.now self.old (Turn.Explore stored) }
+        requires at { TakesTurn flow.now self.old (Turn.Explore stored) }
         requires room { self.old.finished + length self.old.path.items < MAX_EXPLORED }
         requires told { FollowsTo flow.now (L.follows listener.old flow.now)
             self.old.path.items self.old.current }
-        ensures goes { IfOk result (λ turn. Goes flow.now self.new turn) }
+        ensures goes { IfOk result (λ turn. TakesTurn flow.now self.new turn) }
         ensures told { IfOk result (λ turn. FollowsTurn flow.now (L.follows listener.new flow.now)
             self.new.path.items self.new.current turn) }
         ensures stops { IfErr result (λ h. IfRefused h (StopsAt flow.now)) }
@@ -326,7 +326,7 @@ impl Search {
         requires good { IsFlow flow.now }
         requires new { IsNew self.old }
         requires untold { (last : TheState) × L.follows listener.old flow.now [] last }
-        ensures settles { IfOk result (λ n. Goes flow.now self.new (Turn.Done n)) }
+        ensures settles { IfOk result (λ n. TakesTurn flow.now self.new (Turn.Done n)) }
         ensures most { IfOk result (λ n. n ≤ MAX_EXPLORED) }
         ensures stops { IfErr result (λ h. IfRefused h (StopsAt flow.now)) }
         ensures too_long { IfErr result (λ h. IfRefused h

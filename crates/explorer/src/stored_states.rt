@@ -3,8 +3,8 @@
 ghost use Rattle.std.specs.Prelude.{◌≡◌, ℕ, ◌<◌, ◌++◌, ◌∷◌, [], Some, None, length, IsTrue, IfSome, IfOk, OnOk, OnErr};
 ghost use Rattle.stack_state.specs.declared.states.State.{State as TheState};
 ghost use Rattle.state_index.specs.Parts.{AreBlank, AreParts};
-ghost use Rattle.state_index.specs.Rooms.{HasRoom};
-ghost use Rattle.explorer.specs.StoredStates.{IsStored, IsCovered, IsRepeated, StoredAt, IsNumbered};
+ghost use Rattle.state_index.specs.Rooms.{HasShapeRoom};
+ghost use Rattle.explorer.specs.StoredStates.{IsStored, IsCovered, IsRepeated, StoredAt, GetsNumber};
 
 use crate::kept::{Kept, PLACES};
 use stack_state::State;
@@ -64,7 +64,7 @@ impl StoredStates {
     /// No states yet, of code with that many slots.
     pub fn new(alloc: Global, slots: usize) -> Result<Self, AllocError>
         ensures empty { IfOk result (λ stored. stored.entries.items ≡ []) }
-        ensures room { IfOk result (λ stored. HasRoom stored.index slots) }
+        ensures room { IfOk result (λ stored. HasShapeRoom stored.index slots) }
     {
         let index = Index::new(alloc, slots)?;
         let key = Key::new(alloc)?;
@@ -348,7 +348,7 @@ impl StoredStates {
     /// Gives a state that was stored its number.
     pub fn finish(&mut self, stored: Option<usize>, number: u32)
         requires { (s : TheState) × StoredAt self.old.entries.items stored s }
-        ensures { IsNumbered self.old.entries.items stored number self.new.entries.items }
+        ensures { GetsNumber self.old.entries.items stored number self.new.entries.items }
     {
         if let Some(index) = stored {
             let entry = &mut self.entries[index];

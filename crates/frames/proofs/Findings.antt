@@ -17,7 +17,7 @@ use Rattle.isa_model.specs.Code.Limits.{max_body}
 use Rattle.isa_model.specs.Reporting.Streams.{max_frames, cut_by, length_field, Ending, ByEnd, ByError, head_bytes, stop_at}
 use Rattle.isa_model.proofs.StreamLaws.{some_head}
 use Rattle.frames.specs.Readers.{Position, At, Done}
-use Rattle.frames.specs.Reading.{ReadsMagic, MayOpen, Reads, Stops, CanStop, Found, Stopped}
+use Rattle.frames.specs.Reading.{ReadsMagic, MayOpen, FindsNext, Stops, CanStop, Found, Stopped}
 use Rattle.frames.proofs.Stopping.{stop_at-cut, stop_at-read, stop_at-nothing_read, stop_at-many, stop_at-long, stop_at-body, length_field-append, opened-short, opened-other}
 
 -- ---- the magic
@@ -70,39 +70,39 @@ whole_head buffer room n v filled size few whole = omega (arith, length-take-le 
 
 -- the source gave front, and whatever is left the stream stops
 stopped_more : (position : Position) (old new : Option (List ℕ)) (front : List ℕ) (stop : Finish) → Consumes old new front
-    → ((bytes rest : List ℕ) → bytes ≡ front ++ rest → Stops position bytes (Some rest) stop) → Reads position old new (Stopped stop)
+    → ((bytes rest : List ℕ) → bytes ≡ front ++ rest → Stops position bytes (Some rest) stop) → FindsNext position old new (Stopped stop)
 stopped_more position None new front stop p q = tt
 stopped_more position (Some bytes) None front stop p q = absurd p
 stopped_more position (Some bytes) (Some rest) front stop p q = q bytes rest p
 
 -- the source gave front, and that was all
 stopped_all : (position : Position) (old new : Option (List ℕ)) (front : List ℕ) (stop : Finish) → Consumes old new front → IsAtEnd new
-    → ((rest : List ℕ) → Stops position front (Some rest) stop) → Reads position old new (Stopped stop)
+    → ((rest : List ℕ) → Stops position front (Some rest) stop) → FindsNext position old new (Stopped stop)
 stopped_all position None new front stop p e q = tt
 stopped_all position (Some bytes) None front stop p e q = absurd p
 stopped_all position (Some bytes) (Some rest) front stop p e q =
     subst (λ (l : List ℕ). Stops position l (Some rest) stop) (sym (p ∙ ap (λ l. front ++ l) e ∙ append-nil front)) (q rest)
 
 pub record_many : (v : Version) (number offset : ℕ) (old new : Option (List ℕ)) (front : List ℕ) → number ≡ max_frames → length front ≡ 1 → Consumes old new front
-    → Reads (At v number offset) old new (Stopped (finish.Fault TooManyRecords offset))
+    → FindsNext (At v number offset) old new (Stopped (finish.Fault TooManyRecords offset))
 record_many v number offset old new front last size p =
     stopped_more (At v number offset) old new front (finish.Fault TooManyRecords offset) p (λ bytes rest e. rw (e, last) (stop_at-many v offset (front ++ rest) ByEnd (omega (arith, length-append front rest))))
 
 pub record_end : (v : Version) (number offset : ℕ) (old new : Option (List ℕ)) (n : ℕ) (buffer : List ℕ) → n ≡ 0 → Consumes old new (take n buffer) → IsAtEnd new
-    → Reads (At v number offset) old new (Stopped finish.End)
+    → FindsNext (At v number offset) old new (Stopped finish.End)
 unfolding stop_at
 record_end v number offset old new n buffer none p e =
     stopped_all (At v number offset) old new [] finish.End (subst (λ k. Consumes old new (take k buffer)) none p) e (λ rest. refl)
 
 pub record_cut : (v : Version) (number offset : ℕ) (old new : Option (List ℕ)) (n : ℕ) (buffer : List ℕ) → number ≢ max_frames → n ≢ 0 → length buffer ≡ head_size v → n < length buffer
-    → Consumes old new (take n buffer) → IsAtEnd new → Reads (At v number offset) old new (Stopped (finish.Fault TruncatedHead offset))
+    → Consumes old new (take n buffer) → IsAtEnd new → FindsNext (At v number offset) old new (Stopped (finish.Fault TruncatedHead offset))
 record_cut v number offset old new n buffer early some size less p e =
     let long = length-take-le n buffer (omega arith) in
     stopped_all (At v number offset) old new (take n buffer) (finish.Fault TruncatedHead offset) p e (λ rest. stop_at-cut v number offset (take n buffer) ByEnd early (omega arith) (omega arith))
 
 -- an error where less than a head was read, or nothing after the last record
 pub record_failed : (v : Version) (number offset : ℕ) (old new : Option (List ℕ)) (n : ℕ) (buffer : List ℕ) → (number ≡ max_frames → n ≡ 0) → length buffer ≤ head_size v → n < length buffer
-    → Consumes old new (take n buffer) → Reads (At v number offset) old new (Stopped (finish.Fault ReadFailed offset))
+    → Consumes old new (take n buffer) → FindsNext (At v number offset) old new (Stopped (finish.Fault ReadFailed offset))
 record_failed v number offset old new n buffer none size less p =
     let long = length-take-le n buffer (omega arith) in
     let read : stop_at v number offset (take n buffer) ByError ≡ Some (finish.Fault ReadFailed offset) = elim (cases_eq number max_frames) [
@@ -112,7 +112,7 @@ record_failed v number offset old new n buffer none size less p =
     stopped_more (At v number offset) old new (take n buffer) (finish.Fault ReadFailed offset) p (λ bytes rest e. (take n buffer, e, read))
 
 pub record_long : (v : Version) (number offset : ℕ) (old new : Option (List ℕ)) (head : List ℕ) → number ≢ max_frames → length head ≡ head_size v → max_body v < length_field head
-    → Consumes old new head → Reads (At v number offset) old new (Stopped (finish.Fault TooLong offset))
+    → Consumes old new head → FindsNext (At v number offset) old new (Stopped (finish.Fault TooLong offset))
 record_long v number offset old new head early size long p =
     stopped_more (At v number offset) old new head (finish.Fault TooLong offset) p (λ bytes rest e. rw e (stop_at-long v number offset (head ++ rest) ByEnd early (omega (arith, length-append head rest))
     (let some = some_head v in omega (arith, length_field-append head rest (omega arith)))))
@@ -128,21 +128,21 @@ part_of_record v number offset head body e early size short less =
 
 pub body_cut : (v : Version) (number offset : ℕ) (old mid new : Option (List ℕ)) (head : List ℕ) (n : ℕ) (buffer : List ℕ) → number ≢ max_frames → length head ≡ head_size v
     → length_field head ≤ max_body v → length buffer ≡ length_field head → n < length buffer → Consumes old mid head → Consumes mid new (take n buffer) → IsAtEnd new
-    → Reads (At v number offset) old new (Stopped (finish.Fault TruncatedBody offset))
+    → FindsNext (At v number offset) old new (Stopped (finish.Fault TruncatedBody offset))
 body_cut v number offset old mid new head n buffer early size short room less p q e =
     let cut = part_of_record v number offset head (take n buffer) ByEnd early size short (omega (arith, length-take-le n buffer (omega arith))) in
     stopped_all (At v number offset) old new (head ++ take n buffer) (finish.Fault TruncatedBody offset) (Consumes-trans _ _ _ _ _ p q) e (λ rest. cut)
 
 pub body_failed : (v : Version) (number offset : ℕ) (old mid new : Option (List ℕ)) (head : List ℕ) (n : ℕ) (buffer : List ℕ) → number ≢ max_frames → length head ≡ head_size v
     → length_field head ≤ max_body v → length buffer ≡ length_field head → n < length buffer → Consumes old mid head → Consumes mid new (take n buffer)
-    → Reads (At v number offset) old new (Stopped (finish.Fault ReadFailed offset))
+    → FindsNext (At v number offset) old new (Stopped (finish.Fault ReadFailed offset))
 body_failed v number offset old mid new head n buffer early size short room less p q =
     let read = part_of_record v number offset head (take n buffer) ByError early size short (omega (arith, length-take-le n buffer (omega arith))) in
     stopped_more (At v number offset) old new (head ++ take n buffer) (finish.Fault ReadFailed offset) (Consumes-trans _ _ _ _ _ p q) (λ bytes rest e. (head ++ take n buffer, e, read))
 
 pub record_whole : (v : Version) (number offset : ℕ) (old mid new : Option (List ℕ)) (bytes body after : List ℕ) (head : FrameHead) (n reason : ℕ) → head_bytes v head n reason ≡ bytes
     → length body ≡ n → Consumes old mid bytes → Consumes mid new body
-    → Reads (At v number offset) old new (Found (record { head = head; body = take n (body ++ after); reason = reason }))
+    → FindsNext (At v number offset) old new (Found (record { head = head; body = take n (body ++ after); reason = reason }))
 record_whole v number offset None mid new bytes body after head n reason spelled size p q = tt
 record_whole v number offset (Some all) None new bytes body after head n reason spelled size p q = absurd p
 record_whole v number offset (Some all) (Some rest) None bytes body after head n reason spelled size p q = absurd q
@@ -194,6 +194,6 @@ done_stops version bytes (finish.Fault ReadFailed o) = ([], refl, refl)
 done_stops version bytes (finish.Fault TooManyRecords o) = refl
 
 -- a reader that is done reads nothing
-pub done_reads : (version : Version) (old : Option (List ℕ)) (stop : Finish) → Reads (Done version stop) old old (Stopped stop)
+pub done_reads : (version : Version) (old : Option (List ℕ)) (stop : Finish) → FindsNext (Done version stop) old old (Stopped stop)
 done_reads version None stop = tt
 done_reads version (Some bytes) stop = done_stops version bytes stop

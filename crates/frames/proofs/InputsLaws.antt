@@ -13,7 +13,7 @@ use Rattle.isa_model.specs.Code.Versions.{stream_magic}
 use Rattle.isa_model.specs.Reporting.Streams.{Frame, IsFrame, Input, Ending, ByEnd, ByError, max_frames, frame_bytes, records_bytes, record_size, opened, stop_at, Stream, stream_with, stream_of, AreOpen, stream_bytes}
 use Rattle.isa_model.proofs.StreamLaws.{AreOpen-nil, AreOpen-push, size-frame_bytes, offset_after, stream_of-stops, stream_of-unopened}
 use Rattle.frames.specs.Readers.{Position, Fresh, At, Done}
-use Rattle.frames.specs.Reading.{ReadsMagic, MayOpen, Opens, position_opened, begun_at, Found, Stopped, Stops, Reads, IsOpen, CanStop, next_position, Finds}
+use Rattle.frames.specs.Reading.{ReadsMagic, MayOpen, OpensStream, position_opened, begun_at, Found, Stopped, Stops, FindsNext, IsOpen, CanStop, next_position, Finds}
 use Rattle.frames.specs.Inputs.{AreReadFrom, IsBegunBy, IsBegunVersion}
 
 -- Frames of a stream of this version were found by a reader that was fresh at first. Its source had
@@ -72,7 +72,7 @@ unopened_from (Some bytes) new ReadFailed r may = unopened_error bytes new r
 unopened_from (Some bytes) new TooManyRecords r may = unopened_all bytes TooManyRecords r
 
 -- a source has lost the bytes of a record that was found
-Consumes-found : (v : Version) (number offset : ℕ) (old new : Option (List ℕ)) (f : Frame) → Reads (At v number offset) old new (Found f) → Consumes old new (frame_bytes v f)
+Consumes-found : (v : Version) (number offset : ℕ) (old new : Option (List ℕ)) (f : Frame) → FindsNext (At v number offset) old new (Found f) → Consumes old new (frame_bytes v f)
 Consumes-found v number offset None new f r = tt
 Consumes-found v number offset (Some bytes) None f r = absurd r
 Consumes-found v number offset (Some bytes) (Some rest) f r = r
@@ -82,14 +82,14 @@ more_bytes : (v : Version) (frames : List Frame) (f : Frame) → records_bytes v
 more_bytes v frames f = flat_map-append (frame_bytes v) frames (f ∷ []) ∙ ap (λ l. records_bytes v frames ++ l) (append-nil (frame_bytes v f))
 
 -- one more frame was found
-pub HasFound-next : (v : Version) (frames : List Frame) (old known new : Option (List ℕ)) (p : Position) (f : Frame) → HasFound v frames old known p → Reads p known new (Found f) → IsOpen p f
+pub HasFound-next : (v : Version) (frames : List Frame) (old known new : Option (List ℕ)) (p : Position) (f : Frame) → HasFound v frames old known p → FindsNext p known new (Found f) → IsOpen p f
     → HasFound v (frames ++ f ∷ []) old new (next_position p (Found f))
 HasFound-next v frames old known new p f s r ok =
     let number = length frames in
     let offset = offset_after v frames in
     let here = At v number offset in
     let may = subst (λ (x : Position). IsOpen x f) s.stands ok in
-    let lost = Consumes-found v number offset known new f (subst (λ (x : Position). Reads x known new (Found f)) s.stands r) in
+    let lost = Consumes-found v number offset known new f (subst (λ (x : Position). FindsNext x known new (Found f)) s.stands r) in
     let bytes = more_bytes v frames f in
     let counted : number + 1 ≡ length (frames ++ f ∷ []) = omega (arith, length-append frames (f ∷ [])) in
     let sized : offset + record_size v f ≡ offset_after v (frames ++ f ∷ []) =
@@ -143,7 +143,7 @@ abbrev input_of : Version → List Frame → List ℕ → Ending → Input
 input_of v frames rest e = record { bytes = stream_magic v ++ (records_bytes v frames ++ rest); ending = e }
 
 -- Where the reader stops, the frames that it found and that end or fault were read.
-pub HasFound-stops : (v : Version) (frames : List Frame) (old known new : Option (List ℕ)) (p : Position) (stop : Finish) → HasFound v frames old known p → Reads p known new (Stopped stop)
+pub HasFound-stops : (v : Version) (frames : List Frame) (old known new : Option (List ℕ)) (p : Position) (stop : Finish) → HasFound v frames old known p → FindsNext p known new (Stopped stop)
     → CanStop p stop → AreReadFrom old (stream_with v (frames, stop))
 HasFound-stops v frames None known new p stop s r can =
     let h : CanStop (At v (length frames) (offset_after v frames)) stop = subst (λ (x : Position). CanStop x stop) s.stands can in
@@ -156,8 +156,8 @@ HasFound-stops v frames (Some bytes) known new p stop s r can =
     let number = length frames in
     let offset = offset_after v frames in
     let (rest, is_known, split) = left_of v frames bytes known s.lost in
-    let there = subst (λ (x : Position). Reads x known new (Stopped stop)) s.stands r in
-    let h = read_stop v number offset rest new stop (subst (λ (k : Option (List ℕ)). Reads (At v number offset) k new (Stopped stop)) is_known there) in
+    let there = subst (λ (x : Position). FindsNext x known new (Stopped stop)) s.stands r in
+    let h = read_stop v number offset rest new stop (subst (λ (k : Option (List ℕ)). FindsNext (At v number offset) k new (Stopped stop)) is_known there) in
     let same : stream_of (input_of v frames h.read h.ending) ≡ stream_with v (frames, stop) = stream_of-stops v frames h.read h.ending stop s.are_open h.stops in
     record {
       input = input_of v frames h.read h.ending;
@@ -189,7 +189,7 @@ abbrev pub HasBegun : Version → List Frame → Option (List ℕ) → Option (L
 HasBegun v frames old known position = HasFound v frames old known position ⊎ IsUnopened v frames old position
 
 -- a fresh reader has begun when the magic is read
-pub HasBegun-opens : (v : Version) (old new : Option (List ℕ)) (after : Position) → Opens Fresh old new after → IsBegunVersion (begun_at after) v → HasBegun v [] old new after
+pub HasBegun-opens : (v : Version) (old new : Option (List ℕ)) (after : Position) → OpensStream Fresh old new after → IsBegunVersion (begun_at after) v → HasBegun v [] old new after
 HasBegun-opens v old new after opens is = go opens.0 opens.1 opens.2 opens.3
   where
     go : (answer : Result Version Fault) → ReadsMagic old new answer → MayOpen answer → after ≡ position_opened answer → HasBegun v [] old new after
@@ -216,15 +216,15 @@ pub HasBegun-found : (v : Version) (frames : List Frame) (old known new : Option
     → HasFound v (frames ++ f ∷ []) old new q × (length frames < max_frames) × IsFrame v f
 HasBegun-found v frames old known new p q f (inl s) h =
     let here = At v (length frames) (offset_after v frames) in
-    let (begun_is, left_is) = subst (λ (x : Position). Opens x known h.left h.begun) s.stands h.opens in
+    let (begun_is, left_is) = subst (λ (x : Position). OpensStream x known h.left h.begun) s.stands h.opens in
     let begun : h.begun ≡ p = begun_is ∙ sym s.stands in
     let open_here = subst (λ (x : Position). IsOpen x f) begun h.room in
-    let reads = subst (λ (k : Option (List ℕ)). Reads p k new (Found f)) left_is (subst (λ (x : Position). Reads x h.left new (Found f)) begun h.reads) in
+    let reads = subst (λ (k : Option (List ℕ)). FindsNext p k new (Found f)) left_is (subst (λ (x : Position). FindsNext x h.left new (Found f)) begun h.reads) in
     let may = subst (λ (x : Position). IsOpen x f) s.stands open_here in
     let moved : q ≡ next_position p (Found f) = h.stands ∙ ap (λ (x : Position). next_position x (Found f)) begun in
     (subst (HasFound v (frames ++ f ∷ []) old new) (sym moved) (HasFound-next v frames old known new p f s reads open_here), may.0, may.1)
 HasBegun-found v frames old known new p q f (inr u) h =
-    let (begun_is, left_is) = subst (λ (x : Position). Opens x known h.left h.begun) u.stands h.opens in
+    let (begun_is, left_is) = subst (λ (x : Position). OpensStream x known h.left h.begun) u.stands h.opens in
     absurd (subst (λ (x : Position). IsOpen x f) begun_is h.room)
 
 -- what a reader that is done finds
@@ -235,12 +235,12 @@ done_stops v stop found can = let h : Some stop ≡ Some found = can.stops in cc
 pub HasBegun-stopped : (v : Version) (frames : List Frame) (old known new : Option (List ℕ)) (p q : Position) (stop : Finish) → HasBegun v frames old known p → Finds p known new q (Stopped stop)
     → AreReadFrom old (stream_with v (frames, stop))
 HasBegun-stopped v frames old known new p q stop (inl s) h =
-    let (begun_is, left_is) = subst (λ (x : Position). Opens x known h.left h.begun) s.stands h.opens in
+    let (begun_is, left_is) = subst (λ (x : Position). OpensStream x known h.left h.begun) s.stands h.opens in
     let begun : h.begun ≡ p = begun_is ∙ sym s.stands in
-    let reads = subst (λ (k : Option (List ℕ)). Reads p k new (Stopped stop)) left_is (subst (λ (x : Position). Reads x h.left new (Stopped stop)) begun h.reads) in
+    let reads = subst (λ (k : Option (List ℕ)). FindsNext p k new (Stopped stop)) left_is (subst (λ (x : Position). FindsNext x h.left new (Stopped stop)) begun h.reads) in
     HasFound-stops v frames old known new p stop s reads (subst (λ (x : Position). CanStop x stop) begun h.room)
 HasBegun-stopped v frames old known new p q stop (inr u) h =
-    let (begun_is, left_is) = subst (λ (x : Position). Opens x known h.left h.begun) u.stands h.opens in
+    let (begun_is, left_is) = subst (λ (x : Position). OpensStream x known h.left h.begun) u.stands h.opens in
     let same = done_stops One (finish.Fault u.fault 0) stop (subst (λ (x : Position). CanStop x stop) begun_is h.room) in
     let whole : unopened u.fault ≡ stream_with v (frames, stop) = rw (u.first, u.none, ← same) refl in
     subst (AreReadFrom old) whole u.read

@@ -37,10 +37,10 @@ MayOpen (Ok version) = Unit {0}
 MayOpen (Err fault) = (bytes : List ℕ) × (ending : Ending) × (opened bytes ending ≡ Err fault)
 
 -- the magic is read once: a reader after it reads nothing and stays there
-abbrev pub Opens : Position → Option (List ℕ) → Option (List ℕ) → Position → Type 0
-Opens Fresh old new after = (answer : Result Version Fault) × ReadsMagic old new answer × MayOpen answer × (after ≡ position_opened answer)
-Opens (At version number offset) old new after = (after ≡ At version number offset) × (new ≡ old)
-Opens (Done version stop) old new after = (after ≡ Done version stop) × (new ≡ old)
+abbrev pub OpensStream : Position → Option (List ℕ) → Option (List ℕ) → Position → Type 0
+OpensStream Fresh old new after = (answer : Result Version Fault) × ReadsMagic old new answer × MayOpen answer × (after ≡ position_opened answer)
+OpensStream (At version number offset) old new after = (after ≡ At version number offset) × (new ≡ old)
+OpensStream (Done version stop) old new after = (after ≡ Done version stop) × (new ≡ old)
 
 -- the version of the stream that is read, or the fault that ended it
 abbrev pub begun_at : Position → Result ℕ (Fault × ℕ)
@@ -95,11 +95,11 @@ Begins position bytes f rest = ⊥
 
 -- What a call does where the source's bytes are known: the bytes of the record that it finds are gone, or the
 -- stream stops there.
-abbrev pub Reads : Position → Option (List ℕ) → Option (List ℕ) → Finding → Type 0
-Reads position None new finding = Unit {0}
-Reads position (Some bytes) new (Stopped stop) = Stops position bytes new stop
-Reads position (Some bytes) None (Found f) = ⊥
-Reads position (Some bytes) (Some rest) (Found f) = Begins position bytes f rest
+abbrev pub FindsNext : Position → Option (List ℕ) → Option (List ℕ) → Finding → Type 0
+FindsNext position None new finding = Unit {0}
+FindsNext position (Some bytes) new (Stopped stop) = Stops position bytes new stop
+FindsNext position (Some bytes) None (Found f) = ⊥
+FindsNext position (Some bytes) (Some rest) (Found f) = Begins position bytes f rest
 
 -- this record is allowed at the position
 abbrev pub IsOpen : Position → Frame → Type 0
@@ -122,8 +122,8 @@ HasRoom position (Stopped stop) = CanStop position stop
 pub record Finds (before : Position) (old new : Option (List ℕ)) (after : Position) (finding : Finding) : Type 0 where
   pub begun : Position
   pub left : Option (List ℕ)
-  pub opens : Opens before old left begun
-  pub reads : Reads begun left new finding
+  pub opens : OpensStream before old left begun
+  pub reads : FindsNext begun left new finding
   pub room : HasRoom begun finding
   pub stands : after ≡ next_position begun finding
 

@@ -21,16 +21,16 @@ position_of (stage.Done version stop) = Done version stop
 abbrev pub max_record : ℕ
 max_record = head_size Two + max_packet
 
-abbrev pub IsWithin : Stage → Type 0
-IsWithin stage.Fresh = Unit {0}
-IsWithin (stage.At version number offset) = offset ≤ 4 + max_record * number
-IsWithin (stage.Done version stop) = Unit {0}
+abbrev pub FitsRecord : Stage → Type 0
+FitsRecord stage.Fresh = Unit {0}
+FitsRecord (stage.At version number offset) = offset ≤ 4 + max_record * number
+FitsRecord (stage.Done version stop) = Unit {0}
 
 -- a record that was found has a number below the last, and a body that fits
-abbrev pub HasRoomFor : ℕ → Next → Type 0
-HasRoomFor number (next.Frame head n reason) = (number < max_frames) × (n ≤ max_packet)
-HasRoomFor number next.End = Unit {0}
-HasRoomFor number (next.Fault f offset) = Unit {0}
+abbrev pub HasRoomForRecord : ℕ → Next → Type 0
+HasRoomForRecord number (next.Frame head n reason) = (number < max_frames) × (n ≤ max_packet)
+HasRoomForRecord number next.End = Unit {0}
+HasRoomForRecord number (next.Fault f offset) = Unit {0}
 
 -- the stage after what was found at a record's place
 abbrev pub IsStageAfter : Version → ℕ → ℕ → Next → Stage → Type 0

@@ -2,8 +2,8 @@
 ghost use Rattle.std.specs.Prelude.{◌≡◌, ◌≢◌, ◌+◌, ◌*◌, ◌≤◌, Option};
 ghost use Rattle.isa_model.specs.Machine.MachineStates.{AreBytes};
 ghost use Rattle.frames.specs.Readers.{Position, Fresh, At};
-ghost use Rattle.frames.specs.Reading.{ReadsMagic, MayOpen, Opens, begun_at, Finds, finding_of, Reads, HasRoom, FitsBuffer, StaysDone};
-ghost use Rattle.frames.specs.Stages.{position_of, IsWithin, max_record, HasRoomFor, IsStageAfter};
+ghost use Rattle.frames.specs.Reading.{ReadsMagic, MayOpen, OpensStream, begun_at, Finds, finding_of, FindsNext, HasRoom, FitsBuffer, StaysDone};
+ghost use Rattle.frames.specs.Stages.{position_of, FitsRecord, max_record, HasRoomForRecord, IsStageAfter};
 
 use super::filling::fill_at_once;
 use super::heads::decode_head;
@@ -45,13 +45,13 @@ pub struct FrameReader<R> {
 
 impl<R> Model for FrameReader<R> {
     ghost use Rattle.frames.specs.Readers.{Reading};
-    ghost use Rattle.frames.specs.Stages.{position_of, IsWithin};
+    ghost use Rattle.frames.specs.Stages.{position_of, FitsRecord};
 
     ghost Value = { Reading R };
 
     ghost view = { λ r. record { source = r.source; position = position_of r.stage } };
 
-    ghost invariant = { λ r. IsWithin r.stage };
+    ghost invariant = { λ r. FitsRecord r.stage };
 }
 
 impl<R: Read> FrameReader<R> {
@@ -68,7 +68,7 @@ impl<R: Read> FrameReader<R> {
     /// Reads the magic, and answers the stream's version, 1 or 2, or the fault in its place. If the
     /// magic was read before, it reads nothing, and answers the same again.
     pub fn begin(&mut self) -> Result<u8, (Fault, u64)>
-        ensures opens { Opens self.old.position (R.remaining self.old.source)
+        ensures opens { OpensStream self.old.position (R.remaining self.old.source)
             (R.remaining self.new.source) self.new.position }
         ensures answers { result ≡ begun_at self.new.position }
         ensures again { self.old.position ≢ Fresh → self.new ≡ self.old }
@@ -112,10 +112,10 @@ impl<R: Read> FrameReader<R> {
 // The position after the magic is read, if it was not read before.
 #[inline(always)]
 fn stage_begun<R: Read>(source: &mut R, stage: Stage) -> Stage
-    requires within { IsWithin stage }
-    ensures opens { Opens (position_of stage) (R.remaining source.old) (R.remaining source.new)
+    requires within { FitsRecord stage }
+    ensures opens { OpensStream (position_of stage) (R.remaining source.old) (R.remaining source.new)
         (position_of result) }
-    ensures within { IsWithin result }
+    ensures within { FitsRecord result }
     ensures begun { position_of result ≢ Fresh }
     ensures again { position_of stage ≢ Fresh → source.new ≡ source.old }
 {
@@ -131,7 +131,7 @@ fn stage_begun<R: Read>(source: &mut R, stage: Stage) -> Stage
 // The position after what was found where a record may begin.
 #[inline(always)]
 fn stage_after(version: Version, number: u32, offset: u64, next: &Next) -> Stage
-    requires room { HasRoomFor number next.now }
+    requires room { HasRoomForRecord number next.now }
     requires bound { offset ≤ 4 + max_record * number }
     ensures { IsStageAfter version number offset next.now result }
 {
@@ -184,7 +184,7 @@ fn read_record<R: Read>(
     offset: u64,
     buffer: &mut [u8; MAX_PACKET],
 ) -> Next
-    ensures bytes { Reads (At version number offset) (R.remaining source.old)
+    ensures bytes { FindsNext (At version number offset) (R.remaining source.old)
         (R.remaining source.new) (finding_of result buffer.new) }
     ensures room { HasRoom (At version number offset) (finding_of result buffer.new) }
     ensures fits { FitsBuffer result }

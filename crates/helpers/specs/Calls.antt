@@ -11,18 +11,18 @@ use Rattle.helpers.specs.declared.calls.Answer.TheVariants.{Number, Value}
 -- ---- what may be asked
 
 -- the image has the map, and its keys have that many bytes
-pub record HasKey (maps : List MapState) (m : ℕ) (key : List ℕ) : Type 0 where
+pub record TakesKey (maps : List MapState) (m : ℕ) (key : List ℕ) : Type 0 where
   pub map : m < length maps
   pub key_size : length key ≡ (map_at maps m).row.key_size
 
 abbrev pub FitsAt : Helper → List MapState → (map : ℕ) → (key value : List ℕ) → Type 0
-FitsAt MapLookupElem maps m key value = HasKey maps m key
-FitsAt MapUpdateElem maps m key value = HasKey maps m key × (length value ≡ (map_at maps m).row.value_size)
-FitsAt MapDeleteElem maps m key value = HasKey maps m key
+FitsAt MapLookupElem maps m key value = TakesKey maps m key
+FitsAt MapUpdateElem maps m key value = TakesKey maps m key × (length value ≡ (map_at maps m).row.value_size)
+FitsAt MapDeleteElem maps m key value = TakesKey maps m key
 FitsAt KtimeGetNs maps m key value = Unit {0}
 
-abbrev pub Fits : List MapState → Request → Type 0
-Fits maps request = FitsAt request.helper maps request.map request.key.now request.value.now
+abbrev pub FitsMaps : List MapState → Request → Type 0
+FitsMaps maps request = FitsAt request.helper maps request.map request.key.now request.value.now
 
 -- ---- the answers
 
@@ -36,21 +36,21 @@ abbrev pub ChangesOne : ℕ → List MapState → List MapState → Type 0
 ChangesOne m old new = new ≡ slice_set old m (map_at new m)
 
 -- An update and a delete answer 0 or an error.
-abbrev pub IsNumber : Answer → (ℕ → Type 0) → Type 0
-IsNumber (Number n) P = P n
-IsNumber (Value place) P = ⊥
+abbrev pub IsNumberAnswer : Answer → (ℕ → Type 0) → Type 0
+IsNumberAnswer (Number n) P = P n
+IsNumberAnswer (Value place) P = ⊥
 
 -- A look-up and the time leave the maps as they are. An update and a delete change only their map.
 abbrev pub AnswersAt : (clock : ℕ → ℕ) → Helper → (map : ℕ) → (key value : List ℕ) → (flags : ℕ) → (old : List MapState) → Answer → (new : List MapState) → Type 0
 AnswersAt clock MapLookupElem m key value flags old answer new = (answer ≡ found (get (map_at old m).places key)) × (new ≡ old)
 AnswersAt clock MapUpdateElem m key value flags old answer new =
-    IsNumber answer (λ n. Updated key value flags n (map_at old m) (map_at new m)) × ChangesOne m old new
+    IsNumberAnswer answer (λ n. Updated key value flags n (map_at old m) (map_at new m)) × ChangesOne m old new
 AnswersAt clock MapDeleteElem m key value flags old answer new =
-    IsNumber answer (λ n. Deleted key n (map_at old m) (map_at new m)) × ChangesOne m old new
+    IsNumberAnswer answer (λ n. Deleted key n (map_at old m) (map_at new m)) × ChangesOne m old new
 AnswersAt clock KtimeGetNs m key value flags old answer new = (answer ≡ Number (clock 0)) × (new ≡ old)
 
-abbrev pub Answers : (clock : ℕ → ℕ) → Request → (old : List MapState) → Answer → (new : List MapState) → Type 0
-Answers clock request old answer new =
+abbrev pub AnswersRequest : (clock : ℕ → ℕ) → Request → (old : List MapState) → Answer → (new : List MapState) → Type 0
+AnswersRequest clock request old answer new =
     AnswersAt clock request.helper request.map request.key.now request.value.now request.flags old answer new
 
 -- how often the clock is asked

@@ -1,7 +1,7 @@
 //! Requests to helpers, and their answers.
 
 ghost use Rattle.std.specs.Prelude.{◌≡◌, ◌+◌, ℕ};
-ghost use Rattle.helpers.specs.Calls.{Fits, Answers, clock_calls};
+ghost use Rattle.helpers.specs.Calls.{FitsMaps, AnswersRequest, clock_calls};
 
 use isa_model::{Clock, Helper};
 use maps::Maps;
@@ -28,8 +28,8 @@ pub enum Answer {
 /// Does what a helper is asked for. It takes no memory.
 #[inline(always)]
 pub fn call<C: Clock>(maps: &mut Maps, request: &Request<'_>, clock: &mut C) -> Answer
-    requires { Fits maps.old request.now }
-    ensures answer { Answers (C.at clock.old) request.now maps.old result maps.new }
+    requires { FitsMaps maps.old request.now }
+    ensures answer { AnswersRequest (C.at clock.old) request.now maps.old result maps.new }
     ensures clock { (k : ℕ) → C.at clock.new k ≡ C.at clock.old (clock_calls request.now + k) }
 {
     let Request {

@@ -18,7 +18,7 @@ use Rattle.isa_model.proofs.ReportLaws.{IsReport-checked}
 use Rattle.image.proofs.Programs.{IsProgram-IsImage, FitRows-starting_contents}
 use Rattle.bounds.specs.Bounds.{Bounded, IsVerified}
 use Rattle.machine.specs.declared.machines.Exit.{Exit as TheExit}
-use Rattle.machine.specs.Running.{Running, Answers}
+use Rattle.machine.specs.Running.{Running, AnswersRun}
 use Rattle.checked_vm.specs.Machines.{Running as Checking}
 use Rattle.host.specs.declared.errors.HostError.{HostError}
 use Rattle.host.specs.declared.tallies.Tally.{Tally}
@@ -33,12 +33,12 @@ use Rattle.host.proofs.Turns.{turns_pieces-append}
 use Rattle.host.proofs.Fronts.{first_pieces}
 
 -- a machine's answer is the turn of its program
-pub turn-Answers : (r : Running) (head : FrameHead) (packet : List ℕ) (clock : ℕ → ℕ) (exit : TheExit) (after : List ℕ) (left : List Entries) (coming : ℕ → ℕ)
-    → Answers r head packet clock exit after left coming
+pub turn-AnswersRun : (r : Running) (head : FrameHead) (packet : List ℕ) (clock : ℕ → ℕ) (exit : TheExit) (after : List ℕ) (left : List Entries) (coming : ℕ → ℕ)
+    → AnswersRun r head packet clock exit after left coming
     → ((turn r.program r.bound clock head packet r.contents).ends ≡ Exit exit.r0 exit.steps)
     × ((turn r.program r.bound clock head packet r.contents).packet ≡ after)
     × ((turn r.program r.bound clock head packet r.contents).contents ≡ left)
-turn-Answers r head packet clock exit after left coming h =
+turn-AnswersRun r head packet clock exit after left coming h =
     let o = h.outcome in
     let same = turn-outcome r.program head packet r.contents clock o r.bound h.found h.few in
     let numbers : Exit o.number o.steps ≡ Exit exit.r0 exit.steps = rw (h.number_is, h.steps_are) refl in (

@@ -14,7 +14,7 @@ use Rattle.isa_model.specs.Reporting.Streams.{Frame, Stream, max_frames, stream_
 use Rattle.isa_model.proofs.StreamLaws.{AreOpen-nil}
 use Rattle.isa_model.specs.Reporting.Reports.{Piece, Rule, Form, ToReport, ToFrames, turns_pieces, contents_after, turn_on, turn_pieces, contents_left, maps_pieces, last_line}
 use Rattle.frames.specs.Readers.{Position, Fresh}
-use Rattle.frames.specs.Reading.{Opens, begun_at, Found, Stopped, Finds}
+use Rattle.frames.specs.Reading.{OpensStream, begun_at, Found, Stopped, Finds}
 use Rattle.frames.proofs.InputsLaws.{HasBegun, HasBegun-opens, HasBegun-open, HasBegun-found, HasBegun-stopped, HasFound-begins, unopened}
 use Rattle.frames.specs.Inputs.{IsBegunVersion}
 use Rattle.host.specs.declared.errors.HostError.{HostError}
@@ -33,11 +33,11 @@ body_short One n h = omega arith
 body_short Two n h = h
 
 -- a reader that was made and then read the magic has begun
-pub begin_opens : (v : Version) (source old new : Option (List ℕ)) (p after : Position) (answer : Result ℕ (Fault × ℕ)) → p ≡ Fresh → old ≡ source → Opens p old new after
+pub begin_opens : (v : Version) (source old new : Option (List ℕ)) (p after : Position) (answer : Result ℕ (Fault × ℕ)) → p ≡ Fresh → old ≡ source → OpensStream p old new after
     → answer ≡ begun_at after → IsBegunVersion answer v → HasBegun v [] source new after
 begin_opens v source old new p after answer fresh same opens answers is =
     HasBegun-opens v source new after
-    (subst (λ (k : Option (List ℕ)). Opens Fresh k new after) same (subst (λ (x : Position). Opens x old new after) fresh opens))
+    (subst (λ (k : Option (List ℕ)). OpensStream Fresh k new after) same (subst (λ (x : Position). OpensStream x old new after) fresh opens))
     (subst (λ (a : Result ℕ (Fault × ℕ)). IsBegunVersion a v) answers is)
 
 -- ---- frames in a row

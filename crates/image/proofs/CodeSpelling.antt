@@ -87,11 +87,11 @@ length-spelling_of (LoadMapValue d m o) = refl
 length-spelling_of i = refl
 
 -- a second half has its slot
-abbrev pub HasHalf : Bool → ℕ → Type 0
-HasHalf true n = 1 ≤ n
-HasHalf false n = Unit {0}
+abbrev pub HasSecondHalf : Bool → ℕ → Type 0
+HasSecondHalf true n = 1 ≤ n
+HasSecondHalf false n = Unit {0}
 
-has_half : (i : Insn) (n : ℕ) → slots_of i ≤ suc n → HasHalf (is_wide i) n
+has_half : (i : Insn) (n : ℕ) → slots_of i ≤ suc n → HasSecondHalf (is_wide i) n
 has_half (LoadNumber d m) n h = omega arith
 has_half (LoadMap d m) n h = omega arith
 has_half (LoadMapValue d m o) n h = omega arith
@@ -104,11 +104,11 @@ pub record IsReadFrom (rows : List MapDef) (n : ℕ) (half : Bool) (bytes : List
   pub code : IsCode half xs
   pub named : NamesMaps rows xs
 
-no_half : (half : Bool) → HasHalf half 0 → half ≡ false
+no_half : (half : Bool) → HasSecondHalf half 0 → half ≡ false
 no_half true h = absurd (omega arith)
 no_half false h = refl
 
-pub code_from-found : Laws → (rows : List MapDef) (n : ℕ) (half : Bool) (slot : ℕ) (bytes : List ℕ) (xs : List (Option Insn)) → EachByte bytes → length bytes ≡ 8 * n → HasHalf half n → code_from rows n half slot bytes ≡ Ok xs → IsReadFrom rows n half bytes xs
+pub code_from-found : Laws → (rows : List MapDef) (n : ℕ) (half : Bool) (slot : ℕ) (bytes : List ℕ) (xs : List (Option Insn)) → EachByte bytes → length bytes ≡ 8 * n → HasSecondHalf half n → code_from rows n half slot bytes ≡ Ok xs → IsReadFrom rows n half bytes xs
 unfolding code_from
 code_from-found laws rows zero half slot bytes xs small len room e =
     subst (λ (ys : Slots). IsReadFrom rows 0 half bytes ys) (ok_is [] xs e) (record {

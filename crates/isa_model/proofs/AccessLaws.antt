@@ -30,7 +30,7 @@ use Rattle.isa_model.specs.Machine.Memory.{and_then, frame_index, entry_index, e
 use Rattle.isa_model.specs.Machine.Steps.{base_of, swaps_in, fetched_into}
 use Rattle.isa_model.specs.Machine.MachineStates.{AreBytes, IsEntry, FitRows, IsOffset, IsRegion, IsValue, IsCell, IsCallFrame, IsState}
 use Rattle.isa_model.proofs.ValueLaws.{IfOk-and_then, IfOk-if, Byte_cells_fit, number_in_fits, value_in_fits, pieces_fit, bytes_of_fit}
-use Rattle.isa_model.proofs.StateLaws.{IsState-set_reg, HasRoom, place_in_room, frame_room, IsState-put}
+use Rattle.isa_model.proofs.StateLaws.{IsState-set_reg, HasCells, place_in_room, frame_room, IsState-put}
 
 -- ---- loads
 
@@ -90,7 +90,7 @@ cells_at_fit rows next None i n h = All-nil (IsCell rows next)
 pub read_fits : (p : Program) (s : State) (r : Region) (o : Option ℕ) (n : ℕ) → IsState p s
     → IfOk (read s r o n) (All (IsCell (length p.maps) s.next_serial))
 read_fits p s r o n k =
-    IfOk-and_then (λ i. HasRoom (region_cells s r) i n) (All (IsCell (length p.maps) s.next_serial)) (place_of s r o n) (λ i. Ok (cells_at (region_cells s r) i n))
+    IfOk-and_then (λ i. HasCells (region_cells s r) i n) (All (IsCell (length p.maps) s.next_serial)) (place_of s r o n) (λ i. Ok (cells_at (region_cells s r) i n))
     (place_in_room (region_cells s r) o n)
     (λ i room. cells_at_fit (length p.maps) s.next_serial (region_cells s r) i n (region_cells_fit p s r k))
 
@@ -157,7 +157,7 @@ load_signed_fits p s size v by k =
 pub write_keeps : (p : Program) (s : State) (r : Region) (o : Option ℕ) (new : List Cell) → All (IsCell (length p.maps) s.next_serial) new → IsState p s
     → IfOk (write s r o new) (IsState p)
 write_keeps p s r o new fit k =
-    IfOk-and_then (λ i. HasRoom (region_cells s r) i (length new)) (IsState p) (place_of s r o (length new)) (λ i. Ok (put s r i new))
+    IfOk-and_then (λ i. HasCells (region_cells s r) i (length new)) (IsState p) (place_of s r o (length new)) (λ i. Ok (put s r i new))
     (place_in_room (region_cells s r) o (length new)) (λ i room. IsState-put p s r i new room fit k)
 
 pub store_number_keeps : (p : Program) (s : State) (size : Size) (v : Value) (by : ℤ) (n : ℕ) → IsState p s → IfOk (store_number s size v by n) (IsState p)

@@ -99,11 +99,11 @@ keys-with_key key x (e ∷ es) h =
     ] h
 
 -- a content has room for a key that is there, and a hash map that is not full for any key
-abbrev pub HasRoomFor : MapDef → List ℕ → Entries → Type 0
-HasRoomFor row key es = (has_key key es ≡ true) ⊎ ((row.kind ≡ Hash) × (length es < row.entries))
+abbrev pub HasRoomForKey : MapDef → List ℕ → Entries → Type 0
+HasRoomForKey row key es = (has_key key es ≡ true) ⊎ ((row.kind ≡ Hash) × (length es < row.entries))
 
 pub FitsRow-with_key : (row : MapDef) (key bytes : List ℕ) (es : Entries) → IsEntry row (key, bytes)
-    → HasRoomFor row key es → FitsRow row es → FitsRow row (with_key key bytes es)
+    → HasRoomForKey row key es → FitsRow row es → FitsRow row (with_key key bytes es)
 FitsRow-with_key row key bytes es new has h = at (has_key key es) refl has
   where
     sorted : T (is_sorted key_order es)
@@ -128,7 +128,7 @@ FitsRow-with_key row key bytes es new has h = at (has_key key es) refl has
       keys = keys;
     }
 
-    at : (b : Bool) → has_key key es ≡ b → HasRoomFor row key es → FitsRow row (with_key key bytes es)
+    at : (b : Bool) → has_key key es ≡ b → HasRoomForKey row key es → FitsRow row (with_key key bytes es)
     at true e k =
         let same = long true e in
         let room = h.room in
@@ -185,12 +185,12 @@ array_open false flags h = absurd (refused (nat_lt exist flags) h)
 
 pub update_has_room : (row : MapDef) (key : List ℕ) (flags : ℕ) (content : Content)
     → (update_answer row content key flags == 0) ≡ true
-    → HasRoomFor row key (entries_of content)
+    → HasRoomForKey row key (entries_of content)
 update_has_room row key flags content h = by row.kind refl h
   where
     by : (kind : MapKind) → row.kind ≡ kind
         → (update_answer_by kind (has_key key content) (nat_le row.entries (length content)) flags == 0) ≡ true
-        → HasRoomFor row key (entries_of content)
+        → HasRoomForKey row key (entries_of content)
     by Array e h = inl (has_key-entries_of key content ∙ array_open (has_key key content) flags h)
     by Hash e h = elim (hash_open (has_key key content) (nat_le row.entries (length content)) flags h) [
       | inl there ↦ inl (has_key-entries_of key content ∙ there)

@@ -24,11 +24,11 @@ use Rattle.isa_model.specs.Machine.MapHelpers.{Helped, serial_given, serial_afte
 use Rattle.isa_model.specs.Machine.HelperCalls.{MapArgument, map_of_row, map_argument, BytesArgument, bytes_argument, number_argument, bytes_in, bytes_at, lookup_call, update_call, delete_call, helper_call, answered, after_call}
 use Rattle.isa_model.specs.Machine.MachineStates.{AreBytes, IsEntry, FitsRow, FitRows, IsValue, IsCell, IsCallFrame, value_serials, live_serials, IsState, IsClock}
 use Rattle.isa_model.proofs.ValueLaws.{IfOk-and_then, IfOk-then, IfOk-if, IsValue-more, bytes_in_fit}
-use Rattle.isa_model.proofs.StateLaws.{HasRoom, place_in_room, serial_of, flat_map-set_same}
+use Rattle.isa_model.proofs.StateLaws.{HasCells, place_in_room, serial_of, flat_map-set_same}
 use Rattle.isa_model.proofs.CallLaws.{IsCallFrame-more}
 use Rattle.isa_model.proofs.AccessLaws.{read_fits}
 use Rattle.isa_model.proofs.SerialLaws.{HasOneMore, HasOneMore-before, HasOneMore-after, AreSerials, AreSerials-more, AreSerials-fewer, part_replaced}
-use Rattle.isa_model.proofs.ContentLaws.{entries_of-with_key, entries_of-without_key, HasRoomFor, FitsRow-with_key, FitsRow-without_key, update_has_room, deletes_from_hash, deletes_present, update_answer_fits, delete_answer_fits, is_sorted-entries_of, at_key-value_serials, value_serials-with_key, HasOneMore-with_key, HasOneMore-without_key}
+use Rattle.isa_model.proofs.ContentLaws.{entries_of-with_key, entries_of-without_key, HasRoomForKey, FitsRow-with_key, FitsRow-without_key, update_has_room, deletes_from_hash, deletes_present, update_answer_fits, delete_answer_fits, is_sorted-entries_of, at_key-value_serials, value_serials-with_key, HasOneMore-with_key, HasOneMore-without_key}
 use Rattle.isa_model.proofs.HelperLaws.{value_serials_given, content_fits}
 
 -- ---- the arguments
@@ -57,11 +57,11 @@ read_length : (s : State) (at : BytesArgument) (n : ℕ)
 read_length s at n =
     let cells = region_cells s at.region in
     let o = index_at at.region at.offset in
-    IfOk-and_then (λ i. HasRoom cells i n) (λ cs. length cs ≡ n) (place_of s at.region o n)
+    IfOk-and_then (λ i. HasCells cells i n) (λ cs. length cs ≡ n) (place_of s at.region o n)
     (λ i. Ok (cells_at cells i n))
     (place_in_room cells o n) (λ i room. whole cells i room)
   where
-    whole : (cells : Option (List Cell)) (i : ℕ) → HasRoom cells i n → length (cells_at cells i n) ≡ n
+    whole : (cells : Option (List Cell)) (i : ℕ) → HasCells cells i n → length (cells_at cells i n) ≡ n
     whole (Some cells) i room =
         let left = length-drop i cells in
         length-take-le n (drop i cells) (omega arith)
@@ -184,7 +184,7 @@ one_fewer_live p s m row content n e one k =
 
 put_bytes_keeps : (p : Program) (s : State) (m : ℕ) (row : MapDef) (key bytes : List ℕ)
     → slice_get p.maps m ≡ Some row
-    → IsEntry row (key, bytes) → HasRoomFor row key (entries_of (content_of s m)) → IsState p s
+    → IsEntry row (key, bytes) → HasRoomForKey row key (entries_of (content_of s m)) → IsState p s
     → IsState p (put_bytes s m key bytes)
 put_bytes_keeps p s m row key bytes e entry room k = by (at_key key (content_of s m)) refl
   where

@@ -36,7 +36,7 @@ abbrev pub slot_cells : List Cell → ℕ → List Cell
 slot_cells cells j = take 8 (drop (8 * j) cells)
 
 -- each slot is unwritten, or has the bytes of a number that is known as a constant
-pub record Slots (holds : ℕ → ℕ → Type 0) (t : State) : Type 0 where
+pub record HasKnownSlots (holds : ℕ → ℕ → Type 0) (t : State) : Type 0 where
   pub frame : CallFrame
   pub only : t.frames ≡ frame ∷ []
   pub pointer : reg t R10 ≡ frame_pointer frame.serial
@@ -85,27 +85,27 @@ splice_other xs new i j n inside here (inr behind) =
 slot_index : (n j : ℕ) → index_at (region.Frame n) (pos 0 +ℤ slot_offset j) ≡ Some (8 * j)
 slot_index n j = let at : (pos 0 +ℤ slot_offset j) +ℤ pos frame_size ≡ pos (8 * j) = omega (arith, ints) in ap index_from at
 
-cells_there : (holds : ℕ → ℕ → Type 0) (t : State) (h : Slots holds t) → region_cells t (region.Frame h.frame.serial) ≡ Some h.frame.cells
+cells_there : (holds : ℕ → ℕ → Type 0) (t : State) (h : HasKnownSlots holds t) → region_cells t (region.Frame h.frame.serial) ≡ Some h.frame.cells
 cells_there holds t h = let same : (h.frame.serial == h.frame.serial) ≡ true = grind (arith, nat_tests) in rw (h.only, same) refl
 
-place_there : (holds : ℕ → ℕ → Type 0) (t : State) (h : Slots holds t) (j : ℕ) → j < 64 → place_of t (region.Frame h.frame.serial) (Some (8 * j)) 8 ≡ Ok (8 * j)
+place_there : (holds : ℕ → ℕ → Type 0) (t : State) (h : HasKnownSlots holds t) (j : ℕ) → j < 64 → place_of t (region.Frame h.frame.serial) (Some (8 * j)) 8 ≡ Ok (8 * j)
 place_there holds t h j below =
     let wide = h.wide in
     let fits : nat_le (8 * j + 8) (length h.frame.cells) ≡ true = grind (arith, nat_tests, wide, below) in
     ap (λ c. place_in c (Some (8 * j)) 8) (cells_there holds t h) ∙ rw fits refl
 
-load_value : (holds : ℕ → ℕ → Type 0) (t : State) (h : Slots holds t) (j : ℕ) → j < 64 → load t U64 (reg t R10) (slot_offset j) ≡ value_in (slot_cells h.frame.cells j)
+load_value : (holds : ℕ → ℕ → Type 0) (t : State) (h : HasKnownSlots holds t) (j : ℕ) → j < 64 → load t U64 (reg t R10) (slot_offset j) ≡ value_in (slot_cells h.frame.cells j)
 load_value holds t h j below =
     let at = region.Frame h.frame.serial in
     ap (λ v. load t U64 v (slot_offset j)) h.pointer ∙ ap (λ o. memory_load t U64 at o) (slot_index h.frame.serial j)
     ∙ ap (λ p. and_then (and_then p (λ i. Ok (cells_at (region_cells t at) i 8))) value_in) (place_there holds t h j below)
     ∙ ap (λ c. value_in (cells_at c (8 * j) 8)) (cells_there holds t h)
 
-load_unset : (holds : ℕ → ℕ → Type 0) (t : State) (h : Slots holds t) (j : ℕ) → j < 64 → list_any is_unwritten (slot_cells h.frame.cells j) ≡ true
+load_unset : (holds : ℕ → ℕ → Type 0) (t : State) (h : HasKnownSlots holds t) (j : ℕ) → j < 64 → list_any is_unwritten (slot_cells h.frame.cells j) ≡ true
     → load t U64 (reg t R10) (slot_offset j) ≡ Err UnsetRead
 load_unset holds t h j below unset = load_value holds t h j below ∙ rw unset refl
 
-load_number : (holds : ℕ → ℕ → Type 0) (t : State) (h : Slots holds t) (j y : ℕ) → j < 64 → y < 2 ^ 64 → slot_cells h.frame.cells j ≡ map Byte (bytes_of U64 y)
+load_number : (holds : ℕ → ℕ → Type 0) (t : State) (h : HasKnownSlots holds t) (j y : ℕ) → j < 64 → y < 2 ^ 64 → slot_cells h.frame.cells j ≡ map Byte (bytes_of U64 y)
     → load t U64 (reg t R10) (slot_offset j) ≡ Ok (Num y)
 load_number holds t h j y below fits is =
     load_value holds t h j below ∙ ap value_in is ∙ value_in-Byte (bytes_of U64 y) ∙ ap (λ n. Ok (Num n)) (from_le_bytes-to_le_bytes_8 y fits)
@@ -113,7 +113,7 @@ load_number holds t h j y below fits is =
 unfoldable pub stored : State → CallFrame → ℕ → ℕ → State
 stored t f j y = record t { frames = record f { cells = splice f.cells (8 * j) (8 * j + 8) (map Byte (bytes_of U64 y)) } ∷ [] }
 
-store_there : (holds : ℕ → ℕ → Type 0) (t : State) (h : Slots holds t) (j y : ℕ) → j < 64 → store t U64 (reg t R10) (slot_offset j) (Num y) ≡ Ok (stored t h.frame j y)
+store_there : (holds : ℕ → ℕ → Type 0) (t : State) (h : HasKnownSlots holds t) (j y : ℕ) → j < 64 → store t U64 (reg t R10) (slot_offset j) (Num y) ≡ Ok (stored t h.frame j y)
 unfolding stored
 store_there holds t h j y below =
     let at = region.Frame h.frame.serial in
@@ -125,9 +125,9 @@ store_there holds t h j y below =
 
 -- ---- what stays
 
-pub Slots-start : (holds : ℕ → ℕ → Type 0) (head : FrameHead) (packet : List ℕ) (contents : List Entries) → Slots holds (start_state head packet contents)
+pub HasKnownSlots-start : (holds : ℕ → ℕ → Type 0) (head : FrameHead) (packet : List ℕ) (contents : List Entries) → HasKnownSlots holds (start_state head packet contents)
 unfolding start_state new_frame
-Slots-start holds head packet contents = record {
+HasKnownSlots-start holds head packet contents = record {
   frame = new_frame (count_values contents) 0 (Unset ∷ Unset ∷ Unset ∷ Unset ∷ []);
   only = refl;
   pointer = refl;
@@ -135,10 +135,10 @@ Slots-start holds head packet contents = record {
   each = λ j below. inl (ap (list_any is_unwritten) (ap (take 8) (drop-replicate (8 * j) frame_size Unwritten) ∙ take-replicate 8 (frame_size - 8 * j) Unwritten (omega (arith, below))));
 }
 
-pub Slots-store : (old new : ℕ → ℕ → Type 0) (t : State) (h : Slots old t) (j y : ℕ) → j < 64 → y < 2 ^ 64 → new j y
-    → ((k z : ℕ) → k ≢ j → old k z → new k z) → Slots new (stored t h.frame j y)
+pub HasKnownSlots-store : (old new : ℕ → ℕ → Type 0) (t : State) (h : HasKnownSlots old t) (j y : ℕ) → j < 64 → y < 2 ^ 64 → new j y
+    → ((k z : ℕ) → k ≢ j → old k z → new k z) → HasKnownSlots new (stored t h.frame j y)
 unfolding stored
-Slots-store old known t h j y below fits there others =
+HasKnownSlots-store old known t h j y below fits there others =
     let new = map Byte (bytes_of U64 y) in
     let wide = h.wide in
     record {
@@ -153,7 +153,7 @@ Slots-store old known t h j y below fits there others =
       ];
     }
   where
-    other : (h : Slots old t) (j y k : ℕ) (new : List Cell) → 8 * j + length new ≤ length h.frame.cells → 8 * k + 8 ≤ length h.frame.cells → (8 * k + 8 ≤ 8 * j) ⊎ (8 * j + length new ≤ 8 * k)
+    other : (h : HasKnownSlots old t) (j y k : ℕ) (new : List Cell) → 8 * j + length new ≤ length h.frame.cells → 8 * k + 8 ≤ length h.frame.cells → (8 * k + 8 ≤ 8 * j) ⊎ (8 * j + length new ≤ 8 * k)
         → (list_any is_unwritten (slot_cells h.frame.cells k) ≡ true) ⊎ ((y : ℕ) × (y < 2 ^ 64) × (slot_cells h.frame.cells k ≡ map Byte (bytes_of U64 y)) × old k y)
         → ((z : ℕ) → old k z → known k z)
         → (list_any is_unwritten (slot_cells (splice h.frame.cells (8 * j) (8 * j + length new) new) k) ≡ true)
@@ -164,9 +164,9 @@ Slots-store old known t h j y below fits there others =
         inr (known.0, known.1, splice_other h.frame.cells new (8 * j) (8 * k) 8 inside here apart ∙ known.2, keeps known.0 known.3)
 
 -- a step that does not change the frame
-pub Slots-keep : (old new : ℕ → ℕ → Type 0) (t v : State) → Slots old t → v.frames ≡ t.frames → reg v R10 ≡ reg t R10 → ((k z : ℕ) → old k z → new k z)
-    → Slots new v
-Slots-keep old new t v h frames pointer keeps = record {
+pub HasKnownSlots-keep : (old new : ℕ → ℕ → Type 0) (t v : State) → HasKnownSlots old t → v.frames ≡ t.frames → reg v R10 ≡ reg t R10 → ((k z : ℕ) → old k z → new k z)
+    → HasKnownSlots new v
+HasKnownSlots-keep old new t v h frames pointer keeps = record {
   frame = h.frame;
   only = frames ∙ h.only;
   pointer = pointer ∙ h.pointer;
@@ -177,7 +177,7 @@ Slots-keep old new t v h frames pointer keeps = record {
 -- ---- what the instructions do
 
 -- a load of a slot by a run that does not trap finds a number that is known
-pub load_acts : (holds : ℕ → ℕ → Type 0) (p : Program) (clock : ℕ → ℕ) (t : State) (d : Reg) (j : ℕ) → Slots holds t → j < 64
+pub load_acts : (holds : ℕ → ℕ → Type 0) (p : Program) (clock : ℕ → ℕ) (t : State) (d : Reg) (j : ℕ) → HasKnownSlots holds t → j < 64
     → ((e : TrapReason) → act p clock t (Load U64 d (slot_place j)) ≡ Trapped e → ⊥)
     → (y : ℕ) × holds j y × (act p clock t (Load U64 d (slot_place j)) ≡ sets t (Load U64 d (slot_place j)) d (Ok (Num y)))
 unfolding act
@@ -188,13 +188,13 @@ load_acts holds p clock t d j h below goes =
     ]
 
 -- a store of a number goes on
-pub store_acts : (holds : ℕ → ℕ → Type 0) (p : Program) (clock : ℕ → ℕ) (t : State) (r : Reg) (j y : ℕ) → (h : Slots holds t) → j < 64 → reg t r ≡ Num y
+pub store_acts : (holds : ℕ → ℕ → Type 0) (p : Program) (clock : ℕ → ℕ) (t : State) (r : Reg) (j y : ℕ) → (h : HasKnownSlots holds t) → j < 64 → reg t r ≡ Num y
     → act p clock t (Store U64 (slot_place j) r) ≡ Next (go_to (stored t h.frame j y) (t.slot + 1))
 unfolding act
 store_acts holds p clock t r j y h below is =
     ap (λ v. goes_on t (Store U64 (slot_place j) r) (store t U64 (reg t R10) (slot_offset j) v)) is ∙ ap (goes_on t (Store U64 (slot_place j) r)) (store_there holds t h j y below)
 
-pub store_constant_acts : (holds : ℕ → ℕ → Type 0) (p : Program) (clock : ℕ → ℕ) (t : State) (k : ℤ) (j : ℕ) → (h : Slots holds t) → j < 64
+pub store_constant_acts : (holds : ℕ → ℕ → Type 0) (p : Program) (clock : ℕ → ℕ) (t : State) (k : ℤ) (j : ℕ) → (h : HasKnownSlots holds t) → j < 64
     → act p clock t (StoreConstant U64 (slot_place j) k) ≡ Next (go_to (stored t h.frame j (unsigned Full64 k)) (t.slot + 1))
 unfolding act
 store_constant_acts holds p clock t k j h below =

@@ -76,12 +76,12 @@ IsState-set_reg p s r v h k = record {
 -- ---- cells written
 
 -- n cells from i on are there
-abbrev pub HasRoom : Option (List Cell) → ℕ → ℕ → Type 0
-HasRoom (Some cells) i n = i + n ≤ length cells
-HasRoom None i n = ⊥
+abbrev pub HasCells : Option (List Cell) → ℕ → ℕ → Type 0
+HasCells (Some cells) i n = i + n ≤ length cells
+HasCells None i n = ⊥
 
 -- where a place is found, its cells are there
-pub place_in_room : (cells : Option (List Cell)) (o : Option ℕ) (n : ℕ) → IfOk (place_in cells o n) (λ i. HasRoom cells i n)
+pub place_in_room : (cells : Option (List Cell)) (o : Option ℕ) (n : ℕ) → IfOk (place_in cells o n) (λ i. HasCells cells i n)
 place_in_room (Some cells) (Some i) n =
     IfOk-if (λ i. i + n ≤ length cells) (nat_le (i + n) (length cells)) (Ok i) (Err BadAccess) (λ h. grind (arith, nat_tests)) (λ h. tt)
 place_in_room (Some cells) None n = tt
@@ -103,7 +103,7 @@ put_cells_fit p next f i new room fit h = record {
 
 -- the frames with cells put into one of them: they are frames, as many, with the same serials
 pub put_frame_fits : (p : Program) (next : ℕ) (fs : List CallFrame) (o : Option ℕ) (i : ℕ) (new : List Cell)
-    → ((j : ℕ) → o ≡ Some j → j < length fs) → HasRoom (option_map (λ j. (frame_at fs j).cells) o) i (length new)
+    → ((j : ℕ) → o ≡ Some j → j < length fs) → HasCells (option_map (λ j. (frame_at fs j).cells) o) i (length new)
     → All (IsCell (length p.maps) next) new → All (IsCallFrame p next) fs
     → All (IsCallFrame p next) (put_frame fs o i new)
     × (length (put_frame fs o i new) ≡ length fs)
@@ -175,7 +175,7 @@ put_value_fits row content (Some j) i new within bytes h =
 
 -- an entry that a serial finds is there, and so is the place in its value
 pub entry_room : (content : Content) (n i len : ℕ) (o : Option ℕ) → entry_index content n ≡ o
-    → HasRoom (option_map (λ j. map Byte (entry_at content j).1.bytes) o) i len
+    → HasCells (option_map (λ j. map Byte (entry_at content j).1.bytes) o) i len
     → (j : ℕ) → o ≡ Some j → (j < length content) × (i + len ≤ length (entry_at content j).1.bytes)
 entry_room content n i len None e room j h = absurd room
 entry_room content n i len (Some k) e room j h =
@@ -188,7 +188,7 @@ entry_room content n i len (Some k) e room j h =
 pub frame_room : (fs : List CallFrame) (n : ℕ) (j : ℕ) → frame_index fs n ≡ Some j → j < length fs
 frame_room fs n j e = (position-Some (λ f. f.serial == n) fs j (new_frame 0 0 []) e).0
 
-pub IsState-put : (p : Program) (s : State) (r : Region) (i : ℕ) (new : List Cell) → HasRoom (region_cells s r) i (length new)
+pub IsState-put : (p : Program) (s : State) (r : Region) (i : ℕ) (new : List Cell) → HasCells (region_cells s r) i (length new)
     → All (IsCell (length p.maps) s.next_serial) new → IsState p s → IsState p (put s r i new)
 IsState-put p s (region.Frame n) i new room fit k =
     let put_in = put_frame_fits p s.next_serial s.frames (frame_index s.frames n) i new (frame_room s.frames n) room fit k.frames in

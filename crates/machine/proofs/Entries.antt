@@ -26,7 +26,7 @@ use Rattle.maps.proofs.MapLaws.{FitsRow-IsMap, FitRows-IsMap, contents_of-at, co
 use Rattle.word_machine.specs.declared.memory.Memory.{Memory}
 use Rattle.machine.specs.Running.{Running}
 use Rattle.machine.specs.Ready.{IsReady}
-use Rattle.machine.specs.Entries.{row_at, content_at, ordered_at, with_content, key_or, value_or, Updates, Deletes, Copies}
+use Rattle.machine.specs.Entries.{row_at, content_at, ordered_at, with_content, key_or, value_or, Updates, Deletes, CopiesEntry}
 
 abbrev no_row : MapDef
 no_row = record { kind = Hash; key_size = 0; value_size = 0; entries = 0 }
@@ -191,7 +191,7 @@ module _ (row : MapDef) (es : Entries) (k : ℕ) (value : List ℕ) (are : All (
       subst (λ (v : List ℕ). length v ≡ row.value_size) same (sizes_of e there).1
 
   pub copies : (front room old_key new_key old_value new_value : List ℕ) → length old_key ≡ row.key_size → front ≡ with_key_of (slice_get es k) room
-      → new_key ≡ take (length old_key) front → new_value ≡ value → Copies (slice_get es k) true old_key new_key old_value new_value
+      → new_key ≡ take (length old_key) front → new_value ≡ value → CopiesEntry (slice_get es k) true old_key new_key old_value new_value
   copies front room old_key new_key old_value new_value size put key_taken value_taken =
       let (e, there, same) = entry_of es k value is in
       record {

@@ -16,16 +16,16 @@ use Rattle.word_machine.specs.declared.memory.Saved.{Saved}
 use Rattle.word_machine.specs.declared.memory.Memory.{Memory}
 use Rattle.word_machine.specs.Words.{Words}
 use Rattle.word_machine.specs.Machine.{words_of}
-use Rattle.word_machine.specs.Runs.{Ends, EndsInTime, Exits}
+use Rattle.word_machine.specs.Runs.{EndsSafely, EndsInTime, Exits}
 use Rattle.word_relation.specs.Starting.{start_words, start_of}
-use Rattle.word_relation.specs.Answering.{IsStart, Answers as WordAnswers}
+use Rattle.word_relation.specs.Answering.{IsStart, AnswersAsModel as WordAnswers}
 use Rattle.word_relation.proofs.AnsweringLaws.{start_Ends, start_Answers}
-use Rattle.machine.specs.Running.{IsRunning, Answers}
+use Rattle.machine.specs.Running.{RunsWithinBound, AnswersRun}
 use Rattle.machine.specs.Ready.{IsReady}
 
 -- the machine of an accepted program, whose maps fit its rows
 pub starts_running : (a : Bounded) (contents : List Entries) → IsVerified a → FitRows a.program.maps contents
-    → IsRunning (record { program = a.program; bound = a.bound; contents = contents })
+    → RunsWithinBound (record { program = a.program; bound = a.bound; contents = contents })
 starts_running a contents h fits = record {
   is_program = IsProgram-IsImage a.program h.image;
   ends = h.ends;
@@ -67,7 +67,7 @@ module _ (p : Program) (bound : ℕ) (memory : Memory) (ready : IsReady p bound 
   run_ends = record {
     bound = bound;
     most = ready.running.most;
-    ends = subst (λ w. Ends p clock w bound) (sym at_start) (start_Ends p clock bound head packet memory.frames.items memory.maps is_start);
+    ends = subst (λ w. EndsSafely p clock w bound) (sym at_start) (start_Ends p clock bound head packet memory.frames.items memory.maps is_start);
   }
 
   module _ (number steps slot asked : ℕ) (regs : List ℕ) (left : Memory) (after : List ℕ)
@@ -82,7 +82,7 @@ module _ (p : Program) (bound : ℕ) (memory : Memory) (ready : IsReady p bound 
 
     -- what it leaves is the outcome
     pub run_answers : (coming : ℕ → ℕ) → ((k : ℕ) → coming k ≡ clock (asked + k))
-        → Answers (record { program = p; bound = bound; contents = contents_of memory.maps }) head packet clock
+        → AnswersRun (record { program = p; bound = bound; contents = contents_of memory.maps }) head packet clock
         (record { r0 = number; steps = steps }) after (contents_of left.maps) coming
     run_answers coming comes = record {
       outcome = word_answers.outcome;

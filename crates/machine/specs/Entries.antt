@@ -42,7 +42,7 @@ pub record Deletes (m : ℕ) (key : List ℕ) (result : ℕ) (old new : Running)
   pub machine : new ≡ with_content old m (after_delete (row_at old m) (content_at old m) key)
 
 -- an entry, if there is one, is copied to where a key and a value have room
-pub record Copies (found : Option (List ℕ × List ℕ)) (answer : Bool) (old_key new_key old_value new_value : List ℕ) : Type 0 where
+pub record CopiesEntry (found : Option (List ℕ × List ℕ)) (answer : Bool) (old_key new_key old_value new_value : List ℕ) : Type 0 where
   pub answer_is : answer ≡ is_some found
   pub key_is : new_key ≡ key_or found old_key
   pub value_is : new_value ≡ value_or found old_value

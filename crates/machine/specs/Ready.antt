@@ -5,12 +5,12 @@ use Rattle.isa_model.specs.Code.Limits.{max_maps, max_call_frames}
 use Rattle.isa_model.specs.Code.Instructions.{Program}
 use Rattle.maps.specs.Maps.{rows_of, contents_of}
 use Rattle.word_machine.specs.declared.memory.Memory.{Memory}
-use Rattle.machine.specs.Running.{IsRunning}
+use Rattle.machine.specs.Running.{RunsWithinBound}
 
 -- its runs exit; there are no more maps than addresses; the frames have their bytes, no caller waits, and there is room
 -- for those that will
 pub record IsReady (p : Program) (bound : ℕ) (memory : Memory) : Type 0 where
-  pub running : IsRunning (record { program = p; bound = bound; contents = contents_of memory.maps })
+  pub running : RunsWithinBound (record { program = p; bound = bound; contents = contents_of memory.maps })
   pub few : length p.maps ≤ max_maps
   pub rows : rows_of memory.maps ≡ p.maps
   pub whole : length memory.frames.items ≡ frames_size

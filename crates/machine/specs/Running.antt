@@ -16,7 +16,7 @@ pub record Running : Type 0 where
   pub contents : List Entries
 
 -- every run exits within the bound, and the contents fit the rows
-pub record IsRunning (r : Running) : Type 0 where
+pub record RunsWithinBound (r : Running) : Type 0 where
   pub is_program : IsProgram r.program
   pub ends : StartsEnd r.program r.bound
   pub some : 1 ≤ r.bound
@@ -25,7 +25,7 @@ pub record IsRunning (r : Running) : Type 0 where
 
 -- A run answers its outcome, which has at most as many steps as the bound: the number and the steps, the packet and
 -- the contents that it leaves, and the clock's coming answers.
-pub record Answers (r : Running) (head : FrameHead) (packet : List ℕ) (clock : ℕ → ℕ)
+pub record AnswersRun (r : Running) (head : FrameHead) (packet : List ℕ) (clock : ℕ → ℕ)
     (exit : Exit) (after : List ℕ) (left : List Entries) (coming : ℕ → ℕ) : Type 0 where
   pub outcome : Outcome
   pub found : HasOutcome r.program head packet r.contents clock outcome

@@ -6,8 +6,8 @@ ghost use Rattle.isa_model.specs.{max_packet};
 ghost use Rattle.isa_model.specs.Machine.MachineStates.{AreBytes};
 ghost use Rattle.isa_model.specs.Machine.MapContents.{at_key};
 ghost use Rattle.maps.specs.Maps.{rows_of, contents_of};
-ghost use Rattle.machine.specs.Running.{Answers, IsRunning};
-ghost use Rattle.machine.specs.Entries.{row_at, content_at, ordered_at, Updates, Deletes, Copies};
+ghost use Rattle.machine.specs.Running.{AnswersRun, RunsWithinBound};
+ghost use Rattle.machine.specs.Entries.{row_at, content_at, ordered_at, Updates, Deletes, CopiesEntry};
 
 use super::errors::VmError;
 use bounds::Verified;
@@ -107,7 +107,7 @@ impl Machine {
     /// The most steps of a run.
     pub fn bound(&self) -> u32
         ensures bound { result ≡ self.now.bound }
-        ensures runs { IsRunning self.now }
+        ensures runs { RunsWithinBound self.now }
     {
         self.bound
     }
@@ -174,7 +174,7 @@ impl Machine {
         requires map { map < length self.old.program.maps }
         requires key_size { length key.old ≡ (row_at self.old map).key_size }
         requires value_size { length value.old ≡ (row_at self.old map).value_size }
-        ensures copied { Copies (slice_get (ordered_at self.old map) k) result
+        ensures copied { CopiesEntry (slice_get (ordered_at self.old map) k) result
             key.old key.new value.old value.new }
         ensures machine { self.new ≡ self.old }
     {
@@ -193,7 +193,7 @@ impl Machine {
     /// Runs the program on a packet from the start, to its exit. It takes no memory.
     pub fn run<C: Clock>(&mut self, head: FrameHead, packet: &mut [u8], clock: &mut C) -> Exit
         requires { length packet.old ≤ max_packet }
-        ensures answers { Answers self.old head packet.old (C.at clock.old)
+        ensures answers { AnswersRun self.old head packet.old (C.at clock.old)
             result packet.new self.new.contents (C.at clock.new) }
         ensures program { self.new.program ≡ self.old.program }
         ensures bound { self.new.bound ≡ self.old.bound }

@@ -13,7 +13,7 @@ use Rattle.isa_model.specs.declared.instructions.AluOp.{AluOp}
 use Rattle.isa_model.specs.declared.instructions.AluOp.TheVariants.{Add, Sub, Mul, Div, SignedDiv, Or, And, Lsh, Rsh, Mod, SignedMod, Xor, Mov, Arsh}
 use Rattle.isa_model.specs.Code.Sizes.{width_bits}
 use Rattle.isa_model.specs.Code.Numbers.{result_of, shift, signed, unsigned}
-use Rattle.ranges.specs.Keeps.{Keeps, KeepsSigned, KeepsSignedQuotient, KeepsSignedRemainder, signed_of}
+use Rattle.ranges.specs.Keeps.{KeepsUnsigned, KeepsSigned, KeepsSignedQuotient, KeepsSignedRemainder, signed_of}
 use Rattle.ranges.proofs.Limits.{sum_from, sum_to, difference_from, difference_to, difference_low, div_mono, shl_mono, zero_or_div, self_or_mod, mod_apart, div_apart, shr_mono, shr_fits, cast_fits}
 use Rattle.ranges.proofs.LowLaws.{low_signed_equation}
 use Rattle.ranges.proofs.QuotientLaws.{quotient_up, quotient_down, quotient_fits, quotient_fits_down, remainder_fits, remainder_within, remainder_near, remainder_by_zero, quotient_is, remainder_is, plain_quotient, plain_remainder}
@@ -21,7 +21,7 @@ use Rattle.ranges.proofs.QuotientLaws.{quotient_up, quotient_down, quotient_fits
 -- ---- what two numbers within the limits give
 
 pub keeps_member : (op : AluOp) (w : Width) (al ag bl bg x y : ℕ) → al ≤ x → x ≤ ag → bl ≤ y → y ≤ bg
-    → x < 2 ^ width_bits w → y < 2 ^ width_bits w → Keeps op w al ag bl bg (λ l g. (l ≤ result_of op w x y) × (result_of op w x y ≤ g))
+    → x < 2 ^ width_bits w → y < 2 ^ width_bits w → KeepsUnsigned op w al ag bl bg (λ l g. (l ≤ result_of op w x y) × (result_of op w x y ≤ g))
 keeps_member Add w al ag bl bg x y h1 h2 h3 h4 x_in y_in = λ fits.
     let m = mod-eq_of_lt {n = x + y} {m = 2 ^ width_bits w} (omega arith) in
     (omega arith, omega arith)

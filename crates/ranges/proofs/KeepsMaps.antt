@@ -4,11 +4,11 @@ use Rattle.std.specs.Int.{Width as IntWidth, cast_signed}
 use Rattle.isa_model.specs.declared.sizes.Width.{Width}
 use Rattle.isa_model.specs.declared.instructions.AluOp.{AluOp}
 use Rattle.isa_model.specs.declared.instructions.AluOp.TheVariants.{Add, Sub, Mul, Div, SignedDiv, Or, And, Lsh, Rsh, Mod, SignedMod, Xor, Mov, Arsh}
-use Rattle.ranges.specs.Keeps.{Keeps, KeepsSigned, KeepsSignedQuotient, KeepsSignedRemainder, signed_of}
+use Rattle.ranges.specs.Keeps.{KeepsUnsigned, KeepsSigned, KeepsSignedQuotient, KeepsSignedRemainder, signed_of}
 
 -- the unsigned limits
 pub keeps_map : (op : AluOp) (w : Width) (al ag bl bg : ℕ) (P Q : ℕ → ℕ → Type 0) → ((l g : ℕ) → P l g → Q l g)
-    → Keeps op w al ag bl bg P → Keeps op w al ag bl bg Q
+    → KeepsUnsigned op w al ag bl bg P → KeepsUnsigned op w al ag bl bg Q
 keeps_map Add w al ag bl bg P Q f h = λ fits. f _ _ (h fits)
 keeps_map Sub w al ag bl bg P Q f h = λ le. f _ _ (h le)
 keeps_map Mul w al ag bl bg P Q f h = λ fits. f _ _ (h fits)

@@ -6,7 +6,7 @@ use borrow.Author.Differences.{up, down}
 use Rattle.std.proofs.lemmas.Int.{ints}
 use Rattle.std.proofs.lemmas.Bool.{cases_lt, lt-ltb, le-ltb}
 use Rattle.isa_model.specs.Code.NumberLemmas.{signed_equation}
-use Rattle.ranges.specs.Joint.{IsAmong}
+use Rattle.ranges.specs.Joint.{IsHalfBetween}
 use Rattle.ranges.specs.Lows.{IsOfEither, AreReached}
 use Rattle.ranges.specs.declared.low.Low.{Low}
 use Rattle.ranges.proofs.Limits.{fits_32}
@@ -40,23 +40,23 @@ either_reached l a b P is left right = (
 
 -- both limits have one upper half
 pub among_same : (least greatest e : ℕ) → least / 2 ^ 32 ≡ greatest / 2 ^ 32 → least % 2 ^ 32 ≤ e → e ≤ greatest % 2 ^ 32
-    → IsAmong least greatest e
+    → IsHalfBetween least greatest e
 among_same least greatest e same from to =
     record { number = least / 2 ^ 32 * 2 ^ 32 + e; from = omega arith; to = omega arith; low = omega arith }
 
 -- the numbers with the first upper half
 pub among_start : (least greatest e : ℕ) → least / 2 ^ 32 < greatest / 2 ^ 32 → least % 2 ^ 32 ≤ e → e < 2 ^ 32
-    → IsAmong least greatest e
+    → IsHalfBetween least greatest e
 among_start least greatest e apart from below =
     record { number = least / 2 ^ 32 * 2 ^ 32 + e; from = omega arith; to = omega arith; low = omega arith }
 
 -- those with the last one
-pub among_end : (least greatest e : ℕ) → least / 2 ^ 32 < greatest / 2 ^ 32 → e ≤ greatest % 2 ^ 32 → IsAmong least greatest e
+pub among_end : (least greatest e : ℕ) → least / 2 ^ 32 < greatest / 2 ^ 32 → e ≤ greatest % 2 ^ 32 → IsHalfBetween least greatest e
 among_end least greatest e apart to =
     record { number = greatest / 2 ^ 32 * 2 ^ 32 + e; from = omega arith; to = omega arith; low = omega arith }
 
 -- those with one in between
-pub among_middle : (least greatest e : ℕ) → least / 2 ^ 32 + 1 < greatest / 2 ^ 32 → e < 2 ^ 32 → IsAmong least greatest e
+pub among_middle : (least greatest e : ℕ) → least / 2 ^ 32 + 1 < greatest / 2 ^ 32 → e < 2 ^ 32 → IsHalfBetween least greatest e
 among_middle least greatest e apart below =
     record { number = (least / 2 ^ 32 + 1) * 2 ^ 32 + e; from = omega arith; to = omega arith; low = omega arith }
 

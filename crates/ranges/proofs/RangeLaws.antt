@@ -5,7 +5,7 @@ use Rattle.std.specs.Int.{w32, cast_signed, cast_unsigned}
 use Rattle.std.proofs.lemmas.Int.{ints, of_z-to_z, to_z-of_z}
 use Rattle.std.proofs.lemmas.Bool.{cases_lt}
 use Rattle.isa_model.specs.Code.NumberLemmas.{signed_equation}
-use Rattle.ranges.specs.Joint.{IsAmong}
+use Rattle.ranges.specs.Joint.{IsHalfBetween}
 use Rattle.ranges.specs.Wides as W
 use Rattle.ranges.specs.Lows as L
 use Rattle.ranges.specs.Ranges.{Has, HasLow, IsConstant, IsTight, Encloses}
@@ -44,7 +44,7 @@ alike_has r x below half alike from to =
 
 -- the low half of a number between such limits, which others enclose
 pub among_half : (s r : Wide) (half : ℕ) → r.greatest < 2 ^ 64 → (r.greatest < 2 ^ 63) ⊎ (2 ^ 63 ≤ r.least) → W.ReadsAlike r
-    → ((x : ℕ) → W.Has r x → W.Has s x) → IsAmong r.least r.greatest half → W.HasHalf s half
+    → ((x : ℕ) → W.Has r x → W.Has s x) → IsHalfBetween r.least r.greatest half → W.HasHalf s half
 among_half s r half below part alike left is =
     record { number = is.number; has = left is.number (alike_has r is.number below part alike is.from is.to); low = is.low }
 

@@ -2,7 +2,7 @@
 use Rattle.std.specs.Prelude.{ℕ, ◌≡◌, ◌≤◌, ◌%◌, ◌^◌}
 
 -- the number of 32 bits is the low half of a number between the two
-pub record IsAmong (least greatest half : ℕ) : Type 0 where
+pub record IsHalfBetween (least greatest half : ℕ) : Type 0 where
   pub number : ℕ
   pub from : least ≤ number
   pub to : number ≤ greatest

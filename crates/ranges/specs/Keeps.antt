@@ -52,20 +52,20 @@ KeepsSignedRemainder al ag (suc most) keeps =
 -- the unsigned limits, from those of numbers of the width: a's and then b's. Nothing is asked of a sum, difference, product
 -- or shift to the left that may leave the width, nor of a shift by a distance that is not known but that it makes nothing
 -- greater. Signed quotients and remainders of numbers without a sign bit are those of unsigned ones
-abbrev pub Keeps : AluOp → Width → ℕ → ℕ → ℕ → ℕ → (ℕ → ℕ → Type 0) → Type 0
-Keeps Add w al ag bl bg keeps = ag + bg < 2 ^ width_bits w → keeps (al + bl) (ag + bg)
-Keeps Sub w al ag bl bg keeps = bg ≤ al → keeps (al - bg) (ag - bl)
-Keeps Mul w al ag bl bg keeps = ag * bg < 2 ^ width_bits w → keeps (al * bl) (ag * bg)
-Keeps Div w al ag bl bg keeps = KeepsQuotient al ag bl bg keeps
-Keeps Mod w al ag bl bg keeps = KeepsRemainder al ag bl bg keeps
-Keeps SignedDiv w al ag bl bg keeps = HaveNoSign w ag bg → KeepsQuotient al ag bl bg keeps
-Keeps SignedMod w al ag bl bg keeps = HaveNoSign w ag bg → KeepsRemainder al ag bl bg keeps
-Keeps And w al ag bl bg keeps = keeps 0 ag × keeps 0 bg
-Keeps Lsh w al ag bl bg keeps =
+abbrev pub KeepsUnsigned : AluOp → Width → ℕ → ℕ → ℕ → ℕ → (ℕ → ℕ → Type 0) → Type 0
+KeepsUnsigned Add w al ag bl bg keeps = ag + bg < 2 ^ width_bits w → keeps (al + bl) (ag + bg)
+KeepsUnsigned Sub w al ag bl bg keeps = bg ≤ al → keeps (al - bg) (ag - bl)
+KeepsUnsigned Mul w al ag bl bg keeps = ag * bg < 2 ^ width_bits w → keeps (al * bl) (ag * bg)
+KeepsUnsigned Div w al ag bl bg keeps = KeepsQuotient al ag bl bg keeps
+KeepsUnsigned Mod w al ag bl bg keeps = KeepsRemainder al ag bl bg keeps
+KeepsUnsigned SignedDiv w al ag bl bg keeps = HaveNoSign w ag bg → KeepsQuotient al ag bl bg keeps
+KeepsUnsigned SignedMod w al ag bl bg keeps = HaveNoSign w ag bg → KeepsRemainder al ag bl bg keeps
+KeepsUnsigned And w al ag bl bg keeps = keeps 0 ag × keeps 0 bg
+KeepsUnsigned Lsh w al ag bl bg keeps =
     bl ≡ bg → ag * 2 ^ shift w bl < 2 ^ width_bits w → keeps (al * 2 ^ shift w bl) (ag * 2 ^ shift w bl)
-Keeps Rsh w al ag bl bg keeps = keeps 0 ag × (bl ≡ bg → keeps (al / 2 ^ shift w bl) (ag / 2 ^ shift w bl))
-Keeps Mov w al ag bl bg keeps = keeps bl bg
-Keeps _ w al ag bl bg keeps = ⊤
+KeepsUnsigned Rsh w al ag bl bg keeps = keeps 0 ag × (bl ≡ bg → keeps (al / 2 ^ shift w bl) (ag / 2 ^ shift w bl))
+KeepsUnsigned Mov w al ag bl bg keeps = keeps bl bg
+KeepsUnsigned _ w al ag bl bg keeps = ⊤
 
 -- the signed limits, from the signed ones of numbers of the width, a's and then b's, and b's unsigned ones. Nothing is asked
 -- of a sum or difference that may leave the signed numbers, nor of a shift or a division by a number that is not known

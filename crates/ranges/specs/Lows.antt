@@ -3,7 +3,7 @@ use Rattle.std.specs.Prelude.{ℕ, ℤ, ◌≡◌, ◌≤◌, ◌≤ℤ◌, ◌�
 use Rattle.std.specs.Int.{Width as IntWidth, w32, cast_signed, cast_unsigned}
 use Rattle.isa_model.specs.declared.sizes.Width.TheVariants.{Low32}
 use Rattle.isa_model.specs.declared.instructions.AluOp.{AluOp}
-use Rattle.ranges.specs.Keeps.{Keeps, KeepsSigned}
+use Rattle.ranges.specs.Keeps.{KeepsUnsigned, KeepsSigned}
 use Rattle.ranges.specs.Within.{IsLowWithin}
 use Rattle.ranges.specs.declared.low.Low.{Low}
 
@@ -67,7 +67,7 @@ Encloses a b =
 
 -- the unsigned limits that an operation's result must keep at 32 bits
 abbrev pub KeepsLimits : AluOp → Low → Low → (ℕ → ℕ → Type 0) → Type 0
-KeepsLimits op a b keeps = Keeps op Low32 a.least a.greatest b.least b.greatest keeps
+KeepsLimits op a b keeps = KeepsUnsigned op Low32 a.least a.greatest b.least b.greatest keeps
 
 -- the signed limits that it must keep at 32 bits
 abbrev pub KeepsSignedLimits : AluOp → Low → Low → (ℤ → ℤ → Type 0) → Type 0

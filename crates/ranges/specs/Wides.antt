@@ -4,7 +4,7 @@ use Rattle.std.specs.Int.{Width as IntWidth, w64, cast_signed, cast_unsigned}
 use Rattle.isa_model.specs.declared.sizes.Width.{Width}
 use Rattle.isa_model.specs.declared.sizes.Width.TheVariants.{Full64}
 use Rattle.isa_model.specs.declared.instructions.AluOp.{AluOp}
-use Rattle.ranges.specs.Keeps.{Keeps, KeepsSigned}
+use Rattle.ranges.specs.Keeps.{KeepsUnsigned, KeepsSigned}
 use Rattle.ranges.specs.Within.{IsWithin}
 use Rattle.ranges.specs.declared.wide.Wide.{Wide}
 
@@ -54,7 +54,7 @@ Encloses a b =
 
 -- the unsigned limits that an operation's result must keep, from those of two sets of numbers of the width
 abbrev pub KeepsLimits : AluOp → Width → Wide → Wide → (ℕ → ℕ → Type 0) → Type 0
-KeepsLimits op w a b keeps = Keeps op w a.least a.greatest b.least b.greatest keeps
+KeepsLimits op w a b keeps = KeepsUnsigned op w a.least a.greatest b.least b.greatest keeps
 
 -- the signed limits that it must keep at 64 bits
 abbrev pub KeepsSignedLimits : AluOp → Wide → Wide → (ℤ → ℤ → Type 0) → Type 0

@@ -3,7 +3,7 @@
 
 ghost use Rattle.std.specs.Prelude.{◌≡◌, ℕ, ◌%◌, ◌^◌, ◌<◌, ◌≤◌, ◌⊎◌, IsSomeAnd, IfSome};
 ghost use Rattle.std.specs.Int.{w32};
-ghost use Rattle.ranges.specs.Joint.{IsAmong};
+ghost use Rattle.ranges.specs.Joint.{IsHalfBetween};
 ghost use Rattle.ranges.specs.Wides as W;
 
 use crate::low::Low;
@@ -55,7 +55,7 @@ impl Low {
         ensures contains { (x : ℕ) → least ≤ x → x ≤ greatest → Has self (x % 2 ^ 32)
             → Has result (x % 2 ^ 32) }
         ensures enclosed { Encloses self result }
-        ensures reached { AreReached result (λ half. Has self half × IsAmong least greatest half) }
+        ensures reached { AreReached result (λ half. Has self half × IsHalfBetween least greatest half) }
     {
         let first = least / HALVES;
         let last = greatest / HALVES;
@@ -103,7 +103,7 @@ impl Wide {
         ensures small { self.greatest < 2 ^ 32 → L.IsBetween result self.least self.greatest }
         ensures signed { W.ReadsAlike self → W.IsSignedOf w32 self
             → L.IsSignedBetween result self.signed_least self.signed_greatest }
-        ensures reached { L.AreReached result (IsAmong self.least self.greatest) }
+        ensures reached { L.AreReached result (IsHalfBetween self.least self.greatest) }
     {
         Low::any().among(self.least, self.greatest)
     }

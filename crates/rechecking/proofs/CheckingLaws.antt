@@ -22,13 +22,13 @@ use Rattle.transfer.specs.Leading.{LeadsTo, InSome}
 use Rattle.isa_model.specs.declared.limits.TheConstants.{MAX_STEPS}
 use Rattle.table_entries.specs.declared.entries.Head.{Head}
 use Rattle.table_entries.specs.Entries.{Entry, entry_of}
-use Rattle.rechecking.specs.Tables.{EntryAt, GoesInto, IsFine, MeansStarts}
+use Rattle.rechecking.specs.Tables.{EntryAt, EntersSmaller, IsClosedEntry, MeansStarts}
 use Rattle.rechecking.specs.declared.errors.TableError.TheVariants.{Step, Successor}
 use Rattle.rechecking.specs.Standing.{StandsAt}
 use Rattle.rechecking.specs.Checking.{Covering, CoversClearly, Enters, EntersClearly, FollowsBy, StartsClearly, HasStart, IsFaultyAt, AllFineBefore}
 
 goes_into : (p : Program) (t : EntryAt) (e : Entry) (index : ℕ) (a : State) (s : Machine.State) → Contains e.successors index → Enters t e.number index a
-    → Means p a s → GoesInto p t e s
+    → Means p a s → EntersSmaller p t e s
 unfolding Covers
 goes_into p t e index a s there h m = record {
   index = index;
@@ -40,7 +40,7 @@ goes_into p t e index a s there h m = record {
 }
 
 into : (p : Program) (t : EntryAt) (number : ℕ) (from : State) (named : List ℕ) (w : Ways) (a b : State) (s : Machine.State) → FollowsBy (Enters t number) named w a b → InSome p w a b s
-    → GoesInto p t (record { number = number; state = from; successors = named }) s
+    → EntersSmaller p t (record { number = number; state = from; successors = named }) s
 into p t n from [] ways.None a b s f m = absurd m
 into p t n from (i ∷ []) ways.One a b s f m =
     goes_into p t (record { number = n; state = from; successors = i ∷ [] }) i a s (0, omega arith, refl) f m
@@ -51,13 +51,13 @@ into p t n from (i ∷ (j ∷ [])) ways.Two a b s f (inr m) =
 into p t n from named w a b s f m = absurd f
 
 -- an entry that passes the tests is fine
-pub IsFine-follows : (p : Program) (t : EntryAt) (e : Entry) (w : Ways) (a b : State) → 1 ≤ e.number → e.number ≤ MAX_STEPS
-    → LeadsTo p e.state w a b → FollowsBy (Enters t e.number) e.successors w a b → IsFine p t e
+pub IsClosedEntry-follows : (p : Program) (t : EntryAt) (e : Entry) (w : Ways) (a b : State) → 1 ≤ e.number → e.number ≤ MAX_STEPS
+    → LeadsTo p e.state w a b → FollowsBy (Enters t e.number) e.successors w a b → IsClosedEntry p t e
 unfolding LeadsTo
-IsFine-follows p t e w a b some most leads follows = record {
+IsClosedEntry-follows p t e w a b some most leads follows = record {
   some = some;
   most = most;
-  steps = λ clock fits s m. After-weaker (InSome p w a b) (GoesInto p t e) (step p clock s)
+  steps = λ clock fits s m. After-weaker (InSome p w a b) (EntersSmaller p t e) (step p clock s)
       (λ u k. into p t e.number e.state e.successors w a b u follows k) (leads clock fits s m);
 }
 
@@ -150,8 +150,8 @@ unnamed_step p t k e w a b there begins steps unnamed =
     )
 
 -- an entry of that index is this one
-pub fine_of : (p : Program) (t : EntryAt) (k : ℕ) (d : Entry) → t k ≡ Some d → IsFine p t d → (e : Entry) → t k ≡ Some e → IsFine p t e
-fine_of p t k d there fine e at = subst (IsFine p t) (same_entry (t k) d e there at) fine
+pub fine_of : (p : Program) (t : EntryAt) (k : ℕ) (d : Entry) → t k ≡ Some d → IsClosedEntry p t d → (e : Entry) → t k ≡ Some e → IsClosedEntry p t e
+fine_of p t k d there fine e at = subst (IsClosedEntry p t) (same_entry (t k) d e there at) fine
 
 -- an entry 0 that covers the start state, and its number
 pub HasStart-covers : (p : Program) (t : EntryAt) (e : Entry) (n : ℕ) → IsProgram p → t 0 ≡ Some e → Covers p e.state start → Some e.number ≡ Some n → HasStart p t n
@@ -163,7 +163,7 @@ HasStart-covers p t e n program there covers same = record {
 }
 
 -- one more entry that is fine
-pub fine_next : (p : Program) (t : EntryAt) (k : ℕ) → AllFineBefore p t k → ((e : Entry) → t k ≡ Some e → IsFine p t e) → AllFineBefore p t (k + 1)
+pub fine_next : (p : Program) (t : EntryAt) (k : ℕ) → AllFineBefore p t k → ((e : Entry) → t k ≡ Some e → IsClosedEntry p t e) → AllFineBefore p t (k + 1)
 fine_next p t k before here j e less at = elim (cases_lt j k) [
   | inl inside ↦ before j e inside at
   | inr past ↦ let same : j ≡ k = omega arith in here e (subst (λ (i : ℕ). t i ≡ Some e) same at)

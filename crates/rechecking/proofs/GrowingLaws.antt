@@ -12,8 +12,8 @@ use Rattle.table_entries.specs.Growing.{Grown, Grows}
 use Rattle.table_entries.proofs.GrowingLaws.{entry_at-before, entry_at-stays}
 use Rattle.rechecking.specs.declared.entries.Known.{Known}
 use Rattle.rechecking.specs.declared.entries.Known.TheVariants as known
-use Rattle.rechecking.specs.Tables.{EntryAt, GoesInto, IsFine}
-use Rattle.rechecking.specs.Standing.{StandsAt, IsKnown}
+use Rattle.rechecking.specs.Tables.{EntryAt, EntersSmaller, IsClosedEntry}
+use Rattle.rechecking.specs.Standing.{StandsAt, IsKnownEntry}
 use Rattle.rechecking.specs.Checking.{Enters, HasStart, AllFineBefore}
 use Rattle.rechecking.proofs.CheckingLaws.{Enters-same}
 
@@ -24,11 +24,11 @@ Stays t u = (k : ℕ) (e : Entry) → t k ≡ Some e → u k ≡ Some e
 pub stays : (p : Program) (g h : Grown) → Grows p g h → Stays (entry_at p g.table) (entry_at p h.table)
 stays p g h grows k e there = entry_at-stays p g h k e grows there
 
-IsFine-stays : (p : Program) (t u : EntryAt) (e : Entry) → Stays t u → IsFine p t e → IsFine p u e
-IsFine-stays p t u e each fine = record {
+IsClosedEntry-stays : (p : Program) (t u : EntryAt) (e : Entry) → Stays t u → IsClosedEntry p t e → IsClosedEntry p u e
+IsClosedEntry-stays p t u e each fine = record {
   some = fine.some;
   most = fine.most;
-  steps = λ clock fits s m. After-weaker (GoesInto p t e) (GoesInto p u e) (step p clock s)
+  steps = λ clock fits s m. After-weaker (EntersSmaller p t e) (EntersSmaller p u e) (step p clock s)
       (λ v g. record { index = g.index; named = g.named; entry = g.entry; there = each g.index g.entry g.there; smaller = g.smaller; member = g.member })
       (fine.steps clock fits s m);
 }
@@ -38,10 +38,10 @@ pub StandsAt-grows : (p : Program) (g h : Grown) (index : ℕ) (head : Head) (a 
 StandsAt-grows p g h index head a grows s =
     record { allowed = s.allowed; there = entry_at-stays p g h index (entry_of head a) grows s.there }
 
-pub IsKnown-grows : (p : Program) (g h : Grown) (a b : State) (k : Known) → Grows p g h → IsKnown p (entry_at p g.table) a b k → IsKnown p (entry_at p h.table) a b k
-IsKnown-grows p g h a b known.None grows s = tt
-IsKnown-grows p g h a b (known.First index head) grows s = StandsAt-grows p g h index head a grows s
-IsKnown-grows p g h a b (known.Second index head) grows s = StandsAt-grows p g h index head b grows s
+pub IsKnownEntry-grows : (p : Program) (g h : Grown) (a b : State) (k : Known) → Grows p g h → IsKnownEntry p (entry_at p g.table) a b k → IsKnownEntry p (entry_at p h.table) a b k
+IsKnownEntry-grows p g h a b known.None grows s = tt
+IsKnownEntry-grows p g h a b (known.First index head) grows s = StandsAt-grows p g h index head a grows s
+IsKnownEntry-grows p g h a b (known.Second index head) grows s = StandsAt-grows p g h index head b grows s
 
 pub HasStart-grows : (p : Program) (g h : Grown) (n : ℕ) → Grows p g h → HasStart p (entry_at p g.table) n → HasStart p (entry_at p h.table) n
 HasStart-grows p g h n grows s = record {
@@ -65,4 +65,4 @@ Enters-spelled p t number index a head allowed there less =
 pub fine_grows : (p : Program) (g h : Grown) (k : ℕ) → Grows p g h → k ≤ count_of g.table → AllFineBefore p (entry_at p g.table) k → AllFineBefore p (entry_at p h.table) k
 fine_grows p g h k grows le before j e less there =
     let same : entry_at p h.table j ≡ entry_at p g.table j = entry_at-before p g h j grows (omega arith) in
-    IsFine-stays p (entry_at p g.table) (entry_at p h.table) e (stays p g h grows) (before j e less (sym same ∙ there))
+    IsClosedEntry-stays p (entry_at p g.table) (entry_at p h.table) e (stays p g h grows) (before j e less (sym same ∙ there))

@@ -6,31 +6,31 @@ use Rattle.control_flow.specs.Flows.{IsFlow}
 use Rattle.table_entries.specs.declared.faults.TableFault.{TableFault}
 use Rattle.table_entries.specs.declared.faults.TableFault.TheVariants as fault
 use Rattle.table_entries.specs.Entries.{Entry}
-use Rattle.table_entries.specs.Tables.{Kept, Holds, count_of, entry_at, table_read}
+use Rattle.table_entries.specs.Tables.{Kept, KeepsEntries, count_of, entry_at, table_read}
 use Rattle.table_entries.proofs.GrowingLaws.{inside_some}
 use Rattle.rechecking.specs.declared.errors.TableError.{TableError}
 use Rattle.rechecking.specs.declared.errors.TableError.TheVariants.{Flow, Fault, Start, Step, Successor}
-use Rattle.rechecking.specs.Tables.{EntryAt, IsFine}
+use Rattle.rechecking.specs.Tables.{EntryAt, IsClosedEntry}
 use Rattle.rechecking.specs.Checking.{HasStart, StartsClearly, IsFirstFault}
-use Rattle.rechecking.specs.Refusing.{Shows, IsFault, IsRefused}
+use Rattle.rechecking.specs.Refusing.{ShowsBound, IsFault, TableIsRefused}
 
 -- the entries by their indexes are those of the bytes
-same_entries : (p : Program) (t : Kept) (entries : List Entry) → Holds p t entries → entry_at p t ≡ slice_get entries
+same_entries : (p : Program) (t : Kept) (entries : List Entry) → KeepsEntries p t entries → entry_at p t ≡ slice_get entries
 same_entries p t entries h = λ i k. h.each k i
 
-pub entries_there : (p : Program) (t : Kept) (entries : List Entry) → Holds p t entries → (k : ℕ) → k < count_of t → IsSome (entry_at p t k)
+pub entries_there : (p : Program) (t : Kept) (entries : List Entry) → KeepsEntries p t entries → (k : ℕ) → k < count_of t → IsSome (entry_at p t k)
 entries_there p t entries h k less =
     let count = h.count in
     subst IsSome (sym (h.each k)) (inside_some entries k (omega arith))
 
-pub shows_of : (p : Program) (bytes : List ℕ) (t : Kept) (entries : List Entry) (n : ℕ) → table_read p bytes ≡ Ok entries → Holds p t entries → HasStart p (entry_at p t) n
-    → ((k : ℕ) (e : Entry) → entry_at p t k ≡ Some e → IsFine p (entry_at p t) e) → Shows p bytes n
+pub shows_of : (p : Program) (bytes : List ℕ) (t : Kept) (entries : List Entry) (n : ℕ) → table_read p bytes ≡ Ok entries → KeepsEntries p t entries → HasStart p (entry_at p t) n
+    → ((k : ℕ) (e : Entry) → entry_at p t k ≡ Some e → IsClosedEntry p (entry_at p t) e) → ShowsBound p bytes n
 shows_of p bytes t entries n read h start each =
     let same = same_entries p t entries h in
     shown (slice_get entries) (subst (λ (u : EntryAt). HasStart p u n) same start)
-    (subst (λ (u : EntryAt). (k : ℕ) (e : Entry) → u k ≡ Some e → IsFine p u e) same each)
+    (subst (λ (u : EntryAt). (k : ℕ) (e : Entry) → u k ≡ Some e → IsClosedEntry p u e) same each)
   where
-    shown : (u : EntryAt) → HasStart p (slice_get entries) n → ((k : ℕ) (e : Entry) → slice_get entries k ≡ Some e → IsFine p (slice_get entries) e) → Shows p bytes n
+    shown : (u : EntryAt) → HasStart p (slice_get entries) n → ((k : ℕ) (e : Entry) → slice_get entries k ≡ Some e → IsClosedEntry p (slice_get entries) e) → ShowsBound p bytes n
     shown u s all = record {
       entries = entries;
       read = read;
@@ -38,7 +38,7 @@ shows_of p bytes t entries n read h start each =
       number_is = s.number_is;
     }
 
-pub refused_fault : (p : Program) (bytes : List ℕ) (f : TableFault) → IsFlow p → (f ≡ fault.Memory) ⊎ (table_read p bytes ≡ Err f) → IsRefused p bytes (Fault f)
+pub refused_fault : (p : Program) (bytes : List ℕ) (f : TableFault) → IsFlow p → (f ≡ fault.Memory) ⊎ (table_read p bytes ≡ Err f) → TableIsRefused p bytes (Fault f)
 refused_fault p bytes f flow (inl memory) = subst (IsFault p bytes) (sym memory) tt
 refused_fault p bytes fault.Memory flow (inr read) = tt
 refused_fault p bytes fault.Magic flow (inr read) = (flow, read)
@@ -47,13 +47,13 @@ refused_fault p bytes fault.Long flow (inr read) = (flow, read)
 refused_fault p bytes fault.Count flow (inr read) = (flow, read)
 refused_fault p bytes (fault.Entry k) flow (inr read) = (flow, read)
 
-pub refused_start : (p : Program) (bytes : List ℕ) (t : Kept) (entries : List Entry) → IsFlow p → table_read p bytes ≡ Ok entries → Holds p t entries
-    → (StartsClearly (entry_at p t) → ⊥) → IsRefused p bytes Start
+pub refused_start : (p : Program) (bytes : List ℕ) (t : Kept) (entries : List Entry) → IsFlow p → table_read p bytes ≡ Ok entries → KeepsEntries p t entries
+    → (StartsClearly (entry_at p t) → ⊥) → TableIsRefused p bytes Start
 refused_start p bytes t entries flow read h lacks =
     (entries, (flow, read), λ clear. lacks (subst StartsClearly (sym (same_entries p t entries h)) clear))
 
-pub refused_entry : (p : Program) (bytes : List ℕ) (t : Kept) (entries : List Entry) (n : ℕ) (error : TableError) → IsFlow p → table_read p bytes ≡ Ok entries → Holds p t entries
-    → HasStart p (entry_at p t) n → IsFirstFault p (entry_at p t) error → IsRefused p bytes error
+pub refused_entry : (p : Program) (bytes : List ℕ) (t : Kept) (entries : List Entry) (n : ℕ) (error : TableError) → IsFlow p → table_read p bytes ≡ Ok entries → KeepsEntries p t entries
+    → HasStart p (entry_at p t) n → IsFirstFault p (entry_at p t) error → TableIsRefused p bytes error
 refused_entry p bytes t entries n error flow read h start fault = by error (subst (λ (u : EntryAt). IsFirstFault p u error) same fault)
   where
     same : entry_at p t ≡ slice_get entries
@@ -62,7 +62,7 @@ refused_entry p bytes t entries n error flow read h start fault = by error (subs
     first : (m : ℕ) × HasStart p (slice_get entries) m
     first = (n, subst (λ (u : EntryAt). HasStart p u n) same start)
 
-    by : (x : TableError) → IsFirstFault p (slice_get entries) x → IsRefused p bytes x
+    by : (x : TableError) → IsFirstFault p (slice_get entries) x → TableIsRefused p bytes x
     by (Step k r) f = (entries, (flow, read), first, f)
     by (Successor k) f = (entries, (flow, read), first, f)
     by (Flow e s) f = absurd f.2

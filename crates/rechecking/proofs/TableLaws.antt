@@ -9,15 +9,15 @@ use Rattle.isa_model.specs.Running.Ends.{Ends}
 use Rattle.isa_model.specs.Running.Outcomes.{StartsEnd}
 use Rattle.stack_state.specs.Meaning.{Within}
 use Rattle.table_entries.specs.Entries.{Entry}
-use Rattle.rechecking.specs.Tables.{EntryAt, GoesInto, IsFine, IsClosed}
+use Rattle.rechecking.specs.Tables.{EntryAt, EntersSmaller, IsClosedEntry, IsClosed}
 
 -- each entry's states exit within its number
-pub Within-entry : (p : Program) (t : EntryAt) → ((k : ℕ) (e : Entry) → t k ≡ Some e → IsFine p t e) → (n k : ℕ) (e : Entry) → t k ≡ Some e → e.number ≤ n
+pub Within-entry : (p : Program) (t : EntryAt) → ((k : ℕ) (e : Entry) → t k ≡ Some e → IsClosedEntry p t e) → (n k : ℕ) (e : Entry) → t k ≡ Some e → e.number ≤ n
     → Within p e.state n
 unfolding Within Ends
 Within-entry p t each zero k e at le = absurd (let some = (each k e at).some in omega arith)
 Within-entry p t each (suc n) k e at le = λ clock fits s m.
-    After-weaker (GoesInto p t e) (λ u. Ends p clock u n) (step p clock s)
+    After-weaker (EntersSmaller p t e) (λ u. Ends p clock u n) (step p clock s)
     (λ u g. let smaller = g.smaller in Within-entry p t each n g.index g.entry g.there (omega arith) clock fits u g.member)
     ((each k e at).steps clock fits s m)
 

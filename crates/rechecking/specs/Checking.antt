@@ -9,11 +9,11 @@ use Rattle.state_cover.specs.FrameCover.{Encloses}
 use Rattle.transfer.specs.declared.Ways.{Ways}
 use Rattle.transfer.specs.declared.Ways.TheVariants as ways
 use Rattle.transfer.specs.declared.refusals.Refusal.{Refusal}
-use Rattle.transfer.specs.Exact.{Makes, Refuses}
+use Rattle.transfer.specs.Exact.{StepsToWays, RefusesStep}
 use Rattle.table_entries.specs.Entries.{Entry}
 use Rattle.rechecking.specs.declared.errors.TableError.{TableError}
 use Rattle.rechecking.specs.declared.errors.TableError.TheVariants.{Step, Successor}
-use Rattle.rechecking.specs.Tables.{EntryAt, IsFine, MeansStarts}
+use Rattle.rechecking.specs.Tables.{EntryAt, IsClosedEntry, MeansStarts}
 
 -- ---- successors
 
@@ -74,7 +74,7 @@ pub record StartsClearly (t : EntryAt) : Type 0 where
 -- ---- the first entry that does not pass
 
 abbrev pub AllFineBefore : Program → EntryAt → ℕ → Type 0
-AllFineBefore p t k = (j : ℕ) (e : Entry) → j < k → t j ≡ Some e → IsFine p t e
+AllFineBefore p t k = (j : ℕ) (e : Entry) → j < k → t j ≡ Some e → IsClosedEntry p t e
 
 -- the entry's step is refused
 pub record IsRefusedStep (p : Program) (t : EntryAt) (k : ℕ) (refusal : Refusal) : Type 0 where
@@ -82,7 +82,7 @@ pub record IsRefusedStep (p : Program) (t : EntryAt) (k : ℕ) (refusal : Refusa
   pub insn : Insn
   pub there : t k ≡ Some entry
   pub fetched : fetch p entry.state.slot ≡ Some insn
-  pub refused : Refuses p entry.state insn refusal
+  pub refused : RefusesStep p entry.state insn refusal
 
 -- its step is made, and its successors are not clearly those that it names
 pub record IsUnnamed (p : Program) (t : EntryAt) (k : ℕ) : Type 0 where
@@ -93,7 +93,7 @@ pub record IsUnnamed (p : Program) (t : EntryAt) (k : ℕ) : Type 0 where
   pub went : Ways
   pub first : State
   pub second : State
-  pub made : Makes p entry.state insn went first second
+  pub made : StepsToWays p entry.state insn went first second
   pub unnamed : FollowsBy (EntersClearly t entry.number) entry.successors went first second → ⊥
 
 abbrev pub IsFaultyAt : Program → EntryAt → ℕ → TableError → Type 0

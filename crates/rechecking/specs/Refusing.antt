@@ -16,7 +16,7 @@ abbrev pub AreEntries : Program → List ℕ → List Entry → Type 0
 AreEntries p bytes entries = IsFlow p × (table_read p bytes ≡ Ok entries)
 
 -- the bytes are a closed table of the program, and the number is that of its first entry
-pub record Shows (p : Program) (bytes : List ℕ) (number : ℕ) : Type 0 where
+pub record ShowsBound (p : Program) (bytes : List ℕ) (number : ℕ) : Type 0 where
   pub entries : List Entry
   pub read : table_read p bytes ≡ Ok entries
   pub closed : IsClosed p (slice_get entries)
@@ -36,8 +36,8 @@ abbrev pub IsFault : Program → List ℕ → TableFault → Type 0
 IsFault p bytes fault.Memory = Unit {0}
 IsFault p bytes f = IsFlow p × (table_read p bytes ≡ Err f)
 
-abbrev pub IsRefused : Program → List ℕ → TableError → Type 0
-IsRefused p bytes (Flow e slot) = IsRefusal p e slot
-IsRefused p bytes (Fault f) = IsFault p bytes f
-IsRefused p bytes Start = LacksStart p bytes
-IsRefused p bytes error = HasFault p bytes error
+abbrev pub TableIsRefused : Program → List ℕ → TableError → Type 0
+TableIsRefused p bytes (Flow e slot) = IsRefusal p e slot
+TableIsRefused p bytes (Fault f) = IsFault p bytes f
+TableIsRefused p bytes Start = LacksStart p bytes
+TableIsRefused p bytes error = HasFault p bytes error

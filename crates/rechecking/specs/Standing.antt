@@ -14,7 +14,7 @@ pub record StandsAt (p : Program) (t : EntryAt) (index : ℕ) (head : Head) (a :
   pub there : t index ≡ Some (entry_of head a)
 
 -- the state of the known entry is in the first room or in the second
-abbrev pub IsKnown : Program → EntryAt → State → State → Known → Type 0
-IsKnown p t a b known.None = Unit {0}
-IsKnown p t a b (known.First index head) = StandsAt p t index head a
-IsKnown p t a b (known.Second index head) = StandsAt p t index head b
+abbrev pub IsKnownEntry : Program → EntryAt → State → State → Known → Type 0
+IsKnownEntry p t a b known.None = Unit {0}
+IsKnownEntry p t a b (known.First index head) = StandsAt p t index head a
+IsKnownEntry p t a b (known.Second index head) = StandsAt p t index head b

@@ -18,7 +18,7 @@ abbrev pub EntryAt : Type 0
 EntryAt = ℕ → Option Entry
 
 -- the machine state is one of an entry that is named, and whose number is smaller
-pub record GoesInto (p : Program) (t : EntryAt) (e : Entry) (s : Machine.State) : Type 0 where
+pub record EntersSmaller (p : Program) (t : EntryAt) (e : Entry) (s : Machine.State) : Type 0 where
   pub index : ℕ
   pub named : Contains e.successors index
   pub entry : Entry
@@ -27,10 +27,10 @@ pub record GoesInto (p : Program) (t : EntryAt) (e : Entry) (s : Machine.State) 
   pub member : Means p entry.state s
 
 -- no member traps at its next step, and each that goes on enters a named entry of a smaller number
-pub record IsFine (p : Program) (t : EntryAt) (e : Entry) : Type 0 where
+pub record IsClosedEntry (p : Program) (t : EntryAt) (e : Entry) : Type 0 where
   pub some : 1 ≤ e.number
   pub most : e.number ≤ MAX_STEPS
-  pub steps : (clock : ℕ → ℕ) → IsClock clock → (s : Machine.State) → Means p e.state s → After (GoesInto p t e) (step p clock s)
+  pub steps : (clock : ℕ → ℕ) → IsClock clock → (s : Machine.State) → Means p e.state s → After (EntersSmaller p t e) (step p clock s)
 
 -- every state in which a run begins is one of the abstract state
 abbrev pub MeansStarts : Program → State → Type 0
@@ -42,4 +42,4 @@ pub record IsClosed (p : Program) (t : EntryAt) : Type 0 where
   pub first : Entry
   pub at_first : t 0 ≡ Some first
   pub starts : MeansStarts p first.state
-  pub each : (k : ℕ) (e : Entry) → t k ≡ Some e → IsFine p t e
+  pub each : (k : ℕ) (e : Entry) → t k ≡ Some e → IsClosedEntry p t e

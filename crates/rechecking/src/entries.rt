@@ -6,9 +6,9 @@ ghost use Rattle.stack_state.specs.declared.states.State.{State};
 ghost use Rattle.table_entries.specs.Entries.{Entry, list_of};
 ghost use Rattle.table_entries.specs.Tables.{entry_at, count_of};
 ghost use Rattle.table_entries.specs.Growing.{MayGrow, Grows, AllThere};
-ghost use Rattle.rechecking.specs.Tables.{EntryAt, IsFine};
+ghost use Rattle.rechecking.specs.Tables.{EntryAt, IsClosedEntry};
 ghost use Rattle.rechecking.specs.Checking.{Enters, EntersClearly, FollowsBy, Covering, CoversClearly, AllFineBefore, IsFaultyAt, IsFirstFault};
-ghost use Rattle.rechecking.specs.Standing.{StandsAt, IsKnown};
+ghost use Rattle.rechecking.specs.Standing.{StandsAt, IsKnownEntry};
 
 use crate::errors::TableError;
 use image::Image;
@@ -27,8 +27,8 @@ pub enum Known {
 
 /// The same, where the rooms have changed places.
 fn turned(known: Known) -> Known
-    ensures { (p : Program) (t : EntryAt) (a b : State) → IsKnown p t a b known
-        → IsKnown p t b a result }
+    ensures { (p : Program) (t : EntryAt) (a b : State) → IsKnownEntry p t a b known
+        → IsKnownEntry p t b a result }
 {
     match known {
         Known::None => Known::None,
@@ -86,7 +86,7 @@ fn enters(
     ensures yes { IfSome result
         (λ _. Enters (entry_at image.now table.now) number index state.now) }
     ensures known { IfSome result
-        (IsKnown image.now (entry_at image.now table.now) state.now room.new) }
+        (IsKnownEntry image.now (entry_at image.now table.now) state.now room.new) }
     ensures none { result ≡ None
         → EntersClearly (entry_at image.now table.now) number index state.now → ⊥ }
 {
@@ -115,7 +115,7 @@ fn follows(
         (λ _. FollowsBy (Enters (entry_at image.now table.now) head.number)
         (list_of head.named) ways state.now other.now) }
     ensures known { IfSome result
-        (IsKnown image.now (entry_at image.now table.now) state.now room.new) }
+        (IsKnownEntry image.now (entry_at image.now table.now) state.now room.new) }
     ensures none { result ≡ None
         → FollowsBy (EntersClearly (entry_at image.now table.now) head.number)
         (list_of head.named) ways state.now other.now → ⊥ }
@@ -148,7 +148,7 @@ fn next_follows(
         (λ _. (other : State) → FollowsBy (Enters (entry_at image.now growing.new.table) head.number)
         (list_of head.named) ways state.now other) }
     ensures known { IfSome result (λ known. (room : State)
-        → IsKnown image.now (entry_at image.now growing.new.table) state.now room known) }
+        → IsKnownEntry image.now (entry_at image.now growing.new.table) state.now room known) }
 {
     match (head.named, ways) {
         (Named::One(only), Ways::One) => {
@@ -196,9 +196,9 @@ fn test_standing(
     ensures grows { Grows image.now growing.old growing.new }
     ensures fine { IfOk result (λ _. (e : Entry)
         → entry_at image.now growing.new.table index ≡ Some e
-        → IsFine image.now (entry_at image.now growing.new.table) e) }
+        → IsClosedEntry image.now (entry_at image.now growing.new.table) e) }
     ensures known { IfOk result
-        (IsKnown image.now (entry_at image.now growing.new.table) state.new room.new) }
+        (IsKnownEntry image.now (entry_at image.now growing.new.table) state.new room.new) }
     ensures faulty { IfErr result
         (IsFaultyAt image.now (entry_at image.now growing.new.table) index) }
 {
@@ -229,14 +229,14 @@ fn test_entry(
 ) -> Result<Known, TableError>
     requires may { MayGrow image.now growing.old }
     requires there { IsSome (entry_at image.now growing.old.table index) }
-    requires known { IsKnown image.now (entry_at image.now growing.old.table)
+    requires known { IsKnownEntry image.now (entry_at image.now growing.old.table)
         state.old room.old known }
     ensures grows { Grows image.now growing.old growing.new }
     ensures fine { IfOk result (λ _. (e : Entry)
         → entry_at image.now growing.new.table index ≡ Some e
-        → IsFine image.now (entry_at image.now growing.new.table) e) }
+        → IsClosedEntry image.now (entry_at image.now growing.new.table) e) }
     ensures known { IfOk result
-        (IsKnown image.now (entry_at image.now growing.new.table) state.new room.new) }
+        (IsKnownEntry image.now (entry_at image.now growing.new.table) state.new room.new) }
     ensures faulty { IfErr result
         (IsFaultyAt image.now (entry_at image.now growing.new.table) index) }
 {

@@ -6,7 +6,7 @@ ghost use Rattle.bounds.specs.Bounds.{IsVerified};
 ghost use Rattle.control_flow.specs.Flows.{IsFlow};
 ghost use Rattle.table_entries.specs.Tables.{entry_at};
 ghost use Rattle.rechecking.specs.Checking.{HasStart, StartsClearly};
-ghost use Rattle.rechecking.specs.Refusing.{Shows, IsRefused};
+ghost use Rattle.rechecking.specs.Refusing.{ShowsBound, TableIsRefused};
 
 use crate::entries::test_all;
 use crate::errors::TableError;
@@ -41,7 +41,7 @@ fn first_number(image: &Image, table: &Table) -> Option<u32>
 /// An entry that is the next one, and spells a successor, is read once.
 fn quick_bound(alloc: Global, image: &Image, bytes: &[u8]) -> Option<u32>
     requires { IsProgram image.now }
-    ensures { IfSome result (Shows image.now bytes.now) }
+    ensures { IfSome result (ShowsBound image.now bytes.now) }
 {
     let mut growing = Growing::begin(alloc, bytes)?;
     if !growing.reach(image, 0) {
@@ -64,8 +64,8 @@ fn quick_bound(alloc: Global, image: &Image, bytes: &[u8]) -> Option<u32>
 fn slow_bound(alloc: Global, image: &Image, bytes: &[u8]) -> Result<u32, TableError>
     requires flow { IsFlow image.now }
     requires program { IsProgram image.now }
-    ensures shown { IfOk result (Shows image.now bytes.now) }
-    ensures refused { IfErr result (IsRefused image.now bytes.now) }
+    ensures shown { IfOk result (ShowsBound image.now bytes.now) }
+    ensures refused { IfErr result (TableIsRefused image.now bytes.now) }
 {
     let table = match Table::of(alloc, image, bytes) {
         Ok(table) => table,
@@ -85,8 +85,8 @@ fn slow_bound(alloc: Global, image: &Image, bytes: &[u8]) -> Result<u32, TableEr
 /// The same, the quick way where that finds a bound.
 fn bound_of(alloc: Global, image: &Image, bytes: &[u8]) -> Result<u32, TableError>
     requires { IsFlow image.now }
-    ensures shown { IfOk result (Shows image.now bytes.now) }
-    ensures refused { IfErr result (IsRefused image.now bytes.now) }
+    ensures shown { IfOk result (ShowsBound image.now bytes.now) }
+    ensures refused { IfErr result (TableIsRefused image.now bytes.now) }
 {
     // only for the proof: this call says that the program is an image's
     let _slots = image.slots();
@@ -106,8 +106,8 @@ pub fn recheck(alloc: Global, image: Image, bytes: &[u8]) -> Result<Verified, Ta
     ensures verified { IfOk result IsVerified }
 
     // The bytes are a closed table, and the bound is its first entry's number.
-    ensures closed { IfOk result (λ verified. Shows image bytes.now verified.bound) }
-    ensures refused { IfErr result (IsRefused image bytes.now) }
+    ensures closed { IfOk result (λ verified. ShowsBound image bytes.now verified.bound) }
+    ensures refused { IfErr result (TableIsRefused image bytes.now) }
 {
     match Flow::of(alloc, &image) {
         Ok(_flow) => {}

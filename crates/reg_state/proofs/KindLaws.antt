@@ -10,7 +10,7 @@ use Rattle.reg_state.specs.declared.scalars.Scalar.{Scalar}
 use Rattle.reg_state.specs.declared.kinds.Kind.{Kind}
 use Rattle.reg_state.specs.declared.kinds.Kind.TheVariants.{Unset, Number, Context, Stack, Packet, PacketEnd, Map, MapValue, MapValueOrNull}
 use Rattle.reg_state.specs.Scalars.{Has}
-use Rattle.reg_state.specs.Kinds.{Assigned, Allows, AllowsOrNull, IsLive}
+use Rattle.reg_state.specs.Kinds.{Assigned, Allows, AllowsOrNull, HasLiveValue}
 use Rattle.reg_state.specs.KindCover.{packet_identity_of, null_identity_of}
 use Rattle.reg_state.proofs.Numbers.{if_some}
 
@@ -26,20 +26,20 @@ map_of (MapValueOrNull m identity) = Some m
 map_of k = None
 
 -- f keeps what a kind speaks of in e: its identity and its frame are the same, and live values of its map are live
-pub record Keeps (k : Kind) (e f : Assigned) : Type 0 where
+pub record KeepsAssigned (k : Kind) (e f : Assigned) : Type 0 where
   pub offsets : IfSome (packet_identity_of k) (λ i. e.offset i ≡ f.offset i)
   pub values : IfSome (null_identity_of k) (λ i. e.value i ≡ f.value i)
   pub packet_lengths : e.packet_length ≡ f.packet_length
   pub serials : IfSome (frame_of k) (λ j. slice_get e.frames j ≡ slice_get f.frames j)
-  pub live : IfSome (map_of k) (λ m. (n : ℕ) → IsLive e.maps m n → IsLive f.maps m n)
+  pub live : IfSome (map_of k) (λ m. (n : ℕ) → HasLiveValue e.maps m n → HasLiveValue f.maps m n)
 
-null_kept : (e f : Assigned) (m : ℕ) (o : Option ℕ) (v : Value) → ((n : ℕ) → IsLive e.maps m n → IsLive f.maps m n)
+null_kept : (e f : Assigned) (m : ℕ) (o : Option ℕ) (v : Value) → ((n : ℕ) → HasLiveValue e.maps m n → HasLiveValue f.maps m n)
     → AllowsOrNull e m o v → AllowsOrNull f m o v
 null_kept e f m None v live h = h
 null_kept e f m (Some n) v live h = (h.0, live n h.1)
 
 -- what the kind allows it then goes on to allow
-pub Allows-kept : (k : Kind) (e f : Assigned) (v : Value) → Keeps k e f → Allows e k v → Allows f k v
+pub Allows-kept : (k : Kind) (e f : Assigned) (v : Value) → KeepsAssigned k e f → Allows e k v → Allows f k v
 Allows-kept Unset e f v a h = tt
 Allows-kept (Number s) e f v a h = h
 Allows-kept Context e f v a h = h
@@ -82,7 +82,7 @@ Allows-fresh_offset k e i z v fresh h =
       values = if_some (null_identity_of k) (λ j. e.value j ≡ e.value j) (λ j is. refl);
       packet_lengths = refl;
       serials = if_some (frame_of k) (λ j. slice_get e.frames j ≡ slice_get e.frames j) (λ j is. refl);
-      live = if_some (map_of k) (λ m. (n : ℕ) → IsLive e.maps m n → IsLive e.maps m n) (λ m is n l. l);
+      live = if_some (map_of k) (λ m. (n : ℕ) → HasLiveValue e.maps m n → HasLiveValue e.maps m n) (λ m is n l. l);
     }
     h
 
@@ -97,7 +97,7 @@ Allows-fresh_value k e i n v fresh h =
           (λ j is. other_value e i n j (λ same. fresh (cc)));
       packet_lengths = refl;
       serials = if_some (frame_of k) (λ j. slice_get e.frames j ≡ slice_get e.frames j) (λ j is. refl);
-      live = if_some (map_of k) (λ m. (n : ℕ) → IsLive e.maps m n → IsLive e.maps m n) (λ m is n l. l);
+      live = if_some (map_of k) (λ m. (n : ℕ) → HasLiveValue e.maps m n → HasLiveValue e.maps m n) (λ m is n l. l);
     }
     h
 

@@ -14,7 +14,7 @@ use Rattle.isa_model.specs.Code.Numbers.{low, signed, alu, sign_extended, compar
 use Rattle.isa_model.specs.Code.NumberLemmas.{low_same}
 use Rattle.isa_model.proofs.NumberLemmas.{low_below}
 use Rattle.isa_model.proofs.ExtensionLemmas.{sign_extended-small, sign_extended_fits}
-use Rattle.reg_state.specs.Relations.{Goes, low_half, low_half_limit, reads_signed}
+use Rattle.reg_state.specs.Relations.{ComparesTo, low_half, low_half_limit, reads_signed}
 
 lt-true : (a b : ℤ) → int_lt a b ≡ true → a <ℤ b
 lt-true a b e = grind (arith, ints)
@@ -29,7 +29,7 @@ le-false : (a b : ℤ) → int_le a b ≡ false → b <ℤ a
 le-false a b e = grind (arith, ints)
 
 -- of two registers' numbers
-pub goes : (c : Comparison) (w : Width) (t : Bool) (x y : ℕ) → holds c w x y ≡ t → Goes w c t x y
+pub goes : (c : Comparison) (w : Width) (t : Bool) (x y : ℕ) → holds c w x y ≡ t → ComparesTo w c t x y
 unfolding holds
 goes Equal w true x y e = eqb-true (low w x) (low w y) e
 goes Equal w false x y e = eqb-false (low w x) (low w y) e
@@ -94,7 +94,7 @@ low_half-small c x h = low_half_below (reads_signed c) x h
 
 -- a comparison at 32 bits says of numbers that are their own low halves what it says at 64 bits
 pub goes_whole : (c : Comparison) (t : Bool) (x y : ℕ) → low_half c x ≡ x → low_half c y ≡ y → holds c Low32 x y ≡ t
-    → Goes Full64 c t x y
+    → ComparesTo Full64 c t x y
 goes_whole c t x y left right e =
     goes c Full64 t x y (both (holds c Full64) (sym left) (sym right) ∙ sym (holds_low c x y) ∙ e)
 

@@ -22,8 +22,8 @@ pub record Assigned : Type 0 where
   pub maps : List Content
 
 -- a value of the map is live while its serial is in the map's content
-abbrev pub IsLive : List Content → ℕ → ℕ → Type 0
-IsLive maps m n = Contains (value_serials (slice_index_or maps m [])) n
+abbrev pub HasLiveValue : List Content → ℕ → ℕ → Type 0
+HasLiveValue maps m n = Contains (value_serials (slice_index_or maps m [])) n
 
 -- that many bytes after the variable part are in the packet
 abbrev pub IsProved : Assigned → ℕ → ℕ → Type 0
@@ -43,12 +43,12 @@ pub record AllowsMapValue (e : Assigned) (m : ℕ) (least greatest : ℤ) (v : V
   pub points : v ≡ Ptr (region.MapValue m serial) offset
   pub from : least ≤ℤ offset
   pub to : offset ≤ℤ greatest
-  pub live : IsLive e.maps m serial
+  pub live : HasLiveValue e.maps m serial
 
 -- the number 0, or the beginning of a live value
 abbrev pub AllowsOrNull : Assigned → ℕ → Option ℕ → Value → Type 0
 AllowsOrNull e m None v = v ≡ Num 0
-AllowsOrNull e m (Some n) v = (v ≡ Ptr (region.MapValue m n) (pos 0)) × IsLive e.maps m n
+AllowsOrNull e m (Some n) v = (v ≡ Ptr (region.MapValue m n) (pos 0)) × HasLiveValue e.maps m n
 
 -- under the assignment, the kind allows the value
 abbrev pub Allows : Assigned → Kind → Value → Type 0

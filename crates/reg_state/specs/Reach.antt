@@ -10,7 +10,7 @@ use Rattle.reg_state.specs.Limits.{Limits}
 use Rattle.reg_state.specs.Relations.{low_half_limit}
 
 -- x, a number of the width, is between the limits, read without and with a sign
-pub record IsInside (w : Width) (l : Limits) (x : ℕ) : Type 0 where
+pub record IsWithinLimits (w : Width) (l : Limits) (x : ℕ) : Type 0 where
   pub from : l.least ≤ℤ pos x
   pub to : pos x ≤ℤ l.greatest
   pub signed_from : l.signed_least ≤ℤ signed w x

@@ -9,29 +9,29 @@ use Rattle.isa_model.specs.declared.instructions.Comparison.TheVariants.{Equal, 
 use Rattle.isa_model.specs.Code.Numbers.{low, signed, sign_extended}
 
 -- of two numbers, as the width reads them
-abbrev pub Goes : Width → Comparison → Bool → ℕ → ℕ → Type 0
-Goes w Equal true x y = low w x ≡ low w y
-Goes w Equal false x y = low w x ≢ low w y
-Goes w NotEqual true x y = low w x ≢ low w y
-Goes w NotEqual false x y = low w x ≡ low w y
-Goes w Greater true x y = low w y < low w x
-Goes w Greater false x y = low w x ≤ low w y
-Goes w GreaterEqual true x y = low w y ≤ low w x
-Goes w GreaterEqual false x y = low w x < low w y
-Goes w Less true x y = low w x < low w y
-Goes w Less false x y = low w y ≤ low w x
-Goes w LessEqual true x y = low w x ≤ low w y
-Goes w LessEqual false x y = low w y < low w x
-Goes w AnyBit true x y = bit_and (low w x) (low w y) ≢ 0
-Goes w AnyBit false x y = bit_and (low w x) (low w y) ≡ 0
-Goes w SignedGreater true x y = signed w (low w y) <ℤ signed w (low w x)
-Goes w SignedGreater false x y = signed w (low w x) ≤ℤ signed w (low w y)
-Goes w SignedGreaterEqual true x y = signed w (low w y) ≤ℤ signed w (low w x)
-Goes w SignedGreaterEqual false x y = signed w (low w x) <ℤ signed w (low w y)
-Goes w SignedLess true x y = signed w (low w x) <ℤ signed w (low w y)
-Goes w SignedLess false x y = signed w (low w y) ≤ℤ signed w (low w x)
-Goes w SignedLessEqual true x y = signed w (low w x) ≤ℤ signed w (low w y)
-Goes w SignedLessEqual false x y = signed w (low w y) <ℤ signed w (low w x)
+abbrev pub ComparesTo : Width → Comparison → Bool → ℕ → ℕ → Type 0
+ComparesTo w Equal true x y = low w x ≡ low w y
+ComparesTo w Equal false x y = low w x ≢ low w y
+ComparesTo w NotEqual true x y = low w x ≢ low w y
+ComparesTo w NotEqual false x y = low w x ≡ low w y
+ComparesTo w Greater true x y = low w y < low w x
+ComparesTo w Greater false x y = low w x ≤ low w y
+ComparesTo w GreaterEqual true x y = low w y ≤ low w x
+ComparesTo w GreaterEqual false x y = low w x < low w y
+ComparesTo w Less true x y = low w x < low w y
+ComparesTo w Less false x y = low w y ≤ low w x
+ComparesTo w LessEqual true x y = low w x ≤ low w y
+ComparesTo w LessEqual false x y = low w y < low w x
+ComparesTo w AnyBit true x y = bit_and (low w x) (low w y) ≢ 0
+ComparesTo w AnyBit false x y = bit_and (low w x) (low w y) ≡ 0
+ComparesTo w SignedGreater true x y = signed w (low w y) <ℤ signed w (low w x)
+ComparesTo w SignedGreater false x y = signed w (low w x) ≤ℤ signed w (low w y)
+ComparesTo w SignedGreaterEqual true x y = signed w (low w y) ≤ℤ signed w (low w x)
+ComparesTo w SignedGreaterEqual false x y = signed w (low w x) <ℤ signed w (low w y)
+ComparesTo w SignedLess true x y = signed w (low w x) <ℤ signed w (low w y)
+ComparesTo w SignedLess false x y = signed w (low w y) ≤ℤ signed w (low w x)
+ComparesTo w SignedLessEqual true x y = signed w (low w x) ≤ℤ signed w (low w y)
+ComparesTo w SignedLessEqual false x y = signed w (low w y) <ℤ signed w (low w x)
 
 -- whether a comparison is of signed numbers
 abbrev pub reads_signed : Comparison → Bool

@@ -3,7 +3,7 @@
 ghost use Rattle.std.specs.Prelude.{◌≡◌, ◌≢◌, ℕ, ◌^◌, ◌<◌, None, IsSome, IsSomeAnd, IfSome, IsTrue, Bool, false, bit_and};
 ghost use Rattle.isa_model.specs.Code.Numbers.{holds, low};
 ghost use Rattle.isa_model.specs.declared.sizes.Width.TheVariants.{Low32, Full64};
-ghost use Rattle.reg_state.specs.Relations.{Goes, reads_signed, low_half, low_half_limit};
+ghost use Rattle.reg_state.specs.Relations.{ComparesTo, reads_signed, low_half, low_half_limit};
 ghost use Rattle.reg_state.specs.Reach.{MayGo, MayShare, ReadsWhole, exchanged};
 ghost use Rattle.reg_state.specs.Shown.{DomainShows, ShowsAt, ShowsWhole, AreReadWhole};
 
@@ -93,7 +93,7 @@ fn narrowed<D: Domain>(
 
 // What a comparison of whole numbers shows.
 fn related_whole<D: Domain>(comparison: Comparison, taken: bool, a: D, b: D) -> Option<(D, D)>
-    ensures common { (x y : ℕ) → D.has a x → D.has b y → Goes Full64 comparison taken x y
+    ensures common { (x y : ℕ) → D.has a x → D.has b y → ComparesTo Full64 comparison taken x y
         → IsSomeAnd result (λ p. D.has p.0 x × D.has p.1 y) }
     ensures left { IfSome result (λ p. (x : ℕ) → D.has p.0 x → D.has a x) }
     ensures right { IfSome result (λ p. (y : ℕ) → D.has p.1 y → D.has b y) }
@@ -135,7 +135,7 @@ fn related<D: Domain>(
     a: D,
     b: D,
 ) -> Option<(D, D)>
-    ensures common { (x y : ℕ) → D.has a x → D.has b y → Goes width comparison taken x y
+    ensures common { (x y : ℕ) → D.has a x → D.has b y → ComparesTo width comparison taken x y
         → IsSomeAnd result (λ p. D.has p.0 x × D.has p.1 y) }
     ensures left { IfSome result (λ p. (x : ℕ) → D.has p.0 x → D.has a x) }
     ensures right { IfSome result (λ p. (y : ℕ) → D.has p.1 y → D.has b y) }
@@ -186,7 +186,7 @@ fn related<D: Domain>(
 // Whether a comparison of low halves is known to read the members whole.
 fn reads_whole<D: Domain>(comparison: Comparison, a: D, b: D) -> bool
     ensures sound { IsTrue result → (x y : ℕ) → D.has a x → D.has b y → (taken : Bool)
-        → holds comparison Low32 x y ≡ taken → Goes Full64 comparison taken x y }
+        → holds comparison Low32 x y ≡ taken → ComparesTo Full64 comparison taken x y }
     ensures found { AreReadWhole D.limits D.possible comparison Low32 a b → IsTrue result }
 {
     are_low_halves(comparison, a) && are_low_halves(comparison, b)

@@ -7,7 +7,7 @@ ghost use Rattle.isa_model.specs.Code.Numbers.{alu, negated, sign_extended, reor
 ghost use Rattle.reg_state.specs.Limits.{Limits};
 ghost use Rattle.isa_model.specs.declared.sizes.Width.{Width};
 ghost use Rattle.isa_model.specs.declared.sizes.Width.TheVariants.{Full64};
-ghost use Rattle.reg_state.specs.Reach.{IsInside, IsLimit, IsAlone};
+ghost use Rattle.reg_state.specs.Reach.{IsWithinLimits, IsLimit, IsAlone};
 
 use isa_model::{AluOp, ByteOrder, Extension, Span, Width};
 
@@ -193,7 +193,7 @@ pub trait Domain: Copy {
     ghost bounded: { (d : Self) (x : ℕ) → has d x → x < 2 ^ 64 };
 
     // and is between the limits, as each width reads it
-    ghost inside: { (d : Self) (w : Width) (x : ℕ) → has d x → IsInside w (limits w d) (low w x) };
+    ghost inside: { (d : Self) (w : Width) (x : ℕ) → has d x → IsWithinLimits w (limits w d) (low w x) };
 
     // what it allows of whole numbers are its members
     ghost whole: { (d : Self) (x : ℕ) → allows Full64 d x → has d x };

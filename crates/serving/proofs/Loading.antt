@@ -7,7 +7,7 @@ use Rattle.assembler.specs.Assembling.{assembled}
 use Rattle.isa_model.specs.{Program}
 use Rattle.image.specs.Images.{IsImage}
 use Rattle.bounds.specs.Bounds.{Bounded, IsVerified}
-use Rattle.rechecking.specs.Refusing.{Shows}
+use Rattle.rechecking.specs.Refusing.{ShowsBound}
 use Rattle.stack_state.specs.Starts.{start}
 use Rattle.walks.specs.Accepting.{BoundsAll}
 use Rattle.walks.specs.Counts.{HasNumber}
@@ -19,7 +19,7 @@ use Rattle.serving.specs.declared.endings.Ending.{Ending}
 use Rattle.serving.specs.Known.{IsKnown, IsKnownOfTable, IsKnownOfText, Tells, Plainly}
 use Rattle.serving.specs.Statuses.{IsReadFailure, IsMakeFailure}
 use Rattle.serving.specs.Lines.{bound_line, size_line}
-use Rattle.serving.specs.Judging.{Accepts, IsBoundOf, RefusesProgram, RefusesTable, Verifies, Stores}
+use Rattle.serving.specs.Judging.{Accepts, IsBoundOf, RefusesProgram, RefusesTable, Verifies, StoresImage}
 use Rattle.serving.specs.Streams.{RunsAccepted, Traces}
 use Rattle.serving.specs.Proving.{StoresTable}
 use Rattle.tasks.specs.Requests.{RunFiles, ProofFiles}
@@ -121,7 +121,7 @@ run_unopened files old mid new v o r e f h failed same none =
 -- ---- tables
 
 -- what a table shows of its own program
-shown_of : (p : Program) (bytes : List ℕ) (v : Bounded) → v.program ≡ p → IsVerified v → Shows p bytes v.bound → IsShown v
+shown_of : (p : Program) (bytes : List ℕ) (v : Bounded) → v.program ≡ p → IsVerified v → ShowsBound p bytes v.bound → IsShown v
 shown_of p bytes v same h shows = (bytes, record { verified = h; shows = rw same shows })
 
 pub shows_unloaded : (files : ProofFiles) (old new : Option (List ℕ)) (o : Outcome) (r : Ending) → LoadsNone files.image old new o → r.outcome ≡ o → r.why ≡ None → ShowsNone files old new r
@@ -135,7 +135,7 @@ shows_refused files old mid new p bytes r e h refused known =
     inr (p, h, inr (bytes, subst (λ (o : Option (List ℕ)). RefusesTable p bytes o new r.outcome) e refused, known))
 
 -- the same of an answer
-pub shown_if : (p : Program) (bytes : List ℕ) (r : Result Bounded Ending) → IfOk r (λ v. v.program ≡ p) → IfOk r IsVerified → IfOk r (λ v. Shows p bytes v.bound) → IfOk r IsShown
+pub shown_if : (p : Program) (bytes : List ℕ) (r : Result Bounded Ending) → IfOk r (λ v. v.program ≡ p) → IfOk r IsVerified → IfOk r (λ v. ShowsBound p bytes v.bound) → IfOk r IsShown
 shown_if p bytes (Ok v) same h shows = shown_of p bytes v same h shows
 shown_if p bytes (Err ending) same h shows = tt
 
@@ -186,12 +186,12 @@ table_stored files old mid now new before after v line o r e f h is stores same 
 -- ---- texts
 
 -- the image of a text that was read is written, and its size is said
-pub text_stored : (old mid new before after : Option (List ℕ)) (source line path : List ℕ) (p : Program) (r : Outcome) → mid ≡ old → assembled source ≡ Ok p → line ≡ size_line p → Stores p line path before after mid new r → Assembles source path old new r
+pub text_stored : (old mid new before after : Option (List ℕ)) (source line path : List ℕ) (p : Program) (r : Outcome) → mid ≡ old → assembled source ≡ Ok p → line ≡ size_line p → StoresImage p line path before after mid new r → Assembles source path old new r
 text_stored old mid new before after source line path p r e found same s =
     let some : StoresSome p path old new r = record {
       before = before;
       after = after;
-      stores = subst (λ (o : Option (List ℕ)). Stores p (size_line p) path before after o new r) e (subst (λ (l : List ℕ). Stores p l path before after mid new r) same s);
+      stores = subst (λ (o : Option (List ℕ)). StoresImage p (size_line p) path before after o new r) e (subst (λ (l : List ℕ). StoresImage p l path before after mid new r) same s);
     } in
     inr (p, found, inr some)
 

@@ -14,7 +14,7 @@ use Rattle.serving.specs.Known.{IsKnown, IsKnownOfTable, IsKnownOfText, Plainly}
 use Rattle.serving.specs.Lines.{bound_line, size_line}
 use Rattle.serving.specs.Statuses.{IsMakeFailure, IsReadFailure, IsWrongWords}
 use Rattle.serving.specs.Saying.{Says}
-use Rattle.serving.specs.Judging.{Accepts, IsBoundOf, IsBoundShown, RefusesImage, RefusesProgram, RefusesTable, RefusesText, Stores, Verifies}
+use Rattle.serving.specs.Judging.{Accepts, IsBoundOf, IsBoundShown, RefusesImage, RefusesProgram, RefusesTable, RefusesText, StoresImage, Verifies}
 use Rattle.serving.specs.Streams.{RunsAccepted, Traces}
 use Rattle.serving.specs.Proving.{StoresTable}
 use Rattle.tasks.specs.Requests.{Request, RunFiles, ProofFiles, Trace, Run, Verify, Prove, Recheck, Assemble, Disassemble}
@@ -34,15 +34,15 @@ abbrev pub LoadsNone : List ℕ → Option (List ℕ) → Option (List ℕ) → 
 LoadsNone path old new result = ReadsNone path old new result ⊎ ((bytes : List ℕ) × RefusesImage bytes old new result)
 
 -- an image was read, and P holds of its program
-abbrev pub Loads : (Program → Type 0) → Type 0
-Loads P = (p : Program) × IsImage p × P p
+abbrev pub ReadsImage : (Program → Type 0) → Type 0
+ReadsImage P = (p : Program) × IsImage p × P p
 
 -- the image, or then the table, could not be read; or one of them is refused, and what else the
 -- message says is known
 abbrev pub ShowsNone : ProofFiles → Option (List ℕ) → Option (List ℕ) → Ending → Type 0
 ShowsNone files old new result =
     Plainly (LoadsNone files.image old new) result
-    ⊎ Loads (λ p. Plainly (ReadsNone files.table old new) result
+    ⊎ ReadsImage (λ p. Plainly (ReadsNone files.table old new) result
     ⊎ ((bytes : List ℕ) × RefusesTable p bytes old new result.outcome × IsKnownOfTable p bytes result))
 
 -- a table was read, and it shows this bound of the program
@@ -78,7 +78,7 @@ pub record RunsSome (v : Bounded) (out : List ℕ) (old new : Option (List ℕ))
 pub record StoresSome (p : Program) (path : List ℕ) (old new : Option (List ℕ)) (result : Outcome) : Type 0 where
   pub before : Option (List ℕ)
   pub after : Option (List ℕ)
-  pub stores : Stores p (size_line p) path before after old new result
+  pub stores : StoresImage p (size_line p) path before after old new result
 
 -- a proof table was written to the file at the path, and the bound was said
 pub record ProvesSome (p : Program) (bound : ℕ) (path : List ℕ) (old new : Option (List ℕ)) (result : Outcome) : Type 0 where
@@ -92,7 +92,7 @@ pub record ProvesSome (p : Program) (bound : ℕ) (path : List ℕ) (old new : O
 abbrev pub TracesFile : RunFiles → ℕ → Option (List ℕ) → Option (List ℕ) → Ending → Type 0
 TracesFile files limit old new result =
     Plainly (LoadsNone files.image old new) result
-    ⊎ Loads (λ p. Plainly (OpensNone files old new) result ⊎ TracesSome p limit files.out old new result)
+    ⊎ ReadsImage (λ p. Plainly (OpensNone files old new) result ⊎ TracesSome p limit files.out old new result)
 
 -- a program with its bound is run
 abbrev pub RunsOn : RunFiles → Bounded → Option (List ℕ) → Option (List ℕ) → Outcome → Type 0
@@ -107,7 +107,7 @@ AcceptsAndRuns files p old new result =
 abbrev pub RunsFile : RunFiles → Option (List ℕ) → Option (List ℕ) → Ending → Type 0
 RunsFile files old new result =
     Plainly (LoadsNone files.image old new) result
-    ⊎ Loads (λ p. (RefusesProgram p old new result.outcome ⊎ AcceptsAndRuns files p old new result.outcome) × IsKnown p result)
+    ⊎ ReadsImage (λ p. (RefusesProgram p old new result.outcome ⊎ AcceptsAndRuns files p old new result.outcome) × IsKnown p result)
 
 -- the same where a table takes the place of the verifier
 abbrev pub RunsShown : RunFiles → List ℕ → Option (List ℕ) → Option (List ℕ) → Ending → Type 0
@@ -121,7 +121,7 @@ RechecksFile files old new result =
 
 abbrev pub VerifiesFile : List ℕ → Option (List ℕ) → Option (List ℕ) → Ending → Type 0
 VerifiesFile path old new result =
-    Plainly (LoadsNone path old new) result ⊎ Loads (λ p. Verifies p old new result.outcome × IsKnown p result)
+    Plainly (LoadsNone path old new) result ⊎ ReadsImage (λ p. Verifies p old new result.outcome × IsKnown p result)
 
 -- a program is accepted, with its bound, and then a table of it is written
 abbrev pub AcceptsAndProves : List ℕ → Program → Option (List ℕ) → Option (List ℕ) → Outcome → Type 0
@@ -131,19 +131,19 @@ AcceptsAndProves table p old new result =
 abbrev pub ProvesFile : ProofFiles → Option (List ℕ) → Option (List ℕ) → Ending → Type 0
 ProvesFile files old new result =
     Plainly (LoadsNone files.image old new) result
-    ⊎ Loads (λ p. (RefusesProgram p old new result.outcome ⊎ AcceptsAndProves files.table p old new result.outcome) × IsKnown p result)
+    ⊎ ReadsImage (λ p. (RefusesProgram p old new result.outcome ⊎ AcceptsAndProves files.table p old new result.outcome) × IsKnown p result)
 
 abbrev pub DisassemblesFile : List ℕ → Option (List ℕ) → Option (List ℕ) → Outcome → Type 0
-DisassemblesFile path old new result = LoadsNone path old new result ⊎ Loads (λ p. Says old new (canonical_text p) outcome.Done result)
+DisassemblesFile path old new result = LoadsNone path old new result ⊎ ReadsImage (λ p. Says old new (canonical_text p) outcome.Done result)
 
 -- a text was read, and it spells a program with the property P
-abbrev pub Spells : List ℕ → (Program → Type 0) → Type 0
-Spells source P = (p : Program) × (assembled source ≡ Ok p) × P p
+abbrev pub ReadsText : List ℕ → (Program → Type 0) → Type 0
+ReadsText source P = (p : Program) × (assembled source ≡ Ok p) × P p
 
 -- a text that was read is refused, or its image is written to the file at the path
 abbrev pub Assembles : List ℕ → List ℕ → Option (List ℕ) → Option (List ℕ) → Outcome → Type 0
 Assembles source image old new result =
-    RefusesText source old new result ⊎ Spells source (λ p. MakesNone image old new result ⊎ StoresSome p image old new result)
+    RefusesText source old new result ⊎ ReadsText source (λ p. MakesNone image old new result ⊎ StoresSome p image old new result)
 
 -- where the text is refused, what is shown of it is known
 abbrev pub AssemblesFile : List ℕ → List ℕ → Option (List ℕ) → Option (List ℕ) → Ending → Type 0

@@ -8,7 +8,7 @@ use Rattle.serving.specs.declared.endings.Ending.{Ending}
 use Rattle.serving.specs.Statuses.{IsOutputFailureBy, is_silent}
 
 -- nothing waits any more, and nothing has failed
-pub record IsHandedOn {W : Type 0} (out : PromptWriter W) : Type 0 where
+pub record IsFlushed {W : Type 0} (out : PromptWriter W) : Type 0 where
   pub all : waiting out ≡ []
   pub sound : failure_of out ≡ None
 
@@ -22,7 +22,7 @@ pub record TellsFailure {W : Type 0} (out : PromptWriter W) (result : Ending) : 
 -- A task ended so. Then standard output is flushed: its buffer was written in full, and the task
 -- ended as it had; or it failed, then or before, and so the task ended in that failure. If nothing
 -- was written to it, it is left as it is.
-pub record HandsOn {W : Type 0} (contents : W → Option (List ℕ)) (given out : PromptWriter W) (ended result : Ending) : Type 0 where
+pub record Flushes {W : Type 0} (contents : W → Option (List ℕ)) (given out : PromptWriter W) (ended result : Ending) : Type 0 where
   pub kept : Keeps (held contents given) (held contents out)
   pub silent : is_silent ended.outcome ≡ true → (out ≡ given) × (result ≡ ended)
-  pub ends : ((is_silent ended.outcome ≡ false → IsHandedOn out) × (result ≡ ended)) ⊎ TellsFailure out result
+  pub ends : ((is_silent ended.outcome ≡ false → IsFlushed out) × (result ≡ ended)) ⊎ TellsFailure out result

@@ -16,7 +16,7 @@ use Rattle.walks.specs.Refused.{IsRefused}
 use Rattle.walks.specs.declared.refusals.Refusal.TheVariants.{Flow}
 use Rattle.rechecking.specs.declared.errors.TableError.{TableError}
 use Rattle.rechecking.specs.declared.errors.TableError.TheVariants as table
-use Rattle.rechecking.specs.Refusing.{Shows}
+use Rattle.rechecking.specs.Refusing.{ShowsBound}
 use Rattle.rechecking.specs.Refusing as rechecking
 use Rattle.assembler.specs.declared.errors.AsmErrorKind.TheVariants as text
 use Rattle.assembler.specs.declared.errors.AsmError.{AsmError}
@@ -72,7 +72,7 @@ Verifies p old new result = AcceptsSome p old new result ⊎ RefusesProgram p ol
 -- this number first, and so every run exits within it.
 pub record IsBoundShown (p : Program) (bytes : List ℕ) (bound : ℕ) : Type 0 where
   pub verified : IsVerified (record { program = p; bound = bound })
-  pub shows : Shows p bytes bound
+  pub shows : ShowsBound p bytes bound
 
 -- standard output says that a table is refused; the place of an entry whose step was tested may be
 -- known. Or memory ran out
@@ -91,7 +91,7 @@ SaysOfTable p error old new result =
 -- a table is refused, and standard output says why and where; or memory ran out
 abbrev pub RefusesTable : Program → List ℕ → Option (List ℕ) → Option (List ℕ) → Outcome → Type 0
 RefusesTable p bytes old new result =
-    LacksMemory old new result ⊎ ((error : TableError) × rechecking.IsRefused p bytes error × SaysOfTable p error old new result)
+    LacksMemory old new result ⊎ ((error : TableError) × rechecking.TableIsRefused p bytes error × SaysOfTable p error old new result)
 
 -- ---- texts
 
@@ -107,7 +107,7 @@ abbrev pub IsStoreFailure : List ℕ → Outcome → Type 0
 IsStoreFailure name result = (result ≡ NoMemory) ⊎ IsWriteFailure name result
 
 -- an image was written, and then standard output says the line; or a beginning of it, and standard output got nothing
-abbrev pub Stores : Program → List ℕ → List ℕ → Option (List ℕ) → Option (List ℕ) → Option (List ℕ) → Option (List ℕ) → Outcome → Type 0
-Stores p line name before after old new result =
+abbrev pub StoresImage : Program → List ℕ → List ℕ → Option (List ℕ) → Option (List ℕ) → Option (List ℕ) → Option (List ℕ) → Outcome → Type 0
+StoresImage p line name before after old new result =
     (Appends before after (image_bytes p) × Says old new line Done result)
     ⊎ (AppendsBeginning before after (image_bytes p) × IsStoreFailure name result × (new ≡ old))

@@ -47,8 +47,8 @@ IsBeginningOf got bytes = (lost : List ℕ) × Keeps bytes (append_known got los
 
 -- How a task ends by how its run did, which handed these frames out on for the file with this name. The file got all of
 -- them; or it got a beginning, and then it failed, or something had failed before.
-abbrev pub Ends : List ℕ → Option ErrorKind → Form → Result Tally HostError → Option (List ℕ) → Option (List ℕ) → Outcome → Type 0
-Ends name cause form ended handed got result =
+abbrev pub EndsTask : List ℕ → Option ErrorKind → Form → Result Tally HostError → Option (List ℕ) → Option (List ℕ) → Outcome → Type 0
+EndsTask name cause form ended handed got result =
     (Keeps handed got × EndsBy name cause form ended result) ⊎ (IsBeginningOf got handed × FailsBy name cause form ended result)
 
 -- that were found, which are those that the source's bytes spell, where it tells them. If the file
@@ -57,7 +57,7 @@ Ends name cause form ended handed got result =
 pub record Traces (p : Program) (limit : ℕ) (source : Option (List ℕ)) (form : Form) (name : List ℕ) (cause : Option ErrorKind) (old new : Outputs) (result : Ending) : Type 0 where
   pub ended : Result Traced HostError
   pub handed : Option (List ℕ)
-  pub ends : Ends name cause form (tallied ended) handed new.frames result.outcome
+  pub ends : EndsTask name cause form (tallied ended) handed new.frames result.outcome
   pub report_untouched : ended ≡ Err failure.Memory → new.report ≡ old.report
   pub frames_untouched : ended ≡ Err failure.Memory → handed ≡ old.frames
   pub lines : Option (String Global)
@@ -71,7 +71,7 @@ pub record Traces (p : Program) (limit : ℕ) (source : Option (List ℕ)) (form
 pub record RunsAccepted (v : Bounded) (source : Option (List ℕ)) (form : Form) (name : List ℕ) (cause : Option ErrorKind) (old new : Outputs) (result : Outcome) : Type 0 where
   pub ended : Result Tally HostError
   pub handed : Option (List ℕ)
-  pub ends : Ends name cause form ended handed new.frames result
+  pub ends : EndsTask name cause form ended handed new.frames result
   pub report_untouched : ended ≡ Err failure.Memory → new.report ≡ old.report
   pub frames_untouched : ended ≡ Err failure.Memory → handed ≡ old.frames
   pub reports : ended ≢ Err failure.Memory → ReportsRun v source old (record { report = new.report; frames = handed }) ended

@@ -6,7 +6,7 @@ ghost use Rattle.exact_io.specs.Transfers.{AppendsBeginning};
 ghost use Rattle.serving.specs.Statuses.{status_of, is_unsaid};
 ghost use Rattle.serving.specs.Saying.{AppendsPart};
 ghost use Rattle.serving.specs.Known.{IsKnown, IsKnownOfText, told_of};
-ghost use Rattle.serving.specs.HandingOn.{HandsOn};
+ghost use Rattle.serving.specs.HandingOn.{Flushes};
 
 use super::outcomes::{Outcome, STANDARD_OUTPUT};
 use super::rejections::Rejection;
@@ -70,7 +70,7 @@ impl<'a> Ending<'a> {
     /// in that failure: it says why standard output failed, also if it had failed before. If
     /// nothing was written to standard output, it is left as it is.
     pub fn flushed<W: Write + Drop>(self, out: &mut PromptWriter<W>) -> Self
-        ensures { HandsOn W.contents out.old out.new self.entry result }
+        ensures { Flushes W.contents out.old out.new self.entry result }
     {
         if self.outcome.is_silent() {
             return self;

@@ -2,7 +2,7 @@
 
 ghost use Rattle.std.specs.Prelude.{◌≡◌, IfOk, IfErr, OnOk};
 ghost use Rattle.bounds.specs.Bounds.{IsVerified};
-ghost use Rattle.rechecking.specs.Refusing.{Shows};
+ghost use Rattle.rechecking.specs.Refusing.{ShowsBound};
 ghost use Rattle.serving.specs.Judging.{SaysTable, SaysOfTable, RefusesTable};
 ghost use Rattle.serving.specs.Known.{IsKnownOfTable, place_found, why_found, with_refusal};
 
@@ -83,7 +83,7 @@ pub fn shown<'a, W: Write>(
     ensures ok { OnOk result (W.contents out.new ≡ W.contents out.old) }
     ensures program { IfOk result (λ verified. verified.program ≡ image) }
     ensures verified { IfOk result IsVerified }
-    ensures shows { IfOk result (λ verified. Shows image bytes.now verified.bound) }
+    ensures shows { IfOk result (λ verified. ShowsBound image bytes.now verified.bound) }
     ensures refused { IfErr result (λ ended. RefusesTable image bytes.now
         (W.contents out.old) (W.contents out.new) ended.outcome) }
     ensures known { IfErr result (IsKnownOfTable image bytes.now) }

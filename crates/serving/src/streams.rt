@@ -1,7 +1,7 @@
 //! Runs over streams, and images that are written.
 
-ghost use Rattle.serving.specs.Judging.{Stores};
-ghost use Rattle.serving.specs.Streams.{Ends, Traces, RunsAccepted};
+ghost use Rattle.serving.specs.Judging.{StoresImage};
+ghost use Rattle.serving.specs.Streams.{EndsTask, Traces, RunsAccepted};
 ghost use Rattle.buffered_io.specs.Waiting.{behind, failure_of, held};
 
 use super::endings::Ending;
@@ -26,7 +26,7 @@ fn outcome_of<'a, W: Write + Drop>(
     ended: Result<Tally, HostError>,
     file: &mut PromptWriter<W>,
 ) -> Outcome<'a>
-    ensures { Ends path.now (failure_of file.new) form ended
+    ensures { EndsTask path.now (failure_of file.new) form ended
         (held W.contents file.old) (W.contents (behind file.new)) result }
 {
     match ended {
@@ -100,7 +100,7 @@ pub fn store_image<'a, W1: Write, W2: Write>(
     out: &mut W1,
     file: &mut W2,
 ) -> Outcome<'a>
-    ensures { Stores image.now line.now path.now (W2.contents file.old) (W2.contents file.new)
+    ensures { StoresImage image.now line.now path.now (W2.contents file.old) (W2.contents file.new)
         (W1.contents out.old) (W1.contents out.new) result }
 {
     match image.write(file) {

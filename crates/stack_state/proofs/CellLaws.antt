@@ -29,7 +29,7 @@ use Rattle.reg_state.specs.Kinds.{Assigned, Allows, AllowsOrNull}
 use Rattle.stack_state.specs.declared.slots.Slot.{Slot}
 use Rattle.stack_state.specs.declared.slots.Slot.TheVariants.{Written, Spilled}
 use Rattle.stack_state.specs.Slots.{marks_of, mask_of}
-use Rattle.stack_state.specs.StackMeaning.{part_of, chunk_of, written, stored, Marked, SlotMeans}
+use Rattle.stack_state.specs.StackMeaning.{part_of, chunk_of, written, stored_cells, Marked, SlotMeans}
 use Rattle.stack_state.proofs.SpliceLaws.{chunk_kept, chunk_written}
 
 -- ---- bytes
@@ -150,20 +150,20 @@ marked_after marks at cells bytes inside fits h = λ i within bit.
     ]
 
 -- the bytes of a spilled number are number bytes
-pub marked_number : (n : ℕ) (cs : List Cell) → cs ≡ stored (Num n) → Marked 255 cs
+pub marked_number : (n : ℕ) (cs : List Cell) → cs ≡ stored_cells (Num n) → Marked 255 cs
 marked_number n cs same = λ i within bit.
     subst (λ (c : List Cell). is_byte (slice_index_or c i Unwritten) ≡ true) (sym same) (written_byte (bytes_of U64 n) i within)
 
 -- the marks of any slot are of number bytes
 pub marked_slot : (e : Assigned) (s : Slot) (cs : List Cell) → SlotMeans e s cs → Marked (marks_of s) cs
 marked_slot e (Written marks) cs h = h
-marked_slot e (Spilled (Number numbers)) cs h = marked_number h.1.0 cs (h.2 ∙ ap stored h.1.1)
+marked_slot e (Spilled (Number numbers)) cs h = marked_number h.1.0 cs (h.2 ∙ ap stored_cells h.1.1)
 marked_slot e (Spilled k) cs h = no_marks cs
 
 -- ---- values
 
-pub number_of-stored : (n : ℕ) → n < 2 ^ 64 → number_of (stored (Num n)) ≡ n
-number_of-stored n h = ap number_from (map-byte_in-Byte (bytes_of U64 n)) ∙ from_le_bytes-to_le_bytes_8 n h
+pub number_of-stored_cells : (n : ℕ) → n < 2 ^ 64 → number_of (stored_cells (Num n)) ≡ n
+number_of-stored_cells n h = ap number_from (map-byte_in-Byte (bytes_of U64 n)) ∙ from_le_bytes-to_le_bytes_8 n h
 
 -- the bytes of a number from the next one on are those of the rest
 bytes_next : (i k n : ℕ) → bytes_low_first (suc i) k n ≡ bytes_low_first i k (n / 256)
@@ -200,7 +200,7 @@ low_bytes U64 n fits = from_le_bytes-to_le_bytes_8 n fits ∙ sym (mod-eq_of_lt 
 
 -- what some of its bytes spell
 pub number_of-part : (n from : ℕ) (size : Size) → n < 2 ^ 64 → from + size_bytes size ≤ 8
-    → number_of (part_of (stored (Num n)) from (size_bytes size)) ≡ n / 2 ^ (8 * from) % 2 ^ (8 * size_bytes size)
+    → number_of (part_of (stored_cells (Num n)) from (size_bytes size)) ≡ n / 2 ^ (8 * from) % 2 ^ (8 * size_bytes size)
 number_of-part n from size fits inside =
     let count = size_bytes size in
     let rest = n / 2 ^ (8 * from) in
@@ -210,7 +210,7 @@ number_of-part n from size fits inside =
     ap number_of (take-drop-Byte (bytes_of U64 n) from count) ∙ ap number_from (map-byte_in-Byte (take count (drop from (bytes_of U64 n))) ∙ bytes)
     ∙ low_bytes size rest small
 
-value_in-number : (n : ℕ) → n < 2 ^ 64 → value_in (stored (Num n)) ≡ Ok (Num n)
+value_in-number : (n : ℕ) → n < 2 ^ 64 → value_in (stored_cells (Num n)) ≡ Ok (Num n)
 value_in-number n h = value_in-Byte (bytes_of U64 n) ∙ ap (λ (m : ℕ). Ok (Num m)) (from_le_bytes-to_le_bytes_8 n h)
 
 same_region-refl : (r : Region) → same_region r r ≡ true
@@ -228,18 +228,18 @@ same_int-refl (negsuc n) = grind (arith, nat_tests)
 value_in-pointer : (r : Region) (z : ℤ) → value_in (pieces r z) ≡ Ok (Ptr r z)
 value_in-pointer r z = let e = same_region-refl r in let f = same_int-refl z in rw (e, f)
 
-pointer_stored : (v : Value) (r : Region) (z : ℤ) → v ≡ Ptr r z → value_in (stored v) ≡ Ok v
-pointer_stored v r z e = subst (λ (x : Value). value_in (stored x) ≡ Ok x) (sym e) (value_in-pointer r z)
+pointer_stored : (v : Value) (r : Region) (z : ℤ) → v ≡ Ptr r z → value_in (stored_cells v) ≡ Ok v
+pointer_stored v r z e = subst (λ (x : Value). value_in (stored_cells x) ≡ Ok x) (sym e) (value_in-pointer r z)
 
-number_stored : (v : Value) (n : ℕ) → v ≡ Num n → n < 2 ^ 64 → value_in (stored v) ≡ Ok v
-number_stored v n e h = subst (λ (x : Value). value_in (stored x) ≡ Ok x) (sym e) (value_in-number n h)
+number_stored : (v : Value) (n : ℕ) → v ≡ Num n → n < 2 ^ 64 → value_in (stored_cells v) ≡ Ok v
+number_stored v n e h = subst (λ (x : Value). value_in (stored_cells x) ≡ Ok x) (sym e) (value_in-number n h)
 
-null_stored : (e : Assigned) (m : ℕ) (o : Option ℕ) (v : Value) → AllowsOrNull e m o v → value_in (stored v) ≡ Ok v
+null_stored : (e : Assigned) (m : ℕ) (o : Option ℕ) (v : Value) → AllowsOrNull e m o v → value_in (stored_cells v) ≡ Ok v
 null_stored e m None v h = number_stored v 0 h (omega arith)
 null_stored e m (Some n) v h = pointer_stored v (region.MapValue m n) (pos 0) h.0
 
 -- a load of what was stored answers the very value
-pub value_stored : (e : Assigned) (k : Kind) (v : Value) → k ≢ Unset → Allows e k v → value_in (stored v) ≡ Ok v
+pub value_stored : (e : Assigned) (k : Kind) (v : Value) → k ≢ Unset → Allows e k v → value_in (stored_cells v) ≡ Ok v
 value_stored e Unset v set h = absurd (set refl)
 value_stored e (Number numbers) v set h = number_stored v h.0 h.1 h.2.0.below
 value_stored e Context v set h = pointer_stored v _ _ h
@@ -251,7 +251,7 @@ value_stored e (MapValue m l g) v set h = pointer_stored v _ _ h.points
 value_stored e (MapValueOrNull m i) v set h = null_stored e m (e.value i) v h
 
 -- a value is stored in eight cells
-pub length-stored : (v : Value) → v ≢ value.Unset → length (stored v) ≡ 8
-length-stored value.Unset set = absurd (set refl)
-length-stored (Num n) set = refl
-length-stored (Ptr r z) set = refl
+pub length-stored_cells : (v : Value) → v ≢ value.Unset → length (stored_cells v) ≡ 8
+length-stored_cells value.Unset set = absurd (set refl)
+length-stored_cells (Num n) set = refl
+length-stored_cells (Ptr r z) set = refl

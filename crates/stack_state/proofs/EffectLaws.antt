@@ -35,7 +35,7 @@ use Rattle.stack_state.specs.declared.states.State.{State}
 use Rattle.stack_state.specs.Meaning.{frames_of, no_frame, frame_of, kind_at, kinds_of, slots_of, depth, registers_of, IsOf, MeansBy}
 use Rattle.stack_state.proofs.MeaningLaws.{length-frames_of, frame_of-innermost, depth_is_length, FrameKeeps, MeansBy-onto}
 use Rattle.stack_state.specs.Slots.{slot_at, kind_in, forgotten_slot}
-use Rattle.stack_state.specs.StackMeaning.{SlotMeans, StackMeans, Stores, Spills, Loads, Fills, KeepsOthers, with_maps}
+use Rattle.stack_state.specs.StackMeaning.{SlotMeans, StackMeans, StoresBytes, Spills, LoadsNumber, LoadsSlot, KeepsOthers, with_maps}
 use Rattle.stack_state.proofs.StackLaws.{SlotMeans-spilled}
 use Rattle.stack_state.proofs.FillLaws.{SlotMeans-forgotten}
 use Rattle.stack_state.proofs.FrameLaws.{IsHere, with_cells, loads_here, fills_here, stores_here, spills_here}
@@ -163,7 +163,7 @@ IfLeft p e b went = (t : Machine.State) × (went ≡ Ok t) × (IsState p t → M
 
 -- bytes of a number are stored
 pub MeansBy-stores : (p : Program) (e : Assigned) (a : State) (s : Machine.State) (new : List Slot) (size : Size) (serial j at n : ℕ) (z by : ℤ)
-    → j < depth a → IsHere s serial j at (size_bytes size) z by → Stores (slots_of a j) at size new → MeansBy p e a s
+    → j < depth a → IsHere s serial j at (size_bytes size) z by → StoresBytes (slots_of a j) at size new → MeansBy p e a s
     → IfLeft p e (with_frame_slots a j new) (store s size (Ptr (region.Frame serial) z) by (Num n))
 MeansBy-stores p e a s new size serial j at n z by inside here stores m =
     let (cells, went, stack) = stores_here e s (slots_of a j) new size serial j at n z by here (m.stacks j inside) stores in
@@ -188,14 +188,14 @@ cells_fit p e a s j inside m =
 
 -- bytes are loaded: their number is one of those that `load` answers
 pub MeansBy-loads : (p : Program) (e : Assigned) (a : State) (s : Machine.State) (size : Size) (serial j at : ℕ) (z by : ℤ) (numbers : Scalar)
-    → j < depth a → IsHere s serial j at (size_bytes size) z by → Loads (slots_of a j) at size (Some numbers) → MeansBy p e a s
+    → j < depth a → IsHere s serial j at (size_bytes size) z by → LoadsNumber (slots_of a j) at size (Some numbers) → MeansBy p e a s
     → (n : ℕ) × (load_number s size (Ptr (region.Frame serial) z) by ≡ Ok n) × Has numbers n
 MeansBy-loads p e a s size serial j at z by numbers inside here loads m =
     loads_here e s (slots_of a j) size serial j at (length p.maps) s.next_serial z by numbers here (cells_fit p e a s j inside m) (m.stacks j inside) loads
 
 -- a slot is read back: its value is one that the kind allows
 pub MeansBy-fills : (p : Program) (e : Assigned) (a : State) (s : Machine.State) (serial j k : ℕ) (z by : ℤ) (kind : Kind)
-    → j < depth a → IsHere s serial j (8 * k) 8 z by → Fills (slots_of a j) k (Some kind) → MeansBy p e a s
+    → j < depth a → IsHere s serial j (8 * k) 8 z by → LoadsSlot (slots_of a j) k (Some kind) → MeansBy p e a s
     → (v : Value) × (load s U64 (Ptr (region.Frame serial) z) by ≡ Ok v) × Allows e kind v
 MeansBy-fills p e a s serial j k z by kind inside here fills m =
     fills_here e s (slots_of a j) serial j k (length p.maps) s.next_serial z by kind here (cells_fit p e a s j inside m) (m.stacks j inside) fills

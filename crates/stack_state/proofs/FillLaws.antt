@@ -16,7 +16,7 @@ use Rattle.reg_state.specs.Kinds.{Assigned, Allows, AllowsOrNull}
 use Rattle.stack_state.specs.declared.slots.Slot.{Slot}
 use Rattle.stack_state.specs.declared.slots.Slot.TheVariants.{Written, Spilled}
 use Rattle.stack_state.specs.Slots.{slot_at, IsAnyNumber, IsWrittenFill, IsFill, spilled_kind, forgotten_slot, forgotten, frame_slots}
-use Rattle.stack_state.specs.StackMeaning.{chunk_of, Marked, SlotMeans, Fills, KeepsOthers, with_maps, Forgets}
+use Rattle.stack_state.specs.StackMeaning.{chunk_of, Marked, SlotMeans, LoadsSlot, KeepsOthers, with_maps, ForgetsMap}
 use Rattle.stack_state.proofs.SpliceLaws.{length-chunk}
 use Rattle.stack_state.proofs.CellLaws.{all_bytes, value_in-bytes, no_marks, value_stored}
 use Rattle.stack_state.proofs.StackLaws.{StackMeans-map, part_below}
@@ -28,8 +28,8 @@ any_number e (Number numbers) n below any = (n, refl, any n below)
 any_number e k n below any = absurd any
 
 fills_written : (slots : List Slot) (k marks : ℕ) (answer : Option Kind) → k < frame_slots → slot_at slots k ≡ Written marks
-    → IsWrittenFill marks answer → Fills slots k answer
-unfolding Fills
+    → IsWrittenFill marks answer → LoadsSlot slots k answer
+unfolding LoadsSlot
 fills_written slots k marks None within here is = tt
 fills_written slots k marks (Some kind) within here is = λ e rows next cells fit m.
     let wide : length cells ≡ frame_size = m.size in
@@ -40,14 +40,14 @@ fills_written slots k marks (Some kind) within here is = λ e rows next cells fi
     let below : number_of (chunk_of k cells) < 2 ^ 64 = part_below U64 rows next cells (8 * k) (omega arith) fit in
     (Num (number_of (chunk_of k cells)), value_in-bytes (chunk_of k cells) all, any_number e kind _ below is.1)
 
-fills_spilled : (slots : List Slot) (k : ℕ) (kind : Kind) → k < frame_slots → kind ≢ Unset → slot_at slots k ≡ Spilled kind → Fills slots k (Some kind)
-unfolding Fills
+fills_spilled : (slots : List Slot) (k : ℕ) (kind : Kind) → k < frame_slots → kind ≢ Unset → slot_at slots k ≡ Spilled kind → LoadsSlot slots k (Some kind)
+unfolding LoadsSlot
 fills_spilled slots k kind within set here = λ e rows next cells fit m.
     let h : SlotMeans e (Spilled kind) (chunk_of k cells) = subst (λ (s : Slot). SlotMeans e s (chunk_of k cells)) here (m.each k within) in
     (h.0, ap value_in h.2 ∙ value_stored e kind h.0 set h.1, h.1)
 
-fills_kind : (slots : List Slot) (k : ℕ) (kind : Kind) → k < frame_slots → slot_at slots k ≡ Spilled kind → Fills slots k (spilled_kind kind)
-unfolding Fills
+fills_kind : (slots : List Slot) (k : ℕ) (kind : Kind) → k < frame_slots → slot_at slots k ≡ Spilled kind → LoadsSlot slots k (spilled_kind kind)
+unfolding LoadsSlot
 fills_kind slots k Unset within here = tt
 fills_kind slots k (Number numbers) within here = fills_spilled slots k (Number numbers) within (λ e. cc e) here
 fills_kind slots k Context within here = fills_spilled slots k Context within (λ e. cc e) here
@@ -58,12 +58,12 @@ fills_kind slots k (Map m) within here = fills_spilled slots k (Map m) within (�
 fills_kind slots k (MapValue m l g) within here = fills_spilled slots k (MapValue m l g) within (λ e. cc e) here
 fills_kind slots k (MapValueOrNull m i) within here = fills_spilled slots k (MapValueOrNull m i) within (λ e. cc e) here
 
-fills_slot : (slots : List Slot) (k : ℕ) (s : Slot) (answer : Option Kind) → k < frame_slots → slot_at slots k ≡ s → IsFill s answer → Fills slots k answer
+fills_slot : (slots : List Slot) (k : ℕ) (s : Slot) (answer : Option Kind) → k < frame_slots → slot_at slots k ≡ s → IsFill s answer → LoadsSlot slots k answer
 fills_slot slots k (Written marks) answer within here is = fills_written slots k marks answer within here is
 fills_slot slots k (Spilled kind) answer within here is =
-    subst (λ (o : Option Kind). Fills slots k o) (sym is) (fills_kind slots k kind within here)
+    subst (λ (o : Option Kind). LoadsSlot slots k o) (sym is) (fills_kind slots k kind within here)
 
-pub fills : (slots : List Slot) (k : ℕ) (answer : Option Kind) → k < frame_slots → IsFill (slot_at slots k) answer → Fills slots k answer
+pub fills : (slots : List Slot) (k : ℕ) (answer : Option Kind) → k < frame_slots → IsFill (slot_at slots k) answer → LoadsSlot slots k answer
 fills slots k answer within is = fills_slot slots k (slot_at slots k) answer within refl is
 
 -- ---- forgotten
@@ -102,8 +102,8 @@ SlotMeans-forgotten e maps m (Spilled (Packet f i l g p)) cs keeps h =
     let x = h.1 in (h.0, record { points = x.points; from = x.from; to = x.to; inside = x.inside }, h.2)
 SlotMeans-forgotten e maps m (Spilled k) cs keeps h = h
 
-pub forgets : (slots : List Slot) (m : ℕ) → length slots ≡ frame_slots → Forgets m slots (forgotten m slots)
-unfolding Forgets
+pub forgets : (slots : List Slot) (m : ℕ) → length slots ≡ frame_slots → ForgetsMap m slots (forgotten m slots)
+unfolding ForgetsMap
 forgets slots m count = λ e maps cells keeps means.
     StackMeans-map (forgotten_slot m) e (with_maps e maps) slots cells count
     (λ s cs. SlotMeans-forgotten e maps m s cs keeps) means

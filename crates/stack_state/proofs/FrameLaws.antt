@@ -23,7 +23,7 @@ use Rattle.reg_state.specs.declared.kinds.Kind.{Kind}
 use Rattle.reg_state.specs.Scalars.{Has}
 use Rattle.reg_state.specs.Kinds.{Assigned, Allows}
 use Rattle.stack_state.specs.declared.slots.Slot.{Slot}
-use Rattle.stack_state.specs.StackMeaning.{part_of, written, stored, StackMeans, Stores, Spills, Loads, Fills}
+use Rattle.stack_state.specs.StackMeaning.{part_of, written, stored_cells, StackMeans, StoresBytes, Spills, LoadsNumber, LoadsSlot}
 use Rattle.stack_state.proofs.CellLaws.{length-bytes_of}
 
 -- a pointer into the frame of serial n, which is the jth, moved by an instruction's offset: n cells from `at` on are there
@@ -64,9 +64,9 @@ load_here s serial j at z by h = rw (read_here s serial j at 8 z by h)
 -- where `load` answers numbers, the load of the bytes answers one of them
 pub loads_here : (e : Assigned) (s : State) (slots : List Slot) (size : Size) (serial j at rows next : ℕ) (z by : ℤ) (numbers : Scalar)
     → IsHere s serial j at (size_bytes size) z by → All (IsCell rows next) (frame_at s.frames j).cells
-    → StackMeans e slots (frame_at s.frames j).cells → Loads slots at size (Some numbers)
+    → StackMeans e slots (frame_at s.frames j).cells → LoadsNumber slots at size (Some numbers)
     → (n : ℕ) × (load_number s size (Ptr (region.Frame serial) z) by ≡ Ok n) × Has numbers n
-unfolding Loads
+unfolding LoadsNumber
 loads_here e s slots size serial j at rows next z by numbers h fit m l =
     let (n, read, has) = l e rows next (frame_at s.frames j).cells fit m in
     (n, load_number_here s size serial j at z by h ∙ read, has)
@@ -74,9 +74,9 @@ loads_here e s slots size serial j at rows next z by numbers h fit m l =
 -- where `fill` answers a kind, the load of the whole slot answers a value that it allows
 pub fills_here : (e : Assigned) (s : State) (slots : List Slot) (serial j k rows next : ℕ) (z by : ℤ) (kind : Kind)
     → IsHere s serial j (8 * k) 8 z by → All (IsCell rows next) (frame_at s.frames j).cells
-    → StackMeans e slots (frame_at s.frames j).cells → Fills slots k (Some kind)
+    → StackMeans e slots (frame_at s.frames j).cells → LoadsSlot slots k (Some kind)
     → (v : Value) × (load s U64 (Ptr (region.Frame serial) z) by ≡ Ok v) × Allows e kind v
-unfolding Fills
+unfolding LoadsSlot
 fills_here e s slots serial j k rows next z by kind h fit m f =
     let (v, read, allowed) = f e rows next (frame_at s.frames j).cells fit m in
     (v, load_here s serial j (8 * k) z by h ∙ read, allowed)
@@ -84,13 +84,13 @@ fills_here e s slots serial j k rows next z by kind h fit m f =
 -- ---- stores
 
 -- the state that is left, and what the frame's slots then mean
-abbrev pub Leaves : State → ℕ → Assigned → List Slot → Result State TrapReason → Type 0
-Leaves s j e slots went = (cells : List Cell) × (went ≡ Ok (with_cells s j cells)) × StackMeans e slots cells
+abbrev pub LeavesFrame : State → ℕ → Assigned → List Slot → Result State TrapReason → Type 0
+LeavesFrame s j e slots went = (cells : List Cell) × (went ≡ Ok (with_cells s j cells)) × StackMeans e slots cells
 
 pub stores_here : (e : Assigned) (s : State) (old new : List Slot) (size : Size) (serial j at n : ℕ) (z by : ℤ)
-    → IsHere s serial j at (size_bytes size) z by → StackMeans e old (frame_at s.frames j).cells → Stores old at size new
-    → Leaves s j e new (store s size (Ptr (region.Frame serial) z) by (Num n))
-unfolding Stores
+    → IsHere s serial j at (size_bytes size) z by → StackMeans e old (frame_at s.frames j).cells → StoresBytes old at size new
+    → LeavesFrame s j e new (store s size (Ptr (region.Frame serial) z) by (Num n))
+unfolding StoresBytes
 stores_here e s old new size serial j at n z by h m stores =
     let bytes : List Cell = map Byte (bytes_of size n) in
     let long : length bytes ≡ size_bytes size = length-map (bytes_of size n) Byte ∙ length-bytes_of size n in
@@ -99,10 +99,10 @@ stores_here e s old new size serial j at n z by h m stores =
 
 pub spills_here : (e : Assigned) (s : State) (old new : List Slot) (serial j k : ℕ) (z by : ℤ) (kind : Kind) (v : Value)
     → IsHere s serial j (8 * k) 8 z by → v ≢ value.Unset → Allows e kind v → StackMeans e old (frame_at s.frames j).cells
-    → Spills old k kind new → Leaves s j e new (store s U64 (Ptr (region.Frame serial) z) by v)
+    → Spills old k kind new → LeavesFrame s j e new (store s U64 (Ptr (region.Frame serial) z) by v)
 unfolding Spills
 spills_here e s old new serial j k z by kind value.Unset h set allowed m spills = absurd (set refl)
 spills_here e s old new serial j k z by kind (Num n) h set allowed m spills =
-    (written (frame_at s.frames j).cells (8 * k) (stored (Num n)), write_here s serial j (8 * k) z by (stored (Num n)) h, spills e (frame_at s.frames j).cells (Num n) set allowed m)
+    (written (frame_at s.frames j).cells (8 * k) (stored_cells (Num n)), write_here s serial j (8 * k) z by (stored_cells (Num n)) h, spills e (frame_at s.frames j).cells (Num n) set allowed m)
 spills_here e s old new serial j k z by kind (Ptr r y) h set allowed m spills =
-    (written (frame_at s.frames j).cells (8 * k) (stored (Ptr r y)), write_here s serial j (8 * k) z by (stored (Ptr r y)) h, spills e (frame_at s.frames j).cells (Ptr r y) set allowed m)
+    (written (frame_at s.frames j).cells (8 * k) (stored_cells (Ptr r y)), write_here s serial j (8 * k) z by (stored_cells (Ptr r y)) h, spills e (frame_at s.frames j).cells (Ptr r y) set allowed m)

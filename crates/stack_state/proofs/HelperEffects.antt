@@ -20,7 +20,7 @@ use Rattle.isa_model.proofs.SerialLaws.{HasOneMore}
 use Rattle.isa_model.proofs.ContentLaws.{is_sorted-entries_of, at_key-value_serials, value_serials-with_key, HasOneMore-with_key}
 use Rattle.reg_state.specs.declared.kinds.Kind.{Kind}
 use Rattle.reg_state.specs.declared.kinds.Kind.TheVariants.{MapValueOrNull}
-use Rattle.reg_state.specs.Kinds.{Assigned, Allows, AllowsOrNull, IsLive}
+use Rattle.reg_state.specs.Kinds.{Assigned, Allows, AllowsOrNull, HasLiveValue}
 use Rattle.reg_state.proofs.KindLaws.{with_value}
 use Rattle.stack_state.specs.declared.states.State.{State}
 use Rattle.stack_state.specs.Meaning.{frames_of, frame_of, kind_at, slots_of, depth, registers_of, MeansBy}
@@ -104,9 +104,9 @@ serial_of (Some stored) = Some stored.serial
 serial_of None = None
 
 -- a key's value is live
-pub IsLive-at_key : (maps : List Content) (m : ℕ) (key : List ℕ) (stored : Stored) → at_key key (slice_index_or maps m []) ≡ Some stored
-    → IsLive maps m stored.serial
-IsLive-at_key maps m key stored found =
+pub HasLiveValue-at_key : (maps : List Content) (m : ℕ) (key : List ℕ) (stored : Stored) → at_key key (slice_index_or maps m []) ≡ Some stored
+    → HasLiveValue maps m stored.serial
+HasLiveValue-at_key maps m key stored found =
     let content : Content = slice_index_or maps m [] in
     at_key-value_serials (Contains (value_serials content)) key stored content found (All-contains_itself (value_serials content))
 
@@ -127,11 +127,11 @@ MeansBy-looked_up p e a s m i key fresh means = by (at_key key (content_of s m))
     by (Some stored) found =
         let f : Assigned = with_value e i (Some stored.serial) in
         let v : Value = pointer_or_zero m (Some stored) in
-        let live : IsLive s.maps m stored.serial = IsLive-at_key s.maps m key stored found in (
+        let live : HasLiveValue s.maps m stored.serial = HasLiveValue-at_key s.maps m key stored found in (
           f,
           MeansBy-fresh_null p e a s i (Some stored.serial) fresh means,
           subst (λ n. AllowsOrNull f m n v) (sym (found_here e i (Some stored.serial)))
-              (refl, subst (λ maps. IsLive maps m stored.serial) (sym means.assigned.contents) live),
+              (refl, subst (λ maps. HasLiveValue maps m stored.serial) (sym means.assigned.contents) live),
         )
 
 -- ---- keys put
@@ -153,8 +153,8 @@ KeepsLive-set maps m content stays j n live = elim (cases_eq j m) [
   | inr other ↦ subst (λ c. Contains (value_serials c) n) (sym (get_or-set_other maps m j content [] other)) live
   | inl same ↦ elim (cases_lt m (length maps)) [
     | inl inside ↦
-        let here : IsLive maps m n = subst (λ i. IsLive maps i n) same live in
-        subst (λ i. IsLive (slice_set maps m content) i n) (sym same)
+        let here : HasLiveValue maps m n = subst (λ i. HasLiveValue maps i n) same live in
+        subst (λ i. HasLiveValue (slice_set maps m content) i n) (sym same)
         (subst (λ c. Contains (value_serials c) n) (sym (get_or-set_same maps m content [] inside)) (stays n here))
     | inr past ↦
         let none : slice_index_or maps j [] ≡ [] = get_or_past maps j [] (omega arith) in

@@ -26,7 +26,7 @@ use Rattle.stack_state.specs.NumberStores.{StoresNumber}
 use Rattle.stack_state.specs.Effects.{with_frame_slots}
 use Rattle.stack_state.proofs.MeaningLaws.{depth_is_length}
 use Rattle.stack_state.proofs.CellLaws.{length-bytes_of}
-use Rattle.stack_state.proofs.FrameLaws.{IsHere, with_cells, Leaves}
+use Rattle.stack_state.proofs.FrameLaws.{IsHere, with_cells, LeavesFrame}
 use Rattle.stack_state.proofs.EffectLaws.{IfLeft, MeansBy-cells}
 
 write_there : (s : Machine.State) (serial j at : ℕ) (z by : ℤ) (new : List Cell) → IsHere s serial j at (length new) z by
@@ -40,7 +40,7 @@ write_there s serial j at z by new h =
 stores_number_here : (e : Assigned) (s : Machine.State) (old new : List Slot) (size : Size) (serial j at n rows next : ℕ) (z by : ℤ) (numbers : Scalar)
     → IsHere s serial j at (size_bytes size) z by → All (IsCell rows next) (frame_at s.frames j).cells → Has numbers n
     → StackMeans e old (frame_at s.frames j).cells → StoresNumber old at size numbers new
-    → Leaves s j e new (store s size (Ptr (region.Frame serial) z) by (Num n))
+    → LeavesFrame s j e new (store s size (Ptr (region.Frame serial) z) by (Num n))
 unfolding StoresNumber
 stores_number_here e s old new size serial j at n rows next z by numbers h fit has m stores =
     let bytes : List Cell = map Byte (bytes_of size n) in

@@ -29,10 +29,10 @@ use Rattle.reg_state.specs.Kinds.{Assigned}
 use Rattle.stack_state.specs.declared.slots.Slot.{Slot}
 use Rattle.stack_state.specs.declared.slots.Slot.TheVariants.{Written, Spilled}
 use Rattle.stack_state.specs.Slots.{slot_at, marks_of, mask_of, frame_slots}
-use Rattle.stack_state.specs.StackMeaning.{chunk_of, written, stored, Marked, SlotMeans}
+use Rattle.stack_state.specs.StackMeaning.{chunk_of, written, stored_cells, Marked, SlotMeans}
 use Rattle.stack_state.specs.NumberStores.{AreWhole, marks_after, IsSpliced, IsSlotStored, StoresNumber}
 use Rattle.stack_state.proofs.SpliceLaws.{chunk_kept, chunk_written, length-chunk, length-written}
-use Rattle.stack_state.proofs.CellLaws.{length-bytes_of, marked_after, marked_slot, number_of-stored, number_of-part}
+use Rattle.stack_state.proofs.CellLaws.{length-bytes_of, marked_after, marked_slot, number_of-stored_cells, number_of-part}
 use Rattle.stack_state.proofs.StackLaws.{slot_changed, SlotMeans-spill}
 
 -- ---- eight bytes
@@ -703,7 +703,7 @@ cells_of_bytes (Piece r z k ∷ cs) h = absurd (let e = h 0 (omega arith) in cc)
 
 -- eight of them are what a store of their number writes
 stored_bytes : (cs : List Cell) → length cs ≡ 8 → EachByte (map byte_in cs)
-    → ((i : ℕ) → i < 8 → is_byte (slice_index_or cs i Unwritten) ≡ true) → cs ≡ stored (Num (number_of cs))
+    → ((i : ℕ) → i < 8 → is_byte (slice_index_or cs i Unwritten) ≡ true) → cs ≡ stored_cells (Num (number_of cs))
 stored_bytes cs long each all =
     let bytes : List ℕ = map byte_in cs in
     let eight : length bytes ≡ 8 = length-map cs byte_in ∙ long in
@@ -775,7 +775,7 @@ spliced_bytes r n bs ys cs long old new h i =
 whole_has : (e : Assigned) (s : Slot) (cs : List Cell) (old : Scalar) → AreWhole s old → SlotMeans e s cs → number_of cs < 2 ^ 64 → Has old (number_of cs)
 whole_has e (Written marks) cs old whole h fits = whole (number_of cs) fits
 whole_has e (Spilled (Number numbers)) cs old whole h fits =
-    let same : number_of cs ≡ h.1.0 = ap number_of (h.2 ∙ ap stored h.1.1) ∙ number_of-stored h.1.0 h.1.2.0.below in
+    let same : number_of cs ≡ h.1.0 = ap number_of (h.2 ∙ ap stored_cells h.1.1) ∙ number_of-stored_cells h.1.0 h.1.2.0.below in
     subst (λ (c : Scalar). Has c (number_of cs)) (sym whole) (subst (Has numbers) (sym same) h.1.2)
 whole_has e (Spilled k) cs old whole h fits = whole (number_of cs) fits
 
@@ -802,7 +802,7 @@ slot_stored e rows next s t cells at n size numbers inside fits eight fit has h 
     let places = chunk_spliced cells at bytes (omega arith) (omega arith) in
     let new_bytes : EachByte (map byte_in new) = spliced_bytes (at % 8) (length bytes) (map byte_in old) bytes (map byte_in new)
     (length-map new byte_in ∙ length-chunk (at / 8) (written cells at (map Byte bytes)) (omega arith)) old_bytes (each_byte_of size n) places in
-    let same : new ≡ stored (Num (number_of new)) = stored_bytes new (length-chunk (at / 8) (written cells at (map Byte bytes)) (omega arith)) new_bytes
+    let same : new ≡ stored_cells (Num (number_of new)) = stored_bytes new (length-chunk (at / 8) (written cells at (map Byte bytes)) (omega arith)) new_bytes
     (λ i below. whole i below (bit_at_ones 8 i below)) in
     let one : Has is.new (number_of new) = subst (Has is.new) (sym number)
     (is.spliced.contains (number_of old) n (whole_has e s old is.old is.whole h (number_of_fits rows next old old_fit)) has) in

@@ -27,9 +27,9 @@ use Rattle.reg_state.specs.Kinds.{Assigned, Allows}
 use Rattle.stack_state.specs.declared.slots.Slot.{Slot}
 use Rattle.stack_state.specs.declared.slots.Slot.TheVariants.{Written, Spilled}
 use Rattle.stack_state.specs.Slots.{slot_at, marks_of, mask_of, AreMarked, after_store, AreNumbers, IsLoad, IsNumberSpill, IsSpill, frame_slots}
-use Rattle.stack_state.specs.StackMeaning.{part_of, chunk_of, written, stored, Marked, SlotMeans, StackMeans, Stores, Spills, Loads, AreBytes}
+use Rattle.stack_state.specs.StackMeaning.{part_of, chunk_of, written, stored_cells, Marked, SlotMeans, StackMeans, StoresBytes, Spills, LoadsNumber, AreNumberBytes}
 use Rattle.stack_state.proofs.SpliceLaws.{length-written, get_or-chunk, chunk_other, chunk_whole, part_of-chunk}
-use Rattle.stack_state.proofs.CellLaws.{all_bytes, number_in-bytes, length-bytes_of, number_from_below, no_marks, marked_after, marked_number, marked_slot, number_of-stored, number_of-part, length-stored}
+use Rattle.stack_state.proofs.CellLaws.{all_bytes, number_in-bytes, length-bytes_of, number_from_below, no_marks, marked_after, marked_number, marked_slot, number_of-stored_cells, number_of-part, length-stored_cells}
 
 -- ---- one slot changed
 
@@ -102,8 +102,8 @@ StackMeans-new e cells wide = record {
 -- ---- writes
 
 pub stores : (slots new : List Slot) (at : ℕ) (size : Size) → length slots ≡ frame_slots → at < frame_size → at % 8 + size_bytes size ≤ 8
-    → new ≡ after_store slots at (size_bytes size) → Stores slots at size new
-unfolding Stores
+    → new ≡ after_store slots at (size_bytes size) → StoresBytes slots at size new
+unfolding StoresBytes
 stores slots new at size count below inside is = λ e cells n m.
     let bytes : List ℕ = bytes_of size n in
     let some : length bytes ≡ size_bytes size = length-bytes_of size n in
@@ -120,13 +120,13 @@ stores slots new at size count below inside is = λ e cells n m.
     subst (λ (l : List Slot). StackMeans e l (written cells at (map Byte bytes))) (ap (after_store slots at) some ∙ sym is) all
 
 number_spill : (e : Assigned) (numbers : Scalar) (s : Slot) (v : Value) (cs : List Cell) → IsNumberSpill numbers s
-    → Allows e (Number numbers) v → cs ≡ stored v → SlotMeans e s cs
+    → Allows e (Number numbers) v → cs ≡ stored_cells v → SlotMeans e s cs
 number_spill e numbers (Written marks) v cs is h same =
-    subst (λ (m : ℕ). Marked m cs) (sym is.0) (marked_number h.0 cs (same ∙ ap stored h.1))
+    subst (λ (m : ℕ). Marked m cs) (sym is.0) (marked_number h.0 cs (same ∙ ap stored_cells h.1))
 number_spill e numbers (Spilled k) v cs is h same = (v, subst (λ (j : Kind). Allows e j v) (sym is.0) h, same)
 
 -- the slot that a spill leaves means what an 8-byte store of the value writes
-pub SlotMeans-spill : (e : Assigned) (k : Kind) (s : Slot) (v : Value) (cs : List Cell) → IsSpill k s → Allows e k v → cs ≡ stored v
+pub SlotMeans-spill : (e : Assigned) (k : Kind) (s : Slot) (v : Value) (cs : List Cell) → IsSpill k s → Allows e k v → cs ≡ stored_cells v
     → SlotMeans e s cs
 SlotMeans-spill e Unset s v cs is h same = subst (λ (t : Slot). SlotMeans e t cs) (sym is) (no_marks cs)
 SlotMeans-spill e (Number numbers) s v cs is h same = number_spill e numbers s v cs is h same
@@ -137,10 +137,10 @@ pub spills : (slots new : List Slot) (k : ℕ) (kind : Kind) → length slots �
 unfolding Spills
 spills slots new k kind count within is others = λ e cells v set allowed m.
     let wide : length cells ≡ frame_size = m.size in
-    let eight : length (stored v) ≡ 8 = length-stored v set in
-    subst (λ (l : List Slot). StackMeans e l (written cells (8 * k) (stored v))) (sym others)
-    (slot_changed e slots cells (stored v) (8 * k) k (slot_at new k) count within (omega arith) (omega arith) m
-    (SlotMeans-spill e kind (slot_at new k) v _ is allowed (chunk_whole cells (stored v) k eight (omega arith))))
+    let eight : length (stored_cells v) ≡ 8 = length-stored_cells v set in
+    subst (λ (l : List Slot). StackMeans e l (written cells (8 * k) (stored_cells v))) (sym others)
+    (slot_changed e slots cells (stored_cells v) (8 * k) k (slot_at new k) count within (omega arith) (omega arith) m
+    (SlotMeans-spill e kind (slot_at new k) v _ is allowed (chunk_whole cells (stored_cells v) k eight (omega arith))))
 
 -- ---- reads
 
@@ -164,8 +164,8 @@ marked_are_bytes e slots cells from n inside marked m =
     ap is_byte (get_or-take n (drop from cells) i Unwritten short ∙ get_or-drop from cells i Unwritten)
     ∙ byte_at e slots cells (from + i) (omega arith) m (marked (from + i) (omega arith) (omega arith)))
 
-pub are_bytes : (slots : List Slot) (from n : ℕ) → from + n ≤ frame_size → AreMarked slots from (from + n) → AreBytes slots from n
-unfolding AreBytes
+pub are_bytes : (slots : List Slot) (from n : ℕ) → from + n ≤ frame_size → AreMarked slots from (from + n) → AreNumberBytes slots from n
+unfolding AreNumberBytes
 are_bytes slots from n inside marked = λ e cells m.
     let all = marked_are_bytes e slots cells from n inside marked m in
     (all, number_in-bytes (part_of cells from n) all)
@@ -185,7 +185,7 @@ part_below size rows next cells at inside fit =
 whole_number : (e : Assigned) (numbers : Scalar) (cs : List Cell) → SlotMeans e (Spilled (Number numbers)) cs → Has numbers (number_of cs)
 whole_number e numbers cs h =
     let fits = h.1.2.0.below in
-    let same : number_of cs ≡ h.1.0 = ap number_of (h.2 ∙ ap stored h.1.1) ∙ number_of-stored h.1.0 fits in
+    let same : number_of cs ≡ h.1.0 = ap number_of (h.2 ∙ ap stored_cells h.1.1) ∙ number_of-stored_cells h.1.0 fits in
     subst (Has numbers) (sym same) h.1.2
 
 part_is_chunk : (cells : List Cell) (at : ℕ) → at % 8 + 8 ≤ 8 → part_of cells at 8 ≡ chunk_of (at / 8) cells
@@ -206,7 +206,7 @@ spelled_part : (e : Assigned) (numbers answer : Scalar) (cells : List Cell) (at 
 spelled_part e numbers answer cells at size inside are h =
     let bytes : List Cell = chunk_of (at / 8) cells in
     let here : part_of cells at (size_bytes size) ≡ part_of bytes (at % 8) (size_bytes size) = part_of-chunk cells at (size_bytes size) inside in
-    let stays : bytes ≡ stored (Num h.1.0) = h.2 ∙ ap stored h.1.1 in
+    let stays : bytes ≡ stored_cells (Num h.1.0) = h.2 ∙ ap stored_cells h.1.1 in
     let spelled = ap (λ (cs : List Cell). number_of (part_of cs (at % 8) (size_bytes size))) stays ∙ number_of-part h.1.0 (at % 8) size h.1.2.0.below inside in
     subst (Has answer) (sym (ap number_of here ∙ spelled)) (are.contains h.1.0 h.1.2)
 
@@ -222,8 +222,8 @@ part_number e (Spilled (Number numbers)) cells at U64 answer inside are h below 
 part_number e (Spilled k) cells at size answer inside are h below = (are _).1 below
 
 pub loads : (slots : List Slot) (at : ℕ) (size : Size) (answer : Option Scalar) → at < frame_size → at % 8 + size_bytes size ≤ 8
-    → IsLoad slots at size answer → Loads slots at size answer
-unfolding Loads
+    → IsLoad slots at size answer → LoadsNumber slots at size answer
+unfolding LoadsNumber
 loads slots at size None below inside is = tt
 loads slots at size (Some numbers) below inside is = λ e rows next cells fit m.
     let wide : length cells ≡ frame_size = m.size in

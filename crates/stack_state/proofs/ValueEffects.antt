@@ -7,9 +7,9 @@ use Rattle.isa_model.specs.Machine.States.{Content}
 use Rattle.isa_model.specs.Machine.States as Machine
 use Rattle.isa_model.specs.Machine.MachineStates.{IsState}
 use Rattle.reg_state.specs.declared.kinds.Kind.{Kind}
-use Rattle.reg_state.specs.Kinds.{Assigned, IsLive}
+use Rattle.reg_state.specs.Kinds.{Assigned, HasLiveValue}
 use Rattle.reg_state.specs.KindCover.{packet_identity_of, null_identity_of}
-use Rattle.reg_state.proofs.KindLaws.{frame_of as frame_in, map_of, Keeps, Allows-kept}
+use Rattle.reg_state.proofs.KindLaws.{frame_of as frame_in, map_of, KeepsAssigned, Allows-kept}
 use Rattle.stack_state.specs.declared.slots.Slot.{Slot}
 use Rattle.stack_state.specs.declared.slots.Slot.TheVariants.{Written, Spilled}
 use Rattle.stack_state.specs.declared.states.State.{State}
@@ -21,26 +21,26 @@ use Rattle.stack_state.proofs.MeaningLaws.{MeansBy-onto}
 
 -- the live values stay live
 abbrev pub KeepsLive : List Content → List Content → Type 0
-KeepsLive before after = (m n : ℕ) → IsLive before m n → IsLive after m n
+KeepsLive before after = (m n : ℕ) → HasLiveValue before m n → HasLiveValue after m n
 
 each_some : (o : Option ℕ) (P : ℕ → Type 0) → ((j : ℕ) → P j) → IfSome o P
 each_some None P h = tt
 each_some (Some j) P h = h j
 
-Keeps-live : (k : Kind) (e : Assigned) (maps : List Content) → KeepsLive e.maps maps → Keeps k e (with_maps e maps)
-Keeps-live k e maps keeps = record {
+KeepsAssigned-live : (k : Kind) (e : Assigned) (maps : List Content) → KeepsLive e.maps maps → KeepsAssigned k e (with_maps e maps)
+KeepsAssigned-live k e maps keeps = record {
   offsets = each_some (packet_identity_of k) (λ i. e.offset i ≡ e.offset i) (λ i. refl);
   values = each_some (null_identity_of k) (λ i. e.value i ≡ e.value i) (λ i. refl);
   packet_lengths = refl;
   serials = each_some (frame_in k) (λ j. slice_get e.frames j ≡ slice_get e.frames j) (λ j. refl);
-  live = each_some (map_of k) (λ m. (n : ℕ) → IsLive e.maps m n → IsLive maps m n) keeps;
+  live = each_some (map_of k) (λ m. (n : ℕ) → HasLiveValue e.maps m n → HasLiveValue maps m n) keeps;
 }
 
 SlotMeans-live : (e : Assigned) (maps : List Content) (t : Slot) (cs : List Cell) → KeepsLive e.maps maps → SlotMeans e t cs
     → SlotMeans (with_maps e maps) t cs
 SlotMeans-live e maps (Written marks) cs keeps h = h
 SlotMeans-live e maps (Spilled k) cs keeps h =
-    SlotMeans-spilled e (with_maps e maps) k k cs (λ v. Allows-kept k e (with_maps e maps) v (Keeps-live k e maps keeps)) h
+    SlotMeans-spilled e (with_maps e maps) k k cs (λ v. Allows-kept k e (with_maps e maps) v (KeepsAssigned-live k e maps keeps)) h
 
 -- the maps have other contents, in which all live values are live, whatever serials and answers of the clock were given
 pub MeansBy-given : (p : Program) (e : Assigned) (a : State) (s : Machine.State) (maps : List Content) (next calls : ℕ) → KeepsLive s.maps maps
@@ -53,7 +53,7 @@ MeansBy-given p e a s maps next calls keeps is m =
     (record { none = of.none; length_is = of.length_is; serials = of.serials; contents = refl })
     refl refl
     (λ j below. record {
-      registers = λ k v h. Allows-kept (kind_at (kinds_of a j) k) e (with_maps e maps) v (Keeps-live (kind_at (kinds_of a j) k) e maps kept) h;
+      registers = λ k v h. Allows-kept (kind_at (kinds_of a j) k) e (with_maps e maps) v (KeepsAssigned-live (kind_at (kinds_of a j) k) e maps kept) h;
       slots = λ k cs inside h. SlotMeans-live e maps (slot_at (slots_of a j) k) cs kept h;
     }) m
 

@@ -8,7 +8,7 @@ use Rattle.stack_state.specs.declared.slots.Slot.{Slot}
 use Rattle.stack_state.specs.declared.states.State.{State}
 use Rattle.stack_state.specs.Meaning.{slots_of}
 use Rattle.stack_state.specs.Slots.{after_store, IsSpill}
-use Rattle.stack_state.specs.StackMeaning.{Stores, Spills}
+use Rattle.stack_state.specs.StackMeaning.{StoresBytes, Spills}
 use Rattle.stack_state.specs.Effects.{with_frame_slots}
 
 -- n bytes of a frame from a place on; None: they are not all in the frame
@@ -30,7 +30,7 @@ FindsPlace z size None = (at : ℕ) → ¬ IsPlace z size at
 -- bytes of a number are written in the jth frame
 pub record IsStoredIn (a : State) (j at : ℕ) (size : Size) (b : State) : Type 0 where
   pub left : b ≡ with_frame_slots a j (after_store (slots_of a j) at (size_bytes size))
-  pub meant : Stores (slots_of a j) at size (after_store (slots_of a j) at (size_bytes size))
+  pub meant : StoresBytes (slots_of a j) at size (after_store (slots_of a j) at (size_bytes size))
 
 -- a value of the kind is written into the whole slot k of the jth frame
 pub record IsSpilledIn (a : State) (j k : ℕ) (kind : Kind) (b : State) : Type 0 where

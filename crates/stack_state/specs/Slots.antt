@@ -43,11 +43,11 @@ abbrev pub mask_of : ℕ → ℕ → ℕ
 mask_of from end = 2 ^ end - 2 ^ from
 
 -- byte i of the frame is a written number byte
-abbrev pub IsMarked : List Slot → ℕ → Type 0
-IsMarked slots i = bit_at (marks_of (slot_at slots (i / 8))) (i % 8) ≡ 1
+abbrev pub IsNumberByte : List Slot → ℕ → Type 0
+IsNumberByte slots i = bit_at (marks_of (slot_at slots (i / 8))) (i % 8) ≡ 1
 
 abbrev pub AreMarked : List Slot → ℕ → ℕ → Type 0
-AreMarked slots from end = (i : ℕ) → from ≤ i → i < end → IsMarked slots i
+AreMarked slots from end = (i : ℕ) → from ≤ i → i < end → IsNumberByte slots i
 
 -- n number bytes were written: a value that was spilled there is no longer whole, and of a spilled
 -- number the other bytes stay

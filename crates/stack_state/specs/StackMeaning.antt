@@ -18,7 +18,7 @@ use Rattle.isa_model.specs.Machine.MachineStates.{IsCell}
 use Rattle.reg_state.specs.declared.scalars.Scalar.{Scalar}
 use Rattle.reg_state.specs.declared.kinds.Kind.{Kind}
 use Rattle.reg_state.specs.Scalars.{Has}
-use Rattle.reg_state.specs.Kinds.{Assigned, Allows, IsLive}
+use Rattle.reg_state.specs.Kinds.{Assigned, Allows, HasLiveValue}
 use Rattle.stack_state.specs.declared.slots.Slot.{Slot}
 use Rattle.stack_state.specs.declared.slots.Slot.TheVariants.{Written, Spilled}
 use Rattle.stack_state.specs.Slots.{slot_at, frame_slots}
@@ -38,10 +38,10 @@ abbrev pub written : {X : Type 0} → List X → ℕ → List X → List X
 written cells at new = splice cells at (at + length new) new
 
 -- the eight cells that an 8-byte store of the value writes; an unset one cannot be stored
-abbrev pub stored : Value → List Cell
-stored Unset = []
-stored (Num n) = map Byte (bytes_of U64 n)
-stored (Ptr r z) = pieces r z
+abbrev pub stored_cells : Value → List Cell
+stored_cells Unset = []
+stored_cells (Num n) = map Byte (bytes_of U64 n)
+stored_cells (Ptr r z) = pieces r z
 
 -- ---- what slots mean
 
@@ -51,7 +51,7 @@ Marked marks cs = (i : ℕ) → i < 8 → bit_at marks i ≡ 1 → is_byte (slic
 
 abbrev pub SlotMeans : Assigned → Slot → List Cell → Type 0
 SlotMeans e (Written marks) cs = Marked marks cs
-SlotMeans e (Spilled k) cs = (v : Value) × Allows e k v × (cs ≡ stored v)
+SlotMeans e (Spilled k) cs = (v : Value) × Allows e k v × (cs ≡ stored_cells v)
 
 -- under the assignment, the cells are members of the slots
 pub record StackMeans (e : Assigned) (slots : List Slot) (cells : List Cell) : Type 0 where
@@ -61,41 +61,41 @@ pub record StackMeans (e : Assigned) (slots : List Slot) (cells : List Cell) : T
 -- ---- what the calls keep
 
 -- the bytes of any number, stored at a place
-unfoldable pub Stores : List Slot → ℕ → Size → List Slot → Type 0
-Stores old at size new = (e : Assigned) (cells : List Cell) (n : ℕ) → StackMeans e old cells
+unfoldable pub StoresBytes : List Slot → ℕ → Size → List Slot → Type 0
+StoresBytes old at size new = (e : Assigned) (cells : List Cell) (n : ℕ) → StackMeans e old cells
     → StackMeans e new (written cells at (map Byte (bytes_of size n)))
 
 -- any value that the kind allows, stored into a slot
 unfoldable pub Spills : List Slot → ℕ → Kind → List Slot → Type 0
 Spills old k kind new = (e : Assigned) (cells : List Cell) (v : Value) → v ≢ Unset → Allows e kind v → StackMeans e old cells
-    → StackMeans e new (written cells (8 * k) (stored v))
+    → StackMeans e new (written cells (8 * k) (stored_cells v))
 
 -- the number that a load answers is one of these
-unfoldable pub Loads : List Slot → ℕ → Size → Option Scalar → Type 0
-Loads slots at size answer = IfSome answer (λ numbers. (e : Assigned) (rows next : ℕ) (cells : List Cell)
+unfoldable pub LoadsNumber : List Slot → ℕ → Size → Option Scalar → Type 0
+LoadsNumber slots at size answer = IfSome answer (λ numbers. (e : Assigned) (rows next : ℕ) (cells : List Cell)
     → All (IsCell rows next) cells → StackMeans e slots cells
     → (n : ℕ) × (number_in (part_of cells at (size_bytes size)) ≡ Ok n) × Has numbers n)
 
 -- the value that a load of a whole slot answers is one that the kind allows
-unfoldable pub Fills : List Slot → ℕ → Option Kind → Type 0
-Fills slots k answer = IfSome answer (λ kind. (e : Assigned) (rows next : ℕ) (cells : List Cell)
+unfoldable pub LoadsSlot : List Slot → ℕ → Option Kind → Type 0
+LoadsSlot slots k answer = IfSome answer (λ kind. (e : Assigned) (rows next : ℕ) (cells : List Cell)
     → All (IsCell rows next) cells → StackMeans e slots cells
     → (v : Value) × (value_in (chunk_of k cells) ≡ Ok v) × Allows e kind v)
 
 -- the cells are number bytes, and a load of them answers their number
-unfoldable pub AreBytes : List Slot → ℕ → ℕ → Type 0
-AreBytes slots from n = (e : Assigned) (cells : List Cell) → StackMeans e slots cells
+unfoldable pub AreNumberBytes : List Slot → ℕ → ℕ → Type 0
+AreNumberBytes slots from n = (e : Assigned) (cells : List Cell) → StackMeans e slots cells
     → (list_all is_byte (part_of cells from n) ≡ true)
     × (number_in (part_of cells from n) ≡ Ok (number_of (part_of cells from n)))
 
 -- the live values of every other map stay live
 abbrev pub KeepsOthers : ℕ → List Content → List Content → Type 0
-KeepsOthers m before after = (j n : ℕ) → j ≢ m → IsLive before j n → IsLive after j n
+KeepsOthers m before after = (j n : ℕ) → j ≢ m → HasLiveValue before j n → HasLiveValue after j n
 
 abbrev pub with_maps : Assigned → List Content → Assigned
 with_maps e maps = record e { maps = maps }
 
 -- whatever happens to the values of the map
-unfoldable pub Forgets : ℕ → List Slot → List Slot → Type 0
-Forgets m old new = (e : Assigned) (maps : List Content) (cells : List Cell) → KeepsOthers m e.maps maps
+unfoldable pub ForgetsMap : ℕ → List Slot → List Slot → Type 0
+ForgetsMap m old new = (e : Assigned) (maps : List Content) (cells : List Cell) → KeepsOthers m e.maps maps
     → StackMeans e old cells → StackMeans (with_maps e maps) new cells

@@ -6,8 +6,8 @@ ghost use Rattle.isa_model.specs.declared.values.Cell.{Cell};
 ghost use Rattle.isa_model.specs.Code.Sizes.{size_bytes};
 ghost use Rattle.reg_state.specs.Kinds.{Assigned};
 ghost use Rattle.stack_state.specs.Slots as slot_words;
-ghost use Rattle.stack_state.specs.Slots.{slot_at, IsMarked, AreMarked, after_store, IsLoad, IsSpill, IsFill, frame_slots};
-ghost use Rattle.stack_state.specs.StackMeaning.{StackMeans, Stores, Spills, Loads, Fills, AreBytes, Forgets};
+ghost use Rattle.stack_state.specs.Slots.{slot_at, IsNumberByte, AreMarked, after_store, IsLoad, IsSpill, IsFill, frame_slots};
+ghost use Rattle.stack_state.specs.StackMeaning.{StackMeans, StoresBytes, Spills, LoadsNumber, LoadsSlot, AreNumberBytes, ForgetsMap};
 
 use crate::slots::{Slot, filled, forgotten, mask, numbers, spilled};
 use isa_model::{FRAME_SIZE, Size};
@@ -55,7 +55,7 @@ impl StackState {
         requires inside { at < frame_size }
         requires in_slot { at % 8 + size_bytes size ≤ 8 }
         ensures exact { self.new.slots ≡ after_store self.old.slots at (size_bytes size) }
-        ensures meant { Stores self.old.slots at size self.new.slots }
+        ensures meant { StoresBytes self.old.slots at size self.new.slots }
     {
         let slot = self.slots[at / 8];
         let written = slot.marks() | mask(at % 8, size.bytes());
@@ -68,7 +68,7 @@ impl StackState {
         requires inside { at < frame_size }
         requires in_slot { at % 8 + size_bytes size ≤ 8 }
         ensures exact { IsLoad self.now.slots at size result }
-        ensures meant { Loads self.now.slots at size result }
+        ensures meant { LoadsNumber self.now.slots at size result }
     {
         if self.is_bytes(at, size.bytes()) {
             Some(numbers(self.slots[at / 8], at % 8, size))
@@ -93,7 +93,7 @@ impl StackState {
     pub fn fill(&self, slot: usize) -> Option<Kind>
         requires { slot < frame_slots }
         ensures exact { IsFill (slot_at self.now.slots slot) result }
-        ensures meant { Fills self.now.slots slot result }
+        ensures meant { LoadsSlot self.now.slots slot result }
     {
         filled(self.slots[slot])
     }
@@ -101,7 +101,7 @@ impl StackState {
     /// Whether the byte is a written number byte.
     fn is_byte(&self, at: usize) -> bool
         requires { at < frame_size }
-        ensures { IsTrue result ↔ IsMarked self.now.slots at }
+        ensures { IsTrue result ↔ IsNumberByte self.now.slots at }
     {
         (self.slots[at / 8].marks() >> (at % 8)) & 1 == 1
     }
@@ -110,7 +110,7 @@ impl StackState {
     pub fn is_bytes(&self, from: usize, count: usize) -> bool
         requires { from + count ≤ frame_size }
         ensures exact { IsTrue result ↔ AreMarked self.now.slots from (from + count) }
-        ensures meant { IsTrue result → AreBytes self.now.slots from count }
+        ensures meant { IsTrue result → AreNumberBytes self.now.slots from count }
     {
         for at in from..from + count {
             if !self.is_byte(at) {
@@ -123,7 +123,7 @@ impl StackState {
     /// Pointers to values of the map are forgotten.
     pub fn forget_map(&mut self, map: u8)
         ensures exact { self.new.slots ≡ slot_words.forgotten map self.old.slots }
-        ensures meant { Forgets map self.old.slots self.new.slots }
+        ensures meant { ForgetsMap map self.old.slots self.new.slots }
     {
         for slot in 0..FRAME_SLOTS {
             self.slots[slot] = forgotten(self.slots[slot], map);

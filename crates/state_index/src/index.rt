@@ -1,7 +1,7 @@
 //! The index of the stored states.
 
 ghost use Rattle.std.specs.Prelude.{IfOk};
-ghost use Rattle.state_index.specs.Rooms.{HasRoom};
+ghost use Rattle.state_index.specs.Rooms.{HasShapeRoom};
 
 use crate::buckets::{
     FinishedBucket, Link, NO_FINISHED, NO_UNFINISHED, Stage, UnfinishedBucket, bucket_of, mark_of,
@@ -44,7 +44,7 @@ pub struct Index {
 impl Index {
     /// The index of no entries, of code with that many slots.
     pub fn new(alloc: Global, slots: usize) -> Result<Self, AllocError>
-        ensures room { IfOk result (λ index. HasRoom index slots) }
+        ensures room { IfOk result (λ index. HasShapeRoom index slots) }
     {
         Ok(Index {
             links: Vec::new(alloc),

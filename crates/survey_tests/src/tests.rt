@@ -1,13 +1,13 @@
 //! What is written of images that are accepted, refused and missing, and an output that fails.
 
 use buffered_io::PromptWriter;
+use failing_io::{Failure, Writer};
 use std::alloc::Global;
 use std::fs;
 use std::io::ErrorKind;
 use std::process::Abort;
 use std::rt::{Clock, Files};
 use std::test::Fail;
-use stumbling_io::{Stumble, Writer};
 use survey_commands::execute;
 
 // The image of `r0 = 2; exit`: the magic, no maps and two slots.
@@ -173,7 +173,7 @@ fn answers_of_commands(rt: HostRuntime) -> Result<(), Fail> {
 #[test]
 fn output_that_breaks(rt: HostRuntime) -> Result<(), Fail> {
     fs::write(&rt, "passes", PASSES)?;
-    let broken = Some(Stumble::Error(ErrorKind::BrokenPipe));
+    let broken = Some(Failure::Error(ErrorKind::BrokenPipe));
     let mut out = Writer::new(rt.alloc(), 1, 9, broken);
     let mut err = Writer::new(rt.alloc(), 4096, 0, None);
     let status = status_of(&rt, &["log", "passes"], &mut out, &mut err)?;

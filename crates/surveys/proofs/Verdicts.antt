@@ -9,31 +9,31 @@ use Rattle.walks.specs.Counts.{HasNumber}
 use Rattle.survey_rows.specs.declared.rows.Counts.{Counts}
 use Rattle.survey_rows.specs.declared.rows.Verdict.{Verdict}
 use Rattle.survey_rows.specs.declared.rows.Verdict.TheVariants as verdict
-use Rattle.surveys.specs.Judging.{IfBound, Refuses, Says, SaysMalformed}
+use Rattle.surveys.specs.Judging.{IfBound, RefusesWith, SaysVerdict, SaysMalformed}
 
 -- where memory ran out nothing is said
-pub says_nothing : (p : Program) (v : Verdict) (c : Counts) → v ≡ verdict.NoMemory → Says p v c
-says_nothing p v c e = subst (λ (w : Verdict). Says p w c) (sym e) tt
+pub says_nothing : (p : Program) (v : Verdict) (c : Counts) → v ≡ verdict.NoMemory → SaysVerdict p v c
+says_nothing p v c e = subst (λ (w : Verdict). SaysVerdict p w c) (sym e) tt
 
 -- an accepted program's bound is the start's number
-pub says_bound : (p : Program) (n : ℕ) (c : Counts) → c.bound ≡ Some n → HasNumber p start n → StartsEnd p n → Says p verdict.Accepted c
+pub says_bound : (p : Program) (n : ℕ) (c : Counts) → c.bound ≡ Some n → HasNumber p start n → StartsEnd p n → SaysVerdict p verdict.Accepted c
 says_bound p n c e number ends = subst (λ (b : Option ℕ). IfBound p b) (sym e) (record { number = number; ends = ends })
 
 -- the same verdict with the same bound and slot says the same
-pub says_alike : (p : Program) (v : Verdict) (c d : Counts) → d.bound ≡ c.bound → d.slot ≡ c.slot → Says p v c → Says p v d
+pub says_alike : (p : Program) (v : Verdict) (c d : Counts) → d.bound ≡ c.bound → d.slot ≡ c.slot → SaysVerdict p v c → SaysVerdict p v d
 says_alike p verdict.Accepted c d bound slot h = subst (λ (b : Option ℕ). IfBound p b) (sym bound) h
-says_alike p (verdict.Refused code) c d bound slot h = subst (λ (s : Option ℕ). Refuses p code.now s) (sym slot) h
+says_alike p (verdict.Refused code) c d bound slot h = subst (λ (s : Option ℕ). RefusesWith p code.now s) (sym slot) h
 says_alike p verdict.Unreadable c d bound slot h = h
 says_alike p verdict.NoMemory c d bound slot h = tt
 
-pub says_same : (p : Program) (v w : Verdict) (c d : Counts) → w ≡ v → d.bound ≡ c.bound → d.slot ≡ c.slot → Says p v c → Says p w d
-says_same p v w c d same bound slot h = subst (λ (u : Verdict). Says p u d) (sym same) (says_alike p v c d bound slot h)
+pub says_same : (p : Program) (v w : Verdict) (c d : Counts) → w ≡ v → d.bound ≡ c.bound → d.slot ≡ c.slot → SaysVerdict p v c → SaysVerdict p w d
+says_same p v w c d same bound slot h = subst (λ (u : Verdict). SaysVerdict p u d) (sym same) (says_alike p v c d bound slot h)
 
 -- what is said of one program is said of the other, where they are the same
-pub says_at : (p q : Program) (v : Verdict) (c : Counts) → q ≡ p → Says q v c → Says p v c
-says_at p q v c same says = subst (λ (r : Program). Says r v c) same says
+pub says_at : (p q : Program) (v : Verdict) (c : Counts) → q ≡ p → SaysVerdict q v c → SaysVerdict p v c
+says_at p q v c same says = subst (λ (r : Program). SaysVerdict r v c) same says
 
-pub says_of : (p q : Program) (n : ℕ) (v : Verdict) (c : Counts) → q ≡ p → HasNumber p start n → (HasNumber q start n → Says q v c) → Says p v c
+pub says_of : (p q : Program) (n : ℕ) (v : Verdict) (c : Counts) → q ≡ p → HasNumber p start n → (HasNumber q start n → SaysVerdict q v c) → SaysVerdict p v c
 says_of p q n v c same number says = says_at p q v c same (says (subst (λ (r : Program). HasNumber r start n) (sym same) number))
 
 -- what is no image has one refusal; where memory ran out nothing is said

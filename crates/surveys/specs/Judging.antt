@@ -24,7 +24,7 @@ IfBound p None = ⊥
 IfBound p (Some bound) = Bounds p bound
 
 -- a program is refused with this code, at this slot
-pub record Refuses (p : Program) (code : List ℕ) (slot : Option ℕ) : Type 0 where
+pub record RefusesWith (p : Program) (code : List ℕ) (slot : Option ℕ) : Type 0 where
   pub refusal : Refusal
   pub at : ℕ
   pub refused : IsRefused p refusal at
@@ -32,11 +32,11 @@ pub record Refuses (p : Program) (code : List ℕ) (slot : Option ℕ) : Type 0 
   pub is_slot : slot ≡ Some at
 
 -- what a row says of a program: accepted with a bound, or refused with a code at a slot
-abbrev pub Says : Program → Verdict → Counts → Type 0
-Says p verdict.Accepted counts = IfBound p counts.bound
-Says p (verdict.Refused code) counts = Refuses p code.now counts.slot
-Says p verdict.Unreadable counts = ⊥
-Says p verdict.NoMemory counts = Unit {0}
+abbrev pub SaysVerdict : Program → Verdict → Counts → Type 0
+SaysVerdict p verdict.Accepted counts = IfBound p counts.bound
+SaysVerdict p (verdict.Refused code) counts = RefusesWith p code.now counts.slot
+SaysVerdict p verdict.Unreadable counts = ⊥
+SaysVerdict p verdict.NoMemory counts = Unit {0}
 
 -- the slot of an image that is refused, where there is one
 abbrev pub slot_of : ImageError → Option ℕ

@@ -9,7 +9,7 @@ ghost use Rattle.walks.specs.Counts.{HasNumber};
 ghost use Rattle.walks.specs.Refused.{IsRefused};
 ghost use Rattle.image.specs.Refusals.{refusal_of};
 ghost use Rattle.image.specs.declared.errors.ImageError.{ImageError};
-ghost use Rattle.surveys.specs.Judging.{Says, SaysMalformed, slot_of};
+ghost use Rattle.surveys.specs.Judging.{SaysVerdict, SaysMalformed, slot_of};
 
 use crate::tallies::Tally;
 use bounds::Verified;
@@ -94,7 +94,7 @@ fn counted(tally: Tally, counts: Counts) -> Counts
 
 /// A program that is refused.
 fn refused(refusal: Refusal, slot: usize, counts: Counts) -> Judged
-    ensures { (p : Program) → IsRefused p refusal slot → Says p result.verdict result.counts }
+    ensures { (p : Program) → IsRefused p refusal slot → SaysVerdict p result.verdict result.counts }
 {
     match refusal {
         Refusal::Memory | Refusal::Flow(FlowError::Memory) => unjudged(counts),
@@ -123,7 +123,7 @@ fn bounded(verified: &Verified, counts: Counts) -> Counts
 /// A program that is accepted.
 fn accepted(verified: &Verified, counts: Counts) -> Judged
     ensures { HasNumber verified.now.program start verified.now.bound
-        → Says verified.now.program result.verdict result.counts }
+        → SaysVerdict verified.now.program result.verdict result.counts }
 {
     Judged {
         verdict: Verdict::Accepted,
@@ -164,7 +164,7 @@ fn judge_verified<C: Clock>(
     has_table: bool,
 ) -> Judged
     ensures { HasNumber verified.program start verified.bound
-        → Says verified.program result.verdict result.counts }
+        → SaysVerdict verified.program result.verdict result.counts }
 {
     let mut judged = accepted(&verified, counts);
     if !has_table {
@@ -176,7 +176,7 @@ fn judge_verified<C: Clock>(
 
 /// A program judged by `verify`.
 fn judge_image<C: Clock>(clock: &C, alloc: Global, image: Image, has_table: bool) -> Judged
-    ensures says { Says image result.verdict result.counts }
+    ensures says { SaysVerdict image result.verdict result.counts }
 {
     let slots = image.slots() as u64;
     let maps = image.maps().len() as u64;
@@ -203,7 +203,7 @@ fn judge_image<C: Clock>(clock: &C, alloc: Global, image: Image, has_table: bool
 /// the slot; and what was counted of the search.
 pub fn judge<C: Clock>(clock: &C, alloc: Global, bytes: &[u8], has_table: bool) -> Judged
     ensures says { (p : Program) → IsImage p → bytes.now ≡ image_bytes p
-        → Says p result.verdict result.counts }
+        → SaysVerdict p result.verdict result.counts }
     ensures malformed { (wrong : ImageError) → refusal_of bytes.now ≡ Some wrong
         → SaysMalformed wrong result.verdict result.counts }
 {

@@ -8,11 +8,11 @@ use Rattle.std.proofs.lemmas.List.{append-nil, length-map, length-append}
 use Rattle.isa_model.specs.Code.Instructions.{Program}
 use Rattle.table_entries.specs.Reading.{seen}
 use Rattle.table_entries.specs.Entries.{Entry, entry_in}
-use Rattle.table_entries.specs.Tables.{Kept, Holds, count_of, count_in, entry_at, entry_from, earlier, first_none, all_of, body_in, to_the_end, table_read}
+use Rattle.table_entries.specs.Tables.{Kept, KeepsEntries, count_of, count_in, entry_at, entry_from, earlier, first_none, all_of, body_in, to_the_end, table_read}
 use Rattle.table_entries.specs.Growing.{Grown, IsBegun, MayGrow, Grows, AllThere, with_place}
 use Rattle.table_entries.proofs.Ends.{IsEnd-more, IsEnd-place, IsEnd-length, entry_in-end}
 use Rattle.table_entries.proofs.Seen.{read-seen}
-use Rattle.table_entries.proofs.Rows.{entries-begins, entries-goes_on, entries-done, places-more, earlier-more, length-more, end-empty, Holds-places}
+use Rattle.table_entries.proofs.Rows.{entries-begins, entries-goes_on, entries-done, places-more, earlier-more, length-more, end-empty, KeepsEntries-places}
 
 -- ---- from the beginning
 
@@ -145,13 +145,13 @@ entry_at-whole p g h k le = λ i j. same j i where
 
 -- all entries are placed, and no bytes are left over
 pub whole_read : (p : Program) (g : Grown) → IsBegun p g → count_of g.table ≡ g.count → length g.rest ≡ 0
-    → (entries : List Entry) × (table_read p g.table.bytes ≡ Ok entries) × Holds p g.table entries
+    → (entries : List Entry) × (table_read p g.table.bytes ≡ Ok entries) × KeepsEntries p g.table entries
 whole_read p g b all none =
     let front = map (entry_from p g.table.bytes) g.table.places in
     let empty : (length g.rest == 0) ≡ true = rw none refl in
     let body : body_in p g.table.bytes g.count ≡ Ok front =
     ap to_the_end (entries-done p front g.count (count_of g.table) g.rest _ (omega arith) b.so_far) ∙ end-empty front g.rest empty in
-    (all_of front, rw (b.counted, body, b.fine) refl, Holds-places p g.table b.fine)
+    (all_of front, rw (b.counted, body, b.fine) refl, KeepsEntries-places p g.table b.fine)
 
 -- ---- entries that are there
 
@@ -162,7 +162,7 @@ inside_some (e ∷ entries) (suc k) lt = inside_some entries k (omega arith)
 
 pub AllThere-begun : (p : Program) (g : Grown) → IsBegun p g → AllThere p g
 AllThere-begun p g b = λ k less.
-    let h : Holds p g.table _ = Holds-places p g.table b.fine in
+    let h : KeepsEntries p g.table _ = KeepsEntries-places p g.table b.fine in
     let count = h.count in
     subst (λ (o : Option Entry). IsSome o) (sym (h.each k)) (inside_some (all_of (map (entry_from p g.table.bytes) g.table.places)) k (omega arith))
 

@@ -99,7 +99,7 @@ abbrev pub count_of : Kept → ℕ
 count_of t = length t.places
 
 -- the entries that it keeps
-pub record Holds (p : Program) (t : Kept) (entries : List Entry) : Type 0 where
+pub record KeepsEntries (p : Program) (t : Kept) (entries : List Entry) : Type 0 where
   pub count : count_of t ≡ length entries
   pub each : (k : ℕ) → entry_at p t k ≡ slice_get entries k
 

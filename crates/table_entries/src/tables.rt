@@ -7,7 +7,7 @@ ghost use Rattle.table_entries.specs.Entries.{Entry, IsAllowed, entry_in, entry_
 ghost use Rattle.table_entries.specs.declared.entries.Head.{Head};
 ghost use Rattle.table_entries.specs.declared.stops.Stop.{Stop};
 ghost use Rattle.table_entries.specs.Growing.{with_place};
-ghost use Rattle.table_entries.specs.Tables.{Kept, Holds, table_read, entry_at, count_of, ArePlaced, count_in, body_in, fault_of, earlier};
+ghost use Rattle.table_entries.specs.Tables.{Kept, KeepsEntries, table_read, entry_at, count_of, ArePlaced, count_in, body_in, fault_of, earlier};
 
 use crate::entries::{Head, read_entry};
 use crate::faults::TableFault;
@@ -154,7 +154,7 @@ impl<'a> Table<'a> {
     pub fn of(alloc: Global, image: &Image, bytes: &'a [u8]) -> Result<Table<'a>, TableFault>
         ensures { MatchResult result
             (λ table. (entries : List Entry) × (table_read image.now bytes.now ≡ Ok entries)
-            × Holds image.now table entries)
+            × KeepsEntries image.now table entries)
             (λ fault. (fault ≡ TableFault.Memory) ⊎ (table_read image.now bytes.now ≡ Err fault)) }
     {
         let count = count_in(bytes)?;

@@ -15,14 +15,14 @@ use Rattle.reg_state.specs.Kinds.{Assigned, Allows}
 use Rattle.stack_state.specs.declared.states.State.{State}
 use Rattle.stack_state.specs.Meaning.{MeansBy}
 use Rattle.transfer.proofs.ResultLaws.{Yields}
-use Rattle.transfer.specs.Accesses.{Loads, LoadsSigned, Stores}
+use Rattle.transfer.specs.Accesses.{LoadsKind, LoadsSigned, StoresKind}
 use Rattle.transfer.proofs.PacketLaws.{context_load_yields, packet_load_yields, packet_load_signed_yields, packet_store_leaves}
 use Rattle.transfer.proofs.ValueLaws.{GoesIntoSome, value_load_yields, value_load_signed_yields, value_store_goes}
-use Rattle.transfer.proofs.StackAccessLaws.{GoesInto, GoesInto-left, stack_load_yields, stack_load_signed_yields, stack_store_goes}
+use Rattle.transfer.proofs.StackAccessLaws.{ContinuesIn, ContinuesIn-left, stack_load_yields, stack_load_signed_yields, stack_store_goes}
 
 -- where a load is not refused, its value is there, and the kind allows it
 pub load_yields : (p : Program) (e : Assigned) (a : State) (s : Machine.State) (size : Size) (base k : Kind) (by : ℤ) (v : Value) → MeansBy p e a s
-    → Loads p.maps a size base by (Ok k) → Allows e base v → Yields e k (load s size v by)
+    → LoadsKind p.maps a size base by (Ok k) → Allows e base v → Yields e k (load s size v by)
 load_yields p e a s size Context k by v m h allowed =
     context_load_yields e s size by k v h m.assigned m.is_state.interface m.is_state.queue allowed
 load_yields p e a s size (Stack frame offset) k by v m h allowed = stack_load_yields p e a s frame offset by size k v m allowed h
@@ -43,13 +43,13 @@ load_signed_yields p e a s size base k by v m h allowed = absurd (cc)
 
 -- where a store is not refused, the machine goes on into what is left
 pub store_goes : (p : Program) (e : Assigned) (a : State) (s : Machine.State) (size : Size) (base source : Kind) (by : ℤ) (v u : Value) (b : State) → MeansBy p e a s
-    → Stores p.maps a size base by source b (Ok tt) → Allows e base v → Allows e source u → IsValue (length p.maps) s.next_serial u
+    → StoresKind p.maps a size base by source b (Ok tt) → Allows e base v → Allows e source u → IsValue (length p.maps) s.next_serial u
     → GoesIntoSome p b (store s size v by u)
 store_goes p e a s size (Stack frame offset) source by v u b m h allowed stored fits = (e, stack_store_goes p e a s frame offset by size source v u b m allowed stored fits h)
 store_goes p e a s size (Packet fixed identity least greatest proved) source by v u b m h allowed stored fits = (
   e,
-  subst (λ c. GoesInto p e c (store s size v by u)) (sym h.0)
-      (GoesInto-left p e a (store s size v by u)
+  subst (λ c. ContinuesIn p e c (store s size v by u)) (sym h.0)
+      (ContinuesIn-left p e a (store s size v by u)
       (packet_store_leaves p e a s size fixed least greatest identity proved by source v u h.1 allowed stored m)
       (store_keeps p s size v by u fits m.is_state)),
 )

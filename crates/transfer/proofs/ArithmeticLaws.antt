@@ -21,7 +21,7 @@ use Rattle.reg_state.specs.Scalars.{Has}
 use Rattle.reg_state.specs.Kinds.{Assigned, Allows, AllowsMapValue}
 use Rattle.stack_state.specs.declared.states.State.{State}
 use Rattle.stack_state.specs.Meaning.{MeansBy}
-use Rattle.transfer.specs.Results.{packet_pointer, IsLowWord, OfNumber, moved_offset, Moves, PointerAndNumber, NumberAndPointer, NumberAnd, PointerAnd, Combined, Copied, Arithmetic}
+use Rattle.transfer.specs.Results.{packet_pointer, IsLowWord, OfNumber, moved_offset, MovesPointer, PointerAndNumber, NumberAndPointer, NumberAnd, PointerAnd, Combined, Copied, Arithmetic}
 use Rattle.transfer.proofs.ResultLaws.{Yields, YieldsUnder, frame_moves}
 use Rattle.transfer.proofs.PacketLaws.{packet_plus_yields, packet_minus_yields, number_plus_packet_yields}
 use Rattle.transfer.proofs.ValueLaws.{value_moves_yields}
@@ -29,7 +29,7 @@ use Rattle.transfer.proofs.ValueLaws.{value_moves_yields}
 -- ---- pointers
 
 stack_moves_yields : (p : Program) (e : Assigned) (a : State) (s : Machine.State) (back : Bool) (frame : ℕ) (offset : ℤ) (by : Scalar) (k : Kind) (x : ℕ) (v : Value)
-    → MeansBy p e a s → Moves a back (Stack frame offset) by (Ok k) → Has by x → Allows e (Stack frame offset) v
+    → MeansBy p e a s → MovesPointer a back (Stack frame offset) by (Ok k) → Has by x → Allows e (Stack frame offset) v
     → (n : ℕ) × (v ≡ value.Ptr (region.Frame n) offset) × YieldsUnder p a s k (moved_to (region.Frame n) (moved_offset back offset x))
 stack_moves_yields p e a s back frame offset by k x v m h member allowed =
     let (n, found, is) = allowed in
@@ -37,7 +37,7 @@ stack_moves_yields p e a s back frame offset by k x v m h member allowed =
     (n, is, (e, m, frame_moves e back frame offset by k x n o only member left found))
 
 value_moves_under : (p : Program) (e : Assigned) (a : State) (s : Machine.State) (back : Bool) (m : ℕ) (least greatest : ℤ) (by : Scalar) (k : Kind) (x : ℕ) (v : Value)
-    → MeansBy p e a s → Moves a back (MapValue m least greatest) by (Ok k) → Has by x → (h : AllowsMapValue e m least greatest v)
+    → MeansBy p e a s → MovesPointer a back (MapValue m least greatest) by (Ok k) → Has by x → (h : AllowsMapValue e m least greatest v)
     → YieldsUnder p a s k (moved_to (region.MapValue m h.serial) (moved_offset back h.offset x))
 value_moves_under p e a s back m least greatest by k x v means (o, only, moves) member allowed =
     (e, means, value_moves_yields e back m least greatest by o k x v only moves member allowed)

@@ -26,7 +26,7 @@ use Rattle.stack_state.specs.Meaning.{MeansBy}
 use Rattle.stack_state.proofs.MeaningLaws.{reg_allowed, MeansBy-set}
 use Rattle.stack_state.specs.Places.{kind_of}
 use Rattle.stack_state.proofs.EffectLaws.{IfLeft}
-use Rattle.transfer.proofs.StackAccessLaws.{GoesInto, GoesInto-left, number_read, stored_left}
+use Rattle.transfer.proofs.StackAccessLaws.{ContinuesIn, ContinuesIn-left, number_read, stored_left}
 use Rattle.transfer.specs.Values.{value_size, AreInValue}
 use Rattle.transfer.proofs.ValueLaws.{GoesIntoSome, value_stored, value_number_read}
 use Rattle.transfer.specs.Atomics.{with_old, StackSwaps, ValueSwaps, SwapsAt, Swaps, ComparesIn, Compares}
@@ -43,8 +43,8 @@ writable R10 h = absurd (cc)
 writable r h = λ e. cc e
 
 kept_goes : (p : Program) (e : Assigned) (register : Option Reg) (c : Scalar) (n : ℕ) (a : State) (went : Result Machine.State TrapReason)
-    → is_frame_pointer register ≡ false → Has c n → GoesInto p e a went
-    → GoesInto p e (with_old register c a) (and_then went (λ t. Ok (keep_old register n t)))
+    → is_frame_pointer register ≡ false → Has c n → ContinuesIn p e a went
+    → ContinuesIn p e (with_old register c a) (and_then went (λ t. Ok (keep_old register n t)))
 kept_goes p e register c n a (Err reason) own has h = absurd h
 kept_goes p e None c n a (Ok t) own has h = h
 kept_goes p e (Some r) c n a (Ok t) own has h =
@@ -56,29 +56,29 @@ kept_goes p e (Some r) c n a (Ok t) own has h =
 swapped_goes : (p : Program) (e : Assigned) (a : State) (s : Machine.State) (frame : ℕ) (z by : ℤ) (size : Size) (register : Option Reg) (b : State)
     (v : Value) (new : ℕ → ℕ) → MeansBy p e a s → is_frame_pointer register ≡ false → Allows e (Stack frame z) v
     → StackSwaps a frame (z +ℤ by) size register b (Ok tt)
-    → GoesInto p e b (and_then (load_number s size v by) (λ old. and_then (store_number s size v by (new old)) (λ t. Ok (keep_old register old t))))
+    → ContinuesIn p e b (and_then (load_number s size v by) (λ old. and_then (store_number s size v by (new old)) (λ t. Ok (keep_old register old t))))
 swapped_goes p e a s frame z by size register b v new m own base h =
     let (serial, found, is) = base in
     let (at, place, swapped) = h in
     let c : Scalar = swapped.old in
     let (n, read, has) = number_read p e a s frame at serial z by size c m found place swapped.loaded in
     let answer : load_number s size v by ≡ Ok n = ap (λ x. load_number s size x by) is ∙ read in
-    let stored : GoesInto p e swapped.after (store_number s size v by (new n)) =
-    GoesInto-left p e swapped.after (store_number s size v by (new n))
+    let stored : ContinuesIn p e swapped.after (store_number s size v by (new n)) =
+    ContinuesIn-left p e swapped.after (store_number s size v by (new n))
     (subst (λ x. IfLeft p e swapped.after (store_number s size x by (new n))) (sym is)
     (stored_left p e a s frame at serial (new n) z by size swapped.after m found place swapped.stored))
     (store_number_keeps p s size v by (new n) m.is_state) in
     let kept = kept_goes p e register c n swapped.after (store_number s size v by (new n)) own has stored in
-    subst (λ r. GoesInto p e b (and_then r (λ old. and_then (store_number s size v by (new old)) (λ t. Ok (keep_old register old t)))))
+    subst (λ r. ContinuesIn p e b (and_then r (λ old. and_then (store_number s size v by (new old)) (λ t. Ok (keep_old register old t)))))
     (sym answer)
-    (subst (λ d. GoesInto p e d (and_then (store_number s size v by (new n)) (λ t. Ok (keep_old register n t)))) (sym swapped.kept) kept)
+    (subst (λ d. ContinuesIn p e d (and_then (store_number s size v by (new n)) (λ t. Ok (keep_old register n t)))) (sym swapped.kept) kept)
 
 pub stack_swap_goes : (p : Program) (e : Assigned) (a : State) (s : Machine.State) (frame : ℕ) (z : ℤ) (w : Width) (place : Place)
     (register : Option Reg) (b : State) (new : ℕ → ℕ) (keep : ℕ → Machine.State → Machine.State) → MeansBy p e a s
     → is_frame_pointer register ≡ false → Allows e (Stack frame z) (base_of s place) → keep ≡ keep_old register
-    → StackSwaps a frame (z +ℤ place.offset) (width_size w) register b (Ok tt) → GoesInto p e b (swaps_in s w place new keep)
+    → StackSwaps a frame (z +ℤ place.offset) (width_size w) register b (Ok tt) → ContinuesIn p e b (swaps_in s w place new keep)
 stack_swap_goes p e a s frame z w place register b new keep m own base same h =
-    subst (λ k. GoesInto p e b (swaps_in s w place new k)) (sym same)
+    subst (λ k. ContinuesIn p e b (swaps_in s w place new k)) (sym same)
     (swapped_goes p e a s frame z place.offset (width_size w) register b (base_of s place) new m own base h)
 
 -- ---- in a map's value

@@ -54,7 +54,7 @@ use Rattle.stack_state.specs.Calls.{entered, with_new_frame, without_last, ended
 use Rattle.stack_state.proofs.CallLaws.{MeansBy-enter}
 use Rattle.stack_state.proofs.EndLaws.{MeansBy-ended}
 use Rattle.stack_state.proofs.MeaningLaws.{reg_allowed, depth_is_length, MeansBy-go_to, MeansBy-set}
-use Rattle.branch_refine.specs.Refining.{IsJust, Keeps}
+use Rattle.branch_refine.specs.Refining.{IsJust, KeepsMembers}
 use Rattle.branch_refine.proofs.ComparingLaws.{test-defined}
 use Rattle.transfer.specs.declared.refusals.Refusal.{Refusal}
 use Rattle.transfer.specs.declared.refusals.Refusal.TheVariants.{UnsetRegister, ReadOnlyRegister}
@@ -66,18 +66,18 @@ use Rattle.transfer.proofs.RegisterLaws.{neither, unset_in, none_unset, performe
 use Rattle.transfer.proofs.AnswerLaws.{shows_action-answers, answered_number}
 use Rattle.transfer.proofs.ResultLaws.{Yields, YieldsUnder, on_number_yields}
 use Rattle.transfer.proofs.ArithmeticLaws.{arithmetic_yields}
-use Rattle.transfer.proofs.StackAccessLaws.{GoesInto}
+use Rattle.transfer.proofs.StackAccessLaws.{ContinuesIn}
 use Rattle.transfer.proofs.ValueLaws.{GoesIntoSome, value_pointer_allowed}
 use Rattle.transfer.proofs.AccessLaws.{load_yields, load_signed_yields, store_goes}
 use Rattle.transfer.proofs.AtomicLaws.{keep_old, swap_goes, compare_and_swap_goes}
 use Rattle.transfer.specs.HelperCalls.{CallsHelper}
 use Rattle.transfer.proofs.HelperCallLaws.{helper_call_goes}
-use Rattle.transfer.specs.Exact.{IsOperand, Puts, Sets, GoesOn, StoresAt, SwapsAtPlace, ComparesAtPlace, Sides, Branches, JumpsTo, Calls, ExitsFrom, Performs, Tested, Steps}
+use Rattle.transfer.specs.Exact.{OperandKind, ResultKind, SetsRegister, GoesOn, StoresAt, SwapsAtPlace, ComparesAtPlace, Sides, Branches, StepsJump, StepsCall, ExitsFrom, StepsForm, Tested, Steps}
 
 -- ---- operands
 
 operand_allowed : (p : Program) (e : Assigned) (a : State) (s : Machine.State) (w : Width) (source : Operand) (b : Kind) → MeansBy p e a s
-    → IsOperand a w source b → Allows e b (operand_value s w source)
+    → OperandKind a w source b → Allows e b (operand_value s w source)
 operand_allowed p e a s w (Constant k) (kind.Number c) m h = (unsigned w k, refl, h.0)
 operand_allowed p e a s w (Constant k) b m h = absurd h
 operand_allowed p e a s w (Register r) b m h =
@@ -110,7 +110,7 @@ just_allowed e k n h = absurd h
 
 -- what a form puts into its register is there, and its kind allows it
 puts_yields : (p : Program) (clock : ℕ → ℕ) (e : Assigned) (a : State) (s : Machine.State) (i : Insn) (d : Reg) (k : Kind) → InsnFits i
-    → MeansBy p e a s → list_any (unset_in s) (reads i) ≡ false → writes i ≡ Some d → NamesRows p.maps i → Puts p.maps a i (Ok k)
+    → MeansBy p e a s → list_any (unset_in s) (reads i) ≡ false → writes i ≡ Some d → NamesRows p.maps i → ResultKind p.maps a i (Ok k)
     → (r : Result Value TrapReason) × (act p clock s i ≡ sets s i d r) × YieldsUnder p a s k r
 unfolding act
 puts_yields p clock e a s (Alu w op x source) d k fits m set written names h =
@@ -205,7 +205,7 @@ one_means p e w b c next t one is m = subst (λ x. InSome p x b c t) (sym one) (
 
 sets_in : (p : Program) (clock : ℕ → ℕ) (e : Assigned) (a : State) (s : Machine.State) (i : Insn) (w : Ways) (b c : State)
     → InsnFits i → NamesRows p.maps i → IfNext (act p clock s i) (IsState p) → MeansBy p e a s → list_any (unset_in s) (reads i) ≡ false
-    → w ≡ ways.One → Sets p.maps a i b → After (InSome p w b c) (act p clock s i)
+    → w ≡ ways.One → SetsRegister p.maps a i b → After (InSome p w b c) (act p clock s i)
 sets_in p clock e a s i w b c fits names keeps m set one h =
     let (r, is, y) = puts_yields p clock e a s i h.register h.kind fits m set h.written names h.puts in
     let next : State = go_to (with_register a h.register h.kind) (a.slot + slots_of i) in
@@ -216,7 +216,7 @@ sets_in p clock e a s i w b c fits names keeps m set one h =
 
 -- the machine goes on with what is left
 left_goes : (p : Program) (e f : Assigned) (a : State) (s : Machine.State) (i : Insn) (went : Result Machine.State TrapReason) (w : Ways) (b c left : State)
-    → slots_of i ≡ 1 → IfNext (goes_on s i went) (IsState p) → MeansBy p e a s → GoesInto p f left went → w ≡ ways.One → b ≡ go_to left (a.slot + 1)
+    → slots_of i ≡ 1 → IfNext (goes_on s i went) (IsState p) → MeansBy p e a s → ContinuesIn p f left went → w ≡ ways.One → b ≡ go_to left (a.slot + 1)
     → After (InSome p w b c) (goes_on s i went)
 left_goes p e f a s i (Ok t) w b c left one is m goes way next =
     let n : ℕ = s.slot + slots_of i in
@@ -252,7 +252,7 @@ fetches w op false place r = refl
 -- ---- jumps
 
 jumps_in : (p : Program) (e : Assigned) (a : State) (s : Machine.State) (by : ℤ) (w : Ways) (b c : State)
-    → IfNext (jumps s p by) (IsState p) → MeansBy p e a s → JumpsTo p a by (Ok w) b → After (InSome p w b c) (jumps s p by)
+    → IfNext (jumps s p by) (IsState p) → MeansBy p e a s → StepsJump p a by (Ok w) b → After (InSome p w b c) (jumps s p by)
 jumps_in p e a s by w b c is m h =
     let n : ℕ = destination p s.slot by in
     one_means p e w b c (go_to a (destination p a.slot by)) (Machine.go_to s n) (cc h.0) h.1
@@ -276,7 +276,7 @@ go_means p e stays false stay go w b c t h some m = absurd (cc)
 branches_in : (p : Program) (e : Assigned) (a : State) (s : Machine.State) (cond : Cond) (by : ℤ) (w : Ways) (b c : State) (t : Bool)
     → test_of s cond ≡ Ok t → IfNext (branches s p by (Ok t)) (IsState p) → MeansBy p e a s → Branches p a cond by w b c
     → After (InSome p w b c) (branches s p by (Ok t))
-unfolding Keeps
+unfolding KeepsMembers
 branches_in p e a s cond by w b c true says is m h =
     let (some, kept) = h.taken_there.kept p e s m says in
     let n : ℕ = destination p s.slot by in
@@ -291,7 +291,7 @@ branches_in p e a s cond by w b c false says is m h =
 -- ---- calls and exits
 
 calls_in : (p : Program) (e : Assigned) (a : State) (s : Machine.State) (by : ℤ) (w : Ways) (b c : State)
-    → IfNext (calls s p by) (IsState p) → MeansBy p e a s → Calls p a by (Ok w) b → After (InSome p w b c) (calls s p by)
+    → IfNext (calls s p by) (IsState p) → MeansBy p e a s → StepsCall p a by (Ok w) b → After (InSome p w b c) (calls s p by)
 calls_in p e a s by w b c is m h =
     let room = h.0 in
     let count = depth_is_length p e a s m in
@@ -328,7 +328,7 @@ exits_in p e a s w b c (suc n) callers is m h =
 
 performs_in : (p : Program) (clock : ℕ → ℕ) → IsClock clock → All IsRow p.maps → (e : Assigned) (a : State) (s : Machine.State) (i : Insn) (w : Ways) (b c : State)
     → is_frame_pointer (writes i) ≡ false → InsnFits i → NamesRows p.maps i → MeansBy p e a s → list_any (unset_in s) (reads i) ≡ false
-    → IfNext (act p clock s i) (IsState p) → Performs p a i (Ok w) b c → After (InSome p w b c) (act p clock s i)
+    → IfNext (act p clock s i) (IsState p) → StepsForm p a i (Ok w) b c → After (InSome p w b c) (act p clock s i)
 unfolding act
 performs_in p clock answers rows e a s (StoreConstant size place k) w b c own fits names m set is h =
     let (source, just, stores) = h in
@@ -382,7 +382,7 @@ unfolding LeadsTo Means step
 Steps-leads p a i w b c program here h = λ clock answers s means.
     let (e, m) = means in
     let (known, own, performs) =
-    tested_rest (reads_unset a i) (is_frame_pointer (writes i)) UnsetRegister ReadOnlyRegister w (Performs p a i (Ok w) b c) h in
+    tested_rest (reads_unset a i) (is_frame_pointer (writes i)) UnsetRegister ReadOnlyRegister w (StepsForm p a i (Ok w) b c) h in
     let set = none_unset p e a s m (reads i) known in
     let at : fetch p s.slot ≡ Some i = ap (fetch p) m.slot_is ∙ here in
     let fits = program.fits s.slot i at in

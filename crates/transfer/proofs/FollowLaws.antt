@@ -23,7 +23,7 @@ use Rattle.transfer.specs.Refusing.{reads_unset}
 use Rattle.transfer.specs.Following.{returns_of, GoesOnTo}
 use Rattle.transfer.proofs.ReturnLaws.{returns-stores, returns-swaps, returns-compares, returns-refines, returns-calls_helper}
 use Rattle.transfer.specs.HelperCalls.{CallsHelper}
-use Rattle.transfer.specs.Exact.{Sets, GoesOn, Sides, Branches, Calls, ExitsFrom, Performs, Steps}
+use Rattle.transfer.specs.Exact.{SetsRegister, GoesOn, Sides, Branches, StepsCall, ExitsFrom, StepsForm, Steps}
 use Rattle.transfer.proofs.AnswerLaws.{answered_number}
 use Rattle.transfer.proofs.ExactLaws.{tested_rest}
 
@@ -49,7 +49,7 @@ one_after p a i w b c left here falls one next returns =
     }))
 
 sets_follows : (p : Program) (a : State) (i : Insn) (w : Ways) (b c : State) → fetch p a.slot ≡ Some i → falls_through i ≡ true
-    → w ≡ ways.One → Sets p.maps a i b → EachWay w b c (GoesOnTo p a)
+    → w ≡ ways.One → SetsRegister p.maps a i b → EachWay w b c (GoesOnTo p a)
 sets_follows p a i w b c here falls one h =
     one_after p a i w b c (with_register a h.register h.kind) here falls one h.next (returns-with a h.register h.kind)
 
@@ -78,7 +78,7 @@ branches_follow p a cond by w b c here h =
 
 -- ---- calls and exits
 
-calls_follow : (p : Program) (a : State) (by : ℤ) (w : Ways) (b c : State) → fetch p a.slot ≡ Some (CallLocal by) → Calls p a by (Ok w) b
+calls_follow : (p : Program) (a : State) (by : ℤ) (w : Ways) (b c : State) → fetch p a.slot ≡ Some (CallLocal by) → StepsCall p a by (Ok w) b
     → EachWay w b c (GoesOnTo p a)
 calls_follow p a by w b c here h =
     each_one w b c (GoesOnTo p a) h.1 (inr (inl (record {
@@ -100,7 +100,7 @@ exits_follow p a w b c (suc n) callers here h =
 
 -- ---- every form
 
-performs_follows : (p : Program) (a : State) (i : Insn) (w : Ways) (b c : State) → fetch p a.slot ≡ Some i → Performs p a i (Ok w) b c
+performs_follows : (p : Program) (a : State) (i : Insn) (w : Ways) (b c : State) → fetch p a.slot ≡ Some i → StepsForm p a i (Ok w) b c
     → EachWay w b c (GoesOnTo p a)
 performs_follows p a (Jump by) w b c here h =
     each_one w b c (GoesOnTo p a) (cc h.0) (jumps_follow p a (Jump by) by b a here refl h.1 refl)
@@ -133,5 +133,5 @@ pub Steps-follows : (p : Program) (a : State) (i : Insn) (w : Ways) (b c : State
     → EachWay w b c (GoesOnTo p a)
 Steps-follows p a i w b c here h =
     let (known, own, performs) =
-    tested_rest (reads_unset a i) (is_frame_pointer (writes i)) UnsetRegister ReadOnlyRegister w (Performs p a i (Ok w) b c) h in
+    tested_rest (reads_unset a i) (is_frame_pointer (writes i)) UnsetRegister ReadOnlyRegister w (StepsForm p a i (Ok w) b c) h in
     performs_follows p a i w b c here performs

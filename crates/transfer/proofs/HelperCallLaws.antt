@@ -51,9 +51,9 @@ use Rattle.transfer.specs.declared.refusals.Refusal.{Refusal}
 use Rattle.transfer.specs.declared.helpers.CalledMap.{CalledMap}
 use Rattle.transfer.specs.Refusing.{is_untested}
 use Rattle.transfer.proofs.PacketLaws.{packet_place}
-use Rattle.transfer.proofs.StackAccessLaws.{GoesInto}
-use Rattle.transfer.proofs.ValueLaws.{IsAt, at_value, GoesIntoSome}
-use Rattle.transfer.specs.HelperCalls.{map_with_row, called_map, points_to_bytes, is_number, judged, key_arguments, update_arguments, AreInFrame, AreKnown, KeyIsKnown, ValueIsKnown, AnswersNumber, AnswersValue, without_values, LeavesIf, Helps, CallsHelper}
+use Rattle.transfer.proofs.StackAccessLaws.{ContinuesIn}
+use Rattle.transfer.proofs.ValueLaws.{HasBytesAt, at_value, GoesIntoSome}
+use Rattle.transfer.specs.HelperCalls.{map_with_row, called_map, points_to_bytes, is_number, judged, key_arguments, update_arguments, AreInFrame, AreKnown, KeyIsKnown, ValueIsKnown, AnswersNumber, AnswersValue, without_values, LeavesIf, StepsHelper, CallsHelper}
 
 -- ---- the kinds of the arguments
 
@@ -142,7 +142,7 @@ packet_points s n i z found inside =
     (at, refl, read_there s at n (map Byte bytes) (rw (found, yes, take-drop-Byte s.packet i n)) (list_all-is_byte-Byte bytes))
 
 -- bytes of a live value
-value_points : (p : Program) (s : Machine.State) (m serial n : ℕ) (z : ℤ) → IsAt p s m serial z n → Points s (Ptr (region.MapValue m serial) z) n
+value_points : (p : Program) (s : Machine.State) (m serial n : ℕ) (z : ℤ) → HasBytesAt p s m serial z n → Points s (Ptr (region.MapValue m serial) z) n
 value_points p s m serial n z h =
     let at : BytesArgument = record { region = region.MapValue m serial; offset = z } in
     let all : List ℕ = (entry_at (content_of s m) h.place).1.bytes in
@@ -166,7 +166,7 @@ known_points p e a s (Packet fixed identity least greatest proved) v n some m al
 known_points p e a s (MapValue j least greatest) v n some m allowed h =
     let at = at_value p e a s j least greatest (pos 0) v n some m allowed h in
     subst (λ u. Points s u n) (sym allowed.points)
-    (value_points p s j allowed.serial n allowed.offset (subst (λ y. IsAt p s j allowed.serial y n) (no_move allowed.offset) at))
+    (value_points p s j allowed.serial n allowed.offset (subst (λ y. HasBytesAt p s j allowed.serial y n) (no_move allowed.offset) at))
 known_points p e a s k v n some m allowed h = absurd h
 
 row_fits : (rows : List MapDef) (m : ℕ) (row : MapDef) → slice_get rows m ≡ Some row → All IsRow rows → IsRow row
@@ -231,7 +231,7 @@ answer_goes : (p : Program) (f : Assigned) (a b : State) (k : Kind) (called : Re
 answer_goes p f a b k called helped is fits left allowed means =
     let fit : IsHelped p helped = subst (λ r. IfOk r (IsHelped p)) is fits in (
       f,
-      subst (λ r. GoesInto p f b (after_call r)) (sym is)
+      subst (λ r. ContinuesIn p f b (after_call r)) (sym is)
           (subst (λ x. MeansBy p f x (answered helped)) (sym left) (MeansBy-answered p f a helped k (IsState-answered p helped fit) allowed means)),
     )
 
@@ -296,7 +296,7 @@ left_by b (Ok m) Known leaves h = (m, refl, h.0, h.1)
 left_by b (Err e) Known leaves h = absurd (cc)
 
 helps_goes : (p : Program) (clock : ℕ → ℕ) (e : Assigned) (a : State) (s : Machine.State) (helper : Option Helper) (b : State) → IsClock clock
-    → All IsRow p.maps → MeansBy p e a s → IfOk (helper_call p clock s helper) (IsHelped p) → Helps p.maps a helper b (Ok tt)
+    → All IsRow p.maps → MeansBy p e a s → IfOk (helper_call p clock s helper) (IsHelped p) → StepsHelper p.maps a helper b (Ok tt)
     → GoesIntoSome p b (after_call (helper_call p clock s helper))
 helps_goes p clock e a s (Some MapLookupElem) b answers rows means fits h =
     let (m, is, known, left) = left_by b (key_arguments p.maps a) (KeyIsKnown p.maps a) (AnswersValue a) h in

@@ -19,12 +19,12 @@ use Rattle.stack_state.proofs.MeaningLaws.{returns-with}
 use Rattle.stack_state.specs.Effects.{with_slots, with_frame_slots, forgotten_frame, with_kinds, map_kinds, proved_kind}
 use Rattle.stack_state.proofs.EffectLaws.{frames_of-with_frame, frames_of-map, same_returns}
 use Rattle.branch_refine.specs.Comparing.{compared_by, same}
-use Rattle.branch_refine.specs.Refining.{Narrows, Leaves, Refines}
+use Rattle.branch_refine.specs.Refining.{Narrows, LearnsOf, Refines}
 use Rattle.branch_refine.proofs.RefiningLaws.{numbers-compared_by}
 use Rattle.branch_refine.specs.declared.comparing.Compared.{Compared}
 use Rattle.branch_refine.specs.declared.comparing.Compared.TheVariants as compared
 use Rattle.transfer.specs.StackAccesses.{IsLeft}
-use Rattle.transfer.specs.Accesses.{Stores}
+use Rattle.transfer.specs.Accesses.{StoresKind}
 use Rattle.transfer.specs.Atomics.{with_old, IsSwapped, SwapsAt, Swaps, ComparesIn}
 use Rattle.isa_model.specs.declared.map_defs.MapKind.{MapKind}
 use Rattle.isa_model.specs.declared.map_defs.MapKind.TheVariants.{Hash, Array}
@@ -34,7 +34,7 @@ use Rattle.isa_model.specs.Code.Helpers.{helper_numbered}
 use Rattle.stack_state.proofs.HelperEffects.{returns-with_answer}
 use Rattle.transfer.specs.declared.refusals.Refusal.{Refusal}
 use Rattle.transfer.specs.declared.helpers.CalledMap.{CalledMap}
-use Rattle.transfer.specs.HelperCalls.{key_arguments, update_arguments, KeyIsKnown, ValueIsKnown, AnswersNumber, AnswersValue, without_values, LeavesIf, Helps, CallsHelper}
+use Rattle.transfer.specs.HelperCalls.{key_arguments, update_arguments, KeyIsKnown, ValueIsKnown, AnswersNumber, AnswersValue, without_values, LeavesIf, StepsHelper, CallsHelper}
 use Rattle.transfer.specs.Following.{returns_of}
 
 -- ---- memory
@@ -50,7 +50,7 @@ returns-left a b frame at size (kind.Number numbers) live h = ap returns_of h.le
 returns-left a b frame at size source live h = ap returns_of h.left ∙ returns-with_frame_slots a frame _ live
 
 -- a store
-pub returns-stores : (rows : List MapDef) (a b : State) (size : Size) (base : Kind) (by : ℤ) (source : Kind) → Stores rows a size base by source b (Ok tt) → returns_of b ≡ returns_of a
+pub returns-stores : (rows : List MapDef) (a b : State) (size : Size) (base : Kind) (by : ℤ) (source : Kind) → StoresKind rows a size base by source b (Ok tt) → returns_of b ≡ returns_of a
 returns-stores rows a b size (kind.Stack frame z) by source h = returns-left a b frame h.0 size source h.1.live h.3
 returns-stores rows a b size (kind.Packet fixed identity least greatest proved) by source h = ap returns_of h.0
 returns-stores rows a b size base by source h = ap returns_of h.0
@@ -99,7 +99,7 @@ returns-narrows a b h =
     ∙ sym (map-append (λ f. f.return_slot) a.callers.items (a.innermost ∷ []))
 
 returns-leaves : (cond : Cond) (taken : Bool) (a : State) (some : Bool) (b : State) (c : Compared) → compared_by a cond ≡ c
-    → Refines cond taken a some b → Leaves c taken a some b → returns_of b ≡ returns_of a
+    → Refines cond taken a some b → LearnsOf c taken a some b → returns_of b ≡ returns_of a
 returns-leaves cond taken a some b compared.Numbers is h l = returns-narrows a b (h.narrowed (numbers-compared_by a cond is))
 returns-leaves cond taken a some b (compared.Packet identity shows bytes) is h l =
     ap returns_of l.1 ∙ returns-proved (proved_kind identity bytes) a (same taken shows)
@@ -129,7 +129,7 @@ returns-leaves_if a b (Err e) Known leaves same h = absurd (cc)
 returns-number : (a b : State) → AnswersNumber a b → returns_of b ≡ returns_of a
 returns-number a b h = ap returns_of h.2 ∙ returns-with_answer a h.0
 
-returns-helps : (rows : List MapDef) (a b : State) (helper : Option Helper) → Helps rows a helper b (Ok tt) → returns_of b ≡ returns_of a
+returns-helps : (rows : List MapDef) (a b : State) (helper : Option Helper) → StepsHelper rows a helper b (Ok tt) → returns_of b ≡ returns_of a
 returns-helps rows a b (Some MapLookupElem) h =
     returns-leaves_if a b (key_arguments rows a) (KeyIsKnown rows a) (AnswersValue a)
     (λ m left. ap returns_of left.2 ∙ returns-with_answer a (kind.MapValueOrNull m.index left.0)) h

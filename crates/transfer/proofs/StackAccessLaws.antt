@@ -23,7 +23,7 @@ use Rattle.reg_state.specs.Kinds.{Assigned, Allows, AllowsOrNull}
 use Rattle.stack_state.specs.declared.states.State.{State}
 use Rattle.stack_state.specs.Meaning.{depth, slots_of, MeansBy}
 use Rattle.stack_state.specs.Slots.{slot_at, IsLoad, IsFill}
-use Rattle.stack_state.specs.StackMeaning.{Loads, Fills}
+use Rattle.stack_state.specs.StackMeaning.{LoadsNumber, LoadsSlot}
 use Rattle.stack_state.proofs.StackLaws.{loads}
 use Rattle.stack_state.proofs.FillLaws.{fills}
 use Rattle.stack_state.proofs.FrameLaws.{IsHere}
@@ -32,7 +32,7 @@ use Rattle.stack_state.proofs.NumberStoreEffects.{MeansBy-stores_number}
 use Rattle.stack_state.specs.FramePlaces.{IsStoredIn, IsSpilledIn}
 use Rattle.stack_state.specs.NumberStores.{IsNumberStoredIn}
 use Rattle.stack_state.proofs.FramePlaceLaws.{place_below, place_in_slot, place_whole, IsHere-place}
-use Rattle.branch_refine.specs.Refining.{IsNumber}
+use Rattle.branch_refine.specs.Refining.{IsNumberKind}
 use Rattle.transfer.specs.declared.refusals.Refusal.{Refusal}
 use Rattle.transfer.specs.declared.refusals.Refusal.TheVariants.{NullNotTested, PointerStored}
 use Rattle.transfer.proofs.ResultLaws.{Yields}
@@ -47,7 +47,7 @@ pub number_read : (p : Program) (e : Assigned) (a : State) (s : Machine.State) (
     → (n : ℕ) × (load_number s size (value.Ptr (region.Frame serial) z) by ≡ Ok n) × Has c n
 number_read p e a s frame at serial z by size c m found place h =
     let here : IsHere s serial frame at (size_bytes size) z by = IsHere-place p e a s size serial frame at z by m found place.place in
-    let all : Loads (slots_of a frame) at size (Some c) =
+    let all : LoadsNumber (slots_of a frame) at size (Some c) =
     loads (slots_of a frame) at size (Some c) (place_below (z +ℤ by) size at place.place) (place_in_slot (z +ℤ by) size at place.place) h in
     MeansBy-loads p e a s size serial frame at z by c place.live here all m
 
@@ -70,7 +70,7 @@ whole_yields p e a s frame at serial z by k m found place h =
     let here : IsHere s serial frame at 8 z by = IsHere-place p e a s U64 serial frame at z by m found place.place in
     let there : IsHere s serial frame (8 * (at / 8)) 8 z by =
     subst (λ i. IsHere s serial frame i 8 z by) (sym (place_whole (z +ℤ by) at place.place)) here in
-    let all : Fills (slots_of a frame) (at / 8) (Some k) = fills (slots_of a frame) (at / 8) (Some k) (omega arith) h in
+    let all : LoadsSlot (slots_of a frame) (at / 8) (Some k) = fills (slots_of a frame) (at / 8) (Some k) (omega arith) h in
     let (v, read, allowed) = MeansBy-fills p e a s serial frame (at / 8) z by k place.live there all m in
     subst (λ r. Yields e k r) (sym read) allowed
 
@@ -111,16 +111,16 @@ stack_load_signed_yields p e a s frame z by size k v m base h =
 -- ---- stores
 
 -- the machine goes on, and the abstract state that is left means where it is
-abbrev pub GoesInto : Program → Assigned → State → Result Machine.State TrapReason → Type 0
-GoesInto p e b (Ok t) = MeansBy p e b t
-GoesInto p e b (Err reason) = ⊥
+abbrev pub ContinuesIn : Program → Assigned → State → Result Machine.State TrapReason → Type 0
+ContinuesIn p e b (Ok t) = MeansBy p e b t
+ContinuesIn p e b (Err reason) = ⊥
 
-pub GoesInto-left : (p : Program) (e : Assigned) (b : State) (went : Result Machine.State TrapReason) → IfLeft p e b went
-    → IfOk went (IsState p) → GoesInto p e b went
-GoesInto-left p e b (Ok t) h is =
+pub ContinuesIn-left : (p : Program) (e : Assigned) (b : State) (went : Result Machine.State TrapReason) → IfLeft p e b went
+    → IfOk went (IsState p) → ContinuesIn p e b went
+ContinuesIn-left p e b (Ok t) h is =
     let same : h.0 ≡ t = (let went = h.1 in cc) in
     subst (MeansBy p e b) same (h.2 (subst (IsState p) (sym same) is))
-GoesInto-left p e b (Err reason) h is = let went = h.1 in absurd (cc)
+ContinuesIn-left p e b (Err reason) h is = let went = h.1 in absurd (cc)
 
 or_null_set : (e : Assigned) (m : ℕ) (o : Option ℕ) (v : Value) → AllowsOrNull e m o v → v ≢ value.Unset
 or_null_set e m None v h = λ none. absurd (cc)
@@ -148,7 +148,7 @@ either_refused : (b : Bool) (o : Option Refusal) (r q : Refusal) → o ≡ Some 
 either_refused true o r q is = λ none. absurd (cc)
 either_refused false o r q is = λ none. absurd (cc)
 
-narrow_number : (a : State) (frame : ℕ) (size : Size) (k : Kind) → size ≢ U64 → store_refusal a frame size k ≡ None → IsNumber k
+narrow_number : (a : State) (frame : ℕ) (size : Size) (k : Kind) → size ≢ U64 → store_refusal a frame size k ≡ None → IsNumberKind k
 narrow_number a frame size Unset other pass = absurd (cc)
 narrow_number a frame size (Number c) other pass = tt
 narrow_number a frame size (Stack f z) other pass =
@@ -202,10 +202,10 @@ left p e a s frame at serial z by U32 k v b m found place pass allowed h = absur
 -- where a store is not refused, the machine goes on into what is left
 pub stack_store_goes : (p : Program) (e : Assigned) (a : State) (s : Machine.State) (frame : ℕ) (z by : ℤ) (size : Size) (source : Kind) (base v : Value) (b : State)
     → MeansBy p e a s → Allows e (Stack frame z) base → Allows e source v → IsValue (length p.maps) s.next_serial v
-    → StackStores a frame (z +ℤ by) size source b (Ok tt) → GoesInto p e b (store s size base by v)
+    → StackStores a frame (z +ℤ by) size source b (Ok tt) → ContinuesIn p e b (store s size base by v)
 stack_store_goes p e a s frame z by size source base v b m pointer allowed fits h =
     let (serial, found, is) = pointer in
     let (at, place, pass, wrote) = h in
-    GoesInto-left p e b (store s size base by v)
+    ContinuesIn-left p e b (store s size base by v)
     (subst (λ x. IfLeft p e b (store s size x by v)) (sym is) (left p e a s frame at serial z by size source v b m found place pass allowed wrote))
     (store_keeps p s size base by v fits m.is_state)

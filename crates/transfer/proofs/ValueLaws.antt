@@ -48,7 +48,7 @@ use Rattle.reg_state.specs.declared.scalars.Scalar.{Scalar}
 use Rattle.reg_state.specs.declared.kinds.Kind.{Kind}
 use Rattle.reg_state.specs.declared.kinds.Kind.TheVariants.{Number, MapValue, MapValueOrNull}
 use Rattle.reg_state.specs.Scalars.{Has}
-use Rattle.reg_state.specs.Kinds.{Assigned, Allows, AllowsMapValue, IsLive}
+use Rattle.reg_state.specs.Kinds.{Assigned, Allows, AllowsMapValue, HasLiveValue}
 use Rattle.reg_state.proofs.ConstantsLaws.{IsNumber-only}
 use Rattle.stack_state.specs.declared.states.State.{State}
 use Rattle.stack_state.proofs.CellLaws.{length-bytes_of, number_from_below}
@@ -61,7 +61,7 @@ use Rattle.transfer.specs.Results.{moved_offset, LeavesNumber}
 use Rattle.transfer.proofs.ResultLaws.{Yields, pointer_at_within}
 use Rattle.transfer.specs.Packets.{IsOfSize, IsOfSignedSize}
 use Rattle.transfer.proofs.PacketLaws.{place_from, number_yields, extended_fits, offset_between}
-use Rattle.transfer.proofs.StackAccessLaws.{GoesInto}
+use Rattle.transfer.proofs.StackAccessLaws.{ContinuesIn}
 use Rattle.transfer.specs.Values.{NamesFit, value_size, AreInValue, ValueLoads, ValueLoadsSigned, ValueStores, nearest, farthest, moved_least, moved_greatest, ValueMoves}
 
 -- ---- live values
@@ -105,7 +105,7 @@ entry_there p s m n j row here is within =
     subst (IsEntry row) (get_or-map_default (λ e. (e.0, e.1.bytes)) content j none)
     (All-get_or (IsEntry row) (entries_of content) j ([], []) (omega arith) (content_fits p s m row here is).entries)
 
-live_value : (p : Program) (s : Machine.State) (m n : ℕ) (o : Option MapDef) → slice_get p.maps m ≡ o → IsState p s → IsLive s.maps m n
+live_value : (p : Program) (s : Machine.State) (m n : ℕ) (o : Option MapDef) → slice_get p.maps m ≡ o → IsState p s → HasLiveValue s.maps m n
     → 0 < value_size o → (j : ℕ) × IsLiveValue p s m n j
 live_value p s m n None here is live some = absurd (omega arith)
 live_value p s m n (Some row) here is live some =
@@ -130,7 +130,7 @@ some_bytes U32 = omega arith
 some_bytes U64 = omega arith
 
 -- where the bytes of a pointer to a value are
-pub record IsAt (p : Program) (s : Machine.State) (m n : ℕ) (z : ℤ) (bytes : ℕ) : Type 0 where
+pub record HasBytesAt (p : Program) (s : Machine.State) (m n : ℕ) (z : ℤ) (bytes : ℕ) : Type 0 where
   pub place : ℕ
   pub live : IsLiveValue p s m n place
   pub index : ℕ
@@ -140,11 +140,11 @@ pub record IsAt (p : Program) (s : Machine.State) (m n : ℕ) (z : ℤ) (bytes :
 -- some bytes that are known to be in a value are there
 pub at_value : (p : Program) (e : Assigned) (a : State) (s : Machine.State) (m : ℕ) (least greatest by : ℤ) (v : Value) (bytes : ℕ) → 0 < bytes
     → MeansBy p e a s → (h : AllowsMapValue e m least greatest v) → AreInValue (value_size (slice_get p.maps m)) least greatest by bytes
-    → IsAt p s m h.serial (h.offset +ℤ by) bytes
+    → HasBytesAt p s m h.serial (h.offset +ℤ by) bytes
 at_value p e a s m least greatest by v bytes some means h inside =
     let room : ℕ = value_size (slice_get p.maps m) in
     let (i, found, within) = value_place room least greatest h.offset by bytes inside h.from h.to in
-    let live : IsLive s.maps m h.serial = subst (λ maps. IsLive maps m h.serial) means.assigned.contents h.live in
+    let live : HasLiveValue s.maps m h.serial = subst (λ maps. HasLiveValue maps m h.serial) means.assigned.contents h.live in
     let (j, value) = live_value p s m h.serial (slice_get p.maps m) refl means.is_state live (omega arith) in
     let long = value.size in
     record { place = j; live = value; index = i; found = found; inside = omega arith }
@@ -154,7 +154,7 @@ at_value p e a s m least greatest by v bytes some means h inside =
 abbrev bytes_from : Machine.State → ℕ → ℕ → ℕ → ℕ → List ℕ
 bytes_from s m j i n = take n (drop i (entry_at (content_of s m) j).1.bytes)
 
-value_number : (p : Program) (s : Machine.State) (size : Size) (m n : ℕ) (z by : ℤ) (h : IsAt p s m n (z +ℤ by) (size_bytes size))
+value_number : (p : Program) (s : Machine.State) (size : Size) (m n : ℕ) (z by : ℤ) (h : HasBytesAt p s m n (z +ℤ by) (size_bytes size))
     → load_number s size (Ptr (region.MapValue m n) z) by ≡ Ok (number_from (bytes_from s m h.place h.index (size_bytes size)))
 value_number p s size m n z by h =
     let bytes : List ℕ = (entry_at (content_of s m) h.place).1.bytes in
@@ -165,7 +165,7 @@ value_number p s size m n z by h =
     rw (h.live.found, h.found, yes, take-drop-Byte bytes h.index (size_bytes size))
     (number_in-Byte (bytes_from s m h.place h.index (size_bytes size)))
 
-value_whole : (p : Program) (s : Machine.State) (m n : ℕ) (z by : ℤ) (h : IsAt p s m n (z +ℤ by) 8)
+value_whole : (p : Program) (s : Machine.State) (m n : ℕ) (z by : ℤ) (h : HasBytesAt p s m n (z +ℤ by) 8)
     → load s U64 (Ptr (region.MapValue m n) z) by ≡ Ok (Num (number_from (bytes_from s m h.place h.index 8)))
 value_whole p s m n z by h =
     let bytes : List ℕ = (entry_at (content_of s m) h.place).1.bytes in
@@ -174,7 +174,7 @@ value_whole p s m n z by h =
     let yes : nat_le (h.index + 8) (length (map Byte bytes)) ≡ true = le-leb (h.index + 8) (length (map Byte bytes)) (omega arith) in
     rw (h.live.found, h.found, yes, take-drop-Byte bytes h.index 8) (value_in-Byte (bytes_from s m h.place h.index 8))
 
-value_load : (p : Program) (s : Machine.State) (size : Size) (m n : ℕ) (z by : ℤ) (h : IsAt p s m n (z +ℤ by) (size_bytes size))
+value_load : (p : Program) (s : Machine.State) (size : Size) (m n : ℕ) (z by : ℤ) (h : HasBytesAt p s m n (z +ℤ by) (size_bytes size))
     → load s size (Ptr (region.MapValue m n) z) by ≡ Ok (Num (number_from (bytes_from s m h.place h.index (size_bytes size))))
 value_load p s U64 m n z by h = value_whole p s m n z by h
 value_load p s U8 m n z by h = rw (value_number p s U8 m n z by h)
@@ -182,7 +182,7 @@ value_load p s U16 m n z by h = rw (value_number p s U16 m n z by h)
 value_load p s U32 m n z by h = rw (value_number p s U32 m n z by h)
 
 -- a number of that many bytes
-value_number_below : (p : Program) (s : Machine.State) (size : Size) (m n : ℕ) (z : ℤ) (h : IsAt p s m n z (size_bytes size))
+value_number_below : (p : Program) (s : Machine.State) (size : Size) (m n : ℕ) (z : ℤ) (h : HasBytesAt p s m n z (size_bytes size))
     → number_from (bytes_from s m h.place h.index (size_bytes size)) < 2 ^ (8 * size_bytes size)
 value_number_below p s size m n z h =
     let bytes : List ℕ = (entry_at (content_of s m) h.place).1.bytes in
@@ -217,7 +217,7 @@ value_load_signed_yields p e a s size m least greatest by k v means (inside, num
 
 -- the machine goes on, and under some assignment the abstract state that is left means where it is
 abbrev pub GoesIntoSome : Program → State → Result Machine.State TrapReason → Type 0
-GoesIntoSome p b went = (f : Assigned) × GoesInto p f b went
+GoesIntoSome p b went = (f : Assigned) × ContinuesIn p f b went
 
 -- a content with the same serials in place of another keeps all values live
 kept_live : (maps : List Content) (m : ℕ) (content : Content) → value_serials content ≡ value_serials (slice_index_or maps m [])
@@ -250,7 +250,7 @@ value_stored p e a s size m least greatest by x v means inside allowed =
     let goes : store_number s size v by x ≡ Ok t = ap (λ u. store_number s size u by x) allowed.points ∙ went in
     let is : IsState p t = subst (λ r. IfOk r (IsState p)) goes (store_number_keeps p s size v by x means.is_state) in
     let live = kept_live s.maps m content (put_value_serials (content_of s m) (Some h.place) h.index (map byte_in new)) in
-    (with_maps e maps, subst (GoesInto p (with_maps e maps) a) (sym goes) (MeansBy-values p e a s maps live is means))
+    (with_maps e maps, subst (ContinuesIn p (with_maps e maps) a) (sym goes) (MeansBy-values p e a s maps live is means))
 
 -- what is not refused is a number, and is stored
 pub value_store_goes : (p : Program) (e : Assigned) (a : State) (s : Machine.State) (size : Size) (m : ℕ) (least greatest by : ℤ) (source : Kind)
@@ -322,7 +322,7 @@ first_live [] some = absurd (omega arith)
 first_live (e ∷ content) some = (0, omega arith, refl)
 
 one_live : (p : Program) (s : Machine.State) (m offset : ℕ) (o : Option MapDef) → slice_get p.maps m ≡ o → IsSomeAnd o (HoldsOffset offset) → IsState p s
-    → IsLive s.maps m (one_serial (content_of s m))
+    → HasLiveValue s.maps m (one_serial (content_of s m))
 one_live p s m offset None here names is = absurd names
 one_live p s m offset (Some row) here names is =
     let content : Content = content_of s m in
@@ -341,7 +341,7 @@ value_pointer_allowed p e a s m offset means names = record {
   points = refl;
   from = omega (arith, ints);
   to = omega (arith, ints);
-  live = subst (λ maps. IsLive maps m (one_serial (content_of s m))) (sym means.assigned.contents)
+  live = subst (λ maps. HasLiveValue maps m (one_serial (content_of s m))) (sym means.assigned.contents)
       (one_live p s m offset (slice_get p.maps m) refl names means.is_state);
 }
 

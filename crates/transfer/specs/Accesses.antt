@@ -15,12 +15,12 @@ use Rattle.transfer.specs.Values.{value_size, ValueLoads, ValueLoadsSigned, Valu
 
 -- ---- loads
 
-abbrev pub Loads : List MapDef → State → Size → Kind → ℤ → Result Kind Refusal → Type 0
-Loads rows a size Context by result = ContextLoads size by result
-Loads rows a size (Stack frame offset) by result = StackLoads a frame (offset +ℤ by) size result
-Loads rows a size (Packet fixed identity least greatest proved) by result = PacketLoads size fixed least proved by result
-Loads rows a size (MapValue m least greatest) by result = ValueLoads size (value_size (slice_get rows m)) least greatest by result
-Loads rows a size base by result = result ≡ Err (access_refusal base)
+abbrev pub LoadsKind : List MapDef → State → Size → Kind → ℤ → Result Kind Refusal → Type 0
+LoadsKind rows a size Context by result = ContextLoads size by result
+LoadsKind rows a size (Stack frame offset) by result = StackLoads a frame (offset +ℤ by) size result
+LoadsKind rows a size (Packet fixed identity least greatest proved) by result = PacketLoads size fixed least proved by result
+LoadsKind rows a size (MapValue m least greatest) by result = ValueLoads size (value_size (slice_get rows m)) least greatest by result
+LoadsKind rows a size base by result = result ≡ Err (access_refusal base)
 
 -- with the sign extended
 abbrev pub LoadsSigned : List MapDef → State → Narrow → Kind → ℤ → Result Kind Refusal → Type 0
@@ -32,9 +32,9 @@ LoadsSigned rows a size base by result = result ≡ Err (access_refusal base)
 -- ---- stores
 
 -- a value is stored, which leaves b
-abbrev pub Stores : List MapDef → State → Size → Kind → ℤ → Kind → State → Result (Unit {0}) Refusal → Type 0
-Stores rows a size (Stack frame offset) by source b result = StackStores a frame (offset +ℤ by) size source b result
-Stores rows a size (Packet fixed identity least greatest proved) by source b result = (b ≡ a) × PacketStores size fixed least proved by source result
-Stores rows a size (MapValue m least greatest) by source b result =
+abbrev pub StoresKind : List MapDef → State → Size → Kind → ℤ → Kind → State → Result (Unit {0}) Refusal → Type 0
+StoresKind rows a size (Stack frame offset) by source b result = StackStores a frame (offset +ℤ by) size source b result
+StoresKind rows a size (Packet fixed identity least greatest proved) by source b result = (b ≡ a) × PacketStores size fixed least proved by source result
+StoresKind rows a size (MapValue m least greatest) by source b result =
     (b ≡ a) × ValueStores size (value_size (slice_get rows m)) least greatest by source result
-Stores rows a size base by source b result = (b ≡ a) × (result ≡ Err (access_refusal base))
+StoresKind rows a size base by source b result = (b ≡ a) × (result ≡ Err (access_refusal base))

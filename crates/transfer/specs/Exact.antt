@@ -36,16 +36,16 @@ use Rattle.transfer.specs.declared.refusals.Refusal.{Refusal}
 use Rattle.transfer.specs.declared.refusals.Refusal.TheVariants.{TooManyFrames, ExitValue, NoAction}
 use Rattle.transfer.specs.Refusing.{register_refusal, comparison_refusal}
 use Rattle.transfer.specs.Results.{OfNumber, Arithmetic}
-use Rattle.transfer.specs.Accesses.{Loads, LoadsSigned, Stores}
+use Rattle.transfer.specs.Accesses.{LoadsKind, LoadsSigned, StoresKind}
 use Rattle.transfer.specs.Atomics.{Swaps, Compares}
 use Rattle.transfer.specs.HelperCalls.{CallsHelper}
 
 -- ---- registers set
 
 -- the kind of an operand; a constant is sign-extended to the width
-abbrev pub IsOperand : State → Width → Operand → Kind → Type 0
-IsOperand a w (Constant k) b = IsJust b (unsigned w k)
-IsOperand a w (Register r) b = b ≡ kind_of a r
+abbrev pub OperandKind : State → Width → Operand → Kind → Type 0
+OperandKind a w (Constant k) b = IsJust b (unsigned w k)
+OperandKind a w (Register r) b = b ≡ kind_of a r
 
 -- the forms that set a register and leave all else as it is
 abbrev pub IsSetter : Insn → Type 0
@@ -61,30 +61,30 @@ IsSetter (LoadSx size d place) = Unit {0}
 IsSetter i = ⊥
 
 -- the kind that such a form gives its register, or the refusal; `rows` are the rows of the maps
-abbrev pub Puts : List MapDef → State → Insn → Result Kind Refusal → Type 0
-Puts rows a (Alu w op d source) result = (b : Kind) × IsOperand a w source b × Arithmetic a op w (kind_of a d) b result
-Puts rows a (Neg w d) result = OfNumber (IsNegated w) (kind_of a d) result
-Puts rows a (MovSx e d r) result = OfNumber (IsSignExtended e) (kind_of a r) result
-Puts rows a (ByteSwap order span d) result = OfNumber (IsReordered order span) (kind_of a d) result
-Puts rows a (LoadNumber d n) result = (k : Kind) × IsJust k n × (result ≡ Ok k)
-Puts rows a (LoadMap d m) result = result ≡ Ok (Map m)
-Puts rows a (LoadMapValue d m offset) result = result ≡ Ok (MapValue m (pos offset) (pos offset))
-Puts rows a (Load size d place) result = Loads rows a size (kind_of a place.base) place.offset result
-Puts rows a (LoadSx size d place) result = LoadsSigned rows a size (kind_of a place.base) place.offset result
-Puts rows a i result = ⊥
+abbrev pub ResultKind : List MapDef → State → Insn → Result Kind Refusal → Type 0
+ResultKind rows a (Alu w op d source) result = (b : Kind) × OperandKind a w source b × Arithmetic a op w (kind_of a d) b result
+ResultKind rows a (Neg w d) result = OfNumber (IsNegated w) (kind_of a d) result
+ResultKind rows a (MovSx e d r) result = OfNumber (IsSignExtended e) (kind_of a r) result
+ResultKind rows a (ByteSwap order span d) result = OfNumber (IsReordered order span) (kind_of a d) result
+ResultKind rows a (LoadNumber d n) result = (k : Kind) × IsJust k n × (result ≡ Ok k)
+ResultKind rows a (LoadMap d m) result = result ≡ Ok (Map m)
+ResultKind rows a (LoadMapValue d m offset) result = result ≡ Ok (MapValue m (pos offset) (pos offset))
+ResultKind rows a (Load size d place) result = LoadsKind rows a size (kind_of a place.base) place.offset result
+ResultKind rows a (LoadSx size d place) result = LoadsSigned rows a size (kind_of a place.base) place.offset result
+ResultKind rows a i result = ⊥
 
 -- the state at the next instruction: the written register has a kind, and all else is as before
-pub record Sets (rows : List MapDef) (a : State) (i : Insn) (b : State) : Type 0 where
+pub record SetsRegister (rows : List MapDef) (a : State) (i : Insn) (b : State) : Type 0 where
   pub register : Reg
   pub written : writes i ≡ Some register
   pub own : register ≢ R10
   pub kind : Kind
-  pub puts : Puts rows a i (Ok kind)
+  pub puts : ResultKind rows a i (Ok kind)
   pub next : b ≡ go_to (with_register a register kind) (a.slot + slots_of i)
 
-abbrev pub SetsOr : List MapDef → State → Insn → Result Ways Refusal → State → Type 0
-SetsOr rows a i (Ok w) b = (w ≡ ways.One) × Sets rows a i b
-SetsOr rows a i (Err e) b = Puts rows a i (Err e)
+abbrev pub SetsOrRefuses : List MapDef → State → Insn → Result Ways Refusal → State → Type 0
+SetsOrRefuses rows a i (Ok w) b = (w ≡ ways.One) × SetsRegister rows a i b
+SetsOrRefuses rows a i (Err e) b = ResultKind rows a i (Err e)
 
 -- ---- memory
 
@@ -99,7 +99,7 @@ GoesOn a leaves (Ok w) b = (w ≡ ways.One) × GoesOnWith a leaves b
 GoesOn a leaves (Err e) b = (left : State) × leaves left (Err e)
 
 abbrev pub StoresAt : List MapDef → State → Size → Place → Kind → State → Result (Unit {0}) Refusal → Type 0
-StoresAt rows a size place source left result = Stores rows a size (kind_of a place.base) place.offset source left result
+StoresAt rows a size place source left result = StoresKind rows a size (kind_of a place.base) place.offset source left result
 
 -- with the kind of register r; `kept` is the register that gets the old number, if any
 abbrev pub SwapsAtPlace : List MapDef → State → Width → Place → Reg → Option Reg → State → Result (Unit {0}) Refusal → Type 0
@@ -134,15 +134,15 @@ BranchesOr p a cond by (Ok w) b c = Branches p a cond by w b c
 BranchesOr p a cond by (Err e) b c = (e ≡ comparison_refusal a cond) × ¬ IsDefined (compared_by a cond)
 
 -- the state as before, at the jump's target
-abbrev pub JumpsTo : Program → State → ℤ → Result Ways Refusal → State → Type 0
-JumpsTo p a by result b = (result ≡ Ok ways.One) × (b ≡ go_to a (destination p a.slot by))
+abbrev pub StepsJump : Program → State → ℤ → Result Ways Refusal → State → Type 0
+StepsJump p a by result b = (result ≡ Ok ways.One) × (b ≡ go_to a (destination p a.slot by))
 
 -- ---- calls and exits
 
 -- a frame is pushed, unless the most frames are live already
-abbrev pub Calls : Program → State → ℤ → Result Ways Refusal → State → Type 0
-Calls p a by (Ok w) b = (depth a < max_call_frames) × (w ≡ ways.One) × (b ≡ entered a (destination p a.slot by))
-Calls p a by (Err e) b = (max_call_frames ≤ depth a) × (e ≡ TooManyFrames)
+abbrev pub StepsCall : Program → State → ℤ → Result Ways Refusal → State → Type 0
+StepsCall p a by (Ok w) b = (depth a < max_call_frames) × (w ≡ ways.One) × (b ≡ entered a (destination p a.slot by))
+StepsCall p a by (Err e) b = (max_call_frames ≤ depth a) × (e ≡ TooManyFrames)
 
 -- known bits or limits show that the low half of each number is at most 4, as version 2 requires of
 -- answers
@@ -163,36 +163,36 @@ points_into n (Stack f z) = f == n
 points_into n k = false
 
 -- a frame is popped, unless r0 points into it
-abbrev pub Returns : State → Result Ways Refusal → State → Type 0
-Returns a (Ok w) b = (points_into (length a.callers.items) (kind_of a R0) ≡ false) × (w ≡ ways.One) × (b ≡ ended a)
-Returns a (Err e) b = (points_into (length a.callers.items) (kind_of a R0) ≡ true) × (e ≡ ExitValue)
+abbrev pub StepsReturn : State → Result Ways Refusal → State → Type 0
+StepsReturn a (Ok w) b = (points_into (length a.callers.items) (kind_of a R0) ≡ false) × (w ≡ ways.One) × (b ≡ ended a)
+StepsReturn a (Err e) b = (points_into (length a.callers.items) (kind_of a R0) ≡ true) × (e ≡ ExitValue)
 
 abbrev pub ExitsFrom : Version → ℕ → State → Result Ways Refusal → State → Type 0
 ExitsFrom v zero a result b = result ≡ answered v (kind_of a R0)
-ExitsFrom v (suc n) a result b = Returns a result b
+ExitsFrom v (suc n) a result b = StepsReturn a result b
 
 -- the first frame, which has no callers, answers
-abbrev pub Exits : Version → State → Result Ways Refusal → State → Type 0
-Exits v a result b = ExitsFrom v (length a.callers.items) a result b
+abbrev pub StepsExit : Version → State → Result Ways Refusal → State → Type 0
+StepsExit v a result b = ExitsFrom v (length a.callers.items) a result b
 
 -- ---- instructions
 
 -- the step of each form, once the tests of its registers pass
-abbrev pub Performs : Program → State → Insn → Result Ways Refusal → State → State → Type 0
-Performs p a (StoreConstant size place k) result b c =
+abbrev pub StepsForm : Program → State → Insn → Result Ways Refusal → State → State → Type 0
+StepsForm p a (StoreConstant size place k) result b c =
     (source : Kind) × IsJust source (unsigned Full64 k) × GoesOn a (StoresAt p.maps a size place source) result b
-Performs p a (Store size place r) result b c = GoesOn a (StoresAt p.maps a size place (kind_of a r)) result b
-Performs p a (Atomic w op fetched place r) result b c =
+StepsForm p a (Store size place r) result b c = GoesOn a (StoresAt p.maps a size place (kind_of a r)) result b
+StepsForm p a (Atomic w op fetched place r) result b c =
     GoesOn a (SwapsAtPlace p.maps a w place r (writes (Atomic w op fetched place r))) result b
-Performs p a (Exchange w place r) result b c = GoesOn a (SwapsAtPlace p.maps a w place r (Some r)) result b
-Performs p a (CompareExchange w place r) result b c = GoesOn a (ComparesAtPlace p.maps a w place r) result b
-Performs p a (Jump by) result b c = JumpsTo p a by result b
-Performs p a (JumpLong by) result b c = JumpsTo p a by result b
-Performs p a (JumpIf cond by) result b c = BranchesOr p a cond by result b c
-Performs p a (CallLocal by) result b c = Calls p a by result b
-Performs p a Exit result b c = Exits p.version a result b
-Performs p a (CallHelper number) result b c = GoesOn a (CallsHelper p.maps a number) result b
-Performs p a i result b c = SetsOr p.maps a i result b
+StepsForm p a (Exchange w place r) result b c = GoesOn a (SwapsAtPlace p.maps a w place r (Some r)) result b
+StepsForm p a (CompareExchange w place r) result b c = GoesOn a (ComparesAtPlace p.maps a w place r) result b
+StepsForm p a (Jump by) result b c = StepsJump p a by result b
+StepsForm p a (JumpLong by) result b c = StepsJump p a by result b
+StepsForm p a (JumpIf cond by) result b c = BranchesOr p a cond by result b c
+StepsForm p a (CallLocal by) result b c = StepsCall p a by result b
+StepsForm p a Exit result b c = StepsExit p.version a result b
+StepsForm p a (CallHelper number) result b c = GoesOn a (CallsHelper p.maps a number) result b
+StepsForm p a i result b c = SetsOrRefuses p.maps a i result b
 
 -- a test that fails decides, and if it passes the rest does
 abbrev pub Tested : Option Refusal → Result Ways Refusal → Type 0 → Type 0
@@ -201,12 +201,12 @@ Tested (Some e) result Rest = result ≡ Err e
 
 -- one step: the tests of the registers, and then the form's own
 abbrev pub Steps : Program → State → Insn → Result Ways Refusal → State → State → Type 0
-Steps p a i result b c = Tested (register_refusal a i) result (Performs p a i result b c)
+Steps p a i result b c = Tested (register_refusal a i) result (StepsForm p a i result b c)
 
 -- the ways that the instruction goes, with the states that it leaves
-abbrev pub Makes : Program → State → Insn → Ways → State → State → Type 0
-Makes p a i w b c = Steps p a i (Ok w) b c
+abbrev pub StepsToWays : Program → State → Insn → Ways → State → State → Type 0
+StepsToWays p a i w b c = Steps p a i (Ok w) b c
 
 -- its step is refused so
-abbrev pub Refuses : Program → State → Insn → Refusal → Type 0
-Refuses p a i e = (b c : State) × Steps p a i (Err e) b c
+abbrev pub RefusesStep : Program → State → Insn → Refusal → Type 0
+RefusesStep p a i e = (b c : State) × Steps p a i (Err e) b c

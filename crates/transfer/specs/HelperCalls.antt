@@ -109,16 +109,16 @@ LeavesIf (Ok m) Known leaves b (Ok done) = Known m × leaves m b
 LeavesIf (Ok m) Known leaves b (Err e) = (e ≡ HelperBytes) × ¬ Known m
 LeavesIf (Err e) Known leaves b result = result ≡ Err e
 
-abbrev pub Helps : List MapDef → State → Option Helper → State → Result (Unit {0}) Refusal → Type 0
-Helps rows a (Some MapLookupElem) b result =
+abbrev pub StepsHelper : List MapDef → State → Option Helper → State → Result (Unit {0}) Refusal → Type 0
+StepsHelper rows a (Some MapLookupElem) b result =
     LeavesIf (key_arguments rows a) (KeyIsKnown rows a) (AnswersValue a) b result
-Helps rows a (Some MapUpdateElem) b result =
+StepsHelper rows a (Some MapUpdateElem) b result =
     LeavesIf (update_arguments rows a) (λ m. KeyIsKnown rows a m × ValueIsKnown rows a m) (λ m. AnswersNumber a) b result
-Helps rows a (Some MapDeleteElem) b result =
+StepsHelper rows a (Some MapDeleteElem) b result =
     LeavesIf (key_arguments rows a) (KeyIsKnown rows a) (λ m. AnswersNumber (without_values m.row.kind m.index a)) b result
-Helps rows a (Some KtimeGetNs) b result = (result ≡ Ok tt) × AnswersNumber a b
-Helps rows a None b result = result ≡ Err HelperArgument
+StepsHelper rows a (Some KtimeGetNs) b result = (result ≡ Ok tt) × AnswersNumber a b
+StepsHelper rows a None b result = result ≡ Err HelperArgument
 
 -- the call of the helper of a number
 abbrev pub CallsHelper : List MapDef → State → ℤ → State → Result (Unit {0}) Refusal → Type 0
-CallsHelper rows a number b result = Helps rows a (helper_numbered number) b result
+CallsHelper rows a number b result = StepsHelper rows a (helper_numbered number) b result

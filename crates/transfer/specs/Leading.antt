@@ -32,8 +32,8 @@ LeadsTo p from ways a b =
     (clock : ℕ → ℕ) → IsClock clock → (s : Machine.State) → Means p from s → After (InSome p ways a b) (step p clock s)
 
 -- P of the ways and the two states, for the successors of a result
-abbrev pub Given : Result Successors Refusal → (Result Ways Refusal → State → State → Type 0) → Type 0
-Given (Ok successors.None) P = (a b : State) × P (Ok None) a b
-Given (Ok (successors.One a)) P = (b : State) × P (Ok One) a b
-Given (Ok (successors.Two a b)) P = P (Ok Two) a b
-Given (Err e) P = (a b : State) × P (Err e) a b
+abbrev pub OnSuccessors : Result Successors Refusal → (Result Ways Refusal → State → State → Type 0) → Type 0
+OnSuccessors (Ok successors.None) P = (a b : State) × P (Ok None) a b
+OnSuccessors (Ok (successors.One a)) P = (b : State) × P (Ok One) a b
+OnSuccessors (Ok (successors.Two a b)) P = P (Ok Two) a b
+OnSuccessors (Err e) P = (a b : State) × P (Err e) a b

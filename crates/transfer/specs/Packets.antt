@@ -66,15 +66,15 @@ PacketLoadsSigned size fixed least proved by answer =
 -- ---- stores
 
 -- a number is stored, and no pointer
-abbrev pub IsStored : Kind → Result (Unit {0}) Refusal → Type 0
-IsStored (Number numbers) answer = answer ≡ Ok tt
-IsStored (MapValueOrNull m identity) answer = answer ≡ Err NullNotTested
-IsStored k answer = answer ≡ Err PointerStored
+abbrev pub IsStoredNumber : Kind → Result (Unit {0}) Refusal → Type 0
+IsStoredNumber (Number numbers) answer = answer ≡ Ok tt
+IsStoredNumber (MapValueOrNull m identity) answer = answer ≡ Err NullNotTested
+IsStoredNumber k answer = answer ≡ Err PointerStored
 
 -- the bytes are tested first
 abbrev pub StoresIf : Refusal → Type 0 → Kind → Result (Unit {0}) Refusal → Type 0
 StoresIf refusal inside source answer =
-    (inside × IsStored source answer) ⊎ ((¬ inside) × (answer ≡ Err refusal))
+    (inside × IsStoredNumber source answer) ⊎ ((¬ inside) × (answer ≡ Err refusal))
 
 abbrev pub PacketStores : Size → ℤ → ℤ → ℕ → ℤ → Kind → Result (Unit {0}) Refusal → Type 0
 PacketStores size fixed least proved by source answer =
@@ -110,16 +110,16 @@ AreLimited from to (Ok limits) = (limits.0 ≡ from) × (limits.1 ≡ to) × Are
 AreLimited from to (Err e) = (e ≡ PointerOffset) × ¬ AreOffsets from to
 
 -- a part of an offset is a number of 32 bits with a sign
-abbrev pub IsPart : ℤ → Option ℤ → Type 0
-IsPart z (Some part) = (part ≡ z) × FitsSigned w32 z
-IsPart z None = ¬ FitsSigned w32 z
+abbrev pub IsOffsetPart : ℤ → Option ℤ → Type 0
+IsOffsetPart z (Some part) = (part ≡ z) × FitsSigned w32 z
+IsOffsetPart z None = ¬ FitsSigned w32 z
 
-abbrev pub HaveRoom : ℤ → ℤ → Type 0
-HaveRoom least greatest = FitsSigned w32 least × FitsSigned w32 greatest
+abbrev pub OffsetsHaveRoom : ℤ → ℤ → Type 0
+OffsetsHaveRoom least greatest = FitsSigned w32 least × FitsSigned w32 greatest
 
-abbrev pub AreParts : ℤ → ℤ → Option (ℤ × ℤ) → Type 0
-AreParts least greatest (Some parts) = (parts.0 ≡ least) × (parts.1 ≡ greatest) × HaveRoom least greatest
-AreParts least greatest None = ¬ HaveRoom least greatest
+abbrev pub AreOffsetParts : ℤ → ℤ → Option (ℤ × ℤ) → Type 0
+AreOffsetParts least greatest (Some parts) = (parts.0 ≡ least) × (parts.1 ≡ greatest) × OffsetsHaveRoom least greatest
+AreOffsetParts least greatest None = ¬ OffsetsHaveRoom least greatest
 
 -- the proved bytes after a move: less by how much the greatest variable part grows, if that is a
 -- length of 32 bits; else none
@@ -144,7 +144,7 @@ greatest_part back p near far = highest back p near far -ℤ p.fixed
 
 -- the variable part is moved, if it has room for that
 pub record IsMovedVariable (a : State) (back : Bool) (p : PacketPointer) (near far : ℤ) (k : Kind) : Type 0 where
-  pub room : HaveRoom (least_part back p near far) (greatest_part back p near far)
+  pub room : OffsetsHaveRoom (least_part back p near far) (greatest_part back p near far)
   pub proved : ℕ
   pub stays : StaysProved p.proved (greatest_part back p near far -ℤ p.greatest) proved
   pub pointer : IsFreshPointer a p.fixed (least_part back p near far) (greatest_part back p near far) proved k
@@ -153,7 +153,7 @@ pub record IsMovedVariable (a : State) (back : Bool) (p : PacketPointer) (near f
 pub record IsMovedBetween (a : State) (back : Bool) (p : PacketPointer) (near far : ℤ) (k : Kind) : Type 0 where
   pub within : AreOffsets (lowest back p near far) (highest back p near far)
   pub pointer : IsMovedVariable a back p near far k
-      ⊎ ((¬ HaveRoom (least_part back p near far) (greatest_part back p near far))
+      ⊎ ((¬ OffsetsHaveRoom (least_part back p near far) (greatest_part back p near far))
       × IsFreshPointer a (pos 0) (lowest back p near far) (highest back p near far) 0 k)
 
 -- a move by a known distance moves the fixed part

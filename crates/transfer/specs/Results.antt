@@ -60,24 +60,24 @@ abbrev pub packet_pointer : ℤ → ℕ → ℤ → ℤ → ℕ → PacketPointe
 packet_pointer fixed identity least greatest proved =
     record { fixed = fixed; identity = identity; least = least; greatest = greatest; proved = proved }
 
-abbrev pub Moves : State → Bool → Kind → Scalar → Result Kind Refusal → Type 0
-Moves a back (Stack frame offset) by result = (o : Option ℕ) × LeavesNumber by o × (result ≡ moved_frame back frame offset o)
-Moves a back (Packet fixed identity least greatest proved) by result =
+abbrev pub MovesPointer : State → Bool → Kind → Scalar → Result Kind Refusal → Type 0
+MovesPointer a back (Stack frame offset) by result = (o : Option ℕ) × LeavesNumber by o × (result ≡ moved_frame back frame offset o)
+MovesPointer a back (Packet fixed identity least greatest proved) by result =
     PacketMoves a back (packet_pointer fixed identity least greatest proved) by result
-Moves a back (MapValue m least greatest) by result =
+MovesPointer a back (MapValue m least greatest) by result =
     (o : Option ℕ) × LeavesNumber by o × ValueMoves back m least greatest (nearest by o) (farthest by o) result
-Moves a back (MapValueOrNull index identity) by result = result ≡ Err NullNotTested
-Moves a back pointer by result = result ≡ Err PointerOperand
+MovesPointer a back (MapValueOrNull index identity) by result = result ≡ Err NullNotTested
+MovesPointer a back pointer by result = result ≡ Err PointerOperand
 
 -- pointer + number and pointer - number at 64 bits only
 abbrev pub PointerAndNumber : State → AluOp → Width → Kind → Scalar → Result Kind Refusal → Type 0
-PointerAndNumber a Add Full64 pointer by result = Moves a false pointer by result
-PointerAndNumber a Sub Full64 pointer by result = Moves a true pointer by result
+PointerAndNumber a Add Full64 pointer by result = MovesPointer a false pointer by result
+PointerAndNumber a Sub Full64 pointer by result = MovesPointer a true pointer by result
 PointerAndNumber a op w pointer by result = result ≡ Err PointerOperand
 
 -- number + pointer
 abbrev pub NumberAndPointer : State → AluOp → Width → Scalar → Kind → Result Kind Refusal → Type 0
-NumberAndPointer a Add Full64 by pointer result = Moves a false pointer by result
+NumberAndPointer a Add Full64 by pointer result = MovesPointer a false pointer by result
 NumberAndPointer a op w by pointer result = result ≡ Err PointerOperand
 
 -- ---- arithmetic

@@ -4,7 +4,7 @@ ghost use Rattle.std.specs.Prelude.{◌≡◌, ◌+◌, ◌<◌, ◌^◌, length
 ghost use Rattle.stack_state.specs.Meaning.{depth};
 ghost use Rattle.stack_state.specs.Places.{kind_of};
 ghost use Rattle.isa_model.specs.Code.Instructions.{Program};
-ghost use Rattle.transfer.specs.Exact.{shows_action, answered, points_into, Calls, Exits, Returns};
+ghost use Rattle.transfer.specs.Exact.{shows_action, answered, points_into, StepsCall, StepsExit, StepsReturn};
 
 use crate::Ways;
 use crate::refusals::Refusal;
@@ -59,7 +59,7 @@ fn points_into(kind: Kind, frame: usize) -> bool
 /// A call of a function of the program.
 pub fn call(by: i32, slots: usize, state: &mut State) -> Result<Ways, Refusal>
     requires { state.old.slot + 1 < 2 ^ 63 }
-    ensures { (p : Program) → length p.insns ≡ slots → Calls p state.old by result state.new }
+    ensures { (p : Program) → length p.insns ≡ slots → StepsCall p state.old by result state.new }
 {
     if state.callers.is_full() {
         return Err(Refusal::TooManyFrames);
@@ -72,7 +72,7 @@ pub fn call(by: i32, slots: usize, state: &mut State) -> Result<Ways, Refusal>
 /// The exit of an inner frame, which returns r0.
 fn return_to_caller(state: &mut State) -> Result<Ways, Refusal>
     requires { 1 < depth state.old }
-    ensures { Returns state.old result state.new }
+    ensures { StepsReturn state.old result state.new }
 {
     if points_into(state.kind_of(Reg::R0), state.callers.len()) {
         return Err(Refusal::ExitValue);
@@ -83,7 +83,7 @@ fn return_to_caller(state: &mut State) -> Result<Ways, Refusal>
 
 /// An exit: the first frame answers, and every other one returns to its caller.
 pub fn exit(version: Version, state: &mut State) -> Result<Ways, Refusal>
-    ensures { Exits version state.old result state.new }
+    ensures { StepsExit version state.old result state.new }
 {
     if state.callers.is_empty() {
         return answered(version, state.kind_of(Reg::R0));

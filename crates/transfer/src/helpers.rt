@@ -2,7 +2,7 @@
 
 ghost use Rattle.std.specs.Prelude.{◌≡◌, ◌≤◌, ◌<◌, ◌^◌, ◌↔◌, ◌+ℤ◌, pos, IsTrue};
 ghost use Rattle.isa_model.specs.Code.Helpers.{helper_numbered};
-ghost use Rattle.transfer.specs.HelperCalls.{called_map, points_to_bytes, is_number, judged, key_arguments, update_arguments, KeyIsKnown, ValueIsKnown, AnswersNumber, AnswersValue, without_values, LeavesIf, Helps, CallsHelper};
+ghost use Rattle.transfer.specs.HelperCalls.{called_map, points_to_bytes, is_number, judged, key_arguments, update_arguments, KeyIsKnown, ValueIsKnown, AnswersNumber, AnswersValue, without_values, LeavesIf, StepsHelper, CallsHelper};
 
 use crate::bytes::are_known;
 use crate::jumps::is_untested;
@@ -167,7 +167,7 @@ fn delete(maps: &[MapDef], state: &mut State) -> Result<(), Refusal>
 }
 
 fn help(maps: &[MapDef], helper: Option<Helper>, state: &mut State) -> Result<(), Refusal>
-    ensures { Helps maps.now state.old helper state.new result }
+    ensures { StepsHelper maps.now state.old helper state.new result }
 {
     match helper {
         Some(Helper::MapLookupElem) => look_up(maps, state),

@@ -5,7 +5,7 @@ ghost use Rattle.std.specs.Prelude.{◌≡◌, Some, IfOk, IsSome};
 ghost use Rattle.isa_model.specs.declared.instructions.Insn.{Insn};
 ghost use Rattle.isa_model.specs.Code.Instructions.{fetch};
 ghost use Rattle.transfer.specs.Following.{GoesOnTo};
-ghost use Rattle.transfer.specs.Leading.{Given, LeadsTo, EachWay};
+ghost use Rattle.transfer.specs.Leading.{OnSuccessors, LeadsTo, EachWay};
 ghost use Rattle.transfer.specs.Exact.{Steps};
 
 mod arithmetic;
@@ -54,10 +54,10 @@ pub enum Successors {
 /// a successor.
 pub fn step(image: &Image, state: &State) -> Result<Successors, Refusal>
     requires { IsSome (fetch image.now state.now.slot) }
-    ensures leads { Given result
+    ensures leads { OnSuccessors result
         (λ r a b. IfOk r (λ ways. LeadsTo image.now state.now ways a b)) }
     ensures steps { (i : Insn) → fetch image.now state.now.slot ≡ Some i
-        → Given result (λ r a b. Steps image.now state.now i r a b) }
+        → OnSuccessors result (λ r a b. Steps image.now state.now i r a b) }
 {
     let mut first = state.copy();
     let mut second = state.copy();

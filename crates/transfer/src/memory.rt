@@ -1,7 +1,7 @@
 //! Access to memory: loads and stores by what the base points to, and their refusals.
 
 ghost use Rattle.std.specs.Prelude.{◌≡◌};
-ghost use Rattle.transfer.specs.Accesses.{Loads, LoadsSigned, Stores};
+ghost use Rattle.transfer.specs.Accesses.{LoadsKind, LoadsSigned, StoresKind};
 ghost use Rattle.transfer.specs.Refusing.{access_refusal};
 
 use crate::bytes::value_size;
@@ -33,7 +33,7 @@ pub fn load(
     base: Kind,
     by: i16,
 ) -> Result<Kind, Refusal>
-    ensures { Loads maps.now state.now size base by result }
+    ensures { LoadsKind maps.now state.now size base by result }
 {
     match base {
         Kind::Context => context_load(size, by),
@@ -89,7 +89,7 @@ pub fn store(
     by: i16,
     source: Kind,
 ) -> Result<(), Refusal>
-    ensures { Stores maps.now state.old size base by source state.new result }
+    ensures { StoresKind maps.now state.old size base by source state.new result }
 {
     match base {
         Kind::Stack { frame, offset } => stack_store(state, frame, offset, by, size, source),

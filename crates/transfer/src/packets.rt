@@ -3,7 +3,7 @@
 ghost use Rattle.std.specs.Prelude.{◌≡◌, ◌+◌, ◌*◌, ◌^◌, ◌↔◌, ℤ, pos, ◌+ℤ◌, ◌-ℤ◌, ◌≤ℤ◌, FitsSigned, IsTrue};
 ghost use Rattle.isa_model.specs.Code.Sizes.{size_bytes, narrow_size, narrow_extension};
 ghost use Rattle.ranges.specs.Keeps.{extension_signed};
-ghost use Rattle.transfer.specs.Packets.{IsOfSize, IsOfSignedSize, PacketLoads, PacketLoadsSigned, IsStored, PacketStores, lowest, highest, AreLimited, IsPart, AreParts, StaysProved, IsFreshPointer, MovesBetween, MovesBy, PacketMoves};
+ghost use Rattle.transfer.specs.Packets.{IsOfSize, IsOfSignedSize, PacketLoads, PacketLoadsSigned, IsStoredNumber, PacketStores, lowest, highest, AreLimited, IsOffsetPart, AreOffsetParts, StaysProved, IsFreshPointer, MovesBetween, MovesBy, PacketMoves};
 
 use crate::bytes::are_in_packet;
 use crate::offsets::{limits, moved_by, sum};
@@ -114,7 +114,7 @@ pub fn packet_load_signed(
 
 /// Numbers may be stored anywhere, pointers on the stack only.
 pub fn stored(source: Kind) -> Result<(), Refusal>
-    ensures { IsStored source result }
+    ensures { IsStoredNumber source result }
 {
     match source {
         Kind::Number(_) => Ok(()),
@@ -177,7 +177,7 @@ fn both(back: bool, pointer: PacketPointer, near: i64, far: i64) -> Result<(i32,
 
 /// A part of an offset, if it has room for the number.
 fn part(offset: i128) -> Option<i32>
-    ensures { IsPart offset result }
+    ensures { IsOffsetPart offset result }
 {
     if i128::from(i32::MIN) <= offset && offset <= i128::from(i32::MAX) {
         Some(offset as i32)
@@ -188,7 +188,7 @@ fn part(offset: i128) -> Option<i32>
 
 /// The limits of the variable part, where the whole offset is from one to another.
 fn variable_part(fixed: i32, from: i32, to: i32) -> Option<(i32, i32)>
-    ensures { AreParts (from -ℤ fixed) (to -ℤ fixed) result }
+    ensures { AreOffsetParts (from -ℤ fixed) (to -ℤ fixed) result }
 {
     let least = part(moved_by(true, i64::from(from), i64::from(fixed)))?;
     let greatest = part(moved_by(true, i64::from(to), i64::from(fixed)))?;

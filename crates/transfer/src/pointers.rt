@@ -1,7 +1,7 @@
 //! Arithmetic on pointers.
 
 ghost use Rattle.std.specs.Prelude.{◌≡◌};
-ghost use Rattle.transfer.specs.Results.{moved_offset, frame_pointer, moved_frame, Moves, PointerAndNumber, NumberAndPointer};
+ghost use Rattle.transfer.specs.Results.{moved_offset, frame_pointer, moved_frame, MovesPointer, PointerAndNumber, NumberAndPointer};
 
 use crate::offsets::OFFSET_LIMIT;
 use crate::packets::{PacketPointer, packet_moved};
@@ -49,7 +49,7 @@ fn moved_frame(back: bool, frame: u8, offset: i32, number: Option<u64>) -> Resul
 
 /// A pointer that a number moves, back or on.
 fn moved(state: &State, back: bool, pointer: Kind, by: Scalar) -> Result<Kind, Refusal>
-    ensures { Moves state.now back pointer by result }
+    ensures { MovesPointer state.now back pointer by result }
 {
     match pointer {
         Kind::Stack { frame, offset } => moved_frame(back, frame, offset, by.number()),

@@ -5,7 +5,7 @@ ghost use Rattle.std.specs.List.{list_any};
 ghost use Rattle.std.specs.Option.{option_to_list};
 ghost use Rattle.isa_model.specs.Code.Instructions.{Program, slots_of, writes, is_frame_pointer};
 ghost use Rattle.transfer.specs.Refusing.{is_unset_in, reads_unset};
-ghost use Rattle.transfer.specs.Exact.{IsOperand, IsSetter, Puts, SetsOr, Performs, GoesOn, StoresAt, SwapsAtPlace, ComparesAtPlace};
+ghost use Rattle.transfer.specs.Exact.{OperandKind, IsSetter, ResultKind, SetsOrRefuses, StepsForm, GoesOn, StoresAt, SwapsAtPlace, ComparesAtPlace};
 ghost use Rattle.transfer.specs.HelperCalls.{CallsHelper};
 ghost use Rattle.transfer.specs.Values.{NamesFit};
 
@@ -49,7 +49,7 @@ pub fn reads_unset(state: &State, insn: &Insn) -> bool
 
 /// The kind of an operand; a constant is sign-extended to the width.
 fn operand(state: &State, width: Width, source: Operand) -> Kind
-    ensures { IsOperand state.now width source result }
+    ensures { OperandKind state.now width source result }
 {
     match source {
         Operand::Constant(k) => constant(unsigned(width, k)),
@@ -61,7 +61,7 @@ fn operand(state: &State, width: Width, source: Operand) -> Kind
 fn result_kind(maps: &[MapDef], state: &State, insn: &Insn) -> Result<Kind, Refusal>
     requires named { NamesFit insn.now }
     requires setter { IsSetter insn.now }
-    ensures { Puts maps.now state.now insn.now result }
+    ensures { ResultKind maps.now state.now insn.now result }
 {
     match *insn {
         Insn::Alu(width, op, d, source) => {
@@ -95,7 +95,7 @@ fn set(maps: &[MapDef], state: &mut State, insn: &Insn) -> Result<Ways, Refusal>
     requires slot { state.old.slot + slots_of insn.now < 2 ^ 63 }
     requires named { NamesFit insn.now }
     requires setter { IsSetter insn.now }
-    ensures { SetsOr maps.now state.old insn.now result state.new }
+    ensures { SetsOrRefuses maps.now state.old insn.now result state.new }
 {
     let kind = result_kind(maps, state, insn)?;
     let Some(register) = insn.written() else {
@@ -202,7 +202,7 @@ pub fn perform(
     requires slot { state.old.slot + slots_of insn.now < 2 ^ 63 }
     requires named { NamesFit insn.now }
     ensures { (p : Program) → length p.insns ≡ slots → p.maps ≡ maps.now → p.version ≡ version
-        → Performs p state.old insn.now result state.new other.new }
+        → StepsForm p state.old insn.now result state.new other.new }
 {
     match *insn {
         Insn::StoreConstant(size, place, k) => {

@@ -15,14 +15,14 @@ use Rattle.reg_state.specs.declared.kinds.Kind.TheVariants.{Number}
 use Rattle.reg_state.specs.declared.scalars.Scalar.{Scalar}
 use Rattle.stack_state.specs.declared.states.State.{State}
 use Rattle.stack_state.specs.Places.{kind_of}
-use Rattle.branch_refine.specs.Refining.{IsNumber}
+use Rattle.branch_refine.specs.Refining.{IsNumberKind}
 use Rattle.control_flow.specs.declared.errors.FlowError.{FlowError}
 use Rattle.control_flow.specs.declared.errors.FlowError.TheVariants as error
 use Rattle.control_flow.specs.Graph.{slot_behind, call_distance, BeginsInsn, jump_to, call_to, fall_to, ReachedIn}
 use Rattle.control_flow.specs.Functions.{BeginsFunction, SameFunction}
 use Rattle.control_flow.specs.Flows.{IsFlow}
 use Rattle.control_flow.specs.Flows as flow
-use Rattle.control_flow.proofs.FlowLaws.{Leads-Follows, IsFlow-Fails}
+use Rattle.control_flow.proofs.FlowLaws.{HasEdge-Follows, IsFlow-Fails}
 use Rattle.transfer.specs.declared.refusals.Refusal.{Refusal as StepRefusal}
 use Rattle.transfer.specs.Refusing.{is_unset, is_unset_in, register_refusal, reads_unset}
 use Rattle.walks.specs.declared.refusals.Refusal.{Refusal}
@@ -98,7 +98,7 @@ PathTo-reached : (p : Program) (n slot : ℕ) (written : List Reg) → PathTo p 
 unfolding PathTo
 PathTo-reached p zero slot written h = h.0
 PathTo-reached p (suc n) slot written h =
-    (h.0, PathTo-reached p n h.0 h.1 h.3, Leads-Follows p h.0 slot (h.2, h.4, h.5))
+    (h.0, PathTo-reached p n h.0 h.1 h.3, HasEdge-Follows p h.0 slot (h.2, h.4, h.5))
 
 pub IsFlow-whole : (p : Program) → IsWhole p → HasNoCalls p → IsFlow p
 IsFlow-whole p whole forms = record {
@@ -129,7 +129,7 @@ IsRefused-want p Memory slot Rest good moves parts ends h = inl tt
 
 -- ---- the tests of registers
 
-pub number_is : (k : Kind) → IsNumber k → (c : Scalar) × (k ≡ Number c)
+pub number_is : (k : Kind) → IsNumberKind k → (c : Scalar) × (k ≡ Number c)
 number_is (Number c) h = (c, refl)
 number_is k h = absurd h
 
@@ -150,7 +150,7 @@ pub needs_reads : (P : Reg → Type 0) (i : Insn) → Each P (needs i) → Each 
 needs_reads P Exit h = tt
 needs_reads P i h = h
 
-pub number_set : (k : Kind) → IsNumber k → is_unset k ≡ false
+pub number_set : (k : Kind) → IsNumberKind k → is_unset k ≡ false
 number_set (Number c) h = refl
 number_set k h = absurd h
 
@@ -173,6 +173,6 @@ sets_pass s i set own =
     let free = own_register (writes i) own in
     rw (known, free) refl
 
-pub tests_pass : (s : State) (i : Insn) → Each (λ r. IsNumber (kind_of s r)) (reads i) → writes i ≢ Some R10 → register_refusal s i ≡ None
+pub tests_pass : (s : State) (i : Insn) → Each (λ r. IsNumberKind (kind_of s r)) (reads i) → writes i ≢ Some R10 → register_refusal s i ≡ None
 tests_pass s i numbers own =
-    sets_pass s i (Each-more (λ r. IsNumber (kind_of s r)) (λ r. is_unset (kind_of s r) ≡ false) (reads i) (λ r h. number_set (kind_of s r) h) numbers) own
+    sets_pass s i (Each-more (λ r. IsNumberKind (kind_of s r)) (λ r. is_unset (kind_of s r) ≡ false) (reads i) (λ r h. number_set (kind_of s r) h) numbers) own

@@ -28,7 +28,7 @@ use Rattle.isa_model.proofs.EndsLaws.{Reaches-then}
 use Rattle.isa_model.specs.MustAccept.Paths.{Each}
 use Rattle.isa_model.specs.MustAccept.Determined.{slot_offset, slot_place, IsSlotPlace, IsDeterminedForm, WritesIn, IsDetermined}
 use Rattle.isa_model.proofs.RunSteps.{no_trap, step_acts}
-use Rattle.isa_model.proofs.SlotLaws.{Slots-store, Slots-keep, stored, store_acts, store_constant_acts}
+use Rattle.isa_model.proofs.SlotLaws.{HasKnownSlots-store, HasKnownSlots-keep, stored, store_acts, store_constant_acts}
 use Rattle.reg_state.specs.declared.kinds.Kind.{Kind}
 use Rattle.stack_state.specs.declared.states.State.{State}
 use Rattle.stack_state.specs.Places.{kind_of, with_register, go_to}
@@ -37,16 +37,16 @@ use Rattle.stack_state.specs.Slots.{slot_at, kind_in}
 use Rattle.branch_refine.specs.Refining.{IsJust, IsJustOperand}
 use Rattle.transfer.specs.declared.Ways.{Ways}
 use Rattle.transfer.specs.declared.Ways.TheVariants as ways
-use Rattle.transfer.specs.Exact.{Sets, Sides, Branches, Performs, Makes, GoesOnWith, StoresAt}
+use Rattle.transfer.specs.Exact.{SetsRegister, Sides, Branches, StepsForm, StepsToWays, GoesOnWith, StoresAt}
 use Rattle.control_flow.specs.Liveness.{Home, InRegister, InSlot, IsLive, IsSlotLive, IsHomeLive}
 use Rattle.control_flow.specs.StackUse.{IsWholeSlot, WritesSlot}
 use Rattle.control_flow.proofs.LivenessLaws.{IsSlotLive-read, IsSlotLive-back}
 use Rattle.walks.proofs.Living.{live_before}
 use Rattle.walks.proofs.Accepted.{Each-more, own_register}
 use Rattle.walks.proofs.Exits.{exited_none}
-use Rattle.walks.proofs.OnNumbers.{NumbersIn, Remains, Refines-remains, Makes-performs, kind_of-go_to, kind_of-with_own, room-with, compared_operand, just_number}
+use Rattle.walks.proofs.OnNumbers.{NumbersIn, Remains, Refines-remains, StepsToWays-performs, kind_of-go_to, kind_of-with_own, room-with, compared_operand, just_number}
 use Rattle.walks.proofs.StackSlots.{PutsSlot, store_puts}
-use Rattle.walks.proofs.Beside.{HoldsIf, Mirrored, IsNoPointer, Mirrors, first, Along, Reads, none_unset, determined_calls, read_numbers, just_below, computed}
+use Rattle.walks.proofs.Beside.{HoldsIf, Mirrored, IsNoPointer, Mirrors, first, Along, KnowsRegister, none_unset, determined_calls, read_numbers, just_below, computed}
 
 -- ---- a step
 
@@ -76,7 +76,7 @@ Mirrors-go alive more s b t slot to same n less m = record {
   wide = m.wide;
   regs = λ r own live. mirrored_more (reg t r) (kind_of s r) (kind_of (go_to b slot) r) (λ x just. subst (λ k. IsJust k x) (sym (kind_of-go_to b slot r)) (n.constants r x just)) (m.regs r own (less (InRegister r) live));
   cells = ap (λ k. length k.slots) n.stack ∙ m.cells;
-  stack = Slots-keep (HoldsIf alive s) (HoldsIf more (go_to b slot)) t (Machine.go_to t to) m.stack refl refl
+  stack = HasKnownSlots-keep (HoldsIf alive s) (HoldsIf more (go_to b slot)) t (Machine.go_to t to) m.stack refl refl
       (λ k z held live. subst (λ x. IsJust (kind_in (slot_at x.slots k)) z) (sym n.stack) (held (less (InSlot k) live)));
 }
 
@@ -111,7 +111,7 @@ Mirrors-set alive s t r k n own just m = record {
         rw (reg_with_other t r q (Num n) apart, kind_of-with_other s r q k apart) (m.regs q other before)
   ];
   cells = m.cells;
-  stack = Slots-keep (HoldsIf alive s) (HoldsIf (λ q. (q ≡ InRegister r) ⊎ alive q) (with_register s r k)) t (set_reg t r (Num n)) m.stack refl (reg_with_other t r R10 (Num n) (λ e. own (sym e)))
+  stack = HasKnownSlots-keep (HoldsIf alive s) (HoldsIf (λ q. (q ≡ InRegister r) ⊎ alive q) (with_register s r k)) t (set_reg t r (Num n)) m.stack refl (reg_with_other t r R10 (Num n) (λ e. own (sym e)))
       (λ j z held live. held (elim live [ inl same ↦ absurd (no_register j r same) | inr before ↦ before ]));
 }
 
@@ -223,7 +223,7 @@ writes_falls i r is = refl
 
 -- a form that sets a register goes on
 sets_along : (p : Program) (steps : ℕ) (d : IsDetermined p steps) (k : ℕ) (s a : State) (t : Machine.State) (i : Insn)
-    → Along p steps d k s t → fetch p t.slot ≡ Some i → Sets p.maps s i a
+    → Along p steps d k s t → fetch p t.slot ≡ Some i → SetsRegister p.maps s i a
     → (u : Machine.State) × Along p steps d (suc k) a u
 sets_along p steps d k s a t i along here h =
     let acts = run_acts p steps d k s t i along here in
@@ -280,12 +280,12 @@ record Tested (s : State) (t : Machine.State) (c : Cond) : Type 0 where
   right : IsJustOperand s c.width c.operand y
 
 tested_by : (s : State) (t : Machine.State) (c : Cond) (operand : Operand) (x : ℕ) → reg t c.register ≡ Num x
-    → Each (Reads s t) (operand_reads operand)
+    → Each (KnowsRegister s t) (operand_reads operand)
     → (y : ℕ) × (tested t c operand ≡ Ok (holds c.comparison c.width x y)) × IsJustOperand s c.width operand y
 tested_by s t c (Constant k) x is set = (unsigned c.width k, rw is refl, refl)
 tested_by s t c (Register r) x is set = (set.0.0, rw (is, set.0.1) refl, set.0.2)
 
-tested_there : (s : State) (t : Machine.State) (c : Cond) → Each (Reads s t) (c.register ∷ operand_reads c.operand)
+tested_there : (s : State) (t : Machine.State) (c : Cond) → Each (KnowsRegister s t) (c.register ∷ operand_reads c.operand)
     → Tested s t c
 tested_there s t c set =
     let (x, is, just) = set.0 in
@@ -309,13 +309,13 @@ only_stays p steps d k false false stay go w a b none sides along = subst (λ v.
 branch_along : (p : Program) (steps : ℕ) (d : IsDetermined p steps) (k : ℕ) (s : State) (t : Machine.State) (c : Cond) (by : ℤ) (i : Insn) (w : Ways) (a b : State)
     → Along p steps d k s t → fetch p t.slot ≡ Some i
     → writes i ≡ None → FallsTo s.slot i (s.slot + 1) → jump_distance i ≡ Some by → act p d.run.clock t i ≡ branches t p by (test_of t c)
-    → Each (Reads s t) (c.register ∷ operand_reads c.operand) → Branches p s c by w a b → NextAlong p steps d k w a
+    → Each (KnowsRegister s t) (c.register ∷ operand_reads c.operand) → Branches p s c by w a b → NextAlong p steps d k w a
 branch_along p steps d k s t c by i w a b along here silent falls jumps acts set h = of (holds c.comparison c.width test.x test.y) refl where
   test : Tested s t c
   test = tested_there s t c set
 
   numbers : Each (NumbersIn s) (c.register ∷ operand_reads c.operand)
-  numbers = Each-more (Reads s t) (NumbersIn s) (c.register ∷ operand_reads c.operand) (λ r known. just_number (kind_of s r) known.0 known.2) set
+  numbers = Each-more (KnowsRegister s t) (NumbersIn s) (c.register ∷ operand_reads c.operand) (λ r known. just_number (kind_of s r) known.0 known.2) set
 
   goes_by : (taken : Bool) → holds c.comparison c.width test.x test.y ≡ taken
       → step p d.run.clock t ≡ branches t p by (Ok taken)
@@ -355,7 +355,7 @@ unfolding stored
 put_along p steps d k s left t i j y along here silent falls keeps below fits put acts =
     let m = along.mirrors in
     let u = stored t m.stack.frame j y in
-    let cells = Slots-store (HoldsIf (λ h. IsHomeLive p h s.slot) s) (HoldsIf (λ h. IsHomeLive p h (s.slot + 1)) left) t m.stack j y below fits (λ live. put.there)
+    let cells = HasKnownSlots-store (HoldsIf (λ h. IsHomeLive p h s.slot) s) (HoldsIf (λ h. IsHomeLive p h (s.slot + 1)) left) t m.stack j y below fits (λ live. put.there)
     (λ n z apart held live. put.others n z apart (held (slot_before p steps d k s t i (s.slot + 1) n along here (keeps n apart) (inl falls) live))) in
     record {
       reached = Reaches-then p d.run.clock (first p steps d) k t (Machine.go_to u (t.slot + 1)) along.reached (run_acts p steps d k s t i along here ∙ acts);
@@ -367,7 +367,7 @@ put_along p steps d k s left t i j y along here silent falls keeps below fits pu
         regs = λ r own live. subst (Mirrored (reg t r)) (sym (kind_of-go_to left (s.slot + 1) r ∙ put.kinds r))
             (m.regs r own (still_known p steps d k s t i (s.slot + 1) along here silent (inl falls) r live));
         cells = put.wide ∙ m.cells;
-        stack = Slots-keep (HoldsIf (λ h. IsHomeLive p h (s.slot + 1)) left) (HoldsIf (λ h. IsHomeLive p h (s.slot + 1)) (go_to left (s.slot + 1))) u (Machine.go_to u (t.slot + 1)) cells refl refl (λ k z held. held);
+        stack = HasKnownSlots-keep (HoldsIf (λ h. IsHomeLive p h (s.slot + 1)) left) (HoldsIf (λ h. IsHomeLive p h (s.slot + 1)) (go_to left (s.slot + 1))) u (Machine.go_to u (t.slot + 1)) cells refl refl (λ k z held. held);
       };
       numbers = λ r own. elim (along.numbers r own) [
         | inl plain ↦ inl plain
@@ -414,7 +414,7 @@ store_constant_along p steps d k s t place n source w a along (j, below, is) her
 -- ---- any step
 
 set_next : (p : Program) (steps : ℕ) (d : IsDetermined p steps) (k : ℕ) (s : State) (t : Machine.State) (i : Insn) (w : Ways) (a : State)
-    → Along p steps d k s t → fetch p t.slot ≡ Some i → w ≡ ways.One → Sets p.maps s i a
+    → Along p steps d k s t → fetch p t.slot ≡ Some i → w ≡ ways.One → SetsRegister p.maps s i a
     → NextAlong p steps d k w a
 set_next p steps d k s t i w a along here one h =
     let (u, next) = sets_along p steps d k s a t i along here h in
@@ -422,7 +422,7 @@ set_next p steps d k s t i w a along here one h =
 
 performs_along : (p : Program) (steps : ℕ) (d : IsDetermined p steps) (k : ℕ) (s : State) (t : Machine.State) (i : Insn) (w : Ways) (a b : State)
     → Along p steps d k s t → fetch p t.slot ≡ Some i → IsDeterminedForm i
-    → Performs p s i (Ok w) a b → NextAlong p steps d k w a
+    → StepsForm p s i (Ok w) a b → NextAlong p steps d k w a
 unfolding act
 performs_along p steps d k s t (Jump by) w a b along here form h = jump_along p steps d k s t (Jump by) by w a along here refl refl refl (cc (h.0)) h.1
 performs_along p steps d k s t (JumpLong by) w a b along here form h = jump_along p steps d k s t (JumpLong by) by w a along here refl refl refl (cc (h.0)) h.1
@@ -443,6 +443,6 @@ performs_along p steps d k s t i w a b along here form h = absurd form
 
 pub step_along : (p : Program) (steps : ℕ) (d : IsDetermined p steps) (k : ℕ) (s : State) (t : Machine.State) (i : Insn) (w : Ways) (a b : State)
     → Along p steps d k s t → fetch p s.slot ≡ Some i
-    → Makes p s i w a b → NextAlong p steps d k w a
+    → StepsToWays p s i w a b → NextAlong p steps d k w a
 step_along p steps d k s t i w a b along here makes =
-    performs_along p steps d k s t i w a b along (here_too p s t i along.mirrors.slot here) (d.forms s.slot i here) (Makes-performs p s i w a b makes)
+    performs_along p steps d k s t i w a b along (here_too p s t i along.mirrors.slot here) (d.forms s.slot i here) (StepsToWays-performs p s i w a b makes)

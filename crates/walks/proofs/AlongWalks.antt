@@ -13,7 +13,7 @@ use Rattle.isa_model.specs.Machine.Steps.{step}
 use Rattle.isa_model.specs.Running.Runs.{start_state, start_regs, count_values}
 use Rattle.isa_model.proofs.RunLaws.{progress-zero}
 use Rattle.isa_model.specs.MustAccept.Determined.{IsDetermined}
-use Rattle.isa_model.proofs.SlotLaws.{Slots, Slots-start}
+use Rattle.isa_model.proofs.SlotLaws.{HasKnownSlots, HasKnownSlots-start}
 use Rattle.stack_state.specs.declared.states.State.{State}
 use Rattle.stack_state.specs.Places.{kind_of}
 use Rattle.stack_state.specs.Starts.{start}
@@ -21,7 +21,7 @@ use Rattle.stack_state.specs.Slots.{kind_in, frame_slots}
 use Rattle.branch_refine.specs.Refining.{IsJust}
 use Rattle.transfer.specs.declared.Ways.{Ways}
 use Rattle.transfer.specs.declared.Ways.TheVariants as ways
-use Rattle.walks.specs.Walks.{IsAmong, StepsTo, Leads}
+use Rattle.walks.specs.Walks.{IsAmong, StepsTo, HasPath}
 use Rattle.control_flow.specs.Liveness.{IsLive, IsSlotLive, IsHomeLive}
 use Rattle.walks.specs.Forgetting.{Forgets}
 use Rattle.walks.specs.Counts.{AreForgotten, StepsInto}
@@ -31,8 +31,8 @@ use Rattle.walks.proofs.Along.{NextAlong, step_along}
 
 -- slots that are live are known as before
 kept_slots : (p : Program) (a b : State) (t : Machine.State) → Forgets p a b
-    → Slots (HoldsIf (λ h. IsHomeLive p h a.slot) a) t
-    → Slots (HoldsIf (λ h. IsHomeLive p h b.slot) b) t
+    → HasKnownSlots (HoldsIf (λ h. IsHomeLive p h a.slot) a) t
+    → HasKnownSlots (HoldsIf (λ h. IsHomeLive p h b.slot) b) t
 kept_slots p a b t f h = record {
   frame = h.frame;
   only = h.only;
@@ -94,8 +94,8 @@ to_along p steps d k s c t along step =
       of ways.Two a b next among = absurd next
 
 pub walk_along : (p : Program) (steps : ℕ) (d : IsDetermined p steps) (n k : ℕ) (a b : State) (t : Machine.State)
-    → Along p steps d k a t → Leads p n a b → (u : Machine.State) × Along p steps d (k + n) b u
-unfolding Leads
+    → Along p steps d k a t → HasPath p n a b → (u : Machine.State) × Along p steps d (k + n) b u
+unfolding HasPath
 walk_along p steps d zero k a b t along h = (t, subst (λ j. Along p steps d j b t) (omega arith) (subst (λ x. Along p steps d k x t) (sym h) along))
 walk_along p steps d (suc n) k a b t along h =
     let (u, next) = to_along p steps d k a h.0 t along h.1 in
@@ -118,7 +118,7 @@ start_along p steps d =
     let serial = count_values d.run.contents in
     record {
       reached = progress-zero p d.run.clock (first p steps d);
-      mirrors = record { slot = refl; one = refl; room = refl; wide = refl; regs = λ r own live. start_mirrored serial r own; cells = length-replicate frame_slots (Written 0); stack = Slots-start (HoldsIf (λ h. IsHomeLive p h start.slot) start) d.run.head d.run.packet d.run.contents };
+      mirrors = record { slot = refl; one = refl; room = refl; wide = refl; regs = λ r own live. start_mirrored serial r own; cells = length-replicate frame_slots (Written 0); stack = HasKnownSlots-start (HoldsIf (λ h. IsHomeLive p h start.slot) start) d.run.head d.run.packet d.run.contents };
       numbers = λ r own. elim (start_number serial r own) [
         | inl plain ↦ inl plain
         | inr argument ↦ inr (argument, λ w. let before = w.before in absurd (omega (arith, before)))

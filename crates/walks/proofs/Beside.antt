@@ -29,7 +29,7 @@ use Rattle.isa_model.specs.Running.Runs.{start_state, Reaches}
 use Rattle.isa_model.specs.MustAccept.Paths.{Each, IsOneOf}
 use Rattle.isa_model.specs.MustAccept.Determined.{slot_place, IsSlotPlace, IsDeterminedForm, operands, WritesIn, IsDetermined}
 use Rattle.isa_model.proofs.RunSteps.{no_trap, is_set, step_unset}
-use Rattle.isa_model.proofs.SlotLaws.{Slots, load_acts}
+use Rattle.isa_model.proofs.SlotLaws.{HasKnownSlots, load_acts}
 use Rattle.reg_state.specs.declared.kinds.Kind.{Kind}
 use Rattle.reg_state.specs.declared.kinds.Kind.TheVariants as kind
 use Rattle.reg_state.specs.declared.scalars.Scalar.{Scalar}
@@ -40,13 +40,13 @@ use Rattle.stack_state.specs.Meaning.{depth, registers_of}
 use Rattle.stack_state.specs.Places.{kind_of}
 use Rattle.branch_refine.specs.Refining.{IsJust}
 use Rattle.transfer.specs.Results.{OfNumber, NumberAnd, Combined, Copied, Arithmetic}
-use Rattle.transfer.specs.Exact.{IsOperand, Puts}
+use Rattle.transfer.specs.Exact.{OperandKind, ResultKind}
 use Rattle.control_flow.specs.Liveness.{Home, InRegister, InSlot, IsLive, IsHomeLive}
 use Rattle.control_flow.specs.StackUse.{ReadsSlot}
 use Rattle.control_flow.proofs.LivenessLaws.{IsLive-read}
 use Rattle.walks.proofs.Accepted.{Each-all, Each-one}
 use Rattle.walks.proofs.Living.{CallsNothing, read_needed}
-use Rattle.walks.proofs.StackSlots.{Holds, load_just}
+use Rattle.walks.proofs.StackSlots.{SlotHolds, load_just}
 
 -- ---- an abstract state beside the machine state of the run
 
@@ -61,7 +61,7 @@ IsNoPointer v = Unit {0}
 
 -- slot j of the stack is this number, if it is one of those
 abbrev pub HoldsIf : (Home → Type 0) → State → ℕ → ℕ → Type 0
-HoldsIf alive s j y = alive (InSlot j) → Holds s j y
+HoldsIf alive s j y = alive (InSlot j) → SlotHolds s j y
 
 -- the named registers and slots hold their numbers
 pub record Mirrors (alive : Home → Type 0) (s : State) (t : Machine.State) : Type 0 where
@@ -71,7 +71,7 @@ pub record Mirrors (alive : Home → Type 0) (s : State) (t : Machine.State) : T
   pub wide : length t.regs ≡ 11
   pub regs : (r : Reg) → r ≢ R10 → alive (InRegister r) → Mirrored (reg t r) (kind_of s r)
   pub cells : length s.innermost.stack.slots ≡ frame_slots
-  pub stack : Slots (HoldsIf alive s) t
+  pub stack : HasKnownSlots (HoldsIf alive s) t
 
 abbrev pub first : (p : Program) (steps : ℕ) → IsDetermined p steps → Machine.State
 first p steps d = start_state d.run.head d.run.packet d.run.contents
@@ -86,11 +86,11 @@ pub record Along (p : Program) (steps : ℕ) (d : IsDetermined p steps) (k : ℕ
 -- ---- what an instruction reads
 
 -- the register holds a number, and it is known
-abbrev pub Reads : State → Machine.State → Reg → Type 0
-Reads s t r = (x : ℕ) × (reg t r ≡ Num x) × IsJust (kind_of s r) x
+abbrev pub KnowsRegister : State → Machine.State → Reg → Type 0
+KnowsRegister s t r = (x : ℕ) × (reg t r ≡ Num x) × IsJust (kind_of s r) x
 
 read_value : (s : State) (t : Machine.State) (r : Reg) (v : Value) → reg t r ≡ v → is_unset v ≡ false
-    → IsNoPointer v → Mirrored v (kind_of s r) → Reads s t r
+    → IsNoPointer v → Mirrored v (kind_of s r) → KnowsRegister s t r
 read_value s t r Unset is set free mirrored = absurd (cc)
 read_value s t r (Num x) is set free mirrored = (x, is, mirrored)
 read_value s t r (Ptr region z) is set free mirrored = absurd free
@@ -127,10 +127,10 @@ operand_read (StoreConstant size place k) r among = absurd among
 operand_read i r among = among
 
 pub read_numbers : (p : Program) (steps : ℕ) (d : IsDetermined p steps) (k : ℕ) (s : State) (t : Machine.State) (i : Insn)
-    → Along p steps d k s t → fetch p t.slot ≡ Some i → Each (Reads s t) (operands i)
+    → Along p steps d k s t → fetch p t.slot ≡ Some i → Each (KnowsRegister s t) (operands i)
 read_numbers p steps d k s t i along here =
     let set = none_unset p steps d k s t i along here in
-    Each-all (Reads s t) (operands i) (λ r among.
+    Each-all (KnowsRegister s t) (operands i) (λ r among.
     let own = Each-one (λ r. r ≢ R10) (operands i) r (d.unnamed t.slot i here) among in
     let read = operand_read i r among in
     let free : IsNoPointer (reg t r) = elim (along.numbers r own) [
@@ -187,13 +187,13 @@ just_copied Full64 b k y h just =
 just_copied Low32 b k y h just = just_low b k y h just
 
 just_operand : (s : State) (t : Machine.State) (w : Width) (source : Operand) (b : Kind)
-    → Each (Reads s t) (operand_reads source) → IsOperand s w source b
+    → Each (KnowsRegister s t) (operand_reads source) → OperandKind s w source b
     → (y : ℕ) × (operand_value t w source ≡ Num y) × IsJust b y
 just_operand s t w (Constant k) b set h = (unsigned w k, refl, h)
 just_operand s t w (Register r) b set h = (set.0.0, set.0.1, subst (λ x. IsJust x set.0.0) (sym h) set.0.2)
 
 alu_computed : (s : State) (t : Machine.State) (w : Width) (op : AluOp) (x : Reg) (source : Operand) (b k : Kind)
-    → Each (Reads s t) (alu_reads op x source) → IsOperand s w source b
+    → Each (KnowsRegister s t) (alu_reads op x source) → OperandKind s w source b
     → Arithmetic s op w (kind_of s x) b (Ok k)
     → (n : ℕ) × (arithmetic op w (reg t x) (operand_value t w source) ≡ Ok (Num n)) × IsJust k n
 alu_computed s t w Mov x source b k set operand h =
@@ -218,27 +218,27 @@ within_place d place j below is =
 
 -- 8 bytes that a run loads from a slot
 load_computed : (alive : Home → Type 0) (p : Program) (clock : ℕ → ℕ) (s : State) (t : Machine.State) (d : Reg) (k : Kind) (place : Place)
-    → Slots (HoldsIf alive s) t → ((j : ℕ) → ReadsSlot (Load U64 d place) j → alive (InSlot j))
+    → HasKnownSlots (HoldsIf alive s) t → ((j : ℕ) → ReadsSlot (Load U64 d place) j → alive (InSlot j))
     → IsSlotPlace place
-    → ((e : TrapReason) → act p clock t (Load U64 d place) ≡ Trapped e → ⊥) → Puts p.maps s (Load U64 d place) (Ok k)
+    → ((e : TrapReason) → act p clock t (Load U64 d place) ≡ Trapped e → ⊥) → ResultKind p.maps s (Load U64 d place) (Ok k)
     → Computed p clock t (Load U64 d place) d k
 load_computed alive p clock s t d k place stack read (j, below, is) goes h = of place is goes h where
   there : ((e : TrapReason) → act p clock t (Load U64 d (slot_place j)) ≡ Trapped e → ⊥)
-      → Puts p.maps s (Load U64 d (slot_place j)) (Ok k) → Computed p clock t (Load U64 d (slot_place j)) d k
+      → ResultKind p.maps s (Load U64 d (slot_place j)) (Ok k) → Computed p clock t (Load U64 d (slot_place j)) d k
   there goes h =
       let (y, held, acts) = load_acts (HoldsIf alive s) p clock t d j stack below goes in
       record { number = y; acts = acts; just = load_just s j y k (held (read j (within_place d place j below is))) h }
 
   of : (place : Place) → place ≡ slot_place j
-      → ((e : TrapReason) → act p clock t (Load U64 d place) ≡ Trapped e → ⊥) → Puts p.maps s (Load U64 d place) (Ok k)
+      → ((e : TrapReason) → act p clock t (Load U64 d place) ≡ Trapped e → ⊥) → ResultKind p.maps s (Load U64 d place) (Ok k)
       → Computed p clock t (Load U64 d place) d k
   of place is =
-      subst (λ q. ((e : TrapReason) → act p clock t (Load U64 d q) ≡ Trapped e → ⊥) → Puts p.maps s (Load U64 d q) (Ok k) → Computed p clock t (Load U64 d q) d k) (sym is) there
+      subst (λ q. ((e : TrapReason) → act p clock t (Load U64 d q) ≡ Trapped e → ⊥) → ResultKind p.maps s (Load U64 d q) (Ok k) → Computed p clock t (Load U64 d q) d k) (sym is) there
 
 pub computed : (alive : Home → Type 0) (p : Program) (clock : ℕ → ℕ) (s : State) (t : Machine.State) (i : Insn) (d : Reg) (k : Kind)
-    → IsDeterminedForm i → Each (Reads s t) (operands i) → Slots (HoldsIf alive s) t
+    → IsDeterminedForm i → Each (KnowsRegister s t) (operands i) → HasKnownSlots (HoldsIf alive s) t
     → ((j : ℕ) → ReadsSlot i j → alive (InSlot j))
-    → ((e : TrapReason) → act p clock t i ≡ Trapped e → ⊥) → writes i ≡ Some d → Puts p.maps s i (Ok k)
+    → ((e : TrapReason) → act p clock t i ≡ Trapped e → ⊥) → writes i ≡ Some d → ResultKind p.maps s i (Ok k)
     → Computed p clock t i d k
 unfolding act
 computed alive p clock s t (Alu w op x source) d k plain set stack read traps written h =

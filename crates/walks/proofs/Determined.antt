@@ -33,20 +33,20 @@ use Rattle.stack_state.specs.Meaning.{depth, Means, Covers}
 use Rattle.stack_state.specs.Places.{kind_of}
 use Rattle.stack_state.specs.Starts.{start}
 use Rattle.stack_state.proofs.StartsLaws.{Means-start}
-use Rattle.branch_refine.specs.Refining.{IsNumber, IsJust}
+use Rattle.branch_refine.specs.Refining.{IsNumberKind, IsJust}
 use Rattle.transfer.specs.declared.Ways.{Ways}
 use Rattle.transfer.specs.declared.Ways.TheVariants as ways
 use Rattle.transfer.specs.declared.refusals.Refusal.{Refusal as StepRefusal}
 use Rattle.transfer.specs.Leading.{LeadsTo}
 use Rattle.transfer.specs.Refusing.{is_unset as is_unset_kind}
-use Rattle.transfer.specs.Exact.{Puts, Performs, Makes, StoresAt}
+use Rattle.transfer.specs.Exact.{ResultKind, StepsForm, StepsToWays, StoresAt}
 use Rattle.transfer.proofs.ExactLaws.{Steps-leads}
 use Rattle.walks.specs.declared.refusals.Refusal.{Refusal}
 use Rattle.walks.specs.Accepting.{IsOutOfMemory}
 use Rattle.control_flow.specs.Liveness.{IsLive, IsHomeLive}
 use Rattle.control_flow.proofs.LivenessLaws.{IsSlotLive-read}
 use Rattle.walks.specs.Forgetting.{Forgets}
-use Rattle.walks.specs.Walks.{IsAmong, StepsTo, Leads, WalksTo, IsStuck, ComesBack}
+use Rattle.walks.specs.Walks.{IsAmong, StepsTo, HasPath, WalksTo, IsStuck, ComesBack}
 use Rattle.walks.specs.Counts.{StepsInto, HasNumber, LeadsNowhere, LeadsToOne, LeadsToTwo, IsCoveredBy, Takes, Nothing, ItsOwn, OneMore, BothMore}
 use Rattle.walks.specs.Refused.{IsRefused}
 use Rattle.control_flow.specs.Graph.{call_distance}
@@ -54,9 +54,9 @@ use Rattle.walks.proofs.Accepted.{IsFlow-whole, IsRefused-want, Each-more, sets_
 use Rattle.walks.proofs.Forgotten.{Means-forgets}
 use Rattle.walks.proofs.Living.{needs_live}
 use Rattle.walks.proofs.Exits.{exited_none, constant_goes}
-use Rattle.walks.proofs.OnNumbers.{NumbersIn, Makes-performs, Refuses-performs, just_number, form_goes}
+use Rattle.walks.proofs.OnNumbers.{NumbersIn, StepsToWays-performs, RefusesStep-performs, just_number, form_goes}
 use Rattle.walks.proofs.StackSlots.{load_goes, store_goes}
-use Rattle.walks.proofs.Beside.{HoldsIf, within_place, Mirrored, first, Along, Reads, read_numbers}
+use Rattle.walks.proofs.Beside.{HoldsIf, within_place, Mirrored, first, Along, KnowsRegister, read_numbers}
 use Rattle.walks.proofs.Along.{run_acts, here_too, NextAlong, step_along}
 use Rattle.walks.proofs.AlongWalks.{Along-forgets, into_along, to_along, walk_along, start_along}
 
@@ -87,7 +87,7 @@ numbers_along : (p : Program) (steps : ℕ) (d : IsDetermined p steps) (k : ℕ)
     → Along p steps d k s t → fetch p s.slot ≡ Some i
     → Each (NumbersIn s) (operands i)
 numbers_along p steps d k s t i along here =
-    Each-more (Reads s t) (NumbersIn s) (operands i) (λ r known. just_number (kind_of s r) known.0 known.2)
+    Each-more (KnowsRegister s t) (NumbersIn s) (operands i) (λ r known. just_number (kind_of s r) known.0 known.2)
     (read_numbers p steps d k s t i along (here_too p s t i along.mirrors.slot here))
 
 base_set : (s : State) (place : Place) → IsSlotPlace place → is_unset_kind (kind_of s place.base) ≡ false
@@ -106,7 +106,7 @@ reads_set s i form set = Each-more (NumbersIn s) (λ r. is_unset_kind (kind_of s
 
 steps_leads : (p : Program) (steps : ℕ) (d : IsDetermined p steps) (k : ℕ) (s : State) (t : Machine.State) (i : Insn) (w : Ways) (a b : State)
     → IsProgram p → Along p steps d k s t → fetch p s.slot ≡ Some i
-    → Makes p s i w a b → LeadsTo p s w a b
+    → StepsToWays p s i w a b → LeadsTo p s w a b
 steps_leads p steps d k s t i w a b program along here makes = Steps-leads p s i w a b program here makes
 
 -- an exit of the run finds a number in r0, which is known, and may be the answer
@@ -138,10 +138,10 @@ exit_answer p steps d k s t along here = of (reg t R0) refl (along.mirrors.regs 
 -- a load finds the number that the run finds
 load_along : (p : Program) (steps : ℕ) (d : IsDetermined p steps) (k : ℕ) (s : State) (t : Machine.State) (x : Reg) (place : Place) (e : StepRefusal)
     → Along p steps d k s t → fetch p t.slot ≡ Some (Load U64 x place)
-    → IsSlotPlace place → Puts p.maps s (Load U64 x place) (Err e) → ⊥
+    → IsSlotPlace place → ResultKind p.maps s (Load U64 x place) (Err e) → ⊥
 load_along p steps d k s t x place e along here (j, below, is) h =
-    of (subst (λ q. fetch p t.slot ≡ Some (Load U64 x q)) is here) (subst (λ q. Puts p.maps s (Load U64 x q) (Err e)) is h) where
-      of : fetch p t.slot ≡ Some (Load U64 x (slot_place j)) → Puts p.maps s (Load U64 x (slot_place j)) (Err e) → ⊥
+    of (subst (λ q. fetch p t.slot ≡ Some (Load U64 x q)) is here) (subst (λ q. ResultKind p.maps s (Load U64 x q) (Err e)) is h) where
+      of : fetch p t.slot ≡ Some (Load U64 x (slot_place j)) → ResultKind p.maps s (Load U64 x (slot_place j)) (Err e) → ⊥
       of here h =
           let acts = run_acts p steps d k s t (Load U64 x (slot_place j)) along here in
           let (y, held, is) = load_acts (HoldsIf (λ q. IsHomeLive p q s.slot) s) p d.run.clock t x j along.mirrors.stack below
@@ -151,12 +151,12 @@ load_along p steps d k s t x place e along here (j, below, is) h =
           load_goes s j y e below (held live) h
 
 refuses_store : (rows : List MapDef) (s b : State) (place : Place) (source : Kind) (e : StepRefusal) → IsSlotPlace place
-    → IsNumber source → StoresAt rows s U64 place source b (Err e) → ⊥
+    → IsNumberKind source → StoresAt rows s U64 place source b (Err e) → ⊥
 refuses_store rows s b place source e (j, below, is) number h = store_goes s b j source e below number (subst (λ q. StoresAt rows s U64 q source b (Err e)) is h)
 
 goes_along_run : (p : Program) (steps : ℕ) (d : IsDetermined p steps) (k : ℕ) (s : State) (t : Machine.State) (i : Insn) (e : StepRefusal) (b c : State)
     → Along p steps d k s t → fetch p t.slot ≡ Some i
-    → IsDeterminedForm i → Each (NumbersIn s) (operands i) → Performs p s i (Err e) b c → ⊥
+    → IsDeterminedForm i → Each (NumbersIn s) (operands i) → StepsForm p s i (Err e) b c → ⊥
 goes_along_run p steps d k s t (Load U64 x place) e b c along here form set h = load_along p steps d k s t x place e along here form h
 goes_along_run p steps d k s t (Load size x place) e b c along here form set h = form
 goes_along_run p steps d k s t (Store U64 place r) e b c along here form set h = refuses_store p.maps s h.0 place (kind_of s r) e form set.0 h.1
@@ -188,7 +188,7 @@ never_stuck p steps d e slot h =
     let form = d.forms h.state.slot h.insn h.here in
     let set = numbers_along p steps d (0 + h.steps) h.state t h.insn along h.here in
     let pass = sets_pass h.state h.insn (reads_set h.state h.insn form set) (d.own h.state.slot h.insn h.here) in
-    Refuses-performs p h.state h.insn e ⊥ pass h.refused
+    RefusesStep-performs p h.state h.insn e ⊥ pass h.refused
     (λ b c performs. goes_along_run p steps d (0 + h.steps) h.state t h.insn e b c along (here_too p h.state t h.insn along.mirrors.slot h.here) form set performs)
 
 -- ---- members of the states
@@ -197,16 +197,16 @@ same_slot : (p : Program) (s : State) (v : Machine.State) → Means p s v → v.
 unfolding Means
 same_slot p s v means = means.1.slot_is
 
-exit_nowhere : (p : Program) (s a b : State) (i : Insn) → depth s ≡ 1 → Makes p s i ways.One a b → i ≡ Exit → ⊥
+exit_nowhere : (p : Program) (s a b : State) (i : Insn) → depth s ≡ 1 → StepsToWays p s i ways.One a b → i ≡ Exit → ⊥
 exit_nowhere p s a b i one makes is =
-    let h = Makes-performs p s Exit ways.One a b (subst (λ x. Makes p s x ways.One a b) is makes) in
+    let h = StepsToWays-performs p s Exit ways.One a b (subst (λ x. StepsToWays p s x ways.One a b) is makes) in
     let none = exited_none p.version (length s.callers.items) s a ways.One one h in
     absurd (cc)
 
 -- each member of a state that goes on goes on into the next one
 member_goes : (p : Program) (steps : ℕ) (d : IsDetermined p steps) (k : ℕ) (s : State) (t : Machine.State) (i : Insn) (a b : State)
     → IsProgram p → Along p steps d k s t → fetch p s.slot ≡ Some i
-    → Makes p s i ways.One a b → (clock : ℕ → ℕ) → IsClock clock → (v : Machine.State) → Means p s v
+    → StepsToWays p s i ways.One a b → (clock : ℕ → ℕ) → IsClock clock → (v : Machine.State) → Means p s v
     → (x : Machine.State) × (step p clock v ≡ Next x) × Means p a x
 unfolding LeadsTo
 member_goes p steps d k s t i a b program along here makes = λ clock answers v means. of clock v means (step p clock v) refl (steps_leads p steps d k s t i ways.One a b program along here makes clock answers v means) where
@@ -267,19 +267,19 @@ ends_on p clock v x (suc m) h goes = (m, refl, subst (After (λ y. Ends p clock 
 one_to : (p : Program) (steps : ℕ) (d : IsDetermined p steps) (k : ℕ) (s c : State) (t : Machine.State)
     → Along p steps d k s t → StepsTo p s c → (b : State) × StepsInto p s ways.One c b
 one_to p steps d k s c t along step = of step.taken step.first step.other step.makes (step_along p steps d k s t step.insn step.taken step.first step.other along step.here step.makes) step.among where
-  of : (w : Ways) (x y : State) → Makes p s step.insn w x y → NextAlong p steps d k w x → IsAmong w x y step.next
+  of : (w : Ways) (x y : State) → StepsToWays p s step.insn w x y → NextAlong p steps d k w x → IsAmong w x y step.next
       → (b : State) × StepsInto p s ways.One c b
   of ways.None x y makes next among = absurd among
   of ways.One x y makes next among = (
     y,
-    record { insn = step.insn; here = step.here; next = step.next; aside = y; makes = subst (λ z. Makes p s step.insn ways.One z y) (sym among) makes; forgets = step.forgets },
+    record { insn = step.insn; here = step.here; next = step.next; aside = y; makes = subst (λ z. StepsToWays p s step.insn ways.One z y) (sym among) makes; forgets = step.forgets },
   )
   of ways.Two x y makes next among = absurd next
 
 walk_members : (p : Program) (steps : ℕ) (d : IsDetermined p steps) (j k n : ℕ) (a b : State) (t : Machine.State)
-    → IsProgram p → Along p steps d k a t → Leads p j a b
+    → IsProgram p → Along p steps d k a t → HasPath p j a b
     → (clock : ℕ → ℕ) → IsClock clock → (v : Machine.State) → Means p a v → Ends p clock v n → Later p b j n
-unfolding Leads
+unfolding HasPath
 walk_members p steps d zero k n a b t program along h = λ clock answers v means ends. record { clock = clock; answers = answers; state = v; meant = subst (λ x. Means p x v) (sym h) means; left = n; ends = ends; is = omega arith }
 walk_members p steps d (suc j) k n a b t program along h = λ clock answers v means ends.
     let c = h.0 in
@@ -293,7 +293,7 @@ walk_members p steps d (suc j) k n a b t program along h = λ clock answers v me
     record { clock = later.clock; answers = later.answers; state = later.state; meant = later.meant; left = later.left; ends = later.ends; is = omega (arith, is, left_is) }
 
 no_end : (p : Program) (steps : ℕ) (d : IsDetermined p steps) (k j : ℕ) (a b : State) (t : Machine.State)
-    → IsProgram p → Along p steps d k a t → Leads p (suc j) a b → Covers p a b
+    → IsProgram p → Along p steps d k a t → HasPath p (suc j) a b → Covers p a b
     → (fuel n : ℕ) → n ≤ fuel → (clock : ℕ → ℕ) → IsClock clock → (v : Machine.State) → Means p a v
     → Ends p clock v n → ⊥
 unfolding Covers

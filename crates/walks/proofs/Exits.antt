@@ -6,7 +6,7 @@ use Rattle.isa_model.specs.declared.versions.Version.TheVariants.{Two}
 use Rattle.isa_model.specs.Machine.Steps.{is_answer}
 use Rattle.stack_state.specs.declared.states.State.{State}
 use Rattle.stack_state.specs.Places.{kind_of}
-use Rattle.branch_refine.specs.Refining.{IsNumber, IsJust}
+use Rattle.branch_refine.specs.Refining.{IsNumberKind, IsJust}
 use Rattle.transfer.specs.declared.Ways.{Ways}
 use Rattle.transfer.specs.declared.Ways.TheVariants as ways
 use Rattle.transfer.specs.declared.refusals.Refusal.{Refusal}
@@ -34,7 +34,7 @@ abbrev pub ShowsNoAction : Version → Refusal → Type 0
 ShowsNoAction version e = (version ≡ Two) × (e ≡ NoAction)
 
 -- the exit of the only frame with a number in r0 is refused for no other reason
-pub exit_goes : (version : Version) (callers : ℕ) (s b : State) (e : Refusal) → callers + 1 ≡ 1 → IsNumber (kind_of s R0) → ExitsFrom version callers s (Err e) b → ShowsNoAction version e
+pub exit_goes : (version : Version) (callers : ℕ) (s b : State) (e : Refusal) → callers + 1 ≡ 1 → IsNumberKind (kind_of s R0) → ExitsFrom version callers s (Err e) b → ShowsNoAction version e
 exit_goes version zero s b e one number h =
     elim (answered_refused version (kind_of s R0) e h) [
       | inl none ↦ let (numbers, is) = number_is (kind_of s R0) number in absurd (none.1 numbers is)

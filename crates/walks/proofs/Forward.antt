@@ -19,15 +19,15 @@ use Rattle.transfer.specs.Leading.{EachWay}
 use Rattle.stack_state.specs.Meaning.{frames_of, depth}
 use Rattle.stack_state.proofs.MeaningLaws.{length-frames_of}
 use Rattle.stack_state.specs.Starts.{start}
-use Rattle.transfer.specs.Exact.{Performs, Makes}
+use Rattle.transfer.specs.Exact.{StepsForm, StepsToWays}
 use Rattle.transfer.specs.Following.{returns_of, GoesOnTo}
 use Rattle.transfer.proofs.FollowLaws.{Steps-follows}
 use Rattle.walks.proofs.Accepted.{HasNoCalls}
 use Rattle.walks.specs.Refused.{StartTakes}
 use Rattle.walks.proofs.Forgotten.{Forgets-depth, GoesOnTo-forgets}
 use Rattle.walks.proofs.Exits.{exits_not_two}
-use Rattle.walks.proofs.OnNumbers.{Makes-performs}
-use Rattle.walks.specs.Walks.{StepsTo, Leads, WalksTo, ComesBack, IsAmong}
+use Rattle.walks.proofs.OnNumbers.{StepsToWays-performs}
+use Rattle.walks.specs.Walks.{StepsTo, HasPath, WalksTo, ComesBack, IsAmong}
 use Rattle.walks.specs.Counts.{StepsInto, HasNumber, LeadsNowhere, LeadsToOne, LeadsToTwo, IsCoveredBy, Takes, Nothing, ItsOwn, OneMore, BothMore}
 use Rattle.isa_model.specs.MustAccept.Paths.{is_conditional, IsForward}
 
@@ -53,22 +53,22 @@ GoesOnTo-alone p a b free one (inr (inr h)) =
     absurd (omega (arith, one, before, after))
 
 -- each state that the instruction makes
-Makes-goes : (p : Program) (s t : State) (i : Insn) (w : Ways) (a b : State) → fetch p s.slot ≡ Some i → Makes p s i w a b → IsAmong w a b t → GoesOnTo p s t
-Makes-goes p s t i w a b here makes among = of w a b (Steps-follows p s i w a b here makes) among where
+StepsToWays-goes : (p : Program) (s t : State) (i : Insn) (w : Ways) (a b : State) → fetch p s.slot ≡ Some i → StepsToWays p s i w a b → IsAmong w a b t → GoesOnTo p s t
+StepsToWays-goes p s t i w a b here makes among = of w a b (Steps-follows p s i w a b here makes) among where
   of : (w : Ways) (a b : State) → EachWay w a b (GoesOnTo p s) → IsAmong w a b t → GoesOnTo p s t
   of ways.None a b goes is = absurd is
   of ways.One a b goes is = subst (GoesOnTo p s) (sym is) goes
   of ways.Two a b goes (inl is) = subst (GoesOnTo p s) (sym is) goes.0
   of ways.Two a b goes (inr is) = subst (GoesOnTo p s) (sym is) goes.1
 
-pub Makes-follows : (p : Program) (s t : State) (i : Insn) (w : Ways) (a b : State) → HasNoCalls p → depth s ≡ 1 → fetch p s.slot ≡ Some i
-    → Makes p s i w a b → IsAmong w a b t → Follows p s.slot t.slot
-Makes-follows p s t i w a b free one here makes among = (GoesOnTo-alone p s t free one (Makes-goes p s t i w a b here makes among)).follows
+pub StepsToWays-follows : (p : Program) (s t : State) (i : Insn) (w : Ways) (a b : State) → HasNoCalls p → depth s ≡ 1 → fetch p s.slot ≡ Some i
+    → StepsToWays p s i w a b → IsAmong w a b t → Follows p s.slot t.slot
+StepsToWays-follows p s t i w a b free one here makes among = (GoesOnTo-alone p s t free one (StepsToWays-goes p s t i w a b here makes among)).follows
 
 -- and the state that comes of it
 pub StepsTo-goes : (p : Program) (a c : State) → StepsTo p a c → GoesOnTo p a c
 StepsTo-goes p a c step =
-    GoesOnTo-forgets p a step.next c step.forgets (Makes-goes p a step.next step.insn step.taken step.first step.other step.here step.makes step.among)
+    GoesOnTo-forgets p a step.next c step.forgets (StepsToWays-goes p a step.next step.insn step.taken step.first step.other step.here step.makes step.among)
 
 pub StepsTo-alone : (p : Program) (a c : State) → HasNoCalls p → depth a ≡ 1 → StepsTo p a c → StaysAlone p a c
 StepsTo-alone p a c free one step = GoesOnTo-alone p a c free one (StepsTo-goes p a c step)
@@ -80,13 +80,13 @@ pub one_frame-start : depth start ≡ 1
 unfolding start
 one_frame-start = refl
 
-pub Leads-alone : (p : Program) (n : ℕ) (a b : State) → HasNoCalls p → depth a ≡ 1 → Leads p n a b → depth b ≡ 1
-unfolding Leads
-Leads-alone p zero a b free one h = ap depth h ∙ one
-Leads-alone p (suc n) a b free one h = Leads-alone p n h.0 b free (StepsTo-alone p a h.0 free one h.1).one h.2
+pub HasPath-alone : (p : Program) (n : ℕ) (a b : State) → HasNoCalls p → depth a ≡ 1 → HasPath p n a b → depth b ≡ 1
+unfolding HasPath
+HasPath-alone p zero a b free one h = ap depth h ∙ one
+HasPath-alone p (suc n) a b free one h = HasPath-alone p n h.0 b free (StepsTo-alone p a h.0 free one h.1).one h.2
 
 pub WalksTo-alone : (p : Program) (n : ℕ) (s : State) → HasNoCalls p → WalksTo p n s → depth s ≡ 1
-WalksTo-alone p n s free walk = Leads-alone p n walk.first s free (Forgets-depth p start walk.first walk.begins ∙ one_frame-start) walk.leads
+WalksTo-alone p n s free walk = HasPath-alone p n walk.first s free (Forgets-depth p start walk.first walk.begins ∙ one_frame-start) walk.leads
 
 -- ---- steps lead forward
 
@@ -181,9 +181,9 @@ conditionals_less (o ∷ os) (suc j) zero c by here up = absurd (omega (arith, u
 conditionals_less (o ∷ os) (suc j) (suc k) c by here up = conditionals_less os j k c by here (omega (arith, up))
 
 -- two ways are those of a conditional jump
-two_ways_jump : (p : Program) (s a b : State) (i : Insn) → Makes p s i ways.Two a b → (c : Cond) × (by : ℤ) × (i ≡ JumpIf c by)
-two_ways_jump p s a b i h = of i (Makes-performs p s i ways.Two a b h) where
-  of : (i : Insn) → Performs p s i (Ok ways.Two) a b → (c : Cond) × (by : ℤ) × (i ≡ JumpIf c by)
+two_ways_jump : (p : Program) (s a b : State) (i : Insn) → StepsToWays p s i ways.Two a b → (c : Cond) × (by : ℤ) × (i ≡ JumpIf c by)
+two_ways_jump p s a b i h = of i (StepsToWays-performs p s i ways.Two a b h) where
+  of : (i : Insn) → StepsForm p s i (Ok ways.Two) a b → (c : Cond) × (by : ℤ) × (i ≡ JumpIf c by)
   of (JumpIf c by) h = (c, by, refl)
   of (Jump by) h = absurd (cc (h.0))
   of (JumpLong by) h = absurd (cc (h.0))
@@ -275,16 +275,16 @@ StartTakes-few p free forward (first, begins, takes) =
 
 -- ---- no way back
 
-pub Leads-up : (p : Program) (n : ℕ) (a b : State) → HasNoCalls p → IsForward p → depth a ≡ 1 → Leads p n a b → a.slot + n ≤ b.slot
-unfolding Leads
-Leads-up p zero a b free forward one h = let same = ap (λ (x : State). x.slot) h in omega (arith, same)
-Leads-up p (suc n) a b free forward one h =
+pub HasPath-up : (p : Program) (n : ℕ) (a b : State) → HasNoCalls p → IsForward p → depth a ≡ 1 → HasPath p n a b → a.slot + n ≤ b.slot
+unfolding HasPath
+HasPath-up p zero a b free forward one h = let same = ap (λ (x : State). x.slot) h in omega (arith, same)
+HasPath-up p (suc n) a b free forward one h =
     let step = steps_up p a h.0 free forward one (StepsTo-goes p a h.0 h.1) in
-    let rest = Leads-up p n h.0 b free forward step.one h.2 in
+    let rest = HasPath-up p n h.0 b free forward step.one h.2 in
     omega (arith, step.up, rest)
 
 pub ComesBack-forward : (p : Program) (slot : ℕ) → HasNoCalls p → IsForward p → ComesBack p slot → ⊥
 ComesBack-forward p slot free forward h =
     let one = WalksTo-alone p h.before h.first free h.walk in
-    let up = Leads-up p (suc h.between) h.first h.again free forward one h.leads_back in
+    let up = HasPath-up p (suc h.between) h.first h.again free forward one h.leads_back in
     absurd (omega (arith, up, h.first_slot, h.again_slot))

@@ -19,7 +19,7 @@ use Rattle.stack_state.specs.Places.{kind_of}
 use Rattle.stack_state.specs.Starts.{start}
 use Rattle.transfer.specs.declared.refusals.Refusal.{Refusal as StepRefusal}
 use Rattle.transfer.specs.Refusing.{register_refusal, reads_unset}
-use Rattle.transfer.specs.Exact.{Performs}
+use Rattle.transfer.specs.Exact.{StepsForm}
 use Rattle.walks.specs.declared.refusals.Refusal.{Refusal}
 use Rattle.walks.specs.declared.refusals.Refusal.TheVariants.{Step}
 use Rattle.walks.specs.Walks.{IsStuck}
@@ -30,7 +30,7 @@ use Rattle.walks.proofs.Accepted.{IsFlow-whole, IsRefused-want, own_register, ne
 use Rattle.walks.proofs.Forward.{one_frame-start, HasNumber-forward, StartTakes-few, ComesBack-forward}
 use Rattle.walks.proofs.Living.{needs_live}
 use Rattle.walks.proofs.Exits.{ShowsNoAction}
-use Rattle.walks.proofs.OnNumbers.{NumbersIn, Refuses-performs, performs_goes}
+use Rattle.walks.proofs.OnNumbers.{NumbersIn, RefusesStep-performs, performs_goes}
 use Rattle.walks.proofs.OnPackets.{packet_from, field_goes, copy_goes, ahead_goes, load_passes, load_signed_passes, end_test, test_goes}
 use Rattle.walks.proofs.GuardedParts.{AtPacket, AtEnd, AtCopy, AtAhead, AtTest, InBody, AtAnswer, AtExit, Part, part_at, one_insn, IsGuarded-no_calls}
 use Rattle.walks.proofs.Guards.{Guards, free_own, numbers_needed, body_needs}
@@ -40,7 +40,7 @@ use Rattle.walks.proofs.GuardedWalks.{plain_form, load_parts, WalksTo-guards}
 
 -- the tests of its registers pass, and its form's own, but for an action that is not shown
 abbrev Passes : Program → State → Insn → Type 0
-Passes p s i = (register_refusal s i ≡ None) × ((e : StepRefusal) (b c : State) → Performs p s i (Err e) b c → ShowsNoAction p.version e)
+Passes p s i = (register_refusal s i ≡ None) × ((e : StepRefusal) (b c : State) → StepsForm p s i (Err e) b c → ShowsNoAction p.version e)
 
 body_own : (len : ℕ) (i : Insn) → IsPlainForm i → IsBodyForm len i → writes i ≢ Some R10
 body_own len (Alu w op d source) plain h = λ e. free_own d h.0 (cc e)
@@ -118,7 +118,7 @@ guards_accepted p len g s i here h = of (part_at p len s.slot i g here) where
 stuck_unshown : (p : Program) (len : ℕ) (g : IsGuarded p len) (e : StepRefusal) (slot : ℕ) → IsStuck p e slot → ShowsNoAction p.version e
 stuck_unshown p len g e slot h =
     let passes = guards_accepted p len g h.state h.insn h.here (WalksTo-guards p len g h.steps h.state h.walk) in
-    Refuses-performs p h.state h.insn e (ShowsNoAction p.version e) passes.0 h.refused (λ b c performs. passes.1 e b c performs)
+    RefusesStep-performs p h.state h.insn e (ShowsNoAction p.version e) passes.0 h.refused (λ b c performs. passes.1 e b c performs)
 
 -- ---- the class
 

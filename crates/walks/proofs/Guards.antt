@@ -22,17 +22,17 @@ use Rattle.stack_state.specs.declared.states.State.{State}
 use Rattle.stack_state.specs.Places.{kind_of, with_register, go_to}
 use Rattle.stack_state.proofs.PlaceLaws.{kind_of-with_other}
 use Rattle.stack_state.specs.Starts.{start}
-use Rattle.branch_refine.specs.Refining.{IsNumber, Names}
+use Rattle.branch_refine.specs.Refining.{IsNumberKind, Names}
 use Rattle.transfer.specs.declared.Ways.{Ways}
-use Rattle.transfer.specs.Exact.{Makes, Sets}
+use Rattle.transfer.specs.Exact.{StepsToWays, SetsRegister}
 use Rattle.control_flow.specs.Liveness.{IsLive}
 use Rattle.walks.specs.Forgetting.{Forgets}
 use Rattle.walks.specs.Walks.{IsAmong}
 use Rattle.walks.proofs.Accepted.{Each-all, Each-one}
 use Rattle.walks.proofs.Forgotten.{Forgets-slot, Forgets-live, Forgets-alone}
-use Rattle.walks.proofs.Living.{needs_live, live_before, Knows-forgets, known_further}
-use Rattle.walks.proofs.Forward.{Makes-follows, follows_up}
-use Rattle.walks.proofs.OnNumbers.{NumbersIn, Made, Knows, Knows-with, Knows-go_to, Knows-makes, kind_of-go_to, kind_of-with_own, room-with, are_compared, one_among, none_among, side_among}
+use Rattle.walks.proofs.Living.{needs_live, live_before, KnowsNumbers-forgets, known_further}
+use Rattle.walks.proofs.Forward.{StepsToWays-follows, follows_up}
+use Rattle.walks.proofs.OnNumbers.{NumbersIn, Made, KnowsNumbers, KnowsNumbers-with, KnowsNumbers-go_to, KnowsNumbers-makes, kind_of-go_to, kind_of-with_own, room-with, are_compared, one_among, none_among, side_among}
 use Rattle.walks.proofs.OnPackets.{packet_from, GivesKind}
 use Rattle.walks.proofs.Plain.{follows_by, PathTo-more}
 use Rattle.walks.proofs.GuardedParts.{IsGuarded-calls, IsGuarded-no_calls, first_no_join}
@@ -44,7 +44,7 @@ pub record Put (s t : State) (d : Reg) (k : Kind) : Type 0 where
   pub own : kind_of t d ≡ k
   pub others : (q : Reg) → q ≢ d → kind_of t q ≡ kind_of s q
 
-pub put_of : (s a b t : State) (d : Reg) (k : Kind) (w : Ways) (known : List Reg) → Knows s known → d ≢ R10
+pub put_of : (s a b t : State) (d : Reg) (k : Kind) (w : Ways) (known : List Reg) → KnowsNumbers s known → d ≢ R10
     → GivesKind s d k w a → IsAmong w a b t → Put s t d k
 put_of s a b t d k w known knows own gives among =
     let is : t ≡ go_to (with_register s d k) (s.slot + 1) = one_among w a b t gives.0 among ∙ gives.1 in
@@ -56,17 +56,17 @@ put_of s a b t d k w known knows own gives among =
 
 -- a pointer put into a register leaves numbers as they were
 pub known_aside : (s a b t : State) (d : Reg) (k : Kind) (w : Ways) → GivesKind s d k w a → IsAmong w a b t
-    → Knows s [] → Knows t []
+    → KnowsNumbers s [] → KnowsNumbers t []
 known_aside s a b t d k w gives among knows =
     let is : t ≡ go_to (with_register s d k) (s.slot + 1) = one_among w a b t gives.0 among ∙ gives.1 in
-    subst (λ x. Knows x []) (sym is)
-    (Knows-go_to (with_register s d k) (s.slot + 1) [] (record { one = knows.one; room = room-with s d k ∙ knows.room; numbers = λ r among. absurd among }))
+    subst (λ x. KnowsNumbers x []) (sym is)
+    (KnowsNumbers-go_to (with_register s d k) (s.slot + 1) [] (record { one = knows.one; room = room-with s d k ∙ knows.room; numbers = λ r among. absurd among }))
 
-known_number : (s a b t : State) (d : Reg) (k : Kind) (w : Ways) (known : List Reg) → d ≢ R10 → IsNumber k
-    → GivesKind s d k w a → IsAmong w a b t → Knows s known → Knows t (d ∷ known)
+known_number : (s a b t : State) (d : Reg) (k : Kind) (w : Ways) (known : List Reg) → d ≢ R10 → IsNumberKind k
+    → GivesKind s d k w a → IsAmong w a b t → KnowsNumbers s known → KnowsNumbers t (d ∷ known)
 known_number s a b t d k w known own number gives among knows =
     let is : t ≡ go_to (with_register s d k) (s.slot + 1) = one_among w a b t gives.0 among ∙ gives.1 in
-    subst (λ x. Knows x (d ∷ known)) (sym is) (Knows-go_to (with_register s d k) (s.slot + 1) (d ∷ known) (Knows-with s d k known own number knows))
+    subst (λ x. KnowsNumbers x (d ∷ known)) (sym is) (KnowsNumbers-go_to (with_register s d k) (s.slot + 1) (d ∷ known) (KnowsNumbers-with s d k known own number knows))
 
 -- ---- what is known at each slot
 
@@ -75,7 +75,7 @@ pub record Guards (p : Program) (len : ℕ) (g : IsGuarded p len) (s : State) : 
   pub written : List Reg
   pub known : List Reg
   pub path : PathTo p steps s.slot written
-  pub knows : Knows s known
+  pub knows : KnowsNumbers s known
   pub free : (r : Reg) → IsFree r → IsLive p r s.slot → IsOneOf written r → IsOneOf known r
   pub early : s.slot < 5 → known ≡ []
   pub context : s.slot < 2 → kind_of s R1 ≡ kind.Context
@@ -122,7 +122,7 @@ pub record Pointers (s : State) (len : ℕ) : Type 0 where
 
 pub prologue : (p : Program) (len : ℕ) (g : IsGuarded p len) (s t : State) (d : Reg) (i : Insn) → Guards p len g s
     → s.slot < 4 → fetch p s.slot ≡ Some i → writes i ≡ Some d → FallsTo s.slot i t.slot
-    → t.slot ≡ s.slot + 1 → (IsFree d → ⊥) → Knows t [] → Pointers t len → Guards p len g t
+    → t.slot ≡ s.slot + 1 → (IsFree d → ⊥) → KnowsNumbers t [] → Pointers t len → Guards p len g t
 prologue p len g s t d i h below here written falls slot not_free knows pointers = record {
   steps = suc h.steps;
   written = d ∷ h.written;
@@ -210,17 +210,17 @@ body_free len i d h is = absurd h
 -- a form on numbers, after the test
 pub plain_step : (p : Program) (len : ℕ) (g : IsGuarded p len) (s t : State) (i : Insn) (w : Ways) (a b : State)
     → Guards p len g s → 5 ≤ s.slot → fetch p s.slot ≡ Some i → IsPlainForm i
-    → Each (NumbersIn s) (reads i) → Makes p s i w a b → IsAmong w a b t
+    → Each (NumbersIn s) (reads i) → StepsToWays p s i w a b → IsAmong w a b t
     → (t.slot < g.tail → (s.slot < g.tail) × (kind_of t R2 ≡ kind_of s R2) × (writes i ≡ Some R2 → ⊥)) → Guards p len g t
 plain_step p len g s t i w a b h behind here plain set makes among kept =
-    let follows = Makes-follows p s t i w a b (IsGuarded-no_calls p len g) h.knows.one here makes among in
+    let follows = StepsToWays-follows p s t i w a b (IsGuarded-no_calls p len g) h.knows.one here makes among in
     let up = follows_up p s.slot t.slot g.forward follows in
     record {
       steps = suc h.steps;
       written = written_too (writes i) h.written;
       known = written_too (writes i) h.known;
       path = PathTo-more p h.steps s.slot t.slot h.written i h.path here (follows_by p s.slot t.slot i here follows);
-      knows = Knows-makes p s a b t i w h.known plain set makes among h.knows;
+      knows = KnowsNumbers-makes p s a b t i w h.known plain set makes among h.knows;
       free = more_free p len g s t.slot i h here follows;
       early = λ k. absurd (omega (arith, k, up, behind));
       context = λ k. absurd (omega (arith, k, up, behind));
@@ -239,7 +239,7 @@ plain_step p len g s t i w a b h behind here plain set makes among kept =
 -- a load of bytes that are proved to be there
 pub load_step : (p : Program) (len : ℕ) (g : IsGuarded p len) (s t : State) (i : Insn) (d : Reg) (k : Kind) (w : Ways) (a b : State)
     → Guards p len g s → 5 ≤ s.slot → s.slot < g.tail → fetch p s.slot ≡ Some i
-    → writes i ≡ Some d → falls_through i ≡ true → slots_of i ≡ 1 → IsLive p R2 s.slot → IsFree d → IsNumber k → GivesKind s d k w a
+    → writes i ≡ Some d → falls_through i ≡ true → slots_of i ≡ 1 → IsLive p R2 s.slot → IsFree d → IsNumberKind k → GivesKind s d k w a
     → IsAmong w a b t → Guards p len g t
 load_step p len g s t i d k w a b h behind before here written falls one loaded free number gives among =
     let put = put_of s a b t d k w h.known h.knows (free_own d free) gives among in
@@ -266,7 +266,7 @@ load_step p len g s t i d k w a b h behind before here written falls one loaded 
     }
 
 -- r2 stays
-sets_aside : (rows : List MapDef) (s a : State) (i : Insn) (d : Reg) → writes i ≡ Some d → IsFree d → Sets rows s i a
+sets_aside : (rows : List MapDef) (s a : State) (i : Insn) (d : Reg) → writes i ≡ Some d → IsFree d → SetsRegister rows s i a
     → kind_of a R2 ≡ kind_of s R2
 sets_aside rows s a i d written free h =
     let same : h.register ≡ d = cc (sym h.written ∙ written) in
@@ -301,7 +301,7 @@ body_keeps p len s t i w a b plain set body makes among = absurd plain
 pub Guards-forgets : (p : Program) (len : ℕ) (g : IsGuarded p len) (a b : State) → Forgets p a b → Guards p len g a → Guards p len g b
 Guards-forgets p len g a b f h =
     let slot : b.slot ≡ a.slot = Forgets-slot p a b f in
-    let rest = Knows-forgets p a b h.known f h.knows in
+    let rest = KnowsNumbers-forgets p a b h.known f h.knows in
     let same : (r : Reg) → r ≢ R10 → a.slot < 5 → kind_of b r ≡ kind_of a r =
     λ r own early. Forgets-alone p a b r f own (λ join. first_no_join p len a.slot g early join) in record {
       steps = h.steps;

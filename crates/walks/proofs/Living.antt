@@ -10,14 +10,14 @@ use Rattle.isa_model.specs.Machine.Successors.{Follows}
 use Rattle.isa_model.specs.MustAccept.Paths.{IsPlainForm, IsOneOf, needs, written_too}
 use Rattle.stack_state.specs.declared.states.State.{State}
 use Rattle.stack_state.proofs.PlaceLaws.{same_or_other}
-use Rattle.branch_refine.specs.Refining.{IsNumber}
+use Rattle.branch_refine.specs.Refining.{IsNumberKind}
 use Rattle.control_flow.specs.Graph.{call_distance}
 use Rattle.control_flow.specs.Accesses.{read_registers, written_registers}
 use Rattle.control_flow.specs.Liveness.{IsLive}
 use Rattle.control_flow.proofs.LivenessLaws.{IsLive-read, IsLive-back}
 use Rattle.walks.specs.Forgetting.{Forgets}
 use Rattle.walks.proofs.Forgotten.{Forgets-depth, Forgets-each}
-use Rattle.walks.proofs.OnNumbers.{NumbersIn, Knows}
+use Rattle.walks.proofs.OnNumbers.{NumbersIn, KnowsNumbers}
 
 -- ---- instructions that call nothing
 
@@ -108,7 +108,7 @@ remaining p a b (q ∷ known) f numbers =
     elim (same_or_other q R10) [
       | inl last ↦ let wrong : NumbersIn a R10 = subst (NumbersIn a) last own in absurd wrong
       | inr own_place ↦ elim (Forgets-each p a b q f own_place) [
-        | inl same ↦ one_kept p a b q known (subst IsNumber (sym same.1) own) rest
+        | inl same ↦ one_kept p a b q known (subst IsNumberKind (sym same.1) own) rest
         | inr gone ↦ one_dropped p a b q known gone.0.1 rest
       ]
     ]
@@ -116,12 +116,12 @@ remaining p a b (q ∷ known) f numbers =
 -- what is known once dead registers are forgotten
 pub record KnowsLeft (p : Program) (a b : State) (known : List Reg) : Type 0 where
   pub left : List Reg
-  pub knows : Knows b left
+  pub knows : KnowsNumbers b left
   pub live : (r : Reg) → IsLive p r a.slot → IsOneOf known r → IsOneOf left r
   pub none : known ≡ [] → left ≡ []
 
-pub Knows-forgets : (p : Program) (a b : State) (known : List Reg) → Forgets p a b → Knows a known → KnowsLeft p a b known
-Knows-forgets p a b known f h =
+pub KnowsNumbers-forgets : (p : Program) (a b : State) (known : List Reg) → Forgets p a b → KnowsNumbers a known → KnowsLeft p a b known
+KnowsNumbers-forgets p a b known f h =
     let rest = remaining p a b known f h.numbers in record {
       left = rest.left;
       knows = record { one = Forgets-depth p a b f ∙ h.one; room = f.registers.ten; numbers = rest.numbers };

@@ -37,7 +37,7 @@ use Rattle.stack_state.proofs.PlaceLaws.{kind_of-registers}
 use Rattle.stack_state.specs.Effects.{map_kinds, proved_kind}
 use Rattle.branch_refine.specs.declared.comparing.Compared.TheVariants as compared
 use Rattle.branch_refine.specs.Comparing.{compared_by, IsDefined}
-use Rattle.branch_refine.specs.Refining.{IsNumber, IsJust, Leaves}
+use Rattle.branch_refine.specs.Refining.{IsNumberKind, IsJust, LearnsOf}
 use Rattle.transfer.specs.declared.Ways.{Ways}
 use Rattle.transfer.specs.declared.Ways.TheVariants as ways
 use Rattle.transfer.specs.declared.refusals.Refusal.{Refusal}
@@ -45,10 +45,10 @@ use Rattle.transfer.specs.declared.packets.PacketPointer.{PacketPointer}
 use Rattle.transfer.specs.Results.{packet_pointer, Arithmetic}
 use Rattle.transfer.specs.Packets.{AreInPacket, IsNumberOf, IsMovedFixed, IsMovedBy, IsFreshPointer, PacketMoves, MovesBy, moved_by, lowest, highest}
 use Rattle.transfer.specs.ContextLoads.{IsField, IsFieldKind, FieldLoads}
-use Rattle.transfer.specs.Accesses.{Loads, LoadsSigned}
-use Rattle.transfer.specs.Exact.{Puts, Sets, Branches, Makes, Performs}
+use Rattle.transfer.specs.Accesses.{LoadsKind, LoadsSigned}
+use Rattle.transfer.specs.Exact.{ResultKind, SetsRegister, Branches, StepsToWays, StepsForm}
 use Rattle.walks.specs.Walks.{IsAmong}
-use Rattle.walks.proofs.OnNumbers.{Makes-performs, kind_of-go_to, side_among}
+use Rattle.walks.proofs.OnNumbers.{StepsToWays-performs, kind_of-go_to, side_among}
 
 -- at this offset from the packet's first byte, with no variable part; the proved bytes are there
 abbrev pub packet_from : ℕ → ℕ → Kind
@@ -60,53 +60,53 @@ packet_from fixed proved = kind.Packet (pos fixed) 0 (pos 0) (pos 0) proved
 abbrev pub GivesKind : State → Reg → Kind → Ways → State → Type 0
 GivesKind s d k w a = (w ≡ ways.One) × (a ≡ go_to (with_register s d k) (s.slot + 1))
 
-gives_only : (rows : List MapDef) (s : State) (i : Insn) (d : Reg) (w : Ways) (a : State) → (made : (w ≡ ways.One) × Sets rows s i a)
+gives_only : (rows : List MapDef) (s : State) (i : Insn) (d : Reg) (w : Ways) (a : State) → (made : (w ≡ ways.One) × SetsRegister rows s i a)
     → writes i ≡ Some d → slots_of i ≡ 1 → GivesKind s d made.1.kind w a
 gives_only rows s i d w a made written one =
     let h = made.1 in
     let same : h.register ≡ d = cc (h.written, written) in
     (made.0, h.next ∙ ap (λ r. go_to (with_register s r h.kind) (s.slot + slots_of i)) same ∙ ap (λ n. go_to (with_register s d h.kind) (s.slot + n)) one)
 
-gives_of : (rows : List MapDef) (s : State) (i : Insn) (d : Reg) (k : Kind) (w : Ways) (a : State) → (w ≡ ways.One) × Sets rows s i a
+gives_of : (rows : List MapDef) (s : State) (i : Insn) (d : Reg) (k : Kind) (w : Ways) (a : State) → (w ≡ ways.One) × SetsRegister rows s i a
     → writes i ≡ Some d → slots_of i ≡ 1
-    → ((l : Kind) → Puts rows s i (Ok l) → l ≡ k) → GivesKind s d k w a
+    → ((l : Kind) → ResultKind rows s i (Ok l) → l ≡ k) → GivesKind s d k w a
 gives_of rows s i d k w a made written one is =
     subst (λ l. GivesKind s d l w a) (is made.1.kind made.1.puts) (gives_only rows s i d w a made written one)
 
 -- ---- the context's fields
 
 field_kind : (rows : List MapDef) (s : State) (b : Reg) (at : ℤ) (k : Kind) → kind_of s b ≡ kind.Context
-    → Loads rows s U32 (kind_of s b) at (Ok k) → IsFieldKind at k
-field_kind rows s b at k is h = subst (λ x. Loads rows s U32 x at (Ok k)) is h
+    → LoadsKind rows s U32 (kind_of s b) at (Ok k) → IsFieldKind at k
+field_kind rows s b at k is h = subst (λ x. LoadsKind rows s U32 x at (Ok k)) is h
 
 pub packet_gives : (p : Program) (s : State) (d b : Reg) (w : Ways) (a c : State) → kind_of s b ≡ kind.Context
-    → Makes p s (Load U32 d (record { base = b; offset = pos 0 })) w a c → GivesKind s d (packet_from 0 0) w a
+    → StepsToWays p s (Load U32 d (record { base = b; offset = pos 0 })) w a c → GivesKind s d (packet_from 0 0) w a
 packet_gives p s d b w a c is makes =
     let i = Load U32 d (record { base = b; offset = pos 0 }) in
-    gives_of p.maps s i d (packet_from 0 0) w a (Makes-performs p s i w a c makes) refl refl (λ k puts. (field_kind p.maps s b (pos 0) k is puts).packet refl)
+    gives_of p.maps s i d (packet_from 0 0) w a (StepsToWays-performs p s i w a c makes) refl refl (λ k puts. (field_kind p.maps s b (pos 0) k is puts).packet refl)
 
 pub packet_end_gives : (p : Program) (s : State) (d b : Reg) (w : Ways) (a c : State) → kind_of s b ≡ kind.Context
-    → Makes p s (Load U32 d (record { base = b; offset = pos 4 })) w a c → GivesKind s d kind.PacketEnd w a
+    → StepsToWays p s (Load U32 d (record { base = b; offset = pos 4 })) w a c → GivesKind s d kind.PacketEnd w a
 packet_end_gives p s d b w a c is makes =
     let i = Load U32 d (record { base = b; offset = pos 4 }) in
-    gives_of p.maps s i d kind.PacketEnd w a (Makes-performs p s i w a c makes) refl refl (λ k puts. (field_kind p.maps s b (pos 4) k is puts).packet_end refl)
+    gives_of p.maps s i d kind.PacketEnd w a (StepsToWays-performs p s i w a c makes) refl refl (λ k puts. (field_kind p.maps s b (pos 4) k is puts).packet_end refl)
 
 pub field_goes : (rows : List MapDef) (s : State) (b : Reg) (at : ℤ) (e : Refusal) → kind_of s b ≡ kind.Context → IsField at
-    → Loads rows s U32 (kind_of s b) at (Err e) → ⊥
+    → LoadsKind rows s U32 (kind_of s b) at (Err e) → ⊥
 field_goes rows s b at e is field h =
-    let fails : FieldLoads at (Err e) = subst (λ x. Loads rows s U32 x at (Err e)) is h in
+    let fails : FieldLoads at (Err e) = subst (λ x. LoadsKind rows s U32 x at (Err e)) is h in
     fails.1 field
 
 -- ---- copies
 
 pub copy_gives : (p : Program) (s : State) (d r : Reg) (k : Kind) (w : Ways) (a c : State) → kind_of s r ≡ k
-    → Makes p s (Alu Full64 Mov d (Register r)) w a c → GivesKind s d k w a
+    → StepsToWays p s (Alu Full64 Mov d (Register r)) w a c → GivesKind s d k w a
 copy_gives p s d r k w a c is makes =
     let i = Alu Full64 Mov d (Register r) in
-    gives_of p.maps s i d k w a (Makes-performs p s i w a c makes) refl refl
+    gives_of p.maps s i d k w a (StepsToWays-performs p s i w a c makes) refl refl
     (λ l puts. let same : l ≡ puts.0 = cc (puts.2) in same ∙ puts.1 ∙ is)
 
-pub copy_goes : (rows : List MapDef) (s : State) (d r : Reg) (e : Refusal) → Puts rows s (Alu Full64 Mov d (Register r)) (Err e) → ⊥
+pub copy_goes : (rows : List MapDef) (s : State) (d r : Reg) (e : Refusal) → ResultKind rows s (Alu Full64 Mov d (Register r)) (Err e) → ⊥
 copy_goes rows s d r e h = absurd (cc (h.2))
 
 -- ---- moves
@@ -158,10 +158,10 @@ ahead_kind s fixed m n b k most just h = absurd just
 
 pub ahead_gives : (p : Program) (s : State) (d : Reg) (fixed m n : ℕ) (w : Ways) (a c : State)
     → kind_of s d ≡ packet_from fixed m → fixed + n ≤ max_guarded_length
-    → Makes p s (Alu Full64 Add d (Constant (pos n))) w a c → GivesKind s d (packet_from (fixed + n) m) w a
+    → StepsToWays p s (Alu Full64 Add d (Constant (pos n))) w a c → GivesKind s d (packet_from (fixed + n) m) w a
 ahead_gives p s d fixed m n w a c is most makes =
     let i = Alu Full64 Add d (Constant (pos n)) in
-    gives_of p.maps s i d (packet_from (fixed + n) m) w a (Makes-performs p s i w a c makes) refl refl
+    gives_of p.maps s i d (packet_from (fixed + n) m) w a (StepsToWays-performs p s i w a c makes) refl refl
     (λ k puts. ahead_kind s fixed m n puts.0 k most puts.1 (subst (λ x. Arithmetic s Add Full64 x puts.0 (Ok k)) is puts.2))
 
 ahead_fails : (s : State) (fixed m n : ℕ) (b : Kind) (e : Refusal) → fixed + n ≤ max_guarded_length
@@ -171,7 +171,7 @@ ahead_fails s fixed m n b e most just h = absurd just
 
 pub ahead_goes : (rows : List MapDef) (s : State) (d : Reg) (fixed m n : ℕ) (e : Refusal) → kind_of s d ≡ packet_from fixed m
     → fixed + n ≤ max_guarded_length
-    → Puts rows s (Alu Full64 Add d (Constant (pos n))) (Err e) → ⊥
+    → ResultKind rows s (Alu Full64 Add d (Constant (pos n))) (Err e) → ⊥
 ahead_goes rows s d fixed m n e is most h =
     ahead_fails s fixed m n h.0 e most h.1 (subst (λ x. Arithmetic s Add Full64 x h.0 (Err e)) is h.2)
 
@@ -180,35 +180,35 @@ ahead_goes rows s d fixed m n e is most h =
 inside_packet : (bytes m at : ℕ) → 1 ≤ m → at + bytes ≤ m → AreInPacket (pos 0) (pos 0) m (pos at) bytes
 inside_packet bytes m at some inside = record { some = some; from = omega (arith, ints); to = omega (arith, ints, inside) }
 
-number_of : (says : Scalar → Type 0) (k : Kind) → IsNumberOf says k → IsNumber k
+number_of : (says : Scalar → Type 0) (k : Kind) → IsNumberOf says k → IsNumberKind k
 number_of says (kind.Number c) h = tt
 number_of says k h = absurd h
 
 -- some number is loaded
 pub load_gives : (p : Program) (s : State) (size : Size) (d : Reg) (place : Place) (m at : ℕ) (w : Ways) (a c : State)
     → kind_of s place.base ≡ packet_from 0 m → place.offset ≡ pos at
-    → Makes p s (Load size d place) w a c → (k : Kind) × IsNumber k × GivesKind s d k w a
+    → StepsToWays p s (Load size d place) w a c → (k : Kind) × IsNumberKind k × GivesKind s d k w a
 load_gives p s size d place m at w a c is offset makes =
     let i = Load size d place in
-    let made = Makes-performs p s i w a c makes in
-    let loads = subst (λ x. Loads p.maps s size x place.offset (Ok made.1.kind)) is made.1.puts in
+    let made = StepsToWays-performs p s i w a c makes in
+    let loads = subst (λ x. LoadsKind p.maps s size x place.offset (Ok made.1.kind)) is made.1.puts in
     (made.1.kind, number_of _ made.1.kind loads.1, gives_only p.maps s i d w a made refl refl)
 
 pub load_signed_gives : (p : Program) (s : State) (size : Narrow) (d : Reg) (place : Place) (m at : ℕ) (w : Ways) (a c : State)
     → kind_of s place.base ≡ packet_from 0 m
-    → place.offset ≡ pos at → Makes p s (LoadSx size d place) w a c → (k : Kind) × IsNumber k × GivesKind s d k w a
+    → place.offset ≡ pos at → StepsToWays p s (LoadSx size d place) w a c → (k : Kind) × IsNumberKind k × GivesKind s d k w a
 load_signed_gives p s size d place m at w a c is offset makes =
     let i = LoadSx size d place in
-    let made = Makes-performs p s i w a c makes in
+    let made = StepsToWays-performs p s i w a c makes in
     let loads = subst (λ x. LoadsSigned p.maps s size x place.offset (Ok made.1.kind)) is made.1.puts in
     (made.1.kind, number_of _ made.1.kind loads.1, gives_only p.maps s i d w a made refl refl)
 
 pub load_passes : (rows : List MapDef) (s : State) (size : Size) (place : Place) (m at : ℕ) (e : Refusal)
     → kind_of s place.base ≡ packet_from 0 m → place.offset ≡ pos at → 1 ≤ m → at + size_bytes size ≤ m
-    → Loads rows s size (kind_of s place.base) place.offset (Err e) → ⊥
+    → LoadsKind rows s size (kind_of s place.base) place.offset (Err e) → ⊥
 load_passes rows s size place m at e is offset some inside h =
-    let based = subst (λ x. Loads rows s size x place.offset (Err e)) is h in
-    let there = subst (λ z. Loads rows s size (packet_from 0 m) z (Err e)) offset based in
+    let based = subst (λ x. LoadsKind rows s size x place.offset (Err e)) is h in
+    let there = subst (λ z. LoadsKind rows s size (packet_from 0 m) z (Err e)) offset based in
     there.1 (inside_packet (size_bytes size) m at some inside)
 
 pub load_signed_passes : (rows : List MapDef) (s : State) (size : Narrow) (place : Place) (m at : ℕ) (e : Refusal)
@@ -232,7 +232,7 @@ pub record Proves (n : ℕ) (s t : State) : Type 0 where
       → (more : ℕ) × (kind_of t r ≡ packet_from fixed more) × (n ≤ more)
 
 -- or nothing is shown
-pub record Shows (s t : State) : Type 0 where
+pub record ShowsBytes (s t : State) : Type 0 where
   pub one : depth t ≡ depth s
   pub room : length (registers_of t) ≡ length (registers_of s)
 
@@ -255,17 +255,17 @@ proves n s = record {
 
 pub test_leaves : (p : Program) (s : State) (r q : Reg) (by : ℤ) (n m : ℕ) (w : Ways) (a b t : State)
     → kind_of s r ≡ packet_from n m → kind_of s q ≡ kind.PacketEnd
-    → Makes p s (JumpIf (end_test r q) by) w a b → IsAmong w a b t
-    → (Proves n s t × (t.slot ≡ s.slot + 1)) ⊎ (Shows s t × (t.slot ≡ destination p s.slot by))
+    → StepsToWays p s (JumpIf (end_test r q) by) w a b → IsAmong w a b t
+    → (Proves n s t × (t.slot ≡ s.slot + 1)) ⊎ (ShowsBytes s t × (t.slot ≡ destination p s.slot by))
 test_leaves p s r q by n m w a b t is end makes among =
-    let h : Branches p s (end_test r q) by w a b = Makes-performs p s (JumpIf (end_test r q) by) w a b makes in
+    let h : Branches p s (end_test r q) by w a b = StepsToWays-performs p s (JumpIf (end_test r q) by) w a b makes in
     let known = compared_end s r q n m is end in
-    let left : Leaves (compared.Packet 0 false n) false s h.stays h.stay = subst (λ c. Leaves c false s h.stays h.stay) known h.left_there.pointers in
-    let taken : Leaves (compared.Packet 0 false n) true s h.goes h.go = subst (λ c. Leaves c true s h.goes h.go) known h.taken_there.pointers in
+    let left : LearnsOf (compared.Packet 0 false n) false s h.stays h.stay = subst (λ c. LearnsOf c false s h.stays h.stay) known h.left_there.pointers in
+    let taken : LearnsOf (compared.Packet 0 false n) true s h.goes h.go = subst (λ c. LearnsOf c true s h.goes h.go) known h.taken_there.pointers in
     side_among h.stays h.goes (go_to h.stay (s.slot + 1)) (go_to h.go (destination p s.slot by)) w a b t
-    (λ x. (Proves n s x × (x.slot ≡ s.slot + 1)) ⊎ (Shows s x × (x.slot ≡ destination p s.slot by))) h.sides among
+    (λ x. (Proves n s x × (x.slot ≡ s.slot + 1)) ⊎ (ShowsBytes s x × (x.slot ≡ destination p s.slot by))) h.sides among
     (inl (subst (λ (x : State). Proves n s (go_to x (s.slot + 1))) (sym left.1) (moved (proves n s)), refl))
-    (inr (subst (λ (x : State). Shows s (go_to x (destination p s.slot by))) (sym taken.1) (record { one = refl; room = refl }), refl))
+    (inr (subst (λ (x : State). ShowsBytes s (go_to x (destination p s.slot by))) (sym taken.1) (record { one = refl; room = refl }), refl))
   where
     moved : Proves n s (map_kinds (proved_kind 0 n) s)
         → Proves n s (go_to (map_kinds (proved_kind 0 n) s) (s.slot + 1))
@@ -277,5 +277,5 @@ test_leaves p s r q by n m w a b t is end makes among =
 
 pub test_goes : (p : Program) (s : State) (r q : Reg) (by : ℤ) (n m : ℕ) (e : Refusal) (b c : State)
     → kind_of s r ≡ packet_from n m → kind_of s q ≡ kind.PacketEnd
-    → Performs p s (JumpIf (end_test r q) by) (Err e) b c → ⊥
+    → StepsForm p s (JumpIf (end_test r q) by) (Err e) b c → ⊥
 test_goes p s r q by n m e b c is end h = h.1 (subst IsDefined (sym (compared_end s r q n m is end)) tt)

@@ -11,18 +11,18 @@ use Rattle.stack_state.specs.Starts.{start}
 use Rattle.transfer.specs.declared.refusals.Refusal.{Refusal as StepRefusal}
 use Rattle.walks.specs.declared.refusals.Refusal.{Refusal}
 use Rattle.walks.specs.declared.refusals.Refusal.TheVariants.{Step}
-use Rattle.walks.specs.Walks.{StepsTo, Leads, IsStuck}
+use Rattle.walks.specs.Walks.{StepsTo, HasPath, IsStuck}
 use Rattle.walks.specs.Counts.{HasNumber}
 use Rattle.walks.specs.Refused.{IsRefused}
 use Rattle.walks.specs.Accepting.{IsOutOfMemory, IsUnanswered}
 use Rattle.control_flow.specs.Liveness.{IsLive}
 use Rattle.walks.specs.Forgetting.{Forgets}
 use Rattle.walks.proofs.Forgotten.{Forgets-slot}
-use Rattle.walks.proofs.Living.{plain_calls, needs_live, live_before, Knows-forgets, known_further}
-use Rattle.walks.proofs.Forward.{Makes-follows, one_frame-start, HasNumber-forward, StartTakes-few, ComesBack-forward}
+use Rattle.walks.proofs.Living.{plain_calls, needs_live, live_before, KnowsNumbers-forgets, known_further}
+use Rattle.walks.proofs.Forward.{StepsToWays-follows, one_frame-start, HasNumber-forward, StartTakes-few, ComesBack-forward}
 use Rattle.walks.proofs.Accepted.{HasNoCalls, no_call, IsFlow-whole, IsRefused-want, Each-all, Each-one, needs_reads, tests_pass}
 use Rattle.walks.proofs.Exits.{ShowsNoAction}
-use Rattle.walks.proofs.OnNumbers.{NumbersIn, Knows, Knows-makes, refused_unshown}
+use Rattle.walks.proofs.OnNumbers.{NumbersIn, KnowsNumbers, KnowsNumbers-makes, refused_unshown}
 
 IsPlain-no_calls : (p : Program) → IsPlain p → HasNoCalls p
 IsPlain-no_calls p plain = λ slot i here. no_call i (plain.forms slot i here)
@@ -35,7 +35,7 @@ record IsKnown (p : Program) (s : State) : Type 0 where
   written : List Reg
   path : PathTo p steps s.slot written
   known : List Reg
-  knows : Knows s known
+  knows : KnowsNumbers s known
   live : (r : Reg) → IsLive p r s.slot → IsOneOf written r → IsOneOf known r
 
 needed : (p : Program) (s : State) (i : Insn) → IsPlain p → fetch p s.slot ≡ Some i → (h : IsKnown p s) → Each (NumbersIn s) (needs i)
@@ -58,7 +58,7 @@ PathTo-more p n from slot written i path here on = (from, written, i, path, here
 -- also once dead registers are forgotten
 known_forgets : (p : Program) (a b : State) → Forgets p a b → IsKnown p a → IsKnown p b
 known_forgets p a b f h =
-    let rest = Knows-forgets p a b h.known f h.knows in
+    let rest = KnowsNumbers-forgets p a b h.known f h.knows in
     let slot : a.slot ≡ b.slot = sym (Forgets-slot p a b f) in record {
       steps = h.steps;
       written = h.written;
@@ -75,19 +75,19 @@ step_known p s t plain step h =
     let i = step.insn in
     let form = plain.forms s.slot i step.here in
     let set = needs_reads (NumbersIn s) i (needed p s i plain step.here h) in
-    let follows = Makes-follows p s step.next i step.taken step.first step.other (IsPlain-no_calls p plain) h.knows.one step.here step.makes step.among in
+    let follows = StepsToWays-follows p s step.next i step.taken step.first step.other (IsPlain-no_calls p plain) h.knows.one step.here step.makes step.among in
     known_forgets p step.next t step.forgets (record {
       steps = suc h.steps;
       written = written_too (writes i) h.written;
       path = PathTo-more p h.steps s.slot step.next.slot h.written i h.path step.here (follows_by p s.slot step.next.slot i step.here follows);
       known = written_too (writes i) h.known;
-      knows = Knows-makes p s step.first step.other step.next i step.taken h.known form set step.makes step.among h.knows;
+      knows = KnowsNumbers-makes p s step.first step.other step.next i step.taken h.known form set step.makes step.among h.knows;
       live = λ r live among. known_further (writes i) h.written h.known r
           (elim (live_before p s.slot step.next.slot i r step.here (plain_calls i form) follows live) [ inl written ↦ inl written | inr early ↦ inr (h.live r early) ]) among;
     })
 
-walk_known : (p : Program) (n : ℕ) (a b : State) → IsPlain p → Leads p n a b → IsKnown p a → IsKnown p b
-unfolding Leads
+walk_known : (p : Program) (n : ℕ) (a b : State) → IsPlain p → HasPath p n a b → IsKnown p a → IsKnown p b
+unfolding HasPath
 walk_known p zero a b plain h known = subst (IsKnown p) (sym h) known
 walk_known p (suc n) a b plain h known = walk_known p n h.0 b plain h.2 (step_known p a h.0 plain h.1 known)
 

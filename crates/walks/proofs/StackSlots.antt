@@ -21,14 +21,14 @@ use Rattle.stack_state.specs.Slots.{slot_at, kind_in, IsSpill, IsFill}
 use Rattle.stack_state.specs.FramePlaces.{IsPlace}
 use Rattle.stack_state.specs.Effects.{with_slots, with_frame_slots}
 use Rattle.stack_state.specs.Places.{kind_of}
-use Rattle.branch_refine.specs.Refining.{IsNumber, IsJust}
+use Rattle.branch_refine.specs.Refining.{IsNumberKind, IsJust}
 use Rattle.transfer.specs.declared.refusals.Refusal.{Refusal}
 use Rattle.transfer.specs.declared.refusals.Refusal.TheVariants.{StackPlace, StackBytes}
 use Rattle.transfer.specs.StackAccesses.{IsFramePlace, store_refusal, StackLoads, StackStores, IsStoreRefused}
 
 -- slot j of the innermost frame is this number, known as a constant
-abbrev pub Holds : State → ℕ → ℕ → Type 0
-Holds s j y = IsJust (kind_in (slot_at s.innermost.stack.slots j)) y
+abbrev pub SlotHolds : State → ℕ → ℕ → Type 0
+SlotHolds s j y = IsJust (kind_in (slot_at s.innermost.stack.slots j)) y
 
 abbrev innermost : State → ℕ
 innermost s = length s.callers.items
@@ -63,21 +63,21 @@ fill_some (Written marks) y h just = just
 fill_some (Spilled (Number c)) y h just = absurd (cc h)
 fill_some (Spilled other) y h just = just
 
-held_at : (s : State) (j y at : ℕ) → at / 8 ≡ j → Holds s j y
+held_at : (s : State) (j y at : ℕ) → at / 8 ≡ j → SlotHolds s j y
     → IsJust (kind_in (slot_at (slots_of s (innermost s)) (at / 8))) y
 held_at s j y at same held =
     subst (λ n. IsJust (kind_in (slot_at (slots_of s (innermost s)) n)) y) (sym same)
     (subst (λ (slots : List Slot). IsJust (kind_in (slot_at slots j)) y) (sym (slots_here s)) held)
 
 -- what is loaded is the number
-pub load_just : (s : State) (j y : ℕ) (k : Kind) → Holds s j y
+pub load_just : (s : State) (j y : ℕ) (k : Kind) → SlotHolds s j y
     → StackLoads s (innermost s) (pos 0 +ℤ slot_offset j) U64 (Ok k) → IsJust k y
 load_just s j y k held h =
     let same = slot_of_place j h.0 h.1.place in
     fill_just (slot_at (slots_of s (innermost s)) (h.0 / 8)) k y h.2 (held_at s j y h.0 same held)
 
 -- and the load is not refused
-pub load_goes : (s : State) (j y : ℕ) (e : Refusal) → j < 64 → Holds s j y
+pub load_goes : (s : State) (j y : ℕ) (e : Refusal) → j < 64 → SlotHolds s j y
     → StackLoads s (innermost s) (pos 0 +ℤ slot_offset j) U64 (Err e) → ⊥
 load_goes s j y StackPlace below held h = h (8 * j) (place_there s j below)
 load_goes s j y StackBytes below held h =
@@ -102,8 +102,8 @@ pub record PutsSlot (s t : State) (j y : ℕ) : Type 0 where
   pub room : length (registers_of t) ≡ length (registers_of s)
   pub kinds : (q : Reg) → kind_of t q ≡ kind_of s q
   pub wide : length t.innermost.stack.slots ≡ length s.innermost.stack.slots
-  pub there : Holds t j y
-  pub others : (k z : ℕ) → k ≢ j → Holds s k z → Holds t k z
+  pub there : SlotHolds t j y
+  pub others : (k z : ℕ) → k ≢ j → SlotHolds s k z → SlotHolds t k z
 
 abbrev with_own : State → List Slot → State
 with_own s slots = record s { innermost = with_slots s.innermost slots }
@@ -142,12 +142,12 @@ store_puts s left j y source below just h =
     spilled.left ∙ ap (with_frame_slots s (innermost s)) list ∙ own_slots s (slice_set s.innermost.stack.slots j slot) in
     subst (λ t. PutsSlot s t j y) (sym is) (puts_in s j y slot below (spill_just source slot y spilled.spill just))
 
-numbers_stored : (s : State) (n : ℕ) (source : Kind) → IsNumber source → store_refusal s n U64 source ≡ None
+numbers_stored : (s : State) (n : ℕ) (source : Kind) → IsNumberKind source → store_refusal s n U64 source ≡ None
 numbers_stored s n (Number c) number = refl
 numbers_stored s n source number = absurd number
 
 -- a store of a number is not refused
-pub store_goes : (s left : State) (j : ℕ) (source : Kind) (e : Refusal) → j < 64 → IsNumber source
+pub store_goes : (s left : State) (j : ℕ) (source : Kind) (e : Refusal) → j < 64 → IsNumberKind source
     → StackStores s (innermost s) (pos 0 +ℤ slot_offset j) U64 source left (Err e) → ⊥
 store_goes s left j source e below number h = of e h.1 where
   of : (e : Refusal) → IsStoreRefused s (innermost s) (pos 0 +ℤ slot_offset j) U64 source e → ⊥

@@ -7,7 +7,7 @@ use Rattle.stack_state.specs.Meaning.{Covers}
 use Rattle.control_flow.specs.Graph.{BeginsInsn}
 use Rattle.transfer.specs.declared.Ways.{Ways}
 use Rattle.transfer.specs.declared.Ways.TheVariants as ways
-use Rattle.transfer.specs.Exact.{Makes}
+use Rattle.transfer.specs.Exact.{StepsToWays}
 use Rattle.walks.specs.Forgetting.{Forgets}
 use Rattle.walks.specs.Walks.{WalksTo}
 
@@ -24,7 +24,7 @@ pub record StepsInto (p : Program) (s : State) (taken : Ways) (first other : Sta
   pub here : fetch p s.slot ≡ Some insn
   pub next : State
   pub aside : State
-  pub makes : Makes p s insn taken next aside
+  pub makes : StepsToWays p s insn taken next aside
   pub forgets : AreForgotten p taken next aside first other
 
 -- the number of a state: 1 more than the greatest number of its successors, and 1 if it has none;

@@ -10,7 +10,7 @@ use Rattle.control_flow.specs.Flows.{IsJoin}
 use Rattle.transfer.specs.declared.Ways.{Ways}
 use Rattle.transfer.specs.declared.Ways.TheVariants as ways
 use Rattle.transfer.specs.declared.refusals.Refusal.{Refusal}
-use Rattle.transfer.specs.Exact.{Makes, Refuses}
+use Rattle.transfer.specs.Exact.{StepsToWays, RefusesStep}
 use Rattle.walks.specs.Forgetting.{Forgets}
 
 abbrev pub IsAmong : Ways → State → State → State → Type 0
@@ -25,21 +25,21 @@ pub record StepsTo (p : Program) (a b : State) : Type 0 where
   pub taken : Ways
   pub first : State
   pub other : State
-  pub makes : Makes p a insn taken first other
+  pub makes : StepsToWays p a insn taken first other
   pub next : State
   pub among : IsAmong taken first other next
   pub forgets : Forgets p next b
 
 -- a path of n steps goes from a to b
-unfoldable pub Leads : Program → ℕ → State → State → Type 0
-Leads p zero a b = b ≡ a
-Leads p (suc n) a b = (c : State) × StepsTo p a c × Leads p n c b
+unfoldable pub HasPath : Program → ℕ → State → State → Type 0
+HasPath p zero a b = b ≡ a
+HasPath p (suc n) a b = (c : State) × StepsTo p a c × HasPath p n c b
 
 -- a walk of n steps from the start reaches a state
 pub record WalksTo (p : Program) (n : ℕ) (s : State) : Type 0 where
   pub first : State
   pub begins : Forgets p start first
-  pub leads : Leads p n first s
+  pub leads : HasPath p n first s
 
 -- ---- where walks stop
 
@@ -60,7 +60,7 @@ pub record IsStuck (p : Program) (e : Refusal) (slot : ℕ) : Type 0 where
   pub begins : BeginsInsn p slot
   pub insn : Insn
   pub here : fetch p state.slot ≡ Some insn
-  pub refused : Refuses p state insn e
+  pub refused : RefusesStep p state insn e
 
 -- some walk from the start reaches this join twice, in two states that cover one another
 pub record ComesBack (p : Program) (slot : ℕ) : Type 0 where
@@ -70,7 +70,7 @@ pub record ComesBack (p : Program) (slot : ℕ) : Type 0 where
   pub before : ℕ
   pub between : ℕ
   pub walk : WalksTo p before first
-  pub leads_back : Leads p (suc between) first again
+  pub leads_back : HasPath p (suc between) first again
   pub first_slot : first.slot ≡ slot
   pub again_slot : again.slot ≡ slot
   pub covers : Covers p first again

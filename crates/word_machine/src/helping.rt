@@ -5,7 +5,7 @@ ghost use Rattle.std.specs.FinMap as finmap;
 ghost use Rattle.helpers.specs.declared.calls.Answer.TheVariants.{Number, Value};
 ghost use Rattle.word_machine.specs.Addresses.{region_of};
 ghost use Rattle.isa_model.specs.Code.Helpers.{helper_numbered};
-ghost use Rattle.word_machine.specs.Helping.{CallFits, Calls, asks, NamesKey, HasPlaces, NamesValue, Updates, Deletes, found_at, key_named, named};
+ghost use Rattle.word_machine.specs.Helping.{CallFits, Calls, asks, NamesKey, HasPlaces, NamesValue, UpdatesMap, DeletesFromMap, found_at, key_named, named};
 ghost use Rattle.word_machine.specs.Machine.{words_of, Rests};
 ghost use Rattle.word_machine.specs.Ops.{constant_of, HasConstant};
 
@@ -82,7 +82,7 @@ fn lookup<C: Clock>(regs: &[u64; 11], memory: &mut Memory, packet: &[u8], clock:
 fn update<C: Clock>(regs: &[u64; 11], memory: &mut Memory, packet: &[u8], clock: &mut C) -> u64
     requires key { NamesKey (words_of 0 regs.now memory.old packet.now 0) }
     requires value { NamesValue (words_of 0 regs.now memory.old packet.now 0) }
-    ensures updates { Updates (words_of 0 regs.now memory.old packet.now 0) result memory.new.maps }
+    ensures updates { UpdatesMap (words_of 0 regs.now memory.old packet.now 0) result memory.new.maps }
     ensures frames { memory.new.frames ≡ memory.old.frames }
     ensures kept { vec_capacity memory.new.saved ≡ vec_capacity memory.old.saved }
     ensures rest { Rests memory.old memory.new }
@@ -118,7 +118,7 @@ fn update<C: Clock>(regs: &[u64; 11], memory: &mut Memory, packet: &[u8], clock:
 // Removes the key to which r2 points: 0, or an error.
 fn delete<C: Clock>(regs: &[u64; 11], memory: &mut Memory, packet: &[u8], clock: &mut C) -> u64
     requires { NamesKey (words_of 0 regs.now memory.old packet.now 0) }
-    ensures deletes { Deletes (words_of 0 regs.now memory.old packet.now 0) result memory.new.maps }
+    ensures deletes { DeletesFromMap (words_of 0 regs.now memory.old packet.now 0) result memory.new.maps }
     ensures frames { memory.new.frames ≡ memory.old.frames }
     ensures kept { vec_capacity memory.new.saved ≡ vec_capacity memory.old.saved }
     ensures rest { Rests memory.old memory.new }

@@ -6,7 +6,7 @@ ghost use Rattle.isa_model.specs.Code.Numbers.{bytes_of, number_from};
 ghost use Rattle.isa_model.specs.Code.Sizes.{size_bytes};
 ghost use Rattle.isa_model.specs.declared.sizes.Size.TheVariants.{U8, U16, U32, U64};
 ghost use Rattle.word_machine.specs.Addresses.{frames_size};
-ghost use Rattle.word_machine.specs.Words.{IsInside, Loads, spot_of, get, word_from, number_at, packet_after, frames_after, maps_after, context_word};
+ghost use Rattle.word_machine.specs.Words.{IsInside, CanLoad, spot_of, get, word_from, number_at, packet_after, frames_after, maps_after, context_word};
 ghost use Rattle.word_machine.specs.Machine.{words_of, seen, Rests};
 
 use crate::addresses::{
@@ -326,7 +326,7 @@ pub fn put(size: Size, memory: &mut Memory, packet: &mut [u8], address: u64, num
 /// What a load finds at an address: a number in memory, or a field of the context.
 #[inline(always)]
 pub fn load(size: Size, memory: &Memory, packet: &[u8], address: u64) -> u64
-    requires loads { Loads (words_of 0 [] memory.now packet.now 0) size address }
+    requires loads { CanLoad (words_of 0 [] memory.now packet.now 0) size address }
     requires short { length packet.now ≤ max_packet }
     ensures { result ≡ word_from (words_of 0 [] memory.now packet.now 0) size address }
 {

@@ -10,7 +10,7 @@ use Rattle.isa_model.specs.declared.values.Region.{Region}
 use Rattle.isa_model.specs.declared.values.Region.TheVariants as region
 use Rattle.isa_model.specs.Code.Numbers.{alu, signed, unsigned}
 use Rattle.isa_model.specs.Machine.MachineStates.{IsOffset, IsRegion}
-use Rattle.word_relation.specs.Related.{Layout, IsLayout, start, moved, word}
+use Rattle.word_relation.specs.Related.{Layout, IsLayout, region_start, moved, word}
 
 -- what an address is, where it cannot go below 0
 pub moved_is : (s : ℕ) (z : ℤ) → 4294967296 ≤ s → IsOffset z → pos (moved s z) ≡ pos s +ℤ z
@@ -54,7 +54,7 @@ alu_add_swap a b = omega arith
 
 -- every region begins far from both ends
 pub start_far : (a : Layout) (rows next : ℕ) (r : Region) → IsLayout a rows → IsRegion rows next r
-    → (4294967296 ≤ start a r) × (start a r < 1099511627776)
+    → (4294967296 ≤ region_start a r) × (region_start a r < 1099511627776)
 start_far a rows next region.Context good h = (omega arith, omega arith)
 start_far a rows next region.Packet good h = (omega arith, omega arith)
 start_far a rows next region.PacketEnd good h = let l = good.short in (omega arith, omega arith)
@@ -67,7 +67,7 @@ start_far a rows next (region.MapValue m n) good h =
 start_far a rows next (region.Frame n) good h = let l = good.shallow n in (omega arith, omega arith)
 
 -- the word of a pointer in any region but the packet end
-pub word_plain : (a : Layout) (r : Region) (z : ℤ) → (r ≡ region.PacketEnd → ⊥) → word a r z ≡ moved (start a r) z
+pub word_plain : (a : Layout) (r : Region) (z : ℤ) → (r ≡ region.PacketEnd → ⊥) → word a r z ≡ moved (region_start a r) z
 word_plain a region.Context z h = refl
 word_plain a region.Packet z h = refl
 word_plain a region.PacketEnd z h = absurd (h refl)
@@ -75,14 +75,14 @@ word_plain a (region.Map m) z h = refl
 word_plain a (region.MapValue m n) z h = refl
 word_plain a (region.Frame n) z h = refl
 
-pub word_far : (a : Layout) (r : Region) (z : ℤ) → 4294967296 ≤ start a r → start a r < 1099511627776 → IsOffset z
+pub word_far : (a : Layout) (r : Region) (z : ℤ) → 4294967296 ≤ region_start a r → region_start a r < 1099511627776 → IsOffset z
     → (2147483648 ≤ word a r z) × (word a r z < 2199023255552)
-word_far a region.Context z h g l = moved_far (start a region.Context) z h g l
-word_far a region.Packet z h g l = moved_far (start a region.Packet) z h g l
+word_far a region.Context z h g l = moved_far (region_start a region.Context) z h g l
+word_far a region.Packet z h g l = moved_far (region_start a region.Packet) z h g l
 word_far a region.PacketEnd z h g l = (omega arith, omega arith)
-word_far a (region.Map m) z h g l = moved_far (start a (region.Map m)) z h g l
-word_far a (region.MapValue m n) z h g l = moved_far (start a (region.MapValue m n)) z h g l
-word_far a (region.Frame n) z h g l = moved_far (start a (region.Frame n)) z h g l
+word_far a (region.Map m) z h g l = moved_far (region_start a (region.Map m)) z h g l
+word_far a (region.MapValue m n) z h g l = moved_far (region_start a (region.MapValue m n)) z h g l
+word_far a (region.Frame n) z h g l = moved_far (region_start a (region.Frame n)) z h g l
 
 -- an offset that is a little over its limit
 pub add_near : (s : ℕ) (z by : ℤ) → 4294967296 ≤ s → s < 1099511627776 → IsOffset z → FitsSigned w16 by

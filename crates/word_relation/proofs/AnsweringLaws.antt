@@ -14,13 +14,13 @@ use Rattle.maps.specs.ContentLaws.{changed}
 use Rattle.maps.proofs.MapLaws.{length-rows_of}
 use Rattle.maps.specs.Maps.{MapState, map_at, rows_of, content_in, contents_of}
 use Rattle.word_machine.specs.Words.{Words}
-use Rattle.word_machine.specs.Runs.{Ends, Exits}
-use Rattle.word_relation.specs.Related.{Layout, by_serial, by_place, ShowsMap, Related}
+use Rattle.word_machine.specs.Runs.{EndsSafely, Exits}
+use Rattle.word_relation.specs.Related.{Layout, by_serial, by_place, RepresentsMap, Related}
 use Rattle.word_relation.proofs.RunningLaws.{related_Ends, related_Exits}
 use Rattle.word_relation.specs.Starting.{start_of}
 use Rattle.word_relation.proofs.StartingLaws.{start_layout, start_related}
 use Rattle.word_relation.specs.Values.{contents_are}
-use Rattle.word_relation.specs.Answering.{Answers, IsStart}
+use Rattle.word_relation.specs.Answering.{AnswersAsModel, IsStart}
 
 changed-twice : {X Y Z : Type 0} (g : Y → Z) (f : X → Y) (es : List (List ℕ × X)) → changed g (changed f es) ≡ changed (λ x. g (f x)) es
 changed-twice g f [] = refl
@@ -30,7 +30,7 @@ abbrev value_in : (ℕ × List ℕ) → List ℕ
 value_in x = x.1
 
 -- what a map shows has its content
-pub content_same : (a : Layout) (m : ℕ) (content : Content) (state : MapState) → ShowsMap a m content state → entries_of content ≡ content_in state
+pub content_same : (a : Layout) (m : ℕ) (content : Content) (state : MapState) → RepresentsMap a m content state → entries_of content ≡ content_in state
 content_same a m content state shown =
     sym (changed-twice value_in (by_serial a m) content) ∙ ap (changed value_in) shown.same
     ∙ changed-twice value_in (by_place state.row.value_size state.block) (entries state.places)
@@ -67,12 +67,12 @@ module _ (p : Program) (clock : ℕ → ℕ) (n : ℕ) (head : FrameHead) (packe
   in_time = h.ends clock head packet (contents_of maps) h.answers h.given
 
   -- the run of words ends within n moves
-  pub start_Ends : Ends p clock (start_of head packet frames maps) n
+  pub start_Ends : EndsSafely p clock (start_of head packet frames maps) n
   start_Ends = related_Ends p clock h.program h.answers n (start_layout packet maps) first (start_of head packet frames maps) related is_state in_time
 
   -- and what it comes to is the outcome
   pub start_Answers : (number steps : ℕ) (v : Words) → Exits p clock (start_of head packet frames maps) number steps v
-      → Answers p clock n head packet maps number steps v
+      → AnswersAsModel p clock n head packet maps number steps v
   start_Answers number steps v e =
       let F = related_Exits p clock h.program h.answers n (start_layout packet maps) first (start_of head packet frames maps) v number steps related is_state in_time e in
       let last : State = F.follows.state in

@@ -25,7 +25,7 @@ use Rattle.maps.proofs.MapLaws.{length-rows_of}
 use Rattle.word_machine.specs.Addresses.{region_of, map_base}
 use Rattle.word_machine.specs.Words.{Words, word_at, spot_of, IsInside, get}
 use Rattle.word_machine.specs.Helping.{map_named, named, answered as answered_words}
-use Rattle.word_relation.specs.Related.{Layout, start, moved, Shows, ShowsCells, ShowsRegisters, Related}
+use Rattle.word_relation.specs.Related.{Layout, region_start, moved, Represents, RepresentsCells, RepresentsRegisters, Related}
 use Rattle.word_relation.proofs.Addresses.{moved_is}
 use Rattle.word_relation.proofs.Arithmetic.{far}
 use Rattle.word_relation.proofs.Cells.{bytes-shown}
@@ -39,17 +39,17 @@ get_or-drop (suc n) [] j k d e = refl
 get_or-drop (suc n) (x ∷ xs) j zero d e = absurd (omega arith)
 get_or-drop (suc n) (x ∷ xs) j (suc k) d e = get_or-drop n xs j k d (omega arith)
 
-pub answered_shown : (a : Layout) (regs : List Value) (words : List ℕ) (v : Value) (x : ℕ) → ShowsRegisters a regs words → Shows a v x
-    → ShowsRegisters a (v ∷ (replicate 5 Unset ++ drop 6 regs)) (slice_set words 0 x)
+pub answered_shown : (a : Layout) (regs : List Value) (words : List ℕ) (v : Value) (x : ℕ) → RepresentsRegisters a regs words → Represents a v x
+    → RepresentsRegisters a (v ∷ (replicate 5 Unset ++ drop 6 regs)) (slice_set words 0 x)
 answered_shown a regs words v x R h = record { count = length-set words 0 x ∙ R.count; shown = by_place }
   where
-    later : (j k : ℕ) → 6 + j ≡ k → Shows a (slice_index_or (drop 6 regs) j Unset) (slice_index (slice_set words 0 x) k)
+    later : (j k : ℕ) → 6 + j ≡ k → Represents a (slice_index_or (drop 6 regs) j Unset) (slice_index (slice_set words 0 x) k)
     later j k e =
-        subst (λ u. Shows a u (slice_index (slice_set words 0 x) k)) (sym (get_or-drop 6 regs j k Unset e))
-        (subst (Shows a (value_at regs k)) (sym (get_or-set_other words 0 k x 0 (λ z. omega arith))) (R.shown k))
+        subst (λ u. Represents a u (slice_index (slice_set words 0 x) k)) (sym (get_or-drop 6 regs j k Unset e))
+        (subst (Represents a (value_at regs k)) (sym (get_or-set_other words 0 k x 0 (λ z. omega arith))) (R.shown k))
 
-    by_place : (k : ℕ) → Shows a (value_at (v ∷ (replicate 5 Unset ++ drop 6 regs)) k) (slice_index (slice_set words 0 x) k)
-    by_place zero = let c = R.count in subst (Shows a v) (sym (get_or-set_same words 0 x 0 (omega arith))) h
+    by_place : (k : ℕ) → Represents a (value_at (v ∷ (replicate 5 Unset ++ drop 6 regs)) k) (slice_index (slice_set words 0 x) k)
+    by_place zero = let c = R.count in subst (Represents a v) (sym (get_or-set_same words 0 x 0 (omega arith))) h
     by_place (suc zero) = tt
     by_place (suc (suc zero)) = tt
     by_place (suc (suc (suc zero))) = tt
@@ -58,7 +58,7 @@ answered_shown a regs words v x R h = record { count = length-set words 0 x ∙ 
     by_place (suc (suc (suc (suc (suc (suc j)))))) =
         later j (suc (suc (suc (suc (suc (suc j)))))) (omega arith)
 
-pub answered_related : (p : Program) (b : Layout) (t : State) (u : Words) (v : Value) (x n : ℕ) → n ≡ t.slot → Related p b t u → Shows b v x
+pub answered_related : (p : Program) (b : Layout) (t : State) (u : Words) (v : Value) (x n : ℕ) → n ≡ t.slot → Related p b t u → Represents b v x
     → Related p b (go_to (answered (record { answer = v; state = t })) (n + 1)) (answered_words u x u.maps u.calls)
 answered_related p b t u v x n same R h = record {
   slot = ap (λ n. n + 1) (R.slot ∙ sym same);
@@ -78,7 +78,7 @@ answered_related p b t u v x n same R h = record {
 module _ (p : Program) (a : Layout) (s : State) (w : Words) (R : Related p a s w) (K : IsState p s) where
   -- an address is that of an argument
   abbrev pub Points : BytesArgument → ℕ → Type 0
-  Points at x = pos x ≡ pos (start a at.region) +ℤ at.offset
+  Points at x = pos x ≡ pos (region_start a at.region) +ℤ at.offset
 
   pub maps_long : length w.maps ≡ length p.maps
   maps_long = sym (length-rows_of w.maps) ∙ ap length R.maps.rows
@@ -98,7 +98,7 @@ module _ (p : Program) (a : Layout) (s : State) (w : Words) (R : Related p a s w
     index_named m x (pos n) h l e = omega (arith, ints)
     index_named m x (negsuc n) h l e = omega (arith, ints)
 
-    pub with_map : (v : Value) → IsValue (length p.maps) s.next_serial v → Shows a v (word_at w R1) → (go : MapArgument → Result Helped TrapReason)
+    pub with_map : (v : Value) → IsValue (length p.maps) s.next_serial v → Represents a v (word_at w R1) → (go : MapArgument → Result Helped TrapReason)
         → (map_named w < length p.maps → Q (go (record { index = map_named w; row = (named w).row }))) → Q (and_then (map_argument p v) go)
     with_map Unset fits shown go next = traps BadHelper
     with_map (Num n) fits shown go next = traps BadHelper
@@ -115,7 +115,7 @@ module _ (p : Program) (a : Layout) (s : State) (w : Words) (R : Related p a s w
         subst (λ o. Q (and_then (map_of_row m o) go)) (sym found)
         (subst (λ k. Q (go (record { index = k; row = (named w).row }))) same (next (omega arith)))
 
-    pub with_argument : (v : Value) (x : ℕ) → IsValue (length p.maps) s.next_serial v → Shows a v x → (go : BytesArgument → Result Helped TrapReason)
+    pub with_argument : (v : Value) (x : ℕ) → IsValue (length p.maps) s.next_serial v → Represents a v x → (go : BytesArgument → Result Helped TrapReason)
         → ((at : BytesArgument) → Points at x → Q (go at)) → Q (and_then (bytes_argument v) go)
     with_argument Unset x fits shown go next = traps BadHelper
     with_argument (Num n) x fits shown go next = traps BadHelper
@@ -124,15 +124,15 @@ module _ (p : Program) (a : Layout) (s : State) (w : Words) (R : Related p a s w
     with_argument (Ptr (region.Map m) z) x fits shown go next = traps BadHelper
     with_argument (Ptr region.Packet z) x fits shown go next =
         let f = far a (length p.maps) s.next_serial R.layout region.Packet fits.0 in
-        next (record { region = region.Packet; offset = z }) (ap pos shown ∙ moved_is (start a region.Packet) z f.0 fits.1)
+        next (record { region = region.Packet; offset = z }) (ap pos shown ∙ moved_is (region_start a region.Packet) z f.0 fits.1)
     with_argument (Ptr (region.Frame n) z) x fits shown go next =
         let f = far a (length p.maps) s.next_serial R.layout (region.Frame n) fits.0 in
-        next (record { region = region.Frame n; offset = z }) (ap pos shown ∙ moved_is (start a (region.Frame n)) z f.0 fits.1)
+        next (record { region = region.Frame n; offset = z }) (ap pos shown ∙ moved_is (region_start a (region.Frame n)) z f.0 fits.1)
     with_argument (Ptr (region.MapValue m n) z) x fits shown go next =
         let f = far a (length p.maps) s.next_serial R.layout (region.MapValue m n) fits.0 in
-        next (record { region = region.MapValue m n; offset = z }) (ap pos shown ∙ moved_is (start a (region.MapValue m n)) z f.0 fits.1)
+        next (record { region = region.MapValue m n; offset = z }) (ap pos shown ∙ moved_is (region_start a (region.MapValue m n)) z f.0 fits.1)
 
-    pub with_number : (v : Value) (x : ℕ) → Shows a v x → (go : ℕ → Result Helped TrapReason) → Q (go x) → Q (and_then (number_argument v) go)
+    pub with_number : (v : Value) (x : ℕ) → Represents a v x → (go : ℕ → Result Helped TrapReason) → Q (go x) → Q (and_then (number_argument v) go)
     with_number Unset x shown go next = traps BadHelper
     with_number (Ptr r z) x shown go next = traps BadHelper
     with_number (Num n) x shown go next = subst (λ k. Q (go k)) shown next
@@ -143,12 +143,12 @@ module _ (p : Program) (a : Layout) (s : State) (w : Words) (R : Related p a s w
     with_bytes_at at n x some points go next =
         by_read (read s at.region (index_at at.region at.offset) n) (shows_read p a s w R K at.region at.offset n x some points)
       where
-        written : (cs : List Cell) → ShowsCells a cs (get w (spot_of x) n) → IsInside w (spot_of x) n → (b : Bool) → list_all is_byte cs ≡ b
+        written : (cs : List Cell) → RepresentsCells a cs (get w (spot_of x) n) → IsInside w (spot_of x) n → (b : Bool) → list_all is_byte cs ≡ b
             → Q (and_then (if b then Ok (map byte_in cs) else Err BadAccess) go)
         written cs shown inside true e = subst (λ bytes. Q (go bytes)) (bytes-shown a cs (get w (spot_of x) n) e shown) (next inside)
         written cs shown inside false e = traps BadAccess
 
-        unwritten : (cs : List Cell) → ShowsCells a cs (get w (spot_of x) n) → IsInside w (spot_of x) n → (b : Bool)
+        unwritten : (cs : List Cell) → RepresentsCells a cs (get w (spot_of x) n) → IsInside w (spot_of x) n → (b : Bool)
             → Q (and_then (if b then Err UnsetRead else if list_all is_byte cs then Ok (map byte_in cs) else Err BadAccess) go)
         unwritten cs shown inside true = traps UnsetRead
         unwritten cs shown inside false = written cs shown inside (list_all is_byte cs) refl

@@ -19,20 +19,20 @@ use Rattle.isa_model.specs.Code.Limits.{offset_limit}
 use Rattle.isa_model.specs.Machine.Pointers.{pointer_at, can_move, moved_to, pointer_and_number, number_and_pointer, combined, arithmetic, compared, compared_constant, packet_order, pointer_order, null_test}
 use Rattle.isa_model.specs.Machine.Pointers as pointers
 use Rattle.isa_model.specs.Machine.MachineStates.{IsOffset, IsRegion, IsValue}
-use Rattle.word_relation.specs.Related.{Layout, IsLayout, start, moved, word, Shows}
+use Rattle.word_relation.specs.Related.{Layout, IsLayout, region_start, moved, word, Represents}
 use Rattle.word_relation.proofs.Addresses.{add_moved, sub_moved, alu_add_swap, start_far, word_far}
 use Rattle.word_machine.specs.Addresses.{packet_base}
 
 -- what holds of an answer
 abbrev pub OkShows : Layout → Result Value TrapReason → ℕ → Type 0
-OkShows a (Ok v) w = Shows a v w
+OkShows a (Ok v) w = Represents a v w
 OkShows a (Err e) w = Unit {0}
 
 module _ (a : Layout) (rows next : ℕ) (good : IsLayout a rows) where
-  pub far : (r : Region) → IsRegion rows next r → (4294967296 ≤ start a r) × (start a r < 1099511627776)
+  pub far : (r : Region) → IsRegion rows next r → (4294967296 ≤ region_start a r) × (region_start a r < 1099511627776)
   far r h = start_far a rows next r good h
 
-  pub word_fits : (v : Value) (x : ℕ) → IsValue rows next v → Shows a v x → (v ≡ Unset → ⊥) → x < 2 ^ 64
+  pub word_fits : (v : Value) (x : ℕ) → IsValue rows next v → Represents a v x → (v ≡ Unset → ⊥) → x < 2 ^ 64
   word_fits Unset x h s n = absurd (n refl)
   word_fits (Num k) x h s n = omega arith
   word_fits (Ptr r z) x h s n = let f = far r h.0 in let g = word_far a r z f.0 f.1 h.1 in let g1 = g.1 in omega arith
@@ -45,7 +45,7 @@ module _ (a : Layout) (rows next : ℕ) (good : IsLayout a rows) where
       by_test false e = tt
 
   -- a pointer y that may move, moved to x
-  shows_to : (r : Region) (z i : ℤ) (f : ℕ → ℕ) → ((m : IsOffset i) → f (moved (start a r) z) ≡ moved (start a r) i) → OkShows a (moved_to r i) (f (word a r z))
+  shows_to : (r : Region) (z i : ℤ) (f : ℕ → ℕ) → ((m : IsOffset i) → f (moved (region_start a r) z) ≡ moved (region_start a r) i) → OkShows a (moved_to r i) (f (word a r z))
   shows_to region.Packet z i f h = shows_at region.Packet i _ h
   shows_to (region.Frame n) z i f h = shows_at (region.Frame n) i _ h
   shows_to (region.MapValue m n) z i f h = shows_at (region.MapValue m n) i _ h
@@ -56,9 +56,9 @@ module _ (a : Layout) (rows next : ℕ) (good : IsLayout a rows) where
   shows_pointer_and_number : (op : AluOp) (w : Width) (r : Region) (z : ℤ) (n : ℕ) → IsRegion rows next r → IsOffset z → n < 2 ^ 64
       → OkShows a (pointer_and_number op w r z n) (alu op w (word a r z) n)
   shows_pointer_and_number Add Full64 r z n h l f =
-      let g = far r h in shows_to r z (z +ℤ signed Full64 n) (λ x. alu Add Full64 x n) (λ m. add_moved (start a r) n z g.0 g.1 f l m)
+      let g = far r h in shows_to r z (z +ℤ signed Full64 n) (λ x. alu Add Full64 x n) (λ m. add_moved (region_start a r) n z g.0 g.1 f l m)
   shows_pointer_and_number Sub Full64 r z n h l f =
-      let g = far r h in shows_to r z (z -ℤ signed Full64 n) (λ x. alu Sub Full64 x n) (λ m. sub_moved (start a r) n z g.0 g.1 f l m)
+      let g = far r h in shows_to r z (z -ℤ signed Full64 n) (λ x. alu Sub Full64 x n) (λ m. sub_moved (region_start a r) n z g.0 g.1 f l m)
   shows_pointer_and_number Add Low32 r z n h l f = tt
   shows_pointer_and_number Sub Low32 r z n h l f = tt
   shows_pointer_and_number op w r z n h l f = tt
@@ -66,11 +66,11 @@ module _ (a : Layout) (rows next : ℕ) (good : IsLayout a rows) where
   shows_number_and_pointer : (op : AluOp) (w : Width) (n : ℕ) (r : Region) (z : ℤ) → IsRegion rows next r → IsOffset z → n < 2 ^ 64
       → OkShows a (number_and_pointer op w n r z) (alu op w n (word a r z))
   shows_number_and_pointer Add Full64 n r z h l f =
-      let g = far r h in shows_to r z (z +ℤ signed Full64 n) (λ x. alu Add Full64 n x) (λ m. alu_add_swap n (moved (start a r) z) ∙ add_moved (start a r) n z g.0 g.1 f l m)
+      let g = far r h in shows_to r z (z +ℤ signed Full64 n) (λ x. alu Add Full64 n x) (λ m. alu_add_swap n (moved (region_start a r) z) ∙ add_moved (region_start a r) n z g.0 g.1 f l m)
   shows_number_and_pointer Add Low32 n r z h l f = tt
   shows_number_and_pointer op w n r z h l f = tt
 
-  shows_moved : (w : Width) (v : Value) (x y : ℕ) → IsValue rows next v → Shows a v y → OkShows a (pointers.moved w v) (alu Mov w x y)
+  shows_moved : (w : Width) (v : Value) (x y : ℕ) → IsValue rows next v → Represents a v y → OkShows a (pointers.moved w v) (alu Mov w x y)
   unfolding alu
   shows_moved w (Num n) x y h s = ap (low w) s
   shows_moved Full64 (Ptr r z) x y h s =
@@ -79,7 +79,7 @@ module _ (a : Layout) (rows next : ℕ) (good : IsLayout a rows) where
   shows_moved Low32 Unset x y h s = tt
   shows_moved Full64 Unset x y h s = tt
 
-  shows_combined : (op : AluOp) (w : Width) (u v : Value) (x y : ℕ) → IsValue rows next u → IsValue rows next v → Shows a u x → Shows a v y
+  shows_combined : (op : AluOp) (w : Width) (u v : Value) (x y : ℕ) → IsValue rows next u → IsValue rows next v → Represents a u x → Represents a v y
       → OkShows a (combined op w u v) (alu op w x y)
   shows_combined op w (Num m) (Num n) x y h k s t = ap (λ x. alu op w x y) s ∙ ap (alu op w m) t
   shows_combined op w (Ptr r z) (Num n) x y h k s t =
@@ -92,7 +92,7 @@ module _ (a : Layout) (rows next : ℕ) (good : IsLayout a rows) where
   shows_combined op w (Ptr r z) Unset x y h k s t = tt
 
   -- all arithmetic, on numbers and pointers
-  pub shows_arithmetic : (op : AluOp) (w : Width) (u v : Value) (x y : ℕ) → IsValue rows next u → IsValue rows next v → Shows a u x → Shows a v y
+  pub shows_arithmetic : (op : AluOp) (w : Width) (u v : Value) (x y : ℕ) → IsValue rows next u → IsValue rows next v → Represents a u x → Represents a v y
       → OkShows a (arithmetic op w u v) (alu op w x y)
   shows_arithmetic Mov w u v x y h k s t = shows_moved w v x y k t
   shows_arithmetic op w u v x y h k s t = shows_combined op w u v x y h k s t
@@ -133,7 +133,7 @@ module _ (a : Layout) (rows next : ℕ) (good : IsLayout a rows) where
   shows_order c w r z q i h k = tt
 
   -- all comparisons
-  pub shows_compared : (c : Comparison) (w : Width) (u v : Value) (x y : ℕ) → IsValue rows next u → IsValue rows next v → Shows a u x → Shows a v y
+  pub shows_compared : (c : Comparison) (w : Width) (u v : Value) (x y : ℕ) → IsValue rows next u → IsValue rows next v → Represents a u x → Represents a v y
       → OkHolds (compared a.end c w u v) (holds c w x y)
   shows_compared c w (Num m) (Num n) x y h k s t = ap (λ x. holds c w x n) (sym s) ∙ ap (holds c w x) (sym t)
   shows_compared c w (Num m) (Ptr q i) x y h k s t = tt
@@ -153,7 +153,7 @@ module _ (a : Layout) (rows next : ℕ) (good : IsLayout a rows) where
       let f = far (region.MapValue m n) h.0 in let g = word_far a (region.MapValue m n) z f.0 f.1 h.1 in let g0 = g.0 in let g1 = g.1 in grind (arith, nat_tests)
   null c w r z x e h = tt
 
-  pub shows_compared_constant : (c : Comparison) (w : Width) (u : Value) (k : ℤ) (x : ℕ) → IsValue rows next u → Shows a u x
+  pub shows_compared_constant : (c : Comparison) (w : Width) (u : Value) (k : ℤ) (x : ℕ) → IsValue rows next u → Represents a u x
       → OkHolds (compared_constant c w u k) (holds c w x (unsigned w k))
   shows_compared_constant c w (Num m) k x h s = ap (λ x. holds c w x (unsigned w k)) (sym s)
   shows_compared_constant c w (Ptr r z) (pos k) x h s = by_test (k == 0) refl

@@ -18,8 +18,8 @@ use Rattle.isa_model.specs.Machine.MachineStates.{IsState}
 use Rattle.word_machine.specs.Addresses.{frame_end}
 use Rattle.word_machine.specs.declared.memory.Saved.{Saved}
 use Rattle.word_machine.specs.Words.{Words, saved_at, kept_words, regs_back, word_enter, word_leave}
-use Rattle.word_relation.specs.Related.{Layout, Shows, ShowsCells, ShowsRegisters, ShowsFrame, ShowsSaved, ShowsFrames, Related}
-use Rattle.word_relation.proofs.Extending.{Extends, put_at-there, with_depth, Extends-with_depth, IsLayout-with_depth, register_old, frame_old, saved_old, maps_old}
+use Rattle.word_relation.specs.Related.{Layout, Represents, RepresentsCells, RepresentsRegisters, RepresentsFrame, RepresentsSaved, RepresentsFrames, Related}
+use Rattle.word_relation.proofs.Extending.{ExtendsLayout, put_at-there, with_depth, ExtendsLayout-with_depth, IsLayout-with_depth, register_old, frame_old, saved_old, maps_old}
 
 -- an element of a list with one more at its end
 get_push : {X : Type 0} (xs : List X) (x d : X) (k : ℕ) → k < length xs → slice_index_or (xs ++ x ∷ []) k d ≡ slice_index_or xs k d
@@ -31,7 +31,7 @@ get_last : {X : Type 0} (xs : List X) (x d : X) → slice_index_or (xs ++ x ∷ 
 get_last [] x d = refl
 get_last (y ∷ xs) x d = get_last xs x d
 
-pub cells_unset : (a : Layout) (bs : List ℕ) (n : ℕ) → length bs ≡ n → ShowsCells a (replicate n Unwritten) bs
+pub cells_unset : (a : Layout) (bs : List ℕ) (n : ℕ) → length bs ≡ n → RepresentsCells a (replicate n Unwritten) bs
 cells_unset a [] zero e = tt
 cells_unset a [] (suc n) e = absurd (omega arith)
 cells_unset a (b ∷ bs) zero e = absurd (omega arith)
@@ -134,73 +134,73 @@ module _ (p : Program) (a : Layout) (s : State) (w : Words) (R : Related p a s w
   abbrev top : ℕ
   top = frame_end (length w.saved + 1)
 
-  E : Extends a b next
-  E = Extends-with_depth a next n
+  E : ExtendsLayout a b next
+  E = ExtendsLayout-with_depth a next n
 
-  old_register : (k : ℕ) → Shows b (value_at s.regs k) (slice_index w.regs k)
+  old_register : (k : ℕ) → Represents b (value_at s.regs k) (slice_index w.regs k)
   old_register k = register_old p s K a b E k (slice_index w.regs k) (R.registers.shown k)
 
-  registers_within : ShowsRegisters b (regs_within s.regs next) (slice_set w.regs 10 top)
+  registers_within : RepresentsRegisters b (regs_within s.regs next) (slice_set w.regs 10 top)
   registers_within =
       let count = R.registers.count in
-      let same : (k : ℕ) → k < 10 → Shows b (value_at s.regs k) (slice_index (slice_set w.regs 10 top) k) =
-      (λ k h. subst (Shows b (value_at s.regs k)) (sym (get_or-set_other w.regs 10 k top 0 (λ e. omega arith))) (old_register k)) in
+      let same : (k : ℕ) → k < 10 → Represents b (value_at s.regs k) (slice_index (slice_set w.regs 10 top) k) =
+      (λ k h. subst (Represents b (value_at s.regs k)) (sym (get_or-set_other w.regs 10 k top 0 (λ e. omega arith))) (old_register k)) in
       let ten : slice_index (slice_set w.regs 10 top) 10 ≡ top = get_or-set_same w.regs 10 top 0 (omega arith) in
       let deep : n ≡ length w.saved + 1 = R.frames.depth in
-      let P : ℕ → Type 0 = (λ k. Shows b (value_at (regs_within s.regs next) k) (slice_index (slice_set w.regs 10 top) k)) in
+      let P : ℕ → Type 0 = (λ k. Represents b (value_at (regs_within s.regs next) k) (slice_index (slice_set w.regs 10 top) k)) in
       record {
         count = length-set w.regs 10 top ∙ R.registers.count;
         shown = by_register P tt (same 1 (omega arith)) (same 2 (omega arith)) (same 3 (omega arith)) (same 4 (omega arith)) (same 5 (omega arith)) tt tt tt tt
             (ten ∙ ap frame_end (sym deep ∙ sym (put_at-there next n a.depth)) ∙ sym (add-zero (frame_end (b.depth next))))
-            (λ k h. subst (λ v. Shows b v (slice_index (slice_set w.regs 10 top) k)) (sym (get_or_past (regs_within s.regs next) k Unset h)) tt);
+            (λ k h. subst (λ v. Represents b v (slice_index (slice_set w.regs 10 top) k)) (sym (get_or_past (regs_within s.regs next) k Unset h)) tt);
       }
 
-  frame_new : n < max_call_frames → (k : ℕ) → k < length (s.frames ++ f ∷ []) → ShowsFrame b (frame_at (s.frames ++ f ∷ []) k) k w.frames
+  frame_new : n < max_call_frames → (k : ℕ) → k < length (s.frames ++ f ∷ []) → RepresentsFrame b (frame_at (s.frames ++ f ∷ []) k) k w.frames
   unfolding new_frame
   frame_new room k h = elim (cases_lt k n) [
     | inl lt ↦
-        subst (λ f. ShowsFrame b f k w.frames) (sym (get_push s.frames f (new_frame 0 0 []) k lt))
+        subst (λ f. RepresentsFrame b f k w.frames) (sym (get_push s.frames f (new_frame 0 0 []) k lt))
         (frame_old p s K a b E k w.frames lt (R.frames.frames k lt))
     | inr ge ↦
         let long = length-append s.frames (f ∷ []) in
         let e : n ≡ k = omega arith in
         let block = R.frames.whole in
-        subst (λ k. ShowsFrame b (frame_at (s.frames ++ f ∷ []) k) k w.frames) e
-        (subst (λ f. ShowsFrame b f n w.frames) (sym (get_last s.frames f (new_frame 0 0 [])))
+        subst (λ k. RepresentsFrame b (frame_at (s.frames ++ f ∷ []) k) k w.frames) e
+        (subst (λ f. RepresentsFrame b f n w.frames) (sym (get_last s.frames f (new_frame 0 0 [])))
         (record {
           depth = put_at-there next n a.depth;
           cells = cells_unset b (bytes_at w.frames (n * frame_size) frame_size) frame_size (length-bytes_at w.frames (n * frame_size) frame_size (omega arith));
         }))
   ]
 
-  kept_new : (j : ℕ) → Shows b (value_at (kept s.regs) j) (slice_index (kept_words w.regs) j)
+  kept_new : (j : ℕ) → Represents b (value_at (kept s.regs) j) (slice_index (kept_words w.regs) j)
   kept_new zero = old_register 6
   kept_new (suc zero) = old_register 7
   kept_new (suc (suc zero)) = old_register 8
   kept_new (suc (suc (suc zero))) = old_register 9
   kept_new (suc (suc (suc (suc j)))) = tt
 
-  saved_new : (k : ℕ) → k < length (w.saved ++ c ∷ []) → ShowsSaved b (frame_at (s.frames ++ f ∷ []) (k + 1)) (saved_at (w.saved ++ c ∷ []) k)
+  saved_new : (k : ℕ) → k < length (w.saved ++ c ∷ []) → RepresentsSaved b (frame_at (s.frames ++ f ∷ []) (k + 1)) (saved_at (w.saved ++ c ∷ []) k)
   unfolding new_frame
   saved_new k h = elim (cases_lt k (length w.saved)) [
     | inl lt ↦
         let deep = R.frames.depth in
-        subst (λ f. ShowsSaved b f (saved_at (w.saved ++ c ∷ []) k)) (sym (get_push s.frames f (new_frame 0 0 []) (k + 1) (omega arith)))
-        (subst (ShowsSaved b (frame_at s.frames (k + 1))) (sym (get_push w.saved c (record { back = 0; kept = [] }) k lt))
+        subst (λ f. RepresentsSaved b f (saved_at (w.saved ++ c ∷ []) k)) (sym (get_push s.frames f (new_frame 0 0 []) (k + 1) (omega arith)))
+        (subst (RepresentsSaved b (frame_at s.frames (k + 1))) (sym (get_push w.saved c (record { back = 0; kept = [] }) k lt))
         (saved_old p s K a b E (k + 1) (saved_at w.saved k) (omega arith) (R.frames.saved k lt)))
     | inr ge ↦
         let deep = R.frames.depth in
         let long = length-append w.saved (c ∷ []) in
         let e : length w.saved ≡ k = omega arith in
         let g : n ≡ k + 1 = omega arith in
-        subst (λ m. ShowsSaved b (frame_at (s.frames ++ f ∷ []) m) (saved_at (w.saved ++ c ∷ []) k)) g
-        (subst (λ f. ShowsSaved b f (saved_at (w.saved ++ c ∷ []) k)) (sym (get_last s.frames f (new_frame 0 0 [])))
-        (subst (λ m. ShowsSaved b f (saved_at (w.saved ++ c ∷ []) m)) e
-        (subst (ShowsSaved b f) (sym (get_last w.saved c (record { back = 0; kept = [] })))
+        subst (λ m. RepresentsSaved b (frame_at (s.frames ++ f ∷ []) m) (saved_at (w.saved ++ c ∷ []) k)) g
+        (subst (λ f. RepresentsSaved b f (saved_at (w.saved ++ c ∷ []) k)) (sym (get_last s.frames f (new_frame 0 0 [])))
+        (subst (λ m. RepresentsSaved b f (saved_at (w.saved ++ c ∷ []) m)) e
+        (subst (RepresentsSaved b f) (sym (get_last w.saved c (record { back = 0; kept = [] })))
         (record { back = ap (λ n. n + 1) R.slot; kept = kept_new }))))
   ]
 
-  frames_within : n < max_call_frames → ShowsFrames b (s.frames ++ f ∷ []) w.frames (w.saved ++ c ∷ [])
+  frames_within : n < max_call_frames → RepresentsFrames b (s.frames ++ f ∷ []) w.frames (w.saved ++ c ∷ [])
   frames_within room =
       let deep = R.frames.depth in
       let long = length-append s.frames (f ∷ []) in
@@ -233,13 +233,13 @@ module _ (p : Program) (a : Layout) (s : State) (w : Words) (R : Related p a s w
       let few = length-take-le m s.frames (omega arith) in
       let less = length-take-le n w.saved (omega arith) in
       let last : n + 1 ≡ m = omega arith in
-      let was : ShowsSaved a (innermost s.frames) c = subst (λ k. ShowsSaved a (frame_at s.frames k) c) last (R.frames.saved n (omega arith)) in
+      let was : RepresentsSaved a (innermost s.frames) c = subst (λ k. RepresentsSaved a (frame_at s.frames k) c) last (R.frames.saved n (omega arith)) in
       let frame : (k : ℕ) → k < m → frame_at (callers s.frames) k ≡ frame_at s.frames k = (λ k h. get_or-take m s.frames k (new_frame 0 0 []) h) in
       let caller : innermost (callers s.frames) ≡ frame_at s.frames n =
       ap (λ k. frame_at (callers s.frames) (k - 1)) few ∙ ap (frame_at (callers s.frames)) (let e : m - 1 ≡ n = omega arith in e) ∙ frame n (omega arith) in
       let under : a.depth (innermost (callers s.frames)).serial ≡ n = ap (λ f. a.depth f.serial) caller ∙ (R.frames.frames n (omega arith)).depth in
-      let P : ℕ → Type 0 = (λ k. Shows a (value_at (regs_after (reg s R0) (innermost s.frames).saved (innermost (callers s.frames)).serial) k) (slice_index (regs_back w.regs c.kept top) k)) in
-      let show : (v : Value) (x y : ℕ) → x ≡ y → Shows a v y → Shows a v x = (λ v x y e h. subst (Shows a v) (sym e) h) in
+      let P : ℕ → Type 0 = (λ k. Represents a (value_at (regs_after (reg s R0) (innermost s.frames).saved (innermost (callers s.frames)).serial) k) (slice_index (regs_back w.regs c.kept top) k)) in
+      let show : (v : Value) (x y : ℕ) → x ≡ y → Represents a v y → Represents a v x = (λ v x y e h. subst (Represents a v) (sym e) h) in
       let old = (innermost s.frames).saved in
       let count = R.registers.count in
       record {
@@ -253,15 +253,15 @@ module _ (p : Program) (a : Layout) (s : State) (w : Words) (R : Related p a s w
               (show (value_at old 2) _ _ (back_8 w.regs c.kept top count) (was.kept 2))
               (show (value_at old 3) _ _ (back_9 w.regs c.kept top count) (was.kept 3))
               (back_10 w.regs c.kept top count ∙ ap frame_end (sym under) ∙ sym (add-zero (frame_end (a.depth (innermost (callers s.frames)).serial))))
-              (λ k h. subst (λ v. Shows a v (slice_index (regs_back w.regs c.kept top) k))
+              (λ k h. subst (λ v. Represents a v (slice_index (regs_back w.regs c.kept top) k))
               (sym (get_or_past (regs_after (reg s R0) (innermost s.frames).saved (innermost (callers s.frames)).serial) k Unset h)) tt);
         };
         frames = record {
           whole = R.frames.whole;
           depth = omega arith;
-          frames = λ k h. subst (λ f. ShowsFrame a f k w.frames) (sym (frame k (omega arith))) (R.frames.frames k (omega arith));
-          saved = λ k h. subst (λ f. ShowsSaved a f (saved_at (take n w.saved) k)) (sym (frame (k + 1) (omega arith)))
-              (subst (ShowsSaved a (frame_at s.frames (k + 1))) (sym (get_or-take n w.saved k (record { back = 0; kept = [] }) (omega arith))) (R.frames.saved k (omega arith)));
+          frames = λ k h. subst (λ f. RepresentsFrame a f k w.frames) (sym (frame k (omega arith))) (R.frames.frames k (omega arith));
+          saved = λ k h. subst (λ f. RepresentsSaved a f (saved_at (take n w.saved) k)) (sym (frame (k + 1) (omega arith)))
+              (subst (RepresentsSaved a (frame_at s.frames (k + 1))) (sym (get_or-take n w.saved k (record { back = 0; kept = [] }) (omega arith))) (R.frames.saved k (omega arith)));
         };
         packet = R.packet;
         end = R.end;

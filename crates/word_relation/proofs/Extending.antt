@@ -23,10 +23,10 @@ use Rattle.maps.specs.Maps.{MapState, map_at}
 use Rattle.word_machine.specs.Addresses.{packet_base, values_base, frame_end}
 use Rattle.word_machine.specs.declared.memory.Saved.{Saved}
 use Rattle.word_machine.specs.Words.{saved_at}
-use Rattle.word_relation.specs.Related.{Layout, IsLayout, moved, word, Shows, ShowsCell, ShowsCells, ShowsRegisters, ShowsFrame, ShowsSaved, ShowsFrames, by_serial, ShowsMap, ShowsMaps}
+use Rattle.word_relation.specs.Related.{Layout, IsLayout, moved, word, Represents, RepresentsCell, RepresentsCells, RepresentsRegisters, RepresentsFrame, RepresentsSaved, RepresentsFrames, by_serial, RepresentsMap, RepresentsMaps}
 
 -- what was there before a serial is where it was
-pub record Extends (a b : Layout) (next : ℕ) : Type 0 where
+pub record ExtendsLayout (a b : Layout) (next : ℕ) : Type 0 where
   pub depth : (n : ℕ) → n < next → b.depth n ≡ a.depth n
   pub value : (m n : ℕ) → n < next → b.value m n ≡ a.value m n
   pub end : b.end ≡ a.end
@@ -64,15 +64,15 @@ with_depth a serial j = record a { depth = put_at serial j a.depth }
 abbrev pub with_value : Layout → ℕ → ℕ → Layout
 with_value a serial x = record a { value = λ m. put_at serial x (a.value m) }
 
-pub Extends-with_depth : (a : Layout) (serial j : ℕ) → Extends a (with_depth a serial j) serial
-Extends-with_depth a serial j = record {
+pub ExtendsLayout-with_depth : (a : Layout) (serial j : ℕ) → ExtendsLayout a (with_depth a serial j) serial
+ExtendsLayout-with_depth a serial j = record {
   depth = λ n h. put_at-below serial j a.depth n h;
   value = λ m n h. refl;
   end = refl;
 }
 
-pub Extends-with_value : (a : Layout) (serial x : ℕ) → Extends a (with_value a serial x) serial
-Extends-with_value a serial x = record {
+pub ExtendsLayout-with_value : (a : Layout) (serial x : ℕ) → ExtendsLayout a (with_value a serial x) serial
+ExtendsLayout-with_value a serial x = record {
   depth = λ n h. refl;
   value = λ m n h. put_at-below serial x (a.value m) n h;
   end = refl;
@@ -96,7 +96,7 @@ IsLayout-with_value a rows serial x h good = record {
 
 -- ---- what names only older serials is represented as before
 
-module _ (a b : Layout) (rows next : ℕ) (E : Extends a b next) where
+module _ (a b : Layout) (rows next : ℕ) (E : ExtendsLayout a b next) where
   word_old : (r : Region) (z : ℤ) → IsRegion rows next r → word b r z ≡ word a r z
   word_old region.Context z h = refl
   word_old region.Packet z h = refl
@@ -105,17 +105,17 @@ module _ (a b : Layout) (rows next : ℕ) (E : Extends a b next) where
   word_old (region.MapValue m n) z h = ap (λ v. moved (values_base m + v) z) (E.value m n h.1)
   word_old (region.Frame n) z h = ap (λ d. moved (frame_end d) z) (E.depth n h)
 
-  pub shows_old : (v : Value) (w : ℕ) → IsValue rows next v → Shows a v w → Shows b v w
+  pub shows_old : (v : Value) (w : ℕ) → IsValue rows next v → Represents a v w → Represents b v w
   shows_old Unset w h s = tt
   shows_old (Num n) w h s = s
   shows_old (Ptr r z) w h s = s ∙ sym (word_old r z h.0)
 
-  cell_old : (c : Cell) (w : ℕ) → IsCell rows next c → ShowsCell a c w → ShowsCell b c w
+  cell_old : (c : Cell) (w : ℕ) → IsCell rows next c → RepresentsCell a c w → RepresentsCell b c w
   cell_old Unwritten w h s = tt
   cell_old (Byte n) w h s = s
   cell_old (Piece r z k) w h s = s ∙ ap (byte_at k) (sym (word_old r z h.0))
 
-  cells_old : (cs : List Cell) (bs : List ℕ) → All (IsCell rows next) cs → ShowsCells a cs bs → ShowsCells b cs bs
+  cells_old : (cs : List Cell) (bs : List ℕ) → All (IsCell rows next) cs → RepresentsCells a cs bs → RepresentsCells b cs bs
   cells_old [] [] h s = tt
   cells_old [] (x ∷ bs) h s = absurd s
   cells_old (c ∷ cs) [] h s = absurd s
@@ -131,34 +131,34 @@ module _ (a b : Layout) (rows next : ℕ) (E : Extends a b next) where
       ∷ content_old m content (All-tail (λ n. n < next) e.1.serial (value_serials content) h) i
 
   pub map_old : (m : ℕ) (content : Content) (state : MapState) → All (λ n. n < next) (value_serials content)
-      → ShowsMap a m content state → ShowsMap b m content state
+      → RepresentsMap a m content state → RepresentsMap b m content state
   map_old m content state h R = record { is = R.is; same = content_old m content h ∙ R.same }
 
-module _ (p : Program) (s : State) (K : IsState p s) (a b : Layout) (E : Extends a b s.next_serial) where
-  pub register_old : (k : ℕ) (w : ℕ) → Shows a (value_at s.regs k) w → Shows b (value_at s.regs k) w
+module _ (p : Program) (s : State) (K : IsState p s) (a b : Layout) (E : ExtendsLayout a b s.next_serial) where
+  pub register_old : (k : ℕ) (w : ℕ) → Represents a (value_at s.regs k) w → Represents b (value_at s.regs k) w
   register_old k w h = shows_old a b (length p.maps) s.next_serial E (value_at s.regs k) w
       (value_at_fits (length p.maps) s.next_serial s.regs k K.values) h
 
-  pub registers_old : (words : List ℕ) → ShowsRegisters a s.regs words → ShowsRegisters b s.regs words
+  pub registers_old : (words : List ℕ) → RepresentsRegisters a s.regs words → RepresentsRegisters b s.regs words
   registers_old words R = record { count = R.count; shown = λ k. register_old k (slice_index words k) (R.shown k) }
 
   old_frame : (j : ℕ) → j < length s.frames → IsCallFrame p s.next_serial (frame_at s.frames j)
   old_frame j h = All-get_or (IsCallFrame p s.next_serial) s.frames j (new_frame 0 0 []) h K.frames
 
-  pub frame_old : (j : ℕ) (block : List ℕ) → j < length s.frames → ShowsFrame a (frame_at s.frames j) j block → ShowsFrame b (frame_at s.frames j) j block
+  pub frame_old : (j : ℕ) (block : List ℕ) → j < length s.frames → RepresentsFrame a (frame_at s.frames j) j block → RepresentsFrame b (frame_at s.frames j) j block
   frame_old j block h old = record {
     depth = E.depth (frame_at s.frames j).serial (frame_serial_given p s j K h) ∙ old.depth;
     cells = cells_old a b (length p.maps) s.next_serial E (frame_at s.frames j).cells (bytes_at block (j * frame_size) frame_size) (old_frame j h).cells old.cells;
   }
 
-  pub saved_old : (j : ℕ) (c : Saved) → j < length s.frames → ShowsSaved a (frame_at s.frames j) c → ShowsSaved b (frame_at s.frames j) c
+  pub saved_old : (j : ℕ) (c : Saved) → j < length s.frames → RepresentsSaved a (frame_at s.frames j) c → RepresentsSaved b (frame_at s.frames j) c
   saved_old j c h old = record {
     back = old.back;
     kept = λ k. shows_old a b (length p.maps) s.next_serial E (value_at (frame_at s.frames j).saved k) (slice_index c.kept k)
         (value_at_fits (length p.maps) s.next_serial (frame_at s.frames j).saved k (old_frame j h).saved) (old.kept k);
   }
 
-  pub frames_old : (block : List ℕ) (callers : List Saved) → ShowsFrames a s.frames block callers → ShowsFrames b s.frames block callers
+  pub frames_old : (block : List ℕ) (callers : List Saved) → RepresentsFrames a s.frames block callers → RepresentsFrames b s.frames block callers
   frames_old block callers R = record {
     whole = R.whole;
     depth = R.depth;
@@ -166,7 +166,7 @@ module _ (p : Program) (s : State) (K : IsState p s) (a b : Layout) (E : Extends
     saved = λ j h. saved_old (j + 1) (saved_at callers j) (let d = R.depth in omega arith) (R.saved j h);
   }
 
-  pub maps_old : (states : List MapState) → ShowsMaps a p.maps s.maps states → ShowsMaps b p.maps s.maps states
+  pub maps_old : (states : List MapState) → RepresentsMaps a p.maps s.maps states → RepresentsMaps b p.maps s.maps states
   maps_old states R = record {
     rows = R.rows;
     maps = λ m h. map_old a b (length p.maps) s.next_serial E m (content_of s m) (map_at states m) (value_serials_given p s m K) (R.maps m h);

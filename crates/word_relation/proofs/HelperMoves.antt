@@ -26,7 +26,7 @@ use Rattle.maps.specs.Maps.{map_at}
 use Rattle.maps.proofs.MapsLaws.{KeyFits-most}
 use Rattle.word_machine.specs.Words.{Words, word_at, spot_of, IsInside, area, index_of}
 use Rattle.word_machine.specs.Helping.{map_named, named, key_named, value_named, NamesKey, HasPlaces, CallFits, found_at, Calls}
-use Rattle.word_relation.specs.Related.{Layout, Shows, Related}
+use Rattle.word_relation.specs.Related.{Layout, Represents, Related}
 use Rattle.word_relation.proofs.Arguments.{answered_related, maps_long, with_map, with_argument, with_number, with_bytes_at}
 use Rattle.word_relation.proofs.MapCalls.{address, lookup_shown, update_related, delete_related}
 
@@ -99,7 +99,7 @@ module _ (p : Program) (clock : ℕ → ℕ) (a : Layout) (s : State) (w : Words
             let m : ℕ = map_named w in
             let found = lookup_shown a m (content_of s m) (named w) (R.maps.maps m inside) (key_named w) in
             let answer = pointer_or_zero m (at_key (key_named w) (content_of s m)) in
-            let at = subst (Shows a answer) (address_same (finmap.get (named w).places (key_named w)) inside) found in (
+            let at = subst (Represents a answer) (address_same (finmap.get (named w).places (key_named w)) inside) found in (
               a,
               subst (Related p a (go_to (answered (map_lookup_elem s m (key_named w))) (s.slot + 1))) (sym e)
                   (answered_related p a s w answer (found_at w (finmap.get (named w).places (key_named w))) s.slot refl R at),

@@ -33,9 +33,9 @@ use Rattle.isa_model.specs.Machine.MachineStates.{IsValue, IsCallFrame, IsState}
 use Rattle.std.proofs.lemmas.List.Quantifiers.{position-Some}
 use Rattle.word_machine.proofs.FrameLaws.{spot_frame}
 use Rattle.word_machine.specs.Addresses.{region_size, context_base, packet_base, values_base, frame_end, packet_index, block_index, first_frame}
-use Rattle.word_machine.specs.Words.{Words, InPacket, InFrames, InBlock, spot_of, IsInside, get, in_context, word_from, Loads}
+use Rattle.word_machine.specs.Words.{Words, InPacket, InFrames, InBlock, spot_of, IsInside, get, in_context, word_from, CanLoad}
 use Rattle.maps.specs.Maps.{map_at}
-use Rattle.word_relation.specs.Related.{Layout, start, moved, word, Shows, ShowsCells, Related}
+use Rattle.word_relation.specs.Related.{Layout, region_start, moved, word, Represents, RepresentsCells, Related}
 use Rattle.word_relation.proofs.ValuesLaws.{live_map, value_inside, value_at_block, value_long}
 use Rattle.isa_model.proofs.AccessLaws.{load_fits}
 use Rattle.std.proofs.lemmas.Nat.{from_le_bytes-to_le_bytes_8}
@@ -67,7 +67,7 @@ context_not x h = grind (arith, nat_tests)
 module _ (p : Program) (a : Layout) (s : State) (w : Words) (R : Related p a s w) (K : IsState p s) where
   -- what a read that finds its cells says about the blocks
   abbrev pub OkRead : ℕ → Result (List Cell) TrapReason → ℕ → Type 0
-  OkRead n (Ok cs) x = IsInside w (spot_of x) n × ShowsCells a cs (get w (spot_of x) n) × (8589934592 ≤ x)
+  OkRead n (Ok cs) x = IsInside w (spot_of x) n × RepresentsCells a cs (get w (spot_of x) n) × (8589934592 ≤ x)
   OkRead n (Err e) x = Unit {0}
 
   -- the cells that are found at a place of some cells
@@ -85,10 +85,10 @@ module _ (p : Program) (a : Layout) (s : State) (w : Words) (R : Related p a s w
 
   -- bytes that are those of a part of a block
   shows-part : (bytes block : List ℕ) (from i n : ℕ) → bytes_at block from (length bytes) ≡ bytes → i + n ≤ length bytes
-      → ShowsCells a (take n (drop i (map Byte bytes))) (bytes_at block (from + i) n)
+      → RepresentsCells a (take n (drop i (map Byte bytes))) (bytes_at block (from + i) n)
   shows-part bytes block from i n e h =
-      subst (λ cs. ShowsCells a cs (bytes_at block (from + i) n)) (sym (take-drop-Byte bytes i n))
-      (subst (λ bs. ShowsCells a (map Byte (bytes_at bytes i n)) bs)
+      subst (λ cs. RepresentsCells a cs (bytes_at block (from + i) n)) (sym (take-drop-Byte bytes i n))
+      (subst (λ bs. RepresentsCells a (map Byte (bytes_at bytes i n)) bs)
       (ap (λ bs. bytes_at bs i n) (sym e) ∙ bytes_of_bytes block from (length bytes) i n h) (shows-bytes a (bytes_at bytes i n)))
 
   read_packet : (i n x : ℕ) → x ≡ packet_base + i → OkRead n (found (Some (map Byte s.packet)) (Some i) n) x
@@ -97,9 +97,9 @@ module _ (p : Program) (a : Layout) (s : State) (w : Words) (R : Related p a s w
       let short = K.short in
       let spot : spot_of x ≡ InPacket i = ap spot_of e ∙ spot_packet i (omega arith) in
       let same : length w.packet ≡ length s.packet = ap length R.packet in
-      let cells : ShowsCells a (take n (drop i (map Byte s.packet))) (bytes_at w.packet i n) =
-      subst (λ bs. ShowsCells a (take n (drop i (map Byte s.packet))) (bytes_at bs i n)) (sym R.packet)
-      (subst (λ cs. ShowsCells a cs (bytes_at s.packet i n)) (sym (take-drop-Byte s.packet i n)) (shows-bytes a (bytes_at s.packet i n))) in
+      let cells : RepresentsCells a (take n (drop i (map Byte s.packet))) (bytes_at w.packet i n) =
+      subst (λ bs. RepresentsCells a (take n (drop i (map Byte s.packet))) (bytes_at bs i n)) (sym R.packet)
+      (subst (λ cs. RepresentsCells a cs (bytes_at s.packet i n)) (sym (take-drop-Byte s.packet i n)) (shows-bytes a (bytes_at s.packet i n))) in
       let far : 8589934592 ≤ x = omega arith in
       rw spot (omega arith, cells, far))
 
@@ -117,7 +117,7 @@ module _ (p : Program) (a : Layout) (s : State) (w : Words) (R : Related p a s w
       let spot : spot_of x ≡ InFrames (j * frame_size + i) = spot_frame j i x (omega arith) (omega arith) e in
       let shown = R.frames.frames j here in
       let part = shows-take a n (drop i f.cells) (drop i (bytes_at w.frames (j * frame_size) frame_size)) (shows-drop a i f.cells (bytes_at w.frames (j * frame_size) frame_size) shown.cells) in
-      let cells = subst (ShowsCells a (take n (drop i f.cells))) (bytes_of_bytes w.frames (j * frame_size) frame_size i n (omega arith)) part in
+      let cells = subst (RepresentsCells a (take n (drop i f.cells))) (bytes_of_bytes w.frames (j * frame_size) frame_size i n (omega arith)) part in
       let far : 8589934592 ≤ x = omega arith in
       rw spot (omega arith, cells, far))
 
@@ -166,7 +166,7 @@ module _ (p : Program) (a : Layout) (s : State) (w : Words) (R : Related p a s w
       rw spot (inside, cells, far))
 
   -- a read through any region
-  pub shows_read : (r : Region) (z : ℤ) (n x : ℕ) → 0 < n → pos x ≡ pos (start a r) +ℤ z → OkRead n (read s r (index_at r z) n) x
+  pub shows_read : (r : Region) (z : ℤ) (n x : ℕ) → 0 < n → pos x ≡ pos (region_start a r) +ℤ z → OkRead n (read s r (index_at r z) n) x
   shows_read region.Context z n x some e = tt
   shows_read region.PacketEnd z n x some e = tt
   shows_read (region.Map m) z n x some e = tt
@@ -195,7 +195,7 @@ module _ (p : Program) (a : Layout) (s : State) (w : Words) (R : Related p a s w
   -- ---- loads
 
   abbrev pub OkLoad : Size → Result Value TrapReason → ℕ → Type 0
-  OkLoad size (Ok v) x = Loads w size x × Shows a v (word_from w size x)
+  OkLoad size (Ok v) x = CanLoad w size x × Represents a v (word_from w size x)
   OkLoad size (Err e) x = Unit {0}
 
   abbrev OkGet : ℕ → Result Value TrapReason → ℕ → Type 0
@@ -219,7 +219,7 @@ module _ (p : Program) (a : Layout) (s : State) (w : Words) (R : Related p a s w
       with_value (Err e) g = tt
 
   -- what is spelled is shown
-  spelled_shows : (v : Value) (bs : List ℕ) → IsValue (length p.maps) s.next_serial v → Spelled a v bs → Shows a v (number_from bs)
+  spelled_shows : (v : Value) (bs : List ℕ) → IsValue (length p.maps) s.next_serial v → Spelled a v bs → Represents a v (number_from bs)
   spelled_shows Unset bs fits e = tt
   spelled_shows (Num n) bs fits e = e
   spelled_shows (Ptr r z) bs fits e =
@@ -237,7 +237,7 @@ module _ (p : Program) (a : Layout) (s : State) (w : Words) (R : Related p a s w
   got U32 x (Ok v) fits h = let out = context_not x h.2 in rw out ((λ e. h.0), spelled_shows v _ fits h.1)
 
   shows_memory_load : (size : Size) (r : Region) (z : ℤ) (x : ℕ) → IfOk (memory_load s size r (index_at r z)) (IsValue (length p.maps) s.next_serial)
-      → pos x ≡ pos (start a r) +ℤ z → OkLoad size (memory_load s size r (index_at r z)) x
+      → pos x ≡ pos (region_start a r) +ℤ z → OkLoad size (memory_load s size r (index_at r z)) x
   shows_memory_load U8 r z x fits e = got U8 x _ fits (got_number 1 x (read s r (index_at r z) 1) (shows_read r z 1 x (omega arith) e))
   shows_memory_load U16 r z x fits e = got U16 x _ fits (got_number 2 x (read s r (index_at r z) 2) (shows_read r z 2 x (omega arith) e))
   shows_memory_load U32 r z x fits e = got U32 x _ fits (got_number 4 x (read s r (index_at r z) 4) (shows_read r z 4 x (omega arith) e))
@@ -271,17 +271,17 @@ module _ (p : Program) (a : Layout) (s : State) (w : Words) (R : Related p a s w
   shows_context_load U32 (pos i) x e = let f : context_base + i ≡ x = omega (arith, ints) in subst (OkLoad U32 (context_field s (Some i))) f (shows_field i)
 
   -- every load
-  pub shows_load : (size : Size) (v : Value) (by : ℤ) (x : ℕ) → IsValue (length p.maps) s.next_serial v → FitsSigned w16 by → Shows a v x
+  pub shows_load : (size : Size) (v : Value) (by : ℤ) (x : ℕ) → IsValue (length p.maps) s.next_serial v → FitsSigned w16 by → Represents a v x
       → OkLoad size (load s size v by) (alu Add Full64 x (unsigned Full64 by))
   shows_load size (Num n) by x fits small e = tt
   shows_load size Unset by x fits small e = tt
   shows_load size (Ptr r z) by x fits small e =
       let f = far a (length p.maps) s.next_serial R.layout r fits.0 in
-      let at = add_near (start a r) z by f.0 f.1 fits.1 small in
+      let at = add_near (region_start a r) z by f.0 f.1 fits.1 small in
       subst (λ x. OkLoad size (load s size (Ptr r z) by) (alu Add Full64 x (unsigned Full64 by))) (sym e)
       (by_region r at (load_fits p s size (Ptr r z) by K))
     where
-      by_region : (r : Region) → pos (alu Add Full64 (moved (start a r) z) (unsigned Full64 by)) ≡ pos (start a r) +ℤ (z +ℤ by)
+      by_region : (r : Region) → pos (alu Add Full64 (moved (region_start a r) z) (unsigned Full64 by)) ≡ pos (region_start a r) +ℤ (z +ℤ by)
           → IfOk (load s size (Ptr r z) by) (IsValue (length p.maps) s.next_serial)
           → OkLoad size (load s size (Ptr r z) by) (alu Add Full64 (word a r z) (unsigned Full64 by))
       by_region region.Context at fit = shows_context_load size (z +ℤ by) _ at

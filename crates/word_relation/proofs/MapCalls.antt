@@ -21,15 +21,15 @@ use Rattle.maps.proofs.UpdateLaws.{update_answer-places, delete_answer-places}
 use Rattle.maps.specs.Maps.{MapState, IsMap, map_at, content_in, Updated, Deleted}
 use Rattle.word_machine.specs.Addresses.{values_base}
 use Rattle.word_machine.specs.Words.{Words}
-use Rattle.word_relation.specs.Related.{Layout, IsLayout, Shows, by_serial, by_place, ShowsMap, ShowsMaps, Related}
-use Rattle.word_relation.proofs.Extending.{Extends, with_value, put_at-there, Extends-with_value, IsLayout-with_value, registers_old, frames_old, maps_old, content_old}
+use Rattle.word_relation.specs.Related.{Layout, IsLayout, Represents, by_serial, by_place, RepresentsMap, RepresentsMaps, Related}
+use Rattle.word_relation.proofs.Extending.{ExtendsLayout, with_value, put_at-there, ExtendsLayout-with_value, IsLayout-with_value, registers_old, frames_old, maps_old, content_old}
 use Rattle.word_relation.proofs.Contents.{changed-with_key, changed-without_key, find-placed, placed-remove, placed-put}
 use Rattle.word_relation.specs.Values.{contents_are}
 use Rattle.word_relation.proofs.ValuesLaws.{as_many, set_shown}
 
 -- what a map shows, and another of the same row
 same_shown : (b : Layout) (m : ℕ) (content : Content) (old new : MapState) → IsMap new → new.row ≡ old.row
-    → changed (by_serial b m) content ≡ changed (by_place old.row.value_size new.block) (entries new.places) → ShowsMap b m content new
+    → changed (by_serial b m) content ≡ changed (by_place old.row.value_size new.block) (entries new.places) → RepresentsMap b m content new
 same_shown b m content old new is row e = record {
   is = is;
   same = subst (λ r. changed (by_serial b m) content ≡ changed (by_place r.value_size new.block) (entries new.places)) (sym row) e;
@@ -37,7 +37,7 @@ same_shown b m content old new is row e = record {
 
 -- ---- look-ups and answers, on the content and on the places of one map
 
-module _ (a : Layout) (m : ℕ) (content : Content) (state : MapState) (shown : ShowsMap a m content state) where
+module _ (a : Layout) (m : ℕ) (content : Content) (state : MapState) (shown : RepresentsMap a m content state) where
   abbrev size : ℕ
   size = state.row.value_size
 
@@ -52,7 +52,7 @@ module _ (a : Layout) (m : ℕ) (content : Content) (state : MapState) (shown : 
   address None = 0
 
   found_shown : (o : Option Stored) (q : Option ℕ) → option_map (by_serial a m) o ≡ option_map (by_place size state.block) q
-      → Shows a (pointer_or_zero m o) (address q)
+      → Represents a (pointer_or_zero m o) (address q)
   found_shown None None e = refl
   found_shown None (Some place) e = absurd (cc)
   found_shown (Some v) None e = absurd (cc)
@@ -60,7 +60,7 @@ module _ (a : Layout) (m : ℕ) (content : Content) (state : MapState) (shown : 
       let same : by_serial a m v ≡ by_place size state.block place = cc in
       ap (λ n. values_base m + n) (ap (λ x. x.0) (sym same)) ∙ sym (add-zero (values_base m + a.value m v.serial))
 
-  pub lookup_shown : (key : List ℕ) → Shows a (pointer_or_zero m (at_key key content)) (address (get state.places key))
+  pub lookup_shown : (key : List ℕ) → Represents a (pointer_or_zero m (at_key key content)) (address (get state.places key))
   lookup_shown key = found_shown (at_key key content) (get state.places key) (found key)
 
   is_some-option_map : {X Y : Type 0} (f : X → Y) (o : Option X) → is_some (option_map f o) ≡ is_some o
@@ -88,7 +88,7 @@ module _ (a : Layout) (m : ℕ) (content : Content) (state : MapState) (shown : 
   -- ---- a delete
 
   pub deleted_shown : (new : MapState) (key : List ℕ) → IsMap new → new.row ≡ state.row → new.places ≡ remove state.places key
-      → new.block ≡ state.block → ShowsMap a m (without_key key content) new
+      → new.block ≡ state.block → RepresentsMap a m (without_key key content) new
   deleted_shown new key is row places block =
       same_shown a m (without_key key content) state new is row
       (changed-without_key (by_serial a m) key content
@@ -97,7 +97,7 @@ module _ (a : Layout) (m : ℕ) (content : Content) (state : MapState) (shown : 
       ∙ (λ i. changed (by_place size (sym block i)) (entries (sym places i))))
 
   pub stays_shown : (new : MapState) → IsMap new → new.row ≡ state.row → new.places ≡ state.places → new.block ≡ state.block
-      → ShowsMap a m content new
+      → RepresentsMap a m content new
   stays_shown new is row places block =
       same_shown a m content state new is row
       (shown.same ∙ (λ i. changed (by_place size (sym block i)) (entries (sym places i))))
@@ -123,7 +123,7 @@ module _ (a : Layout) (m : ℕ) (content : Content) (state : MapState) (shown : 
         → changed (by_serial b m) content ≡ changed (by_serial a m) content
         → ((q : List ℕ) → is_key q key ≡ false → get new.places q ≡ get state.places q)
         → ((q : List ℕ) → is_key q key ≡ false → get state.places q ≡ Some place → ⊥)
-        → ShowsMap b m (with_key key v content) new
+        → RepresentsMap b m (with_key key v content) new
     put_shown b v bytes begins old others apart =
         same_shown b m (with_key key v content) state new is row
         (changed-with_key (by_serial b m) key v content
@@ -136,9 +136,9 @@ module _ (a : Layout) (m : ℕ) (content : Content) (state : MapState) (shown : 
     given next (Some old) = a
     given next None = with_value a next (place * size)
 
-    pub given_extends : (next : ℕ) (o : Option Stored) → Extends a (given next o) next
+    pub given_extends : (next : ℕ) (o : Option Stored) → ExtendsLayout a (given next o) next
     given_extends next (Some old) = record { depth = λ n h. refl; value = λ k n h. refl; end = refl }
-    given_extends next None = Extends-with_value a next (place * size)
+    given_extends next None = ExtendsLayout-with_value a next (place * size)
 
     pub given_good : (rows next : ℕ) (o : Option Stored) → IsLayout a rows → IsLayout (given next o) rows
     given_good rows next (Some old) good = good
@@ -152,7 +152,7 @@ module _ (a : Layout) (m : ℕ) (content : Content) (state : MapState) (shown : 
     -- a present key keeps its serial and its place
     present : (old : Stored) → at_key key content ≡ Some old → (q : Option ℕ) → get state.places key ≡ q
         → option_map (by_serial a m) (Some old) ≡ option_map (by_place size state.block) q
-        → ShowsMap a m (with_key key (record { serial = old.serial; bytes = value }) content) new
+        → RepresentsMap a m (with_key key (record { serial = old.serial; bytes = value }) content) new
     present old e None f g = absurd (cc)
     present old e (Some p) f g =
         let kept = writes.kept p f in
@@ -168,7 +168,7 @@ module _ (a : Layout) (m : ℕ) (content : Content) (state : MapState) (shown : 
     -- a new key gets the next serial, at the place that it takes
     absent : (next : ℕ) → get state.places key ≡ None
         → changed (by_serial (with_value a next (place * size)) m) content ≡ changed (by_serial a m) content
-        → ShowsMap (with_value a next (place * size)) m (with_key key (record { serial = next; bytes = value }) content) new
+        → RepresentsMap (with_value a next (place * size)) m (with_key key (record { serial = next; bytes = value }) content) new
     absent next none old =
         let takes = writes.taken none in
         put_shown (with_value a next (place * size)) (record { serial = next; bytes = value }) refl (put_at-there next (place * size) (a.value m)) old
@@ -182,7 +182,7 @@ module _ (a : Layout) (m : ℕ) (content : Content) (state : MapState) (shown : 
 
     pub updated_shown : (next : ℕ) (o : Option Stored) → at_key key content ≡ o
         → changed (by_serial (given next o) m) content ≡ changed (by_serial a m) content
-        → ShowsMap (given next o) m (with_key key (record { serial = serial_given next o; bytes = value }) content) new
+        → RepresentsMap (given next o) m (with_key key (record { serial = serial_given next o; bytes = value }) content) new
     updated_shown next (Some old) e same =
         present old e (get state.places key) refl (ap (option_map (by_serial a m)) (sym e) ∙ found key)
     updated_shown next None e same =
@@ -197,12 +197,12 @@ module _ (p : Program) (a : Layout) (s : State) (w : Words) (R : Related p a s w
   abbrev content : Content
   content = content_of s m
 
-  shown : ShowsMap a m content state
+  shown : RepresentsMap a m content state
   shown = R.maps.maps m row
 
   -- one map changed, and perhaps a serial more
-  map_related : (b : Layout) (next : ℕ) (content : Content) (new : MapState) → Extends a b s.next_serial → IsLayout b (length p.maps)
-      → new.row ≡ state.row → ShowsMap b m content new
+  map_related : (b : Layout) (next : ℕ) (content : Content) (new : MapState) → ExtendsLayout a b s.next_serial → IsLayout b (length p.maps)
+      → new.row ≡ state.row → RepresentsMap b m content new
       → Related p b (record s { maps = slice_set s.maps m content; next_serial = next }) (record w { maps = slice_set w.maps m new })
   map_related b next content new E good same h = record {
     slot = R.slot;
@@ -217,7 +217,7 @@ module _ (p : Program) (a : Layout) (s : State) (w : Words) (R : Related p a s w
     calls = R.calls;
   }
 
-  unchanged : Extends a a s.next_serial
+  unchanged : ExtendsLayout a a s.next_serial
   unchanged = record { depth = λ n h. refl; value = λ k n h. refl; end = refl }
 
   -- a map that did not change, put where it was
@@ -232,7 +232,7 @@ module _ (p : Program) (a : Layout) (s : State) (w : Words) (R : Related p a s w
     end = R.end;
     interface = R.interface;
     queue = R.queue;
-    maps = subst (λ contents. ShowsMaps a p.maps contents (slice_set w.maps m new)) (slice_set-same s.maps m)
+    maps = subst (λ contents. RepresentsMaps a p.maps contents (slice_set w.maps m new)) (slice_set-same s.maps m)
         (set_shown a p.maps s.maps w.maps m content new (contents_are p s K) same (λ _. stays_shown a m content state shown new is same places block) R.maps);
     calls = R.calls;
   }

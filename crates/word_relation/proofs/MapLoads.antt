@@ -18,14 +18,14 @@ use Rattle.map_indexes.proofs.ArrayLaws.{get_index}
 use Rattle.maps.specs.Maps.{MapState, map_at}
 use Rattle.word_machine.specs.Addresses.{values_base}
 use Rattle.word_machine.specs.Words.{Words}
-use Rattle.word_relation.specs.Related.{Layout, Shows, by_place, ShowsMap, Related}
+use Rattle.word_relation.specs.Related.{Layout, Represents, by_place, RepresentsMap, Related}
 use Rattle.word_relation.proofs.ValuesLaws.{value_starts, in_block, place_at}
 use Rattle.word_relation.proofs.Arguments.{row_of}
 use Rattle.word_relation.proofs.MapCalls.{found}
 
 module _ (a : Layout) (m : ℕ) (state : MapState) where
   -- an array of one entry has that entry
-  has_entry : (content : Content) → ShowsMap a m content state → state.row.kind ≡ Array → state.row.entries ≡ 1 → 0 < length content
+  has_entry : (content : Content) → RepresentsMap a m content state → state.row.kind ≡ Array → state.row.entries ≡ 1 → 0 < length content
   has_entry [] shown array one =
       let here : get state.places (little_bytes 4 0) ≡ Some 0 =
       ap (λ (P : Places). get P (little_bytes 4 0)) (shown.is.array_places array) ∙ get_index state.row.entries 0 (omega arith) (omega arith) in
@@ -34,7 +34,7 @@ module _ (a : Layout) (m : ℕ) (state : MapState) where
       absurd (cc)
   has_entry (e ∷ content) shown array one = omega arith
 
-  only_begins : (content : Content) → ShowsMap a m content state → state.row.kind ≡ Array → state.row.entries ≡ 1 → a.value m (one_serial content) ≡ 0
+  only_begins : (content : Content) → RepresentsMap a m content state → state.row.kind ≡ Array → state.row.entries ≡ 1 → a.value m (one_serial content) ≡ 0
   only_begins content shown array one =
       let some = has_entry content shown array one in
       let inside = in_block a m content state shown 0 some in
@@ -44,11 +44,11 @@ module _ (a : Layout) (m : ℕ) (state : MapState) where
 module _ (p : Program) (a : Layout) (s : State) (w : Words) (R : Related p a s w) (K : IsState p s) where
   -- the word of a pointer into the only value
   pub only_value : (m offset : ℕ) → IsSomeAnd (slice_get p.maps m) (HoldsOffset offset)
-      → Shows a (value_pointer s m offset) (values_base m + offset) × (m < max_maps)
+      → Represents a (value_pointer s m offset) (values_base m + offset) × (m < max_maps)
   only_value m offset named = at (slice_get p.maps m) refl named
     where
       at : (o : Option MapDef) → slice_get p.maps m ≡ o → IsSomeAnd o (HoldsOffset offset)
-          → Shows a (value_pointer s m offset) (values_base m + offset) × (m < max_maps)
+          → Represents a (value_pointer s m offset) (values_base m + offset) × (m < max_maps)
       at None e h = absurd h
       at (Some row) e h =
           let inside = slice_get_within p.maps m row e in

@@ -36,11 +36,11 @@ use Rattle.isa_model.specs.Machine.MachineStates.{IsProgram, IsValue, IsState}
 use Rattle.isa_model.proofs.ValueLaws.{unsigned_fits}
 use Rattle.isa_model.proofs.StateLaws.{reg_fits}
 use Rattle.word_machine.specs.Addresses.{map_base, values_base}
-use Rattle.word_machine.specs.Words.{Words, word_at, set_word, word_operand, at_slot, address_of, word_from, word_tested, word_act, word_enter, word_leave, number_at, old_number, Loads, put, spot_of, IsInside}
+use Rattle.word_machine.specs.Words.{Words, word_at, set_word, word_operand, at_slot, address_of, word_from, word_tested, word_act, word_enter, word_leave, number_at, old_number, CanLoad, put, spot_of, IsInside}
 use Rattle.word_machine.specs.Words as words
-use Rattle.word_machine.specs.Flows.{Fits, Moves}
+use Rattle.word_machine.specs.Flows.{AccessesFit, WordStep}
 use Rattle.word_machine.specs.Runs.{IsLast}
-use Rattle.word_relation.specs.Related.{Layout, Shows, Related}
+use Rattle.word_relation.specs.Related.{Layout, Represents, Related}
 use Rattle.word_relation.proofs.Registers.{set_related, go_related}
 use Rattle.word_relation.proofs.Arithmetic.{OkShows, shows_arithmetic, OkHolds, shows_compared, shows_compared_constant}
 use Rattle.word_relation.proofs.Loading.{OkLoad, shows_load}
@@ -59,7 +59,7 @@ pub not_last : (w : Words) (i : Insn) → Going w i → IsLast w i → ⊥
 not_last w i g l = let called : 0 < length w.saved = subst (Going w) l.0 g in let first = l.1 in omega arith
 
 -- an operation that is defined on numbers only
-on_number_shown : (a : Layout) (f : ℕ → ℕ) (v : Value) (x : ℕ) → Shows a v x → OkShows a (on_number f v) (f x)
+on_number_shown : (a : Layout) (f : ℕ → ℕ) (v : Value) (x : ℕ) → Represents a v x → OkShows a (on_number f v) (f x)
 on_number_shown a f Unset x h = tt
 on_number_shown a f (Num n) x h = ap f h
 on_number_shown a f (Ptr r z) x h = tt
@@ -67,11 +67,11 @@ on_number_shown a f (Ptr r z) x h = tt
 module _ (p : Program) (clock : ℕ → ℕ) (a : Layout) (s : State) (w : Words) (R : Related p a s w) (K : IsState p s) where
   -- what a step says about the words
   abbrev pub OkMove : Insn → StepResult → Type 0
-  OkMove i (Next t) = Fits w i × Going w i × ((v : Words) → Moves p clock w i v → (b : Layout) × Related p b t v)
+  OkMove i (Next t) = AccessesFit w i × Going w i × ((v : Words) → WordStep p clock w i v → (b : Layout) × Related p b t v)
   OkMove i (Finished n) = IsLast w i × (word_at w R0 ≡ n)
   OkMove i (Trapped e) = Unit {0}
 
-  shows_operand : (width : Width) (x : Operand) → Shows a (operand_value s width x) (word_operand w width x)
+  shows_operand : (width : Width) (x : Operand) → Represents a (operand_value s width x) (word_operand w width x)
   shows_operand width (Constant k) = refl
   shows_operand width (Register r) = R.registers.shown (reg_number r)
 
@@ -80,8 +80,8 @@ module _ (p : Program) (clock : ℕ → ℕ) (a : Layout) (s : State) (w : Words
   operand_fits width (Register r) h = reg_fits p s r K
 
   -- a step that sets a register
-  acts_sets : (i : Insn) (d : Reg) (r : Result Value TrapReason) (x : ℕ) → OkShows a r x → IfOk r (λ v. Fits w i) → Going w i
-      → ((v : Words) → Moves p clock w i v → v ≡ words.sets w i d x) → OkMove i (sets s i d r)
+  acts_sets : (i : Insn) (d : Reg) (r : Result Value TrapReason) (x : ℕ) → OkShows a r x → IfOk r (λ v. AccessesFit w i) → Going w i
+      → ((v : Words) → WordStep p clock w i v → v ≡ words.sets w i d x) → OkMove i (sets s i d r)
   acts_sets i d (Err e) x h fits going same = tt
   acts_sets i d (Ok v) x h fits going same = (
     fits,
@@ -95,8 +95,8 @@ module _ (p : Program) (clock : ℕ → ℕ) (a : Layout) (s : State) (w : Words
   )
 
   -- a step that changes the state
-  acts_goes : (i : Insn) (r : Result State TrapReason) (u : Words) → slots_of i ≡ 1 → IfOk r (λ t. Fits w i × Related p a t u) → Going w i
-      → ((v : Words) → Moves p clock w i v → v ≡ at_slot u (w.at + 1)) → OkMove i (goes_on s i r)
+  acts_goes : (i : Insn) (r : Result State TrapReason) (u : Words) → slots_of i ≡ 1 → IfOk r (λ t. AccessesFit w i × Related p a t u) → Going w i
+      → ((v : Words) → WordStep p clock w i v → v ≡ at_slot u (w.at + 1)) → OkMove i (goes_on s i r)
   acts_goes i (Err e) u one h going same = tt
   acts_goes i (Ok t) u one h going same = (
     h.0,
@@ -110,12 +110,12 @@ module _ (p : Program) (clock : ℕ → ℕ) (a : Layout) (s : State) (w : Words
   )
 
   store_moves : (i : Insn) (r : Result State TrapReason) (at : ℕ) (bs : List ℕ) → OkStore p a s w R K r at bs
-      → (IsInside w (spot_of at) (length bs) → Fits w i) → IfOk r (λ t. Fits w i × Related p a t (put w (spot_of at) bs))
+      → (IsInside w (spot_of at) (length bs) → AccessesFit w i) → IfOk r (λ t. AccessesFit w i × Related p a t (put w (spot_of at) bs))
   store_moves i (Err e) at bs h fits = tt
   store_moves i (Ok t) at bs h fits = (fits h.0, h.1)
 
-  load_moves : (i : Insn) (size : Size) (r : Result Value TrapReason) (at : ℕ) → OkLoad p a s w R K size r at → (Loads w size at → Fits w i)
-      → OkShows a r (word_from w size at) × IfOk r (λ v. Fits w i)
+  load_moves : (i : Insn) (size : Size) (r : Result Value TrapReason) (at : ℕ) → OkLoad p a s w R K size r at → (CanLoad w size at → AccessesFit w i)
+      → OkShows a r (word_from w size at) × IfOk r (λ v. AccessesFit w i)
   load_moves i size (Err e) at h fits = (tt, tt)
   load_moves i size (Ok v) at h fits = (h.1, fits h.0)
 
@@ -123,21 +123,21 @@ module _ (p : Program) (clock : ℕ → ℕ) (a : Layout) (s : State) (w : Words
   always (Ok v) A h = h
   always (Err e) A h = tt
 
-  branch : (i : Insn) (by : ℤ) (r : Result Bool TrapReason) (b : Bool) → OkHolds a (length p.maps) s.next_serial R.layout r b → Fits w i → Going w i
-      → ((v : Words) → Moves p clock w i v → v ≡ at_slot w (if b then destination p w.at by else w.at + 1)) → OkMove i (branches s p by r)
+  branch : (i : Insn) (by : ℤ) (r : Result Bool TrapReason) (b : Bool) → OkHolds a (length p.maps) s.next_serial R.layout r b → AccessesFit w i → Going w i
+      → ((v : Words) → WordStep p clock w i v → v ≡ at_slot w (if b then destination p w.at by else w.at + 1)) → OkMove i (branches s p by r)
   branch i by (Err e) b h fits going same = tt
   branch i by (Ok c) b h fits going same = taken c h
     where
-      to : (b : Bool) → ((v : Words) → Moves p clock w i v → v ≡ at_slot w (if b then destination p w.at by else w.at + 1))
+      to : (b : Bool) → ((v : Words) → WordStep p clock w i v → v ≡ at_slot w (if b then destination p w.at by else w.at + 1))
           → (n : ℕ) → (if b then destination p w.at by else w.at + 1) ≡ n → OkMove i (Next (go_to s n))
       to b same n e = (fits, going, λ v m. (a, subst (Related p a (go_to s n)) (sym (same v m ∙ ap (at_slot w) e)) (go_related p a s w n R)))
 
       taken : (c : Bool) → c ≡ b → OkMove i (branches s p by (Ok c))
       taken true e =
-          to true (subst (λ b. (v : Words) → Moves p clock w i v → v ≡ at_slot w (if b then destination p w.at by else w.at + 1)) (sym e) same)
+          to true (subst (λ b. (v : Words) → WordStep p clock w i v → v ≡ at_slot w (if b then destination p w.at by else w.at + 1)) (sym e) same)
           (destination p s.slot by) (ap (λ k. destination p k by) R.slot)
       taken false e =
-          to false (subst (λ b. (v : Words) → Moves p clock w i v → v ≡ at_slot w (if b then destination p w.at by else w.at + 1)) (sym e) same)
+          to false (subst (λ b. (v : Words) → WordStep p clock w i v → v ≡ at_slot w (if b then destination p w.at by else w.at + 1)) (sym e) same)
           (s.slot + 1) (ap (λ k. k + 1) R.slot)
 
   shows_tested : (cond : Cond) (x : Operand) → OperandFits x → OkHolds a (length p.maps) s.next_serial R.layout (tested s cond x)
@@ -151,7 +151,7 @@ module _ (p : Program) (clock : ℕ → ℕ) (a : Layout) (s : State) (w : Words
       (shows_compared a (length p.maps) s.next_serial R.layout cond.comparison cond.width (reg s cond.register) (reg s r) (word_at w cond.register) (word_at w r)
       (reg_fits p s cond.register K) (reg_fits p s r K) (R.registers.shown (reg_number cond.register)) (R.registers.shown (reg_number r)))
 
-  act_jump : (i : Insn) (by : ℤ) → Fits w i → Going w i → ((v : Words) → Moves p clock w i v → v ≡ at_slot w (destination p w.at by)) → OkMove i (jumps s p by)
+  act_jump : (i : Insn) (by : ℤ) → AccessesFit w i → Going w i → ((v : Words) → WordStep p clock w i v → v ≡ at_slot w (destination p w.at by)) → OkMove i (jumps s p by)
   act_jump i by fits going same = (
     fits,
     going,
@@ -181,7 +181,7 @@ module _ (p : Program) (clock : ℕ → ℕ) (a : Layout) (s : State) (w : Words
             ),
           )
 
-  finish : (v : Value) → length w.saved ≡ 0 → Shows a v (word_at w R0) → OkMove Exit (finishes p.version v)
+  finish : (v : Value) → length w.saved ≡ 0 → Represents a v (word_at w R0) → OkMove Exit (finishes p.version v)
   finish (Num n) e h = answers (is_answer p.version n)
     where
       answers : (b : Bool) → OkMove Exit (if b then Finished n else Trapped BadAction)
@@ -266,19 +266,19 @@ module _ (p : Program) (clock : ℕ → ℕ) (a : Layout) (s : State) (w : Words
       let new : ℕ → ℕ → ℕ = (λ b a. alu (atomic_alu op) width a b) in
       acts_goes (Atomic width op fetches place r) (and_then (atomic_number (reg s r)) (λ b. swaps_in s width place (new b) (fetched_into fetches r)))
       (swapped p a s w R K width place (new (word_at w r)) fetches r) refl
-      (with_number p a s w R K (λ q. IfOk q (λ t. Fits w (Atomic width op fetches place r) × Related p a t (swapped p a s w R K width place (new (word_at w r)) fetches r)))
+      (with_number p a s w R K (λ q. IfOk q (λ t. AccessesFit w (Atomic width op fetches place r) × Related p a t (swapped p a s w R K width place (new (word_at w r)) fetches r)))
       (λ e. tt) (reg s r) (word_at w r) (R.registers.shown (reg_number r)) (λ b. swaps_in s width place (new b) (fetched_into fetches r))
       (shows_swap p a s w R K width place (new (word_at w r)) fetches r fits)) tt (λ v m. m)
   acts (Exchange width place r) fits named =
       let new : ℕ → ℕ → ℕ = (λ b a. b) in
       acts_goes (Exchange width place r) (and_then (atomic_number (reg s r)) (λ b. swaps_in s width place (new b) (fetched_into true r)))
       (swapped p a s w R K width place (new (word_at w r)) true r) refl
-      (with_number p a s w R K (λ q. IfOk q (λ t. Fits w (Exchange width place r) × Related p a t (swapped p a s w R K width place (new (word_at w r)) true r)))
+      (with_number p a s w R K (λ q. IfOk q (λ t. AccessesFit w (Exchange width place r) × Related p a t (swapped p a s w R K width place (new (word_at w r)) true r)))
       (λ e. tt) (reg s r) (word_at w r) (R.registers.shown (reg_number r)) (λ b. swaps_in s width place (new b) (fetched_into true r))
       (shows_swap p a s w R K width place (new (word_at w r)) true r fits)) tt (λ v m. m)
   acts (CompareExchange width place r) fits named =
       let new : ℕ → ℕ → ℕ → ℕ = (λ b expected a. if a == low width expected then b else a) in
-      let Q : Result State TrapReason → Type 0 = (λ q. IfOk q (λ t. Fits w (CompareExchange width place r) × Related p a t (swapped p a s w R K width place (new (word_at w r) (word_at w R0)) true R0))) in
+      let Q : Result State TrapReason → Type 0 = (λ q. IfOk q (λ t. AccessesFit w (CompareExchange width place r) × Related p a t (swapped p a s w R K width place (new (word_at w r) (word_at w R0)) true R0))) in
       acts_goes (CompareExchange width place r)
       (and_then (atomic_number (reg s r)) (λ b. and_then (atomic_number (reg s R0)) (λ expected. swaps_in s width place (new b expected) (fetched_into true R0))))
       (swapped p a s w R K width place (new (word_at w r) (word_at w R0)) true R0) refl

@@ -16,11 +16,11 @@ use Rattle.isa_model.proofs.RunLaws.{progress-zero}
 use Rattle.isa_model.specs.Running.Ends.{After, Ends as ModelEnds}
 use Rattle.isa_model.proofs.EndsLaws.{Reaches-then}
 use Rattle.word_machine.specs.Words.{Words}
-use Rattle.word_machine.specs.Flows.{Fits}
-use Rattle.word_machine.specs.Runs.{Stands, Ends, StepsTo, Reaches, Exits}
+use Rattle.word_machine.specs.Flows.{AccessesFit}
+use Rattle.word_machine.specs.Runs.{CanStepTo, EndsSafely, StepsTo, Reaches, Exits}
 use Rattle.word_relation.specs.Related.{Layout, Related}
 use Rattle.word_relation.proofs.Moves.{OkMove, not_last, moves}
-use Rattle.word_relation.specs.Running.{Finishes, Follows}
+use Rattle.word_relation.specs.Running.{Finishes, Tracks}
 
 -- a step that does not trap has an instruction
 fetched : (p : Program) (clock : ℕ → ℕ) (s : State) (P : State → Type 0) → After P (step p clock s) → (i : Insn) × (fetch p s.slot ≡ Some i)
@@ -53,7 +53,7 @@ module _ (p : Program) (clock : ℕ → ℕ) (program : IsProgram p) (answers : 
   -- a step that does not trap says what the move needs, and what holds of the next words where it holds of the next states
   stands : (P : Words → Type 0) (Q : State → Type 0) (a : Layout) (s : State) (w : Words) (R : Related p a s w) (K : IsState p s) (i : Insn) → fetch p s.slot ≡ Some i
       → is_frame_pointer (writes i) ≡ false → (q : StepResult) → After Q q → OkMove p clock a s w R K i q → IfNext q (IsState p)
-      → ((b : Layout) (t : State) (v : Words) → Related p b t v → IsState p t → Q t → P v) → Stands p clock w P
+      → ((b : Layout) (t : State) (v : Words) → Related p b t v → IsState p t → Q t → P v) → CanStepTo p clock w P
   stands P Q a s w R K i found own q ends move keeps rest = by_step q ends move keeps
     where
       shallow : length w.saved < max_call_frames
@@ -62,7 +62,7 @@ module _ (p : Program) (clock : ℕ → ℕ) (program : IsProgram p) (answers : 
       short : length w.packet ≤ max_packet
       short = let e = ap length R.packet in let f = K.short in omega arith
 
-      by_step : (q : StepResult) → After Q q → OkMove p clock a s w R K i q → IfNext q (IsState p) → Stands p clock w P
+      by_step : (q : StepResult) → After Q q → OkMove p clock a s w R K i q → IfNext q (IsState p) → CanStepTo p clock w P
       by_step (Next t) ends move keeps = record {
         insn = i;
         found = ap (fetch p) R.slot ∙ found;
@@ -75,7 +75,7 @@ module _ (p : Program) (clock : ℕ → ℕ) (program : IsProgram p) (answers : 
       by_step (Finished x) ends move keeps = record {
         insn = i;
         found = ap (fetch p) R.slot ∙ found;
-        fits = subst (Fits w) (sym move.0.0) tt;
+        fits = subst (AccessesFit w) (sym move.0.0) tt;
         own = own;
         shallow = shallow;
         short = short;
@@ -84,12 +84,12 @@ module _ (p : Program) (clock : ℕ → ℕ) (program : IsProgram p) (answers : 
       by_step (Trapped e) ends move keeps = absurd ends
 
   -- what ends in the model ends in words
-  pub related_Ends : (n : ℕ) (a : Layout) (s : State) (w : Words) → Related p a s w → IsState p s → ModelEnds p clock s n → Ends p clock w n
-  unfolding ModelEnds Ends
+  pub related_Ends : (n : ℕ) (a : Layout) (s : State) (w : Words) → Related p a s w → IsState p s → ModelEnds p clock s n → EndsSafely p clock w n
+  unfolding ModelEnds EndsSafely
   related_Ends zero a s w R K h = absurd h
   related_Ends (suc n) a s w R K h =
       let (i, found) = fetched p clock s (λ t. ModelEnds p clock t n) h in
-      stands (λ v. Ends p clock v n) (λ t. ModelEnds p clock t n) a s w R K i found
+      stands (λ v. EndsSafely p clock v n) (λ t. ModelEnds p clock t n) a s w R K i found
       (not_read_only p clock s (λ t. ModelEnds p clock t n) i found h) (step p clock s) h (moves p clock a s w R K i found program)
       (step_keeps p clock s program answers K) (λ b t v related keeps ends. related_Ends n b t v related keeps ends)
 
@@ -104,14 +104,14 @@ module _ (p : Program) (clock : ℕ → ℕ) (program : IsProgram p) (answers : 
   some_left s zero h = absurd h
   some_left s (suc m) h = (m, refl, h)
 
-  one_more : (s : State) (n k : ℕ) (u v : Words) → Follows p clock s n k u → StepsTo p clock u v → Follows p clock s n (suc k) v
+  one_more : (s : State) (n k : ℕ) (u v : Words) → Tracks p clock s n k u → StepsTo p clock u v → Tracks p clock s n (suc k) v
   one_more s n k u v F S =
       let (m, left, ends) = some_left F.state F.left F.ends in
       let found : fetch p F.state.slot ≡ Some S.insn = ap (fetch p) (sym F.related.slot) ∙ S.found in
       goes m left (step p clock F.state) refl ends (moves p clock F.layout F.state u F.related F.is S.insn found program) (step_keeps p clock F.state program answers F.is)
     where
       goes : (m : ℕ) → F.left ≡ suc m → (q : StepResult) → step p clock F.state ≡ q → After (λ t. ModelEnds p clock t m) q
-          → OkMove p clock F.layout F.state u F.related F.is S.insn q → IfNext q (IsState p) → Follows p clock s n (suc k) v
+          → OkMove p clock F.layout F.state u F.related F.is S.insn q → IfNext q (IsState p) → Tracks p clock s n (suc k) v
       goes m left (Next t) e ends move keeps =
           let (b, related) = move.2 v S.moves in
           record {
@@ -128,7 +128,7 @@ module _ (p : Program) (clock : ℕ → ℕ) (program : IsProgram p) (answers : 
       goes m left (Trapped x) e ends move keeps = absurd ends
 
   pub related_Reaches : (k n : ℕ) (a : Layout) (s : State) (w v : Words) → Related p a s w → IsState p s → ModelEnds p clock s n
-      → Reaches p clock w k v → Follows p clock s n k v
+      → Reaches p clock w k v → Tracks p clock s n k v
   unfolding Reaches
   related_Reaches zero n a s w v R K h r = record {
     state = s;
@@ -160,7 +160,7 @@ module _ (p : Program) (clock : ℕ → ℕ) (program : IsProgram p) (answers : 
         in_time = let c = e.counted in let t = F.in_time in omega arith;
       }
     where
-      finished : (F : Follows p clock s n e.before v) (m : ℕ) (q : StepResult) → step p clock F.state ≡ q → After (λ t. ModelEnds p clock t m) q
+      finished : (F : Tracks p clock s n e.before v) (m : ℕ) (q : StepResult) → step p clock F.state ≡ q → After (λ t. ModelEnds p clock t m) q
           → OkMove p clock F.layout F.state v F.related F.is Exit q → step p clock F.state ≡ Finished number
       finished F m (Next t) f ends move = absurd (not_last v Exit move.1 (refl, e.first))
       finished F m (Finished x) f ends move = f ∙ ap Finished (sym (e.answer ∙ move.1))

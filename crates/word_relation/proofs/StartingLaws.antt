@@ -20,7 +20,7 @@ use Rattle.maps.specs.ContentLaws.{changed}
 use Rattle.maps.proofs.MapLaws.{length-rows_of}
 use Rattle.maps.specs.Maps.{MapState, IsMap, map_at, rows_of, content_in, contents_of}
 use Rattle.maps.proofs.ReportOrderLaws.{get_at}
-use Rattle.word_relation.specs.Related.{Layout, Shows, ShowsFrame, by_place, Related}
+use Rattle.word_relation.specs.Related.{Layout, Represents, RepresentsFrame, by_place, Related}
 use Rattle.word_relation.proofs.Calling.{by_register, cells_unset}
 use Rattle.word_relation.specs.Starting.{start_of, start_words}
 use Rattle.word_machine.specs.Addresses.{frames_size}
@@ -85,9 +85,9 @@ start_related p head packet frames maps few short whole are rows = record {
   layout = record { few = few; shallow = λ n. omega arith; low = λ m n. begins_low 0 maps m n are; short = short };
   registers = record {
     count = refl;
-    shown = by_register (λ k. Shows (start_layout packet maps) (value_at (start_regs (count_values (contents_of maps))) k) (slice_index start_words k))
+    shown = by_register (λ k. Represents (start_layout packet maps) (value_at (start_regs (count_values (contents_of maps))) k) (slice_index start_words k))
         tt refl tt tt tt tt tt tt tt tt refl
-        (λ k h. subst (λ v. Shows (start_layout packet maps) v (slice_index start_words k)) (sym (get_or_past (start_regs (count_values (contents_of maps))) k Unset h)) tt);
+        (λ k h. subst (λ v. Represents (start_layout packet maps) v (slice_index start_words k)) (sym (get_or_past (start_regs (count_values (contents_of maps))) k Unset h)) tt);
   };
   frames = record { whole = whole; depth = refl; frames = frame; saved = λ j h. absurd (omega arith) };
   packet = refl;
@@ -105,6 +105,6 @@ start_related p head packet frames maps few short whole are rows = record {
 }
   where
     frame : (j : ℕ) → j < length (start_state head packet (contents_of maps)).frames
-        → ShowsFrame (start_layout packet maps) (frame_at (start_state head packet (contents_of maps)).frames j) j frames
+        → RepresentsFrame (start_layout packet maps) (frame_at (start_state head packet (contents_of maps)).frames j) j frames
     frame zero h = record { depth = refl; cells = cells_unset (start_layout packet maps) (bytes_at frames 0 frame_size) frame_size (length-bytes_at frames 0 frame_size (omega arith)) }
     frame (suc j) h = absurd (omega arith)

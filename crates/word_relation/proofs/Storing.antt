@@ -36,7 +36,7 @@ use Rattle.isa_model.specs.Machine.MachineStates.{AreBytes, IsValue, IsState}
 use Rattle.isa_model.proofs.ValueLaws.{length-splice, bytes_of_fit}
 use Rattle.word_machine.specs.Addresses.{packet_base}
 use Rattle.word_machine.specs.Words.{Words, InPacket, InFrames, InBlock, spot_of, IsInside, saved_at, put as put_bytes}
-use Rattle.word_relation.specs.Related.{Layout, start, moved, word, Shows, ShowsCells, ShowsFrame, ShowsSaved, ShowsFrames, ShowsMaps, Related}
+use Rattle.word_relation.specs.Related.{Layout, region_start, moved, word, Represents, RepresentsCells, RepresentsFrame, RepresentsSaved, RepresentsFrames, RepresentsMaps, Related}
 use Rattle.word_relation.specs.Values.{contents_are}
 use Rattle.word_relation.proofs.ValuesLaws.{written, written_shown}
 use Rattle.word_relation.proofs.ValuesLaws.{set_shown}
@@ -61,16 +61,16 @@ at_set fs j k g P here same other =
 
 module _ (p : Program) (a : Layout) (s : State) (w : Words) (R : Related p a s w) (K : IsState p s) where
   -- cells in place of some, and bytes in place of those that represent them
-  shows-splice : (cs new : List Cell) (row bs : List ℕ) (i : ℕ) → ShowsCells a cs row → ShowsCells a new bs
-      → ShowsCells a (splice cs i (i + length new) new) (with_bytes row i bs)
+  shows-splice : (cs new : List Cell) (row bs : List ℕ) (i : ℕ) → RepresentsCells a cs row → RepresentsCells a new bs
+      → RepresentsCells a (splice cs i (i + length new) new) (with_bytes row i bs)
   shows-splice cs new row bs i h k =
       let long = shows-length a new bs k in
-      let rest = subst (λ n. ShowsCells a (drop (i + n) cs) (drop (i + length bs) row)) (sym long) (shows-drop a (i + length bs) cs row h) in
+      let rest = subst (λ n. RepresentsCells a (drop (i + n) cs) (drop (i + length bs) row)) (sym long) (shows-drop a (i + length bs) cs row h) in
       shows-append a (take i cs) (take i row) (new ++ drop (i + length new) cs) (bs ++ drop (i + length bs) row) (shows-take a i cs row h)
       (shows-append a new bs (drop (i + length new) cs) (drop (i + length bs) row) k rest)
 
-  put_frame_shown : (j i : ℕ) (new : List Cell) (bs : List ℕ) → j < length s.frames → i + length new ≤ frame_size → ShowsCells a new bs
-      → ShowsFrames a (put_frame s.frames (Some j) i new) (with_bytes w.frames (j * frame_size + i) bs) w.saved
+  put_frame_shown : (j i : ℕ) (new : List Cell) (bs : List ℕ) → j < length s.frames → i + length new ≤ frame_size → RepresentsCells a new bs
+      → RepresentsFrames a (put_frame s.frames (Some j) i new) (with_bytes w.frames (j * frame_size + i) bs) w.saved
   put_frame_shown j i new bs here room k =
       let f = frame_at s.frames j in
       let g : CallFrame = record f { cells = splice f.cells i (i + length new) new } in
@@ -82,26 +82,26 @@ module _ (p : Program) (a : Layout) (s : State) (w : Words) (R : Related p a s w
       record {
         whole = length-with_bytes w.frames (j * frame_size + i) bs inside ∙ R.frames.whole;
         depth = same ∙ R.frames.depth;
-        frames = λ n h. at_set s.frames j n g (λ f. ShowsFrame a f n (with_bytes w.frames (j * frame_size + i) bs)) here
+        frames = λ n h. at_set s.frames j n g (λ f. RepresentsFrame a f n (with_bytes w.frames (j * frame_size + i) bs)) here
             (λ e. let old = R.frames.frames j here in record {
               depth = old.depth ∙ sym e;
-              cells = subst (λ n. ShowsCells a g.cells (bytes_at (with_bytes w.frames (j * frame_size + i) bs) (n * frame_size) frame_size)) (sym e)
-                  (subst (ShowsCells a g.cells) (sym (bytes_with w.frames (j * frame_size) frame_size i bs (omega arith) (omega arith)))
+              cells = subst (λ n. RepresentsCells a g.cells (bytes_at (with_bytes w.frames (j * frame_size + i) bs) (n * frame_size) frame_size)) (sym e)
+                  (subst (RepresentsCells a g.cells) (sym (bytes_with w.frames (j * frame_size) frame_size i bs (omega arith) (omega arith)))
                   (shows-splice f.cells new (bytes_at w.frames (j * frame_size) frame_size) bs i old.cells k));
             })
             (λ d. let old = R.frames.frames n (omega arith) in record {
               depth = old.depth;
-              cells = subst (ShowsCells a (frame_at s.frames n).cells) (elim (cases_lt n j) [
+              cells = subst (RepresentsCells a (frame_at s.frames n).cells) (elim (cases_lt n j) [
                 | inl lt ↦ sym (bytes_before w.frames (j * frame_size + i) bs inside (n * frame_size) frame_size (omega arith))
                 | inr ge ↦ sym (bytes_after w.frames (j * frame_size + i) bs inside (n * frame_size) frame_size (let gt : j < n = omega (arith, d) in omega arith))
               ]) old.cells;
             });
-        saved = λ n h. at_set s.frames j (n + 1) g (λ f. ShowsSaved a f (saved_at w.saved n)) here
-            (λ e. let old = subst (λ m. ShowsSaved a (frame_at s.frames m) (saved_at w.saved n)) e (R.frames.saved n h) in record { back = old.back; kept = old.kept })
+        saved = λ n h. at_set s.frames j (n + 1) g (λ f. RepresentsSaved a f (saved_at w.saved n)) here
+            (λ e. let old = subst (λ m. RepresentsSaved a (frame_at s.frames m) (saved_at w.saved n)) e (R.frames.saved n h) in record { back = old.back; kept = old.kept })
             (λ d. R.frames.saved n h);
       }
 
-  with_frames : (fs : List CallFrame) (block : List ℕ) → ShowsFrames a fs block w.saved
+  with_frames : (fs : List CallFrame) (block : List ℕ) → RepresentsFrames a fs block w.saved
       → Related p a (record s { frames = fs }) (record w { frames = block })
   with_frames fs block h = record {
     slot = R.slot;
@@ -130,7 +130,7 @@ module _ (p : Program) (a : Layout) (s : State) (w : Words) (R : Related p a s w
     calls = R.calls;
   }
 
-  with_maps : (contents : List Content) (maps : List MapState) → ShowsMaps a p.maps contents maps
+  with_maps : (contents : List Content) (maps : List MapState) → RepresentsMaps a p.maps contents maps
       → Related p a (record s { maps = contents }) (record w { maps = maps })
   with_maps contents maps h = record {
     slot = R.slot;
@@ -169,7 +169,7 @@ module _ (p : Program) (a : Layout) (s : State) (w : Words) (R : Related p a s w
       by_test true e = h (grind (arith, nat_tests))
       by_test false e = tt
 
-  shows_write_frame : (m : ℕ) (z : ℤ) (new : List Cell) (bs : List ℕ) (x : ℕ) → 0 < length bs → ShowsCells a new bs → pos x ≡ pos (start a (region.Frame m)) +ℤ z
+  shows_write_frame : (m : ℕ) (z : ℤ) (new : List Cell) (bs : List ℕ) (x : ℕ) → 0 < length bs → RepresentsCells a new bs → pos x ≡ pos (region_start a (region.Frame m)) +ℤ z
       → OkStore (write s (region.Frame m) (index_at (region.Frame m) z) new) x bs
   shows_write_frame m z new bs x some k e = by_frame (frame_index_of s.frames m) refl (z +ℤ pos frame_size) refl
     where
@@ -201,7 +201,7 @@ module _ (p : Program) (a : Layout) (s : State) (w : Words) (R : Related p a s w
       (contents_are p s K) refl
       (λ _. written_shown a m (content_of s m) (map_at w.maps m) (R.maps.maps m row) j here i bs room bytes) R.maps))
 
-  shows_write_value : (m n : ℕ) (z : ℤ) (bs : List ℕ) (x : ℕ) → AreBytes bs → pos x ≡ pos (start a (region.MapValue m n)) +ℤ z
+  shows_write_value : (m n : ℕ) (z : ℤ) (bs : List ℕ) (x : ℕ) → AreBytes bs → pos x ≡ pos (region_start a (region.MapValue m n)) +ℤ z
       → OkStore (write s (region.MapValue m n) (index_at (region.MapValue m n) z) (map Byte bs)) x bs
   shows_write_value m n z bs x bytes e = by_value (entry_index (content_of s m) n) refl z refl
     where
@@ -220,7 +220,7 @@ module _ (p : Program) (a : Layout) (s : State) (w : Words) (R : Related p a s w
           let (spot, inside) = spot_value p a s w R K m j i (length bs) x here row (omega arith) (omega (arith, ints)) in
           rw spot (inside, put_value_related m j i (map byte_in (map Byte bs)) bs (map-byte_in-Byte bs) here row (omega arith) bytes))
 
-  pub shows_write_number : (r : Region) (z : ℤ) (bs : List ℕ) (x : ℕ) → 0 < length bs → AreBytes bs → pos x ≡ pos (start a r) +ℤ z
+  pub shows_write_number : (r : Region) (z : ℤ) (bs : List ℕ) (x : ℕ) → 0 < length bs → AreBytes bs → pos x ≡ pos (region_start a r) +ℤ z
       → OkStore (write s r (index_at r z) (map Byte bs)) x bs
   shows_write_number region.Context z bs x some bytes e = tt
   shows_write_number region.PacketEnd z bs x some bytes e = tt
@@ -252,16 +252,16 @@ module _ (p : Program) (a : Layout) (s : State) (w : Words) (R : Related p a s w
   some_bytes U64 n = omega arith
 
   -- every store of a number
-  pub shows_store_number : (size : Size) (u : Value) (by : ℤ) (n x : ℕ) → IsValue (length p.maps) s.next_serial u → FitsSigned w16 by → Shows a u x
+  pub shows_store_number : (size : Size) (u : Value) (by : ℤ) (n x : ℕ) → IsValue (length p.maps) s.next_serial u → FitsSigned w16 by → Represents a u x
       → OkStore (store_number s size u by n) (alu Add Full64 x (unsigned Full64 by)) (bytes_of size n)
   shows_store_number size Unset by n x fits small e = tt
   shows_store_number size (Num m) by n x fits small e = tt
   shows_store_number size (Ptr r z) by n x fits small e =
       let g = far a (length p.maps) s.next_serial R.layout r fits.0 in
-      let at = add_near (start a r) z by g.0 g.1 fits.1 small in
+      let at = add_near (region_start a r) z by g.0 g.1 fits.1 small in
       subst (λ x. OkStore (store_number s size (Ptr r z) by n) (alu Add Full64 x (unsigned Full64 by)) (bytes_of size n)) (sym e) (by_region r at)
     where
-      by_region : (r : Region) → pos (alu Add Full64 (moved (start a r) z) (unsigned Full64 by)) ≡ pos (start a r) +ℤ (z +ℤ by)
+      by_region : (r : Region) → pos (alu Add Full64 (moved (region_start a r) z) (unsigned Full64 by)) ≡ pos (region_start a r) +ℤ (z +ℤ by)
           → OkStore (store_number s size (Ptr r z) by n) (alu Add Full64 (word a r z) (unsigned Full64 by)) (bytes_of size n)
       by_region region.Context at = tt
       by_region region.PacketEnd at = tt
@@ -271,7 +271,7 @@ module _ (p : Program) (a : Layout) (s : State) (w : Words) (R : Related p a s w
       by_region (region.MapValue m k) at = shows_write_number (region.MapValue m k) (z +ℤ by) (bytes_of size n) _ (some_bytes size n) (bytes_of_fit size n) at
 
   -- every store
-  pub shows_store : (size : Size) (u : Value) (by : ℤ) (v : Value) (x y : ℕ) → IsValue (length p.maps) s.next_serial u → FitsSigned w16 by → Shows a u x → Shows a v y
+  pub shows_store : (size : Size) (u : Value) (by : ℤ) (v : Value) (x y : ℕ) → IsValue (length p.maps) s.next_serial u → FitsSigned w16 by → Represents a u x → Represents a v y
       → OkStore (store s size u by v) (alu Add Full64 x (unsigned Full64 by)) (bytes_of size y)
   shows_store size u by Unset x y fits small e f = tt
   shows_store size u by (Num n) x y fits small e f =
@@ -279,10 +279,10 @@ module _ (p : Program) (a : Layout) (s : State) (w : Words) (R : Related p a s w
       (shows_store_number size u by n x fits small e)
   shows_store size u by (Ptr q i) x y fits small e f = by_size size u e fits
     where
-      by_size : (size : Size) (u : Value) → Shows a u x → IsValue (length p.maps) s.next_serial u → OkStore (store_pointer s size u by q i) (alu Add Full64 x (unsigned Full64 by)) (bytes_of size y)
+      by_size : (size : Size) (u : Value) → Represents a u x → IsValue (length p.maps) s.next_serial u → OkStore (store_pointer s size u by q i) (alu Add Full64 x (unsigned Full64 by)) (bytes_of size y)
       by_size U64 (Ptr (region.Frame m) z) e fits =
           let g = far a (length p.maps) s.next_serial R.layout (region.Frame m) fits.0 in
-          let at = add_near (start a (region.Frame m)) z by g.0 g.1 fits.1 small in
+          let at = add_near (region_start a (region.Frame m)) z by g.0 g.1 fits.1 small in
           subst (λ x. OkStore (store_pointer s U64 (Ptr (region.Frame m) z) by q i) (alu Add Full64 x (unsigned Full64 by)) (bytes_of U64 y)) (sym e)
           (subst (λ y. OkStore (store_pointer s U64 (Ptr (region.Frame m) z) by q i) (alu Add Full64 (word a (region.Frame m) z) (unsigned Full64 by)) (bytes_of U64 y)) (sym f)
           (shows_write_frame m (z +ℤ by) (pieces q i) (to_le_bytes w64 (word a q i)) _ (omega arith) (shows-pieces a q i) at))

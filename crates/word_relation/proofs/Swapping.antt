@@ -29,7 +29,7 @@ use Rattle.isa_model.specs.Machine.MachineStates.{IsValue, IsState}
 use Rattle.isa_model.proofs.StateLaws.{reg_fits}
 use Rattle.isa_model.proofs.AccessLaws.{store_number_keeps}
 use Rattle.word_machine.specs.Words.{Words, word_at, address_of, spot_of, IsInside, get, number_at, swaps, old_number, fetched_regs, put as put_bytes}
-use Rattle.word_relation.specs.Related.{Layout, start, moved, word, Shows, Related}
+use Rattle.word_relation.specs.Related.{Layout, region_start, moved, word, Represents, Related}
 use Rattle.word_relation.proofs.Addresses.{add_near}
 use Rattle.word_relation.proofs.Arithmetic.{far, OkShows}
 use Rattle.word_relation.proofs.Cells.{OkNumber, shows_number_in}
@@ -58,20 +58,20 @@ module _ (p : Program) (a : Layout) (s : State) (w : Words) (R : Related p a s w
   some_size U32 = omega arith
   some_size U64 = omega arith
 
-  pub shows_load_number : (size : Size) (v : Value) (by : ℤ) (x : ℕ) → IsValue (length p.maps) s.next_serial v → FitsSigned w16 by → Shows a v x
+  pub shows_load_number : (size : Size) (v : Value) (by : ℤ) (x : ℕ) → IsValue (length p.maps) s.next_serial v → FitsSigned w16 by → Represents a v x
       → OkFound (size_bytes size) (load_number s size v by) (alu Add Full64 x (unsigned Full64 by))
   shows_load_number size (Num n) by x fits small e = tt
   shows_load_number size Unset by x fits small e = tt
   shows_load_number size (Ptr r z) by x fits small e =
       let f = far a (length p.maps) s.next_serial R.layout r fits.0 in
-      let at = add_near (start a r) z by f.0 f.1 fits.1 small in
+      let at = add_near (region_start a r) z by f.0 f.1 fits.1 small in
       subst (λ x. OkFound (size_bytes size) (load_number s size (Ptr r z) by) (alu Add Full64 x (unsigned Full64 by))) (sym e) (by_region r at)
     where
-      through : (r : Region) (x : ℕ) → pos x ≡ pos (start a r) +ℤ (z +ℤ by) → OkFound (size_bytes size) (load_number s size (Ptr r z) by) x
+      through : (r : Region) (x : ℕ) → pos x ≡ pos (region_start a r) +ℤ (z +ℤ by) → OkFound (size_bytes size) (load_number s size (Ptr r z) by) x
       through r x at = found_number (size_bytes size) x (read s r (index_at r (z +ℤ by)) (size_bytes size))
           (shows_read p a s w R K r (z +ℤ by) (size_bytes size) x (some_size size) at)
 
-      by_region : (r : Region) → pos (alu Add Full64 (moved (start a r) z) (unsigned Full64 by)) ≡ pos (start a r) +ℤ (z +ℤ by)
+      by_region : (r : Region) → pos (alu Add Full64 (moved (region_start a r) z) (unsigned Full64 by)) ≡ pos (region_start a r) +ℤ (z +ℤ by)
           → OkFound (size_bytes size) (load_number s size (Ptr r z) by) (alu Add Full64 (word a r z) (unsigned Full64 by))
       by_region region.Context at = through region.Context _ at
       by_region region.Packet at = through region.Packet _ at
@@ -81,7 +81,7 @@ module _ (p : Program) (a : Layout) (s : State) (w : Words) (R : Related p a s w
       by_region region.PacketEnd at = tt
 
   -- a load that is sign-extended
-  pub shows_load_signed : (size : Narrow) (v : Value) (by : ℤ) (x : ℕ) → IsValue (length p.maps) s.next_serial v → FitsSigned w16 by → Shows a v x
+  pub shows_load_signed : (size : Narrow) (v : Value) (by : ℤ) (x : ℕ) → IsValue (length p.maps) s.next_serial v → FitsSigned w16 by → Represents a v x
       → OkShows a (load_signed s size v by) (sign_extended (narrow_extension size) (number_at w (narrow_size size) (alu Add Full64 x (unsigned Full64 by))))
       × IfOk (load_signed s size v by) (λ u. IsInside w (spot_of (alu Add Full64 x (unsigned Full64 by))) (size_bytes (narrow_size size)))
   shows_load_signed size v by x fits small e = signed (load_number s (narrow_size size) v by) (shows_load_number (narrow_size size) v by x fits small e)
@@ -140,7 +140,7 @@ module _ (p : Program) (a : Layout) (s : State) (w : Words) (R : Related p a s w
         (shows_load_number size base place.offset (word_at w place.base) (reg_fits p s place.base K) small (R.registers.shown (reg_number place.base)))
 
   -- an operand that is a number
-  pub with_number : (Q : Result State TrapReason → Type 0) → ((e : TrapReason) → Q (Err e)) → (v : Value) (x : ℕ) → Shows a v x → (go : ℕ → Result State TrapReason)
+  pub with_number : (Q : Result State TrapReason → Type 0) → ((e : TrapReason) → Q (Err e)) → (v : Value) (x : ℕ) → Represents a v x → (go : ℕ → Result State TrapReason)
       → Q (go x) → Q (and_then (atomic_number v) go)
   with_number Q traps Unset x shown go next = traps BadPointer
   with_number Q traps (Ptr r z) x shown go next = traps BadPointer

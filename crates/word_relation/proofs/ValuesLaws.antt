@@ -26,7 +26,7 @@ use Rattle.maps.specs.ContentLaws.{length-changed}
 use Rattle.maps.specs.Maps.{MapState, IsMap, map_at}
 use Rattle.maps.proofs.MapLaws.{length-rows_of, rows_of-set}
 use Rattle.maps.proofs.ReportOrderLaws.{above, get_at}
-use Rattle.word_relation.specs.Related.{Layout, by_serial, by_place, ShowsMap, ShowsMaps}
+use Rattle.word_relation.specs.Related.{Layout, by_serial, by_place, RepresentsMap, RepresentsMaps}
 use Rattle.word_relation.specs.Values.{contents_are}
 
 no_content : (contents : List Content) (m : ℕ) → length contents ≤ m → length (slice_index_or contents m []) ≡ 0
@@ -87,7 +87,7 @@ slice_set-map f g (x ∷ xs) (suc j) y d h here other =
     λ i. sym (other 0 (omega arith) (λ e. omega arith)) i
     ∷ slice_set-map f g xs j y d (omega arith) here (λ k l n. other (suc k) (omega arith) (λ e. n (omega arith))) i
 
-module _ (a : Layout) (m : ℕ) (content : Content) (state : MapState) (shown : ShowsMap a m content state) where
+module _ (a : Layout) (m : ℕ) (content : Content) (state : MapState) (shown : RepresentsMap a m content state) where
   abbrev size : ℕ
   size = state.row.value_size
 
@@ -211,7 +211,7 @@ module _ (a : Layout) (m : ℕ) (content : Content) (state : MapState) (shown : 
               (place_at k).1 (apart k l other)) n,
         )
 
-    pub written_shown : ShowsMap a m (slice_set content j new) written
+    pub written_shown : RepresentsMap a m (slice_set content j new) written
     written_shown =
         let many = as_many in
         record {
@@ -227,22 +227,22 @@ module _ (a : Layout) (m : ℕ) (content : Content) (state : MapState) (shown : 
 
 -- one content and one map changed
 pub set_shown : (a : Layout) (defs : List MapDef) (contents : List Content) (states : List MapState) (m : ℕ) (content : Content) (state : MapState)
-    → length contents ≡ length defs → state.row ≡ (map_at states m).row → (m < length defs → ShowsMap a m content state) → ShowsMaps a defs contents states
-    → ShowsMaps a defs (slice_set contents m content) (slice_set states m state)
+    → length contents ≡ length defs → state.row ≡ (map_at states m).row → (m < length defs → RepresentsMap a m content state) → RepresentsMaps a defs contents states
+    → RepresentsMaps a defs (slice_set contents m content) (slice_set states m state)
 set_shown a defs contents states m content state many row h R = record {
   rows = rows_of-set states m state row ∙ R.rows;
   maps = λ k l. by_map k l;
 }
   where
-    by_map : (k : ℕ) → k < length defs → ShowsMap a k (slice_index_or (slice_set contents m content) k []) (map_at (slice_set states m state) k)
+    by_map : (k : ℕ) → k < length defs → RepresentsMap a k (slice_index_or (slice_set contents m content) k []) (map_at (slice_set states m state) k)
     by_map k l =
         let count = sym (length-rows_of states) ∙ ap length R.rows in
         elim (same_or_not k m) [
           | inl e ↦
-              subst (λ k. ShowsMap a k (slice_index_or (slice_set contents m content) k []) (map_at (slice_set states m state) k)) (sym e)
-              (subst (λ c. ShowsMap a m c (map_at (slice_set states m state) m)) (sym (get_or-set_same contents m content [] (omega arith)))
-              (subst (λ t. ShowsMap a m content t) (sym (get_or-set_same states m state _ (omega arith))) (h (omega arith))))
+              subst (λ k. RepresentsMap a k (slice_index_or (slice_set contents m content) k []) (map_at (slice_set states m state) k)) (sym e)
+              (subst (λ c. RepresentsMap a m c (map_at (slice_set states m state) m)) (sym (get_or-set_same contents m content [] (omega arith)))
+              (subst (λ t. RepresentsMap a m content t) (sym (get_or-set_same states m state _ (omega arith))) (h (omega arith))))
           | inr other ↦
-              subst (λ c. ShowsMap a k c (map_at (slice_set states m state) k)) (sym (get_or-set_other contents m k content [] other))
-              (subst (λ t. ShowsMap a k (slice_index_or contents k []) t) (sym (get_or-set_other states m k state _ other)) (R.maps k l))
+              subst (λ c. RepresentsMap a k c (map_at (slice_set states m state) k)) (sym (get_or-set_other contents m k content [] other))
+              (subst (λ t. RepresentsMap a k (slice_index_or contents k []) t) (sym (get_or-set_other states m k state _ other)) (R.maps k l))
         ]

@@ -6,22 +6,22 @@ use Rattle.isa_model.specs.Machine.States.{State}
 use Rattle.isa_model.specs.Machine.MachineStates.{IsProgram, IsClock, IsState}
 use Rattle.isa_model.specs.Running.Ends.{Ends as ModelEnds}
 use Rattle.word_machine.specs.Words.{Words}
-use Rattle.word_machine.specs.Runs.{Ends, Reaches, Exits}
+use Rattle.word_machine.specs.Runs.{EndsSafely, Reaches, Exits}
 use Rattle.word_relation.specs.Related.{Layout, Related}
 use Rattle.maps.specs.Maps.{MapState}
-use Rattle.word_relation.specs.Running.{Follows, Finishes}
+use Rattle.word_relation.specs.Running.{Tracks, Finishes}
 use Rattle.word_relation.specs.Starting.{start_of}
-use Rattle.word_relation.specs.Answering.{IsStart, Answers}
+use Rattle.word_relation.specs.Answering.{IsStart, AnswersAsModel}
 
 -- what ends in the model within a count of steps ends in words within as many moves
 abbrev pub EndsInWords : Type 0
 EndsInWords = (p : Program) (clock : ℕ → ℕ) → IsProgram p → IsClock clock → (n : ℕ) (a : Layout) (s : State) (w : Words)
-    → Related p a s w → IsState p s → ModelEnds p clock s n → Ends p clock w n
+    → Related p a s w → IsState p s → ModelEnds p clock s n → EndsSafely p clock w n
 
 -- where moves lead, steps lead to a related state
 abbrev pub MovesAreSteps : Type 0
 MovesAreSteps = (p : Program) (clock : ℕ → ℕ) → IsProgram p → IsClock clock → (k n : ℕ) (a : Layout) (s : State) (w v : Words)
-    → Related p a s w → IsState p s → ModelEnds p clock s n → Reaches p clock w k v → Follows p clock s n k v
+    → Related p a s w → IsState p s → ModelEnds p clock s n → Reaches p clock w k v → Tracks p clock s n k v
 
 -- an exit of words is the model's, with the same number after as many steps
 abbrev pub ExitsAgree : Type 0
@@ -31,10 +31,10 @@ ExitsAgree = (p : Program) (clock : ℕ → ℕ) → IsProgram p → IsClock clo
 -- a run of words from a start ends within the program's bound
 abbrev pub StartsEndInWords : Type 0
 StartsEndInWords = (p : Program) (clock : ℕ → ℕ) (n : ℕ) (head : FrameHead) (packet frames : List ℕ) (maps : List MapState)
-    → IsStart p clock n head packet frames maps → Ends p clock (start_of head packet frames maps) n
+    → IsStart p clock n head packet frames maps → EndsSafely p clock (start_of head packet frames maps) n
 
 -- and where it exits, the answer and what is left are those of the outcome
 abbrev pub ExitsAreOutcomes : Type 0
 ExitsAreOutcomes = (p : Program) (clock : ℕ → ℕ) (n : ℕ) (head : FrameHead) (packet frames : List ℕ) (maps : List MapState)
     → IsStart p clock n head packet frames maps → (number steps : ℕ) (v : Words)
-    → Exits p clock (start_of head packet frames maps) number steps v → Answers p clock n head packet maps number steps v
+    → Exits p clock (start_of head packet frames maps) number steps v → AnswersAsModel p clock n head packet maps number steps v

@@ -36,13 +36,13 @@ pub record IsLayout (a : Layout) (rows : ℕ) : Type 0 where
   pub short : a.end ≤ max_packet
 
 -- where a region's offset 0 is
-abbrev pub start : Layout → Region → ℕ
-start a region.Context = context_base
-start a region.Packet = packet_base
-start a region.PacketEnd = packet_base + a.end
-start a (region.Map m) = map_base m
-start a (region.MapValue m n) = values_base m + a.value m n
-start a (region.Frame n) = frame_end (a.depth n)
+abbrev pub region_start : Layout → Region → ℕ
+region_start a region.Context = context_base
+region_start a region.Packet = packet_base
+region_start a region.PacketEnd = packet_base + a.end
+region_start a (region.Map m) = map_base m
+region_start a (region.MapValue m n) = values_base m + a.value m n
+region_start a (region.Frame n) = frame_end (a.depth n)
 
 -- an address some bytes further on, or back
 abbrev pub moved : ℕ → ℤ → ℕ
@@ -51,50 +51,50 @@ moved at (negsuc n) = at - suc n
 
 -- the word of a pointer; the packet end is a place by itself
 abbrev pub word : Layout → Region → ℤ → ℕ
-word a region.PacketEnd z = start a region.PacketEnd
-word a r z = moved (start a r) z
+word a region.PacketEnd z = region_start a region.PacketEnd
+word a r z = moved (region_start a r) z
 
 -- the word represents the value: an unset register may hold any word
-abbrev pub Shows : Layout → Value → ℕ → Type 0
-Shows a Unset w = Unit {0}
-Shows a (Num n) w = w ≡ n
-Shows a (Ptr r z) w = w ≡ word a r z
+abbrev pub Represents : Layout → Value → ℕ → Type 0
+Represents a Unset w = Unit {0}
+Represents a (Num n) w = w ≡ n
+Represents a (Ptr r z) w = w ≡ word a r z
 
-abbrev pub ShowsCell : Layout → Cell → ℕ → Type 0
-ShowsCell a Unwritten b = Unit {0}
-ShowsCell a (Byte n) b = b ≡ n
-ShowsCell a (Piece r z k) b = b ≡ byte_at k (word a r z)
+abbrev pub RepresentsCell : Layout → Cell → ℕ → Type 0
+RepresentsCell a Unwritten b = Unit {0}
+RepresentsCell a (Byte n) b = b ≡ n
+RepresentsCell a (Piece r z k) b = b ≡ byte_at k (word a r z)
 
 -- bytes represent cells, one for one
-abbrev pub ShowsCells : Layout → List Cell → List ℕ → Type 0
-ShowsCells a [] [] = Unit {0}
-ShowsCells a (c ∷ cs) (b ∷ bs) = ShowsCell a c b × ShowsCells a cs bs
-ShowsCells a cs bs = ⊥
+abbrev pub RepresentsCells : Layout → List Cell → List ℕ → Type 0
+RepresentsCells a [] [] = Unit {0}
+RepresentsCells a (c ∷ cs) (b ∷ bs) = RepresentsCell a c b × RepresentsCells a cs bs
+RepresentsCells a cs bs = ⊥
 
 -- ---- registers
 
-pub record ShowsRegisters (a : Layout) (regs : List Value) (words : List ℕ) : Type 0 where
+pub record RepresentsRegisters (a : Layout) (regs : List Value) (words : List ℕ) : Type 0 where
   pub count : length words ≡ 11
-  pub shown : (k : ℕ) → Shows a (value_at regs k) (slice_index words k)
+  pub shown : (k : ℕ) → Represents a (value_at regs k) (slice_index words k)
 
 -- ---- frames
 
 -- the frame at depth j has its bytes from j * frame_size on
-pub record ShowsFrame (a : Layout) (f : CallFrame) (j : ℕ) (frames : List ℕ) : Type 0 where
+pub record RepresentsFrame (a : Layout) (f : CallFrame) (j : ℕ) (frames : List ℕ) : Type 0 where
   pub depth : a.depth f.serial ≡ j
-  pub cells : ShowsCells a f.cells (bytes_at frames (j * frame_size) frame_size)
+  pub cells : RepresentsCells a f.cells (bytes_at frames (j * frame_size) frame_size)
 
 -- what is kept for the caller, whose exit leads back
-pub record ShowsSaved (a : Layout) (f : CallFrame) (s : Saved) : Type 0 where
+pub record RepresentsSaved (a : Layout) (f : CallFrame) (s : Saved) : Type 0 where
   pub back : s.back ≡ f.return_slot
-  pub kept : (k : ℕ) → Shows a (value_at f.saved k) (slice_index s.kept k)
+  pub kept : (k : ℕ) → Represents a (value_at f.saved k) (slice_index s.kept k)
 
 -- each frame but the first has a caller
-pub record ShowsFrames (a : Layout) (fs : List CallFrame) (block : List ℕ) (callers : List Saved) : Type 0 where
+pub record RepresentsFrames (a : Layout) (fs : List CallFrame) (block : List ℕ) (callers : List Saved) : Type 0 where
   pub whole : length block ≡ frames_size
   pub depth : length fs ≡ length callers + 1
-  pub frames : (j : ℕ) → j < length fs → ShowsFrame a (frame_at fs j) j block
-  pub saved : (j : ℕ) → j < length callers → ShowsSaved a (frame_at fs (j + 1)) (saved_at callers j)
+  pub frames : (j : ℕ) → j < length fs → RepresentsFrame a (frame_at fs j) j block
+  pub saved : (j : ℕ) → j < length callers → RepresentsSaved a (frame_at fs (j + 1)) (saved_at callers j)
 
 -- ---- maps
 
@@ -106,24 +106,24 @@ abbrev pub by_place : ℕ → List ℕ → ℕ → (ℕ × List ℕ)
 by_place size block place = (place * size, row_at size block place)
 
 -- the keys are the same, in their order, and so are each key's beginning and bytes
-pub record ShowsMap (a : Layout) (m : ℕ) (content : Content) (map : MapState) : Type 0 where
+pub record RepresentsMap (a : Layout) (m : ℕ) (content : Content) (map : MapState) : Type 0 where
   pub is : IsMap map
   pub same : changed (by_serial a m) content ≡ changed (by_place map.row.value_size map.block) (entries map.places)
 
-pub record ShowsMaps (a : Layout) (defs : List MapDef) (contents : List Content) (states : List MapState) : Type 0 where
+pub record RepresentsMaps (a : Layout) (defs : List MapDef) (contents : List Content) (states : List MapState) : Type 0 where
   pub rows : rows_of states ≡ defs
-  pub maps : (m : ℕ) → m < length defs → ShowsMap a m (slice_index_or contents m []) (map_at states m)
+  pub maps : (m : ℕ) → m < length defs → RepresentsMap a m (slice_index_or contents m []) (map_at states m)
 
 -- ---- states
 
 pub record Related (p : Program) (a : Layout) (s : State) (w : Words) : Type 0 where
   pub slot : w.at ≡ s.slot
   pub layout : IsLayout a (length p.maps)
-  pub registers : ShowsRegisters a s.regs w.regs
-  pub frames : ShowsFrames a s.frames w.frames w.saved
+  pub registers : RepresentsRegisters a s.regs w.regs
+  pub frames : RepresentsFrames a s.frames w.frames w.saved
   pub packet : w.packet ≡ s.packet
   pub end : a.end ≡ length s.packet
   pub interface : w.interface ≡ s.interface
   pub queue : w.queue ≡ s.queue
-  pub maps : ShowsMaps a p.maps s.maps w.maps
+  pub maps : RepresentsMaps a p.maps s.maps w.maps
   pub calls : w.calls ≡ s.clock_calls

@@ -11,7 +11,7 @@ use Rattle.word_relation.specs.Related.{Layout, Related}
 
 -- the run in the model from s, which ends within n steps, is after k of them in a state that the
 -- words represent
-pub record Follows (p : Program) (clock : ℕ → ℕ) (s : State) (n k : ℕ) (v : Words) : Type 0 where
+pub record Tracks (p : Program) (clock : ℕ → ℕ) (s : State) (n k : ℕ) (v : Words) : Type 0 where
   pub state : State
   pub layout : Layout
   pub reached : ModelReaches p clock s k state
@@ -24,7 +24,7 @@ pub record Follows (p : Program) (clock : ℕ → ℕ) (s : State) (n k : ℕ) (
 -- and exits there with this number
 pub record Finishes (p : Program) (clock : ℕ → ℕ) (s : State) (n number steps : ℕ) (v : Words) : Type 0 where
   pub before : ℕ
-  pub follows : Follows p clock s n before v
+  pub follows : Tracks p clock s n before v
   pub exits : step p clock follows.state ≡ Finished number
   pub counted : steps ≡ suc before
   pub in_time : steps ≤ n

@@ -14,7 +14,7 @@ use Rattle.tasks.specs.declared.WordsError.{WordsError}
 use Rattle.tasks.specs.declared.WordsError.TheVariants.{Wrong, Memory}
 use Rattle.words.specs.CommandLine.{program, asm, dis, verify, run, trace, prove, recheck}
 use Rattle.tasks.specs.Requests.{Request}
-use Rattle.words.specs.Asked.{Reads, TellsOf, asked, request_by, request_met, unless_faulty}
+use Rattle.words.specs.Asked.{AsksFor, TellsOf, asked, request_by, request_met, unless_faulty}
 
 -- clap says of this command line what a parse finds, and how it fails
 is_simple-program : is_simple program ≡ true
@@ -31,7 +31,7 @@ unless_faulty-among k (x ∷ xs) r among = refl
 
 -- a parse failed
 pub failed-reads : (a : App) (words : List (List ℕ)) (e : Error) (w : WordsError) → a ≡ program
-    → (is_simple_and_free a ≡ true → HasKind (fault_of a words) e) → (kind_of e ≡ kind.OutOfMemory → w ≡ Memory) → Reads words (Err w)
+    → (is_simple_and_free a ≡ true → HasKind (fault_of a words) e) → (kind_of e ≡ kind.OutOfMemory → w ≡ Memory) → AsksFor words (Err w)
 unfolding asked
 failed-reads a words e Memory is h memory = tt
 failed-reads a words e (Wrong text) is h memory =
@@ -68,7 +68,7 @@ met-none (Some p) e = cc
 -- and met a command
 pub parsed-reads : (a : App) (words : List (List ℕ)) (m : ArgMatches) (name : List ℕ) (rows : List Row) (r : Result Task WordsError) → a ≡ program
     → (is_simple_and_free a ≡ true → fault_of a words ≡ []) → HasMatchesOf a words m → Some name ≡ subcommand_name_of m → Some rows ≡ option_map (λ p. p.1) (subcommand_rows_of m)
-    → TellsOf (request_by name rows) r → Reads words r
+    → TellsOf (request_by name rows) r → AsksFor words r
 parsed-reads a words m name rows r is h found e f tells =
     let met : subcommand_rows_of m ≡ Some (name, rows) = met-some (subcommand_rows_of m) name rows (e ∙ name-met m) f in
     let same : request_by name rows ≡ asked words = sym (asked-parsed a words m is h found ∙ ap request_met met) in

@@ -94,5 +94,5 @@ TellsOf request (Err (Wrong text)) = request ≡ None
 TellsOf request (Err Memory) = Unit {0}
 
 -- what was read of words: what they ask for, or that it is nothing; or memory ran out
-abbrev pub Reads : List (List ℕ) → Result Task WordsError → Type 0
-Reads words result = TellsOf (asked words) result
+abbrev pub AsksFor : List (List ℕ) → Result Task WordsError → Type 0
+AsksFor words result = TellsOf (asked words) result

@@ -6,7 +6,7 @@ ghost use Rattle.std.specs.Char.{is_ascii_digit};
 ghost use Rattle.std.specs.String.{string_bytes};
 ghost use Rattle.clap.specs.Words.{first_of, found_of, kind_of, rows_of};
 ghost use Rattle.tasks.specs.Requests.{files_of, proof_files_of, request_of};
-ghost use Rattle.words.specs.Asked.{Reads, TellsOf, assembly_of, files_in, limit_in, limit_of, proof_in, request_by, run_of, trace_of};
+ghost use Rattle.words.specs.Asked.{AsksFor, TellsOf, assembly_of, files_in, limit_in, limit_of, proof_in, request_by, run_of, trace_of};
 
 use super::command_line::program;
 use clap::ArgMatches;
@@ -158,7 +158,7 @@ fn refusal_of(alloc: Global, error: &clap::Error) -> WordsError
 
 /// What the words ask for. The first one is the program's name.
 pub fn read_words<'a>(alloc: Global, words: &'a [String]) -> Result<Task<'a>, WordsError>
-    ensures { Reads (map string_bytes words.now) result }
+    ensures { AsksFor (map string_bytes words.now) result }
 {
     let matches = match program(alloc)?.try_get_matches_from(words) {
         Ok(matches) => matches,

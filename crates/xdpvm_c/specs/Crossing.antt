@@ -31,7 +31,7 @@ abbrev pub filled : List ℕ → List ℕ → List ℕ
 filled buffer bytes = take (length buffer) bytes ++ drop (length bytes) buffer
 
 -- bytes were written to a buffer so, and this is their count
-pub record Fills (old new : List ℕ) (count : ℕ) (bytes : List ℕ) : Type 0 where
+pub record FillsBuffer (old new : List ℕ) (count : ℕ) (bytes : List ℕ) : Type 0 where
   pub whole : count ≡ length bytes
   pub written : new ≡ filled old bytes
 

@@ -4,18 +4,18 @@ use Rattle.isa_model.specs.declared.frames.FrameHead.{FrameHead}
 use Rattle.isa_model.specs.Machine.States.{Entries}
 use Rattle.isa_model.specs.Reporting.Reports.{starting_contents}
 use Rattle.machine.specs.declared.machines.Exit.{Exit}
-use Rattle.machine.specs.Running.{Running, Answers}
+use Rattle.machine.specs.Running.{Running, AnswersRun}
 use Rattle.machine.specs.Entries.{row_at}
 use Rattle.xdpvm_c.specs.Verdicts.{Accepts}
 
 -- a session is open, and this is so of its machine
-pub record Holds (held : Option Running) (fact : Running → Type 0) : Type 0 where
+pub record HoldsOpen (held : Option Running) (fact : Running → Type 0) : Type 0 where
   pub machine : Running
   pub is : held ≡ Some machine
   pub so : fact machine
 
 -- it is open before and after a call, and this is so of its machine then and now
-pub record Goes (old new : Option Running) (relation : Running → Running → Type 0) : Type 0 where
+pub record StaysOpen (old new : Option Running) (relation : Running → Running → Type 0) : Type 0 where
   pub before : Running
   pub after : Running
   pub was : old ≡ Some before
@@ -23,7 +23,7 @@ pub record Goes (old new : Option Running) (relation : Running → Running → T
   pub so : relation before after
 
 -- the bytes are an accepted image, and the session holds its program, with maps as they start
-pub record Opens (bytes : List ℕ) (held : Option Running) : Type 0 where
+pub record OpensSession (bytes : List ℕ) (held : Option Running) : Type 0 where
   pub bound : ℕ
   pub accepts : Accepts bytes bound
   pub is : held ≡ Some (record { program = accepts.program; bound = bound; contents = starting_contents accepts.program.maps })
@@ -35,7 +35,7 @@ pub record RunsOn (old new : Option Running) (head : FrameHead) (packet : List �
   pub coming : ℕ → ℕ
   pub was : old ≡ Some machine
   pub is : new ≡ Some (record machine { contents = left })
-  pub answers : Answers machine head packet (λ _. head.time) exit after left coming
+  pub answers : AnswersRun machine head packet (λ _. head.time) exit after left coming
 
 -- ---- maps between runs
 

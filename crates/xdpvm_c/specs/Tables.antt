@@ -6,11 +6,11 @@ use Rattle.image.specs.Images.{image_bytes}
 use Rattle.table_entries.specs.declared.faults.TableFault.TheVariants as fault
 use Rattle.rechecking.specs.declared.errors.TableError.{TableError}
 use Rattle.rechecking.specs.declared.errors.TableError.TheVariants.{Flow, Fault, Start, Step, Successor}
-use Rattle.rechecking.specs.Refusing.{IsRefused}
+use Rattle.rechecking.specs.Refusing.{TableIsRefused}
 use Rattle.xdpvm_c.specs.declared.rechecks.Rechecked.{Rechecked}
 use Rattle.image.specs.declared.errors.ImageError.{ImageError}
 use Rattle.image.specs.Refusals.{refusal_of}
-use Rattle.xdpvm_c.specs.Crossing.{Fills}
+use Rattle.xdpvm_c.specs.Crossing.{FillsBuffer}
 use Rattle.xdpvm_c.specs.Texts.{image_text, TellsTable}
 use Rattle.xdpvm_c.specs.Verdicts.{IsNoImage}
 
@@ -43,21 +43,21 @@ is_table_memory (Successor index) = false
 -- the table of a program is refused by a rule, and a buffer says why
 pub record TellsRefusedTable (p : Program) (table old new : List ℕ) (out : Rechecked) : Type 0 where
   pub error : TableError
-  pub refused : IsRefused p table error
+  pub refused : TableIsRefused p table error
   pub not_memory : is_table_memory error ≡ false
   pub told : out ≡ broken error out.said
   pub text : List ℕ
   pub tells : TellsTable p table error text
-  pub fills : Fills old new out.said text
+  pub fills : FillsBuffer old new out.said text
 
 -- the bytes are no image, or the table is refused; and the buffer says that
 abbrev pub RefusesTable : List ℕ → List ℕ → List ℕ → List ℕ → Rechecked → Type 0
 RefusesTable bytes table old new out =
-    ((error : ImageError) × (refusal_of bytes ≡ Some error) × (out ≡ breaks out.said 0 0) × Fills old new out.said (image_text error))
+    ((error : ImageError) × (refusal_of bytes ≡ Some error) × (out ≡ breaks out.said 0 0) × FillsBuffer old new out.said (image_text error))
     ⊎ ((program : Program) × (bytes ≡ image_bytes program) × TellsRefusedTable program table old new out)
 
 -- the same, if nothing is said of it
 abbrev pub IsRefusedTable : List ℕ → List ℕ → Type 0
 IsRefusedTable bytes table =
     IsNoImage bytes
-    ⊎ ((program : Program) × (error : TableError) × (bytes ≡ image_bytes program) × IsRefused program table error × (is_table_memory error ≡ false))
+    ⊎ ((program : Program) × (error : TableError) × (bytes ≡ image_bytes program) × TableIsRefused program table error × (is_table_memory error ≡ false))

@@ -15,8 +15,8 @@ use Rattle.assembler.specs.declared.errors.AsmError.{AsmError}
 use Rattle.assembler.specs.declared.errors.AsmErrorKind.TheVariants as text
 use Rattle.assembler.specs.Assembling.{assembled}
 use Rattle.machine.specs.declared.machines.Exit.{Exit}
-use Rattle.machine.specs.Running.{Answers}
-use Rattle.xdpvm_c.specs.Crossing.{Fills, is_memory}
+use Rattle.machine.specs.Running.{AnswersRun}
+use Rattle.xdpvm_c.specs.Crossing.{FillsBuffer, is_memory}
 use Rattle.xdpvm_c.specs.Texts.{image_text, source_text, TellsProgram}
 
 -- ---- images
@@ -45,12 +45,12 @@ IsRefusedImage bytes = IsNoImage bytes ⊎ ((refusal : Refusal) × (slot : ℕ) 
 abbrev pub TellsRefusal : Program → ℕ → List ℕ → List ℕ → ℕ → Type 0
 TellsRefusal p slot old new said =
     (refusal : Refusal) × IsRefused p refusal slot × (is_memory refusal ≡ false)
-    × ((told : List ℕ) × TellsProgram p refusal slot told × Fills old new said told)
+    × ((told : List ℕ) × TellsProgram p refusal slot told × FillsBuffer old new said told)
 
 -- the bytes are no image, and a buffer says why; or they are one whose program is refused, and the buffer says that
 abbrev pub RefusesImage : List ℕ → ℕ → List ℕ → List ℕ → ℕ → Type 0
 RefusesImage bytes slot old new said =
-    ((error : ImageError) × (refusal_of bytes ≡ Some error) × (slot ≡ 0) × Fills old new said (image_text error))
+    ((error : ImageError) × (refusal_of bytes ≡ Some error) × (slot ≡ 0) × FillsBuffer old new said (image_text error))
     ⊎ ((program : Program) × (bytes ≡ image_bytes program) × TellsRefusal program slot old new said)
 
 -- the bytes are an image, and the limit is one that a search can reach
@@ -61,22 +61,22 @@ IsUndecided bytes limit = (program : Program) × (bytes ≡ image_bytes program)
 
 -- the text spells a program, whose image is written to a buffer
 abbrev pub Assembles : List ℕ → List ℕ → List ℕ → ℕ → Type 0
-Assembles source old new size = (p : Program) × (assembled source ≡ Ok p) × Fills old new size (image_bytes p)
+Assembles source old new size = (p : Program) × (assembled source ≡ Ok p) × FillsBuffer old new size (image_bytes p)
 
 -- it spells none, and a buffer says why, at this line and column
 abbrev pub RefusesText : List ℕ → List ℕ → List ℕ → ℕ → ℕ → ℕ → Type 0
 RefusesText source old new size line column =
     (error : AsmError) × (assembled source ≡ Err error) × (error.kind ≢ text.Memory)
-    × (line ≡ error.line) × (column ≡ error.column) × Fills old new size (source_text error)
+    × (line ≡ error.line) × (column ≡ error.column) × FillsBuffer old new size (source_text error)
 
 -- ---- runs
 
 -- the bytes are an accepted image, and the run of its program on this packet, on maps as they start, has this exit and
 -- leaves this packet
-pub record Runs (bytes : List ℕ) (head : FrameHead) (packet : List ℕ) (exit : Exit) (after : List ℕ) : Type 0 where
+pub record RunsProgram (bytes : List ℕ) (head : FrameHead) (packet : List ℕ) (exit : Exit) (after : List ℕ) : Type 0 where
   pub bound : ℕ
   pub accepts : Accepts bytes bound
   pub left : List Entries
   pub coming : ℕ → ℕ
-  pub answers : Answers (record { program = accepts.program; bound = bound; contents = starting_contents accepts.program.maps })
+  pub answers : AnswersRun (record { program = accepts.program; bound = bound; contents = starting_contents accepts.program.maps })
       head packet (λ _. head.time) exit after left coming

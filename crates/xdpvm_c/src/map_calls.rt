@@ -3,9 +3,9 @@
 ghost use Rattle.std.specs.Prelude.{◌≡◌, ◌≢◌, ◌↔◌, length, true, None, Some};
 ghost use Rattle.std.specs.List.{slice_get};
 ghost use Rattle.isa_model.specs.Machine.MapContents.{at_key};
-ghost use Rattle.machine.specs.Entries.{content_at, ordered_at, Updates, Deletes, Copies};
+ghost use Rattle.machine.specs.Entries.{content_at, ordered_at, Updates, Deletes, CopiesEntry};
 ghost use Rattle.xdpvm_c.specs.Crossing.{IsLookUp, IsChange};
-ghost use Rattle.xdpvm_c.specs.Sessions.{Holds, Goes, FitsKey, FitsMap};
+ghost use Rattle.xdpvm_c.specs.Sessions.{HoldsOpen, StaysOpen, FitsKey, FitsMap};
 
 use crate::sessions::Session;
 use crate::statuses::{ABSENT, OK, WRONG};
@@ -63,11 +63,11 @@ pub extern "C" fn xdpvm_lookup(
     key: &[u8],
     value: &mut [u8],
 ) -> u32
-    ensures found { result ≡ 0 → Holds session.old.held
+    ensures found { result ≡ 0 → HoldsOpen session.old.held
         (λ m. at_key key.now (content_at m map) ≡ Some value.new) }
-    ensures absent { result ≡ 7 → Holds session.old.held
+    ensures absent { result ≡ 7 → HoldsOpen session.old.held
         (λ m. at_key key.now (content_at m map) ≡ None) }
-    ensures fits { (result ≢ 1) ↔ Holds session.old.held
+    ensures fits { (result ≢ 1) ↔ HoldsOpen session.old.held
         (λ m. FitsMap m map (length key.now) (length value.old)) }
     ensures session_kept { session.new.held ≡ session.old.held }
     ensures kept { result ≢ 0 → value.new ≡ value.old }
@@ -93,9 +93,9 @@ pub extern "C" fn xdpvm_update(
     flags: u64,
     out: &mut Changed,
 ) -> u32
-    ensures updated { result ≡ 0 → Goes session.old.held session.new.held
+    ensures updated { result ≡ 0 → StaysOpen session.old.held session.new.held
         (Updates map key.now value.now flags out.new.answer) }
-    ensures fits { (result ≢ 1) ↔ Holds session.old.held
+    ensures fits { (result ≢ 1) ↔ HoldsOpen session.old.held
         (λ m. FitsMap m map (length key.now) (length value.now)) }
     ensures session_kept { result ≢ 0 → session.new.held ≡ session.old.held }
     ensures kept { result ≢ 0 → out.new ≡ out.old }
@@ -124,9 +124,9 @@ pub extern "C" fn xdpvm_delete(
     key: &[u8],
     out: &mut Changed,
 ) -> u32
-    ensures deleted { result ≡ 0 → Goes session.old.held session.new.held
+    ensures deleted { result ≡ 0 → StaysOpen session.old.held session.new.held
         (Deletes map key.now out.new.answer) }
-    ensures fits { (result ≢ 1) ↔ Holds session.old.held (λ m. FitsKey m map (length key.now)) }
+    ensures fits { (result ≢ 1) ↔ HoldsOpen session.old.held (λ m. FitsKey m map (length key.now)) }
     ensures session_kept { result ≢ 0 → session.new.held ≡ session.old.held }
     ensures kept { result ≢ 0 → out.new ≡ out.old }
     ensures status { IsChange result }
@@ -177,11 +177,11 @@ pub extern "C" fn xdpvm_next(
     key: &mut [u8],
     value: &mut [u8],
 ) -> u32
-    ensures copied { result ≡ 0 → Holds session.old.held
+    ensures copied { result ≡ 0 → HoldsOpen session.old.held
         (λ m. slice_get (ordered_at m map) rank ≡ Some (key.new, value.new)) }
-    ensures absent { result ≡ 7 → Holds session.old.held
+    ensures absent { result ≡ 7 → HoldsOpen session.old.held
         (λ m. slice_get (ordered_at m map) rank ≡ None) }
-    ensures fits { (result ≢ 1) ↔ Holds session.old.held
+    ensures fits { (result ≢ 1) ↔ HoldsOpen session.old.held
         (λ m. FitsMap m map (length key.old) (length value.old)) }
     ensures session_kept { session.new.held ≡ session.old.held }
     ensures key_kept { result ≢ 0 → key.new ≡ key.old }

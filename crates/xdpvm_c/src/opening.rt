@@ -6,7 +6,7 @@ ghost use Rattle.isa_model.specs.Reporting.Reports.{starting_contents};
 ghost use Rattle.xdpvm_c.specs.Crossing.{IsStatus, IsChange};
 ghost use Rattle.xdpvm_c.specs.Verdicts.{IsRefusedImage};
 ghost use Rattle.xdpvm_c.specs.Tables.{IsRefusedTable};
-ghost use Rattle.xdpvm_c.specs.Sessions.{Opens, RunsOn};
+ghost use Rattle.xdpvm_c.specs.Sessions.{OpensSession, RunsOn};
 
 use crate::clocks::clock_at;
 use crate::judging::verified_of;
@@ -58,7 +58,7 @@ fn is_open(alloc: Global, session: &mut Session) -> bool
 /// closed before: all zero bytes, or what `xdpvm_close` left.
 #[unsafe(no_mangle)]
 pub extern "C" fn xdpvm_open(alloc: Global, image: &[u8], session: &mut Session) -> u32
-    ensures opened { result ≡ 0 → Opens image.now session.new.held }
+    ensures opened { result ≡ 0 → OpensSession image.now session.new.held }
     ensures wrong { (result ≡ 1) ↔ (session.old.held ≢ None) }
     ensures refused { result ≡ 2 → IsRefusedImage image.now }
     ensures kept { result ≢ 0 → session.new.held ≡ session.old.held }
@@ -82,7 +82,7 @@ pub extern "C" fn xdpvm_open_with_table(
     table: &[u8],
     session: &mut Session,
 ) -> u32
-    ensures opened { result ≡ 0 → Opens image.now session.new.held }
+    ensures opened { result ≡ 0 → OpensSession image.now session.new.held }
     ensures wrong { (result ≡ 1) ↔ (session.old.held ≢ None) }
     ensures refused { result ≡ 2 → IsRefusedTable image.now table.now }
     ensures kept { result ≢ 0 → session.new.held ≡ session.old.held }

@@ -4,7 +4,7 @@ ghost use Rattle.std.specs.Prelude.{◌≡◌, ◌≢◌, ◌<◌, ◌↔◌, le
 ghost use Rattle.isa_model.specs.{max_packet};
 ghost use Rattle.isa_model.specs.Reporting.Reports.{starting_contents};
 ghost use Rattle.xdpvm_c.specs.Crossing.{IsStatus};
-ghost use Rattle.xdpvm_c.specs.Verdicts.{Runs, IsRefusedImage};
+ghost use Rattle.xdpvm_c.specs.Verdicts.{RunsProgram, IsRefusedImage};
 
 use crate::clocks::clock_at;
 use crate::judging::verified_of;
@@ -60,7 +60,7 @@ pub extern "C" fn xdpvm_run_once(
     packet: &mut [u8],
     out: &mut Ended,
 ) -> u32
-    ensures ran { result ≡ 0 → Runs image.now (record {
+    ensures ran { result ≡ 0 → RunsProgram image.now (record {
       time = head.now.time;
       interface = head.now.interface;
       queue = head.now.queue;

@@ -1,23 +1,23 @@
 use Rattle.std.proofs.Common.{refl, sym, ◌∙◌}
 use Rattle.stack_state.specs.Places.{kind_of}
-use Rattle.branch_refine.proofs.Kept.{Keeps-same, Keeps-none, Keeps-compared, Narrows-compared, others_compared, no_number, no_operand, just_number, just_operand}
+use Rattle.branch_refine.proofs.Kept.{KeepsMembers-same, KeepsMembers-none, KeepsMembers-compared, Narrows-compared, others_compared, no_number, no_operand, just_number, just_operand}
 use Rattle.branch_refine.proofs.numbers_outcome.Goals as goal
 
 pub returns-in_default-clause-kept : goal.returns-in_default-clause-kept
-returns-in_default-clause-kept c = Keeps-same c.args.cond c.args.taken c.args.state.now
+returns-in_default-clause-kept c = KeepsMembers-same c.args.cond c.args.taken c.args.state.now
 
 pub returns-in_default-operand_numbers-clause-kept :
     goal.returns-in_default-operand_numbers-clause-kept
-returns-in_default-operand_numbers-clause-kept c = Keeps-same c.args.cond c.args.taken c.args.state.now
+returns-in_default-operand_numbers-clause-kept c = KeepsMembers-same c.args.cond c.args.taken c.args.state.now
 
 pub returns-in_default-narrowed-clause-kept : goal.returns-in_default-narrowed-clause-kept
 returns-in_default-narrowed-clause-kept c =
-    Keeps-none c.args.cond c.args.taken c.args.state.now c.in-Some.left c.in-Some-operand_numbers.right
+    KeepsMembers-none c.args.cond c.args.taken c.args.state.now c.in-Some.left c.in-Some-operand_numbers.right
     c.in-Some.ensures c.in-Some-operand_numbers.ensures (λ x y l r o. c.in_default-narrowed.ensures.none refl x y l r o)
 
 pub returns-clause-kept : goal.returns-clause-kept
 returns-clause-kept c =
-    (Keeps-compared c.args.cond c.args.taken c.args.state.now c.in-Some.left c.in-Some-operand_numbers.right
+    (KeepsMembers-compared c.args.cond c.args.taken c.args.state.now c.in-Some.left c.in-Some-operand_numbers.right
     c.in-Some-narrowed.new_left c.in-Some-narrowed.new_right
     c.in-Some.ensures c.in-Some-operand_numbers.ensures (λ x y l r o. c.in-Some-narrowed.ensures.shows.common x y l r o))
 

@@ -5,18 +5,18 @@ use super::{PASSED, RUN, VERIFY, remove_files, sink, status_with, words_of, writ
 use buffered_io::PromptWriter;
 use commands::execute;
 use exact_io::write_bytes;
+use failing_io::{Failure, FlushedWriter, Writer};
 use std::io::{ErrorKind, Write};
 use std::process::Abort;
 use std::rt::{Clock, Files};
 use std::test::Fail;
-use stumbling_io::{FlushedWriter, Stumble, Writer};
 
 // Why a report in a file breaks off.
 const FULL: &str = "cannot write standard output\nno space is left\n";
 
 // A run whose report goes to a file on a disk, which has room for that many bytes.
 fn fills<R: Files + Clock + AllocGlobal + Abort>(rt: &R, room: usize) -> Result<(), Fail> {
-    let full = Stumble::Error(ErrorKind::StorageFull);
+    let full = Failure::Error(ErrorKind::StorageFull);
     let mut out = Writer::new(rt.alloc(), 4096, room, Some(full));
     let mut err = sink(rt.alloc());
     let status = status_with(rt, RUN, true, &mut out, &mut err)?;
@@ -66,7 +66,7 @@ fn flush_that_fails(rt: HostRuntime) -> Result<(), Fail> {
 #[test]
 fn failure_is_the_last(rt: HostRuntime) -> Result<(), Fail> {
     for count in [1, 2u8] {
-        let broken = Stumble::Error(ErrorKind::BrokenPipe);
+        let broken = Failure::Error(ErrorKind::BrokenPipe);
         let mut writer = Writer::new(rt.alloc(), 16, 2, Some(broken));
         let mut prompt = PromptWriter::new(rt.alloc(), 16, 0, &mut writer)?;
         write_bytes(&mut prompt, b"letters")?;

@@ -2,20 +2,20 @@
 
 use super::tables::{TWO, image, table_with};
 use explorer::verify;
+use failing_io::{Failure, Writer};
 use proof_table::{WriteTableError, recheck, write_table};
 use std::alloc::Global;
 use std::io::{ErrorKind, Write};
 use std::test::Fail;
-use stumbling_io::{Stumble, Writer};
 
 /// How a writer fails, and the cause that is reported.
-const STUMBLES: [(Stumble, ErrorKind); 3] = [
-    (Stumble::Error(ErrorKind::BrokenPipe), ErrorKind::BrokenPipe),
+const FAILURES: [(Failure, ErrorKind); 3] = [
+    (Failure::Error(ErrorKind::BrokenPipe), ErrorKind::BrokenPipe),
     (
-        Stumble::Error(ErrorKind::Interrupted),
+        Failure::Error(ErrorKind::Interrupted),
         ErrorKind::Interrupted,
     ),
-    (Stumble::Nothing, ErrorKind::WriteZero),
+    (Failure::Nothing, ErrorKind::WriteZero),
 ];
 
 /// How many bytes are written before: none, a part of the head, of entry 0, and of entry 1.
@@ -44,9 +44,9 @@ fn writes_a_table(rt: HostRuntime) -> Result<(), Fail> {
 fn stops_where_the_writer_fails(rt: HostRuntime) -> Result<(), Fail> {
     let alloc = rt.alloc();
     let table = table_with(alloc, &TWO)?;
-    for (stumble, kind) in STUMBLES.iter() {
+    for (failing, kind) in FAILURES.iter() {
         for room in ROOMS.iter() {
-            let mut writer = Writer::new(alloc, 7, *room, Some(*stumble));
+            let mut writer = Writer::new(alloc, 7, *room, Some(*failing));
             let answer = write_to(alloc, &mut writer)?;
             assert_eq!(rt; answer, Err(WriteTableError::Writer(*kind)), "after {room}");
             assert_eq!(rt; writer.taken.len(), *room);

@@ -1,6 +1,6 @@
 use Rattle.std.proofs.Common.{◌≡◌, ◌<◌, ℕ, Option, None, length, get_or, sym, subst, arith}
 use Rattle.std.proofs.lemmas.Option.{same_Some}
-use Rattle.control_flow.specs.Sources.{IsLastBelow, JumpsTo}
+use Rattle.control_flow.specs.Sources.{IsLastBelow, HasJump}
 use Rattle.control_flow.proofs.MarkLemmas.{read_at}
 use Rattle.control_flow.proofs.Graphs.{jump_from-inside}
 use Rattle.control_flow.proofs.Chains.{IsLastBelow-left, left_of-smaller, HasFollowed-start, HasFollowed-jumps, HasFollowed-next, HasFollowed-end}
@@ -20,11 +20,11 @@ loop-from-init c =
     let within : c.args.slot < length latest = omega (arith, c.requires.sources.as_many, c.requires.inside) in
     HasFollowed-start nodes c.args.slot c.falling.result c.falling-2.result c.index-from.result.now _ _ _ _ _ _
     c.requires.near c.falling.ensures c.falling-2.ensures c.in_ok-find.ensures c.in_ok-find-2.ensures
-    (subst (IsLastBelow (JumpsTo nodes c.args.slot) (length nodes)) (read_at latest c.args.slot c.index-from.result.now None within c.index-from.ensures)
+    (subst (IsLastBelow (HasJump nodes c.args.slot) (length nodes)) (read_at latest c.args.slot c.index-from.result.now None within c.index-from.ensures)
     (c.requires.sources.last c.args.slot c.requires.inside))
 
 -- the next source is inside the code, and jumps to the slot
-jumps_of : (c : In-Some) → JumpsTo c.args.nodes.now c.args.slot c.in-Some.source
+jumps_of : (c : In-Some) → HasJump c.args.nodes.now c.args.slot c.in-Some.source
 jumps_of c = HasFollowed-jumps c.args.nodes.now c.args.slot c.in-Some.source c.loop-from.from _ _ _ _ c.in-Some.is c.loop-from.invariant
 
 inside_of : (c : In-Some) → c.in-Some.source < length c.args.nodes.now
@@ -43,12 +43,12 @@ index-from-requires-in-Some c =
 
 -- what was read there is the last source below it
 last_of : (c : In-Some) (before : Option ℕ) → before ≡ get_or c.args.sources.now.before.items c.in-Some.source before
-    → IsLastBelow (JumpsTo c.args.nodes.now c.args.slot) c.in-Some.source before
+    → IsLastBelow (HasJump c.args.nodes.now c.args.slot) c.in-Some.source before
 last_of c before read =
     let earlier = c.args.sources.now.before.items in
     let source = c.in-Some.source in
     let within : source < length earlier = omega (arith, inside_of c, c.requires.sources.as_many_earlier) in
-    subst (IsLastBelow (JumpsTo c.args.nodes.now c.args.slot) source) (read_at earlier source before None within read)
+    subst (IsLastBelow (HasJump c.args.nodes.now c.args.slot) source) (read_at earlier source before None within read)
     (c.requires.sources.before source c.args.slot (jumps_of c))
 
 pub loop-from-preserved : goal.loop-from-preserved
@@ -59,7 +59,7 @@ loop-from-preserved c =
 pub loop-from-smaller : goal.loop-from-smaller
 loop-from-smaller c =
     left_of-smaller c.index-from-in-Some.result.now c.loop-from.from c.in-Some.source c.in-Some.is
-    (IsLastBelow-left (JumpsTo c.args.nodes.now c.args.slot) c.in-Some.source c.index-from-in-Some.result.now
+    (IsLastBelow-left (HasJump c.args.nodes.now c.args.slot) c.in-Some.source c.index-from-in-Some.result.now
     (last_of (goal.at.loop-from-smaller c).In-Some c.index-from-in-Some.result.now c.index-from-in-Some.ensures))
 
 pub returns : goal.returns

@@ -1,12 +1,12 @@
 use Rattle.std.proofs.Common.{◌≡◌, length, arith}
-use Rattle.control_flow.specs.Graph.{Leads, Reached}
+use Rattle.control_flow.specs.Graph.{HasEdge, Reached}
 use Rattle.control_flow.proofs.Search.{IsSearch-inside, IsReaching-start, IsReaching-next, IsReaching-end}
 use Rattle.control_flow.proofs.reachability.reached.Goals as goal
 
 pub go_on-requires-clause-inside : goal.go_on-requires-clause-inside
 go_on-requires-clause-inside c =
     let p = c.args.image.now in
-    IsSearch-inside (Reached p) (Leads p) (length p.insns) c.in-Some.slot c.loop-slot.search.found.items c.loop-slot.search.frontier.items c.pop.new.self.items c.in-Some.ensures.items c.loop-slot.invariant.search
+    IsSearch-inside (Reached p) (HasEdge p) (length p.insns) c.in-Some.slot c.loop-slot.search.found.items c.loop-slot.search.frontier.items c.pop.new.self.items c.in-Some.ensures.items c.loop-slot.invariant.search
 
 pub loop-slot-init : goal.loop-slot-init
 loop-slot-init c =

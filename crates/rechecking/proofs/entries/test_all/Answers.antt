@@ -4,7 +4,7 @@ use Rattle.std.proofs.lemmas.Result.{err_from_is_err_and}
 use Rattle.table_entries.specs.Tables.{entry_at, count_of}
 use Rattle.table_entries.proofs.GrowingLaws.{Grows-same, Grows-then, Grows-count, MayGrow-more, AllThere-more}
 use Rattle.rechecking.proofs.CheckingLaws.{fine_next}
-use Rattle.rechecking.proofs.GrowingLaws.{IsKnown-grows, fine_grows}
+use Rattle.rechecking.proofs.GrowingLaws.{IsKnownEntry-grows, fine_grows}
 use Rattle.rechecking.proofs.entries.test_all.Goals as goal
 
 pub loop-index-init : goal.loop-index-init
@@ -46,7 +46,7 @@ test_entry-requires-clause-there c =
 
 pub test_entry-requires-clause-known : goal.test_entry-requires-clause-known
 test_entry-requires-clause-known c =
-    IsKnown-grows c.args.image.now c.loop-index.growing c.reach.new.self c.loop-index.state c.loop-index.room c.loop-index.known c.reach.ensures.grows
+    IsKnownEntry-grows c.args.image.now c.loop-index.growing c.reach.new.self c.loop-index.state c.loop-index.room c.loop-index.known c.reach.ensures.grows
     c.loop-index.invariant.stands
 
 pub loop-index-preserved : goal.loop-index-preserved

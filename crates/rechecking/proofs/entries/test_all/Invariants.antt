@@ -2,7 +2,7 @@ use Rattle.std.proofs.Common.{◌≤◌}
 use Rattle.table_entries.specs.Tables.{entry_at, count_of}
 use Rattle.table_entries.specs.Growing.{Grows}
 use Rattle.rechecking.specs.Checking.{AllFineBefore}
-use Rattle.rechecking.specs.Standing.{IsKnown}
+use Rattle.rechecking.specs.Standing.{IsKnownEntry}
 use Rattle.rechecking.proofs.entries.test_all.Given as goal
 
 -- the entries before it are placed and closed, and the known entry's state is in its room
@@ -11,5 +11,5 @@ invariant-loop-index l = record {
   grows : Grows l.image l.fn.growing l.growing;
   placed : l.index ≤ count_of l.growing.table;
   before : AllFineBefore l.image (entry_at l.image l.growing.table) l.index;
-  stands : IsKnown l.image (entry_at l.image l.growing.table) l.state l.room l.known;
+  stands : IsKnownEntry l.image (entry_at l.image l.growing.table) l.state l.room l.known;
 }

@@ -2,7 +2,7 @@ use Rattle.std.proofs.Common.{◌≡◌, inl, inr, refl, subst, ◌∙◌, arith
 use Rattle.std.proofs.lemmas.Bool.{cases_lt}
 use Rattle.table_entries.specs.Tables.{count_of}
 use Rattle.table_entries.proofs.GrowingLaws.{AllThere-begun, no_entry_past, whole_read}
-use Rattle.rechecking.specs.Refusing.{Shows}
+use Rattle.rechecking.specs.Refusing.{ShowsBound}
 use Rattle.rechecking.proofs.GrowingLaws.{HasStart-grows}
 use Rattle.rechecking.proofs.RefusalLaws.{shows_of}
 use Rattle.rechecking.proofs.rechecks.quick_bound.Goals as goal
@@ -25,7 +25,7 @@ returns-then-is_whole c =
     let bytes : h.table.bytes ≡ c.args.bytes.now = c.test_all.ensures.grows.bytes ∙ c.reach.ensures.grows.bytes ∙ c.in_ok-growing.ensures.bytes in
     let start = HasStart-grows p g h c.in_ok-number.number c.test_all.ensures.grows (rw c.placed.ensures at (c.in_ok-number.ensures.some c.in_ok-number.number refl)) in
     let all = c.in-Ok-true.ensures.fine (rw c.in-Ok-true.field-0-test refl) in
-    subst (λ b. Shows p b c.in_ok-number.number) bytes
+    subst (λ b. ShowsBound p b c.in_ok-number.number) bytes
     (shows_of p h.table.bytes h.table read.0 c.in_ok-number.number read.1 read.2 start
     (λ k e there. elim (cases_lt k (count_of h.table)) [
       | inl inside ↦ let same = whole.0 in all k e (omega arith) there

@@ -3,7 +3,7 @@ use Rattle.table_entries.specs.Entries.{Entry}
 use Rattle.std.proofs.lemmas.Bool.{cases_lt}
 use Rattle.table_entries.specs.Tables.{entry_at, count_of}
 use Rattle.table_entries.proofs.GrowingLaws.{entry_at-whole, no_entry_past}
-use Rattle.rechecking.specs.Tables.{EntryAt, IsFine}
+use Rattle.rechecking.specs.Tables.{EntryAt, IsClosedEntry}
 use Rattle.rechecking.specs.Checking.{IsFirstFault}
 use Rattle.rechecking.proofs.RefusalLaws.{shows_of, refused_entry}
 use Rattle.rechecking.proofs.rechecks.slow_bound.Goals as goal
@@ -17,7 +17,7 @@ returns-in-Ok-true-clause-shown c =
     let made = c.of-growing.ensures in
     let count = c.test_all.ensures.grows.count in
     let same : entry_at p h.table ≡ entry_at p t = rw made at (entry_at-whole p c.of-growing.result h c.test_all.ensures.grows (rw made (omega arith))) in
-    let all = subst (λ (u : EntryAt). (k : ℕ) (e : Entry) → k < h.count → u k ≡ Some e → IsFine p u e) same (λ k e less there. c.in-Ok-true.ensures.fine (rw c.in-Ok-true.field-0-test refl) k e less there) in
+    let all = subst (λ (u : EntryAt). (k : ℕ) (e : Entry) → k < h.count → u k ≡ Some e → IsClosedEntry p u e) same (λ k e less there. c.in-Ok-true.ensures.fine (rw c.in-Ok-true.field-0-test refl) k e less there) in
     shows_of p c.args.bytes.now t found.0 c.in-Some.number found.1 found.2 (c.in-Some.ensures.some c.in-Some.number refl)
     (λ k e there. elim (cases_lt k (count_of t)) [
       | inl inside ↦ all k e (rw (count, made) inside) there

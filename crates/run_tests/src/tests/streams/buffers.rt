@@ -2,9 +2,9 @@
 
 use buffered_io::PromptWriter;
 use exact_io::write_bytes;
+use failing_io::{FAILURES, Writer};
 use std::io::Write;
 use std::test::Fail;
-use stumbling_io::{STUMBLES, Writer};
 
 const TEXT: &[u8; 7] = b"letters";
 
@@ -33,8 +33,8 @@ fn waits(rt: HostRuntime) -> Result<(), Fail> {
 #[test]
 fn fails(rt: HostRuntime) -> Result<(), Fail> {
     for room in 0..7usize {
-        for stumble in STUMBLES {
-            let mut writer = Writer::new(rt.alloc(), 7, room, Some(stumble));
+        for failing in FAILURES {
+            let mut writer = Writer::new(rt.alloc(), 7, room, Some(failing));
             let mut prompt = PromptWriter::new(rt.alloc(), 16, 3, &mut writer)?;
             let written = write_bytes(&mut prompt, TEXT);
             assert_eq!(rt; written.is_ok(), room >= 3, "after {room}");

@@ -3,10 +3,10 @@
 use super::streams::{MAGIC, make_writer};
 use crate::tests::programs::image_of;
 use explorer::verify;
+use failing_io::{FAILURES, Failure};
 use host::{HostError, run};
 use std::process::Abort;
 use std::test::Fail;
-use stumbling_io::{STUMBLES, Stumble};
 
 // The magic and an empty record.
 const ONE: &[u8] = b"XPF1\0\0\0\0\0\0\0\0\0\0\0\0\0\0\0\0\0\0\0\0";
@@ -17,8 +17,8 @@ const LINES: &[u8] = b"0 PASS 0 2\nend 1\n";
 // failed, and what both have.
 #[derive(Drop)]
 struct Case<'a> {
-    report: (usize, Option<Stumble>),
-    out: (usize, Option<Stumble>),
+    report: (usize, Option<Failure>),
+    out: (usize, Option<Failure>),
     error: HostError,
     lines: &'a [u8],
     sent: &'a [u8],
@@ -38,10 +38,10 @@ fn fails_so(rt: &(impl AllocGlobal + Abort), case: &Case<'_>) -> Result<(), Fail
 
 #[test]
 fn accepted_report_fails(rt: HostRuntime) -> Result<(), Fail> {
-    for stumble in STUMBLES.iter() {
+    for failing in FAILURES.iter() {
         for room in 0..17usize {
             let case = Case {
-                report: (room, Some(*stumble)),
+                report: (room, Some(*failing)),
                 out: (0, None),
                 error: HostError::Report,
                 lines: &LINES[..room],
@@ -55,11 +55,11 @@ fn accepted_report_fails(rt: HostRuntime) -> Result<(), Fail> {
 
 #[test]
 fn accepted_frames_fail(rt: HostRuntime) -> Result<(), Fail> {
-    for stumble in STUMBLES.iter() {
+    for failing in FAILURES.iter() {
         for room in 0..24usize {
             let case = Case {
                 report: (0, None),
-                out: (room, Some(*stumble)),
+                out: (room, Some(*failing)),
                 error: HostError::Frames,
                 lines: if room < 4 { b"" } else { b"0 PASS 0 2\n" },
                 sent: &ONE[..room],

@@ -1,10 +1,10 @@
 //! Reports of maps, after the frames.
 
 use super::streams::{COUNTS, MAGIC, TWO, checked, make_writer, verified};
+use failing_io::Failure;
 use host::{HostError, Tally};
 use std::process::Abort;
 use std::test::Fail;
-use stumbling_io::Stumble;
 
 // What two frames leave: a trap takes nothing back, and the second frame finds what the first left.
 const COUNTED: &[u8] = b"0 TRAP access 0 24\n1 TRAP access 0 24\nmap 0 10 0102\nmap 0 fe 0102\n\
@@ -16,7 +16,7 @@ map 1 00000000 0200000000000000\nend 2\n";
 fn maps_are_reported(rt: HostRuntime) -> Result<(), Fail> {
     let alloc = rt.alloc();
     for k in 0..=COUNTED.len() {
-        let mut report = make_writer(alloc, k, Some(Stumble::Nothing));
+        let mut report = make_writer(alloc, k, Some(Failure::Nothing));
         let mut out = make_writer(alloc, 0, None);
         let result = checked(alloc, COUNTS, 100, TWO.as_slice(), &mut report, &mut out)?;
         let tally = Tally {

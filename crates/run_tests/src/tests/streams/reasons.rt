@@ -4,12 +4,12 @@
 use super::streams::{Case, ENDLESS, broken, checked, ends_so, make_writer};
 use crate::tests::programs::image_of;
 use explorer::verify;
+use failing_io::FAILURES;
 use host::{HostError, Tally, run};
 use isa_model::Fault;
 use std::alloc::Global;
 use std::process::Abort;
 use std::test::Fail;
-use stumbling_io::STUMBLES;
 
 // The numbers of each frame's head: time 9, interface 2 and queue 7.
 const HEAD: &[u8; 16] = b"\x09\0\0\0\0\0\0\0\x02\0\0\0\x07\0\0\0";
@@ -269,10 +269,10 @@ fn lines_before(room: usize) -> &'static [u8] {
 
 #[test]
 fn outputs_fail(rt: HostRuntime) -> Result<(), Fail> {
-    for stumble in STUMBLES.iter() {
+    for failing in FAILURES.iter() {
         for room in 0..32usize {
             let case = Case {
-                report: (room, Some(*stumble)),
+                report: (room, Some(*failing)),
                 out: ENDLESS,
                 answer: Err(HostError::Report),
                 lines: &LINES[..room],
@@ -283,7 +283,7 @@ fn outputs_fail(rt: HostRuntime) -> Result<(), Fail> {
         for room in 0..52usize {
             let case = Case {
                 report: ENDLESS,
-                out: (room, Some(*stumble)),
+                out: (room, Some(*failing)),
                 answer: Err(HostError::Frames),
                 lines: lines_before(room),
                 sent: &TWO[..room],
@@ -352,7 +352,7 @@ fn magics(rt: HostRuntime) -> Result<(), Fail> {
         for room in 0..4usize {
             let failed = Case {
                 report: ENDLESS,
-                out: (room, Some(STUMBLES[0])),
+                out: (room, Some(FAILURES[0])),
                 answer: Err(HostError::Frames),
                 lines: b"",
                 sent: sent.get(..room).unwrap_or(b""),

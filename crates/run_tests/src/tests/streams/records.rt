@@ -1,12 +1,12 @@
 //! Streams that are cut, damaged or broken, from readers and to writers that fail at each byte.
 
+use failing_io::{FAILURES, Failure, Reader, Writer};
 use frames::{FrameReader, Next, write_frame};
 use isa_model::{Fault, FrameHead};
 use std::alloc::Global;
 use std::io::{ErrorKind, Read};
 use std::process::Abort;
 use std::test::Fail;
-use stumbling_io::{Reader, STUMBLES, Stumble, Writer};
 
 // The magic and two empty records.
 const TWO: [u8; 44] = [
@@ -41,12 +41,12 @@ fn stop_of<R: Read + Drop>(source: R) -> (u32, Next, Next) {
 }
 
 // A reader of some bytes that fails after some of them.
-fn reader(left: &[u8], step: usize, room: usize, stumble: Option<Stumble>) -> Reader<'_> {
+fn reader(left: &[u8], step: usize, room: usize, failing: Option<Failure>) -> Reader<'_> {
     Reader {
         left,
         step,
         room,
-        stumble,
+        failing,
     }
 }
 
@@ -97,9 +97,9 @@ fn stop_of_failure(length: usize) -> (u32, Next) {
 }
 
 // The failures that are errors.
-const ERRORS: [Stumble; 2] = [
-    Stumble::Error(ErrorKind::BrokenPipe),
-    Stumble::Error(ErrorKind::Interrupted),
+const ERRORS: [Failure; 2] = [
+    Failure::Error(ErrorKind::BrokenPipe),
+    Failure::Error(ErrorKind::Interrupted),
 ];
 
 #[test]
@@ -252,18 +252,13 @@ fn failure_of_writing(writer: &mut Writer) -> Option<ErrorKind> {
     }
 }
 
-fn stumbles_in_writing(
-    rt: &(impl AllocGlobal + Abort),
-    step: usize,
-    room: usize,
-    stumble: Stumble,
-) {
-    let told = match stumble {
-        Stumble::Error(kind) => kind,
-        Stumble::Nothing => ErrorKind::WriteZero,
+fn fails_in_writing(rt: &(impl AllocGlobal + Abort), step: usize, room: usize, failing: Failure) {
+    let told = match failing {
+        Failure::Error(kind) => kind,
+        Failure::Nothing => ErrorKind::WriteZero,
     };
     let wanted = if room < 25 { Some(told) } else { None };
-    let mut writer = Writer::new(rt.alloc(), step, room, Some(stumble));
+    let mut writer = Writer::new(rt.alloc(), step, room, Some(failing));
     assert_eq!(rt; failure_of_writing(&mut writer), wanted, "{room} bytes");
     assert_eq!(rt;
         Some(writer.taken.as_slice()),
@@ -274,10 +269,10 @@ fn stumbles_in_writing(
 
 #[test]
 fn failing_writes(rt: HostRuntime) {
-    for stumble in STUMBLES.iter() {
+    for failing in FAILURES.iter() {
         for step in [1, 7, 25usize] {
             for room in 0..26usize {
-                stumbles_in_writing(&rt, step, room, *stumble);
+                fails_in_writing(&rt, step, room, *failing);
             }
         }
     }

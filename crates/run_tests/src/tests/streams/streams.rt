@@ -2,13 +2,13 @@
 
 use crate::tests::programs::image_of;
 use explorer::verify;
+use failing_io::{FAILURES, Failure, Reader, Writer};
 use host::{HostError, Tally, run, run_checked, tally_in};
 use isa_model::Fault;
 use std::alloc::Global;
 use std::io::{ErrorKind, Read};
 use std::process::Abort;
 use std::test::Fail;
-use stumbling_io::{Reader, STUMBLES, Stumble, Writer};
 
 // Passes each frame.
 const PASSES: &str = "r0 = 2; exit";
@@ -34,8 +34,8 @@ const TURNS: &str = "
     drop: r0 = 1; exit";
 
 // A writer that takes at most 5 bytes at a call.
-pub(super) fn make_writer(alloc: Global, room: usize, stumble: Option<Stumble>) -> Writer {
-    Writer::new(alloc, 5, room, stumble)
+pub(super) fn make_writer(alloc: Global, room: usize, failing: Option<Failure>) -> Writer {
+    Writer::new(alloc, 5, room, failing)
 }
 
 // Gives at most 3 bytes at a call, and an error after the last.
@@ -44,7 +44,7 @@ pub(super) fn broken(left: &[u8]) -> Reader<'_> {
         left,
         step: 3,
         room: left.len(),
-        stumble: Some(Stumble::Error(ErrorKind::BrokenPipe)),
+        failing: Some(Failure::Error(ErrorKind::BrokenPipe)),
     }
 }
 
@@ -81,8 +81,8 @@ pub(super) fn checked<R: Read + Drop>(
 // what it has written.
 #[derive(Drop)]
 pub(super) struct Case<'a> {
-    pub report: (usize, Option<Stumble>),
-    pub out: (usize, Option<Stumble>),
+    pub report: (usize, Option<Failure>),
+    pub out: (usize, Option<Failure>),
     pub answer: Result<Tally, HostError>,
     pub lines: &'a [u8],
     pub sent: &'a [u8],
@@ -105,14 +105,14 @@ pub(super) fn ends_so<R: Read + Drop>(
 
 const LINES: &[u8] = b"0 PASS 0 2\nend 1\n";
 
-pub(super) const ENDLESS: (usize, Option<Stumble>) = (0, None);
+pub(super) const ENDLESS: (usize, Option<Failure>) = (0, None);
 
 #[test]
 fn report_fails(rt: HostRuntime) -> Result<(), Fail> {
-    for stumble in STUMBLES.iter() {
+    for failing in FAILURES.iter() {
         for room in 0..17usize {
             let case = Case {
-                report: (room, Some(*stumble)),
+                report: (room, Some(*failing)),
                 out: ENDLESS,
                 answer: Err(HostError::Report),
                 lines: &LINES[..room],
@@ -126,11 +126,11 @@ fn report_fails(rt: HostRuntime) -> Result<(), Fail> {
 
 #[test]
 fn frames_fail(rt: HostRuntime) -> Result<(), Fail> {
-    for stumble in STUMBLES.iter() {
+    for failing in FAILURES.iter() {
         for room in 0..24usize {
             let case = Case {
                 report: ENDLESS,
-                out: (room, Some(*stumble)),
+                out: (room, Some(*failing)),
                 answer: Err(HostError::Frames),
                 lines: if room < 4 { b"" } else { b"0 PASS 0 2\n" },
                 sent: &ONE[..room],
@@ -361,7 +361,7 @@ const VERIFIED: [(usize, Result<u32, HostError>, &[u8], &[u8]); 2] = [
 #[test]
 fn verified_programs_run(rt: HostRuntime) -> Result<(), Fail> {
     for (room, wanted, lines, sent) in VERIFIED.iter() {
-        let mut report = make_writer(rt.alloc(), *room, Some(Stumble::Nothing));
+        let mut report = make_writer(rt.alloc(), *room, Some(Failure::Nothing));
         let mut out = make_writer(rt.alloc(), 0, None);
         let result = verified(rt.alloc(), PASSES, &mut report, &mut out)?;
         let tally = wanted.map(|frames| Tally {

@@ -1,9 +1,9 @@
 //! Reads and writes in pieces of each size that fail at each byte.
 
 use exact_io::{Filled, fill, write_bytes};
+use failing_io::{FAILURES, Failure, Reader, Writer};
 use std::io::ErrorKind;
 use std::process::Abort;
-use stumbling_io::{Reader, STUMBLES, Stumble, Writer};
 
 const TEXT: &[u8; 7] = b"letters";
 
@@ -19,23 +19,18 @@ fn failure_of_writing(writer: &mut Writer, bytes: &[u8]) -> Option<ErrorKind> {
 }
 
 /// How a failure after some of the bytes is reported.
-fn told(stumble: Stumble) -> ErrorKind {
-    match stumble {
-        Stumble::Error(kind) => kind,
-        Stumble::Nothing => ErrorKind::WriteZero,
+fn told(failing: Failure) -> ErrorKind {
+    match failing {
+        Failure::Error(kind) => kind,
+        Failure::Nothing => ErrorKind::WriteZero,
     }
 }
 
-fn stumbles_in_writing(
-    rt: &(impl AllocGlobal + Abort),
-    step: usize,
-    room: usize,
-    stumble: Stumble,
-) {
-    let mut writer = Writer::new(rt.alloc(), step, room, Some(stumble));
+fn fails_in_writing(rt: &(impl AllocGlobal + Abort), step: usize, room: usize, failing: Failure) {
+    let mut writer = Writer::new(rt.alloc(), step, room, Some(failing));
     let failure = failure_of_writing(&mut writer, TEXT);
     let wanted = if room < TEXT.len() {
-        Some(told(stumble))
+        Some(told(failing))
     } else {
         None
     };
@@ -47,8 +42,8 @@ fn stumbles_in_writing(
 fn writes(rt: HostRuntime) {
     for step in STEPS.iter() {
         for room in 0..8usize {
-            for stumble in STUMBLES.iter() {
-                stumbles_in_writing(&rt, *step, room, *stumble);
+            for failing in FAILURES.iter() {
+                fails_in_writing(&rt, *step, room, *failing);
             }
         }
     }
@@ -58,18 +53,18 @@ fn filled(reader: &mut Reader<'_>, buffer: &mut [u8]) -> Filled {
     fill(reader, buffer)
 }
 
-fn stumbles_in_filling(rt: &impl Abort, step: usize, room: usize, stumble: Stumble) {
+fn fails_in_filling(rt: &impl Abort, step: usize, room: usize, failing: Failure) {
     let mut reader = Reader {
         left: TEXT.as_slice(),
         step,
         room,
-        stumble: Some(stumble),
+        failing: Some(failing),
     };
     let mut buffer = [0; 5];
-    let wanted = match (room, stumble) {
+    let wanted = match (room, failing) {
         (5, _) => Filled::Whole,
-        (_, Stumble::Error(_)) => Filled::Failed(room),
-        (_, Stumble::Nothing) => Filled::Ended(room),
+        (_, Failure::Error(_)) => Filled::Failed(room),
+        (_, Failure::Nothing) => Filled::Ended(room),
     };
     assert_eq!(rt; filled(&mut reader, &mut buffer), wanted);
     assert_eq!(rt; buffer.get(..room), TEXT.get(..room));
@@ -80,8 +75,8 @@ fn stumbles_in_filling(rt: &impl Abort, step: usize, room: usize, stumble: Stumb
 fn fills(rt: HostRuntime) {
     for step in STEPS.iter() {
         for room in 0..6usize {
-            for stumble in STUMBLES.iter() {
-                stumbles_in_filling(&rt, *step, room, *stumble);
+            for failing in FAILURES.iter() {
+                fails_in_filling(&rt, *step, room, *failing);
             }
         }
     }

@@ -4,13 +4,13 @@ use Rattle.std.proofs.lemmas.Int.{to_z-of_z}
 use Rattle.reg_state.specs.declared.kinds.Kind.{Kind}
 use Rattle.stack_state.specs.declared.states.State.{State}
 use Rattle.transfer.specs.declared.packets.PacketPointer.{PacketPointer}
-use Rattle.transfer.specs.Packets.{lowest, highest, least_part, greatest_part, AreOffsets, AreParts, HaveRoom, StaysProved, IsFreshPointer, IsMovedBetween}
+use Rattle.transfer.specs.Packets.{lowest, highest, least_part, greatest_part, AreOffsets, AreOffsetParts, OffsetsHaveRoom, StaysProved, IsFreshPointer, IsMovedBetween}
 use Rattle.transfer.proofs.packets.moved_between.Goals as goal
 
 -- the fixed part stays
 variable : (a : State) (back : Bool) (p : PacketPointer) (near far from to least greatest : ℤ) (proved : ℕ) (k : Kind)
     → (from ≡ lowest back p near far) × (to ≡ highest back p near far) × AreOffsets (lowest back p near far) (highest back p near far)
-    → AreParts (from -ℤ p.fixed) (to -ℤ p.fixed) (Some (least, greatest)) → StaysProved p.proved (greatest -ℤ p.greatest) proved
+    → AreOffsetParts (from -ℤ p.fixed) (to -ℤ p.fixed) (Some (least, greatest)) → StaysProved p.proved (greatest -ℤ p.greatest) proved
     → IsFreshPointer a p.fixed least greatest proved k → IsMovedBetween a back p near far k
 variable a back p near far from to least greatest proved k offsets parts stays fresh =
     let first : from -ℤ p.fixed ≡ least_part back p near far = ap (λ z. z -ℤ p.fixed) offsets.0 in
@@ -20,7 +20,7 @@ variable a back p near far from to least greatest proved k offsets parts stays f
     record {
       within = offsets.2;
       pointer = inl (record {
-        room = subst (λ z. HaveRoom z (greatest_part back p near far)) first (subst (HaveRoom (from -ℤ p.fixed)) last parts.2);
+        room = subst (λ z. OffsetsHaveRoom z (greatest_part back p near far)) first (subst (OffsetsHaveRoom (from -ℤ p.fixed)) last parts.2);
         proved = proved;
         stays = subst (λ z. StaysProved p.proved (z -ℤ p.greatest) proved) high stays;
         pointer = subst (λ z. IsFreshPointer a p.fixed z (greatest_part back p near far) proved k) low
@@ -31,14 +31,14 @@ variable a back p near far from to least greatest proved k offsets parts stays f
 -- there is no room for that
 whole : (a : State) (back : Bool) (p : PacketPointer) (near far from to : ℤ) (k : Kind)
     → (from ≡ lowest back p near far) × (to ≡ highest back p near far) × AreOffsets (lowest back p near far) (highest back p near far)
-    → AreParts (from -ℤ p.fixed) (to -ℤ p.fixed) None → IsFreshPointer a (pos 0) from to 0 k → IsMovedBetween a back p near far k
+    → AreOffsetParts (from -ℤ p.fixed) (to -ℤ p.fixed) None → IsFreshPointer a (pos 0) from to 0 k → IsMovedBetween a back p near far k
 whole a back p near far from to k offsets none fresh =
     let first : from -ℤ p.fixed ≡ least_part back p near far = ap (λ z. z -ℤ p.fixed) offsets.0 in
     let last : to -ℤ p.fixed ≡ greatest_part back p near far = ap (λ z. z -ℤ p.fixed) offsets.1 in
     record {
       within = offsets.2;
       pointer = inr (
-        λ room. none (subst (λ z. HaveRoom z (to -ℤ p.fixed)) (sym first) (subst (HaveRoom (least_part back p near far)) (sym last) room)),
+        λ room. none (subst (λ z. OffsetsHaveRoom z (to -ℤ p.fixed)) (sym first) (subst (OffsetsHaveRoom (least_part back p near far)) (sym last) room)),
         subst (λ z. IsFreshPointer a (pos 0) z (highest back p near far) 0 k) offsets.0
             (subst (λ z. IsFreshPointer a (pos 0) from z 0 k) offsets.1 fresh),
       );

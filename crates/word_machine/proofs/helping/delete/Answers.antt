@@ -2,7 +2,7 @@ use Rattle.std.proofs.Common.{◌∙◌, ℕ, List, ap, subst, take}
 use Rattle.isa_model.specs.declared.map_defs.MapDef.{MapDef}
 use Rattle.maps.specs.Maps.{map_at, Deleted}
 use Rattle.helpers.specs.declared.calls.Answer.{Answer}
-use Rattle.helpers.specs.Calls.{IsNumber}
+use Rattle.helpers.specs.Calls.{IsNumberAnswer}
 use Rattle.word_machine.specs.Machine.{words_of}
 use Rattle.word_machine.proofs.Arguments.{key_copied, deletes}
 use Rattle.word_machine.proofs.helping.delete.Goals as goal
@@ -17,6 +17,6 @@ returns-clause-deletes g c =
     let given : List ℕ = take c.from-size.result c.copy.new.to in
     let answer = c.call-answer.ensures.answer in
     let Is : Answer → Type 0 =
-    λ a. IsNumber a (λ n. Deleted given n (map_at c.args.memory.now.maps m) (map_at c.call-answer.new.maps m)) in
+    λ a. IsNumberAnswer a (λ n. Deleted given n (map_at c.args.memory.now.maps m) (map_at c.call-answer.new.maps m)) in
     deletes w m same c.call-answer.new.maps c.count-count.ensures.maps c.requires.map answer.1
     _ c.number.result key (subst Is c.number.ensures answer.0)

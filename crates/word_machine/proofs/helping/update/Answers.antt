@@ -2,7 +2,7 @@ use Rattle.std.proofs.Common.{◌≡◌, ◌∙◌, ℕ, List, ap, sym, subst, t
 use Rattle.isa_model.specs.declared.map_defs.MapDef.{MapDef}
 use Rattle.maps.specs.Maps.{map_at, Updated}
 use Rattle.helpers.specs.declared.calls.Answer.{Answer}
-use Rattle.helpers.specs.Calls.{IsNumber}
+use Rattle.helpers.specs.Calls.{IsNumberAnswer}
 use Rattle.isa_model.specs.declared.registers.Reg.TheVariants.{R4}
 use Rattle.word_machine.specs.Words.{word_at}
 use Rattle.word_machine.specs.Machine.{words_of}
@@ -22,6 +22,6 @@ returns-clause-updates g c =
     let given : List ℕ = take c.from-size.result c.copy.new.to in
     let answer = c.call-answer.ensures.answer in
     let Is : Answer → Type 0 =
-    λ a. IsNumber a (λ n. Updated given c.front-value.result.now (word_at w R4) n (map_at c.args.memory.now.maps m) (map_at c.call-answer.new.maps m)) in
+    λ a. IsNumberAnswer a (λ n. Updated given c.front-value.result.now (word_at w R4) n (map_at c.args.memory.now.maps m) (map_at c.call-answer.new.maps m)) in
     updates w m same c.call-answer.new.maps c.count-count.ensures.maps c.requires.key.map answer.1
     _ c.front-value.result.now c.number.result key value (subst Is c.number.ensures answer.0)

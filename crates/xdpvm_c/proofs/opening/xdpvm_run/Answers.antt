@@ -1,6 +1,6 @@
 use Rattle.std.proofs.Common.{◌∙◌, ℕ, Some, sym, ap, subst}
 use Rattle.isa_model.specs.declared.frames.FrameHead.{FrameHead}
-use Rattle.machine.specs.Running.{Running, Answers}
+use Rattle.machine.specs.Running.{Running, AnswersRun}
 use Rattle.xdpvm_c.proofs.opening.xdpvm_run.Goals as goal
 
 pub returns-clause-ran : goal.returns-clause-ran
@@ -14,6 +14,6 @@ returns-clause-ran c = λ _.
       coming = λ _. c.run-exit.new.clock.time;
       was = sym c.in-Some.ensures.machine ∙ ap (λ (r : Running). Some r) (sym c.deref_mut.ensures.value);
       is = c.put.ensures ∙ (λ i. Some (record { program = c.run-exit.ensures.program i; bound = c.run-exit.ensures.bound i; contents = left }));
-      answers = subst (λ (t : ℕ). Answers machine head c.args.packet.now (λ _. t) c.run-exit.result c.run-exit.new.packet left (λ _. c.run-exit.new.clock.time))
+      answers = subst (λ (t : ℕ). AnswersRun machine head c.args.packet.now (λ _. t) c.run-exit.result c.run-exit.new.packet left (λ _. c.run-exit.new.clock.time))
           c.clock_at-clock.ensures c.run-exit.ensures.answers;
     }

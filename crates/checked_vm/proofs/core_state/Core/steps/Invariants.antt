@@ -2,7 +2,7 @@ use Rattle.std.proofs.Common.{◌≡◌, ◌+◌, ◌≤◌}
 use Rattle.isa_model.specs.Code.Instructions.{Program}
 use Rattle.isa_model.specs.Running.Runs.{GoesOn, progress}
 use Rattle.checked_vm.specs.Machine.{state_of, IsRunning}
-use Rattle.checked_vm.specs.Outcomes.{Answers}
+use Rattle.checked_vm.specs.Outcomes.{ClockAnswers}
 use Rattle.checked_vm.proofs.core_state.Core.steps.Given as goal
 
 abbrev pub invariant-loop-done : goal.invariant-loop-done
@@ -13,5 +13,5 @@ invariant-loop-done g l = record {
   rows : l.self.maps.rows ≡ l.initial.self.maps.rows;
   serial : l.self.maps.next_serial ≤ l.initial.self.maps.next_serial + l.done;
   calls : l.self.clock_calls ≤ l.done;
-  clock : Answers (g.C.Clock.at l.initial.clock) l.self.clock_calls (g.C.Clock.at l.clock);
+  clock : ClockAnswers (g.C.Clock.at l.initial.clock) l.self.clock_calls (g.C.Clock.at l.clock);
 }

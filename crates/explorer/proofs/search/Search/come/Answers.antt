@@ -1,6 +1,6 @@
 use Rattle.std.proofs.lemmas.Result.{IfOk-weaker, IfErr-weaker}
 use Rattle.walks.specs.Refused.{StopsAt}
-use Rattle.explorer.specs.Search.{Arrives, TurnsBack, Moves}
+use Rattle.explorer.specs.Search.{Arrives, TurnsBack, AfterMove}
 use Rattle.explorer.proofs.Steps.{comes_to}
 use Rattle.explorer.proofs.Walking.{turned_back}
 use Rattle.explorer.proofs.search.Search.come.Goals as goal
@@ -10,7 +10,7 @@ returns-clause-moves c =
     let p = c.args.flow.now in
     let old = c.args.self.now in
     IfOk-weaker c.arrive.result (λ made. Arrives p old.stored.entries.items old.current made c.arrive.new.stored.entries.items)
-    (λ made. Moves p (record old { stored = c.arrive.new.stored; scratch = c.arrive.new.scratch }) made)
+    (λ made. AfterMove p (record old { stored = c.arrive.new.stored; scratch = c.arrive.new.scratch }) made)
     (λ made arrives. comes_to p old c.arrive.new.stored c.arrive.new.scratch made c.requires.comes arrives) c.arrive.ensures.arrives
 
 pub returns-clause-stops : goal.returns-clause-stops

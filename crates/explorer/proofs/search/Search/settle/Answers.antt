@@ -1,6 +1,6 @@
 use Rattle.std.proofs.Common.{arith, subst}
-use Rattle.explorer.specs.Search.{MovesOrEnds}
-use Rattle.explorer.specs.Listening.{IfReturns, Follows, IsTold}
+use Rattle.explorer.specs.Search.{AfterMoveOrEnd}
+use Rattle.explorer.specs.Listening.{IfReturns, HeardPath, HearsMove}
 use Rattle.explorer.proofs.Telling.{returns_less, has_ended, follows_end, told_back, refused_back}
 use Rattle.explorer.proofs.search.Search.settle.Goals as goal
 use Rattle.explorer.proofs.search.Search.settle.Goals.{in-Covered, in-Covered-2}
@@ -9,8 +9,8 @@ pub returns-in-New-clause-told : goal.returns-in-New-clause-told
 returns-in-New-clause-told g c =
     let p = c.args.flow.now in
     let path = c.moves.self.path.items in
-    let told : IsTold p (g.L.Listener.follows c.tell.new.listener p) path c.moves.self.current c.moves.made = c.in_default.ensures p path c.moves.invariant.untold in
-    subst (IsTold p (g.L.Listener.follows c.tell.new.listener p) path c.moves.self.current) c.in-New.is told
+    let told : HearsMove p (g.L.Listener.follows c.tell.new.listener p) path c.moves.self.current c.moves.made = c.in_default.ensures p path c.moves.invariant.untold in
+    subst (HearsMove p (g.L.Listener.follows c.tell.new.listener p) path c.moves.self.current) c.in-New.is told
 
 pub back-requires-clause-at : goal.back-requires-clause-at
 back-requires-clause-at g c = elim c.match-made.branch [
@@ -34,15 +34,15 @@ moves-preserved g c =
     let new = c.back.new.self.path.items in
     let now = c.back.new.self.current in
     let next = c.in-Ok-Some.next in
-    let moves : MovesOrEnds p c.back.new.self c.match-made.ended c.in-Ok-Some.field-0 = c.in-Ok-Some.ensures.moves in
+    let moves : AfterMoveOrEnd p c.back.new.self c.match-made.ended c.in-Ok-Some.field-0 = c.in-Ok-Some.ensures.moves in
     let returns : IfReturns old c.in-Ok-Some.field-0 new now = c.in-Ok-Some.ensures.returns in
-    let told : IsTold p tale old c.moves.self.current c.moves.made = c.in_default.ensures p old c.moves.invariant.untold in
-    let follows : Follows p tale old = elim c.match-made.branch [
+    let told : HearsMove p tale old c.moves.self.current c.moves.made = c.in_default.ensures p old c.moves.invariant.untold in
+    let follows : HeardPath p tale old = elim c.match-made.branch [
       | in-Covered w ↦ follows_end p tale old c.moves.self.current c.moves.made w.in-Covered.number w.in-Covered.is told
       | in-Covered-2 w ↦ follows_end p tale old c.moves.self.current c.moves.made w.in-Covered.number w.in-Covered.is told
     ] in
     record {
-      moves = subst (λ o. MovesOrEnds p c.back.new.self c.match-made.ended o) c.in-Ok-Some.field-0-is moves;
+      moves = subst (λ o. AfterMoveOrEnd p c.back.new.self c.match-made.ended o) c.in-Ok-Some.field-0-is moves;
       untold = told_back p tale old new now next follows (subst (λ o. IfReturns old o new now) c.in-Ok-Some.field-0-is returns);
       explored = omega (arith, c.in-Ok-Some.ensures.explored, c.moves.invariant.explored);
     }
@@ -52,8 +52,8 @@ returns-in-Err-back-clause-ends g c =
     let p = c.args.flow.now in
     let tale = g.L.Listener.follows c.tell.new.listener p in
     let old = c.moves.self.path.items in
-    let told : IsTold p tale old c.moves.self.current c.moves.made = c.in_default.ensures p old c.moves.invariant.untold in
-    let follows : Follows p tale old = elim c.match-made.branch [
+    let told : HearsMove p tale old c.moves.self.current c.moves.made = c.in_default.ensures p old c.moves.invariant.untold in
+    let follows : HeardPath p tale old = elim c.match-made.branch [
       | in-Covered w ↦ follows_end p tale old c.moves.self.current c.moves.made w.in-Covered.number w.in-Covered.is told
       | in-Covered-2 w ↦ follows_end p tale old c.moves.self.current c.moves.made w.in-Covered.number w.in-Covered.is told
     ] in

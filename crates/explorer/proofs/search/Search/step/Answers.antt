@@ -2,7 +2,7 @@ use Rattle.std.proofs.Common.{◌≡◌, ◌+◌, [], ◌∷◌, ◌++◌, Some,
 use Rattle.std.proofs.lemmas.Result.{err_from_is_err_and}
 use Rattle.isa_model.specs.Code.Instructions.{fetch}
 use Rattle.transfer.specs.declared.Ways.TheVariants as ways
-use Rattle.transfer.specs.Exact.{Refuses}
+use Rattle.transfer.specs.Exact.{RefusesStep}
 use Rattle.stack_state.specs.declared.states.State.{State}
 use Rattle.explorer.specs.declared.search.Search.{Search}
 use Rattle.explorer.specs.declared.trail.Visit.{Visit}
@@ -34,7 +34,7 @@ returns-in-Err-clause-stops c =
       begins = at.ready.begins;
       insn = i;
       here = here;
-      refused = subst (λ x. Refuses x s i c.in-Err.refusal) (sym c.requires.image)
+      refused = subst (λ x. RefusesStep x s i c.in-Err.refusal) (sym c.requires.image)
           (c.step_in_place.new.state, c.step_in_place.new.other, c.in-Err.ensures.steps i there);
     }
 

@@ -2,7 +2,7 @@ use Rattle.std.proofs.Common.{◌∙◌, sym, subst, true}
 use Rattle.std.specs.List.{slice_get}
 use Rattle.isa_model.specs.Machine.States.{Entries}
 use Rattle.maps.specs.Listing.{listed_entries}
-use Rattle.machine.specs.Entries.{row_at, Copies}
+use Rattle.machine.specs.Entries.{row_at, CopiesEntry}
 use Rattle.machine.proofs.Entries.{inside, row_is, ordered_is, sized, found_size, copies}
 use Rattle.machine.proofs.machines.Machine.copy_entry.Goals as goal
 
@@ -28,7 +28,7 @@ returns-clause-copied c =
     let es = listed_entries c.order.result in
     let are = sized maps c.count-count.ensures.maps c.args.map (inside p bound maps rows c.args.self.now c.self.view_is c.args.map c.requires.map) row es
     (row_is p bound maps rows c.args.self.now c.self.view_is c.args.map c.requires.map) c.order.ensures.entries in
-    subst (λ (xs : Entries). Copies (slice_get xs c.args.k) true c.args.key.now c.copy_from_slice.new.self c.args.value.now c.copy_from_slice-2.new.self)
+    subst (λ (xs : Entries). CopiesEntry (slice_get xs c.args.k) true c.args.key.now c.copy_from_slice.new.self c.args.value.now c.copy_from_slice-2.new.self)
     (c.order.ensures.entries ∙ ordered_is p bound maps rows c.args.self.now c.self.view_is c.args.map c.requires.map)
     (copies row es c.args.k c.in-Some.found.now are c.in-Some.ensures.value c.entry.new.key _ c.args.key.now c.copy_from_slice.new.self c.args.value.now c.copy_from_slice-2.new.self
     c.requires.key_size c.in-Some.ensures.key c.copy_from_slice.ensures.after c.copy_from_slice-2.ensures.after)

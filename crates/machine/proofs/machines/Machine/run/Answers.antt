@@ -1,6 +1,6 @@
 use Rattle.std.proofs.Common.{◌≡◌, length, subst, ap, arith}
 use Rattle.maps.specs.Maps.{contents_of}
-use Rattle.machine.specs.Running.{Running, Answers}
+use Rattle.machine.specs.Running.{Running, AnswersRun}
 use Rattle.machine.proofs.Runs.{run_ends, run_answers, still_ready}
 use Rattle.machine.proofs.machines.Machine.run.Goals as goal
 
@@ -24,7 +24,7 @@ invariant_of-self g c =
 pub returns-clause-answers : goal.returns-clause-answers
 returns-clause-answers g c =
     let (at, asked, exits, comes) = c.run-answer.ensures.exits in
-    subst (λ (r : Running). Answers r c.args.head c.args.packet.now (g.C.Clock.at c.args.clock.now)
+    subst (λ (r : Running). AnswersRun r c.args.head c.args.packet.now (g.C.Clock.at c.args.clock.now)
     (record { r0 = c.run-answer.result.number; steps = c.run-answer.result.steps }) c.run-answer.new.packet (contents_of c.run-answer.new.memory.maps) (g.C.Clock.at c.run-answer.new.clock))
     c.self.view_is
     (run_answers c.self.inside.program c.self.inside.bound c.self.inside.memory c.self.invariant c.args.head c.args.packet.now (g.C.Clock.at c.args.clock.now)

@@ -1,6 +1,6 @@
 use Rattle.std.proofs.Common.{ℕ, ◌≡◌, ◌+◌, ◌<◌, ◌/◌, ◌%◌, ◌^◌, inl, inr, arith}
 use Rattle.std.proofs.lemmas.Bool.{cases_lt}
-use Rattle.ranges.specs.Joint.{IsAmong}
+use Rattle.ranges.specs.Joint.{IsHalfBetween}
 use Rattle.ranges.specs.Lows.{Has}
 use Rattle.ranges.proofs.EnclosesLaws.{enclosed_low}
 use Rattle.ranges.proofs.LowLaws.{reached_map, either_reached, among_same, among_start, among_end, among_middle}
@@ -14,7 +14,7 @@ returns-then-first-last-clause-reached c =
     let same : c.args.least / 2 ^ 32 ≡ c.args.greatest / 2 ^ 32 = omega arith in
     let here : Has c.between.result (c.args.least % 2 ^ 32) = (c.between.ensures.members _).1 (omega arith, omega arith) in
     let other = c.with.ensures.other _ l here in
-    reached_map c.with.result (Has c.with.result) (λ (e : ℕ). Has c.args.self e × IsAmong c.args.least c.args.greatest e)
+    reached_map c.with.result (Has c.with.result) (λ (e : ℕ). Has c.args.self e × IsHalfBetween c.args.least c.args.greatest e)
     (λ e h. (
       enclosed_low c.args.self c.with.result e c.with.ensures.enclosed h,
       let m = (c.between.ensures.members e).0 (enclosed_low c.between.result c.with.result e other h) in
@@ -45,15 +45,15 @@ returns-then-first-last-2-clause-reached c =
     let start : Has c.between-then-first-last-2.result (c.args.least % 2 ^ 32) = (c.between-then-first-last-2.ensures.members _).1 (omega arith, omega arith) in
     let end : Has c.between-then-first-last-2-2.result (c.args.greatest % 2 ^ 32) = (c.between-then-first-last-2-2.ensures.members _).1 (omega arith, omega arith) in
     either_reached c.hull.result c.with-start.result c.with-end.result
-    (λ (e : ℕ). Has c.args.self e × IsAmong c.args.least c.args.greatest e) c.hull.ensures.either
-    (reached_map c.with-start.result (Has c.with-start.result) (λ (e : ℕ). Has c.args.self e × IsAmong c.args.least c.args.greatest e)
+    (λ (e : ℕ). Has c.args.self e × IsHalfBetween c.args.least c.args.greatest e) c.hull.ensures.either
+    (reached_map c.with-start.result (Has c.with-start.result) (λ (e : ℕ). Has c.args.self e × IsHalfBetween c.args.least c.args.greatest e)
     (λ e is. (
       enclosed_low c.args.self c.with-start.result e c.with-start.ensures.enclosed is,
       let m = (c.between-then-first-last-2.ensures.members e).0 (enclosed_low c.between-then-first-last-2.result c.with-start.result e (c.with-start.ensures.other _ l start) is) in
           among_start c.args.least c.args.greatest e apart (omega arith) is.below,
     ))
     (c.with-start.ensures.tight _ l start))
-    (reached_map c.with-end.result (Has c.with-end.result) (λ (e : ℕ). Has c.args.self e × IsAmong c.args.least c.args.greatest e)
+    (reached_map c.with-end.result (Has c.with-end.result) (λ (e : ℕ). Has c.args.self e × IsHalfBetween c.args.least c.args.greatest e)
     (λ e is. (
       enclosed_low c.args.self c.with-end.result e c.with-end.ensures.enclosed is,
       let m = (c.between-then-first-last-2-2.ensures.members e).0 (enclosed_low c.between-then-first-last-2-2.result c.with-end.result e (c.with-end.ensures.other _ g end) is) in
@@ -64,4 +64,4 @@ returns-then-first-last-2-clause-reached c =
 pub returns-else-first-last-2-clause-reached : goal.returns-else-first-last-2-clause-reached
 returns-else-first-last-2-clause-reached c =
     let apart : c.args.least / 2 ^ 32 + 1 < c.args.greatest / 2 ^ 32 = omega arith in
-    reached_map c.args.self (Has c.args.self) (λ (e : ℕ). Has c.args.self e × IsAmong c.args.least c.args.greatest e) (λ e is. (is, among_middle c.args.least c.args.greatest e apart is.below)) c.requires.tight
+    reached_map c.args.self (Has c.args.self) (λ (e : ℕ). Has c.args.self e × IsHalfBetween c.args.least c.args.greatest e) (λ e is. (is, among_middle c.args.least c.args.greatest e apart is.below)) c.requires.tight

@@ -2,7 +2,7 @@ use Rattle.std.proofs.Common.{ℕ, ◌≡◌, ◌≤◌, ◌%◌, ◌^◌, ◌�
 use Rattle.std.specs.Int.{cast_unsigned}
 use Rattle.std.proofs.lemmas.Int.{ints, of_z-to_z}
 use Rattle.isa_model.specs.Code.NumberLemmas.{signed_equation}
-use Rattle.ranges.specs.Joint.{IsAmong}
+use Rattle.ranges.specs.Joint.{IsHalfBetween}
 use Rattle.ranges.specs.Lows as L
 use Rattle.ranges.specs.Ranges.{Has, HasLow}
 use Rattle.ranges.specs.declared.range.Range.{Range}
@@ -48,7 +48,7 @@ returns-clause-tight c =
       subst (Has r) (sym lim.1) to,
       subst (Has r) (sym back) from,
       subst (Has r) (sym over) to,
-      reached_map c.among.result (λ (half : ℕ). L.Has c.args.low half × IsAmong least greatest half) (HasLow r)
+      reached_map c.among.result (λ (half : ℕ). L.Has c.args.low half × IsHalfBetween least greatest half) (HasLow r)
           (λ half is. record {
             number = is.1.number;
             has = has is.1.number is.1.from is.1.to (subst (L.Has c.args.low) (sym is.1.low) is.0);

@@ -2,7 +2,7 @@ use Rattle.std.proofs.Common.{◌^◌, inl, inr, arith}
 use Rattle.std.proofs.lemmas.Int.{ints}
 use Rattle.std.proofs.lemmas.Bool.{cases_lt}
 use Rattle.ranges.proofs.EnclosesLaws.{enclosed_low}
-use Rattle.ranges.specs.Joint.{IsAmong}
+use Rattle.ranges.specs.Joint.{IsHalfBetween}
 use Rattle.ranges.specs.Wides.{HasHalf}
 use Rattle.ranges.proofs.LowLaws.{reached_map, either_reached, fits_between}
 use Rattle.ranges.proofs.RangeLaws.{among_half}
@@ -49,10 +49,10 @@ returns-in-Some-lower_half-2-clause-reached c = λ x h.
     let ra = c.run-in-Some-lower_half-2.result in
     let rb = c.run-in-Some-lower_half-2-2.result in
     either_reached c.hull.result ra rb (HasHalf s) c.hull.ensures.either
-    (reached_map ra (IsAmong a.least a.greatest) (HasHalf s)
+    (reached_map ra (IsHalfBetween a.least a.greatest) (HasHalf s)
     (λ e is. among_half s a e (omega arith) (inl c.in-Some-lower_half-2.ensures.half) c.in-Some-lower_half-2.ensures.alike c.in-Some-lower_half-2.ensures.left is)
     c.run-in-Some-lower_half-2.ensures.reached)
-    (reached_map rb (IsAmong b.least b.greatest) (HasHalf s)
+    (reached_map rb (IsHalfBetween b.least b.greatest) (HasHalf s)
     (λ e is. among_half s b e (omega arith) (inr c.in-Some.ensures.half) c.in-Some.ensures.alike c.in-Some.ensures.left is)
     c.run-in-Some-lower_half-2-2.ensures.reached)
 
@@ -72,7 +72,7 @@ pub returns-in-Some-lower_half-clause-reached : goal.returns-in-Some-lower_half-
 returns-in-Some-lower_half-clause-reached c = λ x h.
     let s = c.args.self in
     let a = c.in-Some-lower_half.plain in
-    reached_map c.run.result (IsAmong a.least a.greatest) (HasHalf s)
+    reached_map c.run.result (IsHalfBetween a.least a.greatest) (HasHalf s)
     (λ e is. among_half s a e (omega arith) (inl c.in-Some-lower_half.ensures.half) c.in-Some-lower_half.ensures.alike c.in-Some-lower_half.ensures.left is)
     c.run.ensures.reached
 
@@ -92,6 +92,6 @@ pub returns-in-None-lower_half-clause-reached : goal.returns-in-None-lower_half-
 returns-in-None-lower_half-clause-reached c = λ x h.
     let s = c.args.self in
     let a = c.in-Some.signed in
-    reached_map c.run-in-None-lower_half.result (IsAmong a.least a.greatest) (HasHalf s)
+    reached_map c.run-in-None-lower_half.result (IsHalfBetween a.least a.greatest) (HasHalf s)
     (λ e is. among_half s a e (omega arith) (inr c.in-Some.ensures.half) c.in-Some.ensures.alike c.in-Some.ensures.left is)
     c.run-in-None-lower_half.ensures.reached

@@ -1,5 +1,5 @@
 use Rattle.std.proofs.Common.{ℕ, ◌<◌, ◌%◌, ◌^◌, arith}
-use Rattle.ranges.specs.Joint.{IsAmong}
+use Rattle.ranges.specs.Joint.{IsHalfBetween}
 use Rattle.ranges.specs.Lows.{Has}
 use Rattle.ranges.proofs.LowLaws.{reached_map}
 use Rattle.ranges.proofs.wide.Wide.run.Goals as goal
@@ -12,5 +12,5 @@ among-requires-clause-greatest c = (c.any.ensures.members _).1 (let b : c.args.s
 
 pub returns-clause-reached : goal.returns-clause-reached
 returns-clause-reached c =
-    reached_map c.among.result (λ (half : ℕ). Has c.any.result half × IsAmong c.args.self.least c.args.self.greatest half)
-    (IsAmong c.args.self.least c.args.self.greatest) (λ e is. is.1) c.among.ensures.reached
+    reached_map c.among.result (λ (half : ℕ). Has c.any.result half × IsHalfBetween c.args.self.least c.args.self.greatest half)
+    (IsHalfBetween c.args.self.least c.args.self.greatest) (λ e is. is.1) c.among.ensures.reached

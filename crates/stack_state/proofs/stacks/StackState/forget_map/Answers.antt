@@ -3,7 +3,7 @@ use Rattle.std.proofs.lemmas.List.{get_or_default, take_all, drop_all, append-ni
 use Rattle.std.proofs.lemmas.List.Edits.{map_over_more}
 use Rattle.stack_state.specs.declared.slots.Slot.{Slot}
 use Rattle.stack_state.specs.Slots.{forgotten_slot, forgotten, frame_slots}
-use Rattle.stack_state.specs.StackMeaning.{Forgets}
+use Rattle.stack_state.specs.StackMeaning.{ForgetsMap}
 use Rattle.stack_state.proofs.FillLaws.{forgets}
 use Rattle.stack_state.proofs.stacks.StackState.forget_map.Goals as goal
 
@@ -26,4 +26,4 @@ returns c =
     let count : length xs ≡ frame_slots = omega arith in
     let over : length xs ≤ c.loop-slot.slot = omega arith in
     let all : c.loop-slot.self.slots ≡ forgotten c.args.map xs = c.loop-slot.invariant.done ∙ (rw (take_all, drop_all, append-nil)) in
-    record { exact = all; meant = subst (λ (s : List Slot). Forgets c.args.map xs s) (sym all) (forgets xs c.args.map count) }
+    record { exact = all; meant = subst (λ (s : List Slot). ForgetsMap c.args.map xs s) (sym all) (forgets xs c.args.map count) }

@@ -3,7 +3,7 @@ use Rattle.std.proofs.lemmas.List.{get_or_default}
 use Rattle.stack_state.specs.declared.slots.Slot.{Slot}
 use Rattle.stack_state.specs.declared.slots.Slot.TheVariants.{Written}
 use Rattle.stack_state.specs.Slots.{AreMarked, AreNumbers}
-use Rattle.stack_state.specs.StackMeaning.{Loads}
+use Rattle.stack_state.specs.StackMeaning.{LoadsNumber}
 use Rattle.stack_state.proofs.StackLaws.{loads}
 use Rattle.stack_state.proofs.stacks.StackState.load.Goals as goal
 
@@ -18,5 +18,5 @@ returns-then-is_bytes-clause-meant c =
     )
 
 pub returns-else-is_bytes-clause-meant : goal.returns-else-is_bytes-clause-meant
-unfolding Loads
+unfolding LoadsNumber
 returns-else-is_bytes-clause-meant c = tt

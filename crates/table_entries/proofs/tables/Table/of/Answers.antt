@@ -1,7 +1,7 @@
 use Rattle.std.proofs.Common.{◌≡◌, ◌∙◌, sym, None, refl}
 use Rattle.std.specs.Prelude.{map}
 use Rattle.table_entries.specs.Tables.{Kept, entry_from, first_none, all_of}
-use Rattle.table_entries.proofs.Rows.{Holds-places}
+use Rattle.table_entries.proofs.Rows.{KeepsEntries-places}
 use Rattle.table_entries.proofs.tables.Table.of.Goals as goal
 
 pub returns-in-None : goal.returns-in-None
@@ -11,4 +11,4 @@ returns-in-None c =
     let placed = c.in_ok-places.ensures in
     let xs = map (entry_from p t.bytes) t.places in
     let none : first_none 0 xs ≡ None = sym placed.first_is ∙ c.in-None.is in
-    (all_of xs, rw (c.in_ok-count.ensures, placed.body, none) refl, Holds-places p t none)
+    (all_of xs, rw (c.in_ok-count.ensures, placed.body, none) refl, KeepsEntries-places p t none)

@@ -6,7 +6,7 @@ ghost use Rattle.std.specs.Prelude.{◌≡◌, ◌<◌, ◌≤◌, ◌+◌, [], 
 ghost use Rattle.std.specs.IoError.{error_kind};
 ghost use Rattle.std.specs.Io.{ReadsAtMost, WritesAtMost};
 ghost use Rattle.std.specs.Io.KnownBytes.{Keeps, ReadConsumes, WriteAppends};
-ghost use Rattle.stumbling_io.specs.Stumbles.{count_of, room_after};
+ghost use Rattle.failing_io.specs.Failures.{count_of, room_after};
 
 use std::alloc::Global;
 use std::io;
@@ -14,26 +14,26 @@ use std::io::{ErrorKind, Read, Write};
 
 /// The failure: an error, or the answer that no byte was moved.
 #[derive(Clone, Copy, PartialEq, Eq, Debug)]
-pub enum Stumble {
+pub enum Failure {
     Error(ErrorKind),
     Nothing,
 }
 
 /// The failures to test with. Some callers try again after one of them, `Interrupted`, and must
 /// not.
-pub const STUMBLES: [Stumble; 3] = [
-    Stumble::Error(ErrorKind::BrokenPipe),
-    Stumble::Error(ErrorKind::Interrupted),
-    Stumble::Nothing,
+pub const FAILURES: [Failure; 3] = [
+    Failure::Error(ErrorKind::BrokenPipe),
+    Failure::Error(ErrorKind::Interrupted),
+    Failure::Nothing,
 ];
 
-fn answer_of(stumble: Stumble) -> io::Result<usize>
-    ensures { MatchResult result (λ count. (stumble ≡ Stumble.Nothing) × (count ≡ 0))
-        (λ e. stumble ≡ Stumble.Error (error_kind e)) }
+fn answer_of(failing: Failure) -> io::Result<usize>
+    ensures { MatchResult result (λ count. (failing ≡ Failure.Nothing) × (count ≡ 0))
+        (λ e. failing ≡ Failure.Error (error_kind e)) }
 {
-    match stumble {
-        Stumble::Error(kind) => Err(io::Error::from(kind)),
-        Stumble::Nothing => Ok(0),
+    match failing {
+        Failure::Error(kind) => Err(io::Error::from(kind)),
+        Failure::Nothing => Ok(0),
     }
 }
 
@@ -44,22 +44,22 @@ pub struct Writer {
     pub taken: Vec<u8>,
     pub step: usize,
     pub room: usize,
-    pub stumble: Option<Stumble>,
+    pub failing: Option<Failure>,
 }
 
 impl Writer {
     /// A writer that has taken nothing yet.
-    pub fn new(alloc: Global, step: usize, room: usize, stumble: Option<Stumble>) -> Writer
+    pub fn new(alloc: Global, step: usize, room: usize, failing: Option<Failure>) -> Writer
         ensures nothing { result.taken.items ≡ [] }
         ensures steps { result.step ≡ step }
         ensures rooms { result.room ≡ room }
-        ensures stumbles { result.stumble ≡ stumble }
+        ensures fails { result.failing ≡ failing }
     {
         Writer {
             taken: Vec::new(alloc),
             step,
             room,
-            stumble,
+            failing,
         }
     }
 }
@@ -72,21 +72,21 @@ impl Write for Writer {
         ensures bytes { WriteAppends (Some self.old.taken.items)
             (Some self.new.taken.items) result buf.now }
         ensures count { IfOk result
-            (λ n. n ≡ count_of (length buf.now) self.old.step self.old.room self.old.stumble) }
-        ensures due { (kind : ErrorKind) → self.old.stumble ≡ Some (Stumble.Error kind)
+            (λ n. n ≡ count_of (length buf.now) self.old.step self.old.room self.old.failing) }
+        ensures due { (kind : ErrorKind) → self.old.failing ≡ Some (Failure.Error kind)
             → self.old.room ≡ 0 → IsErr result }
         ensures room { IfOk result
-            (λ n. self.new.room ≡ room_after n self.old.room self.old.stumble) }
-        ensures waits { 1 ≤ self.old.room → self.new.stumble ≡ self.old.stumble }
-        ensures once { (stumble : Stumble) → self.old.stumble ≡ Some stumble → self.old.room ≡ 0
-            → self.new.stumble ≡ None }
+            (λ n. self.new.room ≡ room_after n self.old.room self.old.failing) }
+        ensures waits { 1 ≤ self.old.room → self.new.failing ≡ self.old.failing }
+        ensures once { (failing : Failure) → self.old.failing ≡ Some failing → self.old.room ≡ 0
+            → self.new.failing ≡ None }
         ensures step { self.new.step ≡ self.old.step }
     {
         let mut count = buf.len().min(self.step);
-        if let Some(stumble) = self.stumble {
+        if let Some(failing) = self.failing {
             if self.room == 0 {
-                self.stumble = None;
-                return answer_of(stumble);
+                self.failing = None;
+                return answer_of(failing);
             }
             count = count.min(self.room);
             self.room -= count;
@@ -149,7 +149,7 @@ pub struct Reader<'a> {
     pub left: &'a [u8],
     pub step: usize,
     pub room: usize,
-    pub stumble: Option<Stumble>,
+    pub failing: Option<Failure>,
 }
 
 impl Read for Reader<'_> {
@@ -163,26 +163,26 @@ impl Read for Reader<'_> {
         ensures count { IfOk result
             (λ n. n ≡ count_of
             (min (length buf.old)
-            (length self.old.left.now)) self.old.step self.old.room self.old.stumble) }
+            (length self.old.left.now)) self.old.step self.old.room self.old.failing) }
 
         // The failure is returned, and no byte is lost.
         ensures error { IfErr result
-            (λ e. (self.old.stumble ≡ Some (Stumble.Error (error_kind e))) × (self.old.room ≡ 0)) }
+            (λ e. (self.old.failing ≡ Some (Failure.Error (error_kind e))) × (self.old.room ≡ 0)) }
         ensures kept { OnErr result (self.new.left.now ≡ self.old.left.now) }
-        ensures due { (kind : ErrorKind) → self.old.stumble ≡ Some (Stumble.Error kind)
+        ensures due { (kind : ErrorKind) → self.old.failing ≡ Some (Failure.Error kind)
             → self.old.room ≡ 0 → IsErr result }
         ensures room { IfOk result
-            (λ n. self.new.room ≡ room_after n self.old.room self.old.stumble) }
-        ensures waits { 1 ≤ self.old.room → self.new.stumble ≡ self.old.stumble }
-        ensures once { (stumble : Stumble) → self.old.stumble ≡ Some stumble → self.old.room ≡ 0
-            → self.new.stumble ≡ None }
+            (λ n. self.new.room ≡ room_after n self.old.room self.old.failing) }
+        ensures waits { 1 ≤ self.old.room → self.new.failing ≡ self.old.failing }
+        ensures once { (failing : Failure) → self.old.failing ≡ Some failing → self.old.room ≡ 0
+            → self.new.failing ≡ None }
         ensures step { self.new.step ≡ self.old.step }
     {
         let mut count = buf.len().min(self.left.len()).min(self.step);
-        if let Some(stumble) = self.stumble {
+        if let Some(failing) = self.failing {
             if self.room == 0 {
-                self.stumble = None;
-                return answer_of(stumble);
+                self.failing = None;
+                return answer_of(failing);
             }
             count = count.min(self.room);
             self.room -= count;
