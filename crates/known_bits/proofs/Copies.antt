@@ -1,9 +1,9 @@
 -- Numbers whose bits are bits of another: sign extensions, and the shift that keeps the sign.
 use Rattle.std.proofs.Common.{◌≡◌, ◌⊎◌, ℕ, zero, suc, ◌+◌, ◌-◌, ◌*◌, ◌/◌, ◌%◌, ◌^◌, ◌<◌, ◌≤◌, min, w32, w64, refl, sym, ap, ◌∙◌, inl, inr, arith, bit_or}
-use Rattle.std.specs.Int.{bit_at, bit_not, int_shr, cast_signed, cast_unsigned}
+use Rattle.std.specs.Int.{bit_at, bit_not, int_shr}
 use Rattle.std.proofs.Math.Nat.{div-le_self, mod-eq_of_lt}
 use Rattle.std.proofs.lemmas.Nat.{pow-add, pow_pos, mod_below}
-use Rattle.std.proofs.lemmas.Nat.Bits.{bit_at_or, bit_at_not, bit_at-lt, bit_at_above, bit_at_ones, bit_at_cat_low, bit_at_cat_high}
+use Rattle.std.proofs.lemmas.Nat.Bits.{bit_at_or, bit_at_not, bit_at_above, bit_at_ones, bit_at_cat_low, bit_at_cat_high}
 use Rattle.std.proofs.lemmas.Bool.{cases_lt, lt-ltb, le-ltb}
 use Rattle.isa_model.specs.declared.sizes.Width.{Width}
 use Rattle.isa_model.specs.declared.sizes.Width.TheVariants.{Low32, Full64}
@@ -11,7 +11,7 @@ use Rattle.isa_model.specs.declared.sizes.Extension.{Extension}
 use Rattle.isa_model.specs.declared.sizes.Extension.TheVariants.{Low8, Low16, Full8, Full16, Full32}
 use Rattle.isa_model.specs.declared.instructions.AluOp.TheVariants.{Arsh}
 use Rattle.isa_model.specs.Code.Sizes.{width_bits, extension_bits, extension_width}
-use Rattle.isa_model.specs.Code.Numbers.{alu, low, shift, sign_extended}
+use Rattle.isa_model.specs.Code.Numbers.{alu, low, shift, signed, unsigned, sign_extended}
 use Rattle.isa_model.proofs.NumberLemmas.{alu_below, low_below, shift_below, width_fits, width_most}
 use Rattle.isa_model.proofs.ExtensionLemmas.{sign_extended_below, sign_extended_cases, sign_extended-small}
 use Rattle.known_bits.specs.Member.{IsMember, Occurs}
@@ -90,69 +90,54 @@ occurs_same {i = i} same o = record {
 
 -- ---- the shift that keeps the sign
 
-shifted_bit_64 : (a k i : ℕ) → a < 2 ^ 64 → k < 64 → i < 64
-    → bit_at (cast_unsigned w64 (int_shr (cast_signed w64 a) k)) i ≡ bit_at a (min (k + i) 63)
-shifted_bit_64 a k i a_in k_in i_in =
-    elim (cases_lt a (2 ^ 63)) [
-      | inl lt ↦
-          rw (lt-ltb a (2 ^ 63) lt)
-          (right_bit a k i ∙ elim (cases_lt (k + i) 64) [
-            | inl l ↦ ap (bit_at a) (let e : k + i ≡ min (k + i) 63 = omega arith in e)
-            | inr g ↦ bit_at_above a 63 (k + i) lt (omega arith) ∙ sym (bit_at_above a 63 (min (k + i) 63) lt (omega arith))
-          ])
-      | inr ge ↦
-          let m = 2 ^ 64 - suc a in
-          let q = m / 2 ^ k in
-          let q_in = div-le_self m (2 ^ k) in
-          let outer : bit_at (2 ^ 64 - suc q) i ≡ 1 - bit_at q i =
-          ap (λ t. bit_at t i) (let e : 2 ^ 64 - suc q ≡ bit_not w64 q = omega arith in e) ∙ bit_at_not w64 q i (omega arith) i_in in
-          let inner = right_bit m k i in
-          let top : bit_at a 63 ≡ 1 = omega arith in
-          rw (le-ltb a (2 ^ 63) ge) (outer ∙ elim (cases_lt (k + i) 64) [
-            | inl l ↦
-                let e : bit_at m (k + i) ≡ 1 - bit_at a (k + i) =
-                ap (λ t. bit_at t (k + i)) (let e : m ≡ bit_not w64 a = omega arith in e) ∙ bit_at_not w64 a (k + i) a_in l in
-                let b = bit_at-lt a (k + i) in
-                let place : k + i ≡ min (k + i) 63 = omega arith in
-                (let back : 1 - bit_at q i ≡ bit_at a (k + i) = omega arith in back) ∙ ap (bit_at a) place
-            | inr g ↦
-                let z = bit_at_above m 64 (k + i) (omega arith) g in
-                let place : 63 ≡ min (k + i) 63 = omega arith in
-                (let one : 1 - bit_at q i ≡ bit_at a 63 = omega arith in one) ∙ ap (bit_at a) place
-          ])
+-- a number without the sign bit, shifted: its bits, and zeros, as its sign
+plain_bit : (n a k i : ℕ) → a < 2 ^ n → bit_at (a / 2 ^ k) i ≡ bit_at a (min (k + i) n)
+plain_bit n a k i small =
+    right_bit a k i ∙ elim (cases_lt (k + i) n) [
+      | inl l ↦ ap (bit_at a) (let e : k + i ≡ min (k + i) n = omega arith in e)
+      | inr g ↦ bit_at_above a n (k + i) small g
+          ∙ sym (bit_at_above a n (min (k + i) n) small (omega arith))
     ]
 
-shifted_bit_32 : (a k i : ℕ) → a < 2 ^ 32 → k < 32 → i < 32
-    → bit_at (cast_unsigned w32 (int_shr (cast_signed w32 a) k)) i ≡ bit_at a (min (k + i) 31)
-shifted_bit_32 a k i a_in k_in i_in =
+-- one with it: the complement is shifted
+signed_bit : (n : ℕ)
+    → ((x i : ℕ) → x < 2 ^ suc n → i < suc n → bit_at (2 ^ suc n - suc x) i ≡ 1 - bit_at x i)
+    → (a k i : ℕ) → 2 ^ n ≤ a → a < 2 ^ suc n → i < suc n
+    → bit_at (2 ^ suc n - suc ((2 ^ suc n - suc a) / 2 ^ k)) i ≡ bit_at a (min (k + i) n)
+signed_bit n flipped a k i from to inside =
+    let m = 2 ^ suc n - suc a in
+    let m_in : m < 2 ^ n = omega (arith, pow-add 2 n 1) in
+    let q_in = div-le_self m (2 ^ k) in
+    let back : 2 ^ suc n - suc m ≡ a = omega arith in
+    let bit : (j : ℕ) → j < suc n → bit_at a j ≡ 1 - bit_at m j =
+    λ j below. ap (λ t. bit_at t j) (sym back) ∙ flipped m j (omega arith) below in
+    let place = min (k + i) n in
+    flipped (m / 2 ^ k) i (omega arith) inside ∙ ap (λ b. 1 - b) (plain_bit n m k i m_in)
+    ∙ sym (bit place (omega arith))
+
+-- the bits of what is shifted are those from further up, from the sign at most
+shifted_bit : (w : Width) (a k i : ℕ) → a < 2 ^ width_bits w → i < width_bits w
+    → bit_at (unsigned w (int_shr (signed w a) k)) i ≡ bit_at a (min (k + i) (width_bits w - 1))
+shifted_bit Low32 a k i a_in i_in =
     elim (cases_lt a (2 ^ 31)) [
-      | inl lt ↦
-          rw (lt-ltb a (2 ^ 31) lt)
-          (right_bit a k i ∙ elim (cases_lt (k + i) 32) [
-            | inl l ↦ ap (bit_at a) (let e : k + i ≡ min (k + i) 31 = omega arith in e)
-            | inr g ↦ bit_at_above a 31 (k + i) lt (omega arith) ∙ sym (bit_at_above a 31 (min (k + i) 31) lt (omega arith))
-          ])
-      | inr ge ↦
-          let m = 2 ^ 32 - suc a in
-          let q = m / 2 ^ k in
-          let q_in = div-le_self m (2 ^ k) in
-          let outer : bit_at (2 ^ 32 - suc q) i ≡ 1 - bit_at q i =
-          ap (λ t. bit_at t i) (let e : 2 ^ 32 - suc q ≡ bit_not w32 q = omega arith in e) ∙ bit_at_not w32 q i (omega arith) i_in in
-          let inner = right_bit m k i in
-          let top : bit_at a 31 ≡ 1 = omega arith in
-          rw (le-ltb a (2 ^ 31) ge) (outer ∙ elim (cases_lt (k + i) 32) [
-            | inl l ↦
-                let e : bit_at m (k + i) ≡ 1 - bit_at a (k + i) =
-                ap (λ t. bit_at t (k + i)) (let e : m ≡ bit_not w32 a = omega arith in e) ∙ bit_at_not w32 a (k + i) a_in l in
-                let b = bit_at-lt a (k + i) in
-                let place : k + i ≡ min (k + i) 31 = omega arith in
-                (let back : 1 - bit_at q i ≡ bit_at a (k + i) = omega arith in back) ∙ ap (bit_at a) place
-            | inr g ↦
-                let z = bit_at_above m 32 (k + i) (omega arith) g in
-                let place : 31 ≡ min (k + i) 31 = omega arith in
-                (let one : 1 - bit_at q i ≡ bit_at a 31 = omega arith in one) ∙ ap (bit_at a) place
-          ])
+      | inl lt ↦ rw (lt-ltb a (2 ^ 31) lt) (plain_bit 31 a k i lt)
+      | inr ge ↦ rw (le-ltb a (2 ^ 31) ge) (signed_bit 31 flipped a k i ge a_in i_in)
     ]
+  where
+    flipped : (x i : ℕ) → x < 2 ^ 32 → i < 32 → bit_at (2 ^ 32 - suc x) i ≡ 1 - bit_at x i
+    flipped x i x_in i_in =
+        ap (λ t. bit_at t i) (let e : 2 ^ 32 - suc x ≡ bit_not w32 x = omega arith in e)
+        ∙ bit_at_not w32 x i x_in i_in
+shifted_bit Full64 a k i a_in i_in =
+    elim (cases_lt a (2 ^ 63)) [
+      | inl lt ↦ rw (lt-ltb a (2 ^ 63) lt) (plain_bit 63 a k i lt)
+      | inr ge ↦ rw (le-ltb a (2 ^ 63) ge) (signed_bit 63 flipped a k i ge a_in i_in)
+    ]
+  where
+    flipped : (x i : ℕ) → x < 2 ^ 64 → i < 64 → bit_at (2 ^ 64 - suc x) i ≡ 1 - bit_at x i
+    flipped x i x_in i_in =
+        ap (λ t. bit_at t i) (let e : 2 ^ 64 - suc x ≡ bit_not w64 x = omega arith in e)
+        ∙ bit_at_not w64 x i x_in i_in
 
 -- the bit at a place comes from further up, from the sign at most
 pub shift_copies : (w : Width) (y : ℕ) → Copies (width_bits w) (λ i. min (shift w (low w y) + i) (width_bits w - 1)) (λ x. alu Arsh w x y)
@@ -167,10 +152,10 @@ shift_copies w y = record {
     bits : (w : Width) (x i : ℕ) → i < width_bits w → bit_at (alu Arsh w x y) i ≡ bit_at x (min (shift w (low w y) + i) (width_bits w - 1))
     bits Low32 x i i_in =
         let k = shift Low32 (low Low32 y) in
-        shifted_bit_32 (x % 2 ^ 32) k i (low_below Low32 x) (shift_below Low32 (low Low32 y)) i_in ∙ low_bit x 32 (min (k + i) 31) (omega arith)
+        shifted_bit Low32 (x % 2 ^ 32) k i (low_below Low32 x) i_in ∙ low_bit x 32 (min (k + i) 31) (omega arith)
     bits Full64 x i i_in =
         let k = shift Full64 (low Full64 y) in
-        shifted_bit_64 (x % 2 ^ 64) k i (low_below Full64 x) (shift_below Full64 (low Full64 y)) i_in ∙ low_bit x 64 (min (k + i) 63) (omega arith)
+        shifted_bit Full64 (x % 2 ^ 64) k i (low_below Full64 x) i_in ∙ low_bit x 64 (min (k + i) 63) (omega arith)
 
 -- ---- sign extensions
 

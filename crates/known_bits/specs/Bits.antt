@@ -38,8 +38,8 @@ IsPrecise _ b = ⊥
 abbrev pub greatest_of : Bits → ℕ
 greatest_of b = bit_or b.value b.mask
 
--- what the greatest of two factors show of the products that `has` says there are: the trailing zeros of both add up,
--- and none is longer than the greatest
+-- what the greatest of two factors show of the products that `has` says there are: the trailing
+-- zeros of both add up, and none is longer than the greatest
 pub record KnowsProduct (a b : ℕ) (has : ℕ → Type 0) : Type 0 where
   pub zeros : (j k z : ℕ) → j + k ≤ 64 → a % 2 ^ j ≡ 0 → b % 2 ^ k ≡ 0 → has z → z % 2 ^ (j + k) ≡ 0
   pub limit : (l z : ℕ) → a * b < 2 ^ l → has z → z < 2 ^ l
@@ -54,4 +54,5 @@ pub record SomePair (a b : Bits) (R : ℕ → ℕ → Type 0) : Type 0 where
 
 -- x with other bits from one on: the low bits of y, that many of them
 abbrev pub spliced : ℕ → ℕ → ℕ → ℕ → ℕ
-spliced from count x y = (x / 2 ^ (from + count) * 2 ^ count + y % 2 ^ count) * 2 ^ from + x % 2 ^ from
+spliced from count x y =
+    (x / 2 ^ (from + count) * 2 ^ count + y % 2 ^ count) * 2 ^ from + x % 2 ^ from

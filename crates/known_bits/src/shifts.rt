@@ -43,7 +43,8 @@ impl Bits {
     pub fn spliced(self, from: u64, count: u32, other: Self) -> Self
         requires from { from < 64 }
         requires inside { from + count ≤ 64 }
-        ensures contains { (x y : ℕ) → Has self x → Has other y → Has result (spliced from count x y) }
+        ensures contains { (x y : ℕ) → Has self x → Has other y
+            → Has result (spliced from count x y) }
         ensures value { result.value ≡ spliced from count self.value other.value }
         ensures mask { result.mask ≡ spliced from count self.mask other.mask }
     {
