@@ -1,9 +1,14 @@
 -- What limits an operation's result keeps, said otherwise.
 use Rattle.std.specs.Prelude.{ℕ, zero, suc, ℤ, pos, negsuc, unsigned_abs}
+use Rattle.std.proofs.Common.{arith}
+use Rattle.std.proofs.lemmas.Int.{ints}
 use Rattle.std.specs.Int.{Width as IntWidth, cast_signed}
 use Rattle.isa_model.specs.declared.sizes.Width.{Width}
+use Rattle.isa_model.specs.declared.sizes.Width.TheVariants.{Low32}
 use Rattle.isa_model.specs.declared.instructions.AluOp.{AluOp}
 use Rattle.isa_model.specs.declared.instructions.AluOp.TheVariants.{Add, Sub, Mul, Div, SignedDiv, Or, And, Lsh, Rsh, Mod, SignedMod, Xor, Mov, Arsh}
+use Rattle.ranges.specs.declared.low.Low.{Low}
+use Rattle.ranges.specs.Lows.{IsBetween, IsSignedBetween, Encloses, KeepsLimits, KeepsSignedLimits}
 use Rattle.ranges.specs.Keeps.{KeepsUnsigned, KeepsSigned, KeepsSignedQuotient, KeepsSignedRemainder, signed_of}
 
 -- the unsigned limits
@@ -54,3 +59,16 @@ keeps_signed_map Lsh w al ag bl bg d e P Q f h = tt
 keeps_signed_map Rsh w al ag bl bg d e P Q f h = tt
 keeps_signed_map Or w al ag bl bg d e P Q f h = tt
 keeps_signed_map Xor w al ag bl bg d e P Q f h = tt
+
+-- what low halves keep, narrower ones keep
+pub kept_limits : (op : AluOp) (a b l m : Low) → Encloses l m → KeepsLimits op a b (IsBetween l)
+    → KeepsLimits op a b (IsBetween m)
+kept_limits op a b l m enclosed = keeps_map op Low32 a.least a.greatest b.least b.greatest
+    (IsBetween l) (IsBetween m)
+    (λ from to h. (omega (arith, h.0, enclosed.0), omega (arith, h.1, enclosed.1)))
+
+pub kept_signed_limits : (op : AluOp) (a b l m : Low) → Encloses l m
+    → KeepsSignedLimits op a b (IsSignedBetween l) → KeepsSignedLimits op a b (IsSignedBetween m)
+kept_signed_limits op a b l m enclosed = keeps_signed_map op Low32 a.signed_least a.signed_greatest
+    b.signed_least b.signed_greatest b.least b.greatest (IsSignedBetween l) (IsSignedBetween m)
+    (λ from to h. (omega (arith, ints, h.0, enclosed.2), omega (arith, ints, h.1, enclosed.3)))

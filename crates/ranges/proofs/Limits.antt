@@ -100,29 +100,31 @@ shift_word_small x k h k_in = rw (lt-ltb x (2 ^ 31) h) (ap (λ n. x / 2 ^ n) (mo
 
 -- ---- sign extensions to 64 bits
 
-pub extended_8 : (x : ℕ) → (negsuc 127 ≤ℤ cast_signed w64 (sign_extended Full8 x)) × (cast_signed w64 (sign_extended Full8 x) ≤ℤ pos 127)
-extended_8 x =
-    let e = signed_equation (sign_extended Full8 x) (sign_extended_fits Full8 x) in
-    elim (sign_extended_cases Full8 x (2 ^ 7) refl) [
+-- what is made lies within half of what is read, on both sides of 0
+extended_between : (e : Extension) (x h : ℕ) → h + h ≡ 2 ^ extension_bits e
+    → extension_width e ≡ Full64 → 0 < h → h ≤ 2 ^ 63
+    → (negsuc (h - 1) ≤ℤ cast_signed w64 (sign_extended e x))
+    × (cast_signed w64 (sign_extended e x) ≤ℤ pos (h - 1))
+extended_between e x h twice full some most =
+    let z = signed_equation (sign_extended e x) (sign_extended_fits e x) in
+    let width : 2 ^ width_bits (extension_width e) ≡ 2 ^ 64 = ap (λ w. 2 ^ width_bits w) full in
+    let read = mod_below x (2 ^ extension_bits e) (omega arith) in
+    elim (sign_extended_cases e x h twice) [
       | inl p ↦ (omega (arith, ints, p.0, p.1), omega (arith, ints, p.0, p.1))
-      | inr p ↦ let b : x % 2 ^ 8 < 2 ^ 8 = omega arith in (omega (arith, ints, p.0, p.1), omega (arith, ints, p.0, p.1))
+      | inr p ↦ (omega (arith, ints, p.0, p.1), omega (arith, ints, p.0, p.1))
     ]
 
-pub extended_16 : (x : ℕ) → (negsuc 32767 ≤ℤ cast_signed w64 (sign_extended Full16 x)) × (cast_signed w64 (sign_extended Full16 x) ≤ℤ pos 32767)
-extended_16 x =
-    let e = signed_equation (sign_extended Full16 x) (sign_extended_fits Full16 x) in
-    elim (sign_extended_cases Full16 x (2 ^ 15) refl) [
-      | inl p ↦ (omega (arith, ints, p.0, p.1), omega (arith, ints, p.0, p.1))
-      | inr p ↦ let b : x % 2 ^ 16 < 2 ^ 16 = omega arith in (omega (arith, ints, p.0, p.1), omega (arith, ints, p.0, p.1))
-    ]
+pub extended_8 : (x : ℕ) → (negsuc 127 ≤ℤ cast_signed w64 (sign_extended Full8 x))
+    × (cast_signed w64 (sign_extended Full8 x) ≤ℤ pos 127)
+extended_8 x = extended_between Full8 x (2 ^ 7) refl refl (omega arith) (omega arith)
 
-pub extended_32 : (x : ℕ) → (negsuc 2147483647 ≤ℤ cast_signed w64 (sign_extended Full32 x)) × (cast_signed w64 (sign_extended Full32 x) ≤ℤ pos 2147483647)
-extended_32 x =
-    let e = signed_equation (sign_extended Full32 x) (sign_extended_fits Full32 x) in
-    elim (sign_extended_cases Full32 x (2 ^ 31) refl) [
-      | inl p ↦ (omega (arith, ints, p.0, p.1), omega (arith, ints, p.0, p.1))
-      | inr p ↦ let b : x % 2 ^ 32 < 2 ^ 32 = omega arith in (omega (arith, ints, p.0, p.1), omega (arith, ints, p.0, p.1))
-    ]
+pub extended_16 : (x : ℕ) → (negsuc 32767 ≤ℤ cast_signed w64 (sign_extended Full16 x))
+    × (cast_signed w64 (sign_extended Full16 x) ≤ℤ pos 32767)
+extended_16 x = extended_between Full16 x (2 ^ 15) refl refl (omega arith) (omega arith)
+
+pub extended_32 : (x : ℕ) → (negsuc 2147483647 ≤ℤ cast_signed w64 (sign_extended Full32 x))
+    × (cast_signed w64 (sign_extended Full32 x) ≤ℤ pos 2147483647)
+extended_32 x = extended_between Full32 x (2 ^ 31) refl refl (omega arith) (omega arith)
 
 pub test_le : (a b : ℤ) → le_z a b ≡ true → a ≤ℤ b
 test_le a b h = grind (arith, ints)

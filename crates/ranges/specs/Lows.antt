@@ -41,12 +41,14 @@ IsSignedOf w l = FitsSigned w l.signed_least × FitsSigned w l.signed_greatest
 
 -- the signed limits are the unsigned ones, read with a sign
 abbrev pub ReadsAlike : Low → Type 0
-ReadsAlike l = (l.signed_least ≡ cast_signed w32 l.least) × (l.signed_greatest ≡ cast_signed w32 l.greatest)
+ReadsAlike l =
+    (l.signed_least ≡ cast_signed w32 l.least) × (l.signed_greatest ≡ cast_signed w32 l.greatest)
 
 -- `is` holds of each limit
 abbrev pub AreReached : Low → (ℕ → Type 0) → Type 0
 AreReached l is =
-    is l.least × is l.greatest × is (cast_unsigned w32 l.signed_least) × is (cast_unsigned w32 l.signed_greatest)
+    is l.least × is l.greatest × is (cast_unsigned w32 l.signed_least)
+    × is (cast_unsigned w32 l.signed_greatest)
 
 -- each limit is one of the low halves: no narrower limits have all of them
 abbrev pub IsTight : Low → Type 0
@@ -55,7 +57,8 @@ IsTight l = AreReached l (Has l)
 -- each limit is that of one of the two
 abbrev pub IsOfEither : Low → Low → Low → Type 0
 IsOfEither l a b =
-    ((l.least ≡ a.least) ⊎ (l.least ≡ b.least)) × ((l.greatest ≡ a.greatest) ⊎ (l.greatest ≡ b.greatest))
+    ((l.least ≡ a.least) ⊎ (l.least ≡ b.least))
+    × ((l.greatest ≡ a.greatest) ⊎ (l.greatest ≡ b.greatest))
     × ((l.signed_least ≡ a.signed_least) ⊎ (l.signed_least ≡ b.signed_least))
     × ((l.signed_greatest ≡ a.signed_greatest) ⊎ (l.signed_greatest ≡ b.signed_greatest))
 
@@ -72,4 +75,5 @@ KeepsLimits op a b keeps = KeepsUnsigned op Low32 a.least a.greatest b.least b.g
 -- the signed limits that it must keep at 32 bits
 abbrev pub KeepsSignedLimits : AluOp → Low → Low → (ℤ → ℤ → Type 0) → Type 0
 KeepsSignedLimits op a b keeps =
-    KeepsSigned op Low32 a.signed_least a.signed_greatest b.signed_least b.signed_greatest b.least b.greatest keeps
+    KeepsSigned op Low32 a.signed_least a.signed_greatest b.signed_least b.signed_greatest
+    b.least b.greatest keeps

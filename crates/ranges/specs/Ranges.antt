@@ -39,15 +39,17 @@ pub record HasLow (r : Range) (half : ℕ) : Type 0 where
 abbrev pub IsTight : Range → Type 0
 IsTight r =
     Has r r.wide.least × Has r r.wide.greatest
-    × Has r (cast_unsigned w64 r.wide.signed_least) × Has r (cast_unsigned w64 r.wide.signed_greatest)
+    × Has r (cast_unsigned w64 r.wide.signed_least)
+    × Has r (cast_unsigned w64 r.wide.signed_greatest)
     × L.AreReached r.low (HasLow r)
 
 -- no limit of b is outside those of a
 abbrev pub Encloses : Range → Range → Type 0
 Encloses a b = W.Encloses a.wide b.wide × L.Encloses a.low b.low
 
--- the low half of the operation's result is what it gives on low halves at 32 bits: at 32 bits always, at 64 of sums,
--- differences, products, common and different bits, moves, and shifts to the left by a known distance below 32
+-- the low half of the operation's result is what it gives on low halves at 32 bits: at 32 bits
+-- always, at 64 of sums, differences, products, common and different bits, moves, and shifts to the
+-- left by a known distance below 32
 abbrev pub ReadsLow : AluOp → Width → Wide → Type 0
 ReadsLow op Low32 b = ⊤
 ReadsLow Add Full64 b = ⊤

@@ -32,7 +32,8 @@ IsSignedOf w r = FitsSigned w r.signed_least × FitsSigned w r.signed_greatest
 
 -- the signed limits are the unsigned ones, read with a sign
 abbrev pub ReadsAlike : Wide → Type 0
-ReadsAlike r = (r.signed_least ≡ cast_signed w64 r.least) × (r.signed_greatest ≡ cast_signed w64 r.greatest)
+ReadsAlike r =
+    (r.signed_least ≡ cast_signed w64 r.least) × (r.signed_greatest ≡ cast_signed w64 r.greatest)
 
 -- each limit is one of the numbers: no narrower limits have all of them
 abbrev pub IsTight : Wide → Type 0
@@ -52,11 +53,13 @@ Encloses a b =
     (a.least ≤ b.least) × (b.greatest ≤ a.greatest)
     × (a.signed_least ≤ℤ b.signed_least) × (b.signed_greatest ≤ℤ a.signed_greatest)
 
--- the unsigned limits that an operation's result must keep, from those of two sets of numbers of the width
+-- the unsigned limits that an operation's result must keep, from those of two sets of numbers of
+-- the width
 abbrev pub KeepsLimits : AluOp → Width → Wide → Wide → (ℕ → ℕ → Type 0) → Type 0
 KeepsLimits op w a b keeps = KeepsUnsigned op w a.least a.greatest b.least b.greatest keeps
 
 -- the signed limits that it must keep at 64 bits
 abbrev pub KeepsSignedLimits : AluOp → Wide → Wide → (ℤ → ℤ → Type 0) → Type 0
 KeepsSignedLimits op a b keeps =
-    KeepsSigned op Full64 a.signed_least a.signed_greatest b.signed_least b.signed_greatest b.least b.greatest keeps
+    KeepsSigned op Full64 a.signed_least a.signed_greatest b.signed_least b.signed_greatest
+    b.least b.greatest keeps

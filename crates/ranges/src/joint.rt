@@ -55,7 +55,8 @@ impl Low {
         ensures contains { (x : ℕ) → least ≤ x → x ≤ greatest → Has self (x % 2 ^ 32)
             → Has result (x % 2 ^ 32) }
         ensures enclosed { Encloses self result }
-        ensures reached { AreReached result (λ half. Has self half × IsHalfBetween least greatest half) }
+        ensures reached { AreReached result (λ half. Has self half
+            × IsHalfBetween least greatest half) }
     {
         let first = least / HALVES;
         let last = greatest / HALVES;
