@@ -8,7 +8,7 @@ use Rattle.std.proofs.lemmas.Bool.Decides.{nat_tests}
 use Rattle.std.proofs.lemmas.Nat.{from_le_bytes-to_le_bytes_8, pow-add}
 use Rattle.std.proofs.Math.Nat.{div-div-eq-div-mul, div-le_self, mod-eq_of_lt, pow-succ'}
 use Rattle.std.proofs.lemmas.Nat.Bits.{bit_at_or, bit_at-lt, bit_at_mask_above, bit_at_mask_below}
-use Rattle.std.proofs.lemmas.List.{length-map, get_or_past}
+use Rattle.std.proofs.lemmas.List.{length-map}
 use Rattle.isa_model.specs.declared.sizes.Size.{Size}
 use Rattle.isa_model.specs.declared.sizes.Size.TheVariants.{U8, U16, U32, U64}
 use Rattle.isa_model.specs.declared.values.Region.{Region}
@@ -30,6 +30,7 @@ use Rattle.stack_state.specs.declared.slots.Slot.{Slot}
 use Rattle.stack_state.specs.declared.slots.Slot.TheVariants.{Written, Spilled}
 use Rattle.stack_state.specs.Slots.{marks_of, mask_of}
 use Rattle.stack_state.specs.StackMeaning.{part_of, chunk_of, written, stored_cells, Marked, SlotMeans}
+use Rattle.stack_state.proofs.SpelledBytes.{number_from-fits}
 use Rattle.stack_state.proofs.SpliceLaws.{chunk_kept, chunk_written}
 
 -- ---- bytes
@@ -68,46 +69,10 @@ length-bytes_of U64 n = refl
 -- that many bytes spell a number that fits them
 pub number_from_below : (size : Size) (bytes : List ℕ) → length bytes ≡ size_bytes size → EachByte bytes
     → number_from bytes < 2 ^ (8 * size_bytes size)
-number_from_below U8 bytes long h =
-    let h0 = h 0 in
-    let h1 = get_or_past bytes 1 0 (omega arith) in
-    let h2 = get_or_past bytes 2 0 (omega arith) in
-    let h3 = get_or_past bytes 3 0 (omega arith) in
-    let h4 = get_or_past bytes 4 0 (omega arith) in
-    let h5 = get_or_past bytes 5 0 (omega arith) in
-    let h6 = get_or_past bytes 6 0 (omega arith) in
-    let h7 = get_or_past bytes 7 0 (omega arith) in
-    omega arith
-number_from_below U16 bytes long h =
-    let h0 = h 0 in
-    let h1 = h 1 in
-    let h2 = get_or_past bytes 2 0 (omega arith) in
-    let h3 = get_or_past bytes 3 0 (omega arith) in
-    let h4 = get_or_past bytes 4 0 (omega arith) in
-    let h5 = get_or_past bytes 5 0 (omega arith) in
-    let h6 = get_or_past bytes 6 0 (omega arith) in
-    let h7 = get_or_past bytes 7 0 (omega arith) in
-    omega arith
-number_from_below U32 bytes long h =
-    let h0 = h 0 in
-    let h1 = h 1 in
-    let h2 = h 2 in
-    let h3 = h 3 in
-    let h4 = get_or_past bytes 4 0 (omega arith) in
-    let h5 = get_or_past bytes 5 0 (omega arith) in
-    let h6 = get_or_past bytes 6 0 (omega arith) in
-    let h7 = get_or_past bytes 7 0 (omega arith) in
-    omega arith
-number_from_below U64 bytes long h =
-    let h0 = h 0 in
-    let h1 = h 1 in
-    let h2 = h 2 in
-    let h3 = h 3 in
-    let h4 = h 4 in
-    let h5 = h 5 in
-    let h6 = h 6 in
-    let h7 = h 7 in
-    omega arith
+number_from_below U8 bytes long h = number_from-fits bytes 1 (omega arith) long h
+number_from_below U16 bytes long h = number_from-fits bytes 2 (omega arith) long h
+number_from_below U32 bytes long h = number_from-fits bytes 4 (omega arith) long h
+number_from_below U64 bytes long h = number_from-fits bytes 8 (omega arith) long h
 
 -- ---- marks
 

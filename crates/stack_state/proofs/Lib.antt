@@ -15,6 +15,7 @@ pub mod NumberStoreLaws
 pub mod PacketEffects
 pub mod PlaceLaws
 pub mod SpliceLaws
+pub mod SpelledBytes
 pub mod StackLaws
 pub mod StartsLaws
 pub mod ValueEffects

@@ -16,12 +16,14 @@ use Rattle.stack_state.specs.Effects.{map_kinds}
 -- r6 to r9, which a call keeps
 abbrev pub kept_kinds : List Kind → List Kind
 kept_kinds ks =
-    Unset ∷ Unset ∷ Unset ∷ Unset ∷ Unset ∷ Unset ∷ kind_at ks 6 ∷ kind_at ks 7 ∷ kind_at ks 8 ∷ kind_at ks 9 ∷ []
+    Unset ∷ Unset ∷ Unset ∷ Unset ∷ Unset ∷ Unset ∷ kind_at ks 6 ∷ kind_at ks 7 ∷ kind_at ks 8
+    ∷ kind_at ks 9 ∷ []
 
 -- r1 to r5, which it passes to the function
 abbrev pub handed_kinds : List Kind → List Kind
 handed_kinds ks =
-    Unset ∷ kind_at ks 1 ∷ kind_at ks 2 ∷ kind_at ks 3 ∷ kind_at ks 4 ∷ kind_at ks 5 ∷ Unset ∷ Unset ∷ Unset ∷ Unset ∷ []
+    Unset ∷ kind_at ks 1 ∷ kind_at ks 2 ∷ kind_at ks 3 ∷ kind_at ks 4 ∷ kind_at ks 5 ∷ Unset ∷ Unset
+    ∷ Unset ∷ Unset ∷ []
 
 -- a frame whose bytes are all unknown
 unfoldable pub unset_slots : List Slot
@@ -33,7 +35,12 @@ caller_of f = record f { registers = kept_kinds f.registers }
 
 -- the frame of a function that is called
 abbrev pub callee_of : AbstractFrame → ℕ → AbstractFrame
-callee_of f slot = record { return_slot = slot; registers = handed_kinds f.registers; stack = record { slots = unset_slots } }
+callee_of f slot =
+    record {
+      return_slot = slot;
+      registers = handed_kinds f.registers;
+      stack = record { slots = unset_slots };
+    }
 
 -- a call of the function at a slot
 abbrev pub entered : State → ℕ → State
@@ -53,7 +60,8 @@ with_new_frame e serial = record e { frames = e.frames ++ serial ∷ [] }
 -- r0 as the callee leaves it, and r6 to r9 as they were kept
 abbrev pub left_kinds : Kind → List Kind → List Kind
 left_kinds answer ks =
-    answer ∷ Unset ∷ Unset ∷ Unset ∷ Unset ∷ Unset ∷ kind_at ks 6 ∷ kind_at ks 7 ∷ kind_at ks 8 ∷ kind_at ks 9 ∷ []
+    answer ∷ Unset ∷ Unset ∷ Unset ∷ Unset ∷ Unset ∷ kind_at ks 6 ∷ kind_at ks 7 ∷ kind_at ks 8
+    ∷ kind_at ks 9 ∷ []
 
 -- the frame of the caller that is returned to
 abbrev pub resumed_of : AbstractFrame → Kind → AbstractFrame

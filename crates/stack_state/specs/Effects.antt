@@ -1,4 +1,5 @@
--- What is done to an abstract state, by effect: other slots in a frame, and other kinds in every frame.
+-- What is done to an abstract state, by effect: other slots in a frame, and other kinds in every
+-- frame.
 use Rattle.std.specs.Prelude.{ℕ, ◌==◌, List, map, length, max, Bool, true, false, pos, if◌then◌else◌}
 use Rattle.arrayvec.specs.ArrayVec.{with_item}
 use Rattle.reg_state.specs.declared.scalars.Scalar.{Scalar}
@@ -19,7 +20,8 @@ with_slots f slots = record f { stack = record { slots = slots } }
 -- another frame in the jth place
 abbrev pub with_frame : State → ℕ → AbstractFrame → State
 with_frame a j f =
-    if j == length a.callers.items then record a { innermost = f } else record a { callers = with_item a.callers j f }
+    if j == length a.callers.items then record a { innermost = f }
+    else record a { callers = with_item a.callers j f }
 
 -- other slots in the jth frame
 abbrev pub with_frame_slots : State → ℕ → List Slot → State
@@ -28,7 +30,8 @@ with_frame_slots a j slots = with_frame a j (with_slots (frame_of a j) slots)
 -- ---- every frame
 
 abbrev pub map_frames : (AbstractFrame → AbstractFrame) → State → State
-map_frames g a = record a { callers = record { items = map g a.callers.items }; innermost = g a.innermost }
+map_frames g a =
+    record a { callers = record { items = map g a.callers.items }; innermost = g a.innermost }
 
 -- another kind for a spilled value
 abbrev pub with_spilled : (Kind → Kind) → Slot → Slot
@@ -36,7 +39,11 @@ with_spilled g (Written marks) = Written marks
 with_spilled g (Spilled k) = Spilled (g k)
 
 abbrev pub with_kinds : (Kind → Kind) → AbstractFrame → AbstractFrame
-with_kinds g f = record f { registers = map g f.registers; stack = record { slots = map (with_spilled g) f.stack.slots } }
+with_kinds g f =
+    record f {
+      registers = map g f.registers;
+      stack = record { slots = map (with_spilled g) f.stack.slots };
+    }
 
 -- other kinds in all registers and slots
 abbrev pub map_kinds : (Kind → Kind) → State → State
@@ -66,7 +73,10 @@ forgotten_register m k = kind_in (forgotten_kind m k)
 
 abbrev pub forgotten_frame : ℕ → AbstractFrame → AbstractFrame
 forgotten_frame m f =
-    record f { registers = map (forgotten_register m) f.registers; stack = record { slots = forgotten m f.stack.slots } }
+    record f {
+      registers = map (forgotten_register m) f.registers;
+      stack = record { slots = forgotten m f.stack.slots };
+    }
 
 -- pointers to values of the map are forgotten in all frames
 abbrev pub forgotten_in : ℕ → State → State

@@ -16,7 +16,8 @@ pub record IsFreshIn (names : Names) (f : AbstractFrame) (i : ℕ) : Type 0 wher
   pub registers : (k : ℕ) → named_by names (kind_at f.registers k) ≢ Some i
   pub slots : (k : ℕ) → named_by names (kind_in (slot_at f.stack.slots k)) ≢ Some i
 
--- none of the first n places names it, where a relation says of each place which identities it does not name
+-- none of the first n places names it, where a relation says of each place which identities it does
+-- not name
 abbrev pub AreFree : (ℕ → ℕ → Type 0) → ℕ → ℕ → Type 0
 AreFree Free n i = (k : ℕ) → k < n → Free k i
 
@@ -46,6 +47,7 @@ marked (false ∷ marks) = marked marks
 -- marked and is free
 pub record Marks (IsFree : ℕ → Type 0) (n : ℕ) (old new : List Bool) : Type 0 where
   pub named : (i : ℕ) → is_marked new i ≡ true → (is_marked old i ≡ true) ⊎ (¬ IsFree i)
-  pub free : (i : ℕ) → i < length new → is_marked new i ≡ false → (is_marked old i ≡ false) × IsFree i
+  pub free : (i : ℕ) → i < length new → is_marked new i ≡ false → (is_marked old i ≡ false)
+      × IsFree i
   pub few : marked new ≤ marked old + n
   pub long : length new ≡ length old

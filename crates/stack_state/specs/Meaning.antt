@@ -77,7 +77,8 @@ Means p a s = (e : Assigned) × MeansBy p e a s
 
 -- the run of every member exits within n steps, with every clock
 unfoldable pub Within : Program → State → ℕ → Type 0
-Within p a n = (clock : ℕ → ℕ) → IsClock clock → (s : Machine.State) → Means p a s → Ends p clock s n
+Within p a n =
+    (clock : ℕ → ℕ) → IsClock clock → (s : Machine.State) → Means p a s → Ends p clock s n
 
 -- every member of b is a member of a
 unfoldable pub Covers : Program → State → State → Type 0

@@ -34,7 +34,8 @@ abbrev pub marks_after : Slot → ℕ → Size → ℕ
 marks_after s from size = bit_or (marks_of s) (mask_of from (from + size_bytes size))
 
 -- the slot's number with other bytes
-pub record IsSpliced (s : Slot) (from : ℕ) (size : Size) (numbers : Scalar) (t : Slot) : Type 0 where
+pub record IsSpliced (s : Slot) (from : ℕ) (size : Size) (numbers : Scalar) (t : Slot)
+    : Type 0 where
   pub old : Scalar
   pub new : Scalar
   pub whole : AreWhole s old
@@ -45,24 +46,30 @@ pub record IsSpliced (s : Slot) (from : ℕ) (size : Size) (numbers : Scalar) (t
 abbrev pub HaveAll : Size → Scalar → Type 0
 HaveAll size numbers = (x : ℕ) → x < 2 ^ (8 * size_bytes size) → Has numbers x
 
--- nothing is known of the slot's bytes but which are written, nor of the bytes that are written into it
+-- nothing is known of the slot's bytes but which are written, nor of the bytes that are written
+-- into it
 abbrev pub IsBlank : Slot → Size → Scalar → Type 0
 IsBlank (Written marks) size numbers = HaveAll size numbers
 IsBlank (Spilled k) size numbers = ⊥
 
--- bytes of a number are written: where all eight bytes of the slot then are number bytes, what is known of their number is
--- kept, if anything is, and else which are written
-pub record IsSlotStored (s : Slot) (from : ℕ) (size : Size) (numbers : Scalar) (t : Slot) : Type 0 where
-  pub whole : marks_after s from size ≡ 255 → IsSpliced s from size numbers t ⊎ (IsBlank s size numbers × (t ≡ Written 255))
+-- bytes of a number are written: where all eight bytes of the slot then are number bytes, what is
+-- known of their number is kept, if anything is, and else which are written
+pub record IsSlotStored (s : Slot) (from : ℕ) (size : Size) (numbers : Scalar) (t : Slot)
+    : Type 0 where
+  pub whole : marks_after s from size ≡ 255 → IsSpliced s from size numbers t
+      ⊎ (IsBlank s size numbers × (t ≡ Written 255))
   pub parts : marks_after s from size ≢ 255 → t ≡ Written (marks_after s from size)
 
 -- the bytes of one of the numbers, stored at a place in cells of a state
 unfoldable pub StoresNumber : List Slot → ℕ → Size → Scalar → List Slot → Type 0
-StoresNumber old at size numbers new = (e : Assigned) (rows next : ℕ) (cells : List Cell) (n : ℕ) → All (IsCell rows next) cells
-    → Has numbers n → StackMeans e old cells → StackMeans e new (written cells at (map Byte (bytes_of size n)))
+StoresNumber old at size numbers new =
+    (e : Assigned) (rows next : ℕ) (cells : List Cell) (n : ℕ) → All (IsCell rows next) cells
+    → Has numbers n → StackMeans e old cells
+    → StackMeans e new (written cells at (map Byte (bytes_of size n)))
 
 -- bytes of one of the numbers are written in the jth frame
-pub record IsNumberStoredIn (a : State) (j at : ℕ) (size : Size) (numbers : Scalar) (b : State) : Type 0 where
+pub record IsNumberStoredIn (a : State) (j at : ℕ) (size : Size) (numbers : Scalar) (b : State)
+    : Type 0 where
   pub slot : Slot
   pub stored : IsSlotStored (slot_at (slots_of a j) (at / 8)) (at % 8) size numbers slot
   pub left : b ≡ with_frame_slots a j (slice_set (slots_of a j) (at / 8) slot)

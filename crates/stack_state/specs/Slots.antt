@@ -53,7 +53,8 @@ AreMarked slots from end = (i : ℕ) → from ≤ i → i < end → IsNumberByte
 -- number the other bytes stay
 abbrev pub after_store : List Slot → ℕ → ℕ → List Slot
 after_store slots at n =
-    slice_set slots (at / 8) (Written (bit_or (marks_of (slot_at slots (at / 8))) (mask_of (at % 8) (at % 8 + n))))
+    slice_set slots (at / 8)
+    (Written (bit_or (marks_of (slot_at slots (at / 8))) (mask_of (at % 8) (at % 8 + n))))
 
 -- ---- numbers
 
@@ -88,7 +89,8 @@ AreNumbers (Spilled k) from size answer = AreSpilled k from size answer
 abbrev pub IsLoad : List Slot → ℕ → Size → Option Scalar → Type 0
 IsLoad slots at size None = ¬ AreMarked slots at (at + size_bytes size)
 IsLoad slots at size (Some answer) =
-    AreMarked slots at (at + size_bytes size) × AreNumbers (slot_at slots (at / 8)) (at % 8) size answer
+    AreMarked slots at (at + size_bytes size)
+    × AreNumbers (slot_at slots (at / 8)) (at % 8) size answer
 
 -- ---- whole values
 
@@ -123,8 +125,10 @@ abbrev pub forgotten_if : ℕ → ℕ → Kind → Slot
 forgotten_if m index k = if index == m then Written 0 else Spilled k
 
 abbrev pub forgotten_kind : ℕ → Kind → Slot
-forgotten_kind m (MapValue index least greatest) = forgotten_if m index (MapValue index least greatest)
-forgotten_kind m (MapValueOrNull index identity) = forgotten_if m index (MapValueOrNull index identity)
+forgotten_kind m (MapValue index least greatest) =
+    forgotten_if m index (MapValue index least greatest)
+forgotten_kind m (MapValueOrNull index identity) =
+    forgotten_if m index (MapValueOrNull index identity)
 forgotten_kind m k = Spilled k
 
 -- pointers to values of the map are forgotten

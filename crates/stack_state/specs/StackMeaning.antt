@@ -47,7 +47,8 @@ stored_cells (Ptr r z) = pieces r z
 
 -- each marked cell is a number byte
 abbrev pub Marked : ℕ → List Cell → Type 0
-Marked marks cs = (i : ℕ) → i < 8 → bit_at marks i ≡ 1 → is_byte (slice_index_or cs i Unwritten) ≡ true
+Marked marks cs =
+    (i : ℕ) → i < 8 → bit_at marks i ≡ 1 → is_byte (slice_index_or cs i Unwritten) ≡ true
 
 abbrev pub SlotMeans : Assigned → Slot → List Cell → Type 0
 SlotMeans e (Written marks) cs = Marked marks cs
@@ -67,12 +68,15 @@ StoresBytes old at size new = (e : Assigned) (cells : List Cell) (n : ℕ) → S
 
 -- any value that the kind allows, stored into a slot
 unfoldable pub Spills : List Slot → ℕ → Kind → List Slot → Type 0
-Spills old k kind new = (e : Assigned) (cells : List Cell) (v : Value) → v ≢ Unset → Allows e kind v → StackMeans e old cells
+Spills old k kind new =
+    (e : Assigned) (cells : List Cell) (v : Value) → v ≢ Unset → Allows e kind v
+    → StackMeans e old cells
     → StackMeans e new (written cells (8 * k) (stored_cells v))
 
 -- the number that a load answers is one of these
 unfoldable pub LoadsNumber : List Slot → ℕ → Size → Option Scalar → Type 0
-LoadsNumber slots at size answer = IfSome answer (λ numbers. (e : Assigned) (rows next : ℕ) (cells : List Cell)
+LoadsNumber slots at size answer =
+    IfSome answer (λ numbers. (e : Assigned) (rows next : ℕ) (cells : List Cell)
     → All (IsCell rows next) cells → StackMeans e slots cells
     → (n : ℕ) × (number_in (part_of cells at (size_bytes size)) ≡ Ok n) × Has numbers n)
 
@@ -97,5 +101,6 @@ with_maps e maps = record e { maps = maps }
 
 -- whatever happens to the values of the map
 unfoldable pub ForgetsMap : ℕ → List Slot → List Slot → Type 0
-ForgetsMap m old new = (e : Assigned) (maps : List Content) (cells : List Cell) → KeepsOthers m e.maps maps
+ForgetsMap m old new =
+    (e : Assigned) (maps : List Content) (cells : List Cell) → KeepsOthers m e.maps maps
     → StackMeans e old cells → StackMeans (with_maps e maps) new cells

@@ -7,7 +7,8 @@ use Rattle.stack_state.specs.declared.slots.Slot.TheVariants.{Written}
 use Rattle.stack_state.specs.declared.states.State.{State}
 
 abbrev pub first_registers : List Kind
-first_registers = Unset ∷ Context ∷ Unset ∷ Unset ∷ Unset ∷ Unset ∷ Unset ∷ Unset ∷ Unset ∷ Unset ∷ []
+first_registers =
+    Unset ∷ Context ∷ Unset ∷ Unset ∷ Unset ∷ Unset ∷ Unset ∷ Unset ∷ Unset ∷ Unset ∷ []
 
 -- slot 0 in one frame: r1 points to the context, and the rest and all bytes are unset
 unfoldable pub start : State
@@ -15,5 +16,9 @@ start =
     record {
       slot = 0;
       callers = record { items = [] };
-      innermost = record { return_slot = 0; registers = first_registers; stack = record { slots = replicate frame_slots (Written 0) } };
+      innermost = record {
+        return_slot = 0;
+        registers = first_registers;
+        stack = record { slots = replicate frame_slots (Written 0) };
+      };
     }
