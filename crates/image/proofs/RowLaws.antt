@@ -111,7 +111,8 @@ map_refusal-NamesRows rows slot (LoadMap d m) h = rw (lt-ltb m (length rows) h) 
 map_refusal-NamesRows rows slot (LoadMapValue d m offset) h = value_taken slot offset (slice_get rows m) h
 map_refusal-NamesRows rows slot i h = refl
 
-neither : (a b : Option ImageError) → option_or a b ≡ None → (a ≡ None) × (b ≡ None)
+-- where there is no refusal of either, there is none of each
+pub neither : (a b : Option ImageError) → option_or a b ≡ None → (a ≡ None) × (b ≡ None)
 neither None b h = (refl, h)
 neither (Some e) b h = absurd cc
 

@@ -22,7 +22,7 @@ use Rattle.image.specs.declared.errors.ImageError.TheVariants.{Magic, Short, Lon
 use Rattle.isa_model.specs.declared.limits.TheConstants.{MAX_MAPS, MAX_MAP_ROOM, MAX_SLOTS}
 use Rattle.image.specs.Images.{magic, row_bytes, head_bytes, code_bytes, image_bytes, IsCode, room_of, IsImage}
 use Rattle.image.specs.Refusals.{◌>>=◌, unless, count_refusal, rows_refusal, maps_refusal, parts_refusal, version_at, version_read, map_count, slot_count, size_of, size_refusal, rows_from, room_refusal, code_from, rows_read, code_read, program_read, refusal_of}
-use Rattle.image.proofs.RowLaws.{All-rows_refusal, NamesMaps-maps_refusal}
+use Rattle.image.proofs.RowLaws.{All-rows_refusal, NamesMaps-maps_refusal, neither}
 use Rattle.image.proofs.CodeSpelling.{Laws, take-rest, code_from-found, code_from-code_bytes, length-code_bytes}
 use Rattle.image.proofs.RowSpelling.{rows_from-fit, rows_from-found, rows_from-row_bytes, length-rows}
 
@@ -323,10 +323,6 @@ code_fails bytes rows e h room (inr r) = inr (program_read-code bytes rows (Err 
 gate : (b : Bool) (e : ImageError) (o : Option ImageError) → cond b (refused e) o ≡ None → (b ≡ false) × (o ≡ None)
 gate true e o h = absurd cc
 gate false e o h = (refl, h)
-
-neither : (a b : Option ImageError) → option_or a b ≡ None → (a ≡ None) × (b ≡ None)
-neither None b h = (refl, h)
-neither (Some e) b h = absurd cc
 
 pub IsImage-parts : (v : Version) (rows : List MapDef) (xs : List (Option Insn)) → parts_refusal rows xs ≡ None → IsCode false xs → IsImage (parts v rows xs)
 IsImage-parts v rows xs h code =

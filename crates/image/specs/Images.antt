@@ -1,5 +1,6 @@
--- Images: the magic `XBP1` or `XBP2`, u16 map count, u16 slot count, the map rows, the slots; the lowest byte of a number first.
--- A map row: u16 type, u16 key size, u32 value size, u32 entries. A slot: 8 bytes, RFC 9669, section 3.
+-- Images: the magic `XBP1` or `XBP2`, u16 map count, u16 slot count, the map rows, the slots; the
+-- lowest byte of a number first. A map row: u16 type, u16 key size, u32 value size, u32 entries. A
+-- slot: 8 bytes, RFC 9669, section 3.
 use Rattle.std.specs.Prelude.{◌≡◌, ℕ, ◌+◌, ◌*◌, ◌≤◌, Bool, true, false, List, [], ◌∷◌, ◌++◌, length, sum_by, All, Option, Some, None, codes, ◌==◌}
 use Rattle.std.specs.List.{flat_map}
 use Rattle.byteorder.specs.Endian.{little_bytes}
@@ -28,7 +29,8 @@ kind_code Array = 2
 abbrev pub row_bytes : MapDef → List ℕ
 row_bytes row =
     little_bytes 2 (kind_code row.kind)
-    ++ (little_bytes 2 row.key_size ++ (little_bytes 4 row.value_size ++ little_bytes 4 row.entries))
+    ++ (little_bytes 2 row.key_size
+    ++ (little_bytes 4 row.value_size ++ little_bytes 4 row.entries))
 
 -- a second half is spelled with the instruction before it
 abbrev pub slot_spelling : Option Insn → List ℕ
@@ -40,7 +42,8 @@ code_bytes xs = flat_map slot_spelling xs
 
 -- the 8 bytes before the rows
 abbrev pub head_bytes : Program → List ℕ
-head_bytes p = magic p.version ++ (little_bytes 2 (length p.maps) ++ little_bytes 2 (length p.insns))
+head_bytes p =
+    magic p.version ++ (little_bytes 2 (length p.maps) ++ little_bytes 2 (length p.insns))
 
 unfoldable pub image_bytes : Program → List ℕ
 image_bytes p = head_bytes p ++ (flat_map row_bytes p.maps ++ code_bytes p.insns)
@@ -54,8 +57,8 @@ room_of row = row.entries * (row.key_size + row.value_size)
 abbrev pub is_wide : Insn → Bool
 is_wide i = slots_of i == 2
 
--- slots of code, the first of them a second half or not: there is a second half after each instruction of two slots and
--- nowhere else, and the numbers in instructions are of their types
+-- slots of code, the first of them a second half or not: there is a second half after each
+-- instruction of two slots and nowhere else, and the numbers in instructions are of their types
 abbrev pub IsCode : Bool → List (Option Insn) → Type 0
 IsCode half [] = half ≡ false
 IsCode true (None ∷ xs) = IsCode false xs

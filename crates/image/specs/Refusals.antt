@@ -21,7 +21,8 @@ use Rattle.isa_model.specs.Code.Limits.{max_key_size, max_value_size, max_map_en
 use Rattle.image.specs.Images.{magic, is_wide, room_of}
 
 infixl 10 ◌>>=◌
-abbrev pub ◌>>=◌ : {A B : Type 0} → Result A ImageError → (A → Result B ImageError) → Result B ImageError
+abbrev pub ◌>>=◌ : {A B : Type 0} → Result A ImageError → (A → Result B ImageError)
+    → Result B ImageError
 (Ok x) >>= f = f x
 (Err e) >>= f = Err e
 
@@ -66,7 +67,8 @@ size_refusal bytes =
 
 -- what is wrong with that many slots
 abbrev pub count_refusal : ℕ → Option ImageError
-count_refusal slots = if slots == 0 then Some SlotCount else if nat_lt MAX_SLOTS slots then Some SlotCount else None
+count_refusal slots =
+    if slots == 0 then Some SlotCount else if nat_lt MAX_SLOTS slots then Some SlotCount else None
 
 -- ---- the map rows
 
@@ -99,18 +101,21 @@ tested index (Some row) = if row_fits row then Ok row else Err (MapRow index)
 
 -- the row of that index, which the bytes begin with
 abbrev pub row_at : ℕ → List ℕ → Result MapDef ImageError
-row_at index bytes = tested index (option_map (with_kind bytes) (kind_numbered (little_number 2 bytes)))
+row_at index bytes =
+    tested index (option_map (with_kind bytes) (kind_numbered (little_number 2 bytes)))
 
 -- the n rows from this index on
 unfoldable pub rows_from : ℕ → ℕ → List ℕ → Result (List MapDef) ImageError
 rows_from zero index bytes = Ok []
 rows_from (suc n) index bytes =
-    row_at index bytes >>= λ row. rows_from n (index + 1) (drop 12 bytes) >>= λ rows. Ok (row ∷ rows)
+    row_at index bytes >>= λ row. rows_from n (index + 1) (drop 12 bytes)
+    >>= λ rows. Ok (row ∷ rows)
 
 -- the first row, from this index on, that is out of its limits
 abbrev pub rows_refusal : ℕ → List MapDef → Option ImageError
 rows_refusal index [] = None
-rows_refusal index (row ∷ rows) = if row_fits row then rows_refusal (index + 1) rows else Some (MapRow index)
+rows_refusal index (row ∷ rows) =
+    if row_fits row then rows_refusal (index + 1) rows else Some (MapRow index)
 
 abbrev pub room_refusal : List MapDef → Option ImageError
 room_refusal rows = if nat_lt MAX_MAP_ROOM (sum_by room_of rows) then Some MapRoom else None
@@ -127,11 +132,13 @@ holds_offset offset row = is_array row.kind && row.entries == 1 && nat_lt offset
 
 abbrev pub value_refusal : ℕ → ℕ → Option MapDef → Option ImageError
 value_refusal slot offset None = Some (UnknownMap slot)
-value_refusal slot offset (Some row) = if holds_offset offset row then None else Some (ValuePointer slot)
+value_refusal slot offset (Some row) =
+    if holds_offset offset row then None else Some (ValuePointer slot)
 
 -- what is wrong with the map that the instruction at a slot names
 abbrev pub map_refusal : List MapDef → ℕ → Insn → Option ImageError
-map_refusal rows slot (LoadMap d m) = if nat_lt m (length rows) then None else Some (UnknownMap slot)
+map_refusal rows slot (LoadMap d m) =
+    if nat_lt m (length rows) then None else Some (UnknownMap slot)
 map_refusal rows slot (LoadMapValue d m offset) = value_refusal slot offset (slice_get rows m)
 map_refusal rows slot i = None
 
@@ -139,7 +146,8 @@ map_refusal rows slot i = None
 abbrev pub maps_refusal : List MapDef → ℕ → List (Option Insn) → Option ImageError
 maps_refusal rows slot [] = None
 maps_refusal rows slot (None ∷ xs) = maps_refusal rows (slot + 1) xs
-maps_refusal rows slot (Some i ∷ xs) = option_or (map_refusal rows slot i) (maps_refusal rows (slot + 1) xs)
+maps_refusal rows slot (Some i ∷ xs) =
+    option_or (map_refusal rows slot i) (maps_refusal rows (slot + 1) xs)
 
 -- what is wrong with map rows and code that are given as values
 abbrev pub parts_refusal : List MapDef → List (Option Insn) → Option ImageError
@@ -154,14 +162,17 @@ abbrev pub at_slot : ℕ → Result Insn CodecError → Result Insn ImageError
 at_slot slot (Ok i) = Ok i
 at_slot slot (Err e) = Err (Code slot e)
 
--- the instruction that begins at a slot, which the bytes begin with: its spelling is tested, and then its map
+-- the instruction that begins at a slot, which the bytes begin with: its spelling is tested, and
+-- then its map
 abbrev pub insn_at : List MapDef → ℕ → List ℕ → Result Insn ImageError
 insn_at rows slot bytes = at_slot slot (decoded bytes) >>= λ i. unless (map_refusal rows slot i) i
 
 -- the n slots from this one on; `half` says whether the first is the second half of a wide load
-unfoldable pub code_from : List MapDef → ℕ → Bool → ℕ → List ℕ → Result (List (Option Insn)) ImageError
+unfoldable pub code_from : List MapDef → ℕ → Bool → ℕ → List ℕ
+    → Result (List (Option Insn)) ImageError
 code_from rows zero half slot bytes = Ok []
-code_from rows (suc n) true slot bytes = code_from rows n false (slot + 1) (drop 8 bytes) >>= λ xs. Ok (None ∷ xs)
+code_from rows (suc n) true slot bytes =
+    code_from rows n false (slot + 1) (drop 8 bytes) >>= λ xs. Ok (None ∷ xs)
 code_from rows (suc n) false slot bytes =
     insn_at rows slot bytes >>= λ i.
     code_from rows n (is_wide i) (slot + 1) (drop 8 bytes) >>= λ xs. Ok (Some i ∷ xs)
@@ -170,15 +181,18 @@ code_from rows (suc n) false slot bytes =
 
 -- the rows of an image whose sizes are right, together within their limit
 abbrev pub rows_read : List ℕ → Result (List MapDef) ImageError
-rows_read bytes = rows_from (map_count bytes) 0 (drop 8 bytes) >>= λ rows. unless (room_refusal rows) rows
+rows_read bytes =
+    rows_from (map_count bytes) 0 (drop 8 bytes) >>= λ rows. unless (room_refusal rows) rows
 
 -- its code, for these rows
 abbrev pub code_read : List ℕ → List MapDef → Result (List (Option Insn)) ImageError
-code_read bytes rows = code_from rows (slot_count bytes) false 0 (drop (8 + 12 * map_count bytes) bytes)
+code_read bytes rows =
+    code_from rows (slot_count bytes) false 0 (drop (8 + 12 * map_count bytes) bytes)
 
 abbrev pub program_read : List ℕ → Result Program ImageError
 program_read bytes =
-    rows_read bytes >>= λ rows. code_read bytes rows >>= λ xs. Ok (record { insns = xs; maps = rows; version = version_read bytes })
+    rows_read bytes >>= λ rows. code_read bytes rows
+    >>= λ xs. Ok (record { insns = xs; maps = rows; version = version_read bytes })
 
 unfoldable pub refusal_of : List ℕ → Option ImageError
 refusal_of bytes = option_or (size_refusal bytes) (result_err (program_read bytes))

@@ -198,6 +198,14 @@ impl Image {
         self.slots.len()
     }
 
+    /// Recalls that the program is an image's, for the proof of a caller that has no other clause
+    /// that says so. It does nothing.
+    pub fn recall(&self)
+        ensures { IsImage self.now }
+    {
+        let _version = self.version;
+    }
+
     /// The instructions by slot, with none at second halves.
     pub fn code(&self) -> &[Option<Insn>]
         ensures { result.now ≡ self.now.insns }
