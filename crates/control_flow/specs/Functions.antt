@@ -20,7 +20,8 @@ EndsFunction p slot = (length p.insns ≤ slot) ⊎ BeginsFunction p slot
 -- the slots of the code at which functions begin are marked
 pub record MarksFunctions (p : Program) (marks : List Bool) : Type 0 where
   pub same : length marks ≡ length p.insns
-  pub each : (slot : ℕ) → slot < length p.insns → IsTrue (slice_index_or marks slot false) ↔ BeginsFunction p slot
+  pub each : (slot : ℕ) → slot < length p.insns → IsTrue (slice_index_or marks slot false)
+      ↔ BeginsFunction p slot
 
 -- the function of a slot begins at f
 pub record IsFunctionOf (p : Program) (slot f : ℕ) : Type 0 where

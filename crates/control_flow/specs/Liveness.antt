@@ -41,7 +41,8 @@ GoesTo p slot to = (fall_to p slot ≡ Some to) ⊎ (jump_to p slot ≡ Some to)
 -- a path of n steps goes from a slot to one that reads it, and no instruction before writes it
 abbrev pub IsReadAfter : Program → Home → ℕ → ℕ → Type 0
 IsReadAfter p h zero slot = ReadsHome p h slot
-IsReadAfter p h (suc n) slot = (next : ℕ) × GoesTo p slot next × (¬ WritesHome p h slot) × IsReadAfter p h n next
+IsReadAfter p h (suc n) slot =
+    (next : ℕ) × GoesTo p slot next × (¬ WritesHome p h slot) × IsReadAfter p h n next
 
 -- some path from the slot reads it before it writes it
 abbrev pub IsHomeLive : Program → Home → ℕ → Type 0

@@ -49,7 +49,10 @@ HasBehind masks (Some to) r = HasHome (mask_at masks to) r
 
 -- the instruction reads it, or does not write it and it is live after the instruction
 abbrev pub IsLiveBefore : List HomeMask → Node → Home → Type 0
-IsLiveBefore masks node r = HasHome node.reads r ⊎ ((HasBehind masks node.falls_to r ⊎ HasBehind masks node.jumps_to r) × (¬ HasHome node.writes r))
+IsLiveBefore masks node r =
+    HasHome node.reads r
+    ⊎ ((HasBehind masks node.falls_to r ⊎ HasBehind masks node.jumps_to r)
+    × (¬ HasHome node.writes r))
 
 -- ---- what is added
 
@@ -69,7 +72,8 @@ abbrev pub room_left : List HomeMask → ℕ
 room_left masks = sum_by room_in masks
 
 -- the mask of a slot gets what is live before its instruction, and nothing that is not live
-pub record AddsAt (nodes : List Node) (slot : ℕ) (old new : List HomeMask) (grown : Bool) : Type 0 where
+pub record AddsAt (nodes : List Node) (slot : ℕ) (old new : List HomeMask) (grown : Bool)
+    : Type 0 where
   pub same : length new ≡ length old
   pub sound : (p : Program) → AreNodes p nodes → AreSound p old → AreSound p new
   pub kept : (r : Home) → HasHome (mask_at old slot) r → HasHome (mask_at new slot) r

@@ -9,7 +9,8 @@ abbrev pub room_of : List Bool → List ℕ → ℕ
 room_of found frontier = 2 * count_by not found + length frontier
 
 -- the wanted slots are found, and nothing else is added; the new ones are added to the frontier
-pub record Extends (Wanted : ℕ → Type 0) (found : List Bool) (frontier : List ℕ) (found' : List Bool) (frontier' : List ℕ) : Type 0 where
+pub record Extends (Wanted : ℕ → Type 0) (found : List Bool) (frontier : List ℕ)
+    (found' : List Bool) (frontier' : List ℕ) : Type 0 where
   pub same : length found' ≡ length found
   pub all : (k : ℕ) → Wanted k → IsMarked found' k
   pub kept : (k : ℕ) → IsMarked found k → IsMarked found' k

@@ -46,8 +46,7 @@ fn test_all(alloc: Global, image: &Image) -> Result<(), (FlowError, usize)>
     ensures good { IfOk result (λ _. IsFlow image.now) }
     ensures refused { IfErr result (λ refusal. IsRefusal image.now refusal.0 refusal.1) }
 {
-    // For the proof only: this call says that the program is an image's.
-    let _slots = image.slots();
+    image.recall();
     if let Some(slot) = first_outside(image) {
         return Err((FlowError::TargetOutside, slot));
     }

@@ -47,8 +47,7 @@ fn leaves_function(image: &Image, functions: &[usize], slot: usize) -> bool
     requires functions { HasFunctions image.now functions.now }
     ensures { IsTrue result ↔ Fails image.now FlowError.OtherFunction slot }
 {
-    // For the proof only: this call says that the program is an image's.
-    let _slots = image.slots();
+    image.recall();
     match jump_target(image, slot) {
         Some(to) => functions[slot] != functions[to],
         None => false,

@@ -26,7 +26,8 @@ pub struct Node {
 /// The node of a slot, if r10 is handed on as is said.
 fn node_of(image: &Image, slot: usize, handed_on: bool) -> Node
     requires { slot < 2 ^ 63 }
-    ensures node { (IsTrue handed_on ↔ FrameAddressIsTaken image.now) → IsNode image.now slot result }
+    ensures node { (IsTrue handed_on ↔ FrameAddressIsTaken image.now)
+        → IsNode image.now slot result }
     ensures registers { (r : TheReg) → Has result.reads.registers r
         ↔ ReadsHome image.now (InRegister r) slot }
 {
@@ -52,7 +53,8 @@ fn node_of(image: &Image, slot: usize, handed_on: bool) -> Node
 fn nodes_if(alloc: Global, image: &Image, handed_on: bool) -> Result<Option<Vec<Node>>, AllocError>
     requires { IsTrue handed_on → FrameAddressIsTaken image.now }
     ensures { IfOk result (λ found. MatchOption found
-        (FrameAddressIsTaken image.now × (handed_on ≡ false)) (λ nodes. AreNodes image.now nodes.items)) }
+        (FrameAddressIsTaken image.now × (handed_on ≡ false))
+        (λ nodes. AreNodes image.now nodes.items)) }
 {
     let mut nodes = Vec::with_capacity(alloc, image.slots())?;
     for slot in 0..image.slots() {

@@ -20,8 +20,7 @@ fn go_on(search: &mut Search, image: &Image, slot: usize) -> Result<(), AllocErr
         search.old.found.items search.old.frontier.items
         search.new.found.items search.new.frontier.items) }
 {
-    // For the proof only: this call says that the program is an image's.
-    let _slots = image.slots();
+    image.recall();
     search.find(fall_target(image, slot))?;
     search.find(jump_target(image, slot))?;
     search.find(call_target(image, slot))?;

@@ -34,4 +34,4 @@ returns-in-Some-first_unreached-clause-refused c =
 
 pub returns-clause-good : goal.returns-clause-good
 returns-clause-good c =
-    IsFlow-passed c.args.image.now c.in-Ok-reached.marks.items c.slots-slots.ensures.fits c.in_default.ensures c.in_default-first_into_half.ensures c.in_default-first_leaving.ensures c.in_default-first_falling_off.ensures c.in_default-first_unreached.ensures c.in-Ok-reached.ensures
+    IsFlow-passed c.args.image.now c.in-Ok-reached.marks.items c.recall.ensures c.in_default.ensures c.in_default-first_into_half.ensures c.in_default-first_leaving.ensures c.in_default-first_falling_off.ensures c.in_default-first_unreached.ensures c.in-Ok-reached.ensures

@@ -8,7 +8,7 @@ use Rattle.control_flow.proofs.functions.leaves_function.Goals as goal
 pub offset_bounds-functions-to : goal.offset_bounds-functions-to
 offset_bounds-functions-to c =
     let inside : c.in-Some.to < length c.args.image.now.insns = jump-inside c.args.image.now c.requires.targets c.args.slot c.in-Some.to (sym c.in-Some.ensures) in
-    let few : length c.args.image.now.insns ≤ max_slots = c.slots-slots.ensures.fits.few_slots in
+    let few : length c.args.image.now.insns ≤ max_slots = c.recall.ensures.few_slots in
     omega arith
 
 pub bounds-functions-to : goal.bounds-functions-to
