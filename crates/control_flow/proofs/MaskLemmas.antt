@@ -8,8 +8,9 @@ use Rattle.std.proofs.lemmas.Option.{same_Some}
 use Rattle.std.proofs.lemmas.List.{length-replicate, get_or-replicate, get_or_past}
 use Rattle.isa_model.specs.declared.registers.Reg.{Reg}
 use Rattle.isa_model.specs.Code.Registers.{reg_number}
+use Rattle.isa_model.proofs.RegisterLaws.{same_number}
 use Rattle.control_flow.specs.declared.masks.RegisterMask.{RegisterMask}
-use Rattle.control_flow.proofs.RegisterLaws.{number_below, same_number}
+use Rattle.control_flow.proofs.RegisterLaws.{number_below}
 use Rattle.control_flow.specs.declared.homes.HomeMask.{HomeMask}
 use Rattle.control_flow.specs.Liveness.{Home, InRegister, InSlot}
 use Rattle.control_flow.specs.Masks.{no_registers, Has, no_slots, HasSlot, no_homes, HasHome, mask_at}

@@ -1,5 +1,5 @@
 -- Registers and their numbers.
-use Rattle.std.proofs.Common.{◌≡◌, ℕ, zero, suc, ◌<◌, Some, refl, sym, ap, ◌∙◌, arith}
+use Rattle.std.proofs.Common.{◌≡◌, ℕ, zero, suc, ◌<◌, Some, refl, ap, ◌∙◌, arith}
 use Rattle.std.proofs.lemmas.Option.{same_Some}
 use Rattle.isa_model.specs.declared.registers.Reg.{Reg}
 use Rattle.isa_model.specs.declared.registers.Reg.TheVariants.{R0, R1, R2, R3, R4, R5, R6, R7, R8, R9, R10}
@@ -30,20 +30,3 @@ number_of n r h e =
 pub number_below : (r : Reg) → reg_number r < 11
 number_below R10 = omega arith
 number_below r = omega arith
-
--- different registers have different numbers
-pub same_number : (q r : Reg) → reg_number q ≡ reg_number r → q ≡ r
-same_number q r e =
-    same_Some q r (back q ∙ ap reg_numbered e ∙ sym (back r)) where
-      back : (r : Reg) → Some r ≡ reg_numbered (reg_number r)
-      back R0 = refl
-      back R1 = refl
-      back R2 = refl
-      back R3 = refl
-      back R4 = refl
-      back R5 = refl
-      back R6 = refl
-      back R7 = refl
-      back R8 = refl
-      back R9 = refl
-      back R10 = refl

@@ -37,6 +37,7 @@ use Rattle.isa_model.specs.declared.slots.Slot.{Slot}
 use Rattle.isa_model.specs.Code.Registers.{reg_numbered}
 use Rattle.isa_model.specs.Code.Sizes.{span_bits}
 use Rattle.isa_model.specs.Code.Spelling.{alu_code, alu_offset, alu_class, jump_class, jump_code, extension_class, extension_bits, order_opcode, size_code, narrow_code, atomic_opcode, atomic_code, fetch_bit, first_slot, next_imm, second_bytes, InsnFits, OperandFits}
+use Rattle.isa_model.proofs.RegisterLaws.{reg_numbered-reg_number}
 use Rattle.insn_codec.specs.declared.errors.CodecError.{CodecError}
 use Rattle.insn_codec.specs.declared.errors.CodecError.TheVariants.{UnusedField, SecondSlot}
 use Rattle.insn_codec.specs.declared.forms.AluCode.{AluCode}
@@ -46,7 +47,6 @@ use Rattle.insn_codec.specs.declared.forms.Form.TheVariants as form
 use Rattle.insn_codec.specs.declared.fields.Fields.{Fields}
 use Rattle.insn_codec.specs.Forms.{form_of, uses, zero_unused}
 use Rattle.insn_codec.specs.Decoding.{second_slot, wide_by, meaning, slot_meaning, with_form, with_dst, with_src}
-use Rattle.insn_codec.proofs.Opcodes.{reg_numbered-number}
 
 abbrev fields : Reg → Reg → ℕ → ℕ → Fields
 fields d r o k = record { dst = d; src = r; offset = o; imm = k }
@@ -220,30 +220,30 @@ test w c d x = record { width = w; comparison = c; register = d; operand = x }
 means_if : (x : Operand) (w : Width) (c : Comparison) (d : Reg) (by : ℤ) (rest : List ℕ) → OperandFits x → FitsSigned w16 by
     → slot_meaning (first_slot (JumpIf (test w c d x) by)) rest ≡ Ok (JumpIf (test w c d x) by)
 means_if (Constant k) w c d by rest h0 h1 =
-    through _ (form.JumpIfConstant w c) d R0 rest _ (form_if_constant w c) (reg_numbered-number d) refl refl
+    through _ (form.JumpIfConstant w c) d R0 rest _ (form_if_constant w c) (reg_numbered-reg_number d) refl refl
     (ap (λ (z : ℤ). ok_insn (JumpIf (test w c d (Constant z)) (cast_signed w16 (cast_unsigned w16 by)))) (back32 k h0)
     ∙ ap (λ (z : ℤ). ok_insn (JumpIf (test w c d (Constant k)) z)) (back16 by h1))
 means_if (Register r) w c d by rest h0 h1 =
-    through _ (form.JumpIfRegister w c) d r rest _ (form_if_register w c) (reg_numbered-number d) (reg_numbered-number r) refl
+    through _ (form.JumpIfRegister w c) d r rest _ (form_if_register w c) (reg_numbered-reg_number d) (reg_numbered-reg_number r) refl
     (ap (λ (z : ℤ). ok_insn (JumpIf (test w c d (Register r)) z)) (back16 by h1))
 
 -- an instruction's slot, with what follows it, means that instruction
 pub slot_meaning-first_slot : (i : Insn) (rest : List ℕ) → InsnFits i → slot_meaning (first_slot i) (second_bytes (next_imm i) ++ rest) ≡ Ok i
-slot_meaning-first_slot (Alu w op d (Constant k)) rest h = through _ (form.AluConstant w (code_for op)) d R0 rest _ (form_alu_constant w op) (reg_numbered-number d) refl (zero_alu_constant w op d (cast_unsigned w32 k)) (means_alu_constant w op d (cast_unsigned w32 k) rest ∙ ap (λ (z : ℤ). ok_insn (Alu w op d (Constant z))) (back32 k h))
-slot_meaning-first_slot (Alu w op d (Register r)) rest h = through _ (register_form w op) d r rest _ (form_alu_register w op) (reg_numbered-number d) (reg_numbered-number r) (zero_alu_register w op d r) (means_alu_register w op d r rest)
-slot_meaning-first_slot (Neg w d) rest h = through _ (form.Negate w) d R0 rest _ (form_negate w) (reg_numbered-number d) refl refl refl
-slot_meaning-first_slot (MovSx x d r) rest h = let f = form_extension x in through _ (form.MovRegister f.0) d r rest _ f.1 (reg_numbered-number d) (reg_numbered-number r) refl (f.2 d r rest)
-slot_meaning-first_slot (ByteSwap order x d) rest h = through _ (form.ByteSwap order) d R0 rest _ (form_end order) (reg_numbered-number d) refl refl (means_end order x d rest)
-slot_meaning-first_slot (LoadNumber d n) rest h = through _ form.WideLoad d R0 _ _ refl (reg_numbered-number d) refl refl (means_number d n rest h)
-slot_meaning-first_slot (LoadMap d m) rest h = through _ form.WideLoad d R5 _ _ refl (reg_numbered-number d) refl refl (means_map d m rest)
-slot_meaning-first_slot (LoadMapValue d m o) rest h = through _ form.WideLoad d R6 _ _ refl (reg_numbered-number d) refl refl (means_map_value d m o rest h.1)
-slot_meaning-first_slot (Load size d p) rest h = through _ (form.Load size) d p.base rest _ (form_load size) (reg_numbered-number d) (reg_numbered-number p.base) refl (ap (λ (z : ℤ). ok_insn (Load size d (at_place p.base z))) (back16 p.offset h))
-slot_meaning-first_slot (LoadSx size d p) rest h = through _ (form.LoadSx size) d p.base rest _ (form_load_signed size) (reg_numbered-number d) (reg_numbered-number p.base) refl (ap (λ (z : ℤ). ok_insn (LoadSx size d (at_place p.base z))) (back16 p.offset h))
-slot_meaning-first_slot (StoreConstant size p k) rest h = through _ (form.StoreConstant size) p.base R0 rest _ (form_store_number size) (reg_numbered-number p.base) refl refl (ap (λ (z : ℤ). ok_insn (StoreConstant size (at_place p.base z) (cast_signed w32 (cast_unsigned w32 k)))) (back16 p.offset h.0) ∙ ap (λ (z : ℤ). ok_insn (StoreConstant size p z)) (back32 k h.1))
-slot_meaning-first_slot (Store size p s) rest h = through _ (form.Store size) p.base s rest _ (form_store_register size) (reg_numbered-number p.base) (reg_numbered-number s) refl (ap (λ (z : ℤ). ok_insn (Store size (at_place p.base z) s)) (back16 p.offset h))
-slot_meaning-first_slot (Atomic w op fetch p s) rest h = through _ (form.Atomic w) p.base s rest _ (form_atomic w) (reg_numbered-number p.base) (reg_numbered-number s) refl (means_atomic w op fetch p.base s _ rest ∙ ap (λ (z : ℤ). ok_insn (Atomic w op fetch (at_place p.base z) s)) (back16 p.offset h))
-slot_meaning-first_slot (Exchange w p s) rest h = through _ (form.Atomic w) p.base s rest _ (form_atomic w) (reg_numbered-number p.base) (reg_numbered-number s) refl (ap (λ (z : ℤ). ok_insn (Exchange w (at_place p.base z) s)) (back16 p.offset h))
-slot_meaning-first_slot (CompareExchange w p s) rest h = through _ (form.Atomic w) p.base s rest _ (form_atomic w) (reg_numbered-number p.base) (reg_numbered-number s) refl (ap (λ (z : ℤ). ok_insn (CompareExchange w (at_place p.base z) s)) (back16 p.offset h))
+slot_meaning-first_slot (Alu w op d (Constant k)) rest h = through _ (form.AluConstant w (code_for op)) d R0 rest _ (form_alu_constant w op) (reg_numbered-reg_number d) refl (zero_alu_constant w op d (cast_unsigned w32 k)) (means_alu_constant w op d (cast_unsigned w32 k) rest ∙ ap (λ (z : ℤ). ok_insn (Alu w op d (Constant z))) (back32 k h))
+slot_meaning-first_slot (Alu w op d (Register r)) rest h = through _ (register_form w op) d r rest _ (form_alu_register w op) (reg_numbered-reg_number d) (reg_numbered-reg_number r) (zero_alu_register w op d r) (means_alu_register w op d r rest)
+slot_meaning-first_slot (Neg w d) rest h = through _ (form.Negate w) d R0 rest _ (form_negate w) (reg_numbered-reg_number d) refl refl refl
+slot_meaning-first_slot (MovSx x d r) rest h = let f = form_extension x in through _ (form.MovRegister f.0) d r rest _ f.1 (reg_numbered-reg_number d) (reg_numbered-reg_number r) refl (f.2 d r rest)
+slot_meaning-first_slot (ByteSwap order x d) rest h = through _ (form.ByteSwap order) d R0 rest _ (form_end order) (reg_numbered-reg_number d) refl refl (means_end order x d rest)
+slot_meaning-first_slot (LoadNumber d n) rest h = through _ form.WideLoad d R0 _ _ refl (reg_numbered-reg_number d) refl refl (means_number d n rest h)
+slot_meaning-first_slot (LoadMap d m) rest h = through _ form.WideLoad d R5 _ _ refl (reg_numbered-reg_number d) refl refl (means_map d m rest)
+slot_meaning-first_slot (LoadMapValue d m o) rest h = through _ form.WideLoad d R6 _ _ refl (reg_numbered-reg_number d) refl refl (means_map_value d m o rest h.1)
+slot_meaning-first_slot (Load size d p) rest h = through _ (form.Load size) d p.base rest _ (form_load size) (reg_numbered-reg_number d) (reg_numbered-reg_number p.base) refl (ap (λ (z : ℤ). ok_insn (Load size d (at_place p.base z))) (back16 p.offset h))
+slot_meaning-first_slot (LoadSx size d p) rest h = through _ (form.LoadSx size) d p.base rest _ (form_load_signed size) (reg_numbered-reg_number d) (reg_numbered-reg_number p.base) refl (ap (λ (z : ℤ). ok_insn (LoadSx size d (at_place p.base z))) (back16 p.offset h))
+slot_meaning-first_slot (StoreConstant size p k) rest h = through _ (form.StoreConstant size) p.base R0 rest _ (form_store_number size) (reg_numbered-reg_number p.base) refl refl (ap (λ (z : ℤ). ok_insn (StoreConstant size (at_place p.base z) (cast_signed w32 (cast_unsigned w32 k)))) (back16 p.offset h.0) ∙ ap (λ (z : ℤ). ok_insn (StoreConstant size p z)) (back32 k h.1))
+slot_meaning-first_slot (Store size p s) rest h = through _ (form.Store size) p.base s rest _ (form_store_register size) (reg_numbered-reg_number p.base) (reg_numbered-reg_number s) refl (ap (λ (z : ℤ). ok_insn (Store size (at_place p.base z) s)) (back16 p.offset h))
+slot_meaning-first_slot (Atomic w op fetch p s) rest h = through _ (form.Atomic w) p.base s rest _ (form_atomic w) (reg_numbered-reg_number p.base) (reg_numbered-reg_number s) refl (means_atomic w op fetch p.base s _ rest ∙ ap (λ (z : ℤ). ok_insn (Atomic w op fetch (at_place p.base z) s)) (back16 p.offset h))
+slot_meaning-first_slot (Exchange w p s) rest h = through _ (form.Atomic w) p.base s rest _ (form_atomic w) (reg_numbered-reg_number p.base) (reg_numbered-reg_number s) refl (ap (λ (z : ℤ). ok_insn (Exchange w (at_place p.base z) s)) (back16 p.offset h))
+slot_meaning-first_slot (CompareExchange w p s) rest h = through _ (form.Atomic w) p.base s rest _ (form_atomic w) (reg_numbered-reg_number p.base) (reg_numbered-reg_number s) refl (ap (λ (z : ℤ). ok_insn (CompareExchange w (at_place p.base z) s)) (back16 p.offset h))
 slot_meaning-first_slot (Jump by) rest h = through _ form.Jump R0 R0 rest _ refl refl refl refl (ap (λ (z : ℤ). ok_insn (Jump z)) (back16 by h))
 slot_meaning-first_slot (JumpLong by) rest h = through _ form.JumpLong R0 R0 rest _ refl refl refl refl (ap (λ (z : ℤ). ok_insn (JumpLong z)) (back32 by h))
 slot_meaning-first_slot (JumpIf c by) rest h = means_if c.operand c.width c.comparison c.register by rest h.0 h.1

@@ -4,7 +4,6 @@ use Rattle.std.specs.Prelude.{◌==◌}
 use Rattle.std.specs.Option.{option_map_or}
 use Rattle.std.proofs.lemmas.Bool.{agree_below_at, eqb-true}
 use Rattle.isa_model.specs.declared.registers.Reg.{Reg}
-use Rattle.isa_model.specs.declared.registers.Reg.TheVariants.{R0}
 use Rattle.isa_model.specs.Code.Registers.{reg_number, reg_numbered}
 use Rattle.isa_model.specs.Code.Spelling.{alu_class, jump_class, jump_code, order_opcode, size_code, narrow_code, atomic_opcode}
 use Rattle.insn_codec.specs.declared.forms.AluCode.{AluCode}
@@ -61,7 +60,3 @@ pub number-reg_numbered : (n : ℕ) (r : Reg) → n < 16 → reg_numbered n ≡ 
 number-reg_numbered n r lt e =
     let t : reg_test n ≡ true = agree_below_at reg_test (λ _. true) 16 n refl lt in
     eqb-true _ _ (subst (λ (x : Option Reg). option_map_or (λ q. reg_number q == n) x true ≡ true) e t)
-
-pub reg_numbered-number : (r : Reg) → reg_numbered (reg_number r) ≡ Some r
-reg_numbered-number R0 = refl
-reg_numbered-number r = refl

@@ -60,7 +60,7 @@ pub map_pointer_fits : (rows next m : ℕ) → m < rows → IsValue rows next (m
 map_pointer_fits rows next m h = (h, omega arith)
 
 -- an array of one entry has that entry
-has_entry : (kind : MapKind) (entries : ℕ) (keys : List (List ℕ)) → kind ≡ Array → entries ≡ 1
+pub has_entry : (kind : MapKind) (entries : ℕ) (keys : List (List ℕ)) → kind ≡ Array → entries ≡ 1
     → KeysFit kind entries keys → 0 < length keys
 has_entry kind entries keys array one h =
     let there = (subst (λ k. KeysFit k entries keys) array h).0 0 (omega arith) in
@@ -83,7 +83,9 @@ one_serial_given p s m row offset e h k =
     subst (λ n. n < s.next_serial) found
     (All-get_or (λ n. n < s.next_serial) (value_serials content) 0 0 (omega arith) (value_serials_given p s m k))
 
-row_within : (rows : List MapDef) (m : ℕ) (row : MapDef) → slice_get rows m ≡ Some row → All IsRow rows → IsRow row
+-- a row that is there is one of the rows
+pub row_within : (rows : List MapDef) (m : ℕ) (row : MapDef) → slice_get rows m ≡ Some row
+    → All IsRow rows → IsRow row
 row_within rows m row e h = subst IsRow (get_or_from_slice_get rows m row row e)
     (h m row (slice_get_within rows m row e))
 

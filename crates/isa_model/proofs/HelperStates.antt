@@ -24,7 +24,7 @@ use Rattle.isa_model.specs.Machine.MapHelpers.{Helped, serial_given, serial_afte
 use Rattle.isa_model.specs.Machine.HelperCalls.{MapArgument, map_of_row, map_argument, BytesArgument, bytes_argument, number_argument, bytes_in, bytes_at, lookup_call, update_call, delete_call, helper_call, answered, after_call}
 use Rattle.isa_model.specs.Machine.MachineStates.{AreBytes, IsEntry, FitsRow, FitRows, IsValue, IsCell, IsCallFrame, value_serials, live_serials, IsState, IsClock}
 use Rattle.isa_model.proofs.ValueLaws.{IfOk-and_then, IfOk-then, IfOk-if, IsValue-more, bytes_in_fit}
-use Rattle.isa_model.proofs.StateLaws.{HasCells, place_in_room, serial_of, flat_map-set_same}
+use Rattle.isa_model.proofs.StateLaws.{IsState-moved, HasCells, place_in_room, serial_of, flat_map-set_same}
 use Rattle.isa_model.proofs.CallLaws.{IsCallFrame-more}
 use Rattle.isa_model.proofs.AccessLaws.{read_fits}
 use Rattle.isa_model.proofs.SerialLaws.{HasOneMore, HasOneMore-before, HasOneMore-after, AreSerials, AreSerials-more, AreSerials-fewer, part_replaced}
@@ -143,42 +143,44 @@ IsState-with_content p s m row content next e le fits serials k =
       once = serials.1;
     }
 
--- the live serials have one more, or one fewer, where those of one content do
-one_more_live : (p : Program) (s : State) (m : ℕ) (row : MapDef) (content : Content) (n : ℕ)
-    → slice_get p.maps m ≡ Some row → HasOneMore n (value_serials (content_of s m)) (value_serials content)
-    → IsState p s → HasOneMore n (live_serials s) (serials_with s m content)
-one_more_live p s m row content n e one k =
+-- the live serials differ as those of one content do
+live_related : (R : List ℕ → List ℕ → Type 0)
+    → ((front xs ys : List ℕ) → R xs ys → R (front ++ xs) (front ++ ys))
+    → ((xs ys rest : List ℕ) → R xs ys → R (xs ++ rest) (ys ++ rest))
+    → (p : Program) (s : State) (m : ℕ) (row : MapDef) (content : Content)
+    → slice_get p.maps m ≡ Some row
+    → R (value_serials (content_of s m)) (value_serials content)
+    → IsState p s → R (live_serials s) (serials_with s m content)
+live_related R before after p s m row content e one k =
     let there = content_there p.maps (map entries_of s.maps) m row e k.maps in
     let long = length-map s.maps entries_of in
     let part = part_replaced value_serials s.maps m content [] (omega arith) in
-    let some : List ℕ = value_serials (content_of s m) in
-    let more : List ℕ = value_serials content in
-    let within = HasOneMore-before n part.before (some ++ part.after) (more ++ part.after)
-    (HasOneMore-after n some more part.after one) in
-    let before : List ℕ = flat_map value_serials s.maps in
-    let now : List ℕ = flat_map value_serials (slice_set s.maps m content) in
-    let values : HasOneMore n before now =
-    subst (λ l. HasOneMore n before l) (sym part.is)
-    (subst (λ l. HasOneMore n l (part.before ++ (more ++ part.after))) (sym part.was) within) in
-    HasOneMore-after n before now (map serial_of s.frames) values
+    let old : List ℕ = value_serials (content_of s m) in
+    let new : List ℕ = value_serials content in
+    let within = before part.before (old ++ part.after) (new ++ part.after)
+    (after old new part.after one) in
+    let were : List ℕ = flat_map value_serials s.maps in
+    let are : List ℕ = flat_map value_serials (slice_set s.maps m content) in
+    let values : R were are =
+    subst (λ l. R were l) (sym part.is)
+    (subst (λ l. R l (part.before ++ (new ++ part.after))) (sym part.was) within) in
+    after were are (map serial_of s.frames) values
+
+one_more_live : (p : Program) (s : State) (m : ℕ) (row : MapDef) (content : Content) (n : ℕ)
+    → slice_get p.maps m ≡ Some row
+    → HasOneMore n (value_serials (content_of s m)) (value_serials content)
+    → IsState p s → HasOneMore n (live_serials s) (serials_with s m content)
+one_more_live p s m row content n =
+    live_related (HasOneMore n) (HasOneMore-before n) (HasOneMore-after n) p s m row content
 
 one_fewer_live : (p : Program) (s : State) (m : ℕ) (row : MapDef) (content : Content) (n : ℕ)
-    → slice_get p.maps m ≡ Some row → HasOneMore n (value_serials content) (value_serials (content_of s m))
+    → slice_get p.maps m ≡ Some row
+    → HasOneMore n (value_serials content) (value_serials (content_of s m))
     → IsState p s → HasOneMore n (serials_with s m content) (live_serials s)
-one_fewer_live p s m row content n e one k =
-    let there = content_there p.maps (map entries_of s.maps) m row e k.maps in
-    let long = length-map s.maps entries_of in
-    let part = part_replaced value_serials s.maps m content [] (omega arith) in
-    let more : List ℕ = value_serials (content_of s m) in
-    let some : List ℕ = value_serials content in
-    let within = HasOneMore-before n part.before (some ++ part.after) (more ++ part.after)
-    (HasOneMore-after n some more part.after one) in
-    let before : List ℕ = flat_map value_serials s.maps in
-    let now : List ℕ = flat_map value_serials (slice_set s.maps m content) in
-    let values : HasOneMore n now before =
-    subst (λ l. HasOneMore n now l) (sym part.was)
-    (subst (λ l. HasOneMore n l (part.before ++ (more ++ part.after))) (sym part.is) within) in
-    HasOneMore-after n now before (map serial_of s.frames) values
+one_fewer_live p s m row content n =
+    live_related (λ more some. HasOneMore n some more)
+    (λ front more some. HasOneMore-before n front some more)
+    (λ more some rest. HasOneMore-after n some more rest) p s m row content
 
 -- ---- a key put, and a key removed
 
@@ -279,22 +281,9 @@ delete_keeps p s m key e k =
     by false refused = k
 
 -- the clock was asked once more
-clock_asked : (p : Program) (s : State) (calls : ℕ) → IsState p s → IsState p (record s { clock_calls = calls })
-clock_asked p s calls k = record {
-  slot = k.slot;
-  registers = k.registers;
-  values = k.values;
-  called = k.called;
-  depth = k.depth;
-  frames = k.frames;
-  short = k.short;
-  packet = k.packet;
-  interface = k.interface;
-  queue = k.queue;
-  maps = k.maps;
-  given = k.given;
-  once = k.once;
-}
+clock_asked : (p : Program) (s : State) (calls : ℕ) → IsState p s
+    → IsState p (record s { clock_calls = calls })
+clock_asked p s calls k = IsState-moved p s s.slot s.regs calls k.slot k.registers k.values k
 
 -- ---- the calls
 

@@ -8,6 +8,7 @@ pub mod ContentLaws
 pub mod HelperLaws
 pub mod HelperStates
 pub mod PutLaws
+pub mod RegisterLaws
 pub mod SerialLaws
 pub mod StateLaws
 pub mod StepLaws

@@ -15,7 +15,7 @@ use Rattle.isa_model.specs.Code.Instructions.{Program}
 use Rattle.isa_model.specs.Machine.States.{Entries}
 use Rattle.isa_model.specs.Reporting.Streams.{Frame, IsFrame, ReasonFits, reason_field, length_field, Ending, ByEnd, ByError, opened, stop_at, frame_of, record_size, frames_from, Input, Stream, stream_opened, stream_of}
 use Rattle.isa_model.proofs.StreamLaws.{frames_from-stops, frames_from-goes_on, frames_behind}
-use Rattle.isa_model.specs.Running.Runs.{Outcome, HasOutcome, Turn}
+use Rattle.isa_model.specs.Running.Runs.{Outcome, Turn}
 use Rattle.isa_model.proofs.RunLaws.{turn-outcome, HasOutcome-same}
 use Rattle.isa_model.specs.Machine.MachineStates.{AreBytes, FitRows, IsProgram, IsClock, IsGiven}
 use Rattle.isa_model.proofs.ValueLaws.{slice_index_fits}

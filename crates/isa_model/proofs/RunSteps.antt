@@ -1,8 +1,8 @@
 -- Steps of a run that is known to exit.
 use Rattle.std.proofs.Common.{◌≡◌, ◌+◌, ◌<◌, ◌∷◌, [], ℕ, zero, suc, Some, Ok, Err, Bool, true, false, List, set, arith, refl, sym, ap, ◌∙◌, inl, inr, ◌⊎◌}
-use Rattle.std.specs.Prelude.{ℤ, ◌||◌, if◌then◌else◌, Result}
+use Rattle.std.specs.Prelude.{ℤ, if◌then◌else◌, Result}
 use Rattle.std.specs.List.{list_any}
-use Rattle.std.proofs.lemmas.Bool.{cases_lt}
+use Rattle.std.proofs.lemmas.Bool.{cases_lt, or_parts}
 use Rattle.isa_model.specs.declared.registers.Reg.{Reg}
 use Rattle.isa_model.specs.declared.instructions.Insn.{Insn}
 use Rattle.isa_model.specs.declared.instructions.Insn.TheVariants.{Alu, Neg, MovSx, ByteSwap, LoadNumber, Load, StoreConstant, Store, Jump, JumpLong, JumpIf, Exit}
@@ -71,14 +71,10 @@ no_trap p clock s steps a k t e runs reached trapped =
 
 -- ---- the tests of registers
 
-neither : (a b : Bool) → (a || b) ≡ false → (a ≡ false) × (b ≡ false)
-neither true b h = absurd (cc)
-neither false b h = (refl, h)
-
 pub is_set : (rs : List Reg) (test : Reg → Bool) (r : Reg) → list_any test rs ≡ false → IsOneOf rs r → test r ≡ false
 is_set [] test r none among = absurd among
-is_set (q ∷ rs) test r none (inl same) = ap test same ∙ (neither (test q) (list_any test rs) none).0
-is_set (q ∷ rs) test r none (inr rest) = is_set rs test r (neither (test q) (list_any test rs) none).1 rest
+is_set (q ∷ rs) test r none (inl same) = ap test same ∙ (or_parts (test q) (list_any test rs) none).0
+is_set (q ∷ rs) test r none (inr rest) = is_set rs test r (or_parts (test q) (list_any test rs) none).1 rest
 
 -- an instruction whose registers pass acts
 pub step_acts : (p : Program) (clock : ℕ → ℕ) (t : State) (i : Insn) → fetch p t.slot ≡ Some i → list_any (λ r. is_unset (reg t r)) (reads i) ≡ false → is_frame_pointer (writes i) ≡ false

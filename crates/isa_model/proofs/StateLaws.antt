@@ -25,13 +25,15 @@ use Rattle.isa_model.specs.Machine.Memory.{byte_in, frame_index, entry_index, en
 use Rattle.isa_model.specs.Machine.MachineStates.{AreBytes, IsEntry, keys_of, FitsRow, FitRows, IsValue, IsCell, IsCallFrame, IsSlot, value_serials, live_serials, IsState}
 use Rattle.isa_model.proofs.ValueLaws.{IfOk-if, bytes_in_fit, length-splice, All-splice}
 
--- ---- another slot
+-- ---- another slot, other registers, and the clock asked once more
 
-pub IsState-go_to : (p : Program) (s : State) (slot : ℕ) → IsSlot p slot → IsState p s → IsState p (go_to s slot)
-IsState-go_to p s slot h k = record {
-  slot = h;
-  registers = k.registers;
-  values = k.values;
+pub IsState-moved : (p : Program) (s : State) (slot : ℕ) (regs : List Value) (calls : ℕ)
+    → IsSlot p slot → length regs ≡ 11 → All (IsValue (length p.maps) s.next_serial) regs
+    → IsState p s → IsState p (record s { slot = slot; regs = regs; clock_calls = calls })
+IsState-moved p s slot regs calls there long fit k = record {
+  slot = there;
+  registers = long;
+  values = fit;
   called = k.called;
   depth = k.depth;
   frames = k.frames;
@@ -43,6 +45,10 @@ IsState-go_to p s slot h k = record {
   given = k.given;
   once = k.once;
 }
+
+pub IsState-go_to : (p : Program) (s : State) (slot : ℕ) → IsSlot p slot → IsState p s
+    → IsState p (go_to s slot)
+IsState-go_to p s slot h k = IsState-moved p s slot s.regs s.clock_calls h k.registers k.values k
 
 -- ---- a register set
 
@@ -56,22 +62,12 @@ value_at_fits rows next (v ∷ regs) (suc n) h = value_at_fits rows next regs n 
 pub reg_fits : (p : Program) (s : State) (r : Reg) → IsState p s → IsValue (length p.maps) s.next_serial (reg s r)
 reg_fits p s r k = value_at_fits (length p.maps) s.next_serial s.regs (reg_number r) k.values
 
-pub IsState-set_reg : (p : Program) (s : State) (r : Reg) (v : Value) → IsValue (length p.maps) s.next_serial v → IsState p s → IsState p (set_reg s r v)
-IsState-set_reg p s r v h k = record {
-  slot = k.slot;
-  registers = length-set s.regs (reg_number r) v ∙ k.registers;
-  values = All-set (IsValue (length p.maps) s.next_serial) s.regs (reg_number r) v h k.values;
-  called = k.called;
-  depth = k.depth;
-  frames = k.frames;
-  short = k.short;
-  packet = k.packet;
-  interface = k.interface;
-  queue = k.queue;
-  maps = k.maps;
-  given = k.given;
-  once = k.once;
-}
+pub IsState-set_reg : (p : Program) (s : State) (r : Reg) (v : Value)
+    → IsValue (length p.maps) s.next_serial v → IsState p s → IsState p (set_reg s r v)
+IsState-set_reg p s r v h k =
+    IsState-moved p s s.slot (slice_set s.regs (reg_number r) v) s.clock_calls k.slot
+    (length-set s.regs (reg_number r) v ∙ k.registers)
+    (All-set (IsValue (length p.maps) s.next_serial) s.regs (reg_number r) v h k.values) k
 
 -- ---- cells written
 

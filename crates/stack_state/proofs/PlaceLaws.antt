@@ -1,11 +1,12 @@
 -- What a register's kind is after one was set.
-use Rattle.std.specs.Prelude.{◌≡◌, ◌≢◌, ℕ, zero, suc, ◌⊎◌, List, [], ◌∷◌, slice_set, Some, refl}
+use Rattle.std.specs.Prelude.{◌≡◌, ◌≢◌, ℕ, zero, suc, ◌⊎◌, List, [], ◌∷◌, slice_set, refl}
 use Rattle.std.proofs.Common.{sym, ap, ◌∙◌, subst, inl, inr}
 use Rattle.std.proofs.lemmas.Bool.{cases_eq}
 use Rattle.std.proofs.lemmas.List.{get_or-set_other}
 use Rattle.isa_model.specs.declared.registers.Reg.{Reg}
-use Rattle.isa_model.specs.declared.registers.Reg.TheVariants.{R0, R1, R2, R3, R4, R5, R6, R7, R8, R9, R10}
-use Rattle.isa_model.specs.Code.Registers.{reg_number, reg_numbered}
+use Rattle.isa_model.specs.declared.registers.Reg.TheVariants.{R10}
+use Rattle.isa_model.specs.Code.Registers.{reg_number}
+use Rattle.isa_model.proofs.RegisterLaws.{same_number}
 use Rattle.reg_state.specs.declared.kinds.Kind.{Kind}
 use Rattle.reg_state.specs.declared.kinds.Kind.TheVariants.{Unset}
 use Rattle.stack_state.specs.declared.states.State.{State}
@@ -13,24 +14,6 @@ use Rattle.stack_state.specs.Meaning.{kind_at, registers_of}
 use Rattle.stack_state.specs.Places.{kind_of, with_register}
 
 -- ---- registers, which differ by their numbers
-
-reg_numbered-reg_number : (r : Reg) → reg_numbered (reg_number r) ≡ Some r
-reg_numbered-reg_number R0 = refl
-reg_numbered-reg_number R1 = refl
-reg_numbered-reg_number R2 = refl
-reg_numbered-reg_number R3 = refl
-reg_numbered-reg_number R4 = refl
-reg_numbered-reg_number R5 = refl
-reg_numbered-reg_number R6 = refl
-reg_numbered-reg_number R7 = refl
-reg_numbered-reg_number R8 = refl
-reg_numbered-reg_number R9 = refl
-reg_numbered-reg_number R10 = refl
-
-pub same_number : (q r : Reg) → reg_number q ≡ reg_number r → q ≡ r
-same_number q r h =
-    let there : Some q ≡ Some r = sym (reg_numbered-reg_number q) ∙ ap reg_numbered h ∙ reg_numbered-reg_number r in
-    cc
 
 pub same_or_other : (q r : Reg) → (q ≡ r) ⊎ (q ≢ r)
 same_or_other q r =

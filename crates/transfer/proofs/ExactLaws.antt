@@ -2,6 +2,7 @@
 use Rattle.std.specs.Prelude.{◌≡◌, ◌≢◌, ℕ, zero, suc, ◌+◌, ◌<◌, ◌==◌, ℤ, pos, Bool, true, false, if◌then◌else◌, length, All, Some, None, Result, Ok, Err, refl}
 use Rattle.std.specs.List.{list_any}
 use Rattle.std.proofs.Common.{inl, inr, sym, ap, ◌∙◌, subst, arith}
+use Rattle.std.proofs.lemmas.Bool.{or_parts}
 use Rattle.std.proofs.lemmas.Bool.Decides.{nat_tests}
 use Rattle.std.proofs.lemmas.List.{get_or-set_same}
 use Rattle.isa_model.specs.declared.sizes.Width.{Width}
@@ -62,7 +63,7 @@ use Rattle.transfer.specs.declared.Ways.{Ways}
 use Rattle.transfer.specs.declared.Ways.TheVariants as ways
 use Rattle.transfer.specs.Leading.{InSome, LeadsTo}
 use Rattle.transfer.specs.Refusing.{reads_unset}
-use Rattle.transfer.proofs.RegisterLaws.{neither, unset_in, none_unset, performed_acts}
+use Rattle.transfer.proofs.RegisterLaws.{unset_in, none_unset, performed_acts}
 use Rattle.transfer.proofs.AnswerLaws.{shows_action-answers, answered_number}
 use Rattle.transfer.proofs.ResultLaws.{Yields, YieldsUnder, on_number_yields}
 use Rattle.transfer.proofs.ArithmeticLaws.{arithmetic_yields}
@@ -91,12 +92,12 @@ operand_fits p s w (Register r) fits is = reg_fits p s r is
 operand_set : (s : Machine.State) (w : Width) (source : Operand) → list_any (unset_in s) (operand_reads source) ≡ false
     → is_unset (operand_value s w source) ≡ false
 operand_set s w (Constant k) h = refl
-operand_set s w (Register r) h = (neither (unset_in s r) false h).0
+operand_set s w (Register r) h = (or_parts (unset_in s r) false h).0
 
 alu_operand_set : (s : Machine.State) (w : Width) (op : AluOp) (d : Reg) (source : Operand)
     → list_any (unset_in s) (alu_reads op d source) ≡ false → is_unset (operand_value s w source) ≡ false
 alu_operand_set s w Mov d source h = operand_set s w source h
-alu_operand_set s w op d source h = operand_set s w source (neither (unset_in s d) (list_any (unset_in s) (operand_reads source)) h).1
+alu_operand_set s w op d source h = operand_set s w source (or_parts (unset_in s d) (list_any (unset_in s) (operand_reads source)) h).1
 
 -- ---- registers set
 

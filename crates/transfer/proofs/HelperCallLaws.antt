@@ -6,7 +6,6 @@ use Rattle.std.proofs.Common.{sym, ap, ◌∙◌, subst, arith}
 use Rattle.std.proofs.lemmas.Bool.{le-leb}
 use Rattle.std.proofs.lemmas.Int.{ints}
 use Rattle.std.proofs.lemmas.List.{length-map}
-use Rattle.std.proofs.lemmas.Option.{slice_get_within, get_or_from_slice_get}
 use Rattle.isa_model.specs.Code.Limits.{frame_size}
 use Rattle.isa_model.specs.declared.registers.Reg.TheVariants.{R1, R2, R3, R4}
 use Rattle.isa_model.specs.declared.helpers.Helper.{Helper}
@@ -32,6 +31,7 @@ use Rattle.isa_model.specs.Machine.MapHelpers.{Helped, map_lookup_elem, map_upda
 use Rattle.isa_model.specs.Machine.HelperCalls.{MapArgument, map_of_row, map_argument, BytesArgument, bytes_argument, number_argument, bytes_in, bytes_at, lookup_call, update_call, delete_call, ktime_get_ns, helper_call, answered, after_call}
 use Rattle.isa_model.proofs.HelperStates.{IsHelped, helper_call_fits, IsState-answered}
 use Rattle.isa_model.proofs.ByteCells.{list_all-is_byte-Byte, take-drop-Byte}
+use Rattle.isa_model.proofs.HelperLaws.{row_within}
 use Rattle.reg_state.specs.declared.kinds.Kind.{Kind}
 use Rattle.reg_state.specs.declared.kinds.Kind.TheVariants.{Number, Stack, Packet, Map, MapValue, MapValueOrNull}
 use Rattle.reg_state.specs.Kinds.{Assigned, Allows}
@@ -169,9 +169,6 @@ known_points p e a s (MapValue j least greatest) v n some m allowed h =
     (value_points p s j allowed.serial n allowed.offset (subst (λ y. HasBytesAt p s j allowed.serial y n) (no_move allowed.offset) at))
 known_points p e a s k v n some m allowed h = absurd h
 
-row_fits : (rows : List MapDef) (m : ℕ) (row : MapDef) → slice_get rows m ≡ Some row → All IsRow rows → IsRow row
-row_fits rows m row here all = subst IsRow (get_or_from_slice_get rows m row row here) (all m row (slice_get_within rows m row here))
-
 some_key : (kind : MapKind) (n : ℕ) → KeyFits kind n → 0 < n
 some_key Hash n h = omega arith
 some_key Array n h = omega arith
@@ -195,7 +192,7 @@ key_read : (p : Program) (e : Assigned) (a : State) (s : Machine.State) (m : Cal
     → called_map p.maps (kind_of a R1) ≡ Ok m → KeyIsKnown p.maps a m → KeyRead p s m
 key_read p e a s m rows means is known =
     let (map_is, named) = map_called p e (kind_of a R1) (reg s R1) m is (reg_allowed p e a s means R1) in
-    let row : IsRow m.row = row_fits p.maps m.index m.row named rows in
+    let row : IsRow m.row = row_within p.maps m.index m.row named rows in
     let (at, there, bytes) = known_points p e a s (kind_of a R2) (reg s R2) m.row.key_size (some_key m.row.kind m.row.key_size row.key) means
     (reg_allowed p e a s means R2) known in
     record { named = named; map_is = map_is; key_at = at; key_is = there; key = bytes.0; reads = bytes.1 }
@@ -260,7 +257,7 @@ updated : (p : Program) (e : Assigned) (a : State) (s : Machine.State) (m : Call
     → ValueIsKnown p.maps a m → AnswersNumber a b → GoesIntoSome p b (after_call (update_call p s))
 updated p e a s m b rows means fits is number key value left =
     let h = key_read p e a s m rows means is key in
-    let row : IsRow m.row = row_fits p.maps m.index m.row h.named rows in
+    let row : IsRow m.row = row_within p.maps m.index m.row h.named rows in
     let (at, there, bytes) = known_points p e a s (kind_of a R3) (reg s R3) m.row.value_size row.some_value means (reg_allowed p e a s means R3) value in
     let (flags, flagged) = flags_there e (kind_of a R4) (reg s R4) number (reg_allowed p e a s means R4) in
     let helped : Helped = map_update_elem m.row s m.index h.key bytes.0 flags in

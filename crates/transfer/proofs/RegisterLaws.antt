@@ -1,7 +1,8 @@
 -- Registers that are known to be set are set, so that a machine passes the tests that its abstract state passes.
-use Rattle.std.specs.Prelude.{◌≡◌, ℕ, Bool, true, false, ◌||◌, List, [], ◌∷◌, Option, Some, None, refl}
+use Rattle.std.specs.Prelude.{◌≡◌, ℕ, Bool, false, List, [], ◌∷◌, Option, Some, None, refl}
 use Rattle.std.specs.List.{list_any}
 use Rattle.std.proofs.Common.{ap}
+use Rattle.std.proofs.lemmas.Bool.{or_parts}
 use Rattle.isa_model.specs.declared.registers.Reg.{Reg}
 use Rattle.isa_model.specs.declared.instructions.Insn.{Insn}
 use Rattle.isa_model.specs.declared.values.Value.{Value}
@@ -35,11 +36,6 @@ set_is_set e (kind.Map index) v known allowed = ap is_unset allowed
 set_is_set e (kind.MapValue index least greatest) v known allowed = ap is_unset allowed.points
 set_is_set e (kind.MapValueOrNull index identity) v known allowed = or_null_is_set e index (e.value identity) v allowed
 
--- where one or the other is no, each is
-pub neither : (a b : Bool) → (a || b) ≡ false → (a ≡ false) × (b ≡ false)
-neither true b h = absurd (cc)
-neither false b h = (refl, h)
-
 abbrev pub unset_in : Machine.State → Reg → Bool
 unset_in s r = is_unset (reg s r)
 
@@ -48,7 +44,7 @@ pub none_unset : (p : Program) (e : Assigned) (a : State) (s : Machine.State) �
     → list_any (is_unset_in a) rs ≡ false → list_any (unset_in s) rs ≡ false
 none_unset p e a s m [] h = refl
 none_unset p e a s m (r ∷ rs) h =
-    let (first, rest) = neither (is_unset_in a r) (list_any (is_unset_in a) rs) h in
+    let (first, rest) = or_parts (is_unset_in a r) (list_any (is_unset_in a) rs) h in
     let here : unset_in s r ≡ false =
     set_is_set e (kind_of a r) (reg s r) first (reg_allowed p e a s m r) in
     rw here (none_unset p e a s m rs rest)

@@ -7,7 +7,7 @@ use Rattle.std.proofs.lemmas.Bool.Decides.{nat_tests}
 use Rattle.std.proofs.lemmas.Int.{ints}
 use Rattle.std.proofs.lemmas.List.{length-map, length-take-le, length-drop}
 use Rattle.std.proofs.lemmas.List.Sums.{fails_before_first}
-use Rattle.std.proofs.lemmas.Option.{slice_get_within, get_or_from_slice_get}
+use Rattle.std.proofs.lemmas.Option.{slice_get_within}
 use Rattle.std.proofs.lemmas.List.Elements.{All-get_or, at_from_Contains}
 use Rattle.std.proofs.Math.Seq.{map-set_same}
 use Rattle.std.proofs.Math.ListN.{get_or-map as get_or-map_default}
@@ -22,8 +22,6 @@ use Rattle.isa_model.specs.declared.values.Value.TheVariants.{Num, Ptr}
 use Rattle.isa_model.specs.declared.values.Cell.{Cell}
 use Rattle.isa_model.specs.declared.values.Cell.TheVariants.{Byte}
 use Rattle.isa_model.specs.declared.ends.TrapReason.{TrapReason}
-use Rattle.isa_model.specs.declared.map_defs.MapKind.{MapKind}
-use Rattle.isa_model.specs.declared.map_defs.MapKind.TheVariants.{Array}
 use Rattle.isa_model.specs.declared.map_defs.MapDef.{MapDef}
 use Rattle.isa_model.specs.declared.instructions.Insn.{Insn}
 use Rattle.isa_model.specs.declared.instructions.Insn.TheVariants.{LoadMap, LoadMapValue}
@@ -38,10 +36,10 @@ use Rattle.isa_model.specs.Machine.States as Machine
 use Rattle.isa_model.specs.Machine.Memory.{byte_in, index_from, entry_index, entry_at, put_value, load, load_number, load_signed, store, store_number}
 use Rattle.isa_model.specs.Machine.Pointers.{moved_to}
 use Rattle.isa_model.specs.Machine.Steps.{one_serial, value_pointer}
-use Rattle.isa_model.specs.Machine.MachineStates.{AreBytes, IsEntry, KeysFit, keys_of, value_serials, IsState}
+use Rattle.isa_model.specs.Machine.MachineStates.{AreBytes, IsEntry, keys_of, value_serials, IsState}
 use Rattle.isa_model.proofs.AccessLaws.{store_number_keeps}
 use Rattle.isa_model.proofs.ByteCells.{number_in-Byte, value_in-Byte, take-drop-Byte}
-use Rattle.isa_model.proofs.HelperLaws.{content_fits}
+use Rattle.isa_model.proofs.HelperLaws.{content_fits, has_entry, row_within}
 use Rattle.isa_model.proofs.StateLaws.{put_value_serials}
 use Rattle.isa_model.proofs.ValueLaws.{slice_index_fits}
 use Rattle.reg_state.specs.declared.scalars.Scalar.{Scalar}
@@ -310,13 +308,6 @@ value_moves_yields e back m least greatest by o k x v only (is, within) has h =
 
 -- ---- wide loads
 
--- an array of one entry has that entry
-has_entry : (kind : MapKind) (entries : ℕ) (keys : List (List ℕ)) → kind ≡ Array → entries ≡ 1 → KeysFit kind entries keys → 0 < length keys
-has_entry kind entries keys array one h =
-    let there = (subst (λ k. KeysFit k entries keys) array h).0 0 (omega arith) in
-    let within = there.1 in
-    omega arith
-
 first_live : (content : Content) → 0 < length content → Contains (value_serials content) (one_serial content)
 first_live [] some = absurd (omega arith)
 first_live (e ∷ content) some = (0, omega arith, refl)
@@ -350,7 +341,7 @@ short_offset : (rows : List MapDef) (m offset : ℕ) (o : Option MapDef) → sli
 short_offset rows m offset None here all names = absurd names
 short_offset rows m offset (Some row) here all names =
     let within = slice_get_within rows m row here in
-    let limits : IsRow row = subst IsRow (get_or_from_slice_get rows m row row here) (all m row within) in
+    let limits : IsRow row = row_within rows m row here all in
     let short = limits.short_value in
     let inside = names.within in
     (within, omega arith)

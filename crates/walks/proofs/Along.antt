@@ -32,7 +32,8 @@ use Rattle.isa_model.proofs.SlotLaws.{HasKnownSlots-store, HasKnownSlots-keep, s
 use Rattle.reg_state.specs.declared.kinds.Kind.{Kind}
 use Rattle.stack_state.specs.declared.states.State.{State}
 use Rattle.stack_state.specs.Places.{kind_of, with_register, go_to}
-use Rattle.stack_state.proofs.PlaceLaws.{same_number, same_or_other, kind_of-with_other}
+use Rattle.isa_model.proofs.RegisterLaws.{same_number}
+use Rattle.stack_state.proofs.PlaceLaws.{same_or_other, kind_of-with_other}
 use Rattle.stack_state.specs.Slots.{slot_at, kind_in}
 use Rattle.branch_refine.specs.Refining.{IsJust, IsJustOperand}
 use Rattle.transfer.specs.declared.Ways.{Ways}

@@ -25,7 +25,8 @@ use Rattle.stack_state.specs.declared.states.State.{State}
 use Rattle.stack_state.specs.Meaning.{frame_of, depth, registers_of, kind_at, no_frame, Means, Covers}
 use Rattle.stack_state.proofs.MeaningLaws.{frame_of-caller, frame_of-innermost, FrameKeeps, MeansBy-change}
 use Rattle.stack_state.specs.Places.{kind_of}
-use Rattle.stack_state.proofs.PlaceLaws.{kind_of-registers, same_number}
+use Rattle.isa_model.proofs.RegisterLaws.{same_number}
+use Rattle.stack_state.proofs.PlaceLaws.{kind_of-registers}
 use Rattle.control_flow.specs.Flows.{IsJoin}
 use Rattle.control_flow.specs.Liveness.{IsLive, IsSlotLive}
 use Rattle.control_flow.proofs.RegisterLaws.{numbered}

@@ -1,5 +1,5 @@
 -- Lemmas about numbers of 32 and 64 bits: how large results are, and 32-bit results by way of 64 bits.
-use Rattle.std.proofs.Common.{inl, inr, ◌≡◌, ℕ, ◌+◌, ◌-◌, ◌*◌, ◌/◌, ◌^◌, ◌<◌, arith, w64}
+use Rattle.std.proofs.Common.{inl, inr, ◌≡◌, ℕ, ◌+◌, ◌*◌, ◌/◌, ◌^◌, ◌<◌, arith, w64}
 use Rattle.std.specs.Int.{cast_signed}
 use borrow.Author.Differences.{up, down}
 use Rattle.std.proofs.Math.Nat.{mod-eq_of_lt}

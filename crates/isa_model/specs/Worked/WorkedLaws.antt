@@ -3,6 +3,7 @@ use Rattle.std.specs.Prelude.{◌≡◌, ◌≢◌, ℕ, zero, suc, ◌+◌, ◌
 use Rattle.std.specs.Option.{option_flatten}
 use Rattle.std.specs.List.{list_any}
 use Rattle.std.proofs.Common.{inl, inr, sym, ap, ◌∙◌, subst, arith}
+use Rattle.std.proofs.lemmas.Bool.{and_parts, or_parts}
 use Rattle.std.proofs.lemmas.Bool.Decides.{nat_tests}
 use Rattle.isa_model.specs.declared.registers.Reg.{Reg}
 use Rattle.isa_model.specs.declared.registers.Reg.TheVariants.{R0, R1, R2, R3, R4, R5, R6, R7, R8, R9, R10}
@@ -12,14 +13,6 @@ use Rattle.isa_model.specs.Code.Instructions.{Program, fetch, slots_of, writes, 
 use Rattle.isa_model.specs.Machine.Steps.{destination}
 use Rattle.isa_model.specs.Machine.Successors.{falls_through, jump_distance, FallsTo, JumpsTo}
 use Rattle.isa_model.specs.MustAccept.Paths.{Each, IsOneOf, needs, written_too, PathTo, IsWhole, AreWritten}
-
-both : (a b : Bool) → (a && b) ≡ true → (a ≡ true) × (b ≡ true)
-both true b h = (refl, h)
-both false b h = absurd (cc)
-
-neither : (a b : Bool) → (a || b) ≡ false → (a ≡ false) × (b ≡ false)
-neither true b h = absurd (cc)
-neither false b h = (refl, h)
 
 -- ---- instruction by instruction
 
@@ -58,7 +51,7 @@ each_from_all : (test : ℕ → Insn → Bool) (n : ℕ) (os : List (Option Insn
 each_from_all test n [] h = tt
 each_from_all test n (None ∷ os) h = each_from_all test (suc n) os h
 each_from_all test n (Some i ∷ os) h =
-    let (here, rest) = both (test n i) (all_from test (suc n) os) h in
+    let (here, rest) = and_parts (test n i) (all_from test (suc n) os) h in
     (here, each_from_all test (suc n) os rest)
 
 pub of_all : (p : Program) (test : ℕ → Insn → Bool) → all_insns p test ≡ true → (slot : ℕ) (i : Insn) → fetch p slot ≡ Some i → test slot i ≡ true
@@ -97,10 +90,10 @@ on_jump test p slot (Some z) by h is = let same : z ≡ by = cc in subst (λ d. 
 
 on_next : (test : ℕ → Bool) (p : Program) (slot : ℕ) (i : Insn) (next : ℕ) → next_passes test p slot i ≡ true → FallsTo slot i next ⊎ JumpsTo p slot i next → test next ≡ true
 on_next test p slot i next h (inl falls) =
-    let (fall, jump) = both (fall_passes test (falls_through i) (slot + slots_of i)) (jump_passes test p slot (jump_distance i)) h in
+    let (fall, jump) = and_parts (fall_passes test (falls_through i) (slot + slots_of i)) (jump_passes test p slot (jump_distance i)) h in
     ap test falls.1 ∙ on_fall test (falls_through i) (slot + slots_of i) fall falls.0
 on_next test p slot i next h (inr jumps) =
-    let (fall, jump) = both (fall_passes test (falls_through i) (slot + slots_of i)) (jump_passes test p slot (jump_distance i)) h in
+    let (fall, jump) = and_parts (fall_passes test (falls_through i) (slot + slots_of i)) (jump_passes test p slot (jump_distance i)) h in
     ap test jumps.2 ∙ on_jump test p slot (jump_distance i) jumps.0 jump jumps.1
 
 -- jumps lead ahead
@@ -145,7 +138,7 @@ follows_by p from None slot h = absurd (cc)
 follows_by p from (Some i) slot h =
     elim (either (falls_to from i slot) (jumps_to p from (jump_distance i) slot) h) [
       | inl falls ↦
-          let (through, at) = both (falls_through i) (slot == from + slots_of i) falls in
+          let (through, at) = and_parts (falls_through i) (slot == from + slots_of i) falls in
           (i, refl, inl (through, equal slot (from + slots_of i) at))
       | inr jump ↦ (i, refl, inr (jumps p from (jump_distance i) slot jump))
     ]
@@ -164,7 +157,7 @@ path p froms entered (suc limit) slot below begins =
     elim (either (slot == 0) (nat_lt from slot && follows p from (fetch p from) slot) (of_all p (λ f x. is_entered p froms f) entered slot i here)) [
       | inl first ↦ (0, [], (equal slot 0 first, refl))
       | inr behind ↦
-          let (earlier, on) = both (nat_lt from slot) (follows p from (fetch p from) slot) behind in
+          let (earlier, on) = and_parts (nat_lt from slot) (follows p from (fetch p from) slot) behind in
           let before : from < slot = grind (arith, nat_tests, earlier) in
           let (j, there, leads) = follows_by p from (fetch p from) slot on in
           let to = path p froms entered limit from (omega (arith, below, before)) (subst (λ (o : Option Insn). IsSome o) (sym there) refl) in
@@ -220,7 +213,7 @@ is_one_of (q ∷ rs) r h =
 are_of : (rs qs : List Reg) → names_each rs qs ≡ true → Each (IsOneOf rs) qs
 are_of rs [] h = tt
 are_of rs (q ∷ qs) h =
-    let (here, rest) = both (names rs q) (names_each rs qs) h in
+    let (here, rest) = and_parts (names rs q) (names_each rs qs) h in
     (is_one_of rs q here, are_of rs qs rest)
 
 among : (P : Reg → Type 0) (rs : List Reg) (r : Reg) → Each P rs → IsOneOf rs r → P r
@@ -278,13 +271,13 @@ unequal q r h e =
 
 pub is_not_one_of : (r : Reg) (rs : List Reg) → names rs r ≡ false → IsOneOf rs r → ⊥
 is_not_one_of r [] none one = absurd one
-is_not_one_of r (q ∷ rs) none (inl same) = unequal q r (neither (reg_number q == reg_number r) (names rs r) none).0 (sym same)
-is_not_one_of r (q ∷ rs) none (inr rest) = is_not_one_of r rs (neither (reg_number q == reg_number r) (names rs r) none).1 rest
+is_not_one_of r (q ∷ rs) none (inl same) = unequal q r (or_parts (reg_number q == reg_number r) (names rs r) none).0 (sym same)
+is_not_one_of r (q ∷ rs) none (inr rest) = is_not_one_of r rs (or_parts (reg_number q == reg_number r) (names rs r) none).1 rest
 
 are_others : (r : Reg) (rs : List Reg) → names rs r ≡ false → Each (λ q. q ≢ r) rs
 are_others r [] none = tt
 are_others r (q ∷ rs) none =
-    let (here, rest) = neither (reg_number q == reg_number r) (names rs r) none in
+    let (here, rest) = or_parts (reg_number q == reg_number r) (names rs r) none in
     (unequal q r here, are_others r rs rest)
 
 is_no : (b : Bool) → not b ≡ true → b ≡ false

@@ -1,0 +1,16 @@
+-- Registers and their numbers.
+use Rattle.std.proofs.Common.{◌≡◌, Some, refl, sym, ap, ◌∙◌}
+use Rattle.std.proofs.lemmas.Option.{same_Some}
+use Rattle.isa_model.specs.declared.registers.Reg.{Reg}
+use Rattle.isa_model.specs.declared.registers.Reg.TheVariants.{R0}
+use Rattle.isa_model.specs.Code.Registers.{reg_number, reg_numbered}
+
+-- a register is the one of its number
+pub reg_numbered-reg_number : (r : Reg) → reg_numbered (reg_number r) ≡ Some r
+reg_numbered-reg_number R0 = refl
+reg_numbered-reg_number r = refl
+
+-- different registers have different numbers
+pub same_number : (q r : Reg) → reg_number q ≡ reg_number r → q ≡ r
+same_number q r e = same_Some q r
+    (sym (reg_numbered-reg_number q) ∙ ap reg_numbered e ∙ reg_numbered-reg_number r)
