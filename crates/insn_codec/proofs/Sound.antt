@@ -1,5 +1,5 @@
 -- What is decoded is spelled so.
-use Rattle.std.proofs.Common.{◌≡◌, ℕ, ◌+◌, ◌*◌, ◌/◌, ◌%◌, ◌^◌, ◌<◌, ◌≤◌, true, false, List, [], ◌∷◌, ◌++◌, length, take, drop, Option, Some, None, Result, Ok, Err, refl, sym, ap, ◌∙◌, subst, arith, inl, inr, take-add}
+use Rattle.std.proofs.Common.{◌≡◌, ℕ, ◌+◌, ◌*◌, ◌/◌, ◌%◌, ◌^◌, ◌<◌, ◌≤◌, cond, true, false, List, [], ◌∷◌, ◌++◌, length, take, drop, Option, Some, None, Result, Ok, Err, refl, sym, ap, ◌∙◌, subst, arith, inl, inr, take-add}
 use Rattle.std.specs.Prelude.{◌==◌, nat_lt, not}
 use Rattle.std.proofs.lemmas.List.{length-drop}
 use Rattle.std.specs.Int.{w16, w32, cast_signed, cast_unsigned}
@@ -134,61 +134,43 @@ call d R1 o k rest i h z e =
     tt h.constant (ok_is _ _ e)
 call d r o k rest i h z e = absurd cc
 
--- one value of imm of the atomic instructions
-atomic_case : (w : Width) (d r : Reg) (o k : ℕ) (rest : List ℕ) (i x : Insn) (n : ℕ)
-    → first_slot x ≡ slot (atomic_opcode w) (reg_number d) (reg_number r) o n → next_imm x ≡ None → InsnFits x
-    → (k == n) ≡ true → done x ≡ Ok i → By (atomic_opcode w) d r o k rest i
-atomic_case w d r o k rest i x n first none fits t e =
-    one _ d r o k rest x i
-    (first ∙ ap (λ (j : ℕ). slot (atomic_opcode w) (reg_number d) (reg_number r) o j) (sym (eqb-true k n t)))
-    (rw none tt) fits (ok_is _ _ e)
-
 atomic_at : (w : Width) (d r : Reg) (o k : ℕ) (rest : List ℕ) (i : Insn) → Within o k rest
     → atomic w (fields d r o k) ≡ Ok i → By (atomic_opcode w) d r o k rest i
 atomic_at w d r o k rest i h e =
     let at = place_in (fields d r o k) d in
-    let same : (n : ℕ) → slot (atomic_opcode w) (reg_number d) (reg_number r) (cast_unsigned w16 (cast_signed w16 o)) n ≡ slot (atomic_opcode w) (reg_number d) (reg_number r) o n = λ n. rw (h.offset) refl in
     let fit = h.distance in
-    elim (chosen (k == 0xe1) (done (Exchange w at r)) _ _ e) [
-      | inl p ↦ atomic_case w d r o k rest i _ 0xe1 (same 0xe1) refl fit p.0 p.1
-      | inr p ↦
-          elim (chosen (k == 0xf1) (done (CompareExchange w at r)) _ _ p.1) [
-            | inl p ↦ atomic_case w d r o k rest i _ 0xf1 (same 0xf1) refl fit p.0 p.1
-            | inr p ↦
-                elim (chosen (k == 0x00) (done (Atomic w atomics.Add false at r)) _ _ p.1) [
-                  | inl p ↦ atomic_case w d r o k rest i _ 0x00 (same 0x00) refl fit p.0 p.1
-                  | inr p ↦
-                      elim (chosen (k == 0x01) (done (Atomic w atomics.Add true at r)) _ _ p.1) [
-                        | inl p ↦ atomic_case w d r o k rest i _ 0x01 (same 0x01) refl fit p.0 p.1
-                        | inr p ↦
-                            elim (chosen (k == 0x40) (done (Atomic w atomics.Or false at r)) _ _ p.1) [
-                              | inl p ↦ atomic_case w d r o k rest i _ 0x40 (same 0x40) refl fit p.0 p.1
-                              | inr p ↦
-                                  elim (chosen (k == 0x41) (done (Atomic w atomics.Or true at r)) _ _ p.1) [
-                                    | inl p ↦ atomic_case w d r o k rest i _ 0x41 (same 0x41) refl fit p.0 p.1
-                                    | inr p ↦
-                                        elim (chosen (k == 0x50) (done (Atomic w atomics.And false at r)) _ _ p.1) [
-                                          | inl p ↦ atomic_case w d r o k rest i _ 0x50 (same 0x50) refl fit p.0 p.1
-                                          | inr p ↦
-                                              elim (chosen (k == 0x51) (done (Atomic w atomics.And true at r)) _ _ p.1) [
-                                                | inl p ↦ atomic_case w d r o k rest i _ 0x51 (same 0x51) refl fit p.0 p.1
-                                                | inr p ↦
-                                                    elim (chosen (k == 0xa0) (done (Atomic w atomics.Xor false at r)) _ _ p.1) [
-                                                      | inl p ↦ atomic_case w d r o k rest i _ 0xa0 (same 0xa0) refl fit p.0 p.1
-                                                      | inr p ↦
-                                                          elim (chosen (k == 0xa1) (done (Atomic w atomics.Xor true at r)) _ _ p.1) [
-                                                            | inl p ↦ atomic_case w d r o k rest i _ 0xa1 (same 0xa1) refl fit p.0 p.1
-                                                            | inr p ↦ absurd cc
-                                                          ]
-                                                    ]
-                                              ]
-                                        ]
-                                  ]
-                            ]
-                      ]
-                ]
-          ]
-    ]
+    case 0xe1 (Exchange w at r) _ (same 0xe1) refl fit e (λ e.
+    case 0xf1 (CompareExchange w at r) _ (same 0xf1) refl fit e (λ e.
+    case 0x00 (Atomic w atomics.Add false at r) _ (same 0x00) refl fit e (λ e.
+    case 0x01 (Atomic w atomics.Add true at r) _ (same 0x01) refl fit e (λ e.
+    case 0x40 (Atomic w atomics.Or false at r) _ (same 0x40) refl fit e (λ e.
+    case 0x41 (Atomic w atomics.Or true at r) _ (same 0x41) refl fit e (λ e.
+    case 0x50 (Atomic w atomics.And false at r) _ (same 0x50) refl fit e (λ e.
+    case 0x51 (Atomic w atomics.And true at r) _ (same 0x51) refl fit e (λ e.
+    case 0xa0 (Atomic w atomics.Xor false at r) _ (same 0xa0) refl fit e (λ e.
+    case 0xa1 (Atomic w atomics.Xor true at r) _ (same 0xa1) refl fit e (λ e.
+    absurd cc))))))))))
+  where
+    same : (n : ℕ)
+        → slot (atomic_opcode w) (reg_number d) (reg_number r) (cast_unsigned w16 (cast_signed w16 o)) n
+        ≡ slot (atomic_opcode w) (reg_number d) (reg_number r) o n
+    same n = rw h.offset refl
+
+    -- one value of imm, or a later one
+    case : (n : ℕ) (x : Insn) (later : Result Insn CodecError)
+        → first_slot x ≡ slot (atomic_opcode w) (reg_number d) (reg_number r) o n
+        → next_imm x ≡ None → InsnFits x → cond (k == n) (done x) later ≡ Ok i
+        → (later ≡ Ok i → By (atomic_opcode w) d r o k rest i)
+        → By (atomic_opcode w) d r o k rest i
+    case n x later first none fits e other =
+        elim (chosen (k == n) (done x) later _ e) [
+          | inl p ↦
+              let is = sym (eqb-true k n p.0) in
+              one _ d r o k rest x i
+              (first ∙ ap (λ j. slot (atomic_opcode w) (reg_number d) (reg_number r) o j) is)
+              (rw none tt) fits (ok_is _ _ p.1)
+          | inr p ↦ other p.1
+        ]
 
 -- the eight bytes of a second slot whose reserved bits are zero
 second : (rest : List ℕ) → EachByte rest → 8 ≤ length rest → little_number 4 rest ≡ 0 → take 8 rest ≡ second_bytes (Some (little_number 4 (drop 4 rest)))
