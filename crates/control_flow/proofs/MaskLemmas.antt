@@ -1,8 +1,9 @@
 -- Masks: what each of their functions does, register by register and slot by slot.
-use Rattle.std.proofs.Common.{◌≡◌, ℕ, Option, Some, ◌+◌, ◌*◌, ◌^◌, ◌%◌, ◌<◌, replicate, sym, ap, ◌∙◌, arith, inl, inr, bit_or, bit_and, bit_xor, w16, w64}
+use Rattle.std.proofs.Common.{◌≡◌, ℕ, Option, Some, ◌+◌, ◌-◌, ◌*◌, ◌/◌, ◌^◌, ◌%◌, ◌<◌, ◌≤◌, replicate, sym, ap, ◌∙◌, arith, inl, inr, bit_or, bit_and, bit_xor, w16, w64}
 use Rattle.std.specs.Prelude.{◌↔◌, ◌⊎◌, max, min}
 use Rattle.std.specs.Int.{bit_at}
 use Rattle.std.proofs.lemmas.Bool.{cases_lt, cases_eq}
+use Rattle.std.proofs.lemmas.Nat.{shr-shr}
 use Rattle.std.proofs.lemmas.Nat.Bits.{bit_at-zero, bit_at_ones, bit_at_ones_above, bit_at-lt, bit_at_or, bit_at_and, bit_at_xor, bit_at_set_same, bit_at_set_other}
 use Rattle.std.proofs.lemmas.Option.{same_Some}
 use Rattle.std.proofs.lemmas.List.{length-replicate, get_or-replicate, get_or_past}
@@ -87,6 +88,20 @@ all_has j = elim (cases_lt j 64) [
   | inl below ↦ (λ h. below, λ h. bit_at_ones 64 j below)
   | inr past ↦ (λ h. let none = bit_at_ones_above 64 j past in absurd cc, λ h. absurd (omega arith))
 ]
+
+-- none of eight
+pub none_in : (bits from j : ℕ) → bit_and (bits / 2 ^ from) 255 ≡ 0 → from ≤ j → j < from + 8
+    → bit_at bits j ≡ 1 → ⊥
+none_in bits from j none low high h =
+    let k : ℕ = j - from in
+    let at : from + k ≡ j = omega arith in
+    let there : bit_at (bits / 2 ^ from) k ≡ bit_at bits j =
+    ap (λ x. x % 2) (shr-shr bits from k) ∙ ap (bit_at bits) at in
+    let one : bit_at 255 k ≡ 1 = bit_at_ones 8 k (omega arith) in
+    let both : bit_at (bit_and (bits / 2 ^ from) 255) k ≡ min (bit_at (bits / 2 ^ from) k) (bit_at 255 k) =
+    bit_at_and (bits / 2 ^ from) 255 k in
+    let zero : bit_at (bit_and (bits / 2 ^ from) 255) k ≡ 0 = ap (λ (x : ℕ). bit_at x k) none ∙ bit_at-zero k in
+    omega (arith, there, one, both, zero, h)
 
 -- one of them
 pub one_has : (n j : ℕ) → n < 64 → (bit_at (1 * 2 ^ n % 2 ^ 64) j ≡ 1) ↔ (j ≡ n)

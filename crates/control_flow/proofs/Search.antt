@@ -1,6 +1,7 @@
 -- Searches: what finding slots does, and what a loop of it keeps.
 use Rattle.std.proofs.Common.{◌≡◌, ℕ, zero, suc, ◌+◌, ◌<◌, Bool, true, false, not, cond, List, [], ◌∷◌, ◌++◌, length, get_or, set, replicate, Option, Some, refl, sym, ap, ◌∙◌, subst, arith, inl, inr}
 use Rattle.std.specs.Prelude.{◌↔◌, ◌⊎◌, count_by, sum_by, Contains}
+use Rattle.std.proofs.lemmas.Bool.{cases_eq}
 use Rattle.std.proofs.lemmas.Option.{same_Some}
 use Rattle.std.proofs.lemmas.List.{length-set, length-append, length-replicate}
 use Rattle.std.proofs.lemmas.List.Sums.{sum_by-set}
@@ -23,6 +24,25 @@ one-Contains x = (0, omega arith, refl)
 
 pub no-Contains : (y : ℕ) → Contains [] y → ⊥
 no-Contains y (k, lt, e) = omega (arith, lt)
+
+-- the numbers below n, each once
+pub record AreBelow (n : ℕ) (frontier : List ℕ) : Type 0 where
+  pub as_many : length frontier ≡ n
+  pub each : (k : ℕ) → k < n → Contains frontier k
+  pub only : (k : ℕ) → Contains frontier k → k < n
+
+pub below_more : (n : ℕ) (frontier : List ℕ) → AreBelow n frontier → AreBelow (n + 1) (frontier ++ n ∷ [])
+below_more n frontier m = record {
+  as_many = omega (arith, length-append frontier (n ∷ []), m.as_many);
+  each = λ k low. elim (cases_eq k n) [
+    | inl e ↦ Contains-append_right frontier (n ∷ []) k (subst (λ (i : ℕ). Contains (n ∷ []) i) (sym e) (one-Contains n))
+    | inr apart ↦ Contains-append_left frontier (n ∷ []) k (m.each k (omega arith))
+  ];
+  only = λ k h. elim (Contains-append_cases frontier (n ∷ []) k h) [
+    | inl old ↦ let low = m.only k old in omega (arith, low)
+    | inr one ↦ let same = Contains-one n k one in omega (arith, same)
+  ];
+}
 
 -- ---- what finding does
 

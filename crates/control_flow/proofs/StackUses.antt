@@ -1,5 +1,5 @@
 -- What instructions do with the stack, by what the code finds.
-use Rattle.std.proofs.Common.{◌≡◌, ℕ, ◌<◌, Some, true, false, refl, sym, ◌∙◌, subst, arith}
+use Rattle.std.proofs.Common.{◌≡◌, ℕ, ◌<◌, Some, true, false, refl, sym, ◌∙◌, subst, arith, inl, inr}
 use Rattle.std.specs.Prelude.{◌↔◌, ℤ, Bool, IsTrue}
 use Rattle.std.proofs.lemmas.Option.{same_Some}
 use Rattle.isa_model.specs.declared.sizes.Size.{Size}
@@ -54,3 +54,11 @@ pub handed_on_as_said : (p : Program) (n : ℕ) (handed_on : Bool) → (IsTrue h
     → ((k : ℕ) → HandsOnAt p k → k < n) → IsTrue handed_on ↔ FrameAddressIsTaken p
 handed_on_as_said p n true is none inside = (is, λ h. refl)
 handed_on_as_said p n false is none inside = (is, λ (k, at). absurd (none refl k (inside k at) at))
+
+-- an instruction reads r10 if it takes it for more than the base of a load or a store
+pub taken_is_read : (i : Insn) → TakesFrameAddress i → IsOneOf (read_registers i) R10
+taken_is_read (Load size d place) takes = absurd takes
+taken_is_read (LoadSx size d place) takes = absurd takes
+taken_is_read (StoreConstant size place k) takes = absurd takes
+taken_is_read (Store size place r) takes = inr (inl (sym takes))
+taken_is_read i takes = takes

@@ -4,9 +4,9 @@ use Rattle.std.specs.Prelude.{◌↔◌, ◌⊎◌, ◌&&◌, slice_get, count_b
 use Rattle.std.proofs.Math.Nat.{mul-le-mul_left}
 use Rattle.std.proofs.lemmas.Bool.{cases_eq}
 use Rattle.std.proofs.lemmas.Option.{same_Some, slice_get_within}
-use Rattle.std.proofs.lemmas.List.{get_or-set_same, get_or-set_other, length-set, length-append, length-replicate, append-nil, take_all}
+use Rattle.std.proofs.lemmas.List.{get_or-set_same, get_or-set_other, length-set, length-append, length-replicate, get_or-replicate, append-nil, take_all}
 use Rattle.std.proofs.Math.ListN.{drop_of_length-le}
-use Rattle.std.proofs.lemmas.List.Sums.{sum_by-set, count_by-le-length}
+use Rattle.std.proofs.lemmas.List.Sums.{sum_by-set, sum_by-cons}
 use Rattle.std.proofs.lemmas.List.Elements.{Contains-append_left, Contains-append_cases}
 use Rattle.isa_model.specs.Code.Instructions.{Program}
 use Rattle.control_flow.specs.declared.homes.HomeMask.{HomeMask}
@@ -16,11 +16,11 @@ use Rattle.control_flow.proofs.FlowLaws.{BeginsInsn-inside, fetch-BeginsInsn, Ha
 use Rattle.control_flow.specs.Flows.{IsMarked, MarksLive}
 use Rattle.control_flow.specs.Masks.{HasHome, no_homes, mask_at}
 use Rattle.control_flow.specs.Liveness.{Home, IsReadAfter, IsHomeLive}
-use Rattle.control_flow.specs.Nodes.{IsNode, AreNodes, ComesFrom, HasBehind, IsLiveBefore, AreSound, IsClosedAt, room_in, room_left, AddsAt, HasAll}
-use Rattle.control_flow.specs.Searches.{Extends}
-use Rattle.control_flow.proofs.MarkLemmas.{IsMarked-inside, new-IsMarked}
+use Rattle.control_flow.specs.Nodes.{IsNode, AreNodes, ComesFrom, HasBehind, IsLiveBefore, AreSound, IsClosedAt, room_in, room_left, AddsAt}
+use Rattle.control_flow.specs.Searches.{Extends, HasAll}
+use Rattle.control_flow.proofs.MarkLemmas.{IsMarked-inside}
 use Rattle.control_flow.proofs.MaskLemmas.{no_home, mask_at-none}
-use Rattle.control_flow.proofs.Search.{Extends-none, Extends-next, Extends-same, Extends-new_search, Contains-one, no-Contains, on_top}
+use Rattle.control_flow.proofs.Search.{Contains-one, no-Contains, on_top}
 use Rattle.control_flow.proofs.Graphs.{node_at, node-fall_from, node-jump_from}
 
 -- ---- one slot
@@ -121,28 +121,6 @@ step_more nodes n node masks before mask (here, adds, both) inside fits wide up 
           omega (arith, moved, less);
     }
 
--- ---- the slots that were found first
-
-pub all_none : (n : ℕ) (f : List Bool) (s : List ℕ) → f ≡ replicate n false → s ≡ [] → Extends (λ k. k < 0) (replicate n false) [] f s
-all_none n f s none empty =
-    Extends-new_search (λ k. k < 0) n n f s f s refl none empty (Extends-none (λ k. k < 0) f s (λ k below. absurd (omega arith)))
-
-pub all_more : (n : ℕ) (f : List Bool) (s : List ℕ) (g : List Bool) (t : List ℕ) (h : List Bool) (u : List ℕ)
-    → Extends (λ k. k < n) f s g t → Extends (λ k. Some n ≡ Some k) g t h u → Extends (λ k. k < n + 1) f s h u
-all_more n f s g t h u x y =
-    Extends-same (λ k. (k < n) ⊎ (Some n ≡ Some k)) (λ k. k < n + 1) f s h u
-    (λ k. (
-      λ w. elim w [
-        | inl below ↦ omega arith
-        | inr e ↦ let same : n ≡ k = same_Some n k e in omega (arith, same)
-      ],
-      λ below. elim (cases_eq k n) [
-        | inl e ↦ inr (ap (λ (i : ℕ). let o : Option ℕ = Some i in o) (sym e))
-        | inr apart ↦ inl (omega arith)
-      ],
-    ))
-    (Extends-next (λ k. k < n) (λ k. Some n ≡ Some k) f s g t h u x y)
-
 -- ---- the loop
 
 -- the masks have nothing that is not live, and all that is live before each instruction whose slot is not on the list
@@ -155,20 +133,32 @@ pub record IsWorking (p : Program) (nodes : List Node) (masks : List HomeMask) (
   pub closed : (k : ℕ) (node : Node) → slice_get nodes k ≡ Some node → IsMarked found k ⊎ IsClosedAt masks k node
   pub room : count_by not found + length frontier ≤ length nodes
 
-pub working_start : (p : Program) (nodes : List Node) (n size : ℕ) (found : List Bool) (frontier : List ℕ) → n ≡ length nodes → size ≡ length nodes → HasAll size found frontier
+-- no slot is left to be found
+none_left : (n : ℕ) → count_by not (replicate n true) ≡ 0
+none_left zero = refl
+none_left (suc n) =
+    let counted = sum_by-cons (λ x. cond (not x) 1 0) true (replicate n true) in
+    let rest = none_left n in
+    omega (arith, counted, rest)
+
+pub working_start : (p : Program) (nodes : List Node) (n size : ℕ) (found : List Bool) (frontier : List ℕ)
+    → n ≡ length nodes → size ≡ length nodes → HasAll size found frontier
     → IsWorking p nodes (replicate n no_homes) found frontier
 working_start p nodes n size found frontier all all_found x =
-    let same : length found ≡ size = x.same ∙ length-replicate size false in record {
+    let same : length found ≡ size = ap length x.found_all ∙ length-replicate size true in
+    let none : count_by not found ≡ 0 = ap (count_by not) x.found_all ∙ none_left size in
+    record {
       same = length-replicate n no_homes ∙ all;
       same_found = same ∙ all_found;
       sound = λ r slot h. absurd (no_home r (subst (λ x. HasHome x r) (mask_at-none n slot) h));
-      inside = λ k c. elim (x.adds k c) [
-        | inl old ↦ absurd (no-Contains k old)
-        | inr m ↦ let low = IsMarked-inside found k m in omega (arith, low, same, all_found)
-      ];
-      waits = λ k m. elim (x.new k m) [ inl old ↦ absurd (new-IsMarked size k old) | inr new ↦ new.0 ];
-      closed = λ k node here. let low = slice_get_within nodes k node here in inl (x.all k (omega (arith, low, all_found)));
-      room = omega (arith, x.even, count_by-le-length not (replicate size false), length-replicate size false, all_found);
+      inside = λ k c. let low = x.only k c in omega (arith, low, all_found);
+      waits = λ k m. let low = IsMarked-inside found k m in x.each k (omega (arith, low, same));
+      closed = λ k node here.
+          let low = slice_get_within nodes k node here in
+          let marked : IsMarked (replicate size true) k =
+          get_or-replicate size k true false (omega (arith, low, all_found)) in
+          inl (subst (λ (marks : List Bool). IsMarked marks k) (sym x.found_all) marked);
+      room = omega (arith, none, x.as_many, all_found);
     }
 
 -- the slot on top is inside the code

@@ -1,12 +1,11 @@
 -- The code as a graph of slots, and what is added to what is live there.
-use Rattle.std.specs.Prelude.{◌≡◌, ◌≢◌, ◌↔◌, ◌⊎◌, ℕ, ◌+◌, ◌<◌, ◌-◌, ◌^◌, Bool, true, false, List, [], replicate, length, sum_by, Option, Some, None, slice_get}
+use Rattle.std.specs.Prelude.{◌≡◌, ◌≢◌, ◌↔◌, ◌⊎◌, ℕ, ◌+◌, ◌<◌, ◌-◌, ◌^◌, Bool, true, false, List, length, sum_by, Option, Some, None, slice_get}
 use Rattle.std.specs.Option.{option_and_then}
 use Rattle.isa_model.specs.Code.Instructions.{Program}
 use Rattle.control_flow.specs.declared.homes.HomeMask.{HomeMask}
 use Rattle.control_flow.specs.declared.nodes.Node.{Node}
 use Rattle.control_flow.specs.Graph.{fall_to, jump_to}
 use Rattle.control_flow.specs.Masks.{HasHome, mask_at}
-use Rattle.control_flow.specs.Searches.{Extends}
 use Rattle.control_flow.specs.Liveness.{Home, ReadsHome, WritesHome, IsHomeLive}
 
 -- ---- nodes
@@ -82,7 +81,3 @@ pub record AddsAt (nodes : List Node) (slot : ℕ) (old new : List HomeMask) (gr
   pub others : (k : ℕ) → k ≢ slot → mask_at new k ≡ mask_at old k
   pub still : grown ≡ false → new ≡ old
   pub less : grown ≡ true → room_left new < room_left old
-
--- all slots of the code are found, and all are in the frontier
-abbrev pub HasAll : ℕ → List Bool → List ℕ → Type 0
-HasAll size found frontier = Extends (λ k. k < size) (replicate size false) [] found frontier

@@ -1,6 +1,6 @@
 -- The state of a search: the slots that it found are marked, and those whose successors it has not
 -- marked yet are its frontier.
-use Rattle.std.specs.Prelude.{◌≡◌, ℕ, ◌+◌, ◌*◌, ◌≤◌, ◌⊎◌, Bool, not, List, length, count_by, Contains}
+use Rattle.std.specs.Prelude.{◌≡◌, ℕ, ◌+◌, ◌*◌, ◌<◌, ◌≤◌, ◌⊎◌, Bool, true, not, List, length, replicate, count_by, Contains}
 use Rattle.control_flow.specs.Flows.{IsMarked}
 
 -- what is left of the search: two steps for each slot that it has not found, and one for each of
@@ -19,3 +19,10 @@ pub record Extends (Wanted : ℕ → Type 0) (found : List Bool) (frontier : Lis
   pub adds : (k : ℕ) → Contains frontier' k → Contains frontier k ⊎ IsMarked found' k
   pub even : count_by not found' + length frontier' ≤ count_by not found + length frontier
   pub less : room_of found' frontier' ≤ room_of found frontier
+
+-- all slots of the code are found, and are the frontier
+pub record HasAll (size : ℕ) (found : List Bool) (frontier : List ℕ) : Type 0 where
+  pub found_all : found ≡ replicate size true
+  pub as_many : length frontier ≡ size
+  pub each : (k : ℕ) → k < size → Contains frontier k
+  pub only : (k : ℕ) → Contains frontier k → k < size

@@ -4,7 +4,7 @@ ghost use Rattle.std.specs.Prelude.{◌≡◌, ◌+◌, ◌<◌, ◌↔◌, ◌�
 ghost use Rattle.control_flow.specs.Liveness.{Home};
 ghost use Rattle.control_flow.specs.Flows.{Fails, MarksLive};
 ghost use Rattle.control_flow.specs.Masks.{HasHome};
-ghost use Rattle.control_flow.specs.Nodes.{HasBehind, IsLiveBefore, AddsAt, fall_from, FallsNear, ComesFrom, HasAll};
+ghost use Rattle.control_flow.specs.Nodes.{HasBehind, IsLiveBefore, AddsAt, fall_from, FallsNear, ComesFrom};
 ghost use Rattle.control_flow.specs.Searches.{Extends};
 ghost use Rattle.control_flow.specs.Sources.{AreSources};
 
@@ -89,17 +89,6 @@ fn go_back(
     Ok(())
 }
 
-/// A search that has found all slots, and continues from the last one first.
-fn all_slots(alloc: Global, slots: usize) -> Result<Search, AllocError>
-    ensures { IfOk result (λ work. HasAll slots work.found.items work.frontier.items) }
-{
-    let mut work = Search::new(alloc, slots)?;
-    for slot in 0..slots {
-        work.find(Some(slot))?;
-    }
-    Ok(work)
-}
-
 /// For each slot the registers that are live there.
 ///
 /// The work that is left is a list of slots, at first all of them, the last one on top. When a mask
@@ -112,7 +101,7 @@ pub fn live_homes(alloc: Global, image: &Image) -> Result<Vec<HomeMask>, AllocEr
     let nodes = nodes_of(alloc, image)?;
     let sources = sources_of(alloc, &nodes)?;
     let mut masks = vec![in alloc; HomeMask::none(); nodes.len()]?;
-    let mut work = all_slots(alloc, nodes.len())?;
+    let mut work = Search::of_all(alloc, nodes.len())?;
     while let Some(slot) = work.frontier.pop() {
         work.found[slot] = false;
         if add_live(&nodes, masks.as_mut_slice(), slot) {

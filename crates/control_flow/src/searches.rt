@@ -13,7 +13,7 @@ pub struct Search {
 }
 
 impl Search {
-    ghost use Rattle.control_flow.specs.Searches.{Extends};
+    ghost use Rattle.control_flow.specs.Searches.{Extends, HasAll};
 
     /// A search in code with that many slots, which has found nothing.
     pub fn new(alloc: Global, slots: usize) -> Result<Self, AllocError>
@@ -23,6 +23,20 @@ impl Search {
         Ok(Search {
             found: vec![in alloc; false; slots]?,
             frontier: Vec::with_capacity(alloc, slots)?,
+        })
+    }
+
+    /// A search in code with that many slots, which has found all of them, the last one on top.
+    pub fn of_all(alloc: Global, slots: usize) -> Result<Self, AllocError>
+        ensures { IfOk result (λ search. HasAll slots search.found.items search.frontier.items) }
+    {
+        let mut frontier = Vec::with_capacity(alloc, slots)?;
+        for slot in 0..slots {
+            frontier.push(slot)?;
+        }
+        Ok(Search {
+            found: vec![in alloc; true; slots]?,
+            frontier,
         })
     }
 

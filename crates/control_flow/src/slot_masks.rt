@@ -1,6 +1,6 @@
 //! Sets of slots of a call frame's stack.
 
-ghost use Rattle.std.specs.Prelude.{◌≡◌, ℕ, ◌*◌, ◌<◌, ◌≤◌, ◌↔◌, ◌⊎◌, IsTrue, Some};
+ghost use Rattle.std.specs.Prelude.{◌≡◌, ℕ, ◌+◌, ◌*◌, ◌/◌, ◌^◌, ◌<◌, ◌≤◌, ◌↔◌, ◌⊎◌, IsTrue, Some, bit_and};
 ghost use Rattle.isa_model.specs.Code.Limits.{frame_size};
 
 /// A set of slots of 8 bytes, the one at offset -512 from the frame's end in the lowest bit.
@@ -20,7 +20,7 @@ impl SlotMask {
     }
 
     /// All 64.
-    pub(crate) fn all() -> Self
+    pub fn all() -> Self
         ensures { (j : ℕ) → HasSlot result j ↔ (j < 64) }
     {
         SlotMask { bits: u64::MAX }
@@ -51,6 +51,16 @@ impl SlotMask {
         ensures all { IsTrue result → (j : ℕ) → j < 64 → HasSlot self j }
     {
         self.bits == u64::MAX
+    }
+
+    /// Whether none of eight slots is one of them, from a multiple of eight on.
+    pub fn is_empty_in(self, block: u8) -> bool
+        requires { block < 8 }
+        ensures exact { IsTrue result ↔ (bit_and (self.bits / 2 ^ (8 * block)) 255 ≡ 0) }
+        ensures none { IsTrue result
+            → (j : ℕ) → 8 * block ≤ j → j < 8 * block + 8 → ¬ HasSlot self j }
+    {
+        (self.bits >> (8 * block)) & 255 == 0
     }
 
     /// Whether a slot is one of them.

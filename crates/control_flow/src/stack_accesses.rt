@@ -95,6 +95,9 @@ pub fn hands_on_at(image: &Image, slot: usize, read: RegisterMask) -> bool
     requires { Has read TheReg.R10 ↔ ReadsHome image.now (InRegister TheReg.R10) slot }
     ensures { IsTrue result ↔ HandsOnAt image.now slot }
 {
+    if !read.has(Reg::R10) {
+        return false;
+    }
     match image.at(slot) {
         Some(insn) => hands_on(insn, read),
         None => false,
