@@ -45,12 +45,13 @@ def diamonds(count, then, number="r2"):
     return lines
 
 
-def below_frames(depth, spills, body):
-    """The body in the innermost one of so many frames, each of which has unknown numbers on its stack. The context is
-    handed down in r1."""
+def below_frames(depth, spills, body, read):
+    """The body in the innermost one of so many frames, each of which has unknown numbers on its stack, and may read them
+    after its call. The context is handed down in r1."""
     lines = []
+    after = [f"r3 = *(u64 *)(r10 - {8 + 8 * slot})" for slot in range(spills)] if read else []
     for level in range(depth - 1):
-        lines += [f"f{level}: r9 = r1"] + spilled(spills) + ["r1 = r9", f"call f{level + 1}", "exit"]
+        lines += [f"f{level}: r9 = r1"] + spilled(spills) + ["r1 = r9", f"call f{level + 1}"] + after + ["exit"]
     return lines + [f"f{depth - 1}: r9 = r1"] + spilled(spills) + body
 
 
@@ -154,12 +155,14 @@ def stack_slots():
 
 
 def frames():
-    yield "18 additions below 8 frames of 60 slots", (
-        ["goto f0"] + below_frames(8, 60, unknown("r2") + unknown("r8") + diamonds(18, adding) + END))
-    yield "18 bits below 8 frames of 60 slots", (
-        ["goto f0"] + below_frames(8, 60, unknown("r2") + unknown("r8") + diamonds(18, setting) + END))
-    yield "loop of 300,000 turns below 8 frames of 60 slots", (
-        ["goto f0"] + below_frames(8, 60, unknown("r2") + counted(300000, ["if r2 == r7 goto out"]) + ["out: r0 = 2", "exit"]))
+    for read, suffix in ((False, ""), (True, " that are read after the calls")):
+        yield f"18 additions below 8 frames of 60 slots{suffix}", (
+            ["goto f0"] + below_frames(8, 60, unknown("r2") + unknown("r8") + diamonds(18, adding) + END, read))
+        yield f"18 bits below 8 frames of 60 slots{suffix}", (
+            ["goto f0"] + below_frames(8, 60, unknown("r2") + unknown("r8") + diamonds(18, setting) + END, read))
+        yield f"loop of 300,000 turns below 8 frames of 60 slots{suffix}", (
+            ["goto f0"] + below_frames(
+                8, 60, unknown("r2") + counted(300000, ["if r2 == r7 goto out"]) + ["out: r0 = 2", "exit"], read))
     yield "18 additions in the outermost of 8 frames", (
         START + spilled(60) + unknown("r2") + unknown("r8") + diamonds(18, adding)
         + ["r1 = r9", "call g0"] + END

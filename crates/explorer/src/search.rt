@@ -130,7 +130,7 @@ impl Search {
         ensures fails { IfErr result (λ r. BeginFails flow.now self.new.current r.0 r.1) }
         ensures explored { self.new.finished + length self.new.path.items ≡ 0 }
     {
-        forget_dead(flow, &mut self.current);
+        forget_dead(flow, false, &mut self.current);
         self.come(alloc, flow, None)
     }
 
@@ -159,6 +159,7 @@ impl Search {
             ≡ self.old.finished + length self.old.path.items + 1) }
     {
         let slot = self.current.slot;
+        let callers = self.current.callers.len();
         let ways = match step_in_place(image, &mut self.current, &mut self.scratch) {
             Ok(ways) => ways,
             Err(refusal) => return Err((Refusal::Step(refusal), slot)),
@@ -171,7 +172,7 @@ impl Search {
             }
             Ways::One => None,
             Ways::Two => {
-                forget_dead(flow, &mut self.scratch);
+                forget_dead(flow, false, &mut self.scratch);
                 let blank = forgets_stack(flow, self.scratch.slot);
                 match Kept::of_forgotten(alloc, &self.scratch, blank, room, self.stored.last()) {
                     Ok(other) => Some(other),
@@ -179,7 +180,8 @@ impl Search {
                 }
             }
         };
-        forget_dead(flow, &mut self.current);
+        let has_called = self.current.callers.len() > callers;
+        forget_dead(flow, has_called, &mut self.current);
         let visit = Visit {
             pending,
             best: 0,

@@ -1,9 +1,9 @@
 -- What forgetting dead registers and slots of the stack does to a state: it means more, and all
 -- else stays.
-use Rattle.std.proofs.Common.{◌≡◌, ◌≢◌, ◌<◌, ◌≤◌, ◌+◌, ◌∷◌, ◌++◌, [], ℕ, List, length, replicate, get_or, set, refl, sym, ap, ◌∙◌, subst, arith, inl, inr}
+use Rattle.std.proofs.Common.{◌≡◌, ◌≢◌, ◌<◌, ◌≤◌, ◌+◌, ◌∷◌, ◌++◌, [], ℕ, zero, suc, List, length, map, replicate, get_or, set, refl, sym, ap, ◌∙◌, subst, arith, inl, inr}
 use Rattle.std.proofs.lemmas.Bool.{cases_lt, cases_eq}
 use Rattle.std.proofs.lemmas.Nat.Bits.{bit_at-zero}
-use Rattle.std.proofs.lemmas.List.{map-append, length-replicate, get_or-replicate, length-set, get_or-set_same, get_or-set_other, get_or_past}
+use Rattle.std.proofs.lemmas.List.{length-replicate, get_or-replicate, length-set, get_or-set_same, get_or-set_other, get_or_past}
 use Rattle.isa_model.specs.declared.registers.Reg.{Reg}
 use Rattle.isa_model.specs.declared.registers.Reg.TheVariants.{R10}
 use Rattle.isa_model.specs.declared.values.Value.{Value}
@@ -21,9 +21,10 @@ use Rattle.stack_state.specs.declared.slots.Slot.{Slot}
 use Rattle.stack_state.specs.declared.slots.Slot.TheVariants.{Written}
 use Rattle.stack_state.specs.Slots.{slot_at, frame_slots}
 use Rattle.stack_state.specs.StackMeaning.{SlotMeans}
+use Rattle.stack_state.specs.declared.states.AbstractFrame.{AbstractFrame}
 use Rattle.stack_state.specs.declared.states.State.{State}
-use Rattle.stack_state.specs.Meaning.{frame_of, depth, registers_of, kind_at, no_frame, Means, Covers}
-use Rattle.stack_state.proofs.MeaningLaws.{frame_of-caller, frame_of-innermost, FrameKeeps, MeansBy-change}
+use Rattle.stack_state.specs.Meaning.{frames_of, frame_of, depth, registers_of, kind_at, no_frame, Means, Covers}
+use Rattle.stack_state.proofs.MeaningLaws.{frame_of-caller, frame_of-innermost, length-frames_of, FrameKeeps, MeansBy-change}
 use Rattle.stack_state.specs.Places.{kind_of}
 use Rattle.isa_model.proofs.RegisterLaws.{same_number}
 use Rattle.stack_state.proofs.PlaceLaws.{kind_of-registers}
@@ -34,33 +35,47 @@ use Rattle.transfer.specs.declared.Ways.{Ways}
 use Rattle.transfer.specs.declared.Ways.TheVariants as ways
 use Rattle.transfer.specs.Leading.{LeadsTo, InSome}
 use Rattle.transfer.specs.Following.{returns_of, GoesOnTo}
-use Rattle.walks.specs.Forgetting.{IsKept, AreKept, IsSlotDeadAt, IsSlotKept, AreSlotsKept, slots_in, Forgets, IsForgotten}
+use Rattle.walks.specs.Forgetting.{IsKept, AreKept, IsSlotLeft, AreSlotsLeft, IsSlotDeadAt, IsSlotKept, AreSlotsKept, IsCallerSlotKept, IsCallerKept, AreCallersKept, CallersForgotten, slots_in, Forgets, IsForgotten}
 use Rattle.walks.specs.Counts.{AreForgotten}
 use Rattle.walks.proofs.OnNumbers.{below_ten}
 
 -- ---- what stays
 
--- the state with other registers, and another stack of its innermost frame
-abbrev with_kept : State → List Kind → List Slot → State
-with_kept a ks slots = record a { innermost = record a.innermost { registers = ks; stack = record { slots = slots } } }
-
 pub Forgets-slot : (p : Program) (a b : State) → Forgets p a b → b.slot ≡ a.slot
 Forgets-slot p a b f = ap (λ (x : State). x.slot) f.rest
 
 pub Forgets-callers : (p : Program) (a b : State) → Forgets p a b → length b.callers.items ≡ length a.callers.items
-Forgets-callers p a b f = ap (λ (x : State). length x.callers.items) f.rest
+Forgets-callers p a b f = f.callers.as_many
 
 pub Forgets-depth : (p : Program) (a b : State) → Forgets p a b → depth b ≡ depth a
 Forgets-depth p a b f = ap (λ (n : ℕ). n + 1) (Forgets-callers p a b f)
 
-returns_with : (a : State) (ks : List Kind) (slots : List Slot)
-    → returns_of (with_kept a ks slots) ≡ returns_of a
-returns_with a ks slots =
-    map-append (λ f. f.return_slot) a.callers.items ((with_kept a ks slots).innermost ∷ [])
-    ∙ sym (map-append (λ f. f.return_slot) a.callers.items (a.innermost ∷ []))
+maps_same : {X : Type 0} (f : X → ℕ) (d : X) (xs ys : List X) → length xs ≡ length ys
+    → ((k : ℕ) → k < length xs → f (get_or xs k d) ≡ f (get_or ys k d)) → map f xs ≡ map f ys
+maps_same f d [] [] long same = refl
+maps_same f d [] (y ∷ ys) long same = absurd (omega arith)
+maps_same f d (x ∷ xs) [] long same = absurd (omega arith)
+maps_same f d (x ∷ xs) (y ∷ ys) long same =
+    ap (λ (n : ℕ). n ∷ map f xs) (same zero (omega arith))
+    ∙ ap (λ (l : List ℕ). f y ∷ l) (maps_same f d xs ys (omega arith) (λ k below. same (suc k) (omega arith)))
+
+-- each frame returns to where it returned
+frame_returns : (p : Program) (a b : State) (k : ℕ) → Forgets p a b → k < depth a
+    → (frame_of b k).return_slot ≡ (frame_of a k).return_slot
+frame_returns p a b k f below = elim (cases_eq k (length a.callers.items)) [
+  | inl last ↦
+      let here : frame_of a k ≡ a.innermost = ap (frame_of a) last ∙ frame_of-innermost a in
+      let there : frame_of b k ≡ b.innermost = ap (frame_of b) (last ∙ sym (Forgets-callers p a b f)) ∙ frame_of-innermost b in
+      ap (λ (x : AbstractFrame). x.return_slot) there
+      ∙ ap (λ (x : State). x.innermost.return_slot) f.rest
+      ∙ ap (λ (x : AbstractFrame). x.return_slot) (sym here)
+  | inr apart ↦ ap (λ (x : AbstractFrame). x.return_slot) (f.callers.each k (omega arith)).rest
+]
 
 pub Forgets-returns : (p : Program) (a b : State) → Forgets p a b → returns_of b ≡ returns_of a
-Forgets-returns p a b f = ap returns_of f.rest ∙ returns_with a (registers_of b) (slots_in b)
+Forgets-returns p a b f = maps_same (λ (x : AbstractFrame). x.return_slot) no_frame (frames_of b) (frames_of a)
+    (length-frames_of b ∙ Forgets-depth p a b f ∙ sym (length-frames_of a))
+    (λ k below. frame_returns p a b k f (omega (arith, below, length-frames_of b, Forgets-depth p a b f)))
 
 -- ---- what is known of registers
 
@@ -102,6 +117,13 @@ slot_kept_means p slot j e before after cs (inr gone) h =
     let nothing : SlotMeans e (Written 0) cs = λ i below marked. let none = bit_at-zero i in absurd cc in
     subst (λ s. SlotMeans e s cs) (sym gone.1) nothing
 
+caller_slot_means : (p : Program) (slot j : ℕ) (e : Assigned) (before after : Slot) (cs : List Cell)
+    → IsCallerSlotKept p slot j before after → SlotMeans e before cs → SlotMeans e after cs
+caller_slot_means p slot j e before after cs (inl same) h = subst (λ s. SlotMeans e s cs) (sym same) h
+caller_slot_means p slot j e before after cs (inr gone) h =
+    let nothing : SlotMeans e (Written 0) cs = λ i below marked. let none = bit_at-zero i in absurd cc in
+    subst (λ s. SlotMeans e s cs) (sym gone.1) nothing
+
 kept_allows : (p : Program) (slot : ℕ) (r : Reg) (e : Assigned) (before after : Kind) (v : Value) → IsKept p slot r before after → Allows e before v → Allows e after v
 kept_allows p slot r e before after v (inl same) h = subst (λ k. Allows e k v) (sym same.1) h
 kept_allows p slot r e before after v (inr gone) h = subst (λ k. Allows e k v) (sym gone.1) tt
@@ -133,11 +155,12 @@ frames_keep p a b e j f below = elim (cases_eq j (length a.callers.items)) [
       } in
       subst (λ x. FrameKeeps e e x (frame_of b j)) (sym here) (subst (λ x. FrameKeeps e e a.innermost x) (sym there) own)
   | inr apart ↦
-      let callers = Forgets-callers p a b f in
-      let here : frame_of a j ≡ get_or a.callers.items j no_frame = frame_of-caller a j (omega arith) in
-      let there : frame_of b j ≡ get_or b.callers.items j no_frame = frame_of-caller b j (omega arith) in
-      let same : frame_of b j ≡ frame_of a j = there ∙ ap (λ (x : State). get_or x.callers.items j no_frame) f.rest ∙ sym here in
-      subst (λ x. FrameKeeps e e (frame_of a j) x) (sym same) (record { registers = λ k v h. h; slots = λ k cs within h. h })
+      let kept = f.callers.each j (omega arith) in
+      record {
+        registers = λ k v h. subst (λ (x : AbstractFrame). Allows e (kind_at x.registers k) v) (sym kept.rest) h;
+        slots = λ k cs within h. caller_slot_means p (frame_of a (j + 1)).return_slot k e
+            (slot_at (frame_of a j).stack.slots k) (slot_at (frame_of b j).stack.slots k) cs (kept.slots k within) h;
+      }
 ]
 
 -- whatever the state means, it means once dead registers are forgotten
@@ -241,66 +264,153 @@ kept_alone p slot old ten alone = record { ten = ten; each = λ r own. inl (λ d
 
 -- ---- the loop through slots of the stack
 
--- the slots below n are as a path comes to the slot of the code, and the rest as before
-pub record SlotsKeptBelow (p : Program) (slot n : ℕ) (old new : List Slot) : Type 0 where
+-- the slots below n are left as they are or forgotten, and the rest is as before
+pub record SlotsLeftBelow (p : Program) (slot n : ℕ) (old new : List Slot) : Type 0 where
   pub all : length new ≡ 64
-  pub below : (j : ℕ) → j < n → IsSlotKept p slot j (slot_at old j) (slot_at new j)
+  pub below : (j : ℕ) → j < n → IsSlotLeft p slot j (slot_at old j) (slot_at new j)
   pub above : (k : ℕ) → n ≤ k → slot_at new k ≡ slot_at old k
 
-pub slots_kept_none : (p : Program) (slot : ℕ) (old : List Slot) → length old ≡ 64
-    → SlotsKeptBelow p slot 0 old old
-slots_kept_none p slot old all = record { all = all; below = λ j low. absurd (omega arith); above = λ k high. refl }
+pub slots_left_none : (p : Program) (slot : ℕ) (old : List Slot) → length old ≡ 64
+    → SlotsLeftBelow p slot 0 old old
+slots_left_none p slot old all = record { all = all; below = λ j low. absurd (omega arith); above = λ k high. refl }
 
 -- the next slot is live
-pub slots_kept_live : (p : Program) (slot n : ℕ) (old new : List Slot) → IsSlotLive p n slot
-    → SlotsKeptBelow p slot n old new
-    → SlotsKeptBelow p slot (n + 1) old new
-slots_kept_live p slot n old new live m = record {
+pub slots_left_live : (p : Program) (slot n : ℕ) (old new : List Slot) → IsSlotLive p n slot
+    → SlotsLeftBelow p slot n old new
+    → SlotsLeftBelow p slot (n + 1) old new
+slots_left_live p slot n old new live m = record {
   all = m.all;
   below = λ j low. elim (cases_eq j n) [
-    | inl e ↦ inl (λ dead. dead.1 (subst (λ (k : ℕ). IsSlotLive p k slot) (sym e) live), m.above j (omega arith))
+    | inl e ↦ inl (subst (λ (k : ℕ). IsSlotLive p k slot) (sym e) live, m.above j (omega arith))
     | inr apart ↦ m.below j (omega arith)
   ];
   above = λ k high. m.above k (omega arith);
 }
 
 -- the next slot is dead
-pub slots_kept_dead : (p : Program) (slot n : ℕ) (old new : List Slot) → n < 64 → IsJoin p slot
+pub slots_left_dead : (p : Program) (slot n : ℕ) (old new : List Slot) → n < 64
     → (IsSlotLive p n slot → ⊥)
-    → SlotsKeptBelow p slot n old new → SlotsKeptBelow p slot (n + 1) old (set new n (Written 0))
-slots_kept_dead p slot n old new within join dead m =
+    → SlotsLeftBelow p slot n old new → SlotsLeftBelow p slot (n + 1) old (set new n (Written 0))
+slots_left_dead p slot n old new within dead m =
     let inside : n < length new = let all = m.all in omega arith in record {
       all = length-set new n (Written 0) ∙ m.all;
       below = λ j low. elim (cases_eq j n) [
         | inl e ↦
             let gone : slot_at (set new n (Written 0)) j ≡ Written 0 =
             ap (slot_at (set new n (Written 0))) e ∙ get_or-set_same new n (Written 0) (Written 0) inside in
-            inr ((join, λ live. dead (subst (λ (k : ℕ). IsSlotLive p k slot) e live)), gone)
+            inr (λ live. dead (subst (λ (k : ℕ). IsSlotLive p k slot) e live), gone)
         | inr apart ↦
-            subst (IsSlotKept p slot j (slot_at old j)) (sym (get_or-set_other new n j (Written 0) (Written 0) apart)) (m.below j (omega arith))
+            subst (IsSlotLeft p slot j (slot_at old j)) (sym (get_or-set_other new n j (Written 0) (Written 0) apart)) (m.below j (omega arith))
       ];
       above = λ k high. get_or-set_other new n k (Written 0) (Written 0) (λ e. absurd (omega arith)) ∙ m.above k (omega arith);
     }
 
-pub AreSlotsKept-below : (p : Program) (slot n : ℕ) (old new : List Slot) → 64 ≤ n
-    → SlotsKeptBelow p slot n old new → AreSlotsKept p slot old new
-AreSlotsKept-below p slot n old new every m = record { all = m.all; each = λ j below. m.below j (omega arith) }
+pub AreSlotsLeft-below : (p : Program) (slot n : ℕ) (old new : List Slot) → 64 ≤ n
+    → SlotsLeftBelow p slot n old new → AreSlotsLeft p slot old new
+AreSlotsLeft-below p slot n old new every m = record { all = m.all; each = λ j below. m.below j (omega arith) }
+
+-- all of them are live
+pub slots_left_full : (p : Program) (slot : ℕ) (old : List Slot) → length old ≡ 64
+    → ((j : ℕ) → j < 64 → IsSlotLive p j slot) → AreSlotsLeft p slot old old
+slots_left_full p slot old all live = record { all = all; each = λ j below. inl (live j below, refl) }
+
+-- and none of them
+pub slots_left_empty : (p : Program) (slot : ℕ) (old : List Slot) → ((j : ℕ) → IsSlotLive p j slot → ⊥)
+    → AreSlotsLeft p slot old (replicate frame_slots (Written 0))
+slots_left_empty p slot old dead = record {
+  all = length-replicate frame_slots (Written 0);
+  each = λ j below. inr (dead j, get_or-replicate frame_slots j (Written 0) (Written 0) below);
+}
 
 -- away from joins nothing is forgotten
 pub slots_kept_alone : (p : Program) (slot : ℕ) (old : List Slot) → length old ≡ 64
     → (IsJoin p slot → ⊥) → AreSlotsKept p slot old old
 slots_kept_alone p slot old all alone = record { all = all; each = λ j below. inl (λ dead. alone dead.0, refl) }
 
--- all of them are live
-pub slots_kept_full : (p : Program) (slot : ℕ) (old : List Slot) → length old ≡ 64
-    → ((j : ℕ) → j < 64 → IsSlotLive p j slot) → AreSlotsKept p slot old old
-slots_kept_full p slot old all live =
-    record { all = all; each = λ j below. inl (λ dead. dead.1 (live j below), refl) }
-
--- and none of them
-pub slots_kept_empty : (p : Program) (slot : ℕ) (old : List Slot) → IsJoin p slot
-    → ((j : ℕ) → IsSlotLive p j slot → ⊥) → AreSlotsKept p slot old (replicate frame_slots (Written 0))
-slots_kept_empty p slot old join dead = record {
-  all = length-replicate frame_slots (Written 0);
-  each = λ j below. inr ((join, dead j), get_or-replicate frame_slots j (Written 0) (Written 0) below);
+-- at a join the dead slots are
+pub AreSlotsKept-left : (p : Program) (slot : ℕ) (old new : List Slot) → IsJoin p slot
+    → AreSlotsLeft p slot old new → AreSlotsKept p slot old new
+AreSlotsKept-left p slot old new join left = record {
+  all = left.all;
+  each = λ j below. elim (left.each j below) [
+    | inl same ↦ inl (λ dead. dead.1 same.0, same.1)
+    | inr gone ↦ inr ((join, gone.0), gone.1)
+  ];
 }
+
+-- ---- callers
+
+-- all callers as they are
+callers_kept_all : (p : Program) (a : State) → AreCallersKept p a a
+callers_kept_all p a = record { as_many = refl; each = λ k below. record { rest = refl; slots = λ j inside. inl refl } }
+
+pub callers_none : (p : Program) (a : State) → CallersForgotten p a a
+callers_none p a = record { rest = refl; callers = callers_kept_all p a }
+
+-- the last one with other slots, which are left as they are or forgotten
+pub caller_left : (p : Program) (a b : State) (n : ℕ) (f g : AbstractFrame) → n + 1 ≡ length a.callers.items
+    → f ≡ frame_of a n → b ≡ record a { callers = record { items = set a.callers.items n g } }
+    → g ≡ record f { stack = record { slots = g.stack.slots } }
+    → AreSlotsLeft p a.innermost.return_slot f.stack.slots g.stack.slots → CallersForgotten p a b
+caller_left p a b n f g last there is rest left = record {
+  rest = is ∙ ap (λ (x : State). record a { callers = x.callers }) (sym is);
+  callers = record {
+    as_many = ap (λ (x : State). length x.callers.items) is ∙ length-set a.callers.items n g;
+    each = λ k below.
+        let long : length b.callers.items ≡ length a.callers.items =
+        ap (λ (x : State). length x.callers.items) is ∙ length-set a.callers.items n g in
+        let now : frame_of b k ≡ get_or (set a.callers.items n g) k no_frame =
+        frame_of-caller b k (omega (arith, below, long)) ∙ ap (λ (x : State). get_or x.callers.items k no_frame) is in
+        elim (cases_eq k n) [
+          | inl e ↦
+              let own : frame_of b k ≡ g =
+              now ∙ ap (λ (i : ℕ). get_or (set a.callers.items n g) i no_frame) e
+              ∙ get_or-set_same a.callers.items n g no_frame (omega (arith, last)) in
+              let before : f ≡ frame_of a k = there ∙ ap (frame_of a) (sym e) in
+              let after : frame_of a (k + 1) ≡ a.innermost =
+              ap (frame_of a) (ap (λ (i : ℕ). i + 1) e ∙ last) ∙ frame_of-innermost a in
+              let kept : IsCallerKept p a.innermost.return_slot f g = record {
+                rest = rest;
+                slots = λ j inside. elim (left.each j inside) [
+                  | inl same ↦ inl same.1
+                  | inr gone ↦ inr gone
+                ];
+              } in
+              subst (λ (x : AbstractFrame). IsCallerKept p (frame_of a (k + 1)).return_slot (frame_of a k) x) (sym own)
+              (subst (λ (x : AbstractFrame). IsCallerKept p x.return_slot (frame_of a k) g) (sym after)
+              (subst (λ (x : AbstractFrame). IsCallerKept p a.innermost.return_slot x g) before kept))
+          | inr apart ↦
+              let same : frame_of b k ≡ frame_of a k =
+              now ∙ get_or-set_other a.callers.items n k g no_frame apart ∙ sym (frame_of-caller a k (omega arith)) in
+              subst (λ (x : AbstractFrame). IsCallerKept p (frame_of a (k + 1)).return_slot (frame_of a k) x) (sym same)
+              (record { rest = refl; slots = λ j inside. inl refl })
+        ];
+  };
+}
+
+-- what is forgotten of callers first, and of the innermost frame then
+pub Forgets-both : (p : Program) (a m b : State) (ks : List Kind) (slots : List Slot) → CallersForgotten p a m
+    → b ≡ record m { innermost = record m.innermost { registers = ks; stack = record { slots = slots } } }
+    → AreKept p m.slot m.innermost.registers ks → AreSlotsKept p m.slot m.innermost.stack.slots slots → Forgets p a b
+Forgets-both p a m b ks slots callers is registers own =
+    let whole : State = record a {
+      callers = m.callers;
+      innermost = record a.innermost { registers = ks; stack = record { slots = slots } };
+    } in
+    let same : b ≡ whole =
+    is ∙ ap (λ (x : State). record x { innermost = record x.innermost { registers = ks; stack = record { slots = slots } } }) callers.rest in
+    let forgets : Forgets p a whole = record {
+      rest = refl;
+      callers = record {
+        as_many = callers.callers.as_many;
+        each = λ k below.
+            let there : frame_of whole k ≡ frame_of m k =
+            frame_of-caller whole k (omega (arith, below, callers.callers.as_many))
+            ∙ sym (frame_of-caller m k (omega (arith, below, callers.callers.as_many))) in
+            subst (λ (x : AbstractFrame). IsCallerKept p (frame_of a (k + 1)).return_slot (frame_of a k) x) (sym there)
+            (callers.callers.each k below);
+      };
+      registers = subst (λ (x : State). AreKept p x.slot x.innermost.registers ks) callers.rest registers;
+      slots = subst (λ (x : State). AreSlotsKept p x.slot x.innermost.stack.slots slots) callers.rest own;
+    } in
+    subst (Forgets p a) (sym same) forgets

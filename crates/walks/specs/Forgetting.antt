@@ -1,6 +1,7 @@
 -- What is forgotten of a state when a path reaches it: at joins, the registers and slots of the
--- innermost frame's stack that no path reads before it writes them.
-use Rattle.std.specs.Prelude.{◌≡◌, ◌≢◌, ◌⊎◌, ℕ, ◌<◌, List, length}
+-- innermost frame's stack that no path reads before it writes them. Of callers' stacks slots may be
+-- forgotten that no path reads from where the caller goes on.
+use Rattle.std.specs.Prelude.{◌≡◌, ◌≢◌, ◌⊎◌, ℕ, ◌+◌, ◌<◌, List, length}
 use Rattle.isa_model.specs.declared.registers.Reg.{Reg}
 use Rattle.isa_model.specs.declared.registers.Reg.TheVariants.{R10}
 use Rattle.isa_model.specs.Code.Registers.{reg_number}
@@ -9,9 +10,10 @@ use Rattle.reg_state.specs.declared.kinds.Kind.{Kind}
 use Rattle.reg_state.specs.declared.kinds.Kind.TheVariants.{Unset}
 use Rattle.stack_state.specs.declared.slots.Slot.{Slot}
 use Rattle.stack_state.specs.declared.slots.Slot.TheVariants.{Written}
+use Rattle.stack_state.specs.declared.states.AbstractFrame.{AbstractFrame}
 use Rattle.stack_state.specs.declared.states.State.{State}
 use Rattle.stack_state.specs.Slots.{slot_at}
-use Rattle.stack_state.specs.Meaning.{registers_of, kind_at}
+use Rattle.stack_state.specs.Meaning.{frame_of, registers_of, kind_at}
 use Rattle.control_flow.specs.Flows.{IsJoin}
 use Rattle.control_flow.specs.Liveness.{IsLive, IsSlotLive}
 
@@ -27,6 +29,14 @@ IsKept p slot r before after = ((¬ IsDeadAt p slot r) × (after ≡ before)) �
 pub record AreKept (p : Program) (slot : ℕ) (old new : List Kind) : Type 0 where
   pub ten : length new ≡ 10
   pub each : (r : Reg) → r ≢ R10 → IsKept p slot r (kind_at old (reg_number r)) (kind_at new (reg_number r))
+
+-- what is known of a slot of the stack stays known if it is live, and nothing is if it is dead
+abbrev pub IsSlotLeft : Program → ℕ → ℕ → Slot → Slot → Type 0
+IsSlotLeft p slot j before after = (IsSlotLive p j slot × (after ≡ before)) ⊎ ((¬ IsSlotLive p j slot) × (after ≡ Written 0))
+
+pub record AreSlotsLeft (p : Program) (slot : ℕ) (old new : List Slot) : Type 0 where
+  pub all : length new ≡ 64
+  pub each : (j : ℕ) → j < 64 → IsSlotLeft p slot j (slot_at old j) (slot_at new j)
 
 -- the slot of the code is a join at which slot j of the stack is dead
 abbrev pub IsSlotDeadAt : Program → ℕ → ℕ → Type 0
@@ -44,9 +54,33 @@ pub record AreSlotsKept (p : Program) (slot : ℕ) (old new : List Slot) : Type 
 abbrev pub slots_in : State → List Slot
 slots_in s = s.innermost.stack.slots
 
--- b is a without what is known of dead registers and of dead slots of the stack
+-- what is known of a slot of a caller's stack stays known, or the slot is dead where the caller goes on, and nothing is
+abbrev pub IsCallerSlotKept : Program → ℕ → ℕ → Slot → Slot → Type 0
+IsCallerSlotKept p slot j before after = (after ≡ before) ⊎ ((¬ IsSlotLive p j slot) × (after ≡ Written 0))
+
+-- a caller that goes on at the slot stays as it is but for such slots
+pub record IsCallerKept (p : Program) (slot : ℕ) (old new : AbstractFrame) : Type 0 where
+  pub rest : new ≡ record old { stack = record { slots = new.stack.slots } }
+  pub slots : (j : ℕ) → j < 64 → IsCallerSlotKept p slot j (slot_at old.stack.slots j) (slot_at new.stack.slots j)
+
+-- all callers; each goes on at the slot to which the frame after it returns
+pub record AreCallersKept (p : Program) (a b : State) : Type 0 where
+  pub as_many : length b.callers.items ≡ length a.callers.items
+  pub each : (k : ℕ) → k < length a.callers.items
+      → IsCallerKept p (frame_of a (k + 1)).return_slot (frame_of a k) (frame_of b k)
+
+-- b is a without what is known of some dead slots of callers' stacks
+pub record CallersForgotten (p : Program) (a b : State) : Type 0 where
+  pub rest : b ≡ record a { callers = b.callers }
+  pub callers : AreCallersKept p a b
+
+-- b is a without what is known of dead registers and of dead slots of the stack, and of some dead slots of callers' stacks
 pub record Forgets (p : Program) (a b : State) : Type 0 where
-  pub rest : b ≡ record a { innermost = record a.innermost { registers = registers_of b; stack = record { slots = slots_in b } } }
+  pub rest : b ≡ record a {
+    callers = b.callers;
+    innermost = record a.innermost { registers = registers_of b; stack = record { slots = slots_in b } };
+  }
+  pub callers : AreCallersKept p a b
   pub registers : AreKept p a.slot (registers_of a) (registers_of b)
   pub slots : AreSlotsKept p a.slot (slots_in a) (slots_in b)
 

@@ -2,7 +2,7 @@
 
 ghost use Rattle.std.specs.Prelude.{◌≡◌, ℕ, ◌<◌, IsTrue, replicate};
 ghost use Rattle.stack_state.specs.Slots.{frame_slots};
-ghost use Rattle.walks.specs.Forgetting.{AreKept, AreSlotsKept, Forgets, IsSlotDeadAt};
+ghost use Rattle.walks.specs.Forgetting.{AreKept, AreSlotsLeft, AreSlotsKept, CallersForgotten, Forgets, IsSlotDeadAt};
 
 use control_flow::Flow;
 use isa_model::Reg;
@@ -62,14 +62,10 @@ pub fn clear_slots(slots: &mut [Slot; FRAME_SLOTS])
     }
 }
 
-/// Forgets what is known of the slots of a frame's stack that are dead at a slot of the code, if it
-/// is a join.
+/// Forgets what is known of the slots of a frame's stack that are dead at a slot of the code.
 fn forget_slots(flow: &Flow<'_>, slot: usize, slots: &mut [Slot; FRAME_SLOTS])
-    ensures { AreSlotsKept flow.now slot slots.old slots.new }
+    ensures { AreSlotsLeft flow.now slot slots.old slots.new }
 {
-    if !flow.is_join(slot) {
-        return;
-    }
     let live = flow.live_slots(slot);
     if live.is_full() {
         return;
@@ -79,10 +75,16 @@ fn forget_slots(flow: &Flow<'_>, slot: usize, slots: &mut [Slot; FRAME_SLOTS])
         return;
     }
     for block in 0..(FRAME_SLOTS / 8) as u8 {
-        for place in 0..8u8 {
-            let number = 8 * block + place;
-            if !live.has(number) {
-                clear(&mut slots[usize::from(number)]);
+        if live.is_empty_in(block) {
+            for place in 0..8u8 {
+                clear(&mut slots[usize::from(8 * block + place)]);
+            }
+        } else {
+            for place in 0..8u8 {
+                let number = 8 * block + place;
+                if !live.has(number) {
+                    clear(&mut slots[usize::from(number)]);
+                }
             }
         }
     }
@@ -106,12 +108,30 @@ fn forget_places(
     forget_slots(flow, slot, slots);
 }
 
+/// Forgets what is known of the slots of the last caller's stack that are dead where it goes on, if
+/// it has just called.
+fn forget_caller(flow: &Flow<'_>, has_called: bool, state: &mut State)
+    ensures { CallersForgotten flow.now state.old state.new }
+{
+    if !has_called {
+        return;
+    }
+    let Some(last) = state.callers.len().checked_sub(1) else {
+        return;
+    };
+    let slot = state.innermost.return_slot;
+    let caller = &mut state.callers[last];
+    forget_slots(flow, slot, &mut caller.stack.slots);
+}
+
 /// Forgets what is known of the registers and of the slots of the innermost frame's stack that are
 /// dead at a state's slot, if it is a join: no path from there reads them before it writes them,
-/// and states that differ only in them become one.
-pub fn forget_dead(flow: &Flow<'_>, state: &mut State)
+/// and states that differ only in them become one. After a call it forgets dead slots of the
+/// caller's stack too; until the return they stay as they are.
+pub fn forget_dead(flow: &Flow<'_>, has_called: bool, state: &mut State)
     ensures { Forgets flow.now state.old state.new }
 {
+    forget_caller(flow, has_called, state);
     let frame = &mut state.innermost;
     forget_places(
         flow,

@@ -1,0 +1,7 @@
+use Rattle.walks.proofs.Forgotten.{AreSlotsKept-left}
+use Rattle.walks.proofs.forgetting.forget_places.Goals as goal
+
+pub returns-clause-slots : goal.returns-clause-slots
+returns-clause-slots c =
+    AreSlotsKept-left c.args.flow.now c.args.slot c.args.slots.now c.forget_slots.new.slots
+    (c.is_join.ensures.join.0 c.if-not-is_join.false) c.forget_slots.ensures
