@@ -1,12 +1,12 @@
 -- The numbering at the start of a run: values have the serials 0, 1, .., map by map, and in each by the bytes of their keys.
 use Rattle.std.proofs.Common.{◌≡◌, ℕ, ◌+◌, ◌-◌, ◌^◌, ◌%◌, ◌<◌, ◌≤◌, List, Option, map, take, length, Some}
-use Rattle.std.specs.Prelude.{IfSome, None, slice_index_or}
+use Rattle.std.specs.Prelude.{All, IfSome, None, slice_index_or}
 use Rattle.std.specs.Option.{option_map}
 use Rattle.std.specs.FinMap.{entries, values}
 use Rattle.isa_model.specs.Running.Runs.{count_values}
-use Rattle.maps.specs.Maps.{MapState, map_at, contents_of}
+use Rattle.maps.specs.Maps.{MapState, map_at, contents_of, rows_of}
 use Rattle.live_maps.specs.declared.numbering.Span.{Span}
-use Rattle.live_maps.specs.Live.{Serials, serial_in, serials_at}
+use Rattle.live_maps.specs.Live.{Serials, AreLive, IsLeastRoom, serial_in, serials_at}
 
 abbrev pub place_in : List ℕ → ℕ → ℕ
 place_in places i = slice_index_or places i 0
@@ -69,3 +69,17 @@ pub record IsNumbered (count : ℕ) (maps : List MapState) (all : List Serials) 
   pub are : AreNumbered maps all
   pub counted : count ≡ count_values (contents_of maps)
   pub few : count ≤ 2 ^ 32
+
+-- ---- maps with serials, and what is told of them
+
+-- there are few maps, the list has room for the places of each and for no more, and both lists by map have room for
+-- the maps and for no more; the serials are those of living values, and what is told of their numbering is so
+abbrev pub IsKept : ℕ → ℕ → ℕ → ℕ → List MapState → List Serials → List (Option Span) → Type 0
+IsKept room serials_room spans_room next maps all spans =
+    (length maps ≤ 2 ^ 16)
+    × (All (λ m. m.row.entries ≤ room) maps)
+    × (AreLive next maps all)
+    × (AreSpans maps all spans)
+    × (serials_room ≡ length maps)
+    × (IsLeastRoom room (rows_of maps))
+    × (spans_room ≡ length maps)

@@ -38,10 +38,10 @@ pub struct LiveMaps {
 }
 
 impl Model for LiveMaps {
-    ghost use Rattle.std.specs.Prelude.{◌≡◌, ◌≤◌, length, All, IfSome, vec_capacity, ◌^◌};
+    ghost use Rattle.std.specs.Prelude.{vec_capacity};
     ghost use Rattle.maps.specs.Maps.{rows_of};
-    ghost use Rattle.live_maps.specs.Live.{Live, live_contents, AreLive, IsLeastRoom};
-    ghost use Rattle.live_maps.specs.Numbering.{AreSpans};
+    ghost use Rattle.live_maps.specs.Live.{Live, live_contents};
+    ghost use Rattle.live_maps.specs.Numbering.{IsKept};
 
     ghost Value = { Live };
 
@@ -51,13 +51,8 @@ impl Model for LiveMaps {
       next_serial = l.next;
     } };
 
-    ghost invariant = { λ l. (length l.maps ≤ 2 ^ 16)
-        × (All (λ m. m.row.entries ≤ vec_capacity l.list) l.maps)
-        × (AreLive l.next l.maps l.serials.items)
-        × (AreSpans l.maps l.serials.items l.spans.items)
-        × (vec_capacity l.serials ≡ length l.maps)
-        × (IsLeastRoom (vec_capacity l.list) (rows_of l.maps))
-        × (vec_capacity l.spans ≡ length l.maps) };
+    ghost invariant = { λ l. IsKept (vec_capacity l.list) (vec_capacity l.serials)
+        (vec_capacity l.spans) l.next l.maps l.serials.items l.spans.items };
 }
 
 // The most entries that a map has.
@@ -145,7 +140,7 @@ impl LiveMaps {
         match find_serial(&self.serials, map, serial) {
             Some(place) => {
                 self.maps.write_value(map, place, at, bytes);
-                let _count = self.maps.count();
+                self.maps.say_fits();
             }
             None => {}
         }
@@ -175,7 +170,7 @@ impl LiveMaps {
     {
         let found = self.maps.find(map, key);
         let answer = asked::update(&mut self.maps, map, key, value, flags);
-        let _count = self.maps.count();
+        self.maps.say_fits();
         if answer == 0 {
             if let Some(place) = new_place(&self.maps, map, key, found) {
                 give_serial(&mut self.serials, map, place, self.next);
@@ -197,7 +192,7 @@ impl LiveMaps {
     {
         let found = self.maps.find(map, key);
         let answer = asked::delete(&mut self.maps, map, key);
-        let _count = self.maps.count();
+        self.maps.say_fits();
         if answer == 0 {
             if let Some(place) = found {
                 take_away(&mut self.serials, map, place);

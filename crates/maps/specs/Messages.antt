@@ -1,4 +1,4 @@
--- The sentence of each refusal.
+-- The sentence that says why no maps, or no machine on them, were made.
 use Rattle.std.specs.Prelude.{ℕ, List, codes}
 use Rattle.maps.specs.declared.errors.MapError.{MapError}
 use Rattle.maps.specs.declared.errors.MapError.TheVariants.{Memory}

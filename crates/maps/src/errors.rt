@@ -1,4 +1,4 @@
-//! Why maps are not made.
+//! Why maps, and machines that run on them, are not made.
 
 ghost use Rattle.std.specs.Prelude.{◌≡◌, Some};
 ghost use Rattle.maps.specs.Messages.{sentence_of};
@@ -7,7 +7,7 @@ use std::alloc::{AllocError, AllocFailed};
 use std::error::Error;
 use std::fmt;
 
-/// Why maps were not made. It has no code.
+/// Why maps, or a machine on maps, were not made. It has no code.
 #[derive(Clone, Copy, PartialEq, Eq, Debug)]
 pub enum MapError {
     /// Out of memory.

@@ -1,6 +1,7 @@
 //! Look-ups, updates and deletes, as the helpers answer them.
 
 ghost use Rattle.std.specs.Prelude.{◌≡◌, length, option_copied};
+ghost use Rattle.std.specs.FinMap.{get};
 ghost use Rattle.isa_model.specs.Machine.MapContents.{at_key, update_answer as the_update_answer, update_answer_by, delete_answer, after_update, after_delete};
 ghost use Rattle.maps.specs.Changes.{Updates, Deletes};
 ghost use Rattle.maps.specs.Contents.{content};
@@ -36,6 +37,25 @@ fn update_answer(kind: MapKind, present: bool, full: bool, flags: u64) -> u64
     }
 }
 
+// The place of a key, and the answer to its update.
+#[derive(Clone, Copy)]
+struct Tested {
+    found: Option<usize>,
+    answer: u64,
+}
+
+fn test_update<S: MapStore>(store: &S, key: &[u8], flags: u64) -> Tested
+    requires { length key.now ≡ (S.row_of store.now).key_size }
+    ensures found { result.found ≡ get (S.places store.now) key.now }
+    ensures answer { result.answer ≡ the_update_answer (S.row_of store.now)
+        (content (S.row_of store.now).value_size (S.places store.now) (S.block store.now)) key.now
+        flags }
+{
+    let found = store.find(key);
+    let answer = update_answer(store.row().kind, found.is_some(), store.is_full(), flags);
+    Tested { found, answer }
+}
+
 /// The value of a key, if it has one.
 pub fn lookup<'a, S: MapStore>(store: &'a S, key: &[u8]) -> Option<&'a [u8]>
     requires { length key.now ≡ (S.row_of store.now).key_size }
@@ -63,8 +83,7 @@ pub fn update<S: MapStore>(store: &mut S, key: &[u8], value: &[u8], flags: u64) 
         (S.places store.old) (S.block store.old) (S.places store.new) (S.block store.new) }
     ensures row { S.row_of store.new ≡ S.row_of store.old }
 {
-    let found = store.find(key);
-    let answer = update_answer(store.row().kind, found.is_some(), store.is_full(), flags);
+    let Tested { found, answer } = test_update(store, key, flags);
     if answer != 0 {
         return answer;
     }

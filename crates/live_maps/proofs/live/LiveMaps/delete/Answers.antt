@@ -1,186 +1,194 @@
-use Rattle.std.proofs.Common.{◌≡◌, ◌^◌, ◌≤◌, ◌∙◌, sym, ap, subst, length, List, ℕ, Some, None, arith}
-use Rattle.std.specs.Prelude.{All, IsSomeAnd, slice_get, slice_set, vec_capacity, ◌==◌, if◌then◌else◌}
+use Rattle.std.proofs.Common.{◌≡◌, ◌∙◌, sym, ap, subst, List, ℕ, length, Some, None, arith}
+use Rattle.std.specs.Prelude.{IsSomeAnd, slice_get, slice_set, vec_capacity, ◌==◌, if◌then◌else◌}
 use Rattle.std.specs.FinMap.{get}
 use Rattle.isa_model.specs.declared.map_defs.MapDef.{MapDef}
 use Rattle.isa_model.specs.Machine.MapContents.{delete_answer}
-use Rattle.maps.specs.Maps.{IsMap, MapState, Deleted, map_at, rows_of}
-use Rattle.live_maps.specs.Live.{Live, Serials, AreLive, IsLeastRoom, content_at, without}
-use Rattle.live_maps.proofs.ContentLaws.{live_of, All-rows-set, rows_of-set}
+use Rattle.maps.specs.Maps.{MapState, Deleted, map_at}
+use Rattle.live_maps.specs.Live.{Live, Serials, AreLive, content_at, serials_at, without}
+use Rattle.live_maps.specs.Numbering.{IsKept}
+use Rattle.live_maps.proofs.ContentLaws.{live_of}
 use Rattle.live_maps.proofs.LiveLaws.{live-removed, live-same, deleted_there, delete_answer-live}
 use Rattle.live_maps.proofs.SearchLaws.{lookup-present}
-use Rattle.live_maps.specs.Live.{serials_at}
-use Rattle.live_maps.specs.Numbering.{AreSpans}
 use Rattle.live_maps.proofs.NumberingLaws.{AreSpans-forgotten}
-use Rattle.live_maps.proofs.OneChanged.{one_changed, row_told}
+use Rattle.live_maps.proofs.OneChanged.{OneChanged, one_changed, row_told, still_kept}
 use Rattle.live_maps.proofs.live.LiveMaps.delete.Goals as goal
+use Rattle.live_maps.proofs.live.LiveMaps.delete.Goals.{In-Some, In_default, Else-answer-eq0}
 
 -- the key has its size
 abbrev Size : List ℕ → MapDef → Type 0
 Size key row = length key ≡ row.key_size
 
+-- one map may have changed
+some_changed : (c : In-Some)
+    → OneChanged (Size c.args.key.now) c.self.inside.maps c.delete-answer.new.maps c.args.map
+some_changed c =
+    let i = c.self.inside in
+    one_changed (Size c.args.key.now) i.next i.maps i.serials.items c.args.self.now c.self.view_is
+    c.args.map
+    c.requires c.delete-answer.new.maps c.delete-answer.ensures.others c.say_fits.ensures
+
+default_changed : (c : In_default)
+    → OneChanged (Size c.args.key.now) c.self.inside.maps c.delete-answer.new.maps c.args.map
+default_changed c =
+    let i = c.self.inside in
+    one_changed (Size c.args.key.now) i.next i.maps i.serials.items c.args.self.now c.self.view_is
+    c.args.map
+    c.requires c.delete-answer.new.maps c.delete-answer.ensures.others c.say_fits.ensures
+
+error_changed : (c : Else-answer-eq0)
+    → OneChanged (Size c.args.key.now) c.self.inside.maps c.delete-answer.new.maps c.args.map
+error_changed c =
+    let i = c.self.inside in
+    one_changed (Size c.args.key.now) i.next i.maps i.serials.items c.args.self.now c.self.view_is
+    c.args.map
+    c.requires c.delete-answer.new.maps c.delete-answer.ensures.others c.say_fits.ensures
+
+-- the answer, as contracts see it
+answered : (next : ℕ) (maps new : List MapState) (all : List Serials) (now : Live)
+    → live_of maps all next ≡ now → (m : ℕ) (key : List ℕ) (result : ℕ) → AreLive next maps all
+    → OneChanged (Size key) maps new m → new ≡ slice_set maps m (map_at new m)
+    → Deleted key result (map_at maps m) (map_at new m)
+    → IsSomeAnd (slice_get now.rows m) (λ row. result ≡ delete_answer row (content_at now m) key)
+answered next maps new all now view m key result h d others del =
+    row_told (λ l row. result ≡ delete_answer row (content_at l m) key) next maps all now view m
+    d.inside
+    (del.answer ∙ delete_answer-live next maps all m new d.inside h others key)
+
+-- what is done with the answer 0
+deleted : (a : ℕ) → a ≡ 0 → (key : List ℕ) (old new : MapState) → Deleted key a old new
+    → Deleted key 0 old new
+deleted a zero key old new d = subst (λ (n : ℕ). Deleted key n old new) zero d
+
+-- the key had a place
+had : (c : In-Some) → get (map_at c.self.inside.maps c.args.map).places c.args.key.now
+    ≡ Some c.in-Some.place
+had c = sym c.find-found.ensures ∙ c.in-Some.is
+
+-- the serials without that of the place
+abbrev left : (c : In-Some) → List Serials
+left c =
+    let all = c.self.inside.serials.items in
+    slice_set all c.args.map (slice_set (serials_at all c.args.map) c.in-Some.place None)
+
+-- what lives on without the key
+lives : (c : In-Some) → OneChanged (Size c.args.key.now) c.self.inside.maps c.delete-answer.new.maps
+    c.args.map
+    → AreLive c.self.inside.next c.delete-answer.new.maps (left c)
+    × (live_of c.delete-answer.new.maps (left c) c.self.inside.next
+    ≡ without (live_of c.self.inside.maps c.self.inside.serials.items c.self.inside.next) c.args.map
+    c.args.key.now)
+lives c d =
+    let i = c.self.inside in
+    live-removed i.next i.maps i.serials.items c.args.map c.delete-answer.new.maps d.inside
+    c.self.invariant.2 c.delete-answer.ensures.others
+    c.args.key.now c.in-Some.place d.is (deleted c.delete-answer.result c.if-answer-eq0.true _ _ _
+    c.delete-answer.ensures.deleted) (had c)
+
+-- with an error nothing has changed
+same : (c : Else-answer-eq0) → OneChanged (Size c.args.key.now) c.self.inside.maps
+    c.delete-answer.new.maps c.args.map
+    → c.self.inside.maps ≡ c.delete-answer.new.maps
+same c d =
+    let i = c.self.inside in
+    let del = c.delete-answer.ensures.deleted in
+    sym (live-same i.next i.maps i.serials.items c.args.map c.delete-answer.new.maps d.inside
+    c.self.invariant.2 c.delete-answer.ensures.others
+    del.row (del.deletes.stays c.if-answer-eq0.false) del.deletes.block)
+
+-- a key without a place is not deleted
+never : (c : In_default) → ⊥
+never c =
+    let x = map_at c.self.inside.maps c.args.map in
+    let del = deleted c.delete-answer.result c.if-answer-eq0.true c.args.key.now x _
+    c.delete-answer.ensures.deleted in
+    deleted_there x c.args.key.now del.answer (sym c.find-found.ensures ∙ c.in_default.is)
+
 pub take_away-requires-clause-index : goal.take_away-requires-clause-index
 take_away-requires-clause-index c =
-    let i = c.self.inside in
-    let maps = i.maps in
-    let all = i.serials.items in
-    let m = c.args.map in
-    let key = c.args.key.now in
-    let h = c.self.invariant.2 in
-    let new = c.delete-answer.new.maps in
-    let others = c.delete-answer.ensures.others in
-    let d = one_changed (Size key) i.next maps all c.args.self.now c.self.view_is m c.requires new others c.count-count.ensures.maps in
-    let long = h.long in
-    let items = i.serials.ok.0 in
+    let d = some_changed (goal.at.take_away-requires-clause-index c).In-Some in
+    let inside = d.inside in
+    let long = c.self.invariant.2.long in
+    let items = c.self.inside.serials.ok.0 in
     omega arith
 
 pub take_away-requires-clause-place : goal.take_away-requires-clause-place
 take_away-requires-clause-place c =
+    let w = goal.at.take_away-requires-clause-place c in
     let i = c.self.inside in
-    let maps = i.maps in
-    let all = i.serials.items in
-    let m = c.args.map in
-    let key = c.args.key.now in
-    let h = c.self.invariant.2 in
-    let new = c.delete-answer.new.maps in
-    let others = c.delete-answer.ensures.others in
-    let d = one_changed (Size key) i.next maps all c.args.self.now c.self.view_is m c.requires new others c.count-count.ensures.maps in
-    let there : get (map_at maps m).places key ≡ Some c.in-Some.place = sym c.find-found.ensures ∙ c.in-Some.is in
-    (lookup-present i.next maps all m h d.inside key c.in-Some.place there).0
+    (lookup-present i.next i.maps i.serials.items c.args.map c.self.invariant.2
+    (some_changed w.In-Some).inside c.args.key.now c.in-Some.place (had w.In-Some)).0
 
 pub invariant_of-self : goal.invariant_of-self
 invariant_of-self c =
+    let w = goal.at.invariant_of-self c in
     let i = c.self.inside in
-    let maps = i.maps in
-    let all = i.serials.items in
     let m = c.args.map in
-    let key = c.args.key.now in
-    let h = c.self.invariant.2 in
     let new = c.delete-answer.new.maps in
     let others = c.delete-answer.ensures.others in
-    let d = one_changed (Size key) i.next maps all c.args.self.now c.self.view_is m c.requires new others c.count-count.ensures.maps in
-    let zero : c.delete-answer.result ≡ 0 = c.if-answer-eq0.true in
-    let del : Deleted key 0 (map_at maps m) (map_at new m) = subst (λ (a : ℕ). Deleted key a (map_at maps m) (map_at new m)) zero c.delete-answer.ensures.deleted in
-    let p = c.in-Some.place in
-    let there : get (map_at maps m).places key ≡ Some p = sym c.find-found.ensures ∙ c.in-Some.is in
-    let live = live-removed i.next maps all m new d.inside h others key p d.is del there in
-    let few = c.self.invariant.0 in
-    let rooms = All-rows-set (λ (row : MapDef). row.entries ≤ vec_capacity i.list) maps new m (map_at new m) others del.row d.inside c.self.invariant.1 in
-    let mine = subst (λ (a : List Serials). AreLive i.next new a) (sym c.take_away.ensures.taken) live.0 in
-    let least = subst (IsLeastRoom (vec_capacity i.list)) (sym (ap rows_of others ∙ rows_of-set maps m (map_at new m) del.row)) c.self.invariant.5 in
-    let told = subst (λ (a : List Serials). AreSpans new a (slice_set i.spans.items m None)) (sym c.take_away.ensures.taken)
-    (AreSpans-forgotten maps new all i.spans.items m (map_at new m) (slice_set (serials_at all m) p None) others d.inside c.self.invariant.3) in
-    (omega arith, rooms, mine, told, c.take_away.ensures.room ∙ c.self.invariant.4 ∙ sym d.count, least, c.self.invariant.6 ∙ sym d.count)
+    let d = some_changed w.In-Some in
+    let told = slice_set i.spans.items m None in
+    let kept =
+    still_kept (vec_capacity i.list) (vec_capacity i.serials)
+    (vec_capacity i.spans) i.next i.next i.maps new i.serials.items
+    (left w.In-Some) i.spans.items told m
+    c.self.invariant d.inside others c.delete-answer.ensures.deleted.row (lives w.In-Some d).0
+    (AreSpans-forgotten i.maps new i.serials.items i.spans.items m (map_at new m) (slice_set
+    (serials_at i.serials.items m) c.in-Some.place None) others d.inside c.self.invariant.3) in
+    subst (λ (n : ℕ). IsKept (vec_capacity i.list) n (vec_capacity i.spans) i.next new
+    c.take_away.new.all.items told) (sym c.take_away.ensures.room)
+    (subst (λ (a : List Serials). IsKept (vec_capacity i.list) (vec_capacity i.serials)
+    (vec_capacity i.spans) i.next new a told) (sym c.take_away.ensures.taken) kept)
 
 pub invariant_of-self-in_default : goal.invariant_of-self-in_default
-invariant_of-self-in_default c =
-    let i = c.self.inside in
-    let maps = i.maps in
-    let all = i.serials.items in
-    let m = c.args.map in
-    let key = c.args.key.now in
-    let h = c.self.invariant.2 in
-    let new = c.delete-answer.new.maps in
-    let others = c.delete-answer.ensures.others in
-    let d = one_changed (Size key) i.next maps all c.args.self.now c.self.view_is m c.requires new others c.count-count.ensures.maps in
-    let zero : c.delete-answer.result ≡ 0 = c.if-answer-eq0.true in
-    let absent : get (map_at maps m).places key ≡ None = sym c.find-found.ensures ∙ c.in_default.is in
-    absurd (deleted_there (map_at maps m) key (sym zero ∙ c.delete-answer.ensures.deleted.answer) absent)
+invariant_of-self-in_default c = absurd (never (goal.at.invariant_of-self-in_default c).In_default)
 
 pub invariant_of-self-else-answer-eq0 : goal.invariant_of-self-else-answer-eq0
 invariant_of-self-else-answer-eq0 c =
+    let w = goal.at.invariant_of-self-else-answer-eq0 c in
     let i = c.self.inside in
-    let maps = i.maps in
-    let all = i.serials.items in
-    let m = c.args.map in
-    let key = c.args.key.now in
-    let inv = c.self.invariant in
-    let h = inv.2 in
-    let new = c.delete-answer.new.maps in
-    let others = c.delete-answer.ensures.others in
-    let d = one_changed (Size key) i.next maps all c.args.self.now c.self.view_is m c.requires new others c.count-count.ensures.maps in
-    let del = c.delete-answer.ensures.deleted in
-    let same : maps ≡ new = sym (live-same i.next maps all m new d.inside h others del.row (del.deletes.stays c.if-answer-eq0.false) del.deletes.block) in (
-      subst (λ (l : List MapState). length l ≤ 2 ^ 16) same inv.0,
-      subst (λ (l : List MapState). All (λ y. y.row.entries ≤ vec_capacity i.list) l) same inv.1,
-      subst (λ (l : List MapState). AreLive i.next l all) same inv.2,
-      subst (λ (l : List MapState). AreSpans l all i.spans.items) same inv.3,
-      inv.4 ∙ ap length same,
-      subst (λ (l : List MapState). IsLeastRoom (vec_capacity i.list) (rows_of l)) same inv.5,
-      inv.6 ∙ ap length same,
-    )
+    subst (λ (l : List MapState). IsKept (vec_capacity i.list) (vec_capacity i.serials)
+    (vec_capacity i.spans) i.next l i.serials.items i.spans.items)
+    (same w.Else-answer-eq0 (error_changed w.Else-answer-eq0)) c.self.invariant
 
 pub returns-in-Some-clause-answer : goal.returns-in-Some-clause-answer
 returns-in-Some-clause-answer c =
     let i = c.self.inside in
-    let maps = i.maps in
-    let all = i.serials.items in
-    let m = c.args.map in
-    let key = c.args.key.now in
-    let h = c.self.invariant.2 in
-    let new = c.delete-answer.new.maps in
-    let others = c.delete-answer.ensures.others in
-    let d = one_changed (Size key) i.next maps all c.args.self.now c.self.view_is m c.requires new others c.count-count.ensures.maps in
-    row_told (λ l row. c.delete-answer.result ≡ delete_answer row (content_at l m) key) i.next maps all c.args.self.now c.self.view_is m d.inside
-    (c.delete-answer.ensures.deleted.answer ∙ delete_answer-live i.next maps all m new d.inside h others key)
+    answered i.next i.maps c.delete-answer.new.maps i.serials.items c.args.self.now c.self.view_is
+    c.args.map
+    c.args.key.now c.delete-answer.result c.self.invariant.2 (some_changed
+    (goal.at.returns-in-Some-clause-answer c).In-Some)
+    c.delete-answer.ensures.others c.delete-answer.ensures.deleted
 
 pub returns-in_default-clause-answer : goal.returns-in_default-clause-answer
 returns-in_default-clause-answer c =
     let i = c.self.inside in
-    let maps = i.maps in
-    let all = i.serials.items in
-    let m = c.args.map in
-    let key = c.args.key.now in
-    let h = c.self.invariant.2 in
-    let new = c.delete-answer.new.maps in
-    let others = c.delete-answer.ensures.others in
-    let d = one_changed (Size key) i.next maps all c.args.self.now c.self.view_is m c.requires new others c.count-count.ensures.maps in
-    row_told (λ l row. c.delete-answer.result ≡ delete_answer row (content_at l m) key) i.next maps all c.args.self.now c.self.view_is m d.inside
-    (c.delete-answer.ensures.deleted.answer ∙ delete_answer-live i.next maps all m new d.inside h others key)
+    answered i.next i.maps c.delete-answer.new.maps i.serials.items c.args.self.now c.self.view_is
+    c.args.map
+    c.args.key.now c.delete-answer.result c.self.invariant.2 (default_changed
+    (goal.at.returns-in_default-clause-answer c).In_default)
+    c.delete-answer.ensures.others c.delete-answer.ensures.deleted
 
 pub returns-else-answer-eq0-clause-answer : goal.returns-else-answer-eq0-clause-answer
 returns-else-answer-eq0-clause-answer c =
     let i = c.self.inside in
-    let maps = i.maps in
-    let all = i.serials.items in
-    let m = c.args.map in
-    let key = c.args.key.now in
-    let h = c.self.invariant.2 in
-    let new = c.delete-answer.new.maps in
-    let others = c.delete-answer.ensures.others in
-    let d = one_changed (Size key) i.next maps all c.args.self.now c.self.view_is m c.requires new others c.count-count.ensures.maps in
-    row_told (λ l row. c.delete-answer.result ≡ delete_answer row (content_at l m) key) i.next maps all c.args.self.now c.self.view_is m d.inside
-    (c.delete-answer.ensures.deleted.answer ∙ delete_answer-live i.next maps all m new d.inside h others key)
+    answered i.next i.maps c.delete-answer.new.maps i.serials.items c.args.self.now c.self.view_is
+    c.args.map
+    c.args.key.now c.delete-answer.result c.self.invariant.2 (error_changed
+    (goal.at.returns-else-answer-eq0-clause-answer c).Else-answer-eq0)
+    c.delete-answer.ensures.others c.delete-answer.ensures.deleted
 
 pub returns-in-Some-clause-deleted : goal.returns-in-Some-clause-deleted
 returns-in-Some-clause-deleted c =
+    let w = goal.at.returns-in-Some-clause-deleted c in
     let i = c.self.inside in
-    let maps = i.maps in
-    let all = i.serials.items in
     let m = c.args.map in
     let key = c.args.key.now in
-    let h = c.self.invariant.2 in
-    let new = c.delete-answer.new.maps in
-    let others = c.delete-answer.ensures.others in
-    let d = one_changed (Size key) i.next maps all c.args.self.now c.self.view_is m c.requires new others c.count-count.ensures.maps in
-    let zero : c.delete-answer.result ≡ 0 = c.if-answer-eq0.true in
-    let del : Deleted key 0 (map_at maps m) (map_at new m) = subst (λ (a : ℕ). Deleted key a (map_at maps m) (map_at new m)) zero c.delete-answer.ensures.deleted in
-    let p = c.in-Some.place in
-    let there : get (map_at maps m).places key ≡ Some p = sym c.find-found.ensures ∙ c.in-Some.is in
-    let live = live-removed i.next maps all m new d.inside h others key p d.is del there in
-    let done = ap (λ (a : List Serials). live_of new a i.next) c.take_away.ensures.taken ∙ live.1 ∙ ap (λ (l : Live). without l m key) c.self.view_is in
-    done ∙ ap (λ (a : ℕ). if a == 0 then without c.args.self.now m key else c.args.self.now) (sym zero)
+    ap (λ (a : List Serials). live_of c.delete-answer.new.maps a i.next) c.take_away.ensures.taken
+    ∙ (lives w.In-Some (some_changed w.In-Some)).1
+    ∙ ap (λ (l : Live). without l m key) c.self.view_is
+    ∙ ap (λ (a : ℕ). if a == 0 then without c.args.self.now m key else c.args.self.now)
+    (sym c.if-answer-eq0.true)
 
 pub returns-in_default-clause-deleted : goal.returns-in_default-clause-deleted
-returns-in_default-clause-deleted c =
-    let i = c.self.inside in
-    let maps = i.maps in
-    let all = i.serials.items in
-    let m = c.args.map in
-    let key = c.args.key.now in
-    let h = c.self.invariant.2 in
-    let new = c.delete-answer.new.maps in
-    let others = c.delete-answer.ensures.others in
-    let d = one_changed (Size key) i.next maps all c.args.self.now c.self.view_is m c.requires new others c.count-count.ensures.maps in
-    let zero : c.delete-answer.result ≡ 0 = c.if-answer-eq0.true in
-    let absent : get (map_at maps m).places key ≡ None = sym c.find-found.ensures ∙ c.in_default.is in
-    absurd (deleted_there (map_at maps m) key (sym zero ∙ c.delete-answer.ensures.deleted.answer) absent)
+returns-in_default-clause-deleted c = absurd (never (goal.at.returns-in_default-clause-deleted
+    c).In_default)

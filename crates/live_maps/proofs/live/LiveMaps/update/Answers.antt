@@ -1,243 +1,273 @@
-use Rattle.std.proofs.Common.{◌≡◌, ◌^◌, ◌+◌, ◌≤◌, ◌∙◌, refl, sym, ap, subst, length, List, ℕ, suc, Option, Some, None, false, arith}
-use Rattle.std.specs.Prelude.{All, IsSomeAnd, slice_get, slice_set, vec_capacity, ◌==◌, if◌then◌else◌}
+use Rattle.std.proofs.Common.{◌≡◌, ◌+◌, ◌∙◌, refl, sym, ap, subst, length, List, ℕ, suc, Option, Some, None, false, arith}
+use Rattle.std.specs.Prelude.{IsSomeAnd, slice_get, slice_set, vec_capacity, ◌==◌, if◌then◌else◌}
 use Rattle.std.specs.FinMap.{get}
 use Rattle.isa_model.specs.declared.map_defs.MapDef.{MapDef}
 use Rattle.isa_model.specs.Machine.MapContents.{update_answer}
-use Rattle.maps.specs.Maps.{MapState, IsMap, Updated, map_at, rows_of}
-use Rattle.live_maps.specs.Live.{Live, Serials, AreLive, IsLeastRoom, place_if_new, content_at, serials_at, with_bytes}
-use Rattle.live_maps.proofs.ContentLaws.{live_of, All-rows-set, rows_of-set}
+use Rattle.maps.specs.Maps.{MapState, Updated, map_at}
+use Rattle.live_maps.specs.Live.{Live, Serials, AreLive, place_if_new, content_at, serials_at, with_bytes}
+use Rattle.live_maps.specs.Numbering.{IsKept}
+use Rattle.live_maps.proofs.ContentLaws.{live_of}
 use Rattle.live_maps.proofs.LiveLaws.{live-updated, live-added, live-same, not_zero, updated_there, place_if_new-Some, place_if_new-None, update_answer-live}
-use Rattle.live_maps.specs.Numbering.{AreSpans}
 use Rattle.live_maps.proofs.NumberingLaws.{AreSpans-forgotten, AreSpans-set}
-use Rattle.live_maps.proofs.OneChanged.{one_changed, row_told}
+use Rattle.live_maps.proofs.OneChanged.{OneChanged, one_changed, row_told, still_kept}
 use Rattle.live_maps.proofs.live.LiveMaps.update.Goals as goal
+use Rattle.live_maps.proofs.live.LiveMaps.update.Goals.{In-Some, In_default, Else-answer-eq0}
 
 -- the key and the value have their sizes
 abbrev Sizes : List ℕ → List ℕ → MapDef → Type 0
 Sizes key value row = (length key ≡ row.key_size) × (length value ≡ row.value_size)
 
+-- one map may have changed
+some_changed : (c : In-Some)
+    → OneChanged (Sizes c.args.key.now c.args.value.now) c.self.inside.maps c.update-answer.new.maps
+    c.args.map
+some_changed c =
+    let i = c.self.inside in
+    one_changed (Sizes c.args.key.now c.args.value.now) i.next i.maps i.serials.items
+    c.args.self.now c.self.view_is c.args.map
+    c.requires.sizes c.update-answer.new.maps c.update-answer.ensures.others c.say_fits.ensures
+
+default_changed : (c : In_default)
+    → OneChanged (Sizes c.args.key.now c.args.value.now) c.self.inside.maps c.update-answer.new.maps
+    c.args.map
+default_changed c =
+    let i = c.self.inside in
+    one_changed (Sizes c.args.key.now c.args.value.now) i.next i.maps i.serials.items
+    c.args.self.now c.self.view_is c.args.map
+    c.requires.sizes c.update-answer.new.maps c.update-answer.ensures.others c.say_fits.ensures
+
+error_changed : (c : Else-answer-eq0)
+    → OneChanged (Sizes c.args.key.now c.args.value.now) c.self.inside.maps c.update-answer.new.maps
+    c.args.map
+error_changed c =
+    let i = c.self.inside in
+    one_changed (Sizes c.args.key.now c.args.value.now) i.next i.maps i.serials.items
+    c.args.self.now c.self.view_is c.args.map
+    c.requires.sizes c.update-answer.new.maps c.update-answer.ensures.others c.say_fits.ensures
+
+-- the answer, as contracts see it
+answered : (next : ℕ) (maps new : List MapState) (all : List Serials) (now : Live)
+    → live_of maps all next ≡ now → (m : ℕ) (key value : List ℕ) (flags result : ℕ)
+    → AreLive next maps all
+    → OneChanged (Sizes key value) maps new m → new ≡ slice_set maps m (map_at new m)
+    → Updated key value flags result (map_at maps m) (map_at new m)
+    → IsSomeAnd (slice_get now.rows m) (λ row. result ≡ update_answer row
+    (content_at now m) key flags)
+answered next maps new all now view m key value flags result h d others u =
+    row_told (λ l row. result ≡ update_answer row (content_at l m) key flags) next maps all now view
+    m d.inside
+    (u.answer ∙ update_answer-live next maps all m new d.inside h others key flags)
+
+-- what is done with the answer 0
+updated : (a : ℕ) → a ≡ 0 → (key value : List ℕ) (flags : ℕ) (old new : MapState)
+    → Updated key value flags a old new → Updated key value flags 0 old new
+updated a zero key value flags old new u = subst (λ (n : ℕ). Updated key value flags n old new) zero
+    u
+
+-- the key had no place, and has one now
+came : (c : In-Some) → (get (map_at c.self.inside.maps c.args.map).places c.args.key.now ≡ None)
+    × (get (map_at c.update-answer.new.maps c.args.map).places c.args.key.now
+    ≡ Some c.in-Some.place)
+came c =
+    let was = get (map_at c.self.inside.maps c.args.map).places c.args.key.now in
+    let is = get (map_at c.update-answer.new.maps c.args.map).places c.args.key.now in
+    place_if_new-Some was is c.in-Some.place (ap (λ (o : Option ℕ). place_if_new o is)
+    (sym c.find-found.ensures) ∙ sym c.new_place.ensures ∙ c.in-Some.is)
+
+-- the serials with one for the new place
+abbrev given : (c : In-Some) → List Serials
+given c =
+    let all = c.self.inside.serials.items in
+    slice_set all c.args.map (slice_set (serials_at all c.args.map) c.in-Some.place
+    (Some c.self.inside.next))
+
+-- what lives with the new key
+added : (c : In-Some) → OneChanged (Sizes c.args.key.now c.args.value.now) c.self.inside.maps
+    c.update-answer.new.maps c.args.map
+    → AreLive (suc c.self.inside.next) c.update-answer.new.maps (given c)
+    × (live_of c.update-answer.new.maps (given c) (suc c.self.inside.next)
+    ≡ with_bytes (live_of c.self.inside.maps c.self.inside.serials.items c.self.inside.next)
+    c.args.map c.args.key.now c.args.value.now)
+added c d =
+    let i = c.self.inside in
+    let u = updated c.update-answer.result c.if-answer-eq0.true _ _ _ _ _
+    c.update-answer.ensures.updated in
+    let two = came c in
+    live-added i.next i.maps i.serials.items c.args.map c.update-answer.new.maps d.inside
+    c.self.invariant.2 c.update-answer.ensures.others
+    c.args.key.now c.args.value.now c.args.flags c.in-Some.place d.is d.row.1 u two.0 two.1
+
+-- the key had a place
+had : (c : In_default) → (p : ℕ) × (get (map_at c.self.inside.maps c.args.map).places c.args.key.now
+    ≡ Some p)
+had c =
+    let x = map_at c.self.inside.maps c.args.map in
+    let y = map_at c.update-answer.new.maps c.args.map in
+    let key = c.args.key.now in
+    let u = updated c.update-answer.result c.if-answer-eq0.true key c.args.value.now c.args.flags x
+    y c.update-answer.ensures.updated in
+    let none : place_if_new (get x.places key) (get y.places key) ≡ None =
+    ap (λ (o : Option ℕ). place_if_new o (get y.places key)) (sym c.find-found.ensures)
+    ∙ sym c.new_place.ensures ∙ c.in_default.is in
+    place_if_new-None (get x.places key) (get y.places key) none
+    (updated_there x y key c.args.value.now c.args.flags u)
+
+-- what lives with another value of the key
+written : (c : In_default) → OneChanged (Sizes c.args.key.now c.args.value.now) c.self.inside.maps
+    c.update-answer.new.maps c.args.map
+    → AreLive c.self.inside.next c.update-answer.new.maps c.self.inside.serials.items
+    × (live_of c.update-answer.new.maps c.self.inside.serials.items c.self.inside.next
+    ≡ with_bytes (live_of c.self.inside.maps c.self.inside.serials.items c.self.inside.next)
+    c.args.map c.args.key.now c.args.value.now)
+written c d =
+    let i = c.self.inside in
+    let u = updated c.update-answer.result c.if-answer-eq0.true _ _ _ _ _
+    c.update-answer.ensures.updated in
+    let p = had c in
+    live-updated i.next i.maps i.serials.items c.args.map c.update-answer.new.maps d.inside
+    c.self.invariant.2 c.update-answer.ensures.others
+    c.args.key.now c.args.value.now c.args.flags p.0 d.is d.row.1 u p.1
+
+-- with an error nothing has changed
+same : (c : Else-answer-eq0) → OneChanged (Sizes c.args.key.now c.args.value.now) c.self.inside.maps
+    c.update-answer.new.maps c.args.map
+    → c.update-answer.new.maps ≡ c.self.inside.maps
+same c d =
+    let i = c.self.inside in
+    let u = c.update-answer.ensures.updated in
+    let stays = u.updates.stays c.if-answer-eq0.false in
+    live-same i.next i.maps i.serials.items c.args.map c.update-answer.new.maps d.inside
+    c.self.invariant.2 c.update-answer.ensures.others u.row stays.0 stays.1
+
 pub give_serial-requires-clause-index : goal.give_serial-requires-clause-index
 give_serial-requires-clause-index c =
-    let i = c.self.inside in
-    let maps = i.maps in
-    let all = i.serials.items in
-    let m = c.args.map in
-    let key = c.args.key.now in
-    let h = c.self.invariant.2 in
-    let value = c.args.value.now in
-    let new = c.update-answer.new.maps in
-    let others = c.update-answer.ensures.others in
-    let d = one_changed (Sizes key value) i.next maps all c.args.self.now c.self.view_is m c.requires.sizes new others c.count-count.ensures.maps in
-    let long = h.long in
-    let items = i.serials.ok.0 in
+    let d = some_changed (goal.at.give_serial-requires-clause-index c).In-Some in
+    let inside = d.inside in
+    let long = c.self.invariant.2.long in
+    let items = c.self.inside.serials.ok.0 in
     omega arith
 
 pub give_serial-requires-clause-place : goal.give_serial-requires-clause-place
 give_serial-requires-clause-place c =
-    let i = c.self.inside in
-    let maps = i.maps in
-    let all = i.serials.items in
+    let w = goal.at.give_serial-requires-clause-place c in
     let m = c.args.map in
-    let key = c.args.key.now in
-    let h = c.self.invariant.2 in
-    let value = c.args.value.now in
-    let new = c.update-answer.new.maps in
-    let others = c.update-answer.ensures.others in
-    let d = one_changed (Sizes key value) i.next maps all c.args.self.now c.self.view_is m c.requires.sizes new others c.count-count.ensures.maps in
-    let zero : c.update-answer.result ≡ 0 = c.if-answer-eq0.true in
-    let u : Updated key value c.args.flags 0 (map_at maps m) (map_at new m) = subst (λ (a : ℕ). Updated key value c.args.flags a (map_at maps m) (map_at new m)) zero c.update-answer.ensures.updated in
-    let place : place_if_new (get (map_at maps m).places key) (get (map_at new m).places key) ≡ Some c.in-Some.place =
-    ap (λ (o : Option ℕ). place_if_new o (get (map_at new m).places key)) (sym c.find-found.ensures) ∙ sym c.new_place.ensures ∙ c.in-Some.is in
-    let p = c.in-Some.place in
-    let two = place_if_new-Some (get (map_at maps m).places key) (get (map_at new m).places key) p place in
-    let live = live-added i.next maps all m new d.inside h others key value c.args.flags p d.is d.row.1 u two.0 two.1 in
-    let within = d.is.in_range key p two.1 in
-    let mine = h.each m d.inside in
-    let long = mine.long in
-    let same : (map_at new m).row.entries ≡ (map_at maps m).row.entries = ap (λ (r : MapDef). r.entries) u.row in
+    let d = some_changed w.In-Some in
+    let within = d.is.in_range c.args.key.now c.in-Some.place (came w.In-Some).1 in
+    let long = (c.self.invariant.2.each m d.inside).long in
+    let same : (map_at c.update-answer.new.maps m).row.entries ≡
+    (map_at c.self.inside.maps m).row.entries =
+    ap (λ (r : MapDef). r.entries) c.update-answer.ensures.updated.row in
     omega arith
 
 pub invariant_of-self : goal.invariant_of-self
 invariant_of-self c =
+    let w = goal.at.invariant_of-self c in
     let i = c.self.inside in
-    let maps = i.maps in
-    let all = i.serials.items in
     let m = c.args.map in
-    let key = c.args.key.now in
-    let h = c.self.invariant.2 in
-    let value = c.args.value.now in
     let new = c.update-answer.new.maps in
     let others = c.update-answer.ensures.others in
-    let d = one_changed (Sizes key value) i.next maps all c.args.self.now c.self.view_is m c.requires.sizes new others c.count-count.ensures.maps in
-    let zero : c.update-answer.result ≡ 0 = c.if-answer-eq0.true in
-    let u : Updated key value c.args.flags 0 (map_at maps m) (map_at new m) = subst (λ (a : ℕ). Updated key value c.args.flags a (map_at maps m) (map_at new m)) zero c.update-answer.ensures.updated in
-    let place : place_if_new (get (map_at maps m).places key) (get (map_at new m).places key) ≡ Some c.in-Some.place =
-    ap (λ (o : Option ℕ). place_if_new o (get (map_at new m).places key)) (sym c.find-found.ensures) ∙ sym c.new_place.ensures ∙ c.in-Some.is in
-    let p = c.in-Some.place in
-    let two = place_if_new-Some (get (map_at maps m).places key) (get (map_at new m).places key) p place in
-    let live = live-added i.next maps all m new d.inside h others key value c.args.flags p d.is d.row.1 u two.0 two.1 in
-    let few = c.self.invariant.0 in
-    let rooms = All-rows-set (λ (row : MapDef). row.entries ≤ vec_capacity i.list) maps new m (map_at new m) others u.row d.inside c.self.invariant.1 in
+    let d = some_changed w.In-Some in
     let s : suc i.next ≡ i.next + 1 = omega arith in
-    let after : List Serials = slice_set all m (slice_set (serials_at all m) p (Some i.next)) in
-    let mine = subst (λ (a : List Serials). AreLive (i.next + 1) new a) (sym c.give_serial.ensures.given) (subst (λ (n : ℕ). AreLive n new after) s live.0) in
-    let least = subst (IsLeastRoom (vec_capacity i.list)) (sym (ap rows_of others ∙ rows_of-set maps m (map_at new m) u.row)) c.self.invariant.5 in
-    let told = subst (λ (a : List Serials). AreSpans new a (slice_set i.spans.items m None)) (sym c.give_serial.ensures.given)
-    (AreSpans-forgotten maps new all i.spans.items m (map_at new m) (slice_set (serials_at all m) p (Some i.next)) others d.inside c.self.invariant.3) in
-    (omega arith, rooms, mine, told, c.give_serial.ensures.room ∙ c.self.invariant.4 ∙ sym d.count, least, c.self.invariant.6 ∙ sym d.count)
+    let told = slice_set i.spans.items m None in
+    let kept =
+    still_kept (vec_capacity i.list) (vec_capacity i.serials) (vec_capacity i.spans) i.next
+    (suc i.next) i.maps new i.serials.items (given w.In-Some) i.spans.items told m
+    c.self.invariant d.inside others c.update-answer.ensures.updated.row (added w.In-Some d).0
+    (AreSpans-forgotten i.maps new i.serials.items i.spans.items m (map_at new m) (slice_set
+    (serials_at i.serials.items m) c.in-Some.place (Some i.next)) others d.inside
+    c.self.invariant.3) in
+    subst (λ (n : ℕ). IsKept (vec_capacity i.list) n (vec_capacity i.spans)
+    (i.next + 1) new c.give_serial.new.all.items told) (sym c.give_serial.ensures.room)
+    (subst (λ (a : List Serials). IsKept (vec_capacity i.list) (vec_capacity i.serials)
+    (vec_capacity i.spans) (i.next + 1) new a told) (sym c.give_serial.ensures.given)
+    (subst (λ (n : ℕ). IsKept (vec_capacity i.list) (vec_capacity i.serials)
+    (vec_capacity i.spans) n new (given w.In-Some) told) s kept))
 
 pub invariant_of-self-in_default : goal.invariant_of-self-in_default
 invariant_of-self-in_default c =
+    let w = goal.at.invariant_of-self-in_default c in
     let i = c.self.inside in
-    let maps = i.maps in
-    let all = i.serials.items in
     let m = c.args.map in
-    let key = c.args.key.now in
-    let h = c.self.invariant.2 in
-    let value = c.args.value.now in
     let new = c.update-answer.new.maps in
     let others = c.update-answer.ensures.others in
-    let d = one_changed (Sizes key value) i.next maps all c.args.self.now c.self.view_is m c.requires.sizes new others c.count-count.ensures.maps in
-    let zero : c.update-answer.result ≡ 0 = c.if-answer-eq0.true in
-    let u : Updated key value c.args.flags 0 (map_at maps m) (map_at new m) = subst (λ (a : ℕ). Updated key value c.args.flags a (map_at maps m) (map_at new m)) zero c.update-answer.ensures.updated in
-    let none : place_if_new (get (map_at maps m).places key) (get (map_at new m).places key) ≡ None =
-    ap (λ (o : Option ℕ). place_if_new o (get (map_at new m).places key)) (sym c.find-found.ensures) ∙ sym c.new_place.ensures ∙ c.in_default.is in
-    let had = place_if_new-None (get (map_at maps m).places key) (get (map_at new m).places key) none (updated_there (map_at maps m) (map_at new m) key value c.args.flags u) in
-    let live = live-updated i.next maps all m new d.inside h others key value c.args.flags had.0 d.is d.row.1 u had.1 in
-    let few = c.self.invariant.0 in
-    let rooms = All-rows-set (λ (row : MapDef). row.entries ≤ vec_capacity i.list) maps new m (map_at new m) others u.row d.inside c.self.invariant.1 in
-    let w = u.updates.writes refl in
-    let told = AreSpans-set maps new all i.spans.items m (map_at new m) others d.inside (w.kept had.0 had.1) c.self.invariant.3 in
-    let least = subst (IsLeastRoom (vec_capacity i.list)) (sym (ap rows_of others ∙ rows_of-set maps m (map_at new m) u.row)) c.self.invariant.5 in
-    (omega arith, rooms, live.0, told, c.self.invariant.4 ∙ sym d.count, least, c.self.invariant.6 ∙ sym d.count)
+    let d = default_changed w.In_default in
+    let u = updated c.update-answer.result c.if-answer-eq0.true _ _ _ _ _
+    c.update-answer.ensures.updated in
+    let p = had w.In_default in
+    still_kept (vec_capacity i.list) (vec_capacity i.serials)
+    (vec_capacity i.spans) i.next i.next i.maps new i.serials.items i.serials.items i.spans.items
+    i.spans.items m
+    c.self.invariant d.inside others u.row (written w.In_default d).0
+    (AreSpans-set i.maps new i.serials.items i.spans.items m (map_at new m) others d.inside
+    ((u.updates.writes refl).kept p.0 p.1) c.self.invariant.3)
 
 pub invariant_of-self-else-answer-eq0 : goal.invariant_of-self-else-answer-eq0
 invariant_of-self-else-answer-eq0 c =
+    let w = goal.at.invariant_of-self-else-answer-eq0 c in
     let i = c.self.inside in
-    let maps = i.maps in
-    let all = i.serials.items in
-    let m = c.args.map in
-    let key = c.args.key.now in
-    let inv = c.self.invariant in
-    let h = inv.2 in
-    let value = c.args.value.now in
-    let new = c.update-answer.new.maps in
-    let others = c.update-answer.ensures.others in
-    let d = one_changed (Sizes key value) i.next maps all c.args.self.now c.self.view_is m c.requires.sizes new others c.count-count.ensures.maps in
-    let stays = c.update-answer.ensures.updated.updates.stays c.if-answer-eq0.false in
-    let same : maps ≡ new = sym (live-same i.next maps all m new d.inside h others c.update-answer.ensures.updated.row stays.0 stays.1) in (
-      subst (λ (l : List MapState). length l ≤ 2 ^ 16) same inv.0,
-      subst (λ (l : List MapState). All (λ y. y.row.entries ≤ vec_capacity i.list) l) same inv.1,
-      subst (λ (l : List MapState). AreLive i.next l all) same inv.2,
-      subst (λ (l : List MapState). AreSpans l all i.spans.items) same inv.3,
-      inv.4 ∙ ap length same,
-      subst (λ (l : List MapState). IsLeastRoom (vec_capacity i.list) (rows_of l)) same inv.5,
-      inv.6 ∙ ap length same,
-    )
+    subst (λ (l : List MapState). IsKept (vec_capacity i.list) (vec_capacity i.serials)
+    (vec_capacity i.spans) i.next l i.serials.items i.spans.items)
+    (sym (same w.Else-answer-eq0 (error_changed w.Else-answer-eq0))) c.self.invariant
 
 pub returns-in-Some-clause-answer : goal.returns-in-Some-clause-answer
 returns-in-Some-clause-answer c =
     let i = c.self.inside in
-    let maps = i.maps in
-    let all = i.serials.items in
-    let m = c.args.map in
-    let key = c.args.key.now in
-    let h = c.self.invariant.2 in
-    let value = c.args.value.now in
-    let new = c.update-answer.new.maps in
-    let others = c.update-answer.ensures.others in
-    let d = one_changed (Sizes key value) i.next maps all c.args.self.now c.self.view_is m c.requires.sizes new others c.count-count.ensures.maps in
-    row_told (λ l row. c.update-answer.result ≡ update_answer row (content_at l m) key c.args.flags) i.next maps all c.args.self.now c.self.view_is m d.inside
-    (c.update-answer.ensures.updated.answer ∙ update_answer-live i.next maps all m new d.inside h others key c.args.flags)
+    answered i.next i.maps c.update-answer.new.maps i.serials.items c.args.self.now c.self.view_is
+    c.args.map
+    c.args.key.now c.args.value.now c.args.flags c.update-answer.result c.self.invariant.2
+    (some_changed (goal.at.returns-in-Some-clause-answer c).In-Some)
+    c.update-answer.ensures.others c.update-answer.ensures.updated
 
 pub returns-in_default-clause-answer : goal.returns-in_default-clause-answer
 returns-in_default-clause-answer c =
     let i = c.self.inside in
-    let maps = i.maps in
-    let all = i.serials.items in
-    let m = c.args.map in
-    let key = c.args.key.now in
-    let h = c.self.invariant.2 in
-    let value = c.args.value.now in
-    let new = c.update-answer.new.maps in
-    let others = c.update-answer.ensures.others in
-    let d = one_changed (Sizes key value) i.next maps all c.args.self.now c.self.view_is m c.requires.sizes new others c.count-count.ensures.maps in
-    row_told (λ l row. c.update-answer.result ≡ update_answer row (content_at l m) key c.args.flags) i.next maps all c.args.self.now c.self.view_is m d.inside
-    (c.update-answer.ensures.updated.answer ∙ update_answer-live i.next maps all m new d.inside h others key c.args.flags)
+    answered i.next i.maps c.update-answer.new.maps i.serials.items c.args.self.now c.self.view_is
+    c.args.map
+    c.args.key.now c.args.value.now c.args.flags c.update-answer.result c.self.invariant.2
+    (default_changed (goal.at.returns-in_default-clause-answer c).In_default)
+    c.update-answer.ensures.others c.update-answer.ensures.updated
 
 pub returns-else-answer-eq0-clause-answer : goal.returns-else-answer-eq0-clause-answer
 returns-else-answer-eq0-clause-answer c =
     let i = c.self.inside in
-    let maps = i.maps in
-    let all = i.serials.items in
-    let m = c.args.map in
-    let key = c.args.key.now in
-    let h = c.self.invariant.2 in
-    let value = c.args.value.now in
-    let new = c.update-answer.new.maps in
-    let others = c.update-answer.ensures.others in
-    let d = one_changed (Sizes key value) i.next maps all c.args.self.now c.self.view_is m c.requires.sizes new others c.count-count.ensures.maps in
-    row_told (λ l row. c.update-answer.result ≡ update_answer row (content_at l m) key c.args.flags) i.next maps all c.args.self.now c.self.view_is m d.inside
-    (c.update-answer.ensures.updated.answer ∙ update_answer-live i.next maps all m new d.inside h others key c.args.flags)
+    answered i.next i.maps c.update-answer.new.maps i.serials.items c.args.self.now c.self.view_is
+    c.args.map
+    c.args.key.now c.args.value.now c.args.flags c.update-answer.result c.self.invariant.2
+    (error_changed (goal.at.returns-else-answer-eq0-clause-answer c).Else-answer-eq0)
+    c.update-answer.ensures.others c.update-answer.ensures.updated
 
 pub returns-in-Some-clause-updated : goal.returns-in-Some-clause-updated
 returns-in-Some-clause-updated c =
+    let w = goal.at.returns-in-Some-clause-updated c in
     let i = c.self.inside in
-    let maps = i.maps in
-    let all = i.serials.items in
     let m = c.args.map in
     let key = c.args.key.now in
-    let h = c.self.invariant.2 in
     let value = c.args.value.now in
-    let new = c.update-answer.new.maps in
-    let others = c.update-answer.ensures.others in
-    let d = one_changed (Sizes key value) i.next maps all c.args.self.now c.self.view_is m c.requires.sizes new others c.count-count.ensures.maps in
-    let zero : c.update-answer.result ≡ 0 = c.if-answer-eq0.true in
-    let u : Updated key value c.args.flags 0 (map_at maps m) (map_at new m) = subst (λ (a : ℕ). Updated key value c.args.flags a (map_at maps m) (map_at new m)) zero c.update-answer.ensures.updated in
-    let place : place_if_new (get (map_at maps m).places key) (get (map_at new m).places key) ≡ Some c.in-Some.place =
-    ap (λ (o : Option ℕ). place_if_new o (get (map_at new m).places key)) (sym c.find-found.ensures) ∙ sym c.new_place.ensures ∙ c.in-Some.is in
-    let p = c.in-Some.place in
-    let two = place_if_new-Some (get (map_at maps m).places key) (get (map_at new m).places key) p place in
-    let live = live-added i.next maps all m new d.inside h others key value c.args.flags p d.is d.row.1 u two.0 two.1 in
     let s : i.next + 1 ≡ suc i.next = omega arith in
-    let done = (λ j. live_of new (c.give_serial.ensures.given j) (s j)) ∙ live.1 ∙ ap (λ (l : Live). with_bytes l m key value) c.self.view_is in
-    done ∙ ap (λ (a : ℕ). if a == 0 then with_bytes c.args.self.now m key value else c.args.self.now) (sym zero)
+    (λ j. live_of c.update-answer.new.maps (c.give_serial.ensures.given j) (s j))
+    ∙ (added w.In-Some (some_changed w.In-Some)).1
+    ∙ ap (λ (l : Live). with_bytes l m key value) c.self.view_is
+    ∙ ap (λ (a : ℕ). if a == 0 then with_bytes c.args.self.now m key value else c.args.self.now)
+    (sym c.if-answer-eq0.true)
 
 pub returns-in_default-clause-updated : goal.returns-in_default-clause-updated
 returns-in_default-clause-updated c =
-    let i = c.self.inside in
-    let maps = i.maps in
-    let all = i.serials.items in
+    let w = goal.at.returns-in_default-clause-updated c in
     let m = c.args.map in
     let key = c.args.key.now in
-    let h = c.self.invariant.2 in
     let value = c.args.value.now in
-    let new = c.update-answer.new.maps in
-    let others = c.update-answer.ensures.others in
-    let d = one_changed (Sizes key value) i.next maps all c.args.self.now c.self.view_is m c.requires.sizes new others c.count-count.ensures.maps in
-    let zero : c.update-answer.result ≡ 0 = c.if-answer-eq0.true in
-    let u : Updated key value c.args.flags 0 (map_at maps m) (map_at new m) = subst (λ (a : ℕ). Updated key value c.args.flags a (map_at maps m) (map_at new m)) zero c.update-answer.ensures.updated in
-    let none : place_if_new (get (map_at maps m).places key) (get (map_at new m).places key) ≡ None =
-    ap (λ (o : Option ℕ). place_if_new o (get (map_at new m).places key)) (sym c.find-found.ensures) ∙ sym c.new_place.ensures ∙ c.in_default.is in
-    let had = place_if_new-None (get (map_at maps m).places key) (get (map_at new m).places key) none (updated_there (map_at maps m) (map_at new m) key value c.args.flags u) in
-    let live = live-updated i.next maps all m new d.inside h others key value c.args.flags had.0 d.is d.row.1 u had.1 in
-    let done = live.1 ∙ ap (λ (l : Live). with_bytes l m key value) c.self.view_is in
-    done ∙ ap (λ (a : ℕ). if a == 0 then with_bytes c.args.self.now m key value else c.args.self.now) (sym zero)
+    (written w.In_default (default_changed w.In_default)).1
+    ∙ ap (λ (l : Live). with_bytes l m key value) c.self.view_is
+    ∙ ap (λ (a : ℕ). if a == 0 then with_bytes c.args.self.now m key value else c.args.self.now)
+    (sym c.if-answer-eq0.true)
 
 pub returns-else-answer-eq0-clause-updated : goal.returns-else-answer-eq0-clause-updated
 returns-else-answer-eq0-clause-updated c =
+    let w = goal.at.returns-else-answer-eq0-clause-updated c in
     let i = c.self.inside in
-    let maps = i.maps in
-    let all = i.serials.items in
-    let m = c.args.map in
-    let key = c.args.key.now in
-    let h = c.self.invariant.2 in
-    let value = c.args.value.now in
-    let new = c.update-answer.new.maps in
-    let others = c.update-answer.ensures.others in
-    let d = one_changed (Sizes key value) i.next maps all c.args.self.now c.self.view_is m c.requires.sizes new others c.count-count.ensures.maps in
-    let stays = c.update-answer.ensures.updated.updates.stays c.if-answer-eq0.false in
-    let same : new ≡ maps = live-same i.next maps all m new d.inside h others c.update-answer.ensures.updated.row stays.0 stays.1 in
-    let test : (c.update-answer.result == 0) ≡ false = not_zero c.update-answer.result c.if-answer-eq0.false in
-    ap (λ (l : List MapState). live_of l all i.next) same ∙ c.self.view_is
-    ∙ ap (λ b. if b then with_bytes c.args.self.now m key value else c.args.self.now) (sym test)
+    let test : (c.update-answer.result == 0) ≡ false = not_zero c.update-answer.result
+    c.if-answer-eq0.false in
+    ap (λ (l : List MapState). live_of l i.serials.items i.next) (same w.Else-answer-eq0
+    (error_changed w.Else-answer-eq0)) ∙ c.self.view_is
+    ∙ ap (λ b. if b then with_bytes c.args.self.now c.args.map c.args.key.now c.args.value.now else
+    c.args.self.now) (sym test)

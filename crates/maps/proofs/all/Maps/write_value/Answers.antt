@@ -1,26 +1,26 @@
-use Rattle.std.proofs.Common.{map, refl, sym, subst}
-use Rattle.std.specs.Prelude.{slice_set, vec_capacity}
-use Rattle.maps.specs.Maps.{MapState, WritesValue, map_at}
-use Rattle.maps.proofs.AllMaps.{state, map_at-state, map_at-set, others-set, HaveRoom-set, inside}
+use Rattle.std.proofs.Common.{refl}
+use Rattle.std.specs.Prelude.{vec_capacity}
+use Rattle.maps.specs.Maps.{WritesValue}
+use Rattle.maps.proofs.AllMaps.{changed, others-set, HaveRoom-set, inside}
 use Rattle.maps.proofs.all.Maps.write_value.Goals as goal
 
 pub returns-clause-written : goal.returns-clause-written
 returns-clause-written c =
-    let stores = c.self.inside.stores.all.items in
     let x = c.index_mut.result.now in
-    let t = c.write_value.new.self in
     let e = c.write_value.ensures in
-    let before = map_at-state c.args.self.now stores c.self.view_is c.args.map c.requires.map x c.index_mut.ensures.value in
-    let after = map_at-set c.args.self.now stores c.self.view_is c.args.map c.requires.map t in
-    let Is : MapState → MapState → Type 0 = λ m n. WritesValue c.args.place c.args.at c.args.bytes.now m n in
-    let change : Is (state x) (state t) = record { row = e.row; places = rw e.index refl; block = e.block } in
-    subst (λ (m : MapState). Is m (map_at (map state (slice_set stores c.args.map t)) c.args.map)) (sym before) (subst (λ (n : MapState). Is (state x) n) (sym after) change)
+    changed c.args.self.now c.self.inside.stores.all.items c.self.view_is c.args.map c.requires.map
+    (WritesValue c.args.place c.args.at c.args.bytes.now) x c.write_value.new.self
+    c.index_mut.ensures.value
+    (record { row = e.row; places = rw e.index refl; block = e.block })
 
 pub returns-clause-others : goal.returns-clause-others
-returns-clause-others c = others-set c.args.self.now c.self.inside.stores.all.items c.self.view_is c.args.map c.requires.map c.write_value.new.self
+returns-clause-others c = others-set c.args.self.now c.self.inside.stores.all.items c.self.view_is
+    c.args.map c.requires.map c.write_value.new.self
 
 pub invariant_of-self : goal.invariant_of-self
 invariant_of-self c =
     let i = c.self.inside.stores in
     let low = inside c.args.self.now i.all.items c.self.view_is c.args.map c.requires.map in
-    HaveRoom-set (vec_capacity i.list) (vec_capacity i.all) i.all.items c.args.map c.index_mut.result.now c.write_value.new.self low c.index_mut.ensures.value c.write_value.ensures.row c.self.invariant
+    HaveRoom-set (vec_capacity i.list) (vec_capacity i.all) i.all.items c.args.map
+    c.index_mut.result.now c.write_value.new.self low c.index_mut.ensures.value
+    c.write_value.ensures.row c.self.invariant
