@@ -46,3 +46,23 @@ next_led (Some k) to j next = if nat_eq j k then to else next
 abbrev pub link_led : Option ℕ → Option ℕ → ℕ → Option Link → Option Link
 link_led from to j None = None
 link_led from to j (Some link) = Some (record link { next = next_led from to j link.next })
+
+-- ---- links by number, in two lists: of the chain of each number that has a link, and of the
+-- number of the next one
+
+-- a link is named by its place
+abbrev pub link_with : ℕ → Option ℕ → Option ℕ → Option Link
+link_with k None next = None
+link_with k (Some chain) next = Some (record { chain = chain; place = k; next = next })
+
+abbrev pub link_in : List (Option ℕ) → List (Option ℕ) → ℕ → Option Link
+link_in chains nexts k = link_with k (slice_index_or chains k None) (slice_index_or nexts k None)
+
+abbrev pub nexts_led : Option ℕ → Option ℕ → List (Option ℕ) → List (Option ℕ)
+nexts_led None to nexts = nexts
+nexts_led (Some k) to nexts = slice_set nexts k to
+
+-- what a link, or the start of a chain, leads to
+abbrev pub led_from : Option ℕ → ℕ → List (Option ℕ) → List (Option ℕ) → Option ℕ
+led_from None chain heads nexts = slice_index_or heads chain None
+led_from (Some k) chain heads nexts = slice_index_or nexts k None

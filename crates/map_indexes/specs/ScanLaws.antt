@@ -1,5 +1,5 @@
 -- Places that are scanned: what one key more or less does to them.
-use Rattle.std.proofs.Common.{◌≡◌, ℕ, zero, suc, ◌-◌, ◌<◌, ◌≤◌, List, [], ◌∷◌, Some, None, length, arith}
+use Rattle.std.proofs.Common.{◌≡◌, ℕ, zero, suc, ◌<◌, ◌≤◌, List, [], ◌∷◌, Some, None, length, arith}
 use Rattle.std.specs.FinMap.{get, len}
 use Rattle.map_indexes.specs.Slots.{Slots, slot, places, IsScan, key_count}
 use Rattle.map_indexes.specs.SlotLaws.{got}

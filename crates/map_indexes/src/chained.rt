@@ -2,17 +2,16 @@
 
 ghost use Rattle.std.specs.Prelude.{◌≡◌, ℕ, ◌+◌, ◌-◌, ◌<◌, ◌≤◌, length, None, IfOk, IfSome, slice_index_or, vec_capacity, is_some, true, Some};
 ghost use Rattle.std.specs.FinMap as map;
-ghost use Rattle.slab.specs.Slab.{get, slab_len};
 ghost use Rattle.isa_model.specs.declared.map_defs.MapKind.TheVariants.{Hash};
 ghost use Rattle.map_indexes.specs.Slots.{places, slot, AreKeys};
 ghost use Rattle.map_indexes.specs.KeyOrder.{used_places};
-ghost use Rattle.map_indexes.specs.Chains.{spot};
+ghost use Rattle.map_indexes.specs.Chains.{spot, link_in};
 ghost use Rattle.map_indexes.specs.ChainIndexes.{IsChainIndex, HasKey};
 
 use crate::chains::Chains;
 use crate::hashing::chain_of;
 use crate::index::Index;
-use crate::keys::Keys;
+use crate::keys::{Keys, are_same};
 use std::alloc::{AllocError, Global};
 
 // All places, the first at the end.
@@ -37,12 +36,11 @@ pub struct ChainIndex {
     chains: Chains,
     free: Vec<u32>,
     ghost index: { IsChainIndex keys.slots free.items chains.count
-        (λ k. spot (get chains.links k)) },
+        (λ k. spot (link_in chains.chains chains.nexts k)) },
     ghost sized: { AreKeys keys.size keys.slots },
     ghost chained: { 0 < chains.count },
     ghost spread: { length keys.slots ≤ chains.count },
-    ghost linked: { slab_len chains.links + length free.items ≡ length keys.slots },
-    ghost links_room: { chains.links.capacity ≡ length keys.slots },
+    ghost links_room: { length chains.chains ≡ length keys.slots },
     ghost free_room: { vec_capacity free ≡ length keys.slots },
 }
 
@@ -94,17 +92,16 @@ impl ChainIndex {
     // The number of the link whose place has the key.
     fn find_link(&self, key: &[u8]) -> Option<usize>
         requires { length key.now ≡ self.now.keys.size }
-        ensures found { IfSome result (HasKey self.now.keys.slots (get self.now.chains.links)
-            key.now) }
+        ensures found { IfSome result (HasKey self.now.keys.slots
+            (link_in self.now.chains.chains self.now.chains.nexts) key.now) }
         ensures absent { result ≡ None → map.get (places self.now.keys.slots) key.now ≡ None }
     {
         let mut next = self.chains.first(chain_of(key, self.chains.count()));
         while let Some(at) = next {
-            let link = self.chains.link(at);
-            if self.keys.key(link.place as usize) == key {
+            if are_same(self.keys.key(at), key) {
                 return Some(at);
             }
-            next = link.next;
+            next = self.chains.next(at);
         }
         None
     }
@@ -122,8 +119,7 @@ impl Index for ChainIndex {
     ghost room = { λ s. length s.keys.slots };
 
     fn find(&self, key: &[u8]) -> Option<usize> {
-        let at = self.find_link(key)?;
-        Some(self.chains.link(at).place as usize)
+        self.find_link(key)
     }
 
     fn is_full(&self) -> bool {
@@ -134,16 +130,16 @@ impl Index for ChainIndex {
         let place = self.free.pop()?;
         let chain = chain_of(key, self.chains.count());
         self.keys.put(place as usize, key);
-        self.chains.add(chain, place);
+        self.chains.add(chain, place as usize);
         Some(place as usize)
     }
 
     fn remove(&mut self, key: &[u8]) -> Option<usize> {
-        let at = self.find_link(key)?;
-        let place = self.chains.remove(at);
-        self.keys.clear(place as usize);
-        self.free.push_reserved(place);
-        Some(place as usize)
+        let place = self.find_link(key)?;
+        self.chains.remove(place);
+        self.keys.clear(place);
+        self.free.push_reserved(place as u32);
+        Some(place)
     }
 
     ghost in_range = { λ s k p e. scan_in_range s.keys.slots k p e };

@@ -1,16 +1,13 @@
 //! Chains of links.
 
-ghost use Rattle.std.specs.Prelude.{◌≡◌, ◌≢◌, ◌+◌, ◌<◌, ℕ, length, None, Some, IfOk, vec_capacity};
-ghost use Rattle.slab.specs.Slab.{get, slab_len, ContainsKey, HasRoomFor};
+ghost use Rattle.std.specs.Prelude.{◌≡◌, ◌≢◌, ◌+◌, ◌<◌, ◌^◌, ℕ, length, None, Some, IfOk, IfSome, IsSome, replicate, slice_index_or};
 ghost use Rattle.map_indexes.specs.LastBelow.{last_below};
-ghost use Rattle.map_indexes.specs.declared.chains.Link.{Link};
-ghost use Rattle.map_indexes.specs.Chains.{in_chain, spot, IsChained, StandsBehind, heads_led, link_led};
+ghost use Rattle.map_indexes.specs.Chains.{in_chain, spot, IsChained, StandsBehind, heads_led, nexts_led, led_from, link_in};
 
-use crate::rooms::exact;
-use slab::Slab;
+use crate::numbers::Numbers;
 use std::alloc::{AllocError, Global};
 
-/// A place in a chain, and the number of the next link.
+/// A place in a chain, and the number of the next link. The number of a link is its place.
 #[derive(Clone, Copy)]
 pub struct Link {
     pub chain: u32,
@@ -20,23 +17,21 @@ pub struct Link {
 
 // Makes a link of a chain, or its start, lead to another link.
 fn lead(
-    heads: &mut Vec<Option<usize>>,
-    links: &mut Slab<Link>,
+    heads: &mut Numbers,
+    nexts: &mut Numbers,
     chain: usize,
     from: Option<usize>,
     to: Option<usize>,
 )
-    requires chain { chain < length heads.old.items }
-    requires from { (k : ℕ) → from ≡ Some k → ContainsKey links.old k }
-    ensures heads { heads.new.items ≡ heads_led from chain to heads.old.items }
-    ensures heads_room { vec_capacity heads.new ≡ vec_capacity heads.old }
-    ensures links { (j : ℕ) → get links.new j ≡ link_led from to j (get links.old j) }
-    ensures len { slab_len links.new ≡ slab_len links.old }
-    ensures capacity { links.new.capacity ≡ links.old.capacity }
+    requires chain { chain < length heads.old }
+    requires from { IfSome from (λ k. k < length nexts.old) }
+    requires to { IfSome to (λ k. k + 1 < 2 ^ 32) }
+    ensures heads { heads.new ≡ heads_led from chain to heads.old }
+    ensures nexts { nexts.new ≡ nexts_led from to nexts.old }
 {
     match from {
-        Some(k) => links[k].next = to,
-        None => heads[chain] = to,
+        Some(k) => nexts.set(k, to),
+        None => heads.set(chain, to),
     }
 }
 
@@ -44,32 +39,32 @@ fn lead(
 #[derive(Drop)]
 pub struct Chains {
     count: u32,
-    heads: Vec<Option<usize>>,
-    links: Slab<Link>,
-    ghost counted: { length heads.items ≡ count },
-    ghost exact: { vec_capacity heads ≡ count },
-    ghost chained: { IsChained heads.items links.capacity (get links) },
+    heads: Numbers,
+    // By number of a link: its chain, and the next link of that.
+    chains: Numbers,
+    nexts: Numbers,
+    ghost counted: { length heads ≡ count },
+    ghost small: { count < 2 ^ 32 },
+    ghost few: { length chains < 2 ^ 32 },
+    ghost whole: { length nexts ≡ length chains },
+    ghost chained: { IsChained heads (length chains) (link_in chains nexts) },
 }
 
 impl Chains {
-    /// Chains without links, and room for this number of links and no more.
+    /// Chains without links, and room for links of this many numbers.
     pub fn new(alloc: Global, count: u32, room: u32) -> Result<Self, AllocError>
         ensures count { IfOk result (λ c. c.count ≡ count) }
-        ensures empty { IfOk result (λ c. (k : ℕ) → get c.links k ≡ None) }
-        ensures len { IfOk result (λ c. slab_len c.links ≡ 0) }
-        ensures room { IfOk result (λ c. c.links.capacity ≡ room) }
+        ensures empty { IfOk result (λ c. (k : ℕ) → link_in c.chains c.nexts k ≡ None) }
+        ensures room { IfOk result (λ c. length c.chains ≡ room) }
     {
-        let none = vec![in alloc; None; count as usize]?;
-        let heads = exact(none)?;
-        let links = Slab::with_capacity(alloc, room as usize)?;
-        // a slab may have more room than was asked for
-        if links.capacity() != room as usize {
-            return Err(AllocError);
-        }
+        let heads = Numbers::new(alloc, count)?;
+        let chains = Numbers::new(alloc, room)?;
+        let nexts = Numbers::new(alloc, room)?;
         Ok(Chains {
             count,
             heads,
-            links,
+            chains,
+            nexts,
         })
     }
 
@@ -83,24 +78,24 @@ impl Chains {
     /// The first link of a chain.
     pub fn first(&self, chain: u32) -> Option<usize>
         requires { chain < self.now.count }
-        ensures { result ≡ last_below (in_chain (get self.now.links) chain)
-            self.now.links.capacity }
+        ensures { result ≡ last_below (in_chain (link_in self.now.chains self.now.nexts) chain)
+            (length self.now.chains) }
     {
-        self.heads[chain as usize]
+        self.heads.at(chain as usize)
     }
 
-    /// The link with a number.
-    pub fn link(&self, at: usize) -> Link
-        requires { ContainsKey self.now.links at }
-        ensures { get self.now.links at ≡ Some result }
+    /// The link after one with a number, in its chain.
+    pub fn next(&self, at: usize) -> Option<usize>
+        requires { at < length self.now.chains }
+        ensures { result ≡ slice_index_or self.now.nexts at None }
     {
-        self.links[at]
+        self.nexts.at(at)
     }
 
     // The link of a chain after which a number belongs.
     fn behind(&self, chain: u32, at: usize) -> Option<usize>
         requires { chain < self.now.count }
-        ensures { StandsBehind (in_chain (get self.now.links) chain) at result }
+        ensures { StandsBehind (in_chain (link_in self.now.chains self.now.nexts) chain) at result }
     {
         let mut from = None;
         let mut next = self.first(chain);
@@ -109,55 +104,62 @@ impl Chains {
                 return from;
             }
             from = Some(k);
-            next = self.links[k].next;
+            next = self.nexts.at(k);
         }
         from
     }
 
-    /// Puts a new link into a chain, and answers its number.
-    pub fn add(&mut self, chain: u32, place: u32) -> usize
+    // What a link of a chain, or its start, leads to.
+    fn after(&self, chain: u32, from: Option<usize>) -> Option<usize>
+        requires chain { chain < self.now.count }
+        requires from { IfSome from (λ k. k < length self.now.nexts) }
+        ensures { result ≡ led_from from chain self.now.heads self.now.nexts }
+    {
+        match from {
+            Some(k) => self.nexts.at(k),
+            None => self.heads.at(chain as usize),
+        }
+    }
+
+    /// Puts a link with a new number into a chain.
+    pub fn add(&mut self, chain: u32, at: usize)
         requires chain { chain < self.old.count }
-        requires room { HasRoomFor self.old.links 1 }
-        ensures free { get self.old.links result ≡ None }
-        ensures added { spot (get self.new.links result) ≡ Some (chain, place) }
-        ensures others { (j : ℕ) → j ≢ result
-            → spot (get self.new.links j) ≡ spot (get self.old.links j) }
-        ensures len { slab_len self.new.links ≡ slab_len self.old.links + 1 }
-        ensures capacity { self.new.links.capacity ≡ self.old.links.capacity }
+        requires at { at < length self.old.chains }
+        requires free { link_in self.old.chains self.old.nexts at ≡ None }
+        ensures added { spot (link_in self.new.chains self.new.nexts at) ≡ Some (chain, at) }
+        ensures others { (j : ℕ) → j ≢ at → spot (link_in self.new.chains self.new.nexts j)
+            ≡ spot (link_in self.old.chains self.old.nexts j) }
+        ensures room { length self.new.chains ≡ length self.old.chains }
         ensures count { self.new.count ≡ self.old.count }
     {
-        let from = self.behind(chain, self.links.vacant_key());
-        let next = match from {
-            Some(k) => self.links[k].next,
-            None => self.heads[chain as usize],
-        };
-        let at = self.links.insert_reserved(Link { chain, place, next });
+        let from = self.behind(chain, at);
+        let next = self.after(chain, from);
+        self.chains.set(at, Some(chain as usize));
+        self.nexts.set(at, next);
         lead(
             &mut self.heads,
-            &mut self.links,
+            &mut self.nexts,
             chain as usize,
             from,
             Some(at),
         );
-        at
     }
 
-    /// Takes a link out of its chain, and answers the place that it had.
-    pub fn remove(&mut self, at: usize) -> u32
-        requires { ContainsKey self.old.links at }
-        ensures place { (l : Link) → get self.old.links at ≡ Some l → result ≡ l.place }
-        ensures removed { get self.new.links at ≡ None }
-        ensures others { (j : ℕ) → j ≢ at
-            → spot (get self.new.links j) ≡ spot (get self.old.links j) }
-        ensures len { slab_len self.new.links + 1 ≡ slab_len self.old.links }
-        ensures room { HasRoomFor self.new.links 1 }
-        ensures capacity { self.new.links.capacity ≡ self.old.links.capacity }
+    /// Takes the link with a number out of its chain.
+    pub fn remove(&mut self, at: usize)
+        requires { IsSome (link_in self.old.chains self.old.nexts at) }
+        ensures removed { link_in self.new.chains self.new.nexts at ≡ None }
+        ensures others { (j : ℕ) → j ≢ at → spot (link_in self.new.chains self.new.nexts j)
+            ≡ spot (link_in self.old.chains self.old.nexts j) }
+        ensures room { length self.new.chains ≡ length self.old.chains }
         ensures count { self.new.count ≡ self.old.count }
     {
-        let Link { chain, place, next } = self.links[at];
-        let from = self.behind(chain, at);
-        self.links.remove(at);
-        lead(&mut self.heads, &mut self.links, chain as usize, from, next);
-        place
+        let Some(chain) = self.chains.at(at) else {
+            unreachable!()
+        };
+        let next = self.nexts.at(at);
+        let from = self.behind(chain as u32, at);
+        self.chains.set(at, None);
+        lead(&mut self.heads, &mut self.nexts, chain, from, next);
     }
 }

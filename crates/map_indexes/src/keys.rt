@@ -1,13 +1,16 @@
 //! Keys of one size in a block, by place.
 
-ghost use Rattle.std.specs.Prelude.{◌≡◌, ◌+◌, ◌*◌, ◌≤◌, ◌<◌, length, Some, None, IfOk, replicate, slice_set, is_some, true, IsPermutation, vec_capacity};
+ghost use Rattle.std.specs.Cmp.Lexicographic.{pointwise};
+ghost use Rattle.std.specs.Prelude.{nat_eq, ◌≡◌, ◌+◌, ◌*◌, ◌≤◌, ◌<◌, length, Some, None, IfOk, replicate, slice_set, is_some, true, IsPermutation, vec_capacity};
 ghost use Rattle.std.specs.List.{splice};
 ghost use Rattle.std.specs.List.Sorted.{IsSortedByKey};
+ghost use Rattle.isa_model.specs.Code.LittleEndian.{EachByte};
 ghost use Rattle.isa_model.specs.Machine.MapContents.{key_order};
 ghost use Rattle.map_indexes.specs.KeyOrder.{key_or_none};
 ghost use Rattle.map_indexes.specs.Slots.{KeyTable, slot, slots_of};
 
 use crate::rooms::exact;
+use byteorder::{ByteOrder, LittleEndian};
 use std::alloc::{AllocError, Global};
 use std::marker::Model;
 
@@ -17,6 +20,28 @@ pub fn put_bytes(block: &mut [u8], at: usize, new: &[u8])
     ensures { block.new ≡ splice block.old at (at + length new.now) new.now }
 {
     block[at..at + new.len()].copy_from_slice(new);
+}
+
+// What a slice of bytes has are bytes.
+fn are_bytes(bytes: &[u8])
+    ensures { EachByte bytes.now }
+{}
+
+/// Whether two keys of one size are the same. Keys of 4 or 8 bytes are compared as numbers.
+#[inline(always)]
+pub fn are_same(a: &[u8], b: &[u8]) -> bool
+    requires { length a.now ≡ length b.now }
+    ensures { result ≡ pointwise nat_eq a.now b.now }
+{
+    are_bytes(a);
+    are_bytes(b);
+    if a.len() == 4 {
+        return LittleEndian::read_u32(a) == LittleEndian::read_u32(b);
+    }
+    if a.len() == 8 {
+        return LittleEndian::read_u64(a) == LittleEndian::read_u64(b);
+    }
+    a == b
 }
 
 /// Which key each place has, if it has one. Contracts see the keys by place.

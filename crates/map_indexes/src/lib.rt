@@ -10,6 +10,7 @@ mod chains;
 mod hashing;
 pub mod index;
 pub mod keys;
+mod numbers;
 pub mod rooms;
 pub mod scan;
 

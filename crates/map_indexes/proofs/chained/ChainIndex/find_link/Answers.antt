@@ -1,50 +1,84 @@
-use Rattle.std.proofs.Common.{◌≡◌, ◌<◌, Option, Some, true, refl, sym, ap, subst, ◌∙◌}
-use Rattle.std.specs.Prelude.{IsSome, is_some, nat_eq}
+use Rattle.std.proofs.Common.{◌≡◌, ◌<◌, ℕ, List, Option, Some, true, sym, ap, subst, ◌∙◌}
+use Rattle.std.specs.Prelude.{is_some, nat_eq}
 use Rattle.std.specs.Cmp.Lexicographic.{pointwise, bytes_decides}
-use Rattle.slab.specs.Slab.{get}
 use Rattle.map_indexes.specs.declared.chains.Link.{Link}
 use Rattle.map_indexes.specs.Slots.{slot}
-use Rattle.map_indexes.specs.Chains.{in_chain, height}
-use Rattle.map_indexes.proofs.ChainLaws.{lower}
+use Rattle.map_indexes.specs.Chains.{in_chain, link_in, height}
+use Rattle.map_indexes.proofs.ChainLaws.{link_in-is, lower}
 use Rattle.map_indexes.proofs.ChainIndexesLaws.{Left, next_there, left_next, not_found}
 use Rattle.map_indexes.proofs.chained.ChainIndex.find_link.Goals as goal
+use Rattle.map_indexes.proofs.chained.ChainIndex.find_link.Goals.{In-Some}
 
-pub link-link-requires : goal.link-link-requires
-link-link-requires c =
+-- the link that the loop is at, and the key of its place
+here : (c : In-Some) → (l : Link) × (link_in c.args.self.now.chains.chains
+    c.args.self.now.chains.nexts c.in-Some.at ≡ Some l)
+    × (q : List ℕ) × (slot c.args.self.now.keys.slots c.in-Some.at ≡ Some q)
+here c =
     let s = c.args.self.now in
-    let n = next_there s.keys.slots s.free.items s.chains.count (get s.chains.links) s.index c.args.key.now c.loop-next.next c.loop-next.invariant c.in-Some.at c.in-Some.is in
-    subst (λ (o : Option Link). IsSome o) (sym n.1) refl
+    let links = link_in s.chains.chains s.chains.nexts in
+    let n = next_there s.keys.slots s.free.items s.chains.count links s.index c.args.key.now
+    c.loop-next.next c.loop-next.invariant c.in-Some.at c.in-Some.is in
+    let place = (link_in-is s.chains.chains s.chains.nexts c.in-Some.at n.0 n.1).1 in
+    (n.0, n.1, n.3, sym (ap (slot s.keys.slots) place) ∙ n.4)
 
 pub key-requires : goal.key-requires
-key-requires c =
+key-requires c = ap is_some (here (goal.at.key-requires c).In-Some).3
+
+pub next-next-requires : goal.next-next-requires
+next-next-requires c =
     let s = c.args.self.now in
-    let n = next_there s.keys.slots s.free.items s.chains.count (get s.chains.links) s.index c.args.key.now c.loop-next.next c.loop-next.invariant c.in-Some.at c.in-Some.is in
-    let same : n.0 ≡ c.link-link.result = let f : Some n.0 ≡ Some c.link-link.result = sym n.1 ∙ c.link-link.ensures in cc in
-    ap (λ (x : Link). is_some (slot s.keys.slots x.place)) (sym same) ∙ ap is_some n.4
+    let h = here (goal.at.next-next-requires c).In-Some in
+    s.chains.chained.within c.in-Some.at h.0 h.1
+
+pub returns-then-are_same-clause-found : goal.returns-then-are_same-clause-found
+returns-then-are_same-clause-found c =
+    let s = c.args.self.now in
+    let h = here (goal.at.returns-then-are_same-clause-found c).In-Some in
+    let place = (link_in-is s.chains.chains s.chains.nexts c.in-Some.at h.0 h.1).1 in
+    let t : pointwise nat_eq c.key.result.now c.args.key.now ≡ true = sym c.are_same.ensures
+    ∙ c.if-are_same.true in
+    record {
+      link = h.0;
+      there = h.1;
+      has = ap (slot s.keys.slots) place ∙ c.key.ensures.key ∙ ap Some
+          ((bytes_decides c.key.result.now c.args.key.now).0 t);
+    }
 
 pub loop-next-smaller : goal.loop-next-smaller
 loop-next-smaller c =
     let s = c.args.self.now in
-    let l = c.link-link.result in
-    subst (λ (o : Option _). height l.next < height o) (sym c.in-Some.is)
-    (lower (in_chain (get s.chains.links) l.chain) c.in-Some.at l.next (s.chains.chained.falls c.in-Some.at l c.link-link.ensures))
+    let links = link_in s.chains.chains s.chains.nexts in
+    let h = here (goal.at.loop-next-smaller c).In-Some in
+    let next = c.next-next.ensures ∙ sym (link_in-is s.chains.chains s.chains.nexts c.in-Some.at h.0
+    h.1).2 in
+    subst (λ (o : Option _). height c.next-next.result < height o) (sym c.in-Some.is)
+    (lower (in_chain links h.0.chain) c.in-Some.at c.next-next.result (next
+    ∙ s.chains.chained.falls c.in-Some.at h.0 h.1))
 
 pub loop-next-preserved : goal.loop-next-preserved
 loop-next-preserved c =
     let s = c.args.self.now in
-    let l = c.link-link.result in
-    left_next s.keys.slots s.free.items s.chains.count (get s.chains.links) s.index c.args.key.now c.loop-next.next c.loop-next.invariant c.in-Some.at l c.in-Some.is c.link-link.ensures
-    (λ h.
-    let f : Some c.key.result.now ≡ Some c.args.key.now = sym c.key.ensures.key ∙ h in
+    let links = link_in s.chains.chains s.chains.nexts in
+    let h = here (goal.at.loop-next-preserved c).In-Some in
+    let is = link_in-is s.chains.chains s.chains.nexts c.in-Some.at h.0 h.1 in
+    subst (λ (o : Option ℕ). Left s.keys.slots s.chains.count links c.args.key.now o) (is.2
+    ∙ sym c.next-next.ensures)
+    (left_next s.keys.slots s.free.items s.chains.count links s.index c.args.key.now
+    c.loop-next.next c.loop-next.invariant c.in-Some.at h.0 c.in-Some.is h.1
+    (λ e.
+    let f : Some c.key.result.now ≡ Some c.args.key.now = sym c.key.ensures.key ∙ ap
+    (slot s.keys.slots) (sym is.1) ∙ e in
     let same : c.key.result.now ≡ c.args.key.now = cc in
     let t : pointwise nat_eq c.key.result.now c.args.key.now ≡ true = (bytes_decides c.key.result.now c.args.key.now).1 same in
-    let g = c.eq.ensures in
-    let e = c.if-eq.false in
+    let g = c.are_same.ensures in
+    let no = c.if-are_same.false in
     cc)
-    (s.chains.chained.falls c.in-Some.at l c.link-link.ensures)
+    (s.chains.chained.falls c.in-Some.at h.0 h.1))
 
 pub returns-clause-absent : goal.returns-clause-absent
 returns-clause-absent c = λ e.
     let s = c.args.self.now in
-    not_found s.keys.slots s.free.items s.chains.count (get s.chains.links) s.index c.args.key.now
-    (subst (Left s.keys.slots s.chains.count (get s.chains.links) c.args.key.now) c.in_default.is c.loop-next.invariant)
+    let links = link_in s.chains.chains s.chains.nexts in
+    not_found s.keys.slots s.free.items s.chains.count links s.index c.args.key.now
+    (subst (Left s.keys.slots s.chains.count links c.args.key.now) c.in_default.is
+    c.loop-next.invariant)

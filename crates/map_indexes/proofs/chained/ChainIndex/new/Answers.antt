@@ -1,9 +1,8 @@
 use Rattle.std.proofs.Common.{ℕ, sym, ap, subst, ◌∙◌}
-use Rattle.slab.specs.Slab.{get}
 use Rattle.map_indexes.specs.Slots.{Slots, places, AreKeys}
 use Rattle.map_indexes.proofs.KeyBytes.{AreKeys-none}
 use Rattle.map_indexes.proofs.ScanLaws.{places-none}
-use Rattle.map_indexes.specs.Chains.{spot}
+use Rattle.map_indexes.specs.Chains.{spot, link_in}
 use Rattle.map_indexes.specs.ChainIndexes.{IsChainIndex}
 use Rattle.map_indexes.proofs.ChainIndexesLaws.{chain_index-none}
 use Rattle.map_indexes.proofs.chained.ChainIndex.new.Goals as goal
@@ -12,7 +11,7 @@ pub invariant_of-result-clause-index : goal.invariant_of-result-clause-index
 invariant_of-result-clause-index c =
     let chains = c.in_ok-chains.chains in
     let free = c.in_ok-free.free in
-    let spots = λ (k : ℕ). spot (get chains.links k) in
+    let spots = λ (k : ℕ). spot (link_in chains.chains chains.nexts k) in
     subst (λ (x : Slots). IsChainIndex x free.items chains.count spots) (sym c.in_ok-keys.ensures.empty)
     (chain_index-none c.args.entries chains.count free.items spots c.in_ok-free.ensures.len c.in_ok-free.ensures.places (λ k. ap spot (c.in_ok-chains.ensures.empty k)))
 

@@ -1,12 +1,26 @@
-use Rattle.std.proofs.Common.{◌≡◌, Some, sym, ap, ◌∙◌}
-use Rattle.slab.specs.Slab.{get}
-use Rattle.map_indexes.specs.declared.chains.Link.{Link}
+use Rattle.std.proofs.Common.{◌≡◌, ℕ, List, Option, Some, None, refl, sym, ap, ◌∙◌}
+use Rattle.std.specs.Prelude.{IfSome}
+use Rattle.std.specs.FinMap as map
+use Rattle.map_indexes.specs.Slots.{Slots, places}
+use Rattle.map_indexes.specs.Chains.{spot, link_in}
+use Rattle.map_indexes.specs.ChainIndexes.{IsChainIndex, HasKey}
+use Rattle.map_indexes.proofs.ChainLaws.{link_in-is}
 use Rattle.map_indexes.proofs.ChainIndexesLaws.{found}
 use Rattle.map_indexes.proofs.chained.ChainIndexIndex.find.Goals as goal
+
+-- the number of a link is its place
+placed : (slots : Slots) (free : List ℕ) (count : ℕ) (chains nexts : List (Option ℕ))
+    → IsChainIndex slots free count (λ k. spot (link_in chains nexts k))
+    → (key : List ℕ) (at : Option ℕ) → IfSome at (HasKey slots (link_in chains nexts) key) → (at
+    ≡ None → map.get (places slots) key ≡ None)
+    → at ≡ map.get (places slots) key
+placed slots free count chains nexts is key None has absent = sym (absent refl)
+placed slots free count chains nexts is key (Some k) h absent =
+    ap Some (sym (link_in-is chains nexts k h.link h.there).1) ∙ sym (found slots free count
+    (link_in chains nexts) is key k h)
 
 pub returns : goal.returns
 returns c =
     let s = c.args.self.now in
-    let h = c.in_ok-at.ensures.found in
-    let same : h.link ≡ c.link.result = let f : Some h.link ≡ Some c.link.result = sym h.there ∙ c.link.ensures in cc in
-    ap (λ (x : Link). Some x.place) (sym same) ∙ sym (found s.keys.slots s.free.items s.chains.count (get s.chains.links) s.index c.args.key.now c.in_ok-at.at h)
+    placed s.keys.slots s.free.items s.chains.count s.chains.chains s.chains.nexts s.index
+    c.args.key.now c.find_link.result c.find_link.ensures.found c.find_link.ensures.absent

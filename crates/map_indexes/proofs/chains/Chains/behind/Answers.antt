@@ -1,42 +1,64 @@
-use Rattle.std.proofs.Common.{◌≡◌, Option, ◌<◌, refl, sym, subst, ◌∙◌, arith}
-use Rattle.std.specs.Prelude.{IsSome}
-use Rattle.slab.specs.Slab.{get}
+use Rattle.std.proofs.Common.{◌≡◌, ℕ, length, Option, Some, ◌<◌, ◌∙◌, sym, subst, arith}
 use Rattle.map_indexes.specs.declared.chains.Link.{Link}
 use Rattle.map_indexes.proofs.LastBelowLaws.{last_is}
-use Rattle.map_indexes.specs.Chains.{in_chain, height}
-use Rattle.map_indexes.proofs.ChainLaws.{limit, link_of, stands, passed_next, lower}
+use Rattle.map_indexes.specs.Chains.{in_chain, link_in, height}
+use Rattle.map_indexes.proofs.ChainLaws.{limit, link_of, link_in-is, Passed, stands, passed_next, lower}
 use Rattle.map_indexes.proofs.chains.Chains.behind.Goals as goal
+use Rattle.map_indexes.proofs.chains.Chains.behind.Goals.{In-Some}
+
+-- the link that the loop is at
+here : (c : In-Some) → (l : Link) × (link_in c.args.self.now.chains c.args.self.now.nexts
+    c.in-Some.k ≡ Some l)
+here c =
+    let s = c.args.self.now in
+    let links = link_in s.chains s.nexts in
+    let i = c.loop-next.invariant in
+    let r = last_is (in_chain links c.args.chain) (limit
+    (length s.chains) c.loop-next.from) c.in-Some.k (sym i.is ∙ c.in-Some.is) in
+    let t = link_of links c.args.chain c.in-Some.k r.1 in
+    (t.0, t.1)
 
 pub returns-then-k-at : goal.returns-then-k-at
 returns-then-k-at c =
     let s = c.args.self.now in
-    stands s.links.capacity (get s.links) c.args.chain c.args.at s.chained.within c.loop-next.from c.loop-next.next c.loop-next.invariant
+    stands (length s.chains) (link_in s.chains s.nexts) c.args.chain c.args.at s.chained.within
+    c.loop-next.from c.loop-next.next c.loop-next.invariant
     (λ k e. let f = c.in-Some.is in let same : c.in-Some.k ≡ k = cc in let l = c.if-k-at.true in omega arith)
 
-pub index-requires : goal.index-requires
-index-requires c =
+pub at-next-requires : goal.at-next-requires
+at-next-requires c =
     let s = c.args.self.now in
-    let i = c.loop-next.invariant in
-    let r = last_is (in_chain (get s.links) c.args.chain) (limit s.links.capacity c.loop-next.from) c.in-Some.k (sym i.is ∙ c.in-Some.is) in
-    let t = link_of (get s.links) c.args.chain c.in-Some.k r.1 in
-    subst (λ (o : Option Link). IsSome o) (sym t.1) refl
+    let h = here (goal.at.at-next-requires c).In-Some in
+    let w = s.chained.within c.in-Some.k h.0 h.1 in
+    let n = s.whole in
+    omega arith
 
 pub loop-next-smaller : goal.loop-next-smaller
 loop-next-smaller c =
     let s = c.args.self.now in
-    let l = c.index.result.now in
-    subst (λ (o : Option _). height l.next < height o) (sym c.in-Some.is)
-    (lower (in_chain (get s.links) l.chain) c.in-Some.k l.next (s.chained.falls c.in-Some.k l c.index.ensures))
+    let links = link_in s.chains s.nexts in
+    let h = here (goal.at.loop-next-smaller c).In-Some in
+    let next = c.at-next.ensures ∙ sym (link_in-is s.chains s.nexts c.in-Some.k h.0 h.1).2 in
+    subst (λ (o : Option _). height c.at-next.result < height o) (sym c.in-Some.is)
+    (lower (in_chain links h.0.chain) c.in-Some.k c.at-next.result (next
+    ∙ s.chained.falls c.in-Some.k h.0 h.1))
 
 pub loop-next-preserved : goal.loop-next-preserved
 loop-next-preserved c =
     let s = c.args.self.now in
+    let links = link_in s.chains s.nexts in
     let i = c.loop-next.invariant in
-    passed_next s.links.capacity (get s.links) c.args.chain c.args.at s.chained.falls (limit s.links.capacity c.loop-next.from) c.in-Some.k c.index.result.now
-    (sym c.in-Some.is ∙ i.is) c.index.ensures c.if-k-at.false
+    let h = here (goal.at.loop-next-preserved c).In-Some in
+    let next = c.at-next.ensures ∙ sym (link_in-is s.chains s.nexts c.in-Some.k h.0 h.1).2 in
+    subst (λ (o : Option ℕ). Passed (length s.chains) links c.args.chain c.args.at
+    (Some c.in-Some.k) o) (sym next)
+    (passed_next (length s.chains) links c.args.chain c.args.at s.chained.falls (limit
+    (length s.chains) c.loop-next.from) c.in-Some.k h.0
+    (sym c.in-Some.is ∙ i.is) h.1 c.if-k-at.false)
 
 pub returns : goal.returns
 returns c =
     let s = c.args.self.now in
-    stands s.links.capacity (get s.links) c.args.chain c.args.at s.chained.within c.loop-next.from c.loop-next.next c.loop-next.invariant
+    stands (length s.chains) (link_in s.chains s.nexts) c.args.chain c.args.at s.chained.within
+    c.loop-next.from c.loop-next.next c.loop-next.invariant
     (λ k e. let f = c.in_default.is in absurd (cc))

@@ -1,0 +1,7 @@
+-- Numbers, or none, as codes.
+use Rattle.std.proofs.Common.{ℕ, zero, suc, Option, Some, None}
+
+-- a code is one more than its number, or 0
+abbrev pub number_of : ℕ → Option ℕ
+number_of zero = None
+number_of (suc n) = Some n
