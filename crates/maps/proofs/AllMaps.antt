@@ -68,10 +68,12 @@ module _ (maps : List MapState) (stores : List EitherStore) (view : map state st
   others-set x = map-set state stores i x ∙ (λ k. slice_set (view k) i (sym (map_at-set x) k))
 
   -- what is so of a store before and after a change is so of that map
-  pub changed : (Is : MapState → MapState → Type 0) (x t : EitherStore) → x ≡ slice_index_or stores i x → Is (state x) (state t)
+  pub changed : (Is : MapState → MapState → Type 0) (x t : EitherStore)
+      → x ≡ slice_index_or stores i x → Is (state x) (state t)
       → Is (map_at maps i) (map_at (map state (slice_set stores i t)) i)
   changed Is x t e change =
-      subst (λ (m : MapState). Is m (map_at (map state (slice_set stores i t)) i)) (sym (map_at-state x e))
+      subst (λ (m : MapState). Is m (map_at (map state (slice_set stores i t)) i))
+      (sym (map_at-state x e))
       (subst (λ (n : MapState). Is (state x) n) (sym (map_at-set t)) change)
 
   -- and so does one with only its block written

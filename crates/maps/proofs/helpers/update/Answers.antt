@@ -54,7 +54,8 @@ returns-in-Some-clause-content g c =
     let t = c.write.new.self in
     let P' = g.S.MapStore.places t in
     let B' : List ℕ = g.S.MapStore.block t in
-    let here : get P key ≡ Some c.in-Some.place = sym c.test_update-found.ensures.found ∙ c.in-Some.is in
+    let here : get P key ≡ Some c.in-Some.place =
+    sym c.test_update-found.ensures.found ∙ c.in-Some.is in
     let w = writes_present row P B key P' B' value c.in-Some.place here c.write.ensures.places
     c.write.ensures.block in
     content-updates row P B key P' B' value c.args.flags c.test_update-found.result.answer
