@@ -10,7 +10,8 @@ use Rattle.walks.specs.declared.refusals.Refusal.{Refusal}
 use Rattle.walks.specs.declared.refusals.Refusal.TheVariants.{Flow, Step, Repeats, TooLong, Memory}
 use Rattle.walks.specs.Walks.{StepsTo}
 use Rattle.walks.specs.Refused.{StopsAt}
-use Rattle.explorer.specs.Explained.{IsLed, IsTurnBefore, Explains}
+use Rattle.explorer.specs.Explained.{IsLed, IsTurnBefore, ComesThrough, Explains}
+use Rattle.explorer.specs.Explained.ComesThrough.{AtStart, AfterOne}
 use Rattle.explorer.specs.Listening.{ComesTo, StopsIn, IsToStop, EndsIn}
 use Rattle.explorer.specs.declared.turns.Turns.{Turns}
 use Rattle.explorer.specs.Turns.{AreOn}
@@ -77,6 +78,13 @@ LedAt-last p path slots s k way are count h =
     let same : length slots ≡ length (s ∷ path) = ap (λ (xs : List ℕ). length xs) are ∙ length-slots (s ∷ path) in
     h.led [] path s refl (omega (arith, count, same))
 
+-- the slots of a path are those of the walk to its end
+pub came_through : (p : Program) (before : List State) (s : State) → IsWalk p (s ∷ before)
+    → ComesThrough p s (slots_along (s ∷ before))
+came_through p [] s walk = AtStart s _ walk.0 refl
+came_through p (a ∷ before) s walk =
+    AfterOne a s _ _ (came_through p before a walk.1) walk.0 refl
+
 -- ---- what is kept
 
 -- a path came to one more state
@@ -124,7 +132,9 @@ stops_in p tale TooLong slot h known = h
 stops_in p tale Memory slot h known = absurd (known refl)
 
 explains : (p : Program) (tale : List State → State → Type 0) (e : Refusal) (slot : ℕ) (x : Explanation) → StopsAt p e slot → IsToStop p tale e slot
-    → ((before : List State) (s : State) → tale (s ∷ before) s → s.slot ≡ slot → (x.state ≡ s) × IsLed p s x.way.items × IsTurnBefore p s x.earlier) → Explains p e slot x
+    → ((before : List State) (s : State) → tale (s ∷ before) s → s.slot ≡ slot
+    → (x.state ≡ s) × IsLed p s x.way.items × IsTurnBefore p s x.earlier × ComesThrough p s x.slots.items)
+    → Explains p e slot x
 explains p tale e slot x refused h shown =
     let known = shown h.before h.state h.told h.slot_is in
     let same = sym known.0 in
@@ -132,6 +142,7 @@ explains p tale e slot x refused h shown =
       refused = refused;
       led = subst (λ (s : State). IsLed p s x.way.items) same known.1;
       turn = subst (λ (s : State). IsTurnBefore p s x.earlier) same known.2;
+      through = subst (λ (s : State). ComesThrough p s x.slots.items) same known.3;
       at = ap (λ (s : State). s.slot) known.0 ∙ h.slot_is;
       stops = subst (λ (s : State). StopsIn p s e) same h.stops;
     }
@@ -139,7 +150,9 @@ explains p tale e slot x refused h shown =
 -- the search found the refusal, at the slot
 pub explains_by : (p q : Program) (tale : Program → List State → State → Type 0) (found e : Refusal) (at slot : ℕ) (x : Explanation) → p ≡ q → found ≡ e → at ≡ slot → (e ≡ Memory → ⊥)
     → StopsAt p found at → EndsIn p (tale p) found at
-    → ((r : Program) (before : List State) (s : State) → tale r (s ∷ before) s → s.slot ≡ slot → (x.state ≡ s) × IsLed r s x.way.items × IsTurnBefore r s x.earlier) → Explains q e slot x
+    → ((r : Program) (before : List State) (s : State) → tale r (s ∷ before) s → s.slot ≡ slot
+    → (x.state ≡ s) × IsLed r s x.way.items × IsTurnBefore r s x.earlier × ComesThrough r s x.slots.items)
+    → Explains q e slot x
 explains_by p q tale found e at slot x same is here known stops ends shown =
     let refused = subst (λ k. StopsAt p e k) here (subst (λ r. StopsAt p r at) is stops) in
     let stopped = subst (λ k. EndsIn p (tale p) e k) here (subst (λ r. EndsIn p (tale p) r at) is ends) in

@@ -38,11 +38,20 @@ abbrev pub IsTurnBefore : Program → State → Option State → Type 0
 IsTurnBefore p s None = Unit {0}
 IsTurnBefore p s (Some e) = (e.slot ≡ s.slot) × ((more : ℕ) × HasPath p (suc more) e s)
 
--- the program is refused so, at the slot; the abstract state there, that of the turn before, and
--- the last jumps of a path to it
+-- a walk from the start reaches the state, and these are the slots of its states, the first one
+-- first
+pub data ComesThrough (p : Program) : State → List ℕ → Type 0 where
+  AtStart : (s : State) (slots : List ℕ) → Forgets p start s → slots ≡ s.slot ∷ []
+      → ComesThrough p s slots
+  AfterOne : (a s : State) (before slots : List ℕ) → ComesThrough p a before → StepsTo p a s
+      → slots ≡ before ++ s.slot ∷ [] → ComesThrough p s slots
+
+-- the program is refused so, at the slot; the abstract state there, that of the turn before, the
+-- last jumps of a path to it, and all slots of one
 pub record Explains (p : Program) (e : Refusal) (slot : ℕ) (x : Explanation) : Type 0 where
   pub refused : StopsAt p e slot
   pub led : IsLed p x.state x.way.items
   pub turn : IsTurnBefore p x.state x.earlier
+  pub through : ComesThrough p x.state x.slots.items
   pub at : x.state.slot ≡ slot
   pub stops : StopsIn p x.state e

@@ -4,7 +4,7 @@ ghost use Rattle.std.specs.Prelude.{◌≡◌, ◌<◌, [], ◌∷◌, ◌++◌,
 ghost use Rattle.isa_model.specs.Code.Instructions.{Program};
 ghost use Rattle.stack_state.specs.declared.states.State.{State as TheState};
 ghost use Rattle.walks.specs.Walks.{StepsTo};
-ghost use Rattle.explorer.specs.Explained.{IsLed, IsTurnBefore, Explains};
+ghost use Rattle.explorer.specs.Explained.{IsLed, IsTurnBefore, ComesThrough, Explains};
 ghost use Rattle.explorer.specs.Followed.{HasFollowed};
 
 use crate::kept::Kept;
@@ -39,6 +39,8 @@ pub struct Explanation {
     pub earlier: Option<State>,
     /// The last jumps on the way there.
     pub way: ArrayVec<Jump, 8>,
+    /// The slots of all states on the way there, the first one first.
+    pub slots: Vec<usize>,
     /// Whether the limit of look-ups or of stored states was reached: from then on states were not
     /// compared, and each was explored as a new one.
     pub is_cut_off: bool,
@@ -119,7 +121,7 @@ impl<'a> Follower<'a> {
             → HasFollowed self.entry.image.now self.entry.slots.items self.entry.slot
             self.entry.turns p (s ∷ before) s
             → s.slot ≡ slot → (x.state ≡ s) × IsLed p s x.way.items
-            × IsTurnBefore p s x.earlier) }
+            × IsTurnBefore p s x.earlier × ComesThrough p s x.slots.items) }
     {
         if slot != self.slot {
             return None;
@@ -139,6 +141,7 @@ impl<'a> Follower<'a> {
             state,
             earlier,
             way,
+            slots: self.slots,
             is_cut_off,
         })
     }

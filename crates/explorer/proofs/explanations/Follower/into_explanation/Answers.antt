@@ -1,9 +1,9 @@
 use Rattle.std.proofs.Common.{◌≡◌, ◌∙◌, ◌-◌, ◌<◌, ◌≤◌, ◌∷◌, Some, length, arith, rules, sym, ap, subst}
 use Rattle.std.specs.Prelude.{slice_get}
 use Rattle.std.proofs.lemmas.Option.{slice_get-get_or}
-use Rattle.explorer.specs.Explained.{IsLed}
+use Rattle.explorer.specs.Explained.{IsLed, ComesThrough}
 use Rattle.explorer.specs.Followed.{HasFollowed}
-use Rattle.explorer.proofs.Following.{slots_some, LedAt-first, LedAt-next, LedAt-last, count_of}
+use Rattle.explorer.proofs.Following.{slots_some, LedAt-first, LedAt-next, LedAt-last, count_of, came_through}
 use Rattle.explorer.proofs.Turning.{earlier_found, turn_before}
 use Rattle.explorer.proofs.explanations.Follower.into_explanation.Goals as goal
 
@@ -37,4 +37,5 @@ returns c = λ p before s h at.
       search rules,
       subst (λ q. IsLed q s way) h.program (LedAt-last image before slots s k way h.slots_are count (c.loop-index.invariant (s ∷ before) s own)),
       turn_before p s before c.into_earlier-earlier.result h.walk further,
+      subst (ComesThrough p s) (sym h.slots_are) (came_through p before s h.walk),
     )
