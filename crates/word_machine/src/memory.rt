@@ -4,16 +4,16 @@ ghost use Rattle.std.specs.Prelude.{◌≡◌, ◌+◌, ◌-◌, ◌*◌, ◌/�
 ghost use Rattle.isa_model.specs.Code.Limits.{max_packet, max_call_frames, max_value_size};
 ghost use Rattle.isa_model.specs.Code.Numbers.{bytes_of, number_from};
 ghost use Rattle.isa_model.specs.Code.Sizes.{size_bytes};
-ghost use Rattle.isa_model.specs.declared.sizes.Size.TheVariants.{U8, U16, U32, U64};
 ghost use Rattle.word_machine.specs.Addresses.{frames_size};
-ghost use Rattle.word_machine.specs.Words.{IsInside, CanLoad, spot_of, get, word_from, number_at, packet_after, frames_after, maps_after, context_word};
-ghost use Rattle.word_machine.specs.Machine.{words_of, seen, Rests};
+ghost use Rattle.word_machine.specs.Words.{IsInside, CanLoad, spot_of, get, word_from, number_at, context_word};
+ghost use Rattle.word_machine.specs.Machine.{words_of, seen, Writes};
 
 use crate::addresses::{
     CONTEXT, CONTEXT_REGION, FRAMES, FRAMES_SIZE, PACKET, PACKET_REGION, block_index, block_map,
     frame_index, packet_index, region_of,
 };
 use crate::room::{Room, zeros};
+use crate::sizes;
 use isa_model::{MAX_CALL_FRAMES, Size};
 use maps::Maps;
 use std::alloc::{AllocError, Global};
@@ -58,70 +58,6 @@ impl Memory {
             maps,
             room,
         })
-    }
-}
-
-/// The byte at an address.
-#[inline(always)]
-pub fn get8(memory: &Memory, packet: &[u8], address: u64) -> u64
-    requires { IsInside (words_of 0 [] memory.now packet.now 0) (spot_of address) 1 }
-    ensures { result ≡ number_at (words_of 0 [] memory.now packet.now 0) U8 address }
-{
-    if region_of(address) == PACKET_REGION {
-        u64::from(flatmem::get8(packet, packet_index(address)))
-    } else if address >= FRAMES {
-        u64::from(flatmem::get8(memory.frames.as_slice(), frame_index(address)))
-    } else {
-        let block = memory.maps.block(block_map(address));
-        u64::from(flatmem::get8(block, block_index(address)))
-    }
-}
-
-/// The two bytes at an address.
-#[inline(always)]
-pub fn get16(memory: &Memory, packet: &[u8], address: u64) -> u64
-    requires { IsInside (words_of 0 [] memory.now packet.now 0) (spot_of address) 2 }
-    ensures { result ≡ number_at (words_of 0 [] memory.now packet.now 0) U16 address }
-{
-    if region_of(address) == PACKET_REGION {
-        u64::from(flatmem::get16(packet, packet_index(address)))
-    } else if address >= FRAMES {
-        u64::from(flatmem::get16(memory.frames.as_slice(), frame_index(address)))
-    } else {
-        let block = memory.maps.block(block_map(address));
-        u64::from(flatmem::get16(block, block_index(address)))
-    }
-}
-
-/// The four bytes at an address.
-#[inline(always)]
-pub fn get32(memory: &Memory, packet: &[u8], address: u64) -> u64
-    requires { IsInside (words_of 0 [] memory.now packet.now 0) (spot_of address) 4 }
-    ensures { result ≡ number_at (words_of 0 [] memory.now packet.now 0) U32 address }
-{
-    if region_of(address) == PACKET_REGION {
-        u64::from(flatmem::get32(packet, packet_index(address)))
-    } else if address >= FRAMES {
-        u64::from(flatmem::get32(memory.frames.as_slice(), frame_index(address)))
-    } else {
-        let block = memory.maps.block(block_map(address));
-        u64::from(flatmem::get32(block, block_index(address)))
-    }
-}
-
-/// The eight bytes at an address.
-#[inline(always)]
-pub fn get64(memory: &Memory, packet: &[u8], address: u64) -> u64
-    requires { IsInside (words_of 0 [] memory.now packet.now 0) (spot_of address) 8 }
-    ensures { result ≡ number_at (words_of 0 [] memory.now packet.now 0) U64 address }
-{
-    if region_of(address) == PACKET_REGION {
-        flatmem::get64(packet, packet_index(address))
-    } else if address >= FRAMES {
-        flatmem::get64(memory.frames.as_slice(), frame_index(address))
-    } else {
-        let block = memory.maps.block(block_map(address));
-        flatmem::get64(block, block_index(address))
     }
 }
 
@@ -201,93 +137,6 @@ pub fn field(memory: &Memory, packet: &[u8], address: u64) -> u64
     }
 }
 
-/// Writes the byte at an address.
-#[inline(always)]
-pub fn put8(memory: &mut Memory, packet: &mut [u8], address: u64, number: u64)
-    requires { IsInside (words_of 0 [] memory.old packet.old 0) (spot_of address) 1 }
-    ensures packet { packet.new ≡ packet_after (spot_of address) (bytes_of U8 number) packet.old }
-    ensures frames { memory.new.frames.items
-        ≡ frames_after (spot_of address) (bytes_of U8 number) memory.old.frames.items }
-    ensures maps { memory.new.maps
-        ≡ maps_after (spot_of address) (bytes_of U8 number) memory.old.maps }
-    ensures rest { Rests memory.old memory.new }
-{
-    let byte = (number % 0x100) as u8;
-    if region_of(address) == PACKET_REGION {
-        flatmem::put8(packet, packet_index(address), byte);
-    } else if address >= FRAMES {
-        flatmem::put8(memory.frames.as_mut_slice(), frame_index(address), byte);
-    } else {
-        let block = memory.maps.block_mut(block_map(address));
-        flatmem::put8(block, block_index(address), byte);
-    }
-}
-
-/// Writes the two bytes at an address.
-#[inline(always)]
-pub fn put16(memory: &mut Memory, packet: &mut [u8], address: u64, number: u64)
-    requires { IsInside (words_of 0 [] memory.old packet.old 0) (spot_of address) 2 }
-    ensures packet { packet.new ≡ packet_after (spot_of address) (bytes_of U16 number) packet.old }
-    ensures frames { memory.new.frames.items
-        ≡ frames_after (spot_of address) (bytes_of U16 number) memory.old.frames.items }
-    ensures maps { memory.new.maps
-        ≡ maps_after (spot_of address) (bytes_of U16 number) memory.old.maps }
-    ensures rest { Rests memory.old memory.new }
-{
-    let half = (number % 0x1_0000) as u16;
-    if region_of(address) == PACKET_REGION {
-        flatmem::put16(packet, packet_index(address), half);
-    } else if address >= FRAMES {
-        flatmem::put16(memory.frames.as_mut_slice(), frame_index(address), half);
-    } else {
-        let block = memory.maps.block_mut(block_map(address));
-        flatmem::put16(block, block_index(address), half);
-    }
-}
-
-/// Writes the four bytes at an address.
-#[inline(always)]
-pub fn put32(memory: &mut Memory, packet: &mut [u8], address: u64, number: u64)
-    requires { IsInside (words_of 0 [] memory.old packet.old 0) (spot_of address) 4 }
-    ensures packet { packet.new ≡ packet_after (spot_of address) (bytes_of U32 number) packet.old }
-    ensures frames { memory.new.frames.items
-        ≡ frames_after (spot_of address) (bytes_of U32 number) memory.old.frames.items }
-    ensures maps { memory.new.maps
-        ≡ maps_after (spot_of address) (bytes_of U32 number) memory.old.maps }
-    ensures rest { Rests memory.old memory.new }
-{
-    let word = (number % 0x1_0000_0000) as u32;
-    if region_of(address) == PACKET_REGION {
-        flatmem::put32(packet, packet_index(address), word);
-    } else if address >= FRAMES {
-        flatmem::put32(memory.frames.as_mut_slice(), frame_index(address), word);
-    } else {
-        let block = memory.maps.block_mut(block_map(address));
-        flatmem::put32(block, block_index(address), word);
-    }
-}
-
-/// Writes the eight bytes at an address.
-#[inline(always)]
-pub fn put64(memory: &mut Memory, packet: &mut [u8], address: u64, number: u64)
-    requires { IsInside (words_of 0 [] memory.old packet.old 0) (spot_of address) 8 }
-    ensures packet { packet.new ≡ packet_after (spot_of address) (bytes_of U64 number) packet.old }
-    ensures frames { memory.new.frames.items
-        ≡ frames_after (spot_of address) (bytes_of U64 number) memory.old.frames.items }
-    ensures maps { memory.new.maps
-        ≡ maps_after (spot_of address) (bytes_of U64 number) memory.old.maps }
-    ensures rest { Rests memory.old memory.new }
-{
-    if region_of(address) == PACKET_REGION {
-        flatmem::put64(packet, packet_index(address), number);
-    } else if address >= FRAMES {
-        flatmem::put64(memory.frames.as_mut_slice(), frame_index(address), number);
-    } else {
-        let block = memory.maps.block_mut(block_map(address));
-        flatmem::put64(block, block_index(address), number);
-    }
-}
-
 /// The number of this size at an address.
 #[inline(always)]
 pub fn get(size: Size, memory: &Memory, packet: &[u8], address: u64) -> u64
@@ -295,11 +144,13 @@ pub fn get(size: Size, memory: &Memory, packet: &[u8], address: u64) -> u64
         (size_bytes size) }
     ensures { result ≡ number_at (words_of 0 [] memory.now packet.now 0) size address }
 {
-    match size {
-        Size::U8 => get8(memory, packet, address),
-        Size::U16 => get16(memory, packet, address),
-        Size::U32 => get32(memory, packet, address),
-        Size::U64 => get64(memory, packet, address),
+    if region_of(address) == PACKET_REGION {
+        sizes::get(size, packet, packet_index(address))
+    } else if address >= FRAMES {
+        sizes::get(size, memory.frames.as_slice(), frame_index(address))
+    } else {
+        let block = memory.maps.block(block_map(address));
+        sizes::get(size, block, block_index(address))
     }
 }
 
@@ -308,18 +159,17 @@ pub fn get(size: Size, memory: &Memory, packet: &[u8], address: u64) -> u64
 pub fn put(size: Size, memory: &mut Memory, packet: &mut [u8], address: u64, number: u64)
     requires { IsInside (words_of 0 [] memory.old packet.old 0) (spot_of address)
         (size_bytes size) }
-    ensures packet { packet.new ≡ packet_after (spot_of address) (bytes_of size number) packet.old }
-    ensures frames { memory.new.frames.items
-        ≡ frames_after (spot_of address) (bytes_of size number) memory.old.frames.items }
-    ensures maps { memory.new.maps
-        ≡ maps_after (spot_of address) (bytes_of size number) memory.old.maps }
-    ensures rest { Rests memory.old memory.new }
+    ensures { Writes (spot_of address) (bytes_of size number)
+        memory.old memory.new packet.old packet.new }
 {
-    match size {
-        Size::U8 => put8(memory, packet, address, number),
-        Size::U16 => put16(memory, packet, address, number),
-        Size::U32 => put32(memory, packet, address, number),
-        Size::U64 => put64(memory, packet, address, number),
+    if region_of(address) == PACKET_REGION {
+        sizes::put(size, packet, packet_index(address), number);
+    } else if address >= FRAMES {
+        let frames = memory.frames.as_mut_slice();
+        sizes::put(size, frames, frame_index(address), number);
+    } else {
+        let block = memory.maps.block_mut(block_map(address));
+        sizes::put(size, block, block_index(address), number);
     }
 }
 
