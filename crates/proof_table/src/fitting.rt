@@ -16,7 +16,7 @@ use table_entries::frames::frame_allowed;
 
 // ---- values; `rows` is how many map rows there are, `holder` the frame that holds the value
 
-// only for the proof: the fields of a number are of their widths
+// Recalls that the fields of a number are of their widths, for the proof. It does nothing.
 fn number_fits(numbers: Scalar)
     ensures { ScalarFits numbers }
 {

@@ -88,8 +88,7 @@ fn write_entries<W: Write>(
     ensures err { OnErr result
         (BeginsEntries image.now count (W.contents writer.old) (W.contents writer.new)) }
 {
-    // only for the proof: this call says that the program is an image's
-    let _slots = image.slots();
+    image.recall();
     let mut state = State::start();
     for index in 0..count {
         let Some(entry) = explored.entry(index) else {
@@ -131,8 +130,7 @@ pub fn write_table<W: Write>(
         (BeginsTable verified.now.program (W.contents writer.old) (W.contents writer.new)) }
 {
     let image = verified.image();
-    // only for the proof: this call says that the program is an image's
-    let _slots = image.slots();
+    image.recall();
     let explored = match explore(alloc, image) {
         Ok(explored) => explored,
         Err((refusal, _)) => return Err(error_of(refusal)),

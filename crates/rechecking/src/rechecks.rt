@@ -88,8 +88,7 @@ fn bound_of(alloc: Global, image: &Image, bytes: &[u8]) -> Result<u32, TableErro
     ensures shown { IfOk result (ShowsBound image.now bytes.now) }
     ensures refused { IfErr result (TableIsRefused image.now bytes.now) }
 {
-    // only for the proof: this call says that the program is an image's
-    let _slots = image.slots();
+    image.recall();
     if let Some(number) = quick_bound(alloc, image, bytes) {
         return Ok(number);
     }

@@ -11,13 +11,13 @@ use Rattle.proof_table.proofs.WritingLaws.{GainsTable-entries, BeginsTable-entri
 use Rattle.proof_table.proofs.tables.write_table.Goals as goal
 
 pub returns-in-Err-clause-err : goal.returns-in-Err-clause-err
-returns-in-Err-clause-err g c = BeginsTable-nothing c.args.verified.now.program _ (subst IsImage c.image-image.ensures.program c.slots-slots.ensures.fits)
+returns-in-Err-clause-err g c = BeginsTable-nothing c.args.verified.now.program _ (subst IsImage c.image-image.ensures.program c.recall.ensures)
 
 pub returns-then-count-eq0-clause-err : goal.returns-then-count-eq0-clause-err
-returns-then-count-eq0-clause-err g c = BeginsTable-nothing c.args.verified.now.program _ (subst IsImage c.image-image.ensures.program c.slots-slots.ensures.fits)
+returns-then-count-eq0-clause-err g c = BeginsTable-nothing c.args.verified.now.program _ (subst IsImage c.image-image.ensures.program c.recall.ensures)
 
 pub returns-in_default-clause-err : goal.returns-in_default-clause-err
-returns-in_default-clause-err g c = BeginsTable-nothing c.args.verified.now.program _ (subst IsImage c.image-image.ensures.program c.slots-slots.ensures.fits)
+returns-in_default-clause-err g c = BeginsTable-nothing c.args.verified.now.program _ (subst IsImage c.image-image.ensures.program c.recall.ensures)
 
 pub returns-in_err-write_all-clause-err : goal.returns-in_err-write_all-clause-err
 returns-in_err-write_all-clause-err g c =
@@ -25,7 +25,7 @@ returns-in_err-write_all-clause-err g c =
     let part = subst (λ (l : List ℕ). AppendsBeginning (g.W.Write.contents c.args.writer.now) (g.W.Write.contents c.write_all.new.writer) l) c.head_bytes.ensures
     c.in_err-write_all.ensures.err in
     on_err _ c.from_residual.result
-    (BeginsTable-head p c.len-count.result _ _ (subst IsImage c.image-image.ensures.program c.slots-slots.ensures.fits) (omega arith) (omega arith) part)
+    (BeginsTable-head p c.len-count.result _ _ (subst IsImage c.image-image.ensures.program c.recall.ensures) (omega arith) (omega arith) part)
 
 pub returns-clause-ok : goal.returns-clause-ok
 returns-clause-ok g c =
