@@ -1,7 +1,8 @@
 #!/usr/bin/env python3
 """Compares a step of `run` and of `trace` with one of a plain interpreter in C (bench/switch.c, gcc -O2), on nine
 programs: by processor seconds, less the start and those of a program that exits at once, on the same frames. The same
-interpreter is also built with computed goto, as a column of its own.
+interpreter is also built with computed goto, as a column of its own, and so is DPDK's interpreter, where pkg-config knows
+DPDK (libdpdk, Debian's libdpdk-dev). Its loader refuses loops, so most programs have no figure there.
 
 usage: python3 bench/speed.py PROGRAM [PROGRAM ..]
 
@@ -23,6 +24,7 @@ TIMES = int(os.environ.get("TIMES", "8"))
 PADS = [0, 16, 32, 48]
 # How each interpreter in C is built. Without the two flags gcc makes one jump of many of the computed ones.
 INTERPRETERS = {"switch": ["-O2"], "goto": ["-O2", "-fno-gcse", "-fno-crossjumping", "-DGOTO"]}
+REFUSED = 3
 
 IDLE = "r0 = 1\nexit\n"
 
@@ -210,11 +212,37 @@ def plain(count):
     return b"XPF1" + (struct.pack("<QIII", 0, 1, 0, 60) + bytes(60)) * count
 
 
+def packaged(what):
+    """What pkg-config says of DPDK, as words for gcc, or None where it does not know it."""
+    try:
+        ended = subprocess.run(["pkg-config", what, "libdpdk"], stdout=subprocess.PIPE, stderr=subprocess.DEVNULL, text=True)
+    except FileNotFoundError:
+        return None
+    return ended.stdout.split() if ended.returncode == 0 else None
+
+
+def built():
+    """Builds the interpreters in C, each in all layouts, and answers their names."""
+    kinds = {kind: (flags, []) for kind, flags in INTERPRETERS.items()}
+    flags, libraries = packaged("--cflags"), packaged("--libs")
+    if flags is None or libraries is None:
+        print("pkg-config knows no libdpdk: the column of DPDK's interpreter is left out", flush=True)
+    else:
+        kinds["dpdk"] = (["-O2", "-DDPDK", *flags], libraries)
+    for kind, (flags, libraries) in kinds.items():
+        for pad in PADS:
+            words = ["gcc", *flags, f"-DPAD={pad + 1}", "-o", f"{kind}{pad}", os.path.join(HERE, "switch.c"), *libraries]
+            subprocess.run(words, check=True)
+    return list(kinds)
+
+
 def processor(words):
-    """The processor seconds of a command, and its output's last words."""
+    """The processor seconds of a command, and its output."""
     before = resource.getrusage(resource.RUSAGE_CHILDREN)
     ended = subprocess.run(words, stdout=subprocess.PIPE, stderr=subprocess.PIPE, text=True)
     after = resource.getrusage(resource.RUSAGE_CHILDREN)
+    if words[0].startswith("./dpdk") and ended.returncode == REFUSED:
+        return 0, None
     if ended.returncode != 0:
         sys.exit(f"{' '.join(words)}: {ended.returncode} {ended.stdout[-200:]} {ended.stderr}")
     return after.ru_utime + after.ru_stime - before.ru_utime - before.ru_stime, ended.stdout
@@ -241,34 +269,40 @@ def frames_of(best, way):
     return whole - ready - (idle - idle_ready)
 
 
-def compared(name, text, stream):
+def compared(kinds, name, text, stream):
     assembled("p", text)
     with open("p.frames", "wb") as file:
         file.write(stream)
-    best, counts = {}, set()
+    best, counts, sums = {}, set(), set()
 
     def took(key, seconds):
         best[key] = min(best.get(key, 1e9), seconds)
 
     for _ in range(TIMES):
-        for kind in INTERPRETERS:
+        for kind in kinds:
             for pad in PADS:
-                steps, seconds, _ = processor([f"./{kind}{pad}", "p.image", "p.frames", "1"])[1].split()
+                told = processor([f"./{kind}{pad}", "p.image", "p.frames", "1"])[1]
+                if told is None:
+                    continue
+                steps, seconds, results = told.split()
                 took(kind, float(seconds))
-                counts.add(int(steps))
+                sums.add(int(results))
+                if kind != "dpdk":
+                    counts.add(int(steps))
         for way in [(command, program) for program in PROGRAMS for command in ["run", "trace"]]:
             for part in PARTS:
                 seconds, report = processor([way[1], way[0], *part, "sent"])
                 took((way, part), seconds)
                 if part == PARTS[0]:
                     counts.add(steps_of(report))
-    if len(counts) != 1:
-        sys.exit(f"{name}: steps {counts}")
+    if len(counts) != 1 or len(sums) != 1:
+        sys.exit(f"{name}: steps {counts}, sums of the results {sums}")
     runs = [frames_of(best, ("run", program)) for program in PROGRAMS]
     traced = min(frames_of(best, ("trace", program)) for program in PROGRAMS)
-    plain_step, jumped = best["switch"] * 1e9 / counts.pop(), best["goto"] / best["switch"]
+    plain_step = best["switch"] * 1e9 / counts.pop()
+    others = "".join(f"{best[kind] / best['switch']:>9.2f}" if kind in best else f"{'-':>9}" for kind in kinds[1:])
     each = " ".join(f"{run / best['switch']:.2f}" for run in runs)
-    print(f"{name:<44}{plain_step:>7.2f}{jumped:>9.2f}{min(runs) / best['switch']:>9.2f}{traced / min(runs):>11.1f}   {each}", flush=True)
+    print(f"{name:<44}{plain_step:>7.2f}{others}{min(runs) / best['switch']:>9.2f}{traced / min(runs):>11.1f}   {each}", flush=True)
 
 
 def main():
@@ -285,16 +319,14 @@ def main():
     ]
     with tempfile.TemporaryDirectory() as folder:
         os.chdir(folder)
-        for kind, flags in INTERPRETERS.items():
-            for pad in PADS:
-                words = ["gcc", *flags, f"-DPAD={pad + 1}", "-o", f"{kind}{pad}", os.path.join(HERE, "switch.c")]
-                subprocess.run(words, check=True)
+        kinds = built()
         assembled("idle", IDLE)
         with open("none.frames", "wb") as file:
             file.write(plain(0))
-        print(f"{'program':<44}{'C ns':>7}{'goto/C':>9}{'run/C':>9}{'trace/run':>11}   run/C of each build")
+        columns = "".join(f"{kind + '/C':>9}" for kind in kinds[1:])
+        print(f"{'program':<44}{'C ns':>7}{columns}{'run/C':>9}{'trace/run':>11}   run/C of each build")
         for name, text, stream in rows:
-            compared(name, text, stream)
+            compared(kinds, name, text, stream)
         os.chdir("/")
 
 
