@@ -75,6 +75,22 @@ IMAGES = (
     (b"XBP1\0\0\x01\0\x95\x01\0\0\0\0\0\0", "refused I8 slot 0 C4", "slot 0"),
 )
 
+# A program text, the line of `verify`, and what helps.
+PROGRAMS = (
+    (b"r0 = 2\ngoto +3\nexit\n", "refused G1 slot 1", "it leads to slot 5, and the code has slots 0 to 2"),
+    (b"r0 = 2\ngoto -5\nexit\n", "refused G1 slot 1", "it leads to slot -3"),
+    (b"r0 = 2\nif r0 > 1 goto +1\nr1 = 5 ll\nexit\n", "refused G2 slot 1", "the second half of what begins at slot 2"),
+    (b"r0 = 2\nr0 += 1\n", "refused G3 slot 1", "the code ends after it"),
+    (b"call pc+1\nr0 = 0\nexit\n", "refused G3 slot 1", "at slot 2, the function begins that slot 0 calls"),
+    (b"r0 = 2\nexit\nr0 = 1\nexit\n", "refused G4 slot 2", "nor a jump or call leads here"),
+    (b"r0 = 2\nexit\ngoto +0\ngoto -2\n", "refused G4 slot 2", "slot 3 leads here, and is not reached either"),
+    (b"goto +2\ncall pc+1\nexit\nr0 = 2\nexit\n", "refused G5 slot 0",
+     "it leads to slot 3, in the function from slot 3 on (called at slot 1), and is in that from slot 0 on"),
+    (b"r2 = *(u32 *)(r1 + 12)\nr3 = 0\nr3 += 1\nif r3 < r2 goto -2\nr0 = 2\nexit\n", "refused V19 slot 4",
+     "slots 2 to 3 are taken again and again, 250000 times on this path"),
+    (b"r0 = 0\ngoto -1\n", "refused V18 slot 1", "change a register in the loop that its test reads"),
+)
+
 # The bytes of a frame stream, the last line of the report, and what helps.
 STREAMS = (
     (b"\xd4\xc3\xb2\xa1\x02\0\x04\0", "fault F1 at 0", "it is a capture (pcap): frames.py"),
@@ -135,6 +151,11 @@ def rows(folder):
         write("image", content)
         out, err = run("verify", "image")
         yield content, (line, help_line), (out[0], err[-1])
+    for text, line, help_line in PROGRAMS:
+        write("text", text)
+        run("asm", "text", "image")
+        out, err = run("verify", "image")
+        yield text, (line, help_line), (out[0], "\n".join(err))
     for content, line, help_line in STREAMS:
         write("frames", content)
         out, err = run("run", os.path.join(TOP, "examples/pass.image"), "frames", "sent")

@@ -1,10 +1,9 @@
 -- What is said of the entries of a table.
 use Rattle.std.proofs.Common.{◌≡◌, ◌<◌, ◌≤◌, ℕ, suc, List, [], ◌∷◌, Option, Some, None, String, Result, Ok, length, refl, subst, sym, ap, ap₂, ◌∙◌, arith, inl, inr}
-use Rattle.std.specs.Prelude.{IfOk, IfSome, slice_get, ◌⊎◌}
+use Rattle.std.specs.Prelude.{IfOk, IfSome, slice_get}
 use Rattle.std.specs.declared.alloc.Global.{Global}
 use Rattle.std.specs.declared.alloc.AllocError.{AllocError}
 use Rattle.std.specs.String.{string_bytes}
-use Rattle.isa_model.specs.declared.instructions.Insn.{Insn}
 use Rattle.isa_model.specs.Code.Instructions.{Program}
 use Rattle.stack_state.specs.declared.states.State.{State}
 use Rattle.transfer.specs.declared.Ways.{Ways}

@@ -1,2 +1,3 @@
 pub mod Words
 pub mod EntryLaws
+pub mod ReasonLaws

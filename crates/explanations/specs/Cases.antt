@@ -1,5 +1,5 @@
 -- What an instruction needs that is refused, beside what is known: a line for each case.
-use Rattle.std.specs.Prelude.{ℕ, ◌-◌, ◌==◌, ℤ, pos, ◌+ℤ◌, ◌-ℤ◌, List, [], ◌++◌, length, min, max, slice_get, Option, Some, None, Bool, true, false, ◌&&◌, not, codes, decimal, if◌then◌else◌}
+use Rattle.std.specs.Prelude.{ℕ, ◌==◌, ℤ, pos, ◌+ℤ◌, ◌-ℤ◌, List, [], ◌++◌, length, slice_get, Option, Some, None, Bool, true, false, ◌&&◌, not, codes, decimal, if◌then◌else◌}
 use Rattle.std.specs.Fmt.{signed_decimal}
 use Rattle.isa_model.specs.declared.instructions.Insn.{Insn}
 use Rattle.isa_model.specs.declared.instructions.Insn.TheVariants.{Load, LoadSx, StoreConstant, Store, Atomic, Exchange, CompareExchange, CallHelper}
@@ -19,8 +19,7 @@ use Rattle.transfer.specs.HelperCalls.{points_to_bytes}
 use Rattle.transfer.specs.declared.refusals.Refusal.{Refusal as StepRefusal}
 use Rattle.transfer.specs.declared.refusals.Refusal.TheVariants.{UnsetRegister, ReadOnlyRegister, PointerOperand, PointerOffset, NotMemory, StackPlace, StackBytes, PacketBytes, MapValueBytes, NullNotTested, PointerStored, Comparison, HelperArgument, HelperBytes, TooManyFrames, ExitValue, PacketAtomic}
 use Rattle.walks.specs.declared.refusals.Refusal.{Refusal}
-use Rattle.walks.specs.declared.refusals.Refusal.TheVariants.{Step, Repeats, TooLong}
-use Rattle.explorer.specs.declared.explanations.Jump.{Jump}
+use Rattle.walks.specs.declared.refusals.Refusal.TheVariants.{Step, Repeats}
 
 -- ---- places
 
@@ -64,10 +63,14 @@ frame_line span bytes =
     span ++ (codes ", and the first at a multiple of " ++ (decimal bytes ++ codes "; a frame has bytes -512 to -1\n"))
 
 abbrev pub packet_line : (span behind : List ℕ) → (proved : ℕ) → List ℕ
-packet_line span behind proved = span ++ (behind ++ (codes "; " ++ (decimal proved ++ codes " are proved\n")))
+packet_line span behind proved =
+    span ++ (behind ++ (codes "; " ++ (decimal proved ++ codes
+        " are proved: compare a pointer after them with the packet end, or correct the offset\n")))
 
 abbrev pub value_line : (span : List ℕ) → (bytes : ℕ) → List ℕ
-value_line span bytes = span ++ (codes "; the value has " ++ (decimal bytes ++ codes "\n"))
+value_line span bytes =
+    span ++ (codes "; the value has " ++ (decimal bytes
+    ++ codes ": correct the offset, or limit it (r2 &= 7)\n"))
 
 -- what an access needs that is refused for its place, and what there is
 abbrev pub access_line : List MapDef → Kind → Place → Size → List ℕ
@@ -125,7 +128,9 @@ helper_line a i = []
 abbrev pub row_line : ℕ → Option MapDef → List ℕ
 row_line m None = []
 row_line m (Some row) =
-    codes "a key of map " ++ (decimal m ++ (codes " has " ++ (decimal row.key_size ++ (codes " bytes, a value " ++ (decimal row.value_size ++ codes "\n")))))
+    codes "a key of map " ++ (decimal m ++ (codes " has " ++ (decimal row.key_size
+    ++ (codes " bytes, a value " ++ (decimal row.value_size
+    ++ codes ": write all of them to the stack first\n")))))
 
 abbrev pub sizes_by : List MapDef → Kind → List ℕ
 sizes_by rows (kind.Map m) = row_line m (slice_get rows m)
@@ -134,22 +139,13 @@ sizes_by rows k = []
 abbrev pub sizes_line : List MapDef → State → List ℕ
 sizes_line rows a = sizes_by rows (kind_of a R1)
 
--- ---- ends and loops
+-- ---- ends
 
 -- what an exit hands back, by how many callers there are
 abbrev pub exit_line : ℕ → List ℕ
 exit_line callers =
     if callers == 0 then codes "r0 has to be a number: 0 ABORTED, 1 DROP, 2 PASS, 3 TX\n"
     else codes "a function hands back no pointer to its own stack bytes\n"
-
--- the loop that is not explored to its end: the last jump on the way there
-abbrev pub jump_line : Option Jump → List ℕ
-jump_line None = []
-jump_line (Some jump) =
-    codes "slots " ++ (decimal (min jump.from jump.to) ++ (codes " to " ++ (decimal (max jump.from jump.to) ++ codes " are taken again and again: limit what ends that (r2 &= 15)\n")))
-
-abbrev pub loop_line : List Jump → List ℕ
-loop_line way = jump_line (slice_get way (length way - 1))
 
 -- ---- what helps, whatever the state is
 
@@ -169,14 +165,13 @@ cure_line refusal = []
 
 -- ---- cases
 
-abbrev pub case_line : List MapDef → State → Insn → Refusal → List Jump → List ℕ
-case_line rows a i (Step StackPlace) way = place_line rows a i
-case_line rows a i (Step PacketBytes) way = place_line rows a i
-case_line rows a i (Step MapValueBytes) way = place_line rows a i
-case_line rows a i (Step HelperArgument) way = helper_line a i
-case_line rows a i (Step HelperBytes) way = sizes_line rows a
-case_line rows a i (Step ExitValue) way = exit_line (length a.callers.items)
-case_line rows a i (Step refusal) way = cure_line refusal
-case_line rows a i TooLong way = loop_line way
-case_line rows a i Repeats way = codes "change a register in the loop that its test reads\n"
-case_line rows a i e way = []
+abbrev pub case_line : List MapDef → State → Insn → Refusal → List ℕ
+case_line rows a i (Step StackPlace) = place_line rows a i
+case_line rows a i (Step PacketBytes) = place_line rows a i
+case_line rows a i (Step MapValueBytes) = place_line rows a i
+case_line rows a i (Step HelperArgument) = helper_line a i
+case_line rows a i (Step HelperBytes) = sizes_line rows a
+case_line rows a i (Step ExitValue) = exit_line (length a.callers.items)
+case_line rows a i (Step refusal) = cure_line refusal
+case_line rows a i Repeats = codes "change a register in the loop that its test reads\n"
+case_line rows a i e = []

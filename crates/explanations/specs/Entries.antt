@@ -12,7 +12,7 @@ use Rattle.walks.specs.declared.refusals.Refusal.TheVariants as refusal
 use Rattle.table_entries.specs.Entries.{Entry}
 use Rattle.table_entries.specs.Tables.{table_read}
 use Rattle.rechecking.specs.declared.errors.TableError.{TableError}
-use Rattle.rechecking.specs.declared.errors.TableError.TheVariants.{Flow, Fault, Start, Step, Successor}
+use Rattle.rechecking.specs.declared.errors.TableError.TheVariants.{Step, Successor}
 use Rattle.rechecking.specs.Tables.{EntryAt}
 use Rattle.explanations.specs.declared.mismatches.Mismatch.{Mismatch}
 use Rattle.explanations.specs.Lines.{register_lines, answer_line, stack_lines}

@@ -2,7 +2,9 @@ pub mod Numbers
 pub mod Kinds
 pub mod Slots
 pub mod Lines
+pub mod Loops
 pub mod Cases
+pub mod Flows
 pub mod Values
 pub mod Reasons
 pub mod Mismatches

@@ -1,6 +1,6 @@
 //! What an instruction needs that is refused, beside what is known: a line for each case.
 
-ghost use Rattle.std.specs.Prelude.{◌≡◌, ◌-◌, ◌+ℤ◌, IfOk, length, slice_get};
+ghost use Rattle.std.specs.Prelude.{◌≡◌, ◌+ℤ◌, IfOk, slice_get};
 ghost use Rattle.std.specs.Option.{option_copied};
 ghost use Rattle.std.specs.String.{string_bytes};
 ghost use Rattle.isa_model.specs.Code.Helpers.{helper_numbered};
@@ -9,7 +9,7 @@ ghost use Rattle.transfer.specs.HelperCalls.{points_to_bytes};
 ghost use Rattle.explanations.specs.Cases as spec;
 ghost use Rattle.explanations.specs.Cases.{access, needs_words, last_byte, span_words, behind_words, frame_line, packet_line, value_line, is_map, key_line, update_line, argument_line, row_size, exit_line, cure_line};
 
-use explorer::{Jump, Refusal};
+use explorer::Refusal;
 use isa_model::{Helper, Insn, MapDef, Narrow, Place, Reg, Size};
 use reg_state::Kind;
 use stack_state::State;
@@ -116,14 +116,17 @@ fn frame_line(alloc: Global, span: &str, bytes: usize) -> Result<String, AllocEr
 fn packet_line(alloc: Global, span: &str, behind: &str, proved: u32) -> Result<String, AllocError>
     ensures { IfOk result (λ text. string_bytes text ≡ packet_line span.now behind.now proved) }
 {
-    format!(in alloc; "{span}{behind}; {proved} are proved\n")
+    format!(in alloc;
+        "{span}{behind}; {proved} are proved: \
+         compare a pointer after them with the packet end, or correct the offset\n"
+    )
 }
 
 // Which bytes of a value are needed, and how many there are.
 fn value_line(alloc: Global, span: &str, bytes: u32) -> Result<String, AllocError>
     ensures { IfOk result (λ text. string_bytes text ≡ value_line span.now bytes) }
 {
-    format!(in alloc; "{span}; the value has {bytes}\n")
+    format!(in alloc; "{span}; the value has {bytes}: correct the offset, or limit it (r2 &= 7)\n")
 }
 
 // What an access needs that is refused for its place, and what there is.
@@ -258,7 +261,10 @@ fn sizes_line(alloc: Global, maps: &[MapDef], state: &State) -> Result<String, A
         Some(row) => {
             let key = row.key_size;
             let value = row.value_size;
-            format!(in alloc; "a key of map {index} has {key} bytes, a value {value}\n")
+            format!(in alloc;
+                "a key of map {index} has {key} bytes, a value {value}: \
+                 write all of them to the stack first\n"
+            )
         }
         None => Ok(String::new(alloc)),
     }
@@ -272,29 +278,6 @@ fn exit_line(callers: usize) -> &'static str
         "r0 has to be a number: 0 ABORTED, 1 DROP, 2 PASS, 3 TX\n"
     } else {
         "a function hands back no pointer to its own stack bytes\n"
-    }
-}
-
-// The last jump on the way.
-fn last_jump(way: &[Jump]) -> Option<Jump>
-    ensures { result ≡ slice_get way.now (length way.now - 1) }
-{
-    way.last().copied()
-}
-
-// The loop that is not explored to its end: the last jump on the way there.
-fn loop_line(alloc: Global, way: &[Jump]) -> Result<String, AllocError>
-    ensures { IfOk result (λ text. string_bytes text ≡ spec.loop_line way.now) }
-{
-    match last_jump(way) {
-        Some(jump) => {
-            let first = jump.from.min(jump.to);
-            let last = jump.from.max(jump.to);
-            format!(in alloc;
-                "slots {first} to {last} are taken again and again: limit what ends that (r2 &= 15)\n"
-            )
-        }
-        None => Ok(String::new(alloc)),
     }
 }
 
@@ -332,10 +315,9 @@ pub fn case_line(
     state: &State,
     insn: &Insn,
     refusal: Refusal,
-    way: &[Jump],
 ) -> Result<String, AllocError>
     ensures { IfOk result (λ text. string_bytes text
-        ≡ spec.case_line maps.now state.now insn.now refusal way.now) }
+        ≡ spec.case_line maps.now state.now insn.now refusal) }
 {
     match refusal {
         Refusal::Step(
@@ -347,7 +329,6 @@ pub fn case_line(
             String::from_str(alloc, exit_line(state.callers.len()))
         }
         Refusal::Step(step) => String::from_str(alloc, cure_line(step)),
-        Refusal::TooLong => loop_line(alloc, way),
         Refusal::Repeats => {
             String::from_str(alloc, "change a register in the loop that its test reads\n")
         }

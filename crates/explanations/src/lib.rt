@@ -4,8 +4,10 @@
 mod cases;
 mod differences;
 mod entries;
+mod flows;
 mod kinds;
 mod lines;
+mod loops;
 mod mismatches;
 mod numbers;
 mod reasons;

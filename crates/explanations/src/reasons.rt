@@ -5,11 +5,13 @@ ghost use Rattle.std.specs.String.{string_bytes};
 ghost use Rattle.explanations.specs.Reasons.{cut_line, lines_of, IsReason};
 
 use crate::cases::case_line;
+use crate::flows::flow_line;
 use crate::lines::{answer_line, register_lines, stack_lines, way_line};
+use crate::loops::loop_line;
 use crate::turns::turn_lines;
 use explorer::{Explanation, Refusal, explain};
 use image::Image;
-use isa_model::Insn;
+use isa_model::{Insn, MAX_SLOTS};
 use std::alloc::{AllocError, Global};
 
 /// That states were no longer compared, if they were not.
@@ -32,28 +34,35 @@ fn lines_of(
     found: &Explanation,
 ) -> Result<String, AllocError>
     ensures { IfOk result (λ text. string_bytes text
-        ≡ lines_of image.now.maps insn.now refusal found.now) }
+        ≡ lines_of image.now insn.now refusal found.now) }
 {
     let registers = register_lines(alloc, &found.state, insn)?;
     let way = found.way.as_slice();
-    let case = case_line(alloc, image.maps(), &found.state, insn, refusal, way)?;
+    let case = case_line(alloc, image.maps(), &found.state, insn, refusal)?;
+    let taken = loop_line(alloc, image, found.slots.as_slice(), refusal)?;
     let turns = turn_lines(alloc, &found.earlier, &found.state, refusal)?;
     let answer = answer_line(alloc, &found.state, refusal)?;
     let stack = stack_lines(alloc, image.maps(), &found.state, insn)?;
     let way = way_line(alloc, way)?;
     let cut = cut_line(found.is_cut_off);
-    format!(in alloc; "{registers}{case}{turns}{answer}{stack}{way}{cut}")
+    format!(in alloc; "{registers}{case}{taken}{turns}{answer}{stack}{way}{cut}")
 }
 
 /// What is known where a program is refused so, at this slot: the registers and the stack slots
-/// that concern its instruction, what it needs, what differs from turn to turn in a loop that is
-/// not explored to its end, the low half of an answer that has to name an action, the last jumps on
-/// the way there, and whether states were no longer compared. None: the refusal is one of control
-/// flow, or memory ran out.
+/// that concern its instruction, what it needs, the loop that is not explored to its end, with how
+/// often it was taken and what differs from turn to turn, the low half of an answer that has to
+/// name an action, the last jumps on the way there, and whether states were no longer compared; or
+/// where a jump leads, and what helps, if control flow is refused. None: memory ran out.
 pub fn reason(alloc: Global, image: &Image, refusal: Refusal, slot: usize) -> Option<String>
     ensures { IfSome result (λ text. IsReason image.now refusal slot (string_bytes text)) }
 {
-    let found = explain(alloc, image, refusal, slot)?;
+    if slot >= usize::from(MAX_SLOTS) {
+        return None;
+    }
     let insn = image.at(slot)?;
+    if let Refusal::Flow(error) = refusal {
+        return flow_line(alloc, image, error, slot, insn).ok();
+    }
+    let found = explain(alloc, image, refusal, slot)?;
     lines_of(alloc, image, insn, refusal, &found).ok()
 }

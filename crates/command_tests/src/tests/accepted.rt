@@ -318,6 +318,14 @@ fn at_the_limit_of_exploration(rt: HostRuntime) -> Result<(), Fail> {
     remove_files(&rt)
 }
 
+/// Its loop begins at slot 1, and ends when r1 is 254.
+const TOO_LONG: &str = "more than 1000000 instructions would have to be explored\n\
+    slot 3939: exit\nr0: number 2\n\
+    slots 1 to 3937 are taken again and again, 254 times on this path: \
+    limit what ends that (r2 &= 15)\n\
+    way: 3937 -> 1, 3937 -> 1, 3937 -> 1, 3937 -> 1, \
+    3937 -> 1, 3937 -> 1, 3937 -> 1, 3937 -> 1\n";
+
 /// One instruction more is refused, and `trace` stops at the limit.
 #[test]
 fn past_the_limit_of_exploration(rt: HostRuntime) -> Result<(), Fail> {
@@ -327,6 +335,7 @@ fn past_the_limit_of_exploration(rt: HostRuntime) -> Result<(), Fail> {
     let status = status_of(&rt, RUN, &mut out, &mut err)?;
     assert_eq!(rt; status, 2);
     assert_eq!(rt; out.taken.as_slice(), b"refused V19 slot 3939\n".as_slice());
+    assert_eq!(rt; err.taken.as_slice(), TOO_LONG.as_bytes());
     let report = "0 LIMIT 0 1000000\nend 1\n";
     let said = "frame 0, slot 3939: exit\nr0: number 2\n";
     answers(&rt, TRACE, 0, report, said)?;

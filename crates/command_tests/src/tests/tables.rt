@@ -281,7 +281,8 @@ const PROVING: [Answer; 7] = [
         &["prove", "wrong", "lost/made"],
         2,
         "refused G4 slot 1\n",
-        "no path leads from slot 0 to the instruction\nslot 1: exit\n",
+        "no path leads from slot 0 to the instruction\nslot 1: exit\n\
+            neither what is before it nor a jump or call leads here: remove it, or jump to it\n",
     ),
 ];
 

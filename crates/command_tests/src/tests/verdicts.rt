@@ -9,7 +9,7 @@ use std::rt::{Clock, Files};
 use std::test::Fail;
 
 /// A program, how it is refused, and why.
-const REFUSED: [(&str, &str, &str); 12] = [
+const REFUSED: [(&str, &str, &str); 16] = [
     (
         "r0 = r2; exit",
         "refused V1 slot 0\n",
@@ -32,17 +32,51 @@ const REFUSED: [(&str, &str, &str); 12] = [
     (
         "r0 = 0x1 ll; goto -2",
         "refused G2 slot 2\n",
-        "the jump or call leads into the second half of a wide load\nslot 2: goto -2\n",
+        "the jump or call leads into the second half of a wide load\nslot 2: goto -2\n\
+             it leads to slot 1, the second half of what begins at slot 0: \
+             count that twice, or use a name\n",
     ),
     (
         "r0 = 0",
         "refused G3 slot 0\n",
-        "the last instruction of the function falls through\nslot 0: r0 = 0\n",
+        "the last instruction of the function falls through\nslot 0: r0 = 0\n\
+             the code ends after it: end the function by exit or a jump\n",
     ),
     (
         "r0 = 0; exit; exit",
         "refused G4 slot 2\n",
-        "no path leads from slot 0 to the instruction\nslot 2: exit\n",
+        "no path leads from slot 0 to the instruction\nslot 2: exit\n\
+             neither what is before it nor a jump or call leads here: remove it, or jump to it\n",
+    ),
+    // two that lead to each other
+    (
+        "r0 = 0; exit; goto +0; goto -2",
+        "refused G4 slot 2\n",
+        "no path leads from slot 0 to the instruction\nslot 2: goto +0\n\
+             slot 3 leads here, and is not reached either: remove both, or jump here\n",
+    ),
+    // before slot 0
+    (
+        "r0 = 0; goto -5; exit",
+        "refused G1 slot 1\n",
+        "the jump or call leads outside the code\nslot 1: goto -5\n\
+             it leads to slot -3, and the code has slots 0 to 2: \
+             count from the slot after it, or use a name\n",
+    ),
+    (
+        "call pc+1; r0 = 0; exit",
+        "refused G3 slot 1\n",
+        "the last instruction of the function falls through\nslot 1: r0 = 0\n\
+             after it, at slot 2, the function begins that slot 0 calls: \
+             end this one by exit or a jump\n",
+    ),
+    // from the last of three functions back into the second
+    (
+        "call pc+2; call pc+3; exit; r0 = 0; exit; r0 = 1; goto -3",
+        "refused G5 slot 6\n",
+        "the jump leads into another function\nslot 6: goto -3\n\
+             it leads to slot 4, in the function from slot 3 on (called at slot 0), \
+             and is in that from slot 5 on (called at slot 1): jump within one, or call\n",
     ),
     (
         "r0 = 0; goto -1",
@@ -72,7 +106,8 @@ const REFUSED: [(&str, &str, &str); 12] = [
         "refused V9 slot 8\n",
         "the packet bytes are not proved to be there\nslot 8: r0 = *(u8 *)(r4 + 0)\n\
              r4: packet pointer at 4 after part 2 of 0 to 30, 0 bytes after the part proved\n\
-             needs bytes 4 to 4 after the part; 0 are proved\n",
+             needs bytes 4 to 4 after the part; 0 are proved: \
+             compare a pointer after them with the packet end, or correct the offset\n",
     ),
     (
         "r3 = -7; r1 *= r3; r0 = 2; exit",
@@ -86,7 +121,8 @@ const REFUSED: [(&str, &str, &str); 12] = [
         "refused V15 slot 4\n",
         "the helper's key or value bytes are not all written and in bounds\nslot 4: call 1\n\
              r1: map 0\nr2: frame pointer at -6\n\
-             a key of map 0 has 4 bytes, a value 8\nstack -8: unset\n",
+             a key of map 0 has 4 bytes, a value 8: \
+             write all of them to the stack first\nstack -8: unset\n",
     ),
 ];
 

@@ -64,7 +64,8 @@ const REFUSED: [(&[u8], usize, &str); 3] = [
         1,
         "refused V9 slot 1\nthe packet bytes are not proved to be there\n\
          slot 1: r0 = *(u8 *)(r2 + 13)\nr2: packet pointer at 0, 0 bytes proved\n\
-         needs bytes 13 to 13; 0 are proved\n",
+         needs bytes 13 to 13; 0 are proved: \
+         compare a pointer after them with the packet end, or correct the offset\n",
     ),
     (
         &ENDLESS,
@@ -76,7 +77,7 @@ const REFUSED: [(&[u8], usize, &str); 3] = [
 
 #[test]
 fn verifies(rt: HostRuntime) {
-    let mut why = [7; 200];
+    let mut why = [7; 300];
     assert!(rt; verdict(rt.alloc(), &PASS, 1_000_000, &mut why) == (0, 2, 0, 0));
     for (image, slot, text) in REFUSED.iter() {
         let answer = verdict(rt.alloc(), image, 1_000_000, &mut why);

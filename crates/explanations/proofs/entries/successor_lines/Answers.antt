@@ -1,7 +1,7 @@
-use Rattle.std.proofs.Common.{◌∙◌, [], ◌∷◌, ap, sym}
+use Rattle.std.proofs.Common.{◌∙◌, [], ap, sym}
 use Rattle.table_entries.specs.Tables.{entry_at}
 use Rattle.table_entries.specs.Entries.{list_of}
-use Rattle.explanations.proofs.EntryLaws.{tells_counts, tells_first, tells_second}
+use Rattle.explanations.proofs.EntryLaws.{tells_counts, tells_first}
 use Rattle.explanations.proofs.entries.successor_lines.Goals as goal
 
 pub returns-then-successors-count : goal.returns-then-successors-count

@@ -1,0 +1,33 @@
+-- What is said of a refusal: the lines of a state, or of the instruction in refused control flow.
+use Rattle.std.proofs.Common.{◌≡◌, ℕ, Some, String, Result, Ok, Err}
+use Rattle.std.specs.Prelude.{IfOk, IfSome}
+use Rattle.std.specs.Result.{result_ok}
+use Rattle.std.specs.declared.alloc.Global.{Global}
+use Rattle.std.specs.declared.alloc.AllocError.{AllocError}
+use Rattle.std.specs.String.{string_bytes}
+use Rattle.isa_model.specs.declared.instructions.Insn.{Insn}
+use Rattle.isa_model.specs.Code.Instructions.{Program, fetch}
+use Rattle.control_flow.specs.declared.errors.FlowError.{FlowError}
+use Rattle.walks.specs.declared.refusals.Refusal.{Refusal}
+use Rattle.walks.specs.declared.refusals.Refusal.TheVariants.{Flow}
+use Rattle.explorer.specs.declared.explanations.Explanation.{Explanation}
+use Rattle.explorer.specs.Explained.{Explains}
+use Rattle.explanations.specs.Flows.{flow_line}
+use Rattle.explanations.specs.Reasons.{lines_of, IsReason}
+use Rattle.explanations.specs.Reasons.IsReason.{OfState, OfFlow}
+
+-- the text of a refusal of control flow, if memory was there
+pub of_flow : (p : Program) (e : Refusal) (slot : ℕ) (error : FlowError) (i : Insn)
+    → (r : Result (String Global) AllocError) → e ≡ Flow error → fetch p slot ≡ Some i
+    → IfOk r (λ text. string_bytes text ≡ flow_line p error slot i)
+    → IfSome (result_ok r) (λ text. IsReason p e slot (string_bytes text))
+of_flow p e slot error i (Ok text) is there said = OfFlow error i is there said
+of_flow p e slot error i (Err failed) is there said = tt
+
+-- the text of a state, if memory was there
+pub of_state : (p : Program) (e : Refusal) (slot : ℕ) (found : Explanation) (i : Insn)
+    → (r : Result (String Global) AllocError) → Explains p e slot found → fetch p slot ≡ Some i
+    → IfOk r (λ text. string_bytes text ≡ lines_of p i e found)
+    → IfSome (result_ok r) (λ text. IsReason p e slot (string_bytes text))
+of_state p e slot found i (Ok text) explains there said = OfState found i explains there said
+of_state p e slot found i (Err failed) explains there said = tt

@@ -1,0 +1,6 @@
+use Rattle.std.proofs.Common.{◌≡◌}
+use Rattle.explanations.specs.Flows.{function_at}
+use Rattle.explanations.proofs.flows.function_at.Given as goal
+
+abbrev pub invariant-loop-from : goal.invariant-loop-from
+invariant-loop-from l = l.found ≡ function_at l.image l.slot l.from

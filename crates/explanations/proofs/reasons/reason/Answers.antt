@@ -1,0 +1,15 @@
+use Rattle.std.proofs.Common.{sym}
+use Rattle.explanations.proofs.ReasonLaws.{of_flow, of_state}
+use Rattle.explanations.proofs.reasons.reason.Goals as goal
+
+pub returns-in-Flow : goal.returns-in-Flow
+returns-in-Flow c =
+    rw c.ok.ensures.value
+    (of_flow c.args.image.now c.args.refusal c.args.slot c.in-Flow.error c.in_ok-insn.insn.now
+    c.flow_line.result c.in-Flow.is (sym c.in_ok-insn.ensures) c.flow_line.ensures)
+
+pub returns : goal.returns
+returns c =
+    rw c.ok-2.ensures.value
+    (of_state c.args.image.now c.args.refusal c.args.slot c.in_ok-found.found c.in_ok-insn.insn.now
+    c.lines_of.result c.in_ok-found.ensures (sym c.in_ok-insn.ensures) c.lines_of.ensures)
