@@ -71,8 +71,12 @@ IMAGES = (
     (b"\x0a\x0d\x0d\x0a\x1c\0\0\0", "refused I1", "it is a capture (pcapng): frames.py"),
     (b"\x1f\x8b\x08\0\0\0\0\0", "refused I1", "gunzip unpacks it"),
     (b"XBP9\0\0\0\0", "refused I1", ""),
-    (b"XBP1\0\0\x02\0\x95\0\0\0\0\0\0\0", "refused I2", "shorter"),
-    (b"XBP1\0\0\x01\0\x95\x01\0\0\0\0\0\0", "refused I8 slot 0 C4", "slot 0"),
+    (b"XBP1\0\0\x02\0\x95\0\0\0\0\0\0\0", "refused I2", "the file was cut"),
+    (b"XBP1\0\0\0\0", "refused I6", "the least program is r0 = 2 and exit"),
+    (b"XBP1\x01\0\x01\0\x02\0\x08\0\x08\0\0\0\x01\0\0\0\x95\0\0\0\0\0\0\0", "refused I5 map 0", "keys to 64 bytes, arrays 4"),
+    (b"XBP1\0\0\x02\0\x18\x51\0\0\0\0\0\0\0\0\0\0\0\0\0\0", "refused I10 slot 0", "maps are counted from 0"),
+    (b"XBP1\0\0\x01\0\x30\0\0\0\0\0\0\0", "refused I8 slot 0 C2", "legacy packet loads"),
+    (b"XBP1\0\0\x01\0\x95\x01\0\0\0\0\0\0", "refused I8 slot 0 C4", "set each field to 0"),
 )
 
 # A program text, the line of `verify`, and what helps.
@@ -115,9 +119,9 @@ TRACES = (
     (b"r0 = *(u64 *)(r10 - 8)\nexit\n", "0 TRAP unset 14 0", ("frame 0, slot 0: r0 = *(u64 *)(r10 - 8)", "r10: frame pointer at 0")),
     (b"r2 = *(u32 *)(r1 + 0)\nr0 = *(u8 *)(r2 + 14)\nexit\n", "0 TRAP access 14 1",
      ("frame 0, slot 1: r0 = *(u8 *)(r2 + 14)", "r2: packet pointer at 0")),
-    (b"r0 = 2\n", "0 TRAP code 14 1", ("frame 0, slot 1: no instruction begins there",)),
-    (b"r0 = 77\nexit\n", "0 INVALID 14 2", ("frame 0, slot 1: exit", "r0: number 77")),
-    (b"r0 = 0\ngoto -1\n", "0 LIMIT 14 1000000", ("frame 0, slot 1: goto -1",)),
+    (b"r0 = 2\n", "0 TRAP code 14 1", ("frame 0, slot 1: no instruction begins there", "end each path by exit")),
+    (b"r0 = 77\nexit\n", "0 INVALID 14 2", ("frame 0, slot 1: exit", "r0: number 77", "r0 names no action")),
+    (b"r0 = 0\ngoto -1\n", "0 LIMIT 14 1000000", ("frame 0, slot 1: goto -1", "the limit of instructions is reached")),
     (b"r2 = -1\nif r2 == r1 goto +0\nexit\n", "0 TRAP compare 14 1",
      ("frame 0, slot 1: if r2 == r1 goto +0", "r2: number -1", "r1: context pointer at 0")),
     (b"r0 = 2\nexit\n", "0 PASS 14 2", ()),

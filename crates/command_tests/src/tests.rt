@@ -23,7 +23,8 @@ use std::rt::{Clock, Files};
 use std::test::Fail;
 
 // Why an image is refused by I2.
-const SHORT: &str = "the image is shorter than its head, or than its counts say\n";
+const SHORT: &str = "the image is shorter than its head, or than its counts say\n\
+    the file was cut: make it again\n";
 
 // Why a stream is refused that has no whole magic, and why one that ends in a head.
 const NO_MAGIC: &str = "the stream does not begin with XPF1 or XPF2\n\
@@ -236,19 +237,22 @@ const NO_IMAGES: [(&[u8], &str, &str); 11] = [
     (
         b"XBP1\x11\0\x02\0\xb7\0\0\0\x02\0\0\0\x95\0\0\0\0\0\0\0",
         "refused I4\n",
-        "the image has more than 16 map rows\n",
+        "the image has more than 16 map rows\n\
+            join maps with the same sizes of keys and values, or remove unused ones\n",
     ),
     // the row of a hash map, and one of type 3
     (
         b"XBP1\x02\0\x01\0\x01\0\x04\0\x08\0\0\0\x01\0\0\0\
         \x03\0\x04\0\x08\0\0\0\x01\0\0\0\x95\0\0\0\0\0\0\0",
         "refused I5 map 1\n",
-        "a map row has an unknown type, or a size that is out of its limits\nmap 1\n",
+        "a map row has an unknown type, or a size that is out of its limits\nmap 1\n\
+            type 1 hash, 2 array; keys to 64 bytes, arrays 4; values to 4096, entries to 65536\n",
     ),
     (
         b"XBP1\0\0\0\0\xb7\0\0\0\x02\0\0\0\x95\0\0\0\0\0\0\0",
         "refused I6\n",
-        "the image has no slots, or more than 4096\n",
+        "the image has no slots, or more than 4096\n\
+            the least program is r0 = 2 and exit; a longer one needs fewer instructions\n",
     ),
     (
         b"XBP1\0\0\x02\0\xb7\0\0\0\x02\0\0\0\x95\0\0\0\0\0\0",
@@ -258,29 +262,34 @@ const NO_IMAGES: [(&[u8], &str, &str); 11] = [
     (
         b"XBP1\0\0\x02\0\xb7\0\0\0\x02\0\0\0\x95\0\0\0\0\0\0\0\0",
         "refused I3\n",
-        "the image is longer than its counts say\n",
+        "the image is longer than its counts say\n\
+            remove what follows the last slot, or make it again\n",
     ),
     // an exit with another register than r0; no opcode; a call of neither a helper nor a function
     (
         b"XBP1\0\0\x01\0\x95\0\x01\0\0\0\0\0",
         "refused I8 slot 0 C4\n",
-        "a field that the instruction does not use is not 0\nslot 0\n",
+        "a field that the instruction does not use is not 0\nslot 0\n\
+            set each field to 0 that the form does not use, as src_reg beside a constant\n",
     ),
     (
         b"XBP1\0\0\x02\0\x95\0\0\0\0\0\0\0\xff\0\0\0\0\0\0\0",
         "refused I8 slot 1 C2\n",
-        "the opcode is unknown\nslot 1\n",
+        "the opcode is unknown\nslot 1\n\
+            no instruction begins with this byte; legacy packet loads become loads by a pointer\n",
     ),
     (
         b"XBP1\0\0\x01\0\x85\x20\0\0\x05\0\0\0",
         "refused I8 slot 0 C5\n",
-        "the selector is unknown\nslot 0\n",
+        "the selector is unknown\nslot 0\n\
+            no form has this offset, imm or src_reg; a call has src_reg 0 or 1\n",
     ),
     // r1 = map_by_idx(0), and no map
     (
         b"XBP1\0\0\x02\0\x18\x51\0\0\0\0\0\0\0\0\0\0\0\0\0\0",
         "refused I10 slot 0\n",
-        "the instruction names a map that has no row\nslot 0\n",
+        "the instruction names a map that has no row\nslot 0\n\
+            maps are counted from 0: add the row, or correct the index\n",
     ),
 ];
 

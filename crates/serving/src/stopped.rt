@@ -4,13 +4,13 @@ ghost use Rattle.std.specs.Prelude.{◌≡◌, None, IfOk, IfSome};
 ghost use Rattle.std.specs.String.{string_bytes};
 ghost use Rattle.isa_model.specs.Text.CanonicalText as canonical;
 ghost use Rattle.host.specs.Stops.{noted_of};
-ghost use Rattle.serving.specs.Stopped.{insn_lines, stop_line, first_lines, more_line, stop_lines, TellsStopsOf, at_end};
+ghost use Rattle.serving.specs.Stopped.{insn_lines, trap_line, end_line, stop_line, first_lines, more_line, stop_lines, TellsStopsOf, at_end};
 
 use super::outcomes::Outcome;
 use disassembler::write_insn;
 use explanations::value_lines;
 use host::{FrameStop, HostError, Stops, Traced};
-use isa_model::{Insn, Value};
+use isa_model::{End, Insn, TrapReason, Value};
 use std::alloc::{AllocError, Global};
 
 // The text of an instruction.
@@ -45,6 +45,45 @@ fn insn_lines(
     }
 }
 
+// Why a run trapped, and what helps.
+fn trap_line(reason: TrapReason) -> &'static str
+    ensures { result.now ≡ trap_line reason }
+{
+    match reason {
+        TrapReason::NoCode => "end each path by exit, and jump to where an instruction begins\n",
+        TrapReason::UnsetRead =>
+            "a register or a stack byte is read that was not written: write it first\n",
+        TrapReason::ReadOnly =>
+            "r10 is written, and it is read-only: copy it and change the copy\n",
+        TrapReason::BadPointer =>
+            "stack, packet and value pointers move by += and -= of a number, at 64 bits\n",
+        TrapReason::OutOfRange => "a pointer moves by at most 536870912 bytes\n",
+        TrapReason::BadAccess =>
+            "bytes are not there: test the packet's length or a look-up's r0, \
+             or correct the offset\n",
+        TrapReason::BadCompare =>
+            "compare a packet pointer with the packet end, a value pointer with 0, at 64 bits\n",
+        TrapReason::BadHelper =>
+            "there are helpers 1, 2, 3 and 5; r1 is a map, r2 points to a key, r3 to a value\n",
+        TrapReason::TooManyFrames =>
+            "8 functions are running: write this one's instructions in place of the call\n",
+        TrapReason::NoResult => "r0 has to be a number: 0 ABORTED, 1 DROP, 2 PASS, 3 TX\n",
+        TrapReason::BadAction =>
+            "the low half of r0 has to be 0 to 4: mask it (r0 &= 3) or test it\n",
+    }
+}
+
+// Why a run stopped, and what helps.
+fn end_line(end: End) -> &'static str
+    ensures { result.now ≡ end_line end }
+{
+    match end {
+        End::Exit(_, _) => "r0 names no action: 0 ABORTED, 1 DROP, 2 PASS, 3 TX, 4 REDIRECT\n",
+        End::Trap(reason, _) => trap_line(reason),
+        End::Limit => "the limit of instructions is reached: give more by --limit, or end a loop\n",
+    }
+}
+
 // The lines of a frame.
 fn stop_line(alloc: Global, found: &FrameStop) -> Result<String, AllocError>
     ensures { IfOk result (λ text. string_bytes text ≡ stop_line found.now) }
@@ -52,7 +91,8 @@ fn stop_line(alloc: Global, found: &FrameStop) -> Result<String, AllocError>
     let frame = found.frame;
     let slot = found.stop.slot;
     let lines = insn_lines(alloc, found.stop.insn, &found.stop.registers)?;
-    format!(in alloc; "frame {frame}, slot {slot}: {lines}")
+    let end = end_line(found.stop.end);
+    format!(in alloc; "frame {frame}, slot {slot}: {lines}{end}")
 }
 
 // The lines of some frames.

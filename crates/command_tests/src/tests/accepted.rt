@@ -337,7 +337,8 @@ fn past_the_limit_of_exploration(rt: HostRuntime) -> Result<(), Fail> {
     assert_eq!(rt; out.taken.as_slice(), b"refused V19 slot 3939\n".as_slice());
     assert_eq!(rt; err.taken.as_slice(), TOO_LONG.as_bytes());
     let report = "0 LIMIT 0 1000000\nend 1\n";
-    let said = "frame 0, slot 3939: exit\nr0: number 2\n";
+    let said = "frame 0, slot 3939: exit\nr0: number 2\n\
+        the limit of instructions is reached: give more by --limit, or end a loop\n";
     answers(&rt, TRACE, 0, report, said)?;
     remove_files(&rt)
 }
@@ -365,7 +366,8 @@ fn past_the_end_of_a_value(rt: HostRuntime) -> Result<(), Fail> {
     fs::write(&rt, "frames", bytes.as_slice())?;
     write_program(&rt, "image", text)?;
     let report = "0 TRAP access 0 1\nmap 0 00000000 0000000000000000\nend 1\n";
-    let said = "frame 0, slot 2: r0 = *(u64 *)(r1 + 0)\nr1: value of map 0 at 4\n";
+    let said = "frame 0, slot 2: r0 = *(u64 *)(r1 + 0)\nr1: value of map 0 at 4\n\
+        bytes are not there: test the packet's length or a look-up's r0, or correct the offset\n";
     answers(&rt, TRACE, 0, report, said)?;
     remove_files(&rt)
 }

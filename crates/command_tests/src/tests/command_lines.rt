@@ -172,7 +172,8 @@ const RIGHT: [Answer; 5] = [
         &["trace", "image", "--limit", "1", "frames", "sent"],
         0,
         "0 LIMIT 0 1\nend 1\n",
-        "frame 0, slot 1: exit\nr0: number 2\n",
+        "frame 0, slot 1: exit\nr0: number 2\n\
+            the limit of instructions is reached: give more by --limit, or end a loop\n",
     ),
     (
         &["trace", "image", "frames", "sent", "--limit", "1000000"],

@@ -126,7 +126,8 @@ const LARGE: [Answer; 3] = [
         &["verify", "long"],
         2,
         "refused I3\n",
-        "the image is longer than its counts say\n",
+        "the image is longer than its counts say\n\
+            remove what follows the last slot, or make it again\n",
     ),
     (
         &["verify", "/dev/zero"],

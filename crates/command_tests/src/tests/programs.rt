@@ -277,6 +277,8 @@ fn the_limit_where_none_is_given(rt: HostRuntime) -> Result<(), Fail> {
     write_program(&rt, "image", "r0 = 0; goto -1")?;
     write_frames(&rt, EMPTY)?;
     let report = "0 LIMIT 0 1000000\nend 1\n";
-    answers(&rt, TRACE, 0, report, "frame 0, slot 1: goto -1\n")?;
+    let said = "frame 0, slot 1: goto -1\n\
+        the limit of instructions is reached: give more by --limit, or end a loop\n";
+    answers(&rt, TRACE, 0, report, said)?;
     remove_files(&rt)
 }

@@ -107,9 +107,11 @@ fn states_of_an_entry(rt: HostRuntime) -> Result<(), Fail> {
     remove_files(&rt)
 }
 
-const FIELD: &str = "a field of the entry has a value that is not allowed\nentry 0\n";
+const FIELD: &str = "a field of the entry has a value that is not allowed\nentry 0\n\
+    make the table anew: xdpvm prove IMAGE TABLE\n";
 
-const START: &str = "the first entry does not cover the start of a run\n";
+const START: &str = "the first entry does not cover the start of a run\n\
+    make the table anew: xdpvm prove IMAGE TABLE\n";
 
 /// A byte of the table, what it is changed to, the status, and what standard output and standard
 /// error have.
@@ -121,7 +123,8 @@ const CHANGES: [Change; 12] = [
         b'Y',
         2,
         "refused P1\n",
-        "the bytes do not begin with XPT1\n",
+        "the bytes do not begin with XPT1\n\
+            make the table anew: xdpvm prove IMAGE TABLE\n",
     ),
     // the count of entries
     (
@@ -129,21 +132,24 @@ const CHANGES: [Change; 12] = [
         0,
         2,
         "refused P4\n",
-        "the table has no entries, or more than 1000000\n",
+        "the table has no entries, or more than 1000000\n\
+            make the table anew: xdpvm prove IMAGE TABLE\n",
     ),
     (
         4,
         3,
         2,
         "refused P2\n",
-        "the table is shorter than its head, or than its entries\n",
+        "the table is shorter than its head, or than its entries\n\
+            make the table anew: xdpvm prove IMAGE TABLE\n",
     ),
     (
         4,
         1,
         2,
         "refused P3\n",
-        "the table is longer than its entries\n",
+        "the table is longer than its entries\n\
+            make the table anew: xdpvm prove IMAGE TABLE\n",
     ),
     // the number of entry 0, its slot, its count of frames, and its r1
     (8, 5, 0, "ok bound 5\n", ""),
@@ -174,7 +180,8 @@ const CHANGES: [Change; 12] = [
         3,
         2,
         "refused P5 entry 1\n",
-        "a field of the entry has a value that is not allowed\nentry 1\n",
+        "a field of the entry has a value that is not allowed\nentry 1\n\
+            make the table anew: xdpvm prove IMAGE TABLE\n",
     ),
 ];
 
@@ -218,13 +225,15 @@ const FILES_IN_ORDER: [Answer; 9] = [
         &["recheck", "image", "short"],
         2,
         "refused P2\n",
-        "the table is shorter than its head, or than its entries\n",
+        "the table is shorter than its head, or than its entries\n\
+            make the table anew: xdpvm prove IMAGE TABLE\n",
     ),
     (
         &["run", "image", "lost", "lost/sent", "--table", "short"],
         2,
         "refused P2\n",
-        "the table is shorter than its head, or than its entries\n",
+        "the table is shorter than its head, or than its entries\n\
+            make the table anew: xdpvm prove IMAGE TABLE\n",
     ),
     (
         &["run", "--table", "table", "image", "lost", "lost/sent"],
