@@ -63,8 +63,8 @@ abbrev pub refused_at : {A : Type 0} → ℕ → Result A AsmErrorKind → Resul
 refused_at at (Ok x) = Ok x
 refused_at at (Err kind) = Err (record { kind = kind; offset = at })
 
--- why the tokens after that many others are no instruction: a number out of range is the reason if
--- all else fits
+-- why the tokens without the first k are no instruction: a number out of range is the reason if all
+-- else fits
 abbrev pub refusal_of : Progress → ℕ → Wrong → Refusal
 refusal_of s k Form = record { kind = NoForm; offset = begins_at s }
 refusal_of s k (Range at) =
@@ -76,7 +76,7 @@ abbrev pub unless_wrong : {A : Type 0} → Progress → ℕ → Result A Wrong �
 unless_wrong s k (Ok x) = Ok x
 unless_wrong s k (Err wrong) = Err (refusal_of s k wrong)
 
--- that at a token after that many others
+-- the refusal of a token, counted without the first k
 abbrev pub refused_by : Progress → ℕ → Objection → Refusal
 refused_by s k o = record { kind = o.kind; offset = offset_or (slice_get s.places (o.token + k)) 0 }
 
@@ -100,12 +100,12 @@ with_use s None = s.uses
 with_use s (Some place) =
     s.uses ++ (record { index = length s.insns; slot = length (slots s.insns); name = place.1; offset = place.0 }) ∷ []
 
--- the name of the instruction's target, if it has one, after that many tokens
+-- the name of the instruction's target, if it has one; k tokens come before the instruction
 abbrev pub name_place : Progress → ℕ → Option ℕ → Option TokenPlace
 name_place s k None = None
 name_place s k (Some i) = slice_get s.places (i + k)
 
--- the statement's instruction, which was read after that many tokens
+-- the statement's instruction is added; k tokens come before it
 abbrev pub added : Progress → ℕ → Reading → Result Progress Refusal
 added s k r =
     refused_at (begins_at s) (with_insn s.insns r.insn)
@@ -134,14 +134,14 @@ is_one Two = false
 abbrev pub is_first : Progress → Bool
 is_first s = length s.labels == 0 && (is_one s.version && (length s.maps == 0 && (length s.insns == 0)))
 
--- after a label of that many tokens
+-- a statement is taken that follows a label of k tokens
 abbrev pub ended : Progress → ℕ → Statement → Result Progress Refusal
 ended s k said.Empty = Ok (record { tokens = []; places = []; version = s.version; maps = s.maps; insns = s.insns; labels = s.labels; uses = s.uses })
 ended s k said.Version = Ok (record { tokens = []; places = []; version = Two; maps = s.maps; insns = s.insns; labels = s.labels; uses = s.uses })
 ended s k (said.Row row) = Ok (record { tokens = []; places = []; version = s.version; maps = s.maps ++ row ∷ []; insns = s.insns; labels = s.labels; uses = s.uses })
 ended s k (said.Instruction r) = added s k r
 
--- at the end of a statement with a label of that many tokens
+-- a statement ends that follows a label of k tokens
 abbrev pub closed_behind : Progress → ℕ → Result Progress Refusal
 closed_behind s k =
     unless_wrong s k (spelled_behind k (drop k s.tokens))
@@ -163,7 +163,7 @@ accept s (Solid t) place =
 
 -- ---- texts
 
--- the lexeme after that many bytes of the text
+-- the first lexeme of these bytes, which begin at offset `at` of the text
 abbrev pub next_lexeme : ℕ → List ℕ → Result (Lexeme × ℕ) Refusal
 next_lexeme at bs = ok_or (lexeme_at bs) (record { kind = UnknownByte; offset = at + fault_at bs })
 

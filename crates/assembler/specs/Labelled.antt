@@ -38,8 +38,8 @@ spelled ts =
     else if begins_map_line (slice_get ts 0) then (map_line ts >>= λ row. Ok (Row row))
     else (statement_of ts >>= λ r. Ok (Instruction r))
 
--- what the tokens of a statement spell after a label of that many tokens; a version line has no
--- label
+-- what the tokens of a statement spell, which follow the k tokens of its label; a version line has
+-- no label
 abbrev pub spelled_behind : ℕ → List Token → Result Statement Wrong
 spelled_behind k ts =
     if begins_version_line (slice_get ts 0) then (if k == 0 then version_line ts else Err Form) else spelled ts

@@ -11,7 +11,7 @@ use Rattle.assembler.specs.Hints.{hint}
 abbrev pub after_line : List ℕ → List ℕ
 after_line bs = drop 1 (drop (prefix_len is_line_byte bs) bs)
 
--- what follows that many lines
+-- the text without its first n lines
 abbrev pub after_lines : ℕ → List ℕ → List ℕ
 after_lines zero bs = bs
 after_lines (suc n) bs = after_line (after_lines n bs)

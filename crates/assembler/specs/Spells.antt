@@ -96,7 +96,7 @@ IsWide ts k =
     ((n : ℕ) × (ts ≡ Number n ∷ []) × (n < 2 ^ 64) × (k ≡ n))
     ⊎ ((n : ℕ) × (ts ≡ Signed sign.Minus ∷ Number n ∷ []) × (n ≤ 2 ^ 63) × (k ≡ (if n == 0 then 0 else 2 ^ 64 - n)))
 
--- a register of that width, or N
+-- a register of the width, or N
 abbrev pub IsOperand : Width → List Token → Operand → Type 0
 IsOperand w ts (Register r) = ts ≡ reg w r ∷ []
 IsOperand w ts (Constant k) = IsConstant ts k
@@ -117,7 +117,7 @@ memory size base s n rest = Signed sign.Star ∷ Signed sign.Open ∷ Named size
 abbrev pub Offset : Place → (Sign → ℕ → Type 0) → Type 0
 Offset p Is = (s : Sign) × (n : ℕ) × IsSigned (2 ^ 15) s n p.offset × Is s n
 
--- T: a distance, or a name, which is the token at that index
+-- T: a distance, or a name, which is the token at this index
 abbrev pub IsTarget : ℕ → List Token → ℤ → ℕ → Option ℕ → Type 0
 IsTarget half ts by i name =
     ((s : Sign) × (n : ℕ) × (ts ≡ Signed s ∷ Number n ∷ []) × IsSigned half s n by × (name ≡ None))

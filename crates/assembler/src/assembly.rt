@@ -17,7 +17,7 @@ use isa_model::{Insn, MapDef, Version};
 use lexer::lexeme_at;
 use std::alloc::Global;
 
-// What follows that many bytes, at least one.
+// The bytes without the first `count`, or without the first one if `count` is 0.
 fn after(bytes: &[u8], count: usize) -> &[u8]
     requires { 0 < length bytes.now }
     ensures value { result.now ≡ drop (count - 1) (drop 1 bytes.now) }

@@ -230,7 +230,7 @@ fn assigned_by(op: AluOp, width: Width, register: Reg, tokens: &[Token]) -> Resu
     }
 }
 
-/// The instruction of a statement that begins with that register.
+/// The instruction of a statement that begins with this register.
 pub fn assigned(width: Width, register: Reg, tokens: &[Token]) -> Result<Reading, Wrong>
     ensures { result ≡ assigned width register tokens.now }
 {

@@ -118,7 +118,7 @@ impl<'a> Draft<'a> {
         self.end(statement, label)
     }
 
-    // Ends a statement that tokens spell, after a label of that many.
+    // Ends a statement that tokens spell. Its label has `label` tokens.
     fn end(&mut self, statement: Statement, label: usize) -> Result<(), Refusal>
         ensures { Answers (λ _. progress_of self.new) result
             (ended (progress_of self.old) label statement) }
@@ -161,7 +161,7 @@ impl<'a> Draft<'a> {
         }
     }
 
-    // Adds the instruction of the statement, whose tokens were read after that many others.
+    // Adds the instruction of the statement. Its tokens were read without the first `skipped` ones.
     fn add(&mut self, reading: Reading, skipped: usize) -> Result<(), Refusal>
         ensures exact { Answers (λ _. progress_of self.new) result
             (added (progress_of self.old) skipped reading) }
@@ -253,7 +253,7 @@ impl<'a> Draft<'a> {
         }
     }
 
-    // Why the tokens after that many others are no instruction.
+    // Why the tokens without the first `skipped` ones are no instruction.
     fn refusal(&mut self, wrong: Wrong, skipped: usize) -> Refusal
         ensures { result ≡ refusal_of (progress_of self.old) skipped wrong }
     {
@@ -275,7 +275,7 @@ impl<'a> Draft<'a> {
         }
     }
 
-    // That at a token after that many others.
+    // The refusal of a token, counted without the first `skipped` ones.
     fn refused_by(&self, objection: Objection, skipped: usize) -> Refusal
         ensures { result ≡ refused_by (progress_of self.now) skipped objection }
     {

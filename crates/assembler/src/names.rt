@@ -1,4 +1,4 @@
-//! Names of places of the code: where they are defined, and where they are used.
+//! Names of slots: where they are defined, and where they are used.
 
 ghost use Rattle.std.specs.Prelude.{◌≡◌, ◌+◌, ◌-◌, map, Ok, Err, MatchResult};
 ghost use Rattle.assembler.specs.Naming.{distance, aimed, aim, resolved, use_of};
@@ -43,14 +43,14 @@ pub fn define<'a>(labels: &mut Labels<'a>, name: &'a [u8], slot: u16) -> Result<
     }
 }
 
-// How far it is to the slot from after the one at `from`.
+// The distance of a jump at slot `from` to slot `to`: it counts from the slot after the jump.
 fn distance(from: u16, to: u16) -> i32
     ensures { result ≡ distance from to }
 {
     i32::from(to) - (i32::from(from) + 1)
 }
 
-// The jump, over that distance, unless that is too far.
+// The jump with this distance, if its field can hold that.
 #[tactic(auto, using(crate::proofs::NearDistances::nearness))]
 fn aimed(insn: Insn, by: i32) -> Option<Insn>
     ensures { result ≡ aimed insn by }

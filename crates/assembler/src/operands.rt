@@ -8,7 +8,7 @@ use super::wrong::Wrong;
 use isa_model::{Operand, Place, Reg, Width};
 use lexer::{Sign, Token, Word};
 
-// A number below that limit, or with a minus up to it; `at` is the token at which it begins.
+// A number below the limit, or a negative one down to minus the limit. It begins at token `at`.
 fn signed_within(limit: u32, minus: bool, n: u128, at: usize) -> Result<i64, Wrong>
     requires { 0 < limit }
     ensures value { result ≡ signed_within limit at minus n }
@@ -105,14 +105,14 @@ fn same_width(a: Width, b: Width) -> bool
     a.bits() == b.bits()
 }
 
-/// Whether they are one register.
+/// Whether both are the same register.
 pub fn same_register(a: Reg, b: Reg) -> bool
     ensures { result ≡ same_register a b }
 {
     a.number() == b.number()
 }
 
-/// The register of that width that the word is.
+/// The register that the word names at the width.
 pub fn as_register(width: Width, word: Word) -> Result<Reg, Wrong>
     ensures { result ≡ as_register width word }
 {
@@ -128,14 +128,14 @@ pub fn as_register(width: Width, word: Word) -> Result<Reg, Wrong>
     }
 }
 
-/// A register of that width.
+/// A register of the width.
 pub fn register_at(width: Width, tokens: &[Token], i: usize) -> Result<Reg, Wrong>
     ensures { result ≡ register_at width tokens.now i }
 {
     as_register(width, word_at(tokens, i)?)
 }
 
-/// That register, at that width.
+/// Tests that the token is this register at the width.
 pub fn again_at(width: Width, register: Reg, tokens: &[Token], i: usize) -> Result<(), Wrong>
     ensures { result ≡ again_at width register tokens.now i }
 {
@@ -165,7 +165,7 @@ fn operand_token(
     }
 }
 
-/// A register of that width or a number, and the index after it.
+/// A register of the width or a number, and the index after it.
 pub fn operand_at(width: Width, tokens: &[Token], i: usize) -> Result<(Operand, usize), Wrong>
     requires { i < 8 }
     ensures value { result ≡ operand_at width tokens.now i }
@@ -184,7 +184,7 @@ fn place_at(tokens: &[Token], i: usize) -> Result<Place, Wrong>
     Ok(Place { base, offset })
 }
 
-/// `*(size *)(place)`: ten tokens from that index on.
+/// `*(size *)(place)`: the ten tokens from the index on.
 pub fn memory_at(tokens: &[Token], i: usize) -> Result<(Word, Place), Wrong>
     requires { i < 3 }
     ensures { result ≡ memory_at tokens.now i }
@@ -200,7 +200,7 @@ pub fn memory_at(tokens: &[Token], i: usize) -> Result<(Word, Place), Wrong>
     Ok((size, place))
 }
 
-/// `(place,`: five tokens from that index on.
+/// `(place,`: the five tokens from the index on.
 pub fn argument_at(tokens: &[Token], i: usize) -> Result<Place, Wrong>
     requires { i < 4 }
     ensures { result ≡ argument_at tokens.now i }
@@ -211,7 +211,7 @@ pub fn argument_at(tokens: &[Token], i: usize) -> Result<Place, Wrong>
     Ok(place)
 }
 
-/// Whether the word may name a place of the code: all words but `pc` may.
+/// Whether the word may name a slot: all words but `pc` may.
 pub fn is_name(word: Word) -> bool
     ensures { result ≡ is_name word }
 {

@@ -22,7 +22,7 @@ fn after_line(text: &[u8]) -> &[u8]
     }
 }
 
-// What follows that many lines.
+// The text without its first `count` lines.
 fn after_lines(text: &[u8], count: usize) -> &[u8]
     ensures { result.now ≡ after_lines count text.now }
 {

@@ -14,8 +14,8 @@ use stack_state::State;
 pub enum Compared {
     /// Two numbers.
     Numbers,
-    /// A packet pointer and the packet end: where the test comes out as `shows` says, that many
-    /// bytes after the variable part of the identity are in the packet.
+    /// A packet pointer and the packet end. Where the test comes out as `shows` says, `bytes` bytes
+    /// after the variable part of the identity are in the packet.
     Packet {
         identity: u32,
         shows: bool,

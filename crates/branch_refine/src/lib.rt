@@ -55,7 +55,7 @@ pub fn outcome_of(cond: Cond, taken: bool, state: &State) -> Outcome
     }
 }
 
-// The same, where pointers are compared.
+// What the test shows where pointers are compared.
 fn pointers_outcome(compared: Compared, taken: bool) -> Outcome
     ensures leaves { (a : TheState) → (cond : TheCond)
         → LearnsOf compared taken a (goes result) (left_in cond a result) }
@@ -97,7 +97,7 @@ fn is_same(taken: bool, outcome: bool) -> bool
     if taken { outcome } else { !outcome }
 }
 
-// The same, where two numbers are compared; else nothing is shown.
+// What the test shows where two numbers are compared; of others it shows nothing.
 fn numbers_outcome(cond: Cond, taken: bool, state: &State) -> Outcome
     ensures kept { KeepsMembers cond taken state.now (goes result) (left_in cond state.now result) }
     ensures narrowed { Narrows state.now (left_in cond state.now result) }

@@ -19,7 +19,7 @@ pub fn number_of(state: &State, register: Reg) -> Option<Scalar>
     }
 }
 
-/// The numbers of an operand, if it is known to be one.
+/// The numbers of an operand, if it is known to be a number.
 pub fn operand_numbers(state: &State, width: Width, operand: Operand) -> Option<Scalar>
     ensures { AreNumbersOf state.now width operand result }
 {

@@ -13,7 +13,7 @@ use stack_state::{Fact, State};
 pub enum Outcome {
     /// No member goes this way.
     Never,
-    /// Nothing.
+    /// The test shows nothing.
     Same,
     /// These numbers are left of the two that are compared.
     Narrowed(Scalar, Scalar),

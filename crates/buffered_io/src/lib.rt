@@ -16,7 +16,7 @@ use std::io::{BufWriter, ErrorKind, Write};
 /// A buffered writer. Bytes that are in the buffer when it is dropped are not written.
 ///
 /// A write or a flush that fails is the last one: each later one fails for the same reason, and
-/// nothing is tried again. A write of which the inner writer takes no byte fails with
+/// nothing is tried again. If the inner writer takes no byte, the write fails with
 /// `ErrorKind::WriteZero`.
 pub struct PromptWriter<W: Write + Drop> {
     buffered: BufWriter<W>,

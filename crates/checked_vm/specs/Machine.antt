@@ -27,7 +27,8 @@ state_of core packet =
       next_serial = core.maps.next_serial;
     }
 
--- registers, memory and the slot may differ; the number of frames, their room, the rows and the counts are as they were
+-- registers, memory and the slot may differ; the number of call frames, their room, the rows and
+-- the counts are as they were
 pub record KeepsFrames (old new : Core) : Type 0 where
   pub frames : vec_len new.frames ≡ vec_len old.frames
   pub room : vec_capacity new.frames ≡ vec_capacity old.frames
@@ -39,7 +40,7 @@ pub record KeepsFrames (old new : Core) : Type 0 where
 abbrev pub NamesAllRows : List MapDef → List (Option Insn) → Type 0
 NamesAllRows rows insns = (slot : ℕ) (i : Insn) → slice_index_or insns slot None ≡ Some i → NamesRows rows i
 
--- in the middle of a run: 1 to 8 frames, and room for eight
+-- in the middle of a run: 1 to 8 call frames, and room for eight
 pub record IsRunning (core : Core) : Type 0 where
   pub some : 1 ≤ vec_len core.frames
   pub few : vec_len core.frames ≤ max_call_frames
@@ -66,7 +67,7 @@ PerformsApart i result old new =
     (λ _. (packet : List ℕ) (p : Program) (clock : ℕ → ℕ) → act p clock (state_of old packet) i ≡ Next (state_of new packet))
     (λ e. ((packet : List ℕ) (p : Program) (clock : ℕ → ℕ) → act p clock (state_of old packet) i ≡ Trapped e) × (new ≡ old))
 
--- the same in a program of that many slots
+-- the same in a program of this number of slots
 abbrev pub PerformsIn : {A : Type 0} → ℕ → Insn → Result A TrapReason → Core → List ℕ → Core → List ℕ → Type 0
 PerformsIn slots i result old before new after =
     MatchResult result

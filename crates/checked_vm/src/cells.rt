@@ -1,4 +1,4 @@
-//! Cells of stack frames: the numbers and pointers that they spell, and the cells that spell them.
+//! Cells of call frames: the numbers and pointers that they spell, and the cells that spell them.
 
 ghost use Rattle.std.specs.Prelude.{◌≡◌, ◌+◌, ◌<◌, ◌≤◌, length, map, take, slice_index, Ok, Err, MatchResult};
 ghost use Rattle.isa_model.specs.Machine.HelperCalls.{bytes_in};
@@ -10,7 +10,7 @@ ghost use Rattle.isa_model.specs.Machine.Memory.{is_unwritten, is_byte, byte_in,
 
 use isa_model::{Cell, Region, Size, TrapReason, Value};
 
-/// The byte of a cell, 0 where there is none.
+/// The byte of a cell, or 0 if the cell is none or holds no byte.
 fn byte_or_zero(cells: &[Cell], k: usize) -> u8
     ensures { result ≡ slice_index (map byte_in cells.now) k }
 {
@@ -48,7 +48,7 @@ fn has_only_bytes(cells: &[Cell]) -> bool
     cells.iter().all(|cell| matches!(cell, Cell::Byte(_)))
 }
 
-// Writes the bytes of as many byte cells.
+// Writes the bytes of byte cells; there is a cell for each byte of the buffer.
 fn put_bytes(cells: &[Cell], bytes: &mut [u8])
     requires { length bytes.old ≡ length cells.now }
     ensures { bytes.new ≡ map byte_in cells.now }
@@ -58,7 +58,7 @@ fn put_bytes(cells: &[Cell], bytes: &mut [u8])
     }
 }
 
-/// Copies the bytes of as many cells.
+/// Copies the bytes of cells; there is a cell for each byte of the buffer.
 pub fn copy_bytes(cells: &[Cell], bytes: &mut [u8]) -> Result<(), TrapReason>
     requires { length bytes.old ≡ length cells.now }
     ensures copied { MatchResult result (λ _. bytes_in cells.now ≡ Ok bytes.new)

@@ -68,7 +68,7 @@ impl Core {
         }
     }
 
-    /// Goes on, at most that many steps.
+    /// Goes on for at most `limit` steps.
     fn steps<C: Clock>(
         &mut self,
         insns: &[Option<Insn>],

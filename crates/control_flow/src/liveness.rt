@@ -50,7 +50,7 @@ fn add_live(nodes: &[Node], masks: &mut [HomeMask], slot: usize) -> bool
     true
 }
 
-/// The slot that many slots before, if the instruction there falls through to this one.
+/// The slot `back` slots before, if the instruction there falls through to this one.
 fn falling(nodes: &[Node], slot: usize, back: usize) -> Option<usize>
     requires { slot < length nodes.now }
     ensures { (k : ℕ) → (result ≡ Some k)

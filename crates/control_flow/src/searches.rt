@@ -15,7 +15,7 @@ pub struct Search {
 impl Search {
     ghost use Rattle.control_flow.specs.Searches.{Extends, HasAll};
 
-    /// A search in code with that many slots, which has found nothing.
+    /// A search in code of this number of slots, which has found nothing.
     pub fn new(alloc: Global, slots: usize) -> Result<Self, AllocError>
         ensures found { IfOk result (λ search. search.found.items ≡ replicate slots false) }
         ensures frontier { IfOk result (λ search. search.frontier.items ≡ []) }

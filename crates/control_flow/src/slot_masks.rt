@@ -37,7 +37,7 @@ impl SlotMask {
         }
     }
 
-    /// Whether there is none.
+    /// Whether the set is empty.
     pub fn is_empty(self) -> bool
         ensures exact { IsTrue result ↔ (self ≡ no_slots) }
         ensures none { IsTrue result → (j : ℕ) → ¬ HasSlot self j }

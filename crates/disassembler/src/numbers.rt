@@ -86,7 +86,7 @@ fn hex_digit(digit: u64) -> &'static str
     }
 }
 
-// Appends at most that many hexadecimal digits.
+// Appends at most `places` hexadecimal digits.
 fn push_digits(line: &mut Line, number: u64, places: u32)
     requires { array_string_len line.old + places ≤ 96 }
     ensures bytes { line.new.bytes ≡ line.old.bytes ++ hex_digits places number }

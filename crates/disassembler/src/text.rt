@@ -74,7 +74,7 @@ fn line_of_version(image: &Image) -> &'static str
     }
 }
 
-// Writes it.
+// Writes the line of the version.
 fn write_version<W: Write>(image: &Image, out: &mut W) -> io::Result<()>
     ensures ok { OnOk result
         (Appends (W.contents out.old) (W.contents out.new) (version_line image.now.version)) }
@@ -85,7 +85,7 @@ fn write_version<W: Write>(image: &Image, out: &mut W) -> io::Result<()>
     write_bytes(out, line_of_version(image).as_bytes())
 }
 
-// Writes the lines after it.
+// Writes the lines after the one of the version.
 fn write_program<W: Write>(image: &Image, out: &mut W) -> io::Result<()>
     ensures ok { OnOk result
         (Appends (W.contents out.old) (W.contents out.new) (program_text image.now)) }

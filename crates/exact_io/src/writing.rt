@@ -1,4 +1,4 @@
-//! Writes all of some bytes.
+//! Writes bytes up to the first failure.
 ghost use Rattle.std.specs.Prelude.{OnOk, OnErr};
 ghost use Rattle.std.specs.Io.KnownBytes.{Appends};
 ghost use Rattle.exact_io.specs.Transfers.{AppendsBeginning};

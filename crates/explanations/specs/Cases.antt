@@ -1,4 +1,4 @@
--- What an instruction needs that is refused, beside what is known: a line for each case.
+-- What a refused instruction needs, or what helps.
 use Rattle.std.specs.Prelude.{ℕ, ◌==◌, ℤ, pos, ◌+ℤ◌, ◌-ℤ◌, List, [], ◌++◌, length, slice_get, Option, Some, None, Bool, true, false, ◌&&◌, not, codes, decimal, if◌then◌else◌}
 use Rattle.std.specs.Fmt.{signed_decimal}
 use Rattle.isa_model.specs.declared.instructions.Insn.{Insn}

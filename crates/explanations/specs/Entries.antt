@@ -18,7 +18,7 @@ use Rattle.explanations.specs.declared.mismatches.Mismatch.{Mismatch}
 use Rattle.explanations.specs.Lines.{register_lines, answer_line, stack_lines}
 use Rattle.explanations.specs.Mismatches.{IsMismatch, mismatch_lines}
 
--- of an entry whose step is refused so: the registers and the stack slots that concern its instruction
+-- if the step of an entry is refused, the registers and stack slots that concern its instruction
 abbrev pub step_lines : List MapDef → State → Insn → transfer.Refusal → List ℕ
 step_lines rows a i r = register_lines a i ++ (answer_line a (refusal.Step r) ++ stack_lines rows a i)
 
@@ -33,12 +33,12 @@ ways_in ways.None = 0
 ways_in ways.One = 1
 ways_in ways.Two = 2
 
--- as many successors, and as many entries that are named
+-- how many successors there are, and how many entries are named
 abbrev pub count_line : ℕ → ℕ → List ℕ
 count_line successors named =
     codes "successors: " ++ (decimal successors ++ (codes "; entries named: " ++ (decimal named ++ codes "\n")))
 
--- why the entry of that index does not pass for the nth state
+-- why the entry with this index does not pass for the nth state
 pub record TellsNamed (t : EntryAt) (number nth index : ℕ) (state : State) (text : List ℕ) : Type 0 where
   pub other : State
   pub mismatch : Mismatch
@@ -72,7 +72,7 @@ IsIndexOf (Step k r) index = k ≡ index
 IsIndexOf (Successor k) index = k ≡ index
 IsIndexOf error index = ⊥
 
--- the entry is at this slot, where this instruction begins, and that is said of it
+-- the entry is at this slot, where this instruction begins, and the text says that
 pub record IsReasonAt (p : Program) (t : EntryAt) (error : TableError) (slot : ℕ) (i : Insn) (text : List ℕ) : Type 0 where
   pub index : ℕ
   pub of : IsIndexOf error index
@@ -82,6 +82,6 @@ pub record IsReasonAt (p : Program) (t : EntryAt) (error : TableError) (slot : �
   pub here : fetch p slot ≡ Some i
   pub tells : SaysOfEntry p t error i entry text
 
--- of the entries that the bytes are
+-- the text is the reason of an entry of the table that these bytes spell
 abbrev pub IsEntryReason : Program → List ℕ → TableError → ℕ → Insn → List ℕ → Type 0
 IsEntryReason p bytes error slot i text = (entries : List Entry) × (table_read p bytes ≡ Ok entries) × IsReasonAt p (slice_get entries) error slot i text

@@ -5,7 +5,7 @@ use Rattle.reg_state.specs.declared.kinds.Kind.{Kind}
 use Rattle.reg_state.specs.declared.kinds.Kind.TheVariants.{Unset, Number, Context, Stack, Packet, PacketEnd, Map, MapValue, MapValueOrNull}
 use Rattle.explanations.specs.Numbers.{number_words}
 
--- how many calls up from the innermost frame a frame is
+-- how many calls up from the innermost call frame a call frame is
 abbrev pub calls_up : ℕ → List ℕ
 calls_up zero = []
 calls_up (suc zero) = codes ", 1 call up"
@@ -17,7 +17,7 @@ part_words identity least greatest =
     if identity == 0 then []
     else codes " after part " ++ (decimal identity ++ (codes " of " ++ (signed_decimal least ++ (codes " to " ++ signed_decimal greatest))))
 
--- from where on the proved bytes are counted
+-- words for the point from which the proved bytes are counted
 abbrev pub proved_words : ℕ → List ℕ
 proved_words identity = if identity == 0 then codes "bytes proved" else codes "bytes after the part proved"
 
@@ -33,7 +33,7 @@ value_words m least greatest =
     codes "value of map " ++ (decimal m ++ (codes " at " ++ (signed_decimal least ++ (codes " to " ++ signed_decimal greatest))))
     else codes "value of map " ++ (decimal m ++ (codes " at " ++ signed_decimal least))
 
--- a value, where the innermost frame has this number; offsets on the stack count from the end of the frame
+-- a value, where the innermost call frame has this number; offsets on the stack count from its end
 abbrev pub kind_words : ℕ → Kind → List ℕ
 kind_words innermost Unset = codes "unset"
 kind_words innermost (Number numbers) = number_words numbers

@@ -1,4 +1,4 @@
-//! What an instruction needs that is refused, beside what is known: a line for each case.
+//! What a refused instruction needs, or what helps: a line for each case.
 
 ghost use Rattle.std.specs.Prelude.{◌≡◌, ◌+ℤ◌, IfOk, slice_get};
 ghost use Rattle.std.specs.Option.{option_copied};
@@ -56,7 +56,7 @@ fn first_byte(base: i32, place: Place) -> i64
     i64::from(base) + i64::from(place.offset)
 }
 
-// The last one.
+// The last byte of an access, where its base is at this offset.
 fn last_byte(base: i32, place: Place, size: Size) -> i64
     ensures { result ≡ last_byte base place.offset size }
 {
@@ -79,7 +79,7 @@ fn span_words(
     needs_words(alloc, first, last)
 }
 
-// From where on the bytes of the packet are counted.
+// Words for the point from which the packet's bytes are counted.
 fn behind_words(identity: u32) -> &'static str
     ensures { result.now ≡ behind_words identity }
 {
@@ -103,7 +103,7 @@ fn row_size(maps: &[MapDef], index: u8) -> u32
     }
 }
 
-// Which bytes of a frame are needed, and which there are.
+// Which bytes of a call frame an access needs, and which bytes there are.
 fn frame_line(alloc: Global, span: &str, bytes: usize) -> Result<String, AllocError>
     ensures { IfOk result (λ text. string_bytes text ≡ frame_line span.now bytes) }
 {
@@ -129,7 +129,7 @@ fn value_line(alloc: Global, span: &str, bytes: u32) -> Result<String, AllocErro
     format!(in alloc; "{span}; the value has {bytes}: correct the offset, or limit it (r2 &= 7)\n")
 }
 
-// What an access needs that is refused for its place, and what there is.
+// Which bytes a refused access needs, and which bytes there are.
 fn access_line(
     alloc: Global,
     maps: &[MapDef],
@@ -166,7 +166,7 @@ fn access_line(
     }
 }
 
-// The same of an instruction.
+// Which bytes the access of an instruction needs, and which bytes there are.
 fn place_line(
     alloc: Global,
     maps: &[MapDef],
@@ -197,7 +197,7 @@ fn points_to_bytes(kind: Kind) -> bool
     }
 }
 
-// What a look-up and a delete want, by what r1 is.
+// What a look-up and a delete need, by the kind of r1.
 fn key_line(map: Kind) -> &'static str
     ensures { result.now ≡ key_line map }
 {
@@ -208,7 +208,7 @@ fn key_line(map: Kind) -> &'static str
     }
 }
 
-// What an update wants, by what r1, r2 and r3 are.
+// What an update needs, by the kinds of r1, r2 and r3.
 fn update_line(map: Kind, key: Kind, value: Kind) -> &'static str
     ensures { result.now ≡ update_line map key value }
 {
@@ -221,7 +221,7 @@ fn update_line(map: Kind, key: Kind, value: Kind) -> &'static str
     }
 }
 
-// Which argument is wrong that a helper has.
+// Which argument of a helper is wrong.
 fn argument_line(state: &State, helper: Helper) -> &'static str
     ensures { result.now ≡ argument_line state.now helper }
 {
@@ -308,7 +308,7 @@ fn cure_line(refusal: StepRefusal) -> &'static str
     }
 }
 
-/// What the instruction needs that is refused, or what helps.
+/// What a refused instruction needs, or what helps.
 pub fn case_line(
     alloc: Global,
     maps: &[MapDef],

@@ -1,4 +1,5 @@
-//! What of a state concerns an instruction or its refusal, a line each, and the way.
+//! The registers and stack slots that concern a refused instruction, a line each, and the line of
+//! the last jumps on the path to it.
 
 ghost use Rattle.std.specs.Prelude.{◌≡◌, ◌++◌, IfOk, MatchOption, None, Some, option_to_list};
 ghost use Rattle.std.specs.List.{flat_map};
@@ -20,7 +21,7 @@ use transfer::Refusal as StepRefusal;
 
 // ---- registers
 
-/// Four registers, or fewer.
+/// At most four registers.
 pub type Registers = (Option<Reg>, Option<Reg>, Option<Reg>, Option<Reg>);
 
 /// The registers that concern an instruction.

@@ -148,11 +148,11 @@ zeros_from k [] = []
 zeros_from k (zero ∷ numbers) = k ∷ zeros_from (suc k) numbers
 zeros_from k (suc n ∷ numbers) = zeros_from (suc k) numbers
 
--- their places, in the order in which they were stored
+-- their indexes, in the order in which they were stored
 abbrev pub unfinished : List Stored → List ℕ
 unfinished entries = zeros_from 0 (map (λ e. e.number) entries)
 
--- the places with one in front of them, or after them, if there is one
+-- the indexes with one in front of them, or after them, if there is one
 abbrev pub with_first : Option ℕ → List ℕ → List ℕ
 with_first None places = places
 with_first (Some k) places = k ∷ places

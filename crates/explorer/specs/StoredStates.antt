@@ -5,11 +5,11 @@ use Rattle.stack_state.specs.declared.states.State.{State}
 use Rattle.stack_state.specs.Meaning.{Covers}
 use Rattle.explorer.specs.declared.stored_states.Stored.{Stored}
 
--- the entry at this place is the state, with this number
+-- the stored state with this index is s, and has this number
 abbrev pub IsStored : List Stored → ℕ → State → ℕ → Type 0
 IsStored entries index s n = slice_get entries index ≡ Some (record { state = s; number = n })
 
--- the entry at this place is finished, has this number, and covers the state
+-- the stored state with this index is finished, has this number, and covers s
 pub record IsCovered (entries : List Stored) (index : ℕ) (s : State) (n : ℕ) : Type 0 where
   pub entry : State
   pub stored : slice_get entries index ≡ Some (record { state = entry; number = n })

@@ -1,4 +1,4 @@
-//! Frames, stored compactly.
+//! Call frames, stored compactly.
 
 ghost use Rattle.std.specs.Prelude.{◌≡◌, ◌≤◌, ◌++◌, IfOk, IsTrue, length};
 ghost use Rattle.stack_state.specs.Slots.{frame_slots};

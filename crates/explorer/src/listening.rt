@@ -30,14 +30,14 @@ pub trait Listener {
             → follows self.old p path last
             → OnOk result (follows self.new p (state.now ∷ path) state.now) };
 
-    /// The last state of the path is covered by the stored state at this place, and so has its
+    /// The last state of the path is covered by the stored state with this index, and so has its
     /// number.
     fn covered(&mut self, place: usize, number: u32) -> Result<(), Self::Stop>
         ensures { (p : Program) (s : TheState) (path : List TheState) (last : TheState)
             → follows self.old p (s ∷ path) last → OnOk result (follows self.new p path last) };
 
-    /// The last state of the path, which is this one, is to be explored. At a join it is stored at
-    /// this place, and then as the last of all stored states, which is the one that was kept.
+    /// The last state of the path, which is this one, is to be explored. At a join it was stored
+    /// as the last of the stored states: `stored` is its index, and `kept` is that stored state.
     fn explores(
         &mut self,
         state: &State,
@@ -57,7 +57,7 @@ pub trait Listener {
         ensures { (p : Program) (s : TheState) (path : List TheState) (last : TheState)
             → follows self.old p (s ∷ path) last → OnOk result (follows self.new p path last) };
 
-    /// The program is refused so, at the last state of the path; or memory ran out.
+    /// The program is refused for this reason, at the last state of the path; or memory ran out.
     fn refused(&mut self, refusal: Refusal, slot: usize)
         ensures { (p : Program) (path : List TheState) (last : TheState)
             → follows self.old p path last → follows self.new p path last };

@@ -28,8 +28,8 @@ pub struct Entry {
     pub number: u32,
     /// The state in which it is explored.
     pub state: Kept,
-    /// The places of the entries for its successors, the fall-through's first. If a stored state
-    /// covers a successor, the place is that of the stored state.
+    /// The indexes of its successors in the list, the fall-through's first. If a stored state
+    /// covers a successor, the index is that of the stored state.
     pub successors: ArrayVec<u32, 2>,
 }
 
@@ -59,7 +59,7 @@ impl Explored {
         self.entries.len()
     }
 
-    /// The one at a place.
+    /// The one with this index.
     pub fn entry(&self, place: usize) -> Option<&Entry>
         ensures { option_copied result ≡ slice_get self.now place }
     {

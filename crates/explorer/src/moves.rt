@@ -11,10 +11,10 @@ pub const NO_MEMORY: Refused = (Refusal::Memory, 0);
 /// A move of a search.
 #[derive(Clone, Copy, Drop)]
 pub enum Move {
-    /// The path arrives at the current state, which is to be explored. At a join it is stored, at
-    /// this place.
+    /// The path arrives at the current state, which is to be explored. At a join it is stored, with
+    /// this index.
     New(Option<usize>),
-    /// The path arrives at the current state, which the stored state at this place covers: it has
+    /// The path arrives at the current state, which the stored state with this index covers: it has
     /// the same number.
     Covered(usize, u32),
     /// The last state of the path is explored, and this is its number.

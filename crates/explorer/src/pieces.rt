@@ -192,7 +192,7 @@ impl KeptParts {
     }
 }
 
-/// The parts in pieces, some of which may be shared with another state.
+/// The parts in pieces. Another state may share some of them.
 fn cut(alloc: Global, parts: &[Part], others: &[Piece]) -> Result<Vec<Piece>, AllocError>
     ensures { IfOk result (λ pieces. whole pieces.items ≡ parts.now) }
 {

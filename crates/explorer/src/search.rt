@@ -80,7 +80,7 @@ fn arrive(
 }
 
 impl Search {
-    /// A search at the start of code with that many slots.
+    /// A search at the start of code of this number of slots.
     pub fn new(alloc: Global, slots: usize) -> Result<Self, AllocError>
         ensures new { IfOk result (λ search. IsNew search) }
         ensures room { IfOk result (λ search. HasShapeRoom search.stored.index slots) }

@@ -61,7 +61,7 @@ fn last_of(entries: &[Stored]) -> Option<&Kept> {
 }
 
 impl StoredStates {
-    /// No states yet, of code with that many slots.
+    /// No states yet, for code of this number of slots.
     pub fn new(alloc: Global, slots: usize) -> Result<Self, AllocError>
         ensures empty { IfOk result (λ stored. stored.entries.items ≡ []) }
         ensures room { IfOk result (λ stored. HasShapeRoom stored.index slots) }
@@ -177,7 +177,7 @@ impl StoredStates {
     }
 
     /// The first finished state that covers this one, of those with these known bits, if it was
-    /// stored before another one: its place and its number. And how many were scanned.
+    /// stored before another one: its index and its number. And how many were scanned.
     fn first_known(
         &self,
         known: u64,
@@ -236,7 +236,7 @@ impl StoredStates {
         (first, longest)
     }
 
-    /// The first finished state that covers this one: its place and its number.
+    /// The first finished state that covers this one: its index and its number.
     pub fn cover_of(&mut self, state: &State, scratch: &mut State) -> Option<(usize, u32)>
         ensures covered { IfSome result
             (λ r. IsCovered self.old.entries.items r.0 state.now r.1) }
@@ -309,7 +309,7 @@ impl StoredStates {
         false
     }
 
-    /// Stores the state that was taken, and answers its place.
+    /// Stores the state that was taken, and answers its index.
     pub fn store(
         &mut self,
         alloc: Global,

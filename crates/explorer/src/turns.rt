@@ -6,8 +6,8 @@ ghost use Rattle.explorer.specs.Turns.{AreOn, IsAt, IsFurtherBack};
 
 use stack_state::State;
 
-/// The last two states of a path that came to one slot. A place is how many states of the path come
-/// before one; it is there while the state is on the path.
+/// The last two states of a path that came to one slot. Beside each is how many states of the path
+/// come before it, while it is on the path.
 #[derive(Drop)]
 pub struct Turns {
     /// The state that came last, also where the path has left it.
@@ -90,7 +90,7 @@ impl Turns {
     }
 }
 
-/// A place, unless it is this one.
+/// The count of states before one, unless it is this count.
 fn without(place: Option<usize>, count: usize) -> Option<usize>
     ensures kept { (n : ℕ) → result ≡ Some n → (place ≡ Some n) × (n ≢ count) }
 {

@@ -2,12 +2,13 @@
 use Rattle.std.specs.Prelude.{ℕ, ◌-◌, min, Option, Some, None}
 use Rattle.failing_io.specs.declared.Failure.{Failure}
 
--- of that many, if it does not fail: at most a step, and no more than are left before the failure
+-- how many of `most` bytes a call moves, if it does not fail: at most a step, and no more than are
+-- left before the failure
 abbrev pub count_of : ℕ → ℕ → ℕ → Option Failure → ℕ
 count_of most step room None = min most step
 count_of most step room (Some failing) = min (min most step) room
 
--- how many bytes are left before the failure, after a call that moved that many
+-- how many bytes are left before the failure, after a call that moved `count`
 abbrev pub room_after : ℕ → ℕ → Option Failure → ℕ
 room_after count room None = room
 room_after count room (Some failing) = room - count

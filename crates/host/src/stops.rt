@@ -51,7 +51,7 @@ fn is_noted(end: End) -> bool
     }
 }
 
-// A frame comes after the first ones, while there is room.
+// Notes a frame after those that are kept, while there is room.
 fn put_first(first: &mut ArrayVec<FrameStop, 20>, stop: FrameStop)
     ensures { first.new.items ≡ with_first first.old.items stop }
 {
@@ -61,7 +61,7 @@ fn put_first(first: &mut ArrayVec<FrameStop, 20>, stop: FrameStop)
 }
 
 impl Stops {
-    /// No frame was run yet.
+    /// No frames, as before the first run.
     pub fn new() -> Self
         ensures { noted_of result ≡ nothing_noted }
     {
@@ -71,7 +71,7 @@ impl Stops {
         }
     }
 
-    /// The run of a frame stopped.
+    /// Notes the run of a frame, if it ended without an action.
     pub fn note(&mut self, number: u32, stop: Stop)
         ensures { noted_of self.new ≡ note (noted_of self.old) number stop }
     {

@@ -65,7 +65,7 @@ size_refusal bytes =
     else if nat_lt (size_of (map_count bytes) (slot_count bytes)) (length bytes) then Some Long
     else None
 
--- what is wrong with that many slots
+-- why an image may not have this number of slots
 abbrev pub count_refusal : ℕ → Option ImageError
 count_refusal slots =
     if slots == 0 then Some SlotCount else if nat_lt MAX_SLOTS slots then Some SlotCount else None

@@ -1,4 +1,4 @@
-//! The 8 bytes at its front.
+//! The 8 bytes at the front of an image.
 
 ghost use Rattle.std.specs.Prelude.{◌≡◌, ◌≤◌, ◌++◌, length};
 ghost use Rattle.byteorder.specs.Endian.{little_bytes};
@@ -58,7 +58,7 @@ pub fn map_count(bytes: &[u8]) -> usize
     usize::from(LittleEndian::read_u16(&bytes[4..]))
 }
 
-/// What is wrong with that many slots.
+/// Why an image may not have this number of slots.
 pub fn count_refusal(slots: usize) -> Option<ImageError>
     ensures { result ≡ count_refusal slots }
 {
@@ -69,7 +69,7 @@ pub fn count_refusal(slots: usize) -> Option<ImageError>
     }
 }
 
-/// The head of an image of that version, with that many map rows and slots.
+/// The head of an image: its version, and how many map rows and slots it has.
 pub fn head_of(version: Version, maps: u16, slots: u16) -> [u8; 8]
     ensures { result ≡ magic version ++ (little_bytes 2 maps ++ little_bytes 2 slots) }
 {

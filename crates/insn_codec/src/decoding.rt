@@ -39,7 +39,7 @@ fn op_selected(code: AluCode, offset: u16) -> Option<AluOp>
     }
 }
 
-/// The extension from as many bits as `offset` says.
+/// The extension from the number of bits that `offset` says.
 fn extension_selected(width: Width, offset: u16) -> Option<Extension>
     ensures { result ≡ extension_selected width offset }
 {

@@ -36,7 +36,7 @@ pub fn compute(op: AluOp, width: Width, a: u64, b: u64) -> u64
     }
 }
 
-// The operation on two numbers of an unsigned type of that many bits.
+// The operation on two numbers of an unsigned type with this number of bits.
 macro_rules! operation {
     ($op:expr, $a:expr, $b:expr, $bits:literal) => {
         match $op {

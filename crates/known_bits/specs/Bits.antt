@@ -1,4 +1,4 @@
--- What the contracts of `Bits` cite.
+-- The numbers of a `Bits`, and what its contracts say of them.
 use Rattle.std.specs.Prelude.{ℕ, ◌≡◌, ◌+◌, ◌*◌, ◌/◌, ◌%◌, ◌^◌, ◌<◌, ◌≤◌, ⊤, bit_or}
 use Rattle.std.specs.Int.{bit_at}
 use Rattle.isa_model.specs.declared.instructions.AluOp.{AluOp}
@@ -52,7 +52,7 @@ pub record SomePair (a b : Bits) (R : ℕ → ℕ → Type 0) : Type 0 where
   pub second : Has b y
   pub is : R x y
 
--- x with other bits from one on: the low bits of y, that many of them
+-- x with `count` bits replaced from bit `from` on: they are the low bits of y
 abbrev pub spliced : ℕ → ℕ → ℕ → ℕ → ℕ
 spliced from count x y =
     (x / 2 ^ (from + count) * 2 ^ count + y % 2 ^ count) * 2 ^ from + x % 2 ^ from

@@ -80,7 +80,7 @@ impl Bits {
     }
 }
 
-// The number that is that many ones.
+// The number whose low `count` bits are 1, and no others.
 pub(crate) fn ones(count: u32) -> u64
     requires { count ≤ 64 }
     ensures { result + 1 ≡ 2 ^ count }

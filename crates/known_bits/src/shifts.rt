@@ -12,7 +12,7 @@ impl Bits {
     ghost use Rattle.isa_model.specs.Code.Numbers.{alu};
     ghost use Rattle.known_bits.specs.Bits.{Has, IsSharp};
 
-    // The low bits, that many of them.
+    // The low `count` bits of the numbers.
     pub(crate) fn low(self, count: u32) -> Self
         requires { count ≤ 64 }
         ensures value { result.value ≡ self.value % 2 ^ count }
@@ -39,7 +39,7 @@ impl Bits {
         self.shift_right(from).low(count)
     }
 
-    /// The numbers with other bits from one on: the low bits of other numbers, that many of them.
+    /// The numbers with `count` bits from bit `from` on replaced by the low bits of others.
     pub fn spliced(self, from: u64, count: u32, other: Self) -> Self
         requires from { from < 64 }
         requires inside { from + count ≤ 64 }
@@ -131,7 +131,7 @@ impl Bits {
     }
 }
 
-/// The number with other bits from one on: the low bits of another number, that many of them.
+/// The number with `count` bits from bit `from` on replaced by the low bits of another.
 pub fn spliced(from: u64, count: u32, number: u64, other: u64) -> u64
     requires from { from < 64 }
     requires inside { from + count ≤ 64 }

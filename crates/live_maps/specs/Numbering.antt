@@ -59,7 +59,7 @@ pub record IsSpan (m : MapState) (serials : Serials) (s : Span) : Type 0 where
 abbrev pub span_at : List (Option Span) → ℕ → Option Span
 span_at spans m = slice_index_or spans m None
 
--- what is told of the numbering of each map is so
+-- what is known of the numbering of each map is true
 pub record AreSpans (maps : List MapState) (all : List Serials) (spans : List (Option Span)) : Type 0 where
   pub long : length spans ≡ length maps
   pub each : (m : ℕ) → m < length maps → IfSome (span_at spans m) (IsSpan (map_at maps m) (serials_at all m))

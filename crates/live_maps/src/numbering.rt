@@ -18,7 +18,7 @@ pub struct Span {
     pub count: u64,
 }
 
-/// Nothing is told of the numbering of so many maps.
+/// What is known of the numbering of each of `count` maps: nothing yet.
 pub fn spans_for(alloc: Global, count: usize) -> Result<Vec<Option<Span>>, AllocError>
     ensures len { IfOk result (λ spans. vec_len spans ≡ count) }
     ensures room { IfOk result (λ spans. vec_capacity spans ≡ count) }

@@ -91,7 +91,7 @@ impl Model for Table {
 }
 
 impl Table {
-    /// Room for the serials of that number of places, none of which has one.
+    /// Room for the serials of this number of places. No place has a serial yet.
     pub fn new(alloc: Global, places: usize) -> Result<Self, AllocError>
         ensures { IfOk result (λ t. length t ≡ places) }
     {

@@ -1,4 +1,5 @@
--- What the map of some slots has at a key, and what it is after one slot is filled or emptied.
+-- The map that the keys of places mean: what it has at a key, and what it is after a key is put at
+-- a place or removed.
 use Rattle.std.proofs.Common.{◌≡◌, ℕ, suc, ◌+◌, List, [], ◌∷◌, Some, None, true, false, cond, refl, sym, ap, ◌∙◌, arith}
 use Rattle.std.specs.Ordering.{is_eq}
 use Rattle.std.specs.declared.cmp.Ordering.{Ordering}

@@ -1,4 +1,4 @@
--- A map's content after one value is written, one key is added, and one removed.
+-- Laws of a map's content after a value is written, a key is added, or a key is removed.
 use Rattle.std.proofs.Common.{◌≡◌, ℕ, List, [], ◌∷◌, map, length, Some, Bool, true, false, cond, refl, ap, arith}
 use Rattle.std.specs.Prelude.{◌&&◌}
 use Rattle.std.specs.Option.{option_map}

@@ -7,11 +7,11 @@ use mathlib.Core.Option.{none}
 use Rattle.maps.specs.contracts.all.Maps.{the_row}
 use Rattle.maps.specs.Maps.{MapState, map_at, with_block}
 
--- they are as they were
+-- the maps are as they were before
 abbrev pub Stay : MutBor (List MapState) → Fml
 Stay maps = follows_so the_row the_row maps.ghost_name none (λ _ _. ⊤) (λ after. after ≡ maps.now)
 
--- the block of one is lent, which keeps its length
+-- the block of one map is lent, and keeps its length
 abbrev pub LendsBlock : MutBor (List MapState) → ℕ → MutBor (List ℕ) → Fml
 LendsBlock maps m r =
     LendsBytes the_row maps r

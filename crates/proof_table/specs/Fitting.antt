@@ -34,7 +34,7 @@ pub record ScalarFits (s : Scalar) : Type 0 where
   pub wide : WideFits s.range.wide
   pub low : LowFits s.range.low
 
--- ---- pointers; `rows` is how many map rows there are, `holder` the frame that holds the value
+-- ---- pointers; there are `rows` map rows, and `holder` is the call frame that holds the value
 
 pub record StackFits (holder frame : ℕ) (offset : ℤ) : Type 0 where
   pub up_to_holder : frame ≤ holder
@@ -86,7 +86,7 @@ SlotFits rows holder (Written marks) = marks < 2 ^ 8
 SlotFits rows holder (Spilled Unset) = ⊥
 SlotFits rows holder (Spilled kind) = KindFits rows holder kind
 
--- ---- frames and entries
+-- ---- call frames and entries
 
 pub record FrameFits (rows holder : ℕ) (outer : Bool) (f : AbstractFrame) : Type 0 where
   pub return_slot : f.return_slot < 2 ^ 16
@@ -105,8 +105,7 @@ pub record EntryFits (p : Program) (e : Entry) : Type 0 where
   pub named : length e.successors ≤ 2
   pub indexes : All (λ i. i < 2 ^ 32) e.successors
 
--- ---- what a table says of a state: where a value was spilled about which nothing is known, that
--- no byte is marked
+-- ---- what a table says of a state: of a slot whose value is unset, that no byte is written
 
 abbrev pub slot_said : Slot → Slot
 slot_said (Spilled Unset) = Written 0

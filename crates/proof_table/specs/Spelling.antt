@@ -63,8 +63,8 @@ kind_bytes (Map index) = 6 ∷ (index ∷ [])
 kind_bytes (MapValue index least greatest) = value_bytes index least greatest
 kind_bytes (MapValueOrNull index identity) = null_bytes index identity
 
--- a stack slot: 0 and the marks of written bytes, or 1 and a value. Where a value was spilled about
--- which nothing is known, no byte is marked
+-- a stack slot: 0 and the marks of written bytes, or 1 and a value; a spilled value about which
+-- nothing is known is spelled as a slot without marks
 unfoldable pub slot_bytes : Slot → List ℕ
 slot_bytes (Written marks) = 0 ∷ (marks ∷ [])
 slot_bytes (Spilled Unset) = 0 ∷ (0 ∷ [])

@@ -33,7 +33,7 @@ pub record GainsEntries (p : Program) (count : ℕ) (old new : Option (List ℕ)
   pub fit : All (EntryFits p) entries
   pub gained : Appends old new (flat_map entry_bytes entries)
 
--- a beginning of them, which is not all
+-- a beginning of these entries, which is not all of them
 pub record BeginsEntries (p : Program) (count : ℕ) (old new : Option (List ℕ)) : Type 0 where
   pub entries : List Entry
   pub count_is : length entries ≡ count

@@ -75,7 +75,7 @@ fn spell_explored(
     }
 }
 
-/// Writes that many of the entries that were explored, each through the buffer.
+/// Writes this number of the explored entries, each through the buffer.
 fn write_entries<W: Write>(
     image: &Image,
     explored: &Explored,
@@ -125,7 +125,7 @@ pub fn write_table<W: Write>(
     ensures ok { OnOk result
         (GainsTable verified.now.program (W.contents writer.old) (W.contents writer.new)) }
 
-    // A beginning of one.
+    // A beginning of such a table.
     ensures err { OnErr result
         (BeginsTable verified.now.program (W.contents writer.old) (W.contents writer.new)) }
 {

@@ -1,4 +1,4 @@
--- What the contracts of `Low` cite.
+-- The low halves of a `Low`, and what its contracts say of them.
 use Rattle.std.specs.Prelude.{ℕ, ℤ, ◌≡◌, ◌≤◌, ◌≤ℤ◌, ◌⊎◌, FitsSigned}
 use Rattle.std.specs.Int.{Width as IntWidth, w32, cast_signed, cast_unsigned}
 use Rattle.isa_model.specs.declared.sizes.Width.TheVariants.{Low32}

@@ -1,4 +1,4 @@
--- What the contracts of `Range` cite.
+-- The numbers of a `Range`, and what its contracts say of them.
 use Rattle.std.specs.Prelude.{ℕ, ◌≡◌, ◌%◌, ◌^◌, ◌<◌, ◌⊎◌, ⊤}
 use Rattle.std.specs.Int.{w64, cast_signed, cast_unsigned}
 use Rattle.isa_model.specs.declared.sizes.Width.{Width}

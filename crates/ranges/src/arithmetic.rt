@@ -207,7 +207,7 @@ fn reads_low(op: AluOp, width: Width, b: Wide) -> bool
     }
 }
 
-// The greatest number of that many bits.
+// The greatest number with this number of bits.
 fn greatest_read(span: Span) -> u64
     ensures { result + 1 ≡ 2 ^ span_bits span }
 {

@@ -57,7 +57,7 @@ impl Wide {
         }
     }
 
-    // Of numbers without a sign bit they are those without a sign.
+    // Where no number has the sign bit set, the signed quotients are the unsigned ones.
     fn plain_quotient(self, width: Width, other: Self) -> Self
         ensures contains { (x y : ℕ) → x < 2 ^ width_bits width → y < 2 ^ width_bits width
             → Has self x → Has other y → Has result (result_of AluOp.SignedDiv width x y) }
@@ -71,7 +71,7 @@ impl Wide {
         }
     }
 
-    // By a number that is known, at 64 bits.
+    // The signed quotients at 64 bits, by a divisor that is known.
     fn full_quotient(self, other: Self) -> Self
         ensures contains { (x y : ℕ) → Has self x → Has other y
             → Has result (result_of AluOp.SignedDiv Width.Full64 x y) }
@@ -100,7 +100,7 @@ impl Wide {
         }
     }
 
-    // Of numbers without a sign bit they are those without a sign.
+    // Where no number has the sign bit set, the signed remainders are the unsigned ones.
     fn plain_remainder(self, width: Width, other: Self) -> Self
         ensures contains { (x y : ℕ) → x < 2 ^ width_bits width → y < 2 ^ width_bits width
             → Has self x → Has other y → Has result (result_of AluOp.SignedMod width x y) }
@@ -114,7 +114,7 @@ impl Wide {
         }
     }
 
-    // By a number that is known, at 64 bits.
+    // The signed remainders at 64 bits, by a divisor that is known.
     fn full_remainder(self, other: Self) -> Self
         ensures contains { (x y : ℕ) → Has self x → Has other y
             → Has result (result_of AluOp.SignedMod Width.Full64 x y) }
@@ -200,7 +200,7 @@ impl Wide {
     }
 }
 
-// Whether all numbers of both are below half of those of the width.
+// Whether no number of either has the sign bit of the width set.
 fn have_no_sign(width: Width, a: Wide, b: Wide) -> bool
     ensures { IsTrue result ↔ HaveNoSign width a.greatest b.greatest }
 {

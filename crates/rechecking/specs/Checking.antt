@@ -17,7 +17,7 @@ use Rattle.rechecking.specs.Tables.{EntryAt, IsClosedEntry, MeansStarts}
 
 -- ---- successors
 
--- the entry of that index covers the state, and its number is smaller
+-- the entry with this index covers the state, and its number is smaller
 pub record Enters (t : EntryAt) (number index : ℕ) (a : State) : Type 0 where
   pub entry : Entry
   pub there : t index ≡ Some entry
@@ -33,7 +33,7 @@ pub record EntersClearly (t : EntryAt) (number index : ℕ) (a : State) : Type 0
   pub null : ℕ → ℕ
   pub covers : Encloses packet null entry.state a
 
--- the entry of that index covers the state
+-- the entry with this index covers the state
 pub record Covering (t : EntryAt) (index : ℕ) (a : State) : Type 0 where
   pub entry : Entry
   pub there : t index ≡ Some entry
@@ -47,7 +47,7 @@ pub record CoversClearly (t : EntryAt) (index : ℕ) (a : State) : Type 0 where
   pub null : ℕ → ℕ
   pub covers : Encloses packet null entry.state a
 
--- as many entries are named as there are successors, and each has this relation to its successor
+-- there are as many named entries as successors, and each has this relation to its successor
 abbrev pub FollowsBy : (ℕ → State → Type 0) → List ℕ → Ways → State → State → Type 0
 FollowsBy R [] ways.None a b = Unit {0}
 FollowsBy R (i ∷ []) ways.One a b = R i a

@@ -25,7 +25,7 @@ pub record Assigned : Type 0 where
 abbrev pub HasLiveValue : List Content → ℕ → ℕ → Type 0
 HasLiveValue maps m n = Contains (value_serials (slice_index_or maps m [])) n
 
--- that many bytes after the variable part are in the packet
+-- `proved` bytes after the variable part are in the packet
 abbrev pub IsProved : Assigned → ℕ → ℕ → Type 0
 IsProved e identity proved = 0 < proved → (e.offset identity +ℤ pos proved) ≤ℤ pos e.packet_length
 

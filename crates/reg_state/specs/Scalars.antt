@@ -1,4 +1,4 @@
--- What the contracts of `Scalar` cite.
+-- The numbers of a `Scalar`, and what its contracts say of them.
 use Rattle.std.specs.Prelude.{ℕ, ◌≢◌, ◌⊎◌}
 use Rattle.isa_model.specs.declared.sizes.Width.{Width}
 use Rattle.isa_model.specs.declared.sizes.Width.TheVariants.{Low32, Full64}
@@ -15,7 +15,7 @@ Has s x = B.Has s.bits x × R.Has s.range x
 abbrev pub Encloses : Scalar → Scalar → Type 0
 Encloses a b = ((x : ℕ) → B.Has b.bits x → B.Has a.bits x) × R.Encloses a.range b.range
 
--- both parts are x only
+-- both parts mean x and no other number
 abbrev pub IsConstant : Scalar → ℕ → Type 0
 IsConstant s x = B.IsConstant s.bits x × R.IsConstant s.range x
 

@@ -1,4 +1,4 @@
--- What is known of a number of which some bits were written.
+-- What is known of a number in which some bits were written.
 use Rattle.std.specs.Prelude.{◌≡◌, ℕ, ◌-◌, ◌^◌, ◌<◌, ◌≤◌}
 use Rattle.std.specs.Int.{bit_at}
 use Rattle.known_bits.specs.Bits.{spliced}

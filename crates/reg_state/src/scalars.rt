@@ -64,7 +64,7 @@ impl Scalar {
         (known, from, to)
     }
 
-    // The same numbers. One that the limits leave alone is written as a constant.
+    // The same numbers. If the limits leave only one number, it is written as a constant.
     pub(crate) fn single(self) -> Scalar
         ensures contains { (x : ℕ) → Has self x → Has result x }
         ensures narrower { (x : ℕ) → Has result x → Has self x }

@@ -1,4 +1,4 @@
-//! Numbers of which some bits were written.
+//! Numbers in which some bits were written.
 
 ghost use Rattle.std.specs.Prelude.{◌≡◌, ℕ, ◌+◌, ◌-◌, ◌%◌, ◌^◌, ◌<◌, ◌≤◌, Some, IfSome};
 ghost use Rattle.known_bits.specs.Bits.{spliced};
@@ -13,7 +13,7 @@ impl Scalar {
     ghost use Rattle.reg_state.specs.Scalars.{Has};
     ghost use Rattle.reg_state.specs.Splices.{IsSpliced};
 
-    /// The numbers with other bits from one on: the low bits of other numbers, that many of them.
+    /// The numbers with `count` bits from bit `from` on replaced by the low bits of others.
     pub fn spliced(self, from: u64, count: u32, other: Scalar) -> Scalar
         requires from { from < 64 }
         requires some { 0 < count }
@@ -30,7 +30,7 @@ impl Scalar {
     }
 }
 
-// The least and the greatest of the low bits of the numbers, that many of them.
+// The least and the greatest of the low `count` bits of the numbers.
 fn low_limits(count: u32, range: Range) -> (u64, u64)
     requires some { 0 < count }
     requires count { count ≤ 64 }

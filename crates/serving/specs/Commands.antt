@@ -37,8 +37,8 @@ LoadsNone path old new result = ReadsNone path old new result ⊎ ((bytes : List
 abbrev pub ReadsImage : (Program → Type 0) → Type 0
 ReadsImage P = (p : Program) × IsImage p × P p
 
--- the image, or then the table, could not be read; or one of them is refused, and what else the
--- message says is known
+-- the image could not be read, or after it the table; or one of the two is refused, and what the
+-- message says beside that is true
 abbrev pub ShowsNone : ProofFiles → Option (List ℕ) → Option (List ℕ) → Ending → Type 0
 ShowsNone files old new result =
     Plainly (LoadsNone files.image old new) result
@@ -53,11 +53,11 @@ IsShown v = (bytes : List ℕ) × IsBoundShown v.program bytes v.bound
 abbrev pub ShowsSome : (Bounded → Type 0) → Type 0
 ShowsSome P = (v : Bounded) × IsShown v × P v
 
--- the frames could not be opened, or the frames out not be made
+-- the frame stream could not be opened, or the file of the frames out not be made
 abbrev pub OpensNone : RunFiles → Option (List ℕ) → Option (List ℕ) → Outcome → Type 0
 OpensNone files old new result = ReadsNone files.frames old new result ⊎ MakesNone files.out old new result
 
--- a run over some source, which begins as some file does, the frames out going to the file at the path
+-- a run over some source, which begins as some file does; the frames out go to the file at the path
 pub record TracesSome (p : Program) (limit : ℕ) (out : List ℕ) (old new : Option (List ℕ)) (result : Ending) : Type 0 where
   pub source : Option (List ℕ)
   pub form : Form

@@ -12,7 +12,7 @@ pub record IsFlushed {W : Type 0} (out : PromptWriter W) : Type 0 where
   pub all : waiting out ≡ []
   pub sound : failure_of out ≡ None
 
--- the output has failed, and the message says the reason that it remembers, and nothing else
+-- the output has failed, and the message says the reason that it keeps, and nothing else
 pub record TellsFailure {W : Type 0} (out : PromptWriter W) (result : Ending) : Type 0 where
   pub kind : ErrorKind
   pub failed : failure_of out ≡ Some kind

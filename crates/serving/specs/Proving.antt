@@ -14,7 +14,7 @@ use Rattle.serving.specs.Saying.{LacksMemory, Says}
 use Rattle.serving.specs.Judging.{IsStoreFailure}
 use Rattle.serving.specs.Streams.{IsBeginningOf}
 
--- how the task ends where the table was not written for this reason, the file having this name
+-- how the task ends where this is why no table was written to the file with this name
 abbrev pub EndsUnwritten : List ℕ → WriteTableError → Option (List ℕ) → Option (List ℕ) → Outcome → Type 0
 EndsUnwritten name Memory old new result = LacksMemory old new result
 EndsUnwritten name Explored old new result = LacksMemory old new result ⊎ Says old new explored_line (Refused rejection.Explored) result

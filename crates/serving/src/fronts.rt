@@ -25,7 +25,7 @@ pub struct Watched<'a, R: Files + Clock, S> {
 }
 
 impl<'a, R: Files + Clock, S> Watched<'a, R, S> {
-    /// A source of which nothing was read.
+    /// A source, before anything is read from it.
     pub fn new(source: S, screen: Screen<'a, R>) -> Self {
         Watched {
             source,
@@ -72,8 +72,8 @@ fn read_front<S: Read>(source: &mut S, front: &mut [u8; FRONT]) -> (usize, Form)
     }
 }
 
-/// A source that gives what this one does, and what its first bytes show that it is. Where reading
-/// them failed, each later read of this one has to fail too.
+/// A source that gives what the given one does, and what its first bytes show that it is. If
+/// reading them failed, each later read of the given one has to fail too.
 pub fn read_ahead<S: Read>(mut source: S) -> (Ahead<S>, Form)
     ensures { IfSome (S.remaining source) (λ bytes. IsFormOf bytes result.1) }
 {

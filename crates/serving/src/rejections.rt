@@ -34,8 +34,8 @@ pub enum Rejection {
     Image(ImageError, Form),
     /// The program is not accepted, at a slot. The instruction is the one that begins there.
     Program(Refusal, usize, Option<Insn>),
-    /// The table is not accepted. Of an entry whose step was tested this is the slot, and the
-    /// instruction that begins there, unless memory ran out when it was read again.
+    /// The table is not accepted. If the step of an entry was tested, these are its slot and the
+    /// instruction that begins there, unless memory ran out when the entry was read again.
     Table(TableError, Option<(usize, Insn)>),
     /// The program was accepted, and could not be explored again for its table.
     Explored,

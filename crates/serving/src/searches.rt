@@ -1,4 +1,4 @@
-//! The verifier, of which a terminal shows how far it is.
+//! The verifier, while a terminal shows how far it is.
 
 ghost use Rattle.std.specs.Prelude.{◌≡◌, IfOk, IfErr};
 ghost use Rattle.bounds.specs.Bounds.{IsVerified};

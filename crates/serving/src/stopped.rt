@@ -128,7 +128,8 @@ fn stop_lines(alloc: Global, stops: &Stops) -> Result<String, AllocError>
     format!(in alloc; "{lines}{rest}")
 }
 
-// The same. None: no frame is noted, or memory ran out.
+// The lines of the first frames, and how many more there are. None: no frame is noted, or memory
+// ran out.
 fn known_of(alloc: Global, stops: &Stops) -> Option<String>
     ensures none { stops.now.count ≡ 0 → result ≡ None }
     ensures told { IfSome result (λ text. string_bytes text ≡ stop_lines (noted_of stops.now)) }

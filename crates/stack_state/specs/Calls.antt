@@ -1,4 +1,4 @@
--- Local calls and exits of abstract states: a frame pushed, and popped.
+-- Local calls and exits of abstract states: a call frame pushed, and popped.
 use Rattle.std.specs.Prelude.{ℕ, ◌+◌, ◌-◌, ◌==◌, List, [], ◌∷◌, ◌++◌, take, length, replicate, if◌then◌else◌}
 use Rattle.stack_state.specs.Slots.{frame_slots}
 use Rattle.reg_state.specs.declared.kinds.Kind.{Kind}
@@ -25,15 +25,15 @@ handed_kinds ks =
     Unset ∷ kind_at ks 1 ∷ kind_at ks 2 ∷ kind_at ks 3 ∷ kind_at ks 4 ∷ kind_at ks 5 ∷ Unset ∷ Unset
     ∷ Unset ∷ Unset ∷ []
 
--- a frame whose bytes are all unknown
+-- a call frame whose bytes are all unknown
 unfoldable pub unset_slots : List Slot
 unset_slots = replicate frame_slots (Written 0)
 
--- the frame of a caller
+-- the call frame of a caller
 abbrev pub caller_of : AbstractFrame → AbstractFrame
 caller_of f = record f { registers = kept_kinds f.registers }
 
--- the frame of a function that is called
+-- the call frame of a function that is called
 abbrev pub callee_of : AbstractFrame → ℕ → AbstractFrame
 callee_of f slot =
     record {
@@ -51,7 +51,7 @@ entered a target =
       innermost = callee_of a.innermost (a.slot + 1);
     }
 
--- the assignment with one frame more
+-- the assignment with one call frame more
 abbrev pub with_new_frame : Assigned → ℕ → Assigned
 with_new_frame e serial = record e { frames = e.frames ++ serial ∷ [] }
 
@@ -63,11 +63,11 @@ left_kinds answer ks =
     answer ∷ Unset ∷ Unset ∷ Unset ∷ Unset ∷ Unset ∷ kind_at ks 6 ∷ kind_at ks 7 ∷ kind_at ks 8
     ∷ kind_at ks 9 ∷ []
 
--- the frame of the caller that is returned to
+-- the call frame of the caller that is returned to
 abbrev pub resumed_of : AbstractFrame → Kind → AbstractFrame
 resumed_of f answer = record f { registers = left_kinds answer f.registers }
 
--- the exit of the innermost frame to its caller
+-- the exit of the innermost call frame to its caller
 abbrev pub left : State → State
 left a =
     let n = length a.callers.items - 1 in
@@ -77,15 +77,15 @@ left a =
       innermost = resumed_of (frame_of a n) (kind_at (registers_of a) 0);
     }
 
--- the assignment without the innermost frame
+-- the assignment without the innermost call frame
 abbrev pub without_last : Assigned → Assigned
 without_last e = record e { frames = take (length e.frames - 1) e.frames }
 
--- a pointer into the nth frame is forgotten
+-- a pointer into the nth call frame is forgotten
 abbrev pub without_frame : ℕ → Kind → Kind
 without_frame n (Stack f z) = if f == n then Unset else Stack f z
 without_frame n k = k
 
--- the exit of the innermost frame to its caller, once nothing points into it
+-- the exit of the innermost call frame to its caller, once nothing points into it
 abbrev pub ended : State → State
 ended a = left (map_kinds (without_frame (length a.callers.items)) a)

@@ -12,7 +12,7 @@ use reg_state::{Kind, Scalar};
 /// What a test shows of an identity, or what an exit leaves of the frame that ends.
 #[derive(Clone, Copy, PartialEq, Eq, Debug)]
 pub enum Fact {
-    /// That many bytes after its variable part are in the packet.
+    /// `bytes` bytes after its variable part are in the packet.
     Proved {
         identity: u32,
         bytes: u32,

@@ -48,7 +48,7 @@ pub(crate) fn mask(from: usize, bytes: usize) -> u8
     ((1u32 << (from + bytes)) - (1u32 << from)) as u8
 }
 
-/// The greatest number that is spelled by that many bytes.
+/// The greatest number of this size.
 fn greatest(size: Size) -> u64
     ensures { result + 1 ≡ 2 ^ (8 * size_bytes size) }
 {
@@ -60,7 +60,7 @@ fn greatest(size: Size) -> u64
     }
 }
 
-/// All numbers that that many bytes may spell.
+/// All numbers of this size.
 pub(crate) fn all(size: Size) -> Scalar
     ensures { AreAll size result }
 {

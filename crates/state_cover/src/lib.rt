@@ -15,7 +15,7 @@ use names::name_in;
 use reg_state::Kind;
 use stack_state::{AbstractFrame, FRAME_SLOTS, Slot, State};
 
-/// A yes says that all that `b` means `a` means too.
+/// A yes says that `a` means every machine state that `b` means.
 pub fn covers(a: &State, b: &State) -> bool
     ensures yes { IsTrue result → (p : Program) → Covers p a.now b.now }
     ensures slot { IsTrue result → a.now.slot ≡ b.now.slot }
@@ -41,7 +41,7 @@ pub fn covers(a: &State, b: &State) -> bool
     frame_covers(&a.innermost, &b.innermost, a, b)
 }
 
-// Does a frame of a cover one of b, by the names that b has for the identities of a?
+// Whether a call frame of a covers one of b, by the names that b has for the identities of a.
 fn frame_covers(left: &AbstractFrame, right: &AbstractFrame, a: &State, b: &State) -> bool
     requires { length a.now.callers.items ≡ length b.now.callers.items }
     ensures yes { IsTrue result
@@ -116,7 +116,7 @@ fn slot_covers(left: &Slot, right: &Slot, a: &State, b: &State) -> bool
     }
 }
 
-// Are the bytes that the marks name written in the slot? Most slots have no marks.
+// Whether the bytes that the marks name are written in the slot. Most slots have no marks.
 #[inline(always)]
 fn are_written(marks: u8, slot: &Slot) -> bool
     ensures { IsTrue result ↔ AreAmong marks (marks_of slot.now) }
@@ -142,7 +142,7 @@ fn kind_covers(left: &Kind, right: &Kind, a: &State, b: &State) -> bool
     }
 }
 
-// The same, where the kind is set, as few are.
+// Whether a kind covers another, where the first is not unset. Few kinds are compared so.
 #[inline(never)]
 fn set_covers(left: Kind, right: Kind, a: &State, b: &State) -> bool
     requires { length a.now.callers.items ≡ length b.now.callers.items }

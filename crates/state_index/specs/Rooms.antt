@@ -2,6 +2,6 @@
 use Rattle.std.specs.Prelude.{◌≡◌, ℕ, vec_len}
 use Rattle.state_index.specs.declared.index.Index.{Index}
 
--- it has room for the shapes of code with that many slots
+-- it has room for the shapes of code of this number of slots
 abbrev pub HasShapeRoom : Index → ℕ → Type 0
 HasShapeRoom index slots = vec_len index.first_shapes ≡ slots

@@ -52,7 +52,7 @@ pub const NO_UNFINISHED: UnfinishedBucket = UnfinishedBucket {
     marks: 0,
 };
 
-/// The bucket of a fingerprint, among that many.
+/// The bucket of a fingerprint, where there are this many buckets.
 pub fn bucket_of(fingerprint: u64, buckets: usize) -> usize {
     (fingerprint >> 16) as usize & buckets.wrapping_sub(1)
 }

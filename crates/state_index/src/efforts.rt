@@ -30,7 +30,7 @@ impl Effort {
         self.spent >= MOST
     }
 
-    /// Notes that many comparisons.
+    /// Notes this number of comparisons.
     pub fn spend(&mut self, places: usize) {
         self.spent = self.spent.saturating_add(places as u64);
     }

@@ -42,7 +42,7 @@ pub struct Index {
 }
 
 impl Index {
-    /// The index of no entries, of code with that many slots.
+    /// An empty index, for code of this number of slots.
     pub fn new(alloc: Global, slots: usize) -> Result<Self, AllocError>
         ensures room { IfOk result (λ index. HasShapeRoom index slots) }
     {

@@ -81,7 +81,7 @@ fn split(places: &mut [Place], half: usize, turn: usize, rows: &[u64], width: us
 }
 
 impl Order {
-    /// That many rows, in the order that they have.
+    /// This number of rows, in the order that they have.
     pub fn of(alloc: Global, count: usize) -> Result<Self, AllocError> {
         let mut places = Vec::with_capacity(alloc, count)?;
         for number in 0..count {

@@ -8,7 +8,7 @@ use std::{fs, io};
 // The end of an image's name.
 const ENDING: &str = ".image";
 
-/// What a path names: an image, or a folder that cannot be read, or not all of it.
+/// What a path names: an image, or a folder that cannot be read, or only in part.
 #[derive(Drop)]
 pub struct Named {
     pub path: String,

@@ -21,7 +21,7 @@ pub struct Progress {
 }
 
 impl Progress {
-    /// Nothing is judged yet of that many images.
+    /// No image is judged yet, of this number of images.
     pub fn of(total: usize, is_shown: bool) -> Self {
         Progress {
             is_shown,

@@ -140,7 +140,7 @@ pub fn write_row<W: Write>(
     write_grid(alloc, sheet, false, &grid, out)
 }
 
-/// What is other than in the earlier survey in a file.
+/// The differences from the earlier survey in a file.
 fn compared<R: Files>(rt: &R, alloc: Global, path: &str, rows: &[Row]) -> Result<Grid, Failure> {
     let bytes = match read_file(rt, alloc, path) {
         Ok(bytes) => bytes,

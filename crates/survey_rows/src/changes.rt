@@ -1,4 +1,4 @@
-//! What is other than in an earlier survey.
+//! The differences from an earlier survey.
 
 use crate::cells::{Cell, Grid, Head, cell_text};
 use crate::columns::Column;

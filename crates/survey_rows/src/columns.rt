@@ -19,7 +19,7 @@ pub enum Column {
     Bound,
     /// How many instructions were explored.
     Explored,
-    /// In how many states that were stored.
+    /// In how many stored states.
     Stored,
     /// How many instructions the longest path of the search has.
     Deepest,
@@ -29,7 +29,7 @@ pub enum Column {
     Milliseconds,
     /// The length of the proof table.
     TableBytes,
-    /// How long it took to make.
+    /// How long it took to make the proof table.
     ProveMilliseconds,
     /// How long `recheck` took.
     RecheckMilliseconds,

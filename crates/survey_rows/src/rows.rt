@@ -104,7 +104,7 @@ impl Row {
     }
 }
 
-/// The heads of columns, with room for paths of that many characters.
+/// The heads of columns, with room for paths of this number of characters.
 fn heads_of(alloc: Global, columns: &[Column], longest: usize) -> Result<Vec<Head>, AllocError> {
     let mut heads = Vec::new(alloc);
     for column in columns {

@@ -68,7 +68,7 @@ fn option<'a>(alloc: Global, choice: Choice) -> Arg<'a> {
         .help(choice.help)
 }
 
-// An option that takes none.
+// An option that takes no value.
 fn flag<'a>(alloc: Global, name: &'static str, help: &'static str) -> Arg<'a> {
     Arg::new(alloc, name)
         .long(name)

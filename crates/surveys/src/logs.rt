@@ -18,7 +18,7 @@ use transfer::Ways;
 struct Log<'a, W: Write + Drop> {
     alloc: Global,
     image: &'a Image,
-    /// The slot at which instructions are wanted, if not all are.
+    /// The slot whose instructions are written, if not all are.
     only: Option<usize>,
     out: W,
     tally: Tally,

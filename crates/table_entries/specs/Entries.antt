@@ -55,7 +55,7 @@ entry_with p number slot (Some callers) (Some innermost) (Some successors) =
     else None
 entry_with p number slot callers innermost successors = None
 
--- the frames, all but the last of which are outer ones, and the entries that are named
+-- the call frames, the innermost one last, and the entries that are named
 abbrev pub rest_in : Program → ℕ → ℕ → ℕ → List ℕ → Read Entry
 rest_in p number slot outer bytes =
     then_read (callers_in (length p.maps) outer bytes) (λ callers rest.

@@ -21,7 +21,7 @@ are_unset kinds =
     is_unset (kind_at kinds 0) && (is_unset (kind_at kinds 1) && (is_unset (kind_at kinds 2) && (is_unset (kind_at kinds 3)
     && (is_unset (kind_at kinds 4) && is_unset (kind_at kinds 5)))))
 
--- the outermost frame returns to slot 0; of an outer frame, r0 to r5 are unset
+-- the outermost call frame returns to slot 0; of an outer one, r0 to r5 are unset
 abbrev pub frame_allowed : ℕ → Bool → ℕ → List Kind → Bool
 frame_allowed holder outer slot kinds = (not (holder == 0) || slot == 0) && (not outer || are_unset kinds)
 
@@ -38,6 +38,6 @@ frame_in rows holder outer bytes =
     then_read (many (λ k. slot_in rows holder) frame_slots 0 rest) (λ slots after.
     Ok (frame_of holder outer (little_number 2 bytes) kinds slots, after)))
 
--- n outer frames
+-- n outer call frames
 abbrev pub callers_in : ℕ → ℕ → List ℕ → Read (List AbstractFrame)
 callers_in rows n bytes = many (λ holder. frame_in rows holder true) n 0 bytes

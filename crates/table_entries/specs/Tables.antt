@@ -103,12 +103,12 @@ pub record KeepsEntries (p : Program) (t : Kept) (entries : List Entry) : Type 0
   pub count : count_of t ≡ length entries
   pub each : (k : ℕ) → entry_at p t k ≡ slice_get entries k
 
--- this number of entries begin at the places, and that is the first that is not allowed
+-- this number of entries begin at the places; `first` is the first of them that is not allowed
 pub record ArePlaced (p : Program) (bytes : List ℕ) (count : ℕ) (places : List ℕ) (first : Option ℕ) : Type 0 where
   pub body : body_in p bytes count ≡ Ok (map (entry_from p bytes) places)
   pub first_is : first ≡ first_none 0 (map (entry_from p bytes) places)
 
--- the first index, or this one if there is none yet and its entry is not allowed
+-- the first index that was found, or else this one if its entry is not allowed
 abbrev pub earlier : Option ℕ → Bool → ℕ → Option ℕ
 earlier (Some first) allowed k = Some first
 earlier None true k = None

@@ -79,7 +79,7 @@ low_in bytes = low_of (little_number 4 bytes) (little_number 4 (drop 4 bytes)) (
 unfoldable pub scalar_in : List ℕ → Option Scalar
 scalar_in bytes = scalar_of (bits_in bytes) (range_of (wide_in (drop 16 bytes)) (low_in (drop 48 bytes)))
 
--- ---- pointers; `rows` is how many map rows there are, `holder` the frame that holds the value
+-- ---- pointers; there are `rows` map rows, and `holder` is the call frame that holds the value
 
 -- limits in order
 abbrev pub limits_when : (l g : ℤ) → (l ≤ℤ g) ⊎ (l ≤ℤ g → ⊥) → Option (ℤ × ℤ)
@@ -110,7 +110,7 @@ packet_in bytes =
     if lacks_identity bytes then None
     else packet_of (signed_32 bytes) (little_number 4 (drop 4 bytes)) (limits_in (drop 8 bytes)) (little_number 4 (drop 16 bytes))
 
--- a frame up to the one that holds the value, and an offset: 5 bytes
+-- a call frame up to the one that holds the value, and an offset: 5 bytes
 unfoldable pub stack_in : ℕ → List ℕ → Option Kind
 stack_in holder bytes =
     if nat_lt holder (little_number 1 bytes) then None else Some (Stack (little_number 1 bytes) (signed_32 (drop 1 bytes)))

@@ -67,7 +67,7 @@ fn head_if(allowed: bool, head: Head) -> Option<Head>
     if allowed { Some(head) } else { None }
 }
 
-// The frames, all but the last of which are outer ones, and the entries that are named.
+// The call frames, the innermost one last, and the entries that are named.
 fn read_rest<'a>(
     image: &Image,
     number: u32,

@@ -20,7 +20,7 @@ use isa_model::MAX_CALL_FRAMES;
 use reg_state::Kind;
 use stack_state::FRAME_SLOTS;
 
-// A value of a kind that is rare, or not allowed, or of no kind.
+// A value of one of the rare kinds, or one that is not allowed or of no kind.
 #[inline(never)]
 fn pass_other(rows: usize, holder: usize, bytes: &[u8]) -> Result<(bool, &[u8]), Stop>
     ensures { Gives (λ x. (x.0, x.1.now)) result (seen (kind_in rows holder bytes.now)) }
@@ -74,7 +74,7 @@ fn pass_kind(rows: usize, holder: usize, bytes: &[u8]) -> Result<(bool, &[u8]), 
     }
 }
 
-// A slot that is spilled, or of no form.
+// A slot with a spilled value, or of no form.
 #[inline(never)]
 fn pass_spilled(rows: usize, holder: usize, bytes: &[u8]) -> Result<(bool, &[u8]), Stop>
     ensures { Gives (λ x. (x.0, x.1.now)) result (seen (slot_in rows holder bytes.now)) }
@@ -203,7 +203,7 @@ fn pass_callers<'a>(
     Ok((allowed, rest))
 }
 
-// The frames, all but the last of which are outer ones, and the entries that are named.
+// The call frames, the innermost one last, and the entries that are named.
 fn pass_rest<'a>(
     image: &Image,
     number: u32,
@@ -223,8 +223,8 @@ fn pass_rest<'a>(
     Ok((both(both(callers, innermost), fits), rest))
 }
 
-/// Whether the entry that the bytes begin with has only fields that are allowed, and the bytes
-/// after it. The room is for the registers of its outer frames.
+/// Whether the entry at the front of the bytes has only fields that are allowed, and the bytes
+/// after it. The room is for the registers of its outer call frames.
 #[tactic(auto, unfolding(crate::specs::Entries::entry_in))]
 pub fn pass_entry<'a>(
     image: &Image,

@@ -1,7 +1,7 @@
 //! Entries compared with a state byte by byte, without reading an entry that spells it.
 //!
 //! Each function answers the bytes after the spelling of its argument, if the bytes begin with
-//! that. None says nothing.
+//! that spelling. An answer of None says nothing.
 
 ghost use Rattle.std.specs.Prelude.{◌≡◌, ◌≤◌, Some, Ok, IfSome, IsTrue, length, drop};
 ghost use Rattle.stack_state.specs.Slots.{frame_slots};
@@ -209,7 +209,7 @@ fn after_stack<'a>(holder: usize, bytes: &'a [u8], kind: &Kind) -> Option<&'a [u
     }
 }
 
-// A value of a kind that is rare.
+// A value of one of the other kinds, which are rare.
 #[inline(never)]
 fn after_other<'a>(rows: usize, holder: usize, bytes: &'a [u8], kind: &Kind) -> Option<&'a [u8]>
     ensures { IfSome result

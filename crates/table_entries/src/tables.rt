@@ -127,7 +127,7 @@ fn bytes_from(bytes: &[u8], place: usize) -> &[u8]
     }
 }
 
-// The first index, or this one if there is none yet and its entry is not allowed.
+// The first index that was found, or else this one if its entry is not allowed.
 fn earlier(first: Option<usize>, allowed: bool, index: usize) -> Option<usize>
     ensures { result ≡ earlier first allowed index }
 {

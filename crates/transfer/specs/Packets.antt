@@ -21,7 +21,8 @@ use Rattle.transfer.specs.declared.packets.PacketPointer.{PacketPointer}
 
 -- ---- bytes
 
--- that many bytes are in the packet, wherever the variable part is: from 0 up, and within what is proved to be there
+-- this number of bytes is in the packet, wherever the variable part is: from 0 up, and within what
+-- is proved to be there
 pub record AreInPacket (fixed least : ℤ) (proved : ℕ) (by : ℤ) (bytes : ℕ) : Type 0 where
   pub some : 0 < proved
   pub from : pos 0 ≤ℤ ((fixed +ℤ by) +ℤ least)
@@ -29,8 +30,8 @@ pub record AreInPacket (fixed least : ℤ) (proved : ℕ) (by : ℤ) (bytes : �
 
 -- ---- loads
 
--- any number of that many bytes: no other bit may be 1, and the limits are no wider; those with a sign are narrower
--- for fewer than 8 bytes
+-- any number with this number of bytes: no other bit may be 1, and the limits are no wider; those
+-- with a sign are narrower for fewer than 8 bytes
 pub record IsOfSize (size : Size) (c : Scalar) : Type 0 where
   pub members : (x : ℕ) → (Has c x ↔ (x < 2 ^ (8 * size_bytes size)))
   pub unknown : (i : ℕ) → bit_at c.bits.mask i ≡ 1 → i < 8 * size_bytes size
@@ -39,7 +40,7 @@ pub record IsOfSize (size : Size) (c : Scalar) : Type 0 where
   pub signed_least : size_bytes size < 8 → c.range.wide.signed_least ≡ pos 0
   pub signed_greatest : size_bytes size < 8 → c.range.wide.signed_greatest ≡ pos c.range.wide.greatest
 
--- any number of that many bytes with a sign, in 64 bits
+-- any number with this number of bytes and a sign, in 64 bits
 pub record IsOfSignedSize (size : Narrow) (c : Scalar) : Type 0 where
   pub members : (x : ℕ)
       → (Has c x ↔ ((x < 2 ^ 64) × FitsSigned (extension_signed (narrow_extension size)) (cast_signed w64 x)))
@@ -82,7 +83,7 @@ PacketStores size fixed least proved by source answer =
 
 -- ---- moves
 
--- on, or back
+-- forward, or back
 abbrev pub moved_by : Bool → ℤ → ℤ → ℤ
 moved_by true z by = z -ℤ by
 moved_by false z by = z +ℤ by

@@ -51,7 +51,7 @@ IsSignedLoad slots at size (Some (Number c)) =
     (b : Scalar) × IsLoad slots at (narrow_size size) (Some b) × IsSignExtended (narrow_extension size) b c
 IsSignedLoad slots at size (Some k) = ⊥
 
--- a load is refused for its place, and then for its bytes
+-- a load is refused for where it leads, and then for its bytes
 abbrev pub LoadsIn : State → ℕ → ℤ → Size → (List Slot → ℕ → Option Kind → Type 0) → Result Kind Refusal → Type 0
 LoadsIn a frame z size gives (Ok k) = (at : ℕ) × IsFramePlace a frame z size at × gives (slots_of a frame) at (Some k)
 LoadsIn a frame z size gives (Err StackPlace) = IsNoFramePlace a frame z size
@@ -66,7 +66,7 @@ StackLoadsSigned a frame z size result = LoadsIn a frame z (narrow_size size) (�
 
 -- ---- stores
 
--- by 8 bytes only
+-- the refusal, unless the access has 8 bytes
 abbrev pub whole_or : Refusal → Size → Option Refusal
 whole_or refusal U64 = None
 whole_or refusal size = Some refusal
@@ -91,7 +91,7 @@ IsStoreRefused a frame z size source StackPlace = IsNoFramePlace a frame z size
 IsStoreRefused a frame z size source e =
     (at : ℕ) × IsFramePlace a frame z size at × (store_refusal a frame size source ≡ Some e)
 
--- a store is refused for its place, and then for its value
+-- a store is refused for where it leads, and then for its value
 abbrev pub StackStores : State → ℕ → ℤ → Size → Kind → State → Result (Unit {0}) Refusal → Type 0
 StackStores a frame z size source b (Ok done) =
     (at : ℕ) × IsFramePlace a frame z size at × (store_refusal a frame size source ≡ None) × IsLeft a frame at size source b

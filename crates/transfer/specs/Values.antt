@@ -31,7 +31,7 @@ abbrev pub value_size : Option MapDef → ℕ
 value_size (Some row) = row.value_size
 value_size None = 0
 
--- that many bytes are in a value of that size, wherever the pointer points
+-- this number of bytes is in a value of this size, wherever the pointer points
 pub record AreInValue (room : ℕ) (least greatest by : ℤ) (bytes : ℕ) : Type 0 where
   pub from : pos 0 ≤ℤ (least +ℤ by)
   pub to : ((greatest +ℤ by) +ℤ pos bytes) ≤ℤ pos room

@@ -25,7 +25,7 @@ pub struct PacketPointer {
     pub proved: u32,
 }
 
-/// The greatest number of that many bytes.
+/// The greatest number with this number of bytes.
 fn greatest(size: Size) -> u64
     ensures { result + 1 ≡ 2 ^ (8 * size_bytes size) }
 {
@@ -37,7 +37,7 @@ fn greatest(size: Size) -> u64
     }
 }
 
-/// Any number of that many bytes.
+/// Any number with this number of bytes.
 pub fn of_size(size: Size) -> Scalar
     ensures { IsOfSize size result }
 {
@@ -48,7 +48,7 @@ pub fn of_size(size: Size) -> Scalar
     }
 }
 
-/// The least and the greatest number of that many bytes with a sign.
+/// The least and the greatest number with this number of bytes and a sign.
 fn signed_limits(size: Narrow) -> (i64, i64)
     ensures fits { (z : ℤ) → (((result.0 ≤ℤ z) × (z ≤ℤ result.1))
         ↔ FitsSigned (extension_signed (narrow_extension size)) z) }
@@ -61,7 +61,7 @@ fn signed_limits(size: Narrow) -> (i64, i64)
     }
 }
 
-/// Any number of that many bytes with a sign.
+/// Any number with this number of bytes and a sign.
 pub fn of_signed_size(size: Narrow) -> Scalar
     ensures { IsOfSignedSize size result }
 {

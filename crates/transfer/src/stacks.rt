@@ -11,7 +11,7 @@ use isa_model::{Extension, Narrow, Size};
 use reg_state::{Domain, Kind, Scalar};
 use stack_state::{StackState, State, stack_place};
 
-/// The byte of a live frame to which a frame pointer's offset and an instruction's lead.
+/// The byte of a live call frame to which the offsets of a frame pointer and an instruction lead.
 pub fn frame_place(state: &State, frame: u8, offset: i32, by: i16, size: Size) -> Option<usize>
     ensures { FindsFramePlace state.now frame (offset +ℤ by) size result }
 {
@@ -126,7 +126,7 @@ pub fn stack_load_signed(
 
 // ---- stores
 
-/// Nothing by 8 bytes.
+/// The refusal, unless the access has 8 bytes.
 fn whole_or(refusal: Refusal, size: Size) -> Option<Refusal>
     ensures { result ≡ whole_or refusal size }
 {
@@ -136,7 +136,7 @@ fn whole_or(refusal: Refusal, size: Size) -> Option<Refusal>
     }
 }
 
-/// Why a value is not stored in a frame.
+/// Why a value is not stored in a call frame.
 fn store_refusal(state: &State, frame: u8, size: Size, source: Kind) -> Option<Refusal>
     ensures { result ≡ store_refusal state.now frame size source }
 {
@@ -155,7 +155,7 @@ fn store_refusal(state: &State, frame: u8, size: Size, source: Kind) -> Option<R
     }
 }
 
-/// Writes a value into bytes of a live frame.
+/// Writes a value into bytes of a live call frame.
 fn leave(state: &mut State, frame: u8, at: usize, size: Size, source: Kind)
     requires live { frame < depth state.old }
     requires inside { at < frame_size }

@@ -1,5 +1,5 @@
 //! How the machine of words runs the programs of the model: `specs/Related` says when words
-//! represent a state, `specs/Moves` that a step of the state is a step of the words, and
+//! represent a state, `proofs/Moves` that a step of the state is a step of the words, and
 //! `specs/Running` the same of runs.
 #![tactic(auto)]
 

@@ -4,7 +4,7 @@ use Rattle.clap.specs.Walk.{Rule}
 use Rattle.clap.specs.Simple.{App, new_app, new_rule, on_top, with_rule, with_subcommand}
 use Rattle.clap.specs.declared.builder.action.ArgAction.TheVariants.{Set}
 
--- an argument that is wanted, and takes one value
+-- an argument that is required, and takes one value
 abbrev pub wanted : List ℕ → Rule
 wanted name = record (new_rule name) { required = true; action = Some Set }
 
@@ -12,11 +12,11 @@ wanted name = record (new_rule name) { required = true; action = Some Set }
 abbrev pub optional : List ℕ → Rule
 optional name = record (new_rule name) { long = Some name; action = Some Set; value_names = 1 }
 
--- a command with one wanted argument more
+-- a command with one more required argument
 abbrev pub with_wanted : App → List ℕ → App
 with_wanted command name = with_rule command (wanted name)
 
--- the command of this name that wants these arguments
+-- the command of this name that requires these arguments
 abbrev pub command : List ℕ → List (List ℕ) → App
 command name arguments = fold with_wanted (new_app name) arguments
 
@@ -49,11 +49,11 @@ recheck = command (codes "recheck") (codes "image" ∷ codes "table" ∷ [])
 abbrev pub with_command : App → App → App
 with_command program command = with_subcommand program command.top
 
--- the program has a version
+-- the program, which has a version
 abbrev pub versioned_program : App
 versioned_program = on_top (λ s. record s { has_version = true }) (new_app (codes "xdpvm"))
 
--- and wants one of its commands
+-- the program, which has a version and needs one of its commands
 abbrev pub empty_program : App
 empty_program = on_top (λ s. record s { subcommand_required = true }) versioned_program
 

@@ -13,7 +13,7 @@ const NAME: &str = "xdpvm";
 /// The version of the program, which `--version` prints.
 pub const VERSION: &str = "0.1.0";
 
-// An argument that a command wants, and what help says of it.
+// An argument that a command requires, and what help says of it.
 #[derive(Clone, Copy)]
 struct Argument {
     name: &'static str,
@@ -93,7 +93,7 @@ const RECHECK_ABOUT: &str = "Tests a proof table and prints the most steps that 
 const PROGRAM_ABOUT: &str =
     "Verifies BPF programs of the XDP kind and runs them on streams of frames";
 
-// An argument that is wanted, and takes one value.
+// An argument that is required, and takes one value.
 fn wanted<'a>(alloc: Global, argument: Argument) -> Arg<'a>
     ensures rule { rule_of result ≡ wanted argument.name.now }
     ensures local { result.global ≡ false }
@@ -104,7 +104,7 @@ fn wanted<'a>(alloc: Global, argument: Argument) -> Arg<'a>
         .help(argument.help)
 }
 
-// The command of this name that wants these arguments.
+// The command of this name that requires these arguments.
 fn command<'a>(
     alloc: Global,
     name: &'static str,
@@ -151,7 +151,7 @@ fn running<'a>(
     with_choice(alloc, plain, choice)
 }
 
-// A program with one more command, of this name, that wants these arguments.
+// A program with one more command, of this name, that requires these arguments.
 fn with_command<'a>(
     alloc: Global,
     program: Command<'a>,

@@ -11,7 +11,7 @@ use isa_model::numbers::unsigned;
 use isa_model::{AluOp, ByteOrder, Extension, Insn, Operand, Reg, Span, TrapReason, Value, Width};
 
 impl Core {
-    /// Sets a register and goes on, that many slots.
+    /// Sets a register and goes on to the slot that is `slots` later.
     pub fn set_and_go_on(&mut self, d: Reg, value: Value, slots: usize)
         requires { self.old.slot + slots < 2 ^ 64 }
         ensures { self.new ≡ record self.old {

@@ -91,7 +91,7 @@ abbrev pub reason_field : Version → List ℕ → ℕ
 reason_field One bytes = 0
 reason_field Two bytes = little_from 20 4 bytes
 
--- why no record begins with these bytes, after that many records and at this offset, if none does
+-- why no record begins with these bytes, after `number` records and at `offset`, if none does
 unfoldable pub stop_at : Version → ℕ → ℕ → List ℕ → Ending → Option Finish
 stop_at version number offset [] ByEnd = Some finish.End
 stop_at version number offset [] ByError = Some (finish.Fault ReadFailed offset)
@@ -115,8 +115,8 @@ frame_of version bytes = record {
 abbrev pub record_size : Version → Frame → ℕ
 record_size version f = head_size version + length f.body
 
--- the records that the bytes begin with, after that many and at this offset, and how they end; `fuel` is more than the
--- number of bytes
+-- the records that the bytes begin with, after `number` others and at `offset`, and how they end;
+-- `fuel` is more than the number of bytes
 unfoldable pub frames_from : ℕ → Version → ℕ → ℕ → List ℕ → Ending → List Frame × Finish
 frames_from zero version number offset bytes ending = ([], finish.End)
 frames_from (suc fuel) version number offset bytes ending =

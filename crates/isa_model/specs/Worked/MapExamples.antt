@@ -81,7 +81,8 @@ array_commands = refl
 
 -- ---- serials
 
--- at the start of a run on a packet of no bytes, with this content of map 0; its frame has the serial 0 or 1
+-- at the start of a run on a packet of no bytes, with this content of map 0; its call frame has the
+-- serial 0 or 1
 abbrev pub before : Entries → State
 before es = start_state (record { time = 0; interface = 0; queue = 0 }) [] (es ∷ [])
 

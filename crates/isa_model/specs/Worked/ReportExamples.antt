@@ -195,7 +195,7 @@ answers version n = record { insns = slots (insn.LoadNumber R0 n ∷ insn.Exit �
 abbrev pub told_head : ℕ → ℕ → List ℕ
 told_head n reason = zeros 16 ++ n ∷ 0 ∷ 0 ∷ 0 ∷ reason ∷ 0 ∷ 0 ∷ 0 ∷ []
 
--- a frame that is dropped goes out with its reason, as the program tells it
+-- a frame that is dropped goes out with the reason that the program gives
 pub told_reason_goes_out : report_on (answers Two 0x700000001) (stream_magic Two ++ told_head 3 0 ++ 170 ∷ 187 ∷ 204 ∷ [])
     ∷ out_on (answers Two 0x700000001) (stream_magic Two ++ told_head 3 0 ++ 170 ∷ 187 ∷ 204 ∷ []) ∷ []
     ≡ codes "0 DROP 3 2 7\nend 1\n" ∷ (stream_magic Two ++ told_head 3 7 ++ 170 ∷ 187 ∷ 204 ∷ []) ∷ []
